@@ -1,0 +1,46 @@
+-- The words of the contract of Stream.
+use Rattle.std.specs.Prelude.{◌≡◌, ℕ, ◌+◌, ◌-◌, ◌≤◌, ◌<◌, Bool, true, false, List, [], ◌∷◌, ◌++◌, Option, Some, None, Result, MatchOption, MatchResult, length, take, if◌then◌else◌}
+use Rattle.std.specs.List.{All}
+use Rattle.std.proofs.Common.{refl, ap, suc}
+use Rattle.streams.specs.Input.{Input, Place}
+use Rattle.streams.specs.Reading.{Reading, Passes, Takes}
+
+-- the offset is behind some first tokens
+abbrev pub IsBoundary : {T : Type 0} → (List T → ℕ) → List T → ℕ → Type 0
+IsBoundary {T} units tokens offset = (front : List T) × (rest : List T) × (tokens ≡ front ++ rest) × (offset ≡ units front)
+
+-- a question on a token answers b for a token that is seen as x
+abbrev pub AnswersSeen : {K T : Type 0} → (K → T) → (K → Bool → Type 0) → T → Bool → Type 0
+AnswersSeen {K} seen answers x b = (t : K) × (seen t ≡ x) × answers t b
+
+-- the offset of the first token that is answered true, or none where all are answered false
+abbrev pub FindsFirst : {T : Type 0} → (T → Bool → Type 0) → (List T → ℕ) → List T → Option ℕ → Type 0
+FindsFirst {T} answers units tokens found = MatchOption found
+  (All (λ t. answers t false) tokens)
+  (λ offset. (front : List T) × (t : T) × (rest : List T) × (tokens ≡ front ++ t ∷ rest)
+    × All (λ x. answers x false) front × answers t true × (offset ≡ units front))
+
+-- each token with its offset, where the first has the offset start
+abbrev pub with_offsets : {T : Type 0} → (List T → ℕ) → ℕ → List T → List (ℕ × T)
+with_offsets units start [] = []
+with_offsets units start (t ∷ ts) = (start, t) ∷ with_offsets units (start + units (t ∷ [])) ts
+
+-- the offset behind n tokens; or how many are missing, where the stream counts them
+abbrev pub FindsOffset : {T : Type 0} → Bool → (List T → ℕ) → List T → ℕ → Result ℕ (Option ℕ) → Type 0
+FindsOffset counts units tokens n answer =
+  MatchResult answer
+    (λ offset. (n ≤ length tokens) × (offset ≡ units (take n tokens)))
+    (λ need. (length tokens < n) × (need ≡ (if counts then Some (n - length tokens) else None)))
+
+-- one step of an iterator over what is left
+abbrev pub GivesNext : {A : Type 0} → List A → Option A → List A → Type 0
+GivesNext before item after = MatchOption item (before ≡ []) (λ x. before ≡ x ∷ after)
+
+-- whatever tokens end at the offset, the slice shows them, and they are passed
+abbrev pub Cuts : {T S : Type 0} → Reading T S → ℕ → Input T → S → Input T → Type 0
+Cuts {T} reading offset earlier slice later =
+  (front rest : List T) → earlier.left.tokens ≡ front ++ rest → offset ≡ reading.units front → Takes reading front earlier slice later
+
+pub length-with_offsets : {T : Type 0} (units : List T → ℕ) (start : ℕ) (tokens : List T) → length (with_offsets units start tokens) ≡ length tokens
+length-with_offsets units start [] = refl
+length-with_offsets units start (t ∷ ts) = ap suc (length-with_offsets units (start + units (t ∷ [])) ts)

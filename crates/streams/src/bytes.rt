@@ -1,0 +1,186 @@
+//! Bytes as a stream.
+ghost use Rattle.std.specs.Prelude.{◌≡◌, ◌==◌, ℕ, ◌+◌, ◌<◌, ◌^◌, ◌≤◌, List, [], ◌∷◌, ◌++◌, length, true, false, drop, refl};
+ghost use Rattle.std.specs.Iterator.{at_most};
+ghost use Rattle.std.specs.List.{All};
+ghost use Rattle.std.proofs.Common.{rules};
+ghost use Rattle.std.proofs.lemmas.List.{length-append};
+ghost use Rattle.streams.specs.Input.{Input, at_start, no_side};
+ghost use Rattle.streams.specs.Reading.{Reading};
+ghost use Rattle.streams.specs.Stream.{with_offsets, GivesNext};
+ghost use Rattle.streams.specs.Bytes.{length-positive};
+
+use crate::needed::Needed;
+use crate::stream::{Stream, StreamIsPartial};
+use crate::token_test::TokenTest;
+
+/// The bytes left, each with its offset in bytes.
+///
+/// ```text
+/// b"ab".as_slice().iter_offsets()   gives (0, b'a'), then (1, b'b')
+/// ```
+#[derive(Drop)]
+pub struct ByteOffsets<'a> {
+    rest: &'a [u8],
+    offset: usize,
+    ghost fits: { offset + length rest.now < 2 ^ 64 },
+}
+
+impl<'a> Iterator for ByteOffsets<'a> {
+    type Item = (usize, u8);
+
+    ghost next_gives = { λ s r t. GivesNext (with_offsets length s.offset s.rest.now) r (with_offsets length t.offset t.rest.now) };
+
+    ghost remaining = { λ s. at_most (length s.rest.now) };
+
+    #[inline]
+    fn next(&mut self) -> Option<(usize, u8)> {
+        let rest = self.rest;
+        match rest {
+            [] => None,
+            [first, tail @ ..] => {
+                let offset = self.offset;
+                self.rest = tail;
+                self.offset = offset + 1;
+                Some((offset, *first))
+            }
+        }
+    }
+}
+
+impl<'a> Stream for &'a [u8] {
+    type Token = u8;
+    type Seen = u8;
+    type Slice = &'a [u8];
+    type IterOffsets = ByteOffsets<'a>;
+    type Checkpoint = &'a [u8];
+
+    ghost view = { λ s. record { left = at_start s.now; side = no_side } };
+
+    ghost seen = { λ s. at_start s.now };
+
+    ghost reading = { record { units = length; advance = λ place _. place; shows = λ s tokens. s.now ≡ tokens } };
+
+    ghost seen_as = { λ b. b };
+
+    ghost counts_missing = { true };
+
+    ghost can_follow = { All (λ b. b < 256) };
+
+    ghost offsets_left = { λ s. with_offsets length s.offset s.rest.now };
+
+    #[inline(always)]
+    fn iter_offsets(&self) -> ByteOffsets<'a> {
+        ByteOffsets {
+            rest: *self,
+            offset: 0,
+        }
+    }
+
+    #[inline(always)]
+    fn eof_offset(&self) -> usize {
+        self.len()
+    }
+
+    #[inline(always)]
+    #[tactic(auto, using(crate::specs::Bytes::slice_ends))]
+    fn next_token(&mut self) -> Option<u8> {
+        let all = *self;
+        match all {
+            [] => None,
+            [first, tail @ ..] => {
+                *self = tail;
+                Some(*first)
+            }
+        }
+    }
+
+    #[inline(always)]
+    fn offset_for<P: TokenTest<u8> + Drop>(&self, predicate: P) -> Option<usize> {
+        let all = *self;
+        for i in 0..all.len() {
+            if predicate.test(all[i]) {
+                return Some(i);
+            }
+        }
+        None
+    }
+
+    #[inline(always)]
+    fn offset_at(&self, tokens: usize) -> Result<usize, Needed> {
+        let len = self.len();
+        if tokens <= len {
+            Ok(tokens)
+        } else {
+            Err(Needed::new(tokens - len))
+        }
+    }
+
+    #[inline(always)]
+    #[tactic(auto, using(crate::specs::Bytes::slice_ends))]
+    fn next_slice(&mut self, offset: usize) -> &'a [u8] {
+        let all = *self;
+        *self = &all[offset..];
+        &all[..offset]
+    }
+
+    #[inline(always)]
+    #[tactic(auto, using(crate::specs::Bytes::slice_ends))]
+    fn finish(&mut self) -> &'a [u8] {
+        let all = *self;
+        *self = &all[all.len()..];
+        all
+    }
+
+    #[inline(always)]
+    fn checkpoint(&self) -> &'a [u8] {
+        *self
+    }
+
+    #[inline(always)]
+    fn reset(&mut self, checkpoint: &&'a [u8]) {
+        *self = *checkpoint;
+    }
+
+    #[inline(always)]
+    fn offset_from(&self, start: &&'a [u8]) -> usize {
+        start.len() - self.len()
+    }
+
+    ghost units_add = { λ xs ys. length-append xs ys };
+
+    ghost units_positive = { λ x xs. length-positive x xs };
+
+    ghost advance_further = { λ p n k. refl };
+
+    ghost offsets_step = { λ s r t e. e };
+}
+
+impl<'a> StreamIsPartial for &'a [u8] {
+    type PartialState = ();
+
+    ghost supports_partial = { false };
+
+    ghost flag = { λ _. false };
+
+    #[inline(always)]
+    fn complete(&mut self) {}
+
+    #[inline(always)]
+    fn restore_partial(&mut self, _state: ()) {}
+
+    #[inline(always)]
+    fn is_partial_supported() -> bool
+        ensures { result ≡ false }
+    {
+        false
+    }
+
+    #[inline(always)]
+    fn is_partial(&self) -> bool {
+        false
+    }
+
+    ghost whole = { λ _ _. refl };
+
+    ghost whole_state = { λ _ _. refl };
+}

@@ -1,0 +1,35 @@
+//! How much more input is wanted.
+ghost use Rattle.std.specs.Prelude.{◌≡◌, ◌==◌, Some, None, if◌then◌else◌};
+
+use std::num::NonZeroUsize;
+
+/// What a parser lacks where it answers that the input is incomplete.
+///
+/// The unit is that of the stream's offsets: bytes of bytes and text, items of token lists, bits
+/// of bits.
+///
+/// ```text
+/// Needed::new(0) is Needed::Unknown
+/// Needed::new(3) asks for three units more
+/// ```
+#[derive(Clone, Copy, Debug, PartialEq, Eq)]
+pub enum Needed {
+    /// More is needed, and how much is not known.
+    Unknown,
+    /// At least so many units more are needed.
+    Size(NonZeroUsize),
+}
+
+impl Needed {
+    ghost use Rattle.streams.specs.Needed.{need_of};
+
+    /// A need of `missing` units, or an unknown one where that is 0.
+    pub fn new(missing: usize) -> Needed
+        ensures { need_of result ≡ (if missing == 0 then None else Some missing) }
+    {
+        match NonZeroUsize::new(missing) {
+            Some(size) => Needed::Size(size),
+            None => Needed::Unknown,
+        }
+    }
+}

@@ -1,0 +1,164 @@
+//! The traits of streams.
+ghost use Rattle.std.specs.Prelude.{◌≡◌, ℕ, ◌+◌, ◌<◌, List, [], ◌∷◌, ◌++◌, Bool, true, false, Option, ⊤, MatchOption};
+ghost use Rattle.std.specs.Iterator.{IsFinite};
+ghost use Rattle.streams.specs.Input.{Input, Left, Place, Ends, IsEndOf, back_at, further};
+ghost use Rattle.streams.specs.Reading.{Reading, Passes, Takes};
+ghost use Rattle.streams.specs.Stream.{IsBoundary, AnswersSeen, Cuts, FindsFirst, FindsOffset, with_offsets};
+ghost use Rattle.streams.specs.Needed.{by_need};
+
+use crate::needed::Needed;
+use crate::token_test::TokenTest;
+
+/// An input that parsers take tokens from, as winnow's documentation has it.
+///
+/// Offsets count units: bytes of bytes and text, items of token lists, bits of bits.
+///
+/// ```text
+/// let mut input = b"ab".as_slice();
+/// input.next_token()   is Some(b'a'), and b"b" is left
+/// input.eof_offset()   is 1
+/// ```
+pub trait Stream: Drop {
+    /// The smallest part of the input.
+    type Token: Drop;
+
+    /// What contracts see of a token.
+    type Seen;
+
+    /// A part of the input, as parsers answer it.
+    type Slice: Drop;
+
+    /// The tokens left, each with its offset.
+    type IterOffsets: Iterator<Item = (usize, Self::Token)>;
+
+    /// A place to go back to.
+    type Checkpoint: Drop;
+
+    // What a parser sees.
+    ghost view: { Self → Input Self.Seen };
+
+    // What was left at a checkpoint.
+    ghost seen: { Self.Checkpoint → Left Self.Seen };
+
+    // How tokens are counted and handed out.
+    ghost reading: { Reading Self.Seen Self.Slice };
+
+    // What contracts see of a token.
+    ghost seen_as: { Self.Token → Self.Seen };
+
+    // Whether `offset_at` says how many tokens are missing.
+    ghost counts_missing: { Bool };
+
+    // The lists that more input may add to a cut one.
+    ghost can_follow: { List Self.Seen → Type 0 };
+
+    // The tokens still to come, each with its offset.
+    ghost offsets_left: { Self.IterOffsets → List (ℕ × Self.Seen) };
+
+    /// The tokens left, each with its offset in units. Nothing is consumed.
+    fn iter_offsets(&self) -> Self::IterOffsets
+        ensures can { Self.IterOffsets.can_next result }
+        ensures finite { IsFinite (Self.IterOffsets.remaining result) }
+        ensures items { offsets_left result ≡ with_offsets reading.units 0 (view self.now).left.tokens };
+
+    /// How many units are left.
+    fn eof_offset(&self) -> usize
+        ensures { result ≡ reading.units (view self.now).left.tokens };
+
+    /// The first token, which is consumed; `None` at the end.
+    fn next_token(&mut self) -> Option<Self::Token>
+        ensures ends { IsEndOf (view self.new) (view self.old) }
+        ensures passes { MatchOption result (((view self.old).left.tokens ≡ []) × (view self.new ≡ view self.old)) (λ t. Passes reading (seen_as t ∷ []) (view self.old) (view self.new)) };
+
+    /// The offset, in units, of the first token for which `predicate` holds, if there is one.
+    fn offset_for<P: TokenTest<Self::Token> + Drop>(&self, predicate: P) -> Option<usize>
+        requires { P.can_test predicate }
+        ensures { FindsFirst (AnswersSeen seen_as (P.answers predicate)) reading.units (view self.now).left.tokens result };
+
+    /// The offset, in units, behind the first `tokens` tokens. Where there are fewer, the need is
+    /// how many are missing, or unknown over text.
+    fn offset_at(&self, tokens: usize) -> Result<usize, Needed>
+        ensures { FindsOffset counts_missing reading.units (view self.now).left.tokens tokens (by_need result) };
+
+    /// The tokens before `offset`, in units, which are consumed. The caller owes an offset of this
+    /// stream between two tokens or at an end.
+    fn next_slice(&mut self, offset: usize) -> Self::Slice
+        requires { IsBoundary reading.units (view self.old).left.tokens offset }
+        ensures ends { IsEndOf (view self.new) (view self.old) }
+        ensures cuts { Cuts reading offset (view self.old) result (view self.new) };
+
+    /// All that is left, which is consumed.
+    fn finish(&mut self) -> Self::Slice
+        ensures ends { IsEndOf (view self.new) (view self.old) }
+        ensures takes { Takes reading (view self.old).left.tokens (view self.old) result (view self.new) }
+        ensures nothing { (view self.new).left.tokens ≡ [] };
+
+    /// The present place.
+    fn checkpoint(&self) -> Self::Checkpoint
+        ensures { seen result ≡ (view self.now).left };
+
+    /// Goes back to a place, and changes neither the flag nor the recorded errors. The caller owes
+    /// a place of this stream.
+    fn reset(&mut self, checkpoint: &Self::Checkpoint)
+        requires { Ends (view self.old).left (seen checkpoint.now) }
+        ensures { view self.new ≡ back_at (seen checkpoint.now) (view self.old) };
+
+    /// How many units lie between a place and the present one. The caller owes an earlier place of
+    /// this stream.
+    fn offset_from(&self, start: &Self::Checkpoint) -> usize
+        requires { Ends (view self.now).left (seen start.now) }
+        ensures { result + reading.units (view self.now).left.tokens ≡ reading.units (seen start.now).tokens };
+
+    // Units of a list are those of its parts.
+    ghost units_add: { (xs ys : List Self.Seen) → reading.units (xs ++ ys) ≡ reading.units xs + reading.units ys };
+
+    // Each token takes at least one unit.
+    ghost units_positive: { (x : Self.Seen) (xs : List Self.Seen) → 0 < reading.units (x ∷ xs) };
+
+    // A count that a wrapper keeps does not change how the place moves.
+    ghost advance_further: { (p : Place) (n k : ℕ) → reading.advance (further p n) k ≡ further (reading.advance p k) n };
+
+    // A step of the iterator gives the first of the tokens still to come.
+    ghost offsets_step: { (s : Self.IterOffsets) (r : Option (ℕ × Self.Token)) (t : Self.IterOffsets) → Self.IterOffsets.next_gives s r t → MatchOption r (offsets_left s ≡ []) (λ x. offsets_left s ≡ (x.0, seen_as x.1) ∷ offsets_left t) };
+}
+
+/// A stream that says whether more input may come, as winnow's documentation has it.
+///
+/// A stream that does not support this is always whole.
+///
+/// ```text
+/// b"ab".as_slice().is_partial()   is false
+/// ```
+pub trait StreamIsPartial: Stream {
+    /// What `complete` answers and `restore_partial` takes.
+    type PartialState: Drop;
+
+    // Whether the type has a flag.
+    ghost supports_partial: { Bool };
+
+    // The flag that a state stands for.
+    ghost flag: { Self.PartialState → Bool };
+
+    /// Marks the input as complete, and answers the old state.
+    fn complete(&mut self) -> Self::PartialState
+        ensures state { flag result ≡ (Self.view self.old).side.cut }
+        ensures complete { Self.view self.new ≡ record (Self.view self.old) { side = record (Self.view self.old).side { cut = false } } };
+
+    /// Puts an old state back.
+    fn restore_partial(&mut self, state: Self::PartialState)
+        ensures { Self.view self.new ≡ record (Self.view self.old) { side = record (Self.view self.old).side { cut = flag state } } };
+
+    /// Whether the type can be partial at all.
+    fn is_partial_supported() -> bool
+        ensures { result ≡ supports_partial };
+
+    /// Whether more input may come.
+    fn is_partial(&self) -> bool
+        ensures { result ≡ (Self.view self.now).side.cut };
+
+    // A type with no flag is always whole.
+    ghost whole: { supports_partial ≡ false → (s : Self) → (Self.view s).side.cut ≡ false };
+
+    // ... and so is each of its states.
+    ghost whole_state: { supports_partial ≡ false → (s : Self.PartialState) → flag s ≡ false };
+}
