@@ -1,0 +1,43 @@
+-- The kinds of errors with a mode.
+use Rattle.std.specs.Prelude.{◌≡◌, ℕ, Option, Some, None, refl}
+use Rattle.streams.specs.Kind.{Kind, backtrack, cut, incomplete, memory}
+use Rattle.streams.specs.Needed.{need_of}
+use Rattle.streams.specs.declared.needed.Needed.{Needed}
+use Rattle.stream_errors.specs.Form.{inner_kind_of}
+use Rattle.stream_errors.specs.declared.mode.ErrMode.{ErrMode}
+use Rattle.stream_errors.specs.declared.mode.ErrMode.TheVariants.{Backtrack, Cut, Incomplete}
+
+-- the kind `mode` round an inner error: memory where that wants memory
+abbrev pub mode_round : Kind → Kind → Kind
+mode_round mode memory = memory
+mode_round mode backtrack = mode
+mode_round mode cut = mode
+mode_round mode (incomplete need) = mode
+
+-- the kind of an error with a mode, by that of its inner error
+abbrev pub mode_kind : {E : Type 0} → (E → Kind) → ErrMode E Needed → Kind
+mode_kind kind (Backtrack e) = mode_round backtrack (kind e)
+mode_kind kind (Cut e) = mode_round cut (kind e)
+mode_kind kind (Incomplete n) = incomplete (need_of n)
+
+-- what an inner error is seen as: backtrack or memory
+abbrev pub as_inner : Kind → Kind
+as_inner = mode_round backtrack
+
+-- The mode is kept, and its inner error is what one call made of the old one.
+abbrev pub MapsMode : {E F N : Type 0} → (E → F → Type 0) → ErrMode E N → ErrMode F N → Type 0
+MapsMode {E} {F} {N} step (Backtrack e) new = (f : F) × step e f × (new ≡ Backtrack f)
+MapsMode {E} {F} {N} step (Cut e) new = (f : F) × step e f × (new ≡ Cut f)
+MapsMode {E} {F} {N} step (Incomplete n) new = new ≡ Incomplete n
+
+pub inner_kind_of-mode_round_backtrack : (k : Kind) → inner_kind_of (mode_round backtrack k) ≡ Some (as_inner k)
+inner_kind_of-mode_round_backtrack memory = refl
+inner_kind_of-mode_round_backtrack backtrack = refl
+inner_kind_of-mode_round_backtrack cut = refl
+inner_kind_of-mode_round_backtrack (incomplete need) = refl
+
+pub inner_kind_of-mode_round_cut : (k : Kind) → inner_kind_of (mode_round cut k) ≡ Some (as_inner k)
+inner_kind_of-mode_round_cut memory = refl
+inner_kind_of-mode_round_cut backtrack = refl
+inner_kind_of-mode_round_cut cut = refl
+inner_kind_of-mode_round_cut (incomplete need) = refl

@@ -1,0 +1,84 @@
+//! An error that says nothing.
+ghost use Rattle.streams.specs.Kind.{Kind};
+ghost use Rattle.stream_errors.specs.Form.{marked_kind, plain, inner_kind_of-marked_kind, marked_kind-cases};
+
+use crate::parser_error::ParserError;
+use streams::needed::Needed;
+use streams::stream::Stream;
+
+/// A plain error that keeps nothing but whether memory was wanted.
+///
+/// ```text
+/// ParserError::<&[u8]>::is_backtrack(&EmptyError::from_input(&input))   is true
+/// ```
+#[derive(Clone, Copy, Debug, PartialEq, Eq)]
+pub struct EmptyError {
+    is_memory: bool,
+}
+
+impl<I: Stream> ParserError<I> for EmptyError {
+    type Inner = EmptyError;
+
+    ghost kind = { λ e. marked_kind e.is_memory };
+
+    ghost form = { plain };
+
+    ghost inner_kind = { λ e. marked_kind e.is_memory };
+
+    #[inline(always)]
+    fn from_input(_input: &I) -> EmptyError {
+        EmptyError { is_memory: false }
+    }
+
+    #[inline(always)]
+    fn assert(_input: &I, _message: &'static str) -> EmptyError {
+        EmptyError { is_memory: false }
+    }
+
+    #[inline(always)]
+    fn incomplete(_input: &I, _needed: Needed) -> EmptyError {
+        EmptyError { is_memory: false }
+    }
+
+    #[inline(always)]
+    fn no_memory(_input: &I) -> EmptyError {
+        EmptyError { is_memory: true }
+    }
+
+    #[inline(always)]
+    fn or(self, other: EmptyError) -> EmptyError {
+        other
+    }
+
+    #[inline(always)]
+    fn append(self, _input: &I, _token_start: &I::Checkpoint) -> EmptyError {
+        self
+    }
+
+    #[inline(always)]
+    fn is_backtrack(&self) -> bool {
+        !self.is_memory
+    }
+
+    #[inline(always)]
+    fn is_incomplete(&self) -> bool {
+        false
+    }
+
+    #[inline(always)]
+    fn is_memory(&self) -> bool {
+        self.is_memory
+    }
+
+    #[inline(always)]
+    fn needed(&self) -> Option<Needed> {
+        None
+    }
+
+    #[inline(always)]
+    fn into_inner(self) -> Result<EmptyError, EmptyError> {
+        Ok(self)
+    }
+
+    ghost plain_kinds = { λ _ e. marked_kind-cases e.is_memory };
+}

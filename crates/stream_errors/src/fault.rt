@@ -1,0 +1,90 @@
+//! The faults of a whole parse.
+ghost use Rattle.std.specs.Prelude.{◌≡◌, ◌+◌};
+ghost use Rattle.streams.specs.Input.{Ends, back_at};
+
+use streams::needed::Needed;
+use streams::stream::Stream;
+
+/// Where and why a whole parse refuses its input.
+///
+/// ```text
+/// the error of `digit1.parse("12a")`   has offset() 2 and input() "12a"
+/// ```
+#[derive(Debug, PartialEq, Drop)]
+pub struct ParseError<I, E> {
+    input: I,
+    offset: usize,
+    inner: E,
+}
+
+impl<I, E> ParseError<I, E> {
+    ghost use Rattle.stream_errors.specs.Fault.{refused_input, refused_offset, refused_inner};
+
+    /// The fault at the place where `input` stands; the input goes back to `start`. The caller
+    /// owes an earlier place of this input.
+    pub fn new(input: I, start: I::Checkpoint, inner: E) -> ParseError<I, E>
+    where
+        I: Stream,
+        requires { Ends (I.view input).left (I.seen start) }
+        ensures input { I.view (refused_input result) ≡ back_at (I.seen start) (I.view input) }
+        ensures offset { refused_offset result + I.reading.units (I.view input).left.tokens ≡ I.reading.units (I.seen start).tokens }
+        ensures inner { refused_inner result ≡ inner }
+    {
+        let mut input = input;
+        let offset = input.offset_from(&start);
+        input.reset(&start);
+        ParseError {
+            input,
+            offset,
+            inner,
+        }
+    }
+
+    /// The input, at its start.
+    #[inline(always)]
+    pub fn input(&self) -> &I
+        ensures { result.now ≡ refused_input self.now }
+    {
+        &self.input
+    }
+
+    /// Where the failing run left the input, in units from its start.
+    #[inline(always)]
+    pub fn offset(&self) -> usize
+        ensures { result ≡ refused_offset self.now }
+    {
+        self.offset
+    }
+
+    /// The error of the failing run, without its mode.
+    #[inline(always)]
+    pub fn inner(&self) -> &E
+        ensures { result.now ≡ refused_inner self.now }
+    {
+        &self.inner
+    }
+
+    /// The error of the failing run, without its mode.
+    #[inline(always)]
+    pub fn into_inner(self) -> E
+    where
+        I: Drop,
+        ensures { result ≡ refused_inner self }
+    {
+        let ParseError {
+            input: _input,
+            offset: _offset,
+            inner,
+        } = self;
+        inner
+    }
+}
+
+/// Why a whole parse gives no output. `N` is [`Needed`] wherever it is used.
+#[derive(Debug, PartialEq, Drop)]
+pub enum ParseFault<I, E, N = Needed> {
+    /// The input is refused at a place.
+    Refused(ParseError<I, E>),
+    /// A parser asked for more of an input that is whole.
+    Incomplete(N),
+}

@@ -1,0 +1,103 @@
+//! An error with the input at its place.
+ghost use Rattle.std.specs.Prelude.{◌≡◌, false};
+ghost use Rattle.streams.specs.Kind.{Kind};
+ghost use Rattle.stream_errors.specs.Form.{marked_kind, plain, inner_kind_of-marked_kind, marked_kind-cases};
+
+use crate::parser_error::ParserError;
+use streams::needed::Needed;
+use streams::stream::Stream;
+
+/// A plain error that keeps the input as it stood where the error arose.
+///
+/// ```text
+/// InputError::at(input).input   is the input
+/// ```
+#[derive(Clone, Copy, Debug, PartialEq, Eq)]
+pub struct InputError<I> {
+    /// The input where the error arose.
+    pub input: I,
+    is_memory: bool,
+}
+
+impl<I> InputError<I> {
+    /// A backtracking error at this input.
+    #[inline(always)]
+    pub fn at(input: I) -> InputError<I>
+        ensures { result ≡ record { input = input; is_memory = false } }
+    {
+        InputError {
+            input,
+            is_memory: false,
+        }
+    }
+}
+
+impl<I: Stream + Copy> ParserError<I> for InputError<I> {
+    type Inner = InputError<I>;
+
+    ghost kind = { λ e. marked_kind e.is_memory };
+
+    ghost form = { plain };
+
+    ghost inner_kind = { λ e. marked_kind e.is_memory };
+
+    #[inline(always)]
+    fn from_input(input: &I) -> InputError<I> {
+        InputError::at(*input)
+    }
+
+    #[inline(always)]
+    fn assert(input: &I, _message: &'static str) -> InputError<I> {
+        InputError::at(*input)
+    }
+
+    #[inline(always)]
+    fn incomplete(input: &I, _needed: Needed) -> InputError<I> {
+        InputError::at(*input)
+    }
+
+    #[inline(always)]
+    fn no_memory(input: &I) -> InputError<I> {
+        InputError {
+            input: *input,
+            is_memory: true,
+        }
+    }
+
+    #[inline(always)]
+    fn or(self, other: InputError<I>) -> InputError<I> {
+        other
+    }
+
+    #[inline(always)]
+    fn append(self, _input: &I, _token_start: &I::Checkpoint) -> InputError<I> {
+        self
+    }
+
+    #[inline(always)]
+    fn is_backtrack(&self) -> bool {
+        !self.is_memory
+    }
+
+    #[inline(always)]
+    fn is_incomplete(&self) -> bool {
+        false
+    }
+
+    #[inline(always)]
+    fn is_memory(&self) -> bool {
+        self.is_memory
+    }
+
+    #[inline(always)]
+    fn needed(&self) -> Option<Needed> {
+        None
+    }
+
+    #[inline(always)]
+    fn into_inner(self) -> Result<InputError<I>, InputError<I>> {
+        Ok(self)
+    }
+
+    ghost plain_kinds = { λ _ e. marked_kind-cases e.is_memory };
+}

@@ -1,0 +1,12 @@
+//! Errors of parsers: their kinds, and the faults of a whole parse.
+//!
+//! Contracts see an error by its kind alone: backtrack, cut, incomplete with its need, or want of
+//! memory (`Kind` of the crate `streams`). A plain error type has backtrack and memory only;
+//! [`ErrMode`](crate::mode::ErrMode) round it has all four.
+#![tactic(auto)]
+
+pub mod empty;
+pub mod fault;
+pub mod input_error;
+pub mod mode;
+pub mod parser_error;

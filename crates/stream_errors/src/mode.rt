@@ -1,0 +1,140 @@
+//! Errors with a mode.
+ghost use Rattle.std.specs.Prelude.{◌≡◌};
+ghost use Rattle.std.proofs.Common.{rules};
+ghost use Rattle.streams.specs.Kind.{Kind};
+ghost use Rattle.stream_errors.specs.Form.{ErrorForm, modal, plain, modal-not_plain};
+ghost use Rattle.stream_errors.specs.Mode.{mode_kind, as_inner, MapsMode};
+
+use crate::parser_error::ParserError;
+use streams::needed::Needed;
+use streams::stream::Stream;
+
+/// An error with how the parsers around it take it, as winnow's documentation has it.
+///
+/// Its kind is memory where the inner error is marked so, else that of the variant. `N` is
+/// [`Needed`] wherever the error is used.
+///
+/// ```text
+/// ErrMode::Backtrack(1).map(|v| v + 1)   is ErrMode::Backtrack(2)
+/// ```
+#[derive(Debug, PartialEq, Drop)]
+pub enum ErrMode<E, N = Needed> {
+    /// Another branch may be tried.
+    Backtrack(E),
+    /// No other branch is tried.
+    Cut(E),
+    /// More input may change the answer.
+    Incomplete(N),
+}
+
+impl<E, N> ErrMode<E, N> {
+    /// The same mode, round what `f` makes of the inner error. `f` is called once, and not for an
+    /// incomplete error.
+    #[inline(always)]
+    pub fn map<F, G: FnOnce(E) -> F + Drop>(self, f: G) -> ErrMode<F, N>
+        requires { G.IsAlwaysCallable f }
+        ensures { MapsMode (G.post f) self result }
+    {
+        match self {
+            ErrMode::Backtrack(error) => ErrMode::Backtrack(f(error)),
+            ErrMode::Cut(error) => ErrMode::Cut(f(error)),
+            ErrMode::Incomplete(needed) => ErrMode::Incomplete(needed),
+        }
+    }
+}
+
+impl<I: Stream, E: ParserError<I>> ParserError<I> for ErrMode<E> {
+    type Inner = E;
+
+    ghost kind = { λ e. mode_kind E.kind e };
+
+    ghost form = { modal };
+
+    ghost inner_kind = { λ e. as_inner (E.kind e) };
+
+    #[inline(always)]
+    fn from_input(input: &I) -> ErrMode<E> {
+        ErrMode::Backtrack(E::from_input(input))
+    }
+
+    #[inline(always)]
+    fn assert(input: &I, _message: &'static str) -> ErrMode<E> {
+        ErrMode::Cut(E::from_input(input))
+    }
+
+    #[inline(always)]
+    fn incomplete(_input: &I, needed: Needed) -> ErrMode<E> {
+        ErrMode::Incomplete(needed)
+    }
+
+    #[inline(always)]
+    fn no_memory(input: &I) -> ErrMode<E> {
+        ErrMode::Backtrack(E::no_memory(input))
+    }
+
+    fn or(self, other: ErrMode<E>) -> ErrMode<E> {
+        match self {
+            ErrMode::Backtrack(first) => match other {
+                ErrMode::Backtrack(second) => ErrMode::Backtrack(first.or(second)),
+                other => other,
+            },
+            ErrMode::Cut(first) => match other {
+                ErrMode::Incomplete(needed) => ErrMode::Incomplete(needed),
+                _ => ErrMode::Cut(first),
+            },
+            ErrMode::Incomplete(needed) => ErrMode::Incomplete(needed),
+        }
+    }
+
+    fn append(self, input: &I, token_start: &I::Checkpoint) -> ErrMode<E> {
+        match self {
+            ErrMode::Backtrack(error) => ErrMode::Backtrack(error.append(input, token_start)),
+            ErrMode::Cut(error) => ErrMode::Cut(error.append(input, token_start)),
+            ErrMode::Incomplete(needed) => ErrMode::Incomplete(needed),
+        }
+    }
+
+    #[inline(always)]
+    fn is_backtrack(&self) -> bool {
+        match self {
+            ErrMode::Backtrack(error) => !error.is_memory(),
+            _ => false,
+        }
+    }
+
+    #[inline(always)]
+    fn is_incomplete(&self) -> bool {
+        match self {
+            ErrMode::Incomplete(_) => true,
+            _ => false,
+        }
+    }
+
+    #[inline(always)]
+    fn is_memory(&self) -> bool {
+        match self {
+            ErrMode::Backtrack(error) => error.is_memory(),
+            ErrMode::Cut(error) => error.is_memory(),
+            ErrMode::Incomplete(_) => false,
+        }
+    }
+
+    #[inline(always)]
+    fn needed(&self) -> Option<Needed> {
+        match self {
+            ErrMode::Incomplete(needed) => Some(*needed),
+            _ => None,
+        }
+    }
+
+    #[inline(always)]
+    fn into_inner(self) -> Result<E, ErrMode<E>> {
+        match self {
+            ErrMode::Backtrack(error) => Ok(error),
+            ErrMode::Cut(error) => Ok(error),
+            ErrMode::Incomplete(needed) => Err(ErrMode::Incomplete(needed)),
+        }
+    }
+
+    ghost plain_kinds = { λ e. modal-not_plain e };
+}

@@ -1,0 +1,81 @@
+//! The traits of errors.
+ghost use Rattle.std.specs.Prelude.{◌≡◌, ◌↔◌, IsTrue, IsSome, ℕ, Option, None, Some, ◌⊎◌, MatchResult, option_map};
+ghost use Rattle.streams.specs.Kind.{Kind, backtrack, cut, incomplete, memory};
+ghost use Rattle.streams.specs.Needed.{need_of};
+ghost use Rattle.stream_errors.specs.Form.{ErrorForm, plain, asserted, incompleted, inner_kind_of, need_of_kind};
+
+use streams::needed::Needed;
+use streams::stream::Stream;
+
+/// What parsers ask of their error type, as winnow's documentation has it.
+///
+/// Contracts see an error by its kind alone. A plain error type has the kinds backtrack and
+/// memory, a modal one, as [`ErrMode`](crate::mode::ErrMode), all four. Kind memory says that a
+/// request for memory was refused; no parser backtracks over it.
+///
+/// ```text
+/// EmptyError::from_input(&input)                 backtracks
+/// ErrMode::<EmptyError>::assert(&input, "why")   cuts
+/// ```
+pub trait ParserError<I: Stream>: Drop {
+    /// The error without its mode.
+    type Inner: Drop;
+
+    // The kind of an error.
+    ghost kind: { Self → Kind };
+
+    // Whether the type has all kinds, or backtrack and memory alone.
+    ghost form: { ErrorForm };
+
+    // The kind of an inner error.
+    ghost inner_kind: { Self.Inner → Kind };
+
+    /// A backtracking error at the place of `input`.
+    fn from_input(input: &I) -> Self
+        ensures { kind result ≡ backtrack };
+
+    /// The error for a parser that was made or called wrongly: it cuts, or backtracks for a plain
+    /// type. It never ends the process.
+    fn assert(input: &I, message: &'static str) -> Self
+        ensures { kind result ≡ asserted form };
+
+    /// The error for a need of more input: it is incomplete, or backtracks for a plain type.
+    fn incomplete(input: &I, needed: Needed) -> Self
+        ensures { kind result ≡ incompleted form (need_of needed) };
+
+    /// The error for want of memory.
+    fn no_memory(input: &I) -> Self
+        ensures { kind result ≡ memory };
+
+    /// Joins the errors of two branches. Two that backtrack give one that does, or that wants
+    /// memory where they could not be joined.
+    fn or(self, other: Self) -> Self
+        ensures { kind self ≡ backtrack → kind other ≡ backtrack → (kind result ≡ backtrack) ⊎ (kind result ≡ memory) };
+
+    /// Adds the place of an enclosing parser. The kind stays, or is memory.
+    fn append(self, input: &I, token_start: &I::Checkpoint) -> Self
+        ensures { (kind result ≡ kind self) ⊎ (kind result ≡ memory) };
+
+    /// Whether another branch may be tried.
+    fn is_backtrack(&self) -> bool
+        ensures { IsTrue result ↔ (kind self.now ≡ backtrack) };
+
+    /// Whether more input may change the answer.
+    fn is_incomplete(&self) -> bool
+        ensures { IsTrue result ↔ IsSome (need_of_kind (kind self.now)) };
+
+    /// Whether a request for memory was refused.
+    fn is_memory(&self) -> bool
+        ensures { IsTrue result ↔ (kind self.now ≡ memory) };
+
+    /// How much more input is needed, for an incomplete error.
+    fn needed(&self) -> Option<Needed>
+        ensures { option_map need_of result ≡ need_of_kind (kind self.now) };
+
+    /// The error without its mode; an incomplete one has none inside and is given back.
+    fn into_inner(self) -> Result<Self::Inner, Self>
+        ensures { MatchResult result (λ inner. inner_kind_of (kind self) ≡ Some (inner_kind inner)) (λ e. (inner_kind_of (kind self) ≡ None) × (e ≡ self)) };
+
+    // An error of a plain type backtracks or wants memory.
+    ghost plain_kinds: { form ≡ plain → (e : Self) → (kind e ≡ backtrack) ⊎ (kind e ≡ memory) };
+}

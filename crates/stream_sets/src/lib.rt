@@ -1,0 +1,6 @@
+//! What parsers ask of the tokens of a stream: counts, sets of tokens and comparisons.
+#![tactic(auto)]
+
+pub mod compare;
+pub mod range;
+pub mod sets;

@@ -1,0 +1,108 @@
+//! How many times something may stand.
+ghost use Rattle.std.specs.Prelude.{◌≡◌, ◌-◌, ℕ, Some, None};
+ghost use Rattle.std.specs.Range.{range_inclusive_start, range_inclusive_end};
+
+use std::ops;
+
+/// A range of counts, made by `From` of a number or of a range of numbers.
+///
+/// ```text
+/// Range::from(3)       3 times
+/// Range::from(1..)     once or more
+/// Range::from(2..=4)   2 to 4 times, as 2..5
+/// ```
+///
+/// Of `a..b` and `..b` the greatest count is `b - 1`, and 0 where `b` is 0.
+#[derive(Clone, Copy, Debug, PartialEq, Eq)]
+pub struct Range {
+    /// The least count.
+    pub start_inclusive: usize,
+    /// The greatest count, if there is one. It may be below the least: such a range is refused
+    /// where it is used.
+    pub end_inclusive: Option<usize>,
+}
+
+impl From<usize> for Range {
+    ghost from_gives = { λ n r. r ≡ record { start_inclusive = n; end_inclusive = Some n } };
+
+    #[inline(always)]
+    fn from(count: usize) -> Range {
+        Range {
+            start_inclusive: count,
+            end_inclusive: Some(count),
+        }
+    }
+}
+
+impl From<ops::RangeFull> for Range {
+    ghost from_gives = { λ _ r. r ≡ record { start_inclusive = 0; end_inclusive = None } };
+
+    #[inline(always)]
+    fn from(_range: ops::RangeFull) -> Range {
+        Range {
+            start_inclusive: 0,
+            end_inclusive: None,
+        }
+    }
+}
+
+impl From<ops::RangeFrom<usize>> for Range {
+    ghost from_gives = { λ x r. r ≡ record { start_inclusive = x.start; end_inclusive = None } };
+
+    #[inline(always)]
+    fn from(range: ops::RangeFrom<usize>) -> Range {
+        Range {
+            start_inclusive: range.start,
+            end_inclusive: None,
+        }
+    }
+}
+
+impl From<ops::RangeTo<usize>> for Range {
+    ghost from_gives = { λ x r. r ≡ record { start_inclusive = 0; end_inclusive = Some (x.end - 1) } };
+
+    #[inline(always)]
+    fn from(range: ops::RangeTo<usize>) -> Range {
+        Range {
+            start_inclusive: 0,
+            end_inclusive: Some(range.end.saturating_sub(1)),
+        }
+    }
+}
+
+impl From<ops::RangeToInclusive<usize>> for Range {
+    ghost from_gives = { λ x r. r ≡ record { start_inclusive = 0; end_inclusive = Some x.end } };
+
+    #[inline(always)]
+    fn from(range: ops::RangeToInclusive<usize>) -> Range {
+        Range {
+            start_inclusive: 0,
+            end_inclusive: Some(range.end),
+        }
+    }
+}
+
+impl From<ops::Range<usize>> for Range {
+    ghost from_gives = { λ x r. r ≡ record { start_inclusive = x.start; end_inclusive = Some (x.end - 1) } };
+
+    #[inline(always)]
+    fn from(range: ops::Range<usize>) -> Range {
+        Range {
+            start_inclusive: range.start,
+            end_inclusive: Some(range.end.saturating_sub(1)),
+        }
+    }
+}
+
+impl From<ops::RangeInclusive<usize>> for Range {
+    ghost from_gives = { λ x r. r ≡ record { start_inclusive = range_inclusive_start x; end_inclusive = Some (range_inclusive_end x) } };
+
+    #[inline(always)]
+    fn from(range: ops::RangeInclusive<usize>) -> Range {
+        let (start, end) = range.into_inner();
+        Range {
+            start_inclusive: start,
+            end_inclusive: Some(end),
+        }
+    }
+}
