@@ -1,6 +1,6 @@
 -- How a stream counts its tokens and hands them out.
-use Rattle.std.specs.Prelude.{◌≡◌, ℕ, List, [], ◌++◌}
-use Rattle.std.proofs.Common.{ap, refl}
+use Rattle.std.specs.Prelude.{◌≡◌, ◌<◌, ◌+◌, ℕ, List, [], ◌∷◌, ◌++◌}
+use Rattle.std.proofs.Common.{ap, refl, arith}
 use Rattle.streams.specs.Input.{Input, Place, IsEndOf}
 
 -- What a stream of tokens T and slices S says of itself.
@@ -29,3 +29,12 @@ passes_end p = record { ends = record { dropped = _; tokens = p.tokens }; cut = 
 
 pub takes_end : {T S : Type 0} {reading : Reading T S} {front : List T} {i : Input T} {s : S} {j : Input T} → Takes reading front i s j → IsEndOf j i
 takes_end p = passes_end p.passed
+
+-- where each token takes a unit, no units are left of no tokens alone
+pub units-zero : {T : Type 0} (units : List T → ℕ) → ((x : T) (xs : List T) → 0 < units (x ∷ xs)) → (xs : List T) → units xs ≡ 0 → xs ≡ []
+units-zero units positive [] e = refl
+units-zero units positive (x ∷ xs) e = absurd (omega (arith, e, positive x xs))
+
+-- no tokens take no units
+pub units-nil : {T : Type 0} (units : List T → ℕ) → ((xs ys : List T) → units (xs ++ ys) ≡ units xs + units ys) → units [] ≡ 0
+units-nil units add = omega (arith, add [] [])

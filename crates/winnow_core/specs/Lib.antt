@@ -1,0 +1,9 @@
+pub mod Ends
+pub mod Runs
+pub mod Literal
+pub mod TakeWhile
+pub mod Members
+pub mod Eof
+pub mod Sequence
+pub mod Whole
+pub mod Parts

@@ -1,0 +1,52 @@
+-- Takes by set.
+use Rattle.std.specs.Prelude.{◌≡◌, ◌<◌, ◌≤◌, ◌-◌, ◌^◌, ℕ, max, nat_le, if◌then◌else◌, Bool, true, false, List, [], ◌∷◌, ◌++◌, length, Option, Some, None, Ok, Err, ◌⊎◌, ⊤, MatchOption}
+use Rattle.std.specs.List.{All}
+use Rattle.streams.specs.Input.{Input}
+use Rattle.streams.specs.Kind.{backtrack}
+use Rattle.streams.specs.Reading.{Reading, Takes}
+use Rattle.stream_errors.specs.Form.{ErrorForm, Answer, incompleted, asserted}
+
+-- The greatest number of tokens taken. The forms `0..` and `1..` have none; another range with no greatest count has the greatest number of its type.
+abbrev pub greatest_of : ℕ → Option ℕ → Option ℕ
+greatest_of least (Some n) = Some n
+greatest_of least None = if nat_le least 1 then None else Some (2 ^ 64 - 1)
+
+-- n is at most the greatest number, if there is one
+abbrev pub IsWithin : Option ℕ → ℕ → Type 0
+IsWithin greatest n = MatchOption greatest ⊤ (λ most. n ≤ most)
+
+-- n is below the greatest number, if there is one
+abbrev pub IsBelow : Option ℕ → ℕ → Type 0
+IsBelow greatest n = MatchOption greatest ⊤ (λ most. n < most)
+
+-- The tokens' longest beginning of members, of at most the greatest number.
+pub record IsLongest {T : Type 0} (member : T → Bool → Type 0) (greatest : Option ℕ) (tokens front rest : List T) : Type 0 where
+  pub splits : tokens ≡ front ++ rest
+  pub members : All (λ t. member t true) front
+  pub within : IsWithin greatest (length front)
+  pub stops : (x : T) (more : List T) → rest ≡ x ∷ more → member x false ⊎ (greatest ≡ Some (length front))
+
+-- Whatever more input comes, that beginning ends there: before a token that is no member, or at the greatest number.
+abbrev pub IsEnded : {T : Type 0} → (T → Bool → Type 0) → Option ℕ → List T → List T → Type 0
+IsEnded {T} member greatest front rest =
+  ((x : T) × (more : List T) × (rest ≡ x ∷ more) × member x false) ⊎ (greatest ≡ Some (length front))
+
+-- All tokens are members, and fewer than the greatest number.
+abbrev pub IsOpen : {T : Type 0} → (T → Bool → Type 0) → Option ℕ → List T → Type 0
+IsOpen member greatest tokens = All (λ t. member t true) tokens × IsBelow greatest (length tokens)
+
+-- what an open input of `left` units lacks: what the least number is more than them, and at least 1
+abbrev pub missing_of : ℕ → ℕ → ℕ
+missing_of least left = max (least - left) 1
+
+-- A run of a take of members, of at least `least` tokens and at most the greatest number.
+abbrev pub TakeWhileRuns : {T S : Type 0} → Reading T S → ErrorForm → (T → Bool → Type 0) → ℕ → Option ℕ → Input T → Answer S → Input T → Type 0
+TakeWhileRuns {T} {S} reading form member least greatest i answer j =
+  -- the greatest number is below the least
+  ((most : ℕ) × (greatest ≡ Some most) × (most < least) × (answer ≡ Err (asserted form)) × (j ≡ i))
+  -- a cut input is open
+  ⊎ ((IsWithin greatest least × IsOpen member greatest i.left.tokens × (i.side.cut ≡ true) × (answer ≡ Err (incompleted form (Some (missing_of least (reading.units i.left.tokens))))) × (j ≡ i))
+  -- the longest beginning is taken
+  ⊎ (((front : List T) × (rest : List T) × (slice : S) × IsWithin greatest least × IsLongest member greatest i.left.tokens front rest × (IsEnded member greatest front rest ⊎ (i.side.cut ≡ false)) × (least ≤ length front) × Takes reading front i slice j × (answer ≡ Ok slice))
+  -- it has too few tokens
+  ⊎ ((front : List T) × (rest : List T) × IsWithin greatest least × IsLongest member greatest i.left.tokens front rest × (IsEnded member greatest front rest ⊎ (i.side.cut ≡ false)) × (length front < least) × (answer ≡ Err backtrack) × (j ≡ i))))

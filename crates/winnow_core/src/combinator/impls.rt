@@ -1,0 +1,25 @@
+//! The parsers of the module above, as structs.
+ghost use Rattle.std.specs.Prelude.{◌≡◌};
+ghost use Rattle.winnow_core.specs.Eof.{EofRuns};
+
+use crate::combinator::eof;
+use crate::parser::Parser;
+use stream_errors::parser_error::ParserError;
+use streams::stream::Stream;
+
+/// The parser [`eof`](crate::combinator::eof).
+///
+/// ```text
+/// (b'a', Eof).parse_next(&mut b"a".as_slice())   is Ok((b'a', b""))
+/// ```
+#[derive(Clone, Copy, Debug, PartialEq, Eq)]
+pub struct Eof;
+
+impl<I: Stream, E: ParserError<I>> Parser<I, I::Slice, E> for Eof {
+    ghost run = { λ s i answer t j. EofRuns I.reading i answer j × (t ≡ s) };
+
+    #[inline(always)]
+    fn parse_next(&mut self, input: &mut I) -> Result<I::Slice, E> {
+        eof(input)
+    }
+}

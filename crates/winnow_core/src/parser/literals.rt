@@ -1,0 +1,43 @@
+//! Values that are parsers of themselves.
+ghost use Rattle.std.specs.Prelude.{◌≡◌};
+ghost use Rattle.winnow_core.specs.Literal.{LiteralRuns};
+
+use crate::parser::Parser;
+use crate::token::take_literal;
+use stream_errors::parser_error::ParserError;
+use stream_sets::compare::Compare;
+use streams::stream::StreamIsPartial;
+
+/// A byte stands for itself, and is its own output.
+///
+/// It fails, and consumes nothing, where the byte does not stand first; on a cut input with
+/// nothing left it is incomplete with an unknown need.
+impl<I: StreamIsPartial + Compare<u8>, E: ParserError<I>> Parser<I, u8, E> for u8 {
+    ghost run = { λ s i answer t j. LiteralRuns I.reading E.form (I.spells s) (λ _. s) i answer j × (t ≡ s) };
+
+    #[inline(always)]
+    fn parse_next(&mut self, input: &mut I) -> Result<u8, E> {
+        let _slice = take_literal(input, *self)?;
+        Ok(*self)
+    }
+}
+
+/// Bytes stand for themselves; the output is the slice of the input.
+impl<'t, I: StreamIsPartial + Compare<&'t [u8]>, E: ParserError<I>> Parser<I, I::Slice, E> for &'t [u8] {
+    ghost run = { λ s i answer t j. LiteralRuns I.reading E.form (I.spells s) (λ slice. slice) i answer j × (t ≡ s) };
+
+    #[inline(always)]
+    fn parse_next(&mut self, input: &mut I) -> Result<I::Slice, E> {
+        take_literal(input, *self)
+    }
+}
+
+/// Bytes stand for themselves; the output is the slice of the input.
+impl<'t, const N: usize, I: StreamIsPartial + Compare<&'t [u8; N]>, E: ParserError<I>> Parser<I, I::Slice, E> for &'t [u8; N] {
+    ghost run = { λ s i answer t j. LiteralRuns I.reading E.form (I.spells s) (λ slice. slice) i answer j × (t ≡ s) };
+
+    #[inline(always)]
+    fn parse_next(&mut self, input: &mut I) -> Result<I::Slice, E> {
+        take_literal(input, *self)
+    }
+}
