@@ -1,8 +1,18 @@
--- What is left of a slice.
+-- Bytes as a stream.
 use Rattle.std.specs.Prelude.{◌≡◌, ℕ, ◌<◌, ◌-◌, List, ◌∷◌, ◌++◌, length, take, drop}
+use Rattle.std.specs.Borrow.{Bor}
 use Rattle.std.proofs.Common.{refl, sym, ap, ◌∙◌, arith}
 use Rattle.std.proofs.lemmas.List.{take_rest, take-append-drop}
 use Rattle.streams.specs.Input.{Input, IsEndOf, at_start, no_side}
+use Rattle.streams.specs.Reading.{Reading}
+
+-- What is seen of a slice of bytes: the bytes, with no place kept, whole.
+abbrev pub bytes_input : List ℕ → Input ℕ
+bytes_input bytes = record { left = at_start bytes; side = no_side }
+
+-- Bytes are counted one by one, and a slice shows its own.
+abbrev pub bytes_reading : Reading ℕ (Bor (List ℕ))
+bytes_reading = record { units = length; advance = λ place _. place; shows = λ s tokens. s.now ≡ tokens }
 
 -- what is left of a slice of which a part is left
 pub slice_ends : {T : Type 0} (n : ℕ) (xs : List T) → IsEndOf (record { left = at_start (take (length xs - n) (drop n xs)); side = no_side }) (record { left = at_start xs; side = no_side })

@@ -4,10 +4,9 @@ ghost use Rattle.std.specs.Iterator.{at_most};
 ghost use Rattle.std.specs.List.{All};
 ghost use Rattle.std.proofs.Common.{rules};
 ghost use Rattle.std.proofs.lemmas.List.{length-append};
-ghost use Rattle.streams.specs.Input.{Input, at_start, no_side};
-ghost use Rattle.streams.specs.Reading.{Reading};
+ghost use Rattle.streams.specs.Input.{at_start};
 ghost use Rattle.streams.specs.Stream.{with_offsets, GivesNext};
-ghost use Rattle.streams.specs.Bytes.{length-positive};
+ghost use Rattle.streams.specs.Bytes.{bytes_input, bytes_reading, length-positive};
 
 use crate::needed::Needed;
 use crate::stream::{Stream, StreamIsPartial};
@@ -54,11 +53,11 @@ impl<'a> Stream for &'a [u8] {
     type IterOffsets = ByteOffsets<'a>;
     type Checkpoint = &'a [u8];
 
-    ghost view = { λ s. record { left = at_start s.now; side = no_side } };
+    ghost view = { λ s. bytes_input s.now };
 
     ghost seen = { λ s. at_start s.now };
 
-    ghost reading = { record { units = length; advance = λ place _. place; shows = λ s tokens. s.now ≡ tokens } };
+    ghost reading = { bytes_reading };
 
     ghost seen_as = { λ b. b };
 

@@ -1,11 +1,13 @@
 -- Whole parses: a run of the parser, and then the end of the input.
 use Rattle.std.specs.Prelude.{◌≡◌, ◌+◌, ℕ, List, [], Some, None, Ok, Err, Result, MatchResult, ◌⊎◌}
+use Rattle.std.proofs.Common.{subst}
 use Rattle.streams.specs.Input.{Input, Left, back_at}
 use Rattle.streams.specs.Kind.{Kind, backtrack, incomplete}
 use Rattle.streams.specs.Needed.{need_of}
 use Rattle.streams.specs.declared.needed.Needed.{Needed}
 use Rattle.stream_errors.specs.Form.{Answer, inner_kind_of, need_of_kind}
 use Rattle.stream_errors.specs.Fault.{refused_input, refused_offset, refused_inner}
+use Rattle.stream_errors.specs.declared.fault.ParseError.{ParseError}
 use Rattle.stream_errors.specs.declared.fault.ParseFault.{ParseFault}
 use Rattle.stream_errors.specs.declared.fault.ParseFault.TheVariants.{Refused, Incomplete}
 
@@ -27,3 +29,10 @@ ParsesWhole {I} {T} {O} view units inner_kind start ran result = MatchResult res
     ((k : Kind) × (j : Input T) × ran (Err k) j × IsFaultAt view units inner_kind start j k fault)
     -- the run leaves something
     ⊎ ((o : O) × (j : Input T) × ran (Ok o) j × (j.left.tokens ≡ [] → ⊥) × IsFaultAt view units inner_kind start j backtrack fault))
+
+-- where a refused input was left
+pub refused_place : {I T X : Type 0} (view : I → Input T) (units : List T → ℕ) (inner_kind : X → Kind) (start : Left T) (at : Input T) (k : Kind) (fault : ParseFault I X Needed) (e : ParseError I X) → fault ≡ Refused e → IsFaultAt view units inner_kind start at k fault → refused_offset e + units at.left.tokens ≡ units start.tokens
+refused_place view units inner_kind start at k fault e same is_at =
+  let P : ParseFault _ _ Needed → Type 0 = λ f. IsFaultAt view units inner_kind start at k f in
+  let refused = subst P same is_at in
+  refused.0

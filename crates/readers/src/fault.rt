@@ -1,0 +1,14 @@
+//! Why a reader gives no answer.
+
+/// Why a reader gives no answer.
+///
+/// ```text
+/// ini::pair(b"key")   is Err(Fault::Refused(3))
+/// ```
+#[derive(Clone, Copy, Debug, PartialEq)]
+pub enum Fault {
+    /// The input is refused at this place, in bytes from its start.
+    Refused(usize),
+    /// A request for memory was refused.
+    NoMemory,
+}

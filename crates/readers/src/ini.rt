@@ -1,0 +1,38 @@
+//! INI text.
+ghost use Rattle.std.specs.Prelude.{◌≡◌, ◌≢◌, ◌↔◌, IsTrue, IfOk, IfErr};
+ghost use Rattle.readers.specs.Pair.{IsKeyByte, IsPairLine, IsPairFault};
+
+use crate::fault::Fault;
+use stream_errors::empty::EmptyError;
+use stream_errors::fault::ParseFault;
+use stream_sets::range::Range;
+use stream_sets::sets::Pred;
+use winnow_core::parser::Parser;
+use winnow_core::token::take_while;
+
+/// Reads one line of a key, `=` and a value: one or more ASCII letters or digits, `=`, bytes other
+/// than a line feed, and at most one line feed.
+///
+/// The answer is the key and the value, as slices of the input; the value may be empty. Other
+/// bytes are refused at the length of their longest beginning that begins such a line.
+///
+/// ```text
+/// ini::pair(b"key=value\n")   is Ok((b"key", b"value"))
+/// ini::pair(b"a=b\nc")        is Err(Fault::Refused(4))
+/// ```
+pub fn pair(input: &[u8]) -> Result<(&[u8], &[u8]), Fault>
+    ensures parts { IfOk result (λ p. IsPairLine input.now p.0.now p.1.now) }
+    ensures refused { IfErr result (λ f. IsPairFault input.now f) }
+{
+    let mut line = (
+        take_while::<_, _, EmptyError>(Range::from(1..), Pred(|b: u8| b.is_ascii_alphanumeric())),
+        b'=',
+        take_while(Range::from(0..), Pred(|b: u8| b != b'\n')),
+        take_while(Range::from(..=1), b'\n'),
+    );
+    match line.parse(input) {
+        Ok((key, _, value, _)) => Ok((key, value)),
+        Err(ParseFault::Refused(error)) => Err(Fault::Refused(error.offset())),
+        Err(ParseFault::Incomplete(_)) => unreachable!(),
+    }
+}
