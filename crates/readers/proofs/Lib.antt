@@ -1,2 +1,4 @@
+pub mod Bytes
+pub mod Owed
 pub mod PairLemmas
 pub mod PairRuns

@@ -1,0 +1,89 @@
+-- What the program answers and writes.
+use Rattle.std.specs.Prelude.{◌≡◌, ℕ, ◌<◌, ◌≤◌, List, [], ◌∷◌, ◌++◌, length, ◌⊎◌, codes, Option, slice_index_or, Result, MatchResult}
+use Rattle.std.specs.Borrow.{Bor}
+use Rattle.std.specs.Fmt.{decimal}
+use Rattle.std.specs.Io.KnownBytes.{Consumes, Keeps, Appends}
+use Rattle.readers.specs.declared.program.Stop.{Stop}
+use Rattle.readers.specs.declared.program.Stop.TheVariants.{Usage, Unreadable, Unwritable, TooLong, NoMemory}
+use Rattle.readers.specs.declared.program.Verdict.{Verdict}
+use Rattle.readers.specs.declared.program.Verdict.TheVariants.{Accepted, Refused}
+use Rattle.readers.specs.Pair.{IsPairLine, IsRefusedPair}
+
+-- at most n of the known bytes were taken
+abbrev pub ConsumesAtMost : Option (List ℕ) → Option (List ℕ) → ℕ → Type 0
+ConsumesAtMost old new n = (bytes : List ℕ) × Consumes old new bytes × (length bytes ≤ n)
+
+-- the known bytes grew by a beginning of these
+abbrev pub AppendsSome : Option (List ℕ) → Option (List ℕ) → List ℕ → Type 0
+AppendsSome old new bytes = (front : List ℕ) × (rest : List ℕ) × (bytes ≡ front ++ rest) × Appends old new front
+
+-- the line of a pair
+abbrev pub pair_line : List ℕ → List ℕ → List ℕ
+pair_line key value = key ++ codes ": " ++ value ++ 10 ∷ []
+
+-- the line of a refusal
+abbrev pub refused_line : ℕ → List ℕ
+refused_line n = codes "refused at " ++ decimal n ++ 10 ∷ []
+
+-- the greatest length of an input, in bytes
+abbrev pub most_bytes : ℕ
+most_bytes = 1048576
+
+-- the words are the one word
+abbrev pub IsWord : List (Bor (List ℕ)) → List ℕ → Type 0
+IsWord words word = (length words ≡ 1) × ((d : Bor (List ℕ)) → (slice_index_or words 0 d).now ≡ word)
+
+-- The bytes are the line of a pair, and the text is its line.
+abbrev pub IsPairText : List ℕ → List ℕ → Type 0
+IsPairText bytes text = (key : List ℕ) × (value : List ℕ) × IsPairLine bytes key value × (text ≡ pair_line key value)
+
+-- The bytes are refused, and the text says where.
+abbrev pub IsRefusedText : List ℕ → List ℕ → Type 0
+IsRefusedText bytes text = (n : ℕ) × IsRefusedPair bytes n × (text ≡ refused_line n)
+
+-- the text of an answer, by its verdict
+unfoldable pub IsAnswerText : List ℕ → Verdict → List ℕ → Type 0
+IsAnswerText bytes Accepted text = IsPairText bytes text
+IsAnswerText bytes Refused text = IsRefusedText bytes text
+
+-- the text on standard error
+abbrev pub stop_text : Stop → List ℕ
+stop_text Usage = codes "usage: readers pair|ini|calc" ++ 10 ∷ []
+stop_text Unreadable = codes "cannot read standard input" ++ 10 ∷ []
+stop_text Unwritable = codes "cannot write standard output" ++ 10 ∷ []
+stop_text TooLong = codes "input too long" ++ 10 ∷ []
+stop_text NoMemory = codes "out of memory" ++ 10 ∷ []
+
+-- What stopped the reading and answering of these bytes.
+abbrev pub StopsAnswer : List ℕ → Stop → Type 0
+StopsAnswer bytes Usage = ⊥
+StopsAnswer bytes Unreadable = Unit {0}
+StopsAnswer bytes Unwritable = ⊥
+StopsAnswer bytes TooLong = most_bytes < length bytes
+StopsAnswer bytes NoMemory = Unit {0}
+
+-- What a stop says of the bytes, and of what standard output held and holds: nothing was written, or a beginning of the pair's line.
+abbrev pub StopLeaves : List ℕ → Stop → Option (List ℕ) → Option (List ℕ) → Type 0
+StopLeaves bytes Usage old new = ⊥
+StopLeaves bytes Unreadable old new = Keeps old new
+StopLeaves bytes Unwritable old new = (length bytes ≤ most_bytes) × ((text : List ℕ) × IsPairText bytes text × AppendsSome old new text)
+StopLeaves bytes TooLong old new = (most_bytes < length bytes) × Keeps old new
+StopLeaves bytes NoMemory old new = Keeps old new
+
+-- What a run owes for these bytes, by its status: to standard output, and to standard error, whose own faults are passed over.
+abbrev pub RunOwes : List ℕ → ℕ → Option (List ℕ) → Option (List ℕ) → Option (List ℕ) → Option (List ℕ) → Type 0
+RunOwes bytes status out_old out_new err_old err_new =
+  -- the line of the pair
+  ((status ≡ 0) × (length bytes ≤ most_bytes) × ((text : List ℕ) × IsPairText bytes text × Appends out_old out_new text) × Keeps err_old err_new)
+  -- where the bytes are refused
+  ⊎ (((status ≡ 1) × (length bytes ≤ most_bytes) × Keeps out_old out_new × ((text : List ℕ) × IsRefusedText bytes text × AppendsSome err_old err_new text))
+  -- why there is no answer
+  ⊎ ((status ≡ 2) × ((stop : Stop) × StopLeaves bytes stop out_old out_new × AppendsSome err_old err_new (stop_text stop))))
+
+-- What writing an answer leaves, by its verdict, and the status that is answered for it.
+abbrev pub WritesAnswer : Verdict → List ℕ → ℕ → Option (List ℕ) → Option (List ℕ) → Option (List ℕ) → Option (List ℕ) → Type 0
+WritesAnswer Accepted text status out_old out_new err_old err_new =
+  ((status ≡ 0) × Appends out_old out_new text × Keeps err_old err_new)
+  ⊎ ((status ≡ 2) × AppendsSome out_old out_new text × AppendsSome err_old err_new (stop_text Unwritable))
+WritesAnswer Refused text status out_old out_new err_old err_new =
+  (status ≡ 1) × Keeps out_old out_new × AppendsSome err_old err_new text

@@ -1,0 +1,202 @@
+//! The program over any reader and two writers.
+ghost use Rattle.std.specs.Prelude.{◌≡◌, ◌≤◌, ◌↔◌, IsTrue, List, ℕ, length, IfOk, IfSome, MatchResult, codes, ◌+◌};
+ghost use Rattle.std.specs.Io.KnownBytes.{Keeps, Appends};
+ghost use Rattle.readers.specs.Program.{ConsumesAtMost, AppendsSome, pair_line, refused_line, IsAnswerText, StopsAnswer, WritesAnswer, RunOwes, stop_text, IsWord, most_bytes};
+
+mod bytes_io;
+
+use crate::fault::Fault;
+use crate::ini;
+use crate::program::bytes_io::{ReadFault, put, read_up_to};
+use std::alloc::{AllocError, Allocator};
+use std::io::{Read, Write};
+
+/// The greatest length of an input, in bytes.
+const LIMIT: usize = 1_048_576;
+
+/// Why there is no answer: each ends the program with status 2.
+///
+/// ```text
+/// Stop::TooLong   prints "input too long"
+/// ```
+#[derive(Clone, Copy, Debug, PartialEq)]
+pub enum Stop {
+    /// The words are not one of the readers' names.
+    Usage,
+    /// Standard input could not be read.
+    Unreadable,
+    /// Standard output could not be written.
+    Unwritable,
+    /// The input has more than the limit of 1,048,576 bytes.
+    TooLong,
+    /// A request for memory was refused.
+    NoMemory,
+}
+
+impl Stop {
+    /// The text on standard error, which takes no memory.
+    fn text(self) -> &'static [u8]
+        ensures { result.now ≡ stop_text self }
+    {
+        match self {
+            Stop::Usage => b"usage: readers pair|ini|calc\n",
+            Stop::Unreadable => b"cannot read standard input\n",
+            Stop::Unwritable => b"cannot write standard output\n",
+            Stop::TooLong => b"input too long\n",
+            Stop::NoMemory => b"out of memory\n",
+        }
+    }
+}
+
+/// Whether an input is in its format.
+#[derive(Clone, Copy, Debug, PartialEq)]
+enum Verdict {
+    Accepted,
+    Refused,
+}
+
+/// The whole answer to an input: the text, and whether it goes to standard output or to standard
+/// error.
+#[derive(Drop)]
+struct Answer<A: Allocator> {
+    verdict: Verdict,
+    text: Vec<u8, A>,
+}
+
+/// The program over any reader and two writers. `words` are the arguments behind its name; the
+/// answer is the exit status.
+///
+/// The words are checked first, and nothing is read where they are not one reader's name. At most
+/// one byte more than the limit of 1,048,576 is read. The whole answer is computed before anything
+/// is written:
+///
+/// - status 0: the answer's lines are on `output`;
+/// - status 1: `refused at N` is on `errors`, N in bytes from the start, and nothing on `output`;
+/// - status 2: why there is no answer is on `errors`.
+///
+/// A fault of `errors` changes no status.
+///
+/// ```text
+/// run(alloc, &["pair"], &mut b"key=value".as_slice(), &mut output, &mut errors)
+///     is 0, and output holds "key: value\n"
+/// ```
+pub fn run<A: Allocator + Copy, R: Read, W: Write, E: Write>(
+    alloc: A,
+    words: &[&str],
+    input: &mut R,
+    output: &mut W,
+    errors: &mut E,
+) -> u8
+    ensures status { result ≤ 2 }
+    ensures most { ConsumesAtMost (R.remaining input.old) (R.remaining input.new) (most_bytes + 1) }
+    ensures usage { (IsWord words.now (codes "pair") → ⊥) → (result ≡ 2)
+        × Keeps (R.remaining input.old) (R.remaining input.new)
+        × Keeps (W.contents output.old) (W.contents output.new)
+        × AppendsSome (E.contents errors.old) (E.contents errors.new) (stop_text Stop.Usage) }
+    ensures answered { IsWord words.now (codes "pair") → IfSome (R.remaining input.old) (λ bytes.
+        RunOwes bytes result (W.contents output.old) (W.contents output.new) (E.contents errors.old) (E.contents errors.new)) }
+{
+    if !is_word(words, "pair") {
+        put(errors, Stop::Usage.text());
+        return 2;
+    }
+    match make_answer(alloc, input) {
+        Ok(answer) => write_answer(&answer, output, errors),
+        Err(stop) => {
+            put(errors, stop.text());
+            2
+        }
+    }
+}
+
+/// Whether the words are the one word.
+fn is_word(words: &[&str], word: &str) -> bool
+    ensures { IsTrue result ↔ IsWord words.now word.now }
+{
+    match words {
+        [only] => *only == word,
+        _ => false,
+    }
+}
+
+/// Reads the input, and computes the whole answer to it.
+fn make_answer<A: Allocator + Copy, R: Read>(alloc: A, input: &mut R) -> Result<Answer<A>, Stop>
+    ensures most { ConsumesAtMost (R.remaining input.old) (R.remaining input.new) (most_bytes + 1) }
+    ensures bytes { IfSome (R.remaining input.old) (λ bytes. MatchResult result
+        (λ a. (length bytes ≤ most_bytes) × IsAnswerText bytes a.verdict a.text.items)
+        (λ stop. StopsAnswer bytes stop)) }
+{
+    let mut bytes = Vec::new(alloc);
+    match read_up_to(input, &mut bytes, LIMIT) {
+        Ok(()) => {}
+        Err(ReadFault::Unreadable) => return Err(Stop::Unreadable),
+        Err(ReadFault::NoMemory) => return Err(Stop::NoMemory),
+    }
+    if bytes.len() > LIMIT {
+        return Err(Stop::TooLong);
+    }
+    answer_pair(alloc, bytes.as_slice()).map_err(|_| Stop::NoMemory)
+}
+
+/// The answer to the bytes of a pair.
+#[tactic(auto, unfolding(crate::specs::Program::IsAnswerText))]
+fn answer_pair<A: Allocator + Copy>(alloc: A, bytes: &[u8]) -> Result<Answer<A>, AllocError>
+    ensures { IfOk result (λ a. IsAnswerText bytes.now a.verdict a.text.items) }
+{
+    match ini::pair(bytes) {
+        Ok((key, value)) => {
+            let text = line_of_pair(alloc, key, value)?;
+            Ok(Answer {
+                verdict: Verdict::Accepted,
+                text,
+            })
+        }
+        Err(Fault::Refused(at)) => {
+            let text = line_of_refusal(alloc, at)?;
+            Ok(Answer {
+                verdict: Verdict::Refused,
+                text,
+            })
+        }
+        Err(Fault::NoMemory) => Err(AllocError),
+    }
+}
+
+/// The line of a pair.
+fn line_of_pair<A: Allocator>(alloc: A, key: &[u8], value: &[u8]) -> Result<Vec<u8, A>, AllocError>
+    ensures { IfOk result (λ v. v.items ≡ pair_line key.now value.now) }
+{
+    let mut line = Vec::new(alloc);
+    line.extend_from_slice(key)?;
+    line.extend_from_slice(b": ")?;
+    line.extend_from_slice(value)?;
+    line.push(b'\n')?;
+    Ok(line)
+}
+
+/// The line of a refusal.
+fn line_of_refusal<A: Allocator>(alloc: A, at: usize) -> Result<Vec<u8, A>, AllocError>
+    ensures { IfOk result (λ v. v.items ≡ refused_line at) }
+{
+    let line = format!(in alloc; "refused at {at}\n")?;
+    Ok(line.into_bytes())
+}
+
+/// Writes an answer where it goes, and says the exit status.
+fn write_answer<A: Allocator, W: Write, E: Write>(answer: &Answer<A>, output: &mut W, errors: &mut E) -> u8
+    ensures { WritesAnswer answer.now.verdict answer.now.text.items result (W.contents output.old) (W.contents output.new) (E.contents errors.old) (E.contents errors.new) }
+{
+    match answer.verdict {
+        Verdict::Accepted => {
+            if put(output, answer.text.as_slice()) {
+                return 0;
+            }
+            put(errors, Stop::Unwritable.text());
+            2
+        }
+        Verdict::Refused => {
+            put(errors, answer.text.as_slice());
+            1
+        }
+    }
+}
