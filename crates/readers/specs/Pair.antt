@@ -14,7 +14,7 @@ IsLineEnd end = (end ≡ []) ⊎ (end ≡ 10 ∷ [])
 -- A key of one or more letters and digits, `=`, a value of bytes that are no line feed, and at most one line feed.
 abbrev pub IsPairLine : List ℕ → List ℕ → List ℕ → Type 0
 IsPairLine line key value =
-  (end : List ℕ) × (0 < length key) × All IsKeyByte key × All (λ b. b ≢ 10) value × IsLineEnd end × (line ≡ key ++ (61 ∷ (value ++ end)))
+    (end : List ℕ) × (0 < length key) × All IsKeyByte key × All (λ b. b ≢ 10) value × IsLineEnd end × (line ≡ key ++ (61 ∷ (value ++ end)))
 
 -- Some line of a pair begins with these bytes.
 abbrev pub BeginsPairLine : List ℕ → Type 0

@@ -73,17 +73,17 @@ StopLeaves bytes NoMemory old new = Keeps old new
 -- What a run owes for these bytes, by its status: to standard output, and to standard error, whose own faults are passed over.
 abbrev pub RunOwes : List ℕ → ℕ → Option (List ℕ) → Option (List ℕ) → Option (List ℕ) → Option (List ℕ) → Type 0
 RunOwes bytes status out_old out_new err_old err_new =
-  -- the line of the pair
-  ((status ≡ 0) × (length bytes ≤ most_bytes) × ((text : List ℕ) × IsPairText bytes text × Appends out_old out_new text) × Keeps err_old err_new)
-  -- where the bytes are refused
-  ⊎ (((status ≡ 1) × (length bytes ≤ most_bytes) × Keeps out_old out_new × ((text : List ℕ) × IsRefusedText bytes text × AppendsSome err_old err_new text))
-  -- why there is no answer
-  ⊎ ((status ≡ 2) × ((stop : Stop) × StopLeaves bytes stop out_old out_new × AppendsSome err_old err_new (stop_text stop))))
+    -- the line of the pair
+    ((status ≡ 0) × (length bytes ≤ most_bytes) × ((text : List ℕ) × IsPairText bytes text × Appends out_old out_new text) × Keeps err_old err_new)
+    -- where the bytes are refused
+    ⊎ (((status ≡ 1) × (length bytes ≤ most_bytes) × Keeps out_old out_new × ((text : List ℕ) × IsRefusedText bytes text × AppendsSome err_old err_new text))
+    -- why there is no answer
+    ⊎ ((status ≡ 2) × ((stop : Stop) × StopLeaves bytes stop out_old out_new × AppendsSome err_old err_new (stop_text stop))))
 
 -- What writing an answer leaves, by its verdict, and the status that is answered for it.
 abbrev pub WritesAnswer : Verdict → List ℕ → ℕ → Option (List ℕ) → Option (List ℕ) → Option (List ℕ) → Option (List ℕ) → Type 0
 WritesAnswer Accepted text status out_old out_new err_old err_new =
-  ((status ≡ 0) × Appends out_old out_new text × Keeps err_old err_new)
-  ⊎ ((status ≡ 2) × AppendsSome out_old out_new text × AppendsSome err_old err_new (stop_text Unwritable))
+    ((status ≡ 0) × Appends out_old out_new text × Keeps err_old err_new)
+    ⊎ ((status ≡ 2) × AppendsSome out_old out_new text × AppendsSome err_old err_new (stop_text Unwritable))
 WritesAnswer Refused text status out_old out_new err_old err_new =
-  (status ≡ 1) × Keeps out_old out_new × AppendsSome err_old err_new text
+    (status ≡ 1) × Keeps out_old out_new × AppendsSome err_old err_new text

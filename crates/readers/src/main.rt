@@ -4,6 +4,8 @@
 pub mod fault;
 pub mod ini;
 pub mod program;
+#[cfg(test)]
+mod rows;
 
 use std::process::ExitCode;
 use std::{env, io};

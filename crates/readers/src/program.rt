@@ -183,7 +183,11 @@ fn line_of_refusal<A: Allocator>(alloc: A, at: usize) -> Result<Vec<u8, A>, Allo
 }
 
 /// Writes an answer where it goes, and says the exit status.
-fn write_answer<A: Allocator, W: Write, E: Write>(answer: &Answer<A>, output: &mut W, errors: &mut E) -> u8
+fn write_answer<A: Allocator, W: Write, E: Write>(
+    answer: &Answer<A>,
+    output: &mut W,
+    errors: &mut E,
+) -> u8
     ensures { WritesAnswer answer.now.verdict answer.now.text.items result (W.contents output.old) (W.contents output.new) (E.contents errors.old) (E.contents errors.new) }
 {
     match answer.verdict {

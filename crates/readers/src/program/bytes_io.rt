@@ -17,7 +17,11 @@ pub(super) enum ReadFault {
 const CHUNK: usize = 4096;
 
 /// One read of at most `most` bytes behind those of `bytes`. True at the end of the input.
-fn read_some<A: Allocator, R: Read>(input: &mut R, bytes: &mut Vec<u8, A>, most: usize) -> Result<bool, ReadFault>
+fn read_some<A: Allocator, R: Read>(
+    input: &mut R,
+    bytes: &mut Vec<u8, A>,
+    most: usize,
+) -> Result<bool, ReadFault>
     requires positive { 0 < most }
     requires small { most ≤ CHUNK }
     ensures bytes { (read : List ℕ) × (bytes.new.items ≡ bytes.old.items ++ read) × (length read ≤ most)
@@ -40,7 +44,11 @@ fn read_some<A: Allocator, R: Read>(input: &mut R, bytes: &mut Vec<u8, A>, most:
 }
 
 /// Reads to the end of the input, or until one byte more than `limit` is there.
-pub(super) fn read_up_to<A: Allocator, R: Read>(input: &mut R, bytes: &mut Vec<u8, A>, limit: usize) -> Result<(), ReadFault>
+pub(super) fn read_up_to<A: Allocator, R: Read>(
+    input: &mut R,
+    bytes: &mut Vec<u8, A>,
+    limit: usize,
+) -> Result<(), ReadFault>
     requires empty { bytes.old.items ≡ [] }
     requires small { limit < 2 ^ 32 }
     ensures bytes { Consumes (R.remaining input.old) (R.remaining input.new) bytes.new.items }
