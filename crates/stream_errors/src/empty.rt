@@ -1,4 +1,5 @@
 //! An error that says nothing.
+ghost use Rattle.std.specs.Prelude.{◌≡◌};
 ghost use Rattle.streams.specs.Kind.{Kind};
 ghost use Rattle.stream_errors.specs.Form.{marked_kind, plain, inner_kind_of-marked_kind, marked_kind-cases};
 
@@ -46,12 +47,16 @@ impl<I: Stream> ParserError<I> for EmptyError {
     }
 
     #[inline(always)]
-    fn or(self, other: EmptyError) -> EmptyError {
+    fn or(self, other: EmptyError) -> EmptyError
+        ensures { result ≡ other }
+    {
         other
     }
 
     #[inline(always)]
-    fn append(self, _input: &I, _token_start: &I::Checkpoint) -> EmptyError {
+    fn append(self, _input: &I, _token_start: &I::Checkpoint) -> EmptyError
+        ensures { result ≡ self }
+    {
         self
     }
 

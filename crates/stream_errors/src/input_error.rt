@@ -65,12 +65,16 @@ impl<I: Stream + Copy> ParserError<I> for InputError<I> {
     }
 
     #[inline(always)]
-    fn or(self, other: InputError<I>) -> InputError<I> {
+    fn or(self, other: InputError<I>) -> InputError<I>
+        ensures { result ≡ other }
+    {
         other
     }
 
     #[inline(always)]
-    fn append(self, _input: &I, _token_start: &I::Checkpoint) -> InputError<I> {
+    fn append(self, _input: &I, _token_start: &I::Checkpoint) -> InputError<I>
+        ensures { result ≡ self }
+    {
         self
     }
 

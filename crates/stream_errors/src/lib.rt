@@ -10,3 +10,5 @@ pub mod fault;
 pub mod input_error;
 pub mod mode;
 pub mod parser_error;
+#[cfg(test)]
+mod tests;

@@ -4,3 +4,5 @@
 pub mod compare;
 pub mod range;
 pub mod sets;
+#[cfg(test)]
+mod tests;

@@ -1,10 +1,11 @@
 -- Bytes as a stream.
-use Rattle.std.specs.Prelude.{◌≡◌, ℕ, ◌<◌, ◌-◌, List, ◌∷◌, ◌++◌, length, take, drop}
+use Rattle.std.specs.Prelude.{◌≡◌, ℕ, ◌<◌, ◌≤◌, ◌-◌, List, ◌∷◌, ◌++◌, length, take, drop}
 use Rattle.std.specs.Borrow.{Bor}
 use Rattle.std.proofs.Common.{refl, sym, ap, ◌∙◌, arith}
-use Rattle.std.proofs.lemmas.List.{take_rest, take-append-drop}
+use Rattle.std.proofs.lemmas.List.{take_rest, take-append-drop, length-take-le}
 use Rattle.streams.specs.Input.{Input, IsEndOf, at_start, no_side}
 use Rattle.streams.specs.Reading.{Reading}
+use Rattle.streams.specs.Stream.{IsBoundary}
 
 -- What is seen of a slice of bytes: the bytes, with no place kept, whole.
 abbrev pub bytes_input : List ℕ → Input ℕ
@@ -20,3 +21,7 @@ slice_ends n xs = record { ends = record { dropped = take n xs; tokens = sym (ap
 
 pub length-positive : {T : Type 0} (x : T) (xs : List T) → 0 < length (x ∷ xs)
 length-positive x xs = omega arith
+
+-- each place up to the end is between two bytes, or at an end
+pub bytes_boundary : (n : ℕ) (xs : List ℕ) → n ≤ length xs → IsBoundary length xs n
+bytes_boundary n xs h = (take n xs, drop n xs, sym (take-append-drop n xs), sym (length-take-le n xs h))

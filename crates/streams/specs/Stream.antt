@@ -16,8 +16,8 @@ AnswersSeen {K} seen answers x b = (t : K) × (seen t ≡ x) × answers t b
 -- the offset of the first token that is answered true, or none where all are answered false
 abbrev pub FindsFirst : {T : Type 0} → (T → Bool → Type 0) → (List T → ℕ) → List T → Option ℕ → Type 0
 FindsFirst {T} answers units tokens found = MatchOption found
-  (All (λ t. answers t false) tokens)
-  (λ offset. (front : List T) × (t : T) × (rest : List T) × (tokens ≡ front ++ t ∷ rest)
+    (All (λ t. answers t false) tokens)
+    (λ offset. (front : List T) × (t : T) × (rest : List T) × (tokens ≡ front ++ t ∷ rest)
     × All (λ x. answers x false) front × answers t true × (offset ≡ units front))
 
 -- each token with its offset, where the first has the offset start
@@ -28,7 +28,7 @@ with_offsets units start (t ∷ ts) = (start, t) ∷ with_offsets units (start +
 -- the offset behind n tokens; or how many are missing, where the stream counts them
 abbrev pub FindsOffset : {T : Type 0} → Bool → (List T → ℕ) → List T → ℕ → Result ℕ (Option ℕ) → Type 0
 FindsOffset counts units tokens n answer =
-  MatchResult answer
+    MatchResult answer
     (λ offset. (n ≤ length tokens) × (offset ≡ units (take n tokens)))
     (λ need. (length tokens < n) × (need ≡ (if counts then Some (n - length tokens) else None)))
 
@@ -39,7 +39,7 @@ GivesNext before item after = MatchOption item (before ≡ []) (λ x. before ≡
 -- whatever tokens end at the offset, the slice shows them, and they are passed
 abbrev pub Cuts : {T S : Type 0} → Reading T S → ℕ → Input T → S → Input T → Type 0
 Cuts {T} reading offset earlier slice later =
-  (front rest : List T) → earlier.left.tokens ≡ front ++ rest → offset ≡ reading.units front → Takes reading front earlier slice later
+    (front rest : List T) → earlier.left.tokens ≡ front ++ rest → offset ≡ reading.units front → Takes reading front earlier slice later
 
 pub length-with_offsets : {T : Type 0} (units : List T → ℕ) (start : ℕ) (tokens : List T) → length (with_offsets units start tokens) ≡ length tokens
 length-with_offsets units start [] = refl

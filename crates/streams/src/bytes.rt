@@ -48,9 +48,13 @@ impl<'a> Iterator for ByteOffsets<'a> {
 
 impl<'a> Stream for &'a [u8] {
     type Token = u8;
+
     type Seen = u8;
+
     type Slice = &'a [u8];
+
     type IterOffsets = ByteOffsets<'a>;
+
     type Checkpoint = &'a [u8];
 
     ghost view = { λ s. bytes_input s.now };

@@ -8,4 +8,6 @@
 pub mod bytes;
 pub mod needed;
 pub mod stream;
+#[cfg(test)]
+mod tests;
 pub mod token_test;

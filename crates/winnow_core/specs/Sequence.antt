@@ -8,35 +8,35 @@ use Rattle.winnow_core.specs.Runs.{Runs}
 -- two children
 abbrev pub SequenceRuns2 : {S1 S2 T O1 O2 : Type 0} → Runs S1 T O1 → Runs S2 T O2 → Runs (S1 × S2) T (O1 × O2)
 SequenceRuns2 {S1} {S2} {T} {O1} {O2} run1 run2 s i answer t j =
-  -- both succeed
-  ((o1 : O1) × (o2 : O2) × (a : Input T) × run1 s.0 i (Ok o1) t.0 a × run2 s.1 a (Ok o2) t.1 j × (answer ≡ Ok (o1, o2)))
-  -- the first fails
-  ⊎ (((k : Kind) × run1 s.0 i (Err k) t.0 j × (t.1 ≡ s.1) × (answer ≡ Err k))
-  -- the second fails
-  ⊎ ((o1 : O1) × (k : Kind) × (a : Input T) × run1 s.0 i (Ok o1) t.0 a × run2 s.1 a (Err k) t.1 j × (answer ≡ Err k)))
+    -- both succeed
+    ((o1 : O1) × (o2 : O2) × (a : Input T) × run1 s.0 i (Ok o1) t.0 a × run2 s.1 a (Ok o2) t.1 j × (answer ≡ Ok (o1, o2)))
+    -- the first fails
+    ⊎ (((k : Kind) × run1 s.0 i (Err k) t.0 j × (t.1 ≡ s.1) × (answer ≡ Err k))
+    -- the second fails
+    ⊎ ((o1 : O1) × (k : Kind) × (a : Input T) × run1 s.0 i (Ok o1) t.0 a × run2 s.1 a (Err k) t.1 j × (answer ≡ Err k)))
 
 -- three children
 abbrev pub SequenceRuns3 : {S1 S2 S3 T O1 O2 O3 : Type 0} → Runs S1 T O1 → Runs S2 T O2 → Runs S3 T O3 → Runs (S1 × S2 × S3) T (O1 × O2 × O3)
 SequenceRuns3 {S1} {S2} {S3} {T} {O1} {O2} {O3} run1 run2 run3 s i answer t j =
-  -- all succeed
-  ((o1 : O1) × (o2 : O2) × (o3 : O3) × (a : Input T) × (b : Input T) × run1 s.0 i (Ok o1) t.0 a × run2 s.1 a (Ok o2) t.1 b × run3 s.2 b (Ok o3) t.2 j × (answer ≡ Ok (o1, o2, o3)))
-  -- the first fails
-  ⊎ (((k : Kind) × run1 s.0 i (Err k) t.0 j × (t.1 ≡ s.1) × (t.2 ≡ s.2) × (answer ≡ Err k))
-  -- the second fails
-  ⊎ (((o1 : O1) × (k : Kind) × (a : Input T) × run1 s.0 i (Ok o1) t.0 a × run2 s.1 a (Err k) t.1 j × (t.2 ≡ s.2) × (answer ≡ Err k))
-  -- the third fails
-  ⊎ ((o1 : O1) × (o2 : O2) × (k : Kind) × (a : Input T) × (b : Input T) × run1 s.0 i (Ok o1) t.0 a × run2 s.1 a (Ok o2) t.1 b × run3 s.2 b (Err k) t.2 j × (answer ≡ Err k))))
+    -- all succeed
+    ((o1 : O1) × (o2 : O2) × (o3 : O3) × (a : Input T) × (b : Input T) × run1 s.0 i (Ok o1) t.0 a × run2 s.1 a (Ok o2) t.1 b × run3 s.2 b (Ok o3) t.2 j × (answer ≡ Ok (o1, o2, o3)))
+    -- the first fails
+    ⊎ (((k : Kind) × run1 s.0 i (Err k) t.0 j × (t.1 ≡ s.1) × (t.2 ≡ s.2) × (answer ≡ Err k))
+    -- the second fails
+    ⊎ (((o1 : O1) × (k : Kind) × (a : Input T) × run1 s.0 i (Ok o1) t.0 a × run2 s.1 a (Err k) t.1 j × (t.2 ≡ s.2) × (answer ≡ Err k))
+    -- the third fails
+    ⊎ ((o1 : O1) × (o2 : O2) × (k : Kind) × (a : Input T) × (b : Input T) × run1 s.0 i (Ok o1) t.0 a × run2 s.1 a (Ok o2) t.1 b × run3 s.2 b (Err k) t.2 j × (answer ≡ Err k))))
 
 -- four children
 abbrev pub SequenceRuns4 : {S1 S2 S3 S4 T O1 O2 O3 O4 : Type 0} → Runs S1 T O1 → Runs S2 T O2 → Runs S3 T O3 → Runs S4 T O4 → Runs (S1 × S2 × S3 × S4) T (O1 × O2 × O3 × O4)
 SequenceRuns4 {S1} {S2} {S3} {S4} {T} {O1} {O2} {O3} {O4} run1 run2 run3 run4 s i answer t j =
-  -- all succeed
-  ((o1 : O1) × (o2 : O2) × (o3 : O3) × (o4 : O4) × (a : Input T) × (b : Input T) × (c : Input T) × run1 s.0 i (Ok o1) t.0 a × run2 s.1 a (Ok o2) t.1 b × run3 s.2 b (Ok o3) t.2 c × run4 s.3 c (Ok o4) t.3 j × (answer ≡ Ok (o1, o2, o3, o4)))
-  -- the first fails
-  ⊎ (((k : Kind) × run1 s.0 i (Err k) t.0 j × (t.1 ≡ s.1) × (t.2 ≡ s.2) × (t.3 ≡ s.3) × (answer ≡ Err k))
-  -- the second fails
-  ⊎ (((o1 : O1) × (k : Kind) × (a : Input T) × run1 s.0 i (Ok o1) t.0 a × run2 s.1 a (Err k) t.1 j × (t.2 ≡ s.2) × (t.3 ≡ s.3) × (answer ≡ Err k))
-  -- the third fails
-  ⊎ (((o1 : O1) × (o2 : O2) × (k : Kind) × (a : Input T) × (b : Input T) × run1 s.0 i (Ok o1) t.0 a × run2 s.1 a (Ok o2) t.1 b × run3 s.2 b (Err k) t.2 j × (t.3 ≡ s.3) × (answer ≡ Err k))
-  -- the fourth fails
-  ⊎ ((o1 : O1) × (o2 : O2) × (o3 : O3) × (k : Kind) × (a : Input T) × (b : Input T) × (c : Input T) × run1 s.0 i (Ok o1) t.0 a × run2 s.1 a (Ok o2) t.1 b × run3 s.2 b (Ok o3) t.2 c × run4 s.3 c (Err k) t.3 j × (answer ≡ Err k)))))
+    -- all succeed
+    ((o1 : O1) × (o2 : O2) × (o3 : O3) × (o4 : O4) × (a : Input T) × (b : Input T) × (c : Input T) × run1 s.0 i (Ok o1) t.0 a × run2 s.1 a (Ok o2) t.1 b × run3 s.2 b (Ok o3) t.2 c × run4 s.3 c (Ok o4) t.3 j × (answer ≡ Ok (o1, o2, o3, o4)))
+    -- the first fails
+    ⊎ (((k : Kind) × run1 s.0 i (Err k) t.0 j × (t.1 ≡ s.1) × (t.2 ≡ s.2) × (t.3 ≡ s.3) × (answer ≡ Err k))
+    -- the second fails
+    ⊎ (((o1 : O1) × (k : Kind) × (a : Input T) × run1 s.0 i (Ok o1) t.0 a × run2 s.1 a (Err k) t.1 j × (t.2 ≡ s.2) × (t.3 ≡ s.3) × (answer ≡ Err k))
+    -- the third fails
+    ⊎ (((o1 : O1) × (o2 : O2) × (k : Kind) × (a : Input T) × (b : Input T) × run1 s.0 i (Ok o1) t.0 a × run2 s.1 a (Ok o2) t.1 b × run3 s.2 b (Err k) t.2 j × (t.3 ≡ s.3) × (answer ≡ Err k))
+    -- the fourth fails
+    ⊎ ((o1 : O1) × (o2 : O2) × (o3 : O3) × (k : Kind) × (a : Input T) × (b : Input T) × (c : Input T) × run1 s.0 i (Ok o1) t.0 a × run2 s.1 a (Ok o2) t.1 b × run3 s.2 b (Ok o3) t.2 c × run4 s.3 c (Err k) t.3 j × (answer ≡ Err k)))))

@@ -29,7 +29,7 @@ pub record IsLongest {T : Type 0} (member : T → Bool → Type 0) (greatest : O
 -- Whatever more input comes, that beginning ends there: before a token that is no member, or at the greatest number.
 abbrev pub IsEnded : {T : Type 0} → (T → Bool → Type 0) → Option ℕ → List T → List T → Type 0
 IsEnded {T} member greatest front rest =
-  ((x : T) × (more : List T) × (rest ≡ x ∷ more) × member x false) ⊎ (greatest ≡ Some (length front))
+    ((x : T) × (more : List T) × (rest ≡ x ∷ more) × member x false) ⊎ (greatest ≡ Some (length front))
 
 -- All tokens are members, and fewer than the greatest number.
 abbrev pub IsOpen : {T : Type 0} → (T → Bool → Type 0) → Option ℕ → List T → Type 0
@@ -42,11 +42,11 @@ missing_of least left = max (least - left) 1
 -- A run of a take of members, of at least `least` tokens and at most the greatest number.
 abbrev pub TakeWhileRuns : {T S : Type 0} → Reading T S → ErrorForm → (T → Bool → Type 0) → ℕ → Option ℕ → Input T → Answer S → Input T → Type 0
 TakeWhileRuns {T} {S} reading form member least greatest i answer j =
-  -- the greatest number is below the least
-  ((most : ℕ) × (greatest ≡ Some most) × (most < least) × (answer ≡ Err (asserted form)) × (j ≡ i))
-  -- a cut input is open
-  ⊎ ((IsWithin greatest least × IsOpen member greatest i.left.tokens × (i.side.cut ≡ true) × (answer ≡ Err (incompleted form (Some (missing_of least (reading.units i.left.tokens))))) × (j ≡ i))
-  -- the longest beginning is taken
-  ⊎ (((front : List T) × (rest : List T) × (slice : S) × IsWithin greatest least × IsLongest member greatest i.left.tokens front rest × (IsEnded member greatest front rest ⊎ (i.side.cut ≡ false)) × (least ≤ length front) × Takes reading front i slice j × (answer ≡ Ok slice))
-  -- it has too few tokens
-  ⊎ ((front : List T) × (rest : List T) × IsWithin greatest least × IsLongest member greatest i.left.tokens front rest × (IsEnded member greatest front rest ⊎ (i.side.cut ≡ false)) × (length front < least) × (answer ≡ Err backtrack) × (j ≡ i))))
+    -- the greatest number is below the least
+    ((most : ℕ) × (greatest ≡ Some most) × (most < least) × (answer ≡ Err (asserted form)) × (j ≡ i))
+    -- a cut input is open
+    ⊎ ((IsWithin greatest least × IsOpen member greatest i.left.tokens × (i.side.cut ≡ true) × (answer ≡ Err (incompleted form (Some (missing_of least (reading.units i.left.tokens))))) × (j ≡ i))
+    -- the longest beginning is taken
+    ⊎ (((front : List T) × (rest : List T) × (slice : S) × IsWithin greatest least × IsLongest member greatest i.left.tokens front rest × (IsEnded member greatest front rest ⊎ (i.side.cut ≡ false)) × (least ≤ length front) × Takes reading front i slice j × (answer ≡ Ok slice))
+    -- it has too few tokens
+    ⊎ ((front : List T) × (rest : List T) × IsWithin greatest least × IsLongest member greatest i.left.tokens front rest × (IsEnded member greatest front rest ⊎ (i.side.cut ≡ false)) × (length front < least) × (answer ≡ Err backtrack) × (j ≡ i))))

@@ -16,7 +16,9 @@ use streams::stream::Stream;
 /// eof(&mut b"a".as_slice())   backtracks, and consumes nothing
 /// ```
 #[inline(always)]
-pub fn eof<Input: Stream, Error: ParserError<Input>>(input: &mut Input) -> Result<Input::Slice, Error>
+pub fn eof<Input: Stream, Error: ParserError<Input>>(
+    input: &mut Input,
+) -> Result<Input::Slice, Error>
     ensures ran { EofRuns Input.reading (Input.view input.old) (answer_by Error.kind result) (Input.view input.new) }
     ensures ends { IsEndOf (Input.view input.new) (Input.view input.old) }
 {

@@ -7,6 +7,8 @@
 
 pub mod combinator;
 pub mod parser;
+#[cfg(test)]
+mod tests;
 pub mod token;
 
 pub use crate::parser::Parser;

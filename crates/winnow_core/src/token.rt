@@ -70,7 +70,10 @@ where
 
 /// Takes a literal from the beginning of the input.
 #[inline(always)]
-pub(crate) fn take_literal<T, I: StreamIsPartial + Compare<T>, E: ParserError<I>>(input: &mut I, literal: T) -> Result<I::Slice, E>
+pub(crate) fn take_literal<T, I: StreamIsPartial + Compare<T>, E: ParserError<I>>(
+    input: &mut I,
+    literal: T,
+) -> Result<I::Slice, E>
     ensures ran { LiteralRuns I.reading E.form (I.spells literal) (λ slice. slice) (I.view input.old) (answer_by E.kind result) (I.view input.new) }
     ensures ends { IsEndOf (I.view input.new) (I.view input.old) }
 {

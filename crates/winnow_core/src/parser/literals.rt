@@ -23,7 +23,8 @@ impl<I: StreamIsPartial + Compare<u8>, E: ParserError<I>> Parser<I, u8, E> for u
 }
 
 /// Bytes stand for themselves; the output is the slice of the input.
-impl<'t, I: StreamIsPartial + Compare<&'t [u8]>, E: ParserError<I>> Parser<I, I::Slice, E> for &'t [u8] {
+impl<'t, I: StreamIsPartial + Compare<&'t [u8]>, E: ParserError<I>> Parser<I, I::Slice, E>
+    for &'t [u8] {
     ghost run = { λ s i answer t j. LiteralRuns I.reading E.form (I.spells s) (λ slice. slice) i answer j × (t ≡ s) };
 
     #[inline(always)]
@@ -33,7 +34,11 @@ impl<'t, I: StreamIsPartial + Compare<&'t [u8]>, E: ParserError<I>> Parser<I, I:
 }
 
 /// Bytes stand for themselves; the output is the slice of the input.
-impl<'t, const N: usize, I: StreamIsPartial + Compare<&'t [u8; N]>, E: ParserError<I>> Parser<I, I::Slice, E> for &'t [u8; N] {
+impl<'t, const N: usize, I: StreamIsPartial + Compare<&'t [u8; N]>, E: ParserError<I>> Parser<
+    I,
+    I::Slice,
+    E,
+> for &'t [u8; N] {
     ghost run = { λ s i answer t j. LiteralRuns I.reading E.form (I.spells s) (λ slice. slice) i answer j × (t ≡ s) };
 
     #[inline(always)]

@@ -6,7 +6,11 @@ use crate::parser::Parser;
 use stream_errors::parser_error::ParserError;
 use streams::stream::Stream;
 
-impl<I: Stream, O1: Drop, O2, E: ParserError<I>, P1: Parser<I, O1, E>, P2: Parser<I, O2, E>> Parser<I, (O1, O2), E> for (P1, P2) {
+impl<I: Stream, O1: Drop, O2, E: ParserError<I>, P1: Parser<I, O1, E>, P2: Parser<I, O2, E>> Parser<
+    I,
+    (O1, O2),
+    E,
+> for (P1, P2) {
     ghost can_parse = { λ s. P1.can_parse s.0 × P2.can_parse s.1 };
 
     ghost run = { λ s i answer t j. SequenceRuns2 P1.run P2.run s i answer t j };
@@ -19,7 +23,16 @@ impl<I: Stream, O1: Drop, O2, E: ParserError<I>, P1: Parser<I, O1, E>, P2: Parse
     }
 }
 
-impl<I: Stream, O1: Drop, O2: Drop, O3, E: ParserError<I>, P1: Parser<I, O1, E>, P2: Parser<I, O2, E>, P3: Parser<I, O3, E>> Parser<I, (O1, O2, O3), E> for (P1, P2, P3) {
+impl<
+    I: Stream,
+    O1: Drop,
+    O2: Drop,
+    O3,
+    E: ParserError<I>,
+    P1: Parser<I, O1, E>,
+    P2: Parser<I, O2, E>,
+    P3: Parser<I, O3, E>,
+> Parser<I, (O1, O2, O3), E> for (P1, P2, P3) {
     ghost can_parse = { λ s. P1.can_parse s.0 × P2.can_parse s.1 × P3.can_parse s.2 };
 
     ghost run = { λ s i answer t j. SequenceRuns3 P1.run P2.run P3.run s i answer t j };
@@ -33,7 +46,18 @@ impl<I: Stream, O1: Drop, O2: Drop, O3, E: ParserError<I>, P1: Parser<I, O1, E>,
     }
 }
 
-impl<I: Stream, O1: Drop, O2: Drop, O3: Drop, O4, E: ParserError<I>, P1: Parser<I, O1, E>, P2: Parser<I, O2, E>, P3: Parser<I, O3, E>, P4: Parser<I, O4, E>> Parser<I, (O1, O2, O3, O4), E> for (P1, P2, P3, P4) {
+impl<
+    I: Stream,
+    O1: Drop,
+    O2: Drop,
+    O3: Drop,
+    O4,
+    E: ParserError<I>,
+    P1: Parser<I, O1, E>,
+    P2: Parser<I, O2, E>,
+    P3: Parser<I, O3, E>,
+    P4: Parser<I, O4, E>,
+> Parser<I, (O1, O2, O3, O4), E> for (P1, P2, P3, P4) {
     ghost can_parse = { λ s. P1.can_parse s.0 × P2.can_parse s.1 × P3.can_parse s.2 × P4.can_parse s.3 };
 
     ghost run = { λ s i answer t j. SequenceRuns4 P1.run P2.run P3.run P4.run s i answer t j };

@@ -26,7 +26,8 @@ pub struct Literal<T, I, E> {
     pub(crate) error: PhantomData<E>,
 }
 
-impl<T: Copy, I: StreamIsPartial + Compare<T>, E: ParserError<I>> Parser<I, I::Slice, E> for Literal<T, I, E> {
+impl<T: Copy, I: StreamIsPartial + Compare<T>, E: ParserError<I>> Parser<I, I::Slice, E>
+    for Literal<T, I, E> {
     ghost run = { λ s i answer t j. LiteralRuns I.reading E.form (I.spells s.literal) (λ slice. slice) i answer j × (t ≡ s) };
 
     #[inline(always)]
@@ -48,7 +49,8 @@ pub struct TakeWhile<S, I, E> {
     pub(crate) error: PhantomData<E>,
 }
 
-impl<S: ContainsToken<I::Token>, I: StreamIsPartial, E: ParserError<I>> Parser<I, I::Slice, E> for TakeWhile<S, I, E> {
+impl<S: ContainsToken<I::Token>, I: StreamIsPartial, E: ParserError<I>> Parser<I, I::Slice, E>
+    for TakeWhile<S, I, E> {
     ghost can_parse = { λ s. S.can_test s.set };
 
     ghost run = { λ s i answer t j. TakeWhileRuns I.reading E.form (AnswersSeen I.seen_as (S.tells s.set)) s.occurrences.start_inclusive (greatest_of s.occurrences.start_inclusive s.occurrences.end_inclusive) i answer j × (t ≡ s) };

@@ -43,7 +43,11 @@ struct Members {
 
 /// Takes the longest beginning of members of `set`.
 #[inline(always)]
-pub(crate) fn take_members<S: ContainsToken<I::Token>, I: StreamIsPartial, E: ParserError<I>>(input: &mut I, occurrences: Range, set: &S) -> Result<I::Slice, E>
+pub(crate) fn take_members<S: ContainsToken<I::Token>, I: StreamIsPartial, E: ParserError<I>>(
+    input: &mut I,
+    occurrences: Range,
+    set: &S,
+) -> Result<I::Slice, E>
     requires { S.can_test set.now }
     ensures ran { TakeWhileRuns I.reading E.form (AnswersSeen I.seen_as (S.tells set.now)) occurrences.start_inclusive (greatest_of occurrences.start_inclusive occurrences.end_inclusive) (I.view input.old) (answer_by E.kind result) (I.view input.new) }
     ensures ends { IsEndOf (I.view input.new) (I.view input.old) }
@@ -63,7 +67,11 @@ pub(crate) fn take_members<S: ContainsToken<I::Token>, I: StreamIsPartial, E: Pa
 
 /// Takes the longest beginning of members, of none or more, or of one or more.
 #[inline(always)]
-fn take_unbounded<S: ContainsToken<I::Token>, I: StreamIsPartial, E: ParserError<I>>(input: &mut I, least: usize, set: &S) -> Result<I::Slice, E>
+fn take_unbounded<S: ContainsToken<I::Token>, I: StreamIsPartial, E: ParserError<I>>(
+    input: &mut I,
+    least: usize,
+    set: &S,
+) -> Result<I::Slice, E>
     requires set { S.can_test set.now }
     requires form { least ≤ 1 }
     ensures ran { TakeWhileRuns I.reading E.form (AnswersSeen I.seen_as (S.tells set.now)) least None (I.view input.old) (answer_by E.kind result) (I.view input.new) }
@@ -76,7 +84,12 @@ fn take_unbounded<S: ContainsToken<I::Token>, I: StreamIsPartial, E: ParserError
 
 /// Takes the longest beginning of at most `greatest` members.
 #[inline(always)]
-fn take_bounded<S: ContainsToken<I::Token>, I: StreamIsPartial, E: ParserError<I>>(input: &mut I, least: usize, greatest: usize, set: &S) -> Result<I::Slice, E>
+fn take_bounded<S: ContainsToken<I::Token>, I: StreamIsPartial, E: ParserError<I>>(
+    input: &mut I,
+    least: usize,
+    greatest: usize,
+    set: &S,
+) -> Result<I::Slice, E>
     requires { S.can_test set.now }
     ensures ran { TakeWhileRuns I.reading E.form (AnswersSeen I.seen_as (S.tells set.now)) least (Some greatest) (I.view input.old) (answer_by E.kind result) (I.view input.new) }
     ensures ends { IsEndOf (I.view input.new) (I.view input.old) }
@@ -90,7 +103,12 @@ fn take_bounded<S: ContainsToken<I::Token>, I: StreamIsPartial, E: ParserError<I
 
 /// Takes what stands before `end`; where that is not known, all of a whole input.
 #[inline(always)]
-fn take_found<I: StreamIsPartial, E: ParserError<I>>(input: &mut I, end: Option<usize>, is_enough: bool, least: usize) -> Result<I::Slice, E>
+fn take_found<I: StreamIsPartial, E: ParserError<I>>(
+    input: &mut I,
+    end: Option<usize>,
+    is_enough: bool,
+    least: usize,
+) -> Result<I::Slice, E>
     requires { IfSome end (λ offset. IsBoundary I.reading.units (I.view input.old).left.tokens offset) }
     ensures ran { FoundRuns I.reading E.form end is_enough least (I.view input.old) (answer_by E.kind result) (I.view input.new) }
     ensures ends { IsEndOf (I.view input.new) (I.view input.old) }
@@ -108,7 +126,11 @@ fn take_found<I: StreamIsPartial, E: ParserError<I>>(input: &mut I, end: Option<
 
 /// Counts the members that stand first, up to `greatest`.
 #[inline(always)]
-fn count_members<S: ContainsToken<I::Token>, I: Stream>(input: &I, greatest: usize, set: &S) -> Members
+fn count_members<S: ContainsToken<I::Token>, I: Stream>(
+    input: &I,
+    greatest: usize,
+    set: &S,
+) -> Members
     requires { S.can_test set.now }
     ensures { CountsMembers (AnswersSeen I.seen_as (S.tells set.now)) (Some greatest) I.reading.units (I.view input.now).left.tokens result.count result.end }
 {

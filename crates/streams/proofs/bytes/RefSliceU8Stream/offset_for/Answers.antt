@@ -12,15 +12,15 @@ about xs i d h = sym (take-append-drop i xs) ∙ ap (λ ys. take i xs ++ ys) (dr
 
 pub returns-then-test : goal.returns-then-test
 returns-then-test g c =
-  let xs = c.args.self.now.now in
-  let i = c.loop-i.i in
-  let h : i < length xs = omega arith in
-  (take i xs, get_or xs i 0, drop (i + 1) xs, about xs i 0 h, c.loop-i.invariant, (get_or xs i 0, refl, search rules), sym (length-take-le i xs (omega arith)))
+    let xs = c.args.self.now.now in
+    let i = c.loop-i.i in
+    let h : i < length xs = omega arith in
+    (take i xs, get_or xs i 0, drop (i + 1) xs, about xs i 0 h, c.loop-i.invariant, (get_or xs i 0, refl, search rules), sym (length-take-le i xs (omega arith)))
 
 pub loop-i-preserved : goal.loop-i-preserved
-loop-i-preserved g c = 
-  let xs = c.args.self.now.now in
-  All-more (λ x. AnswersSeen (λ t. t) (g.P.TokenTest.answers c.args.predicate) x false) xs c.loop-i.i 0 (omega arith) c.loop-i.invariant (get_or xs c.loop-i.i 0, refl, search rules)
+loop-i-preserved g c =
+    let xs = c.args.self.now.now in
+    All-more (λ x. AnswersSeen (λ t. t) (g.P.TokenTest.answers c.args.predicate) x false) xs c.loop-i.i 0 (omega arith) c.loop-i.invariant (get_or xs c.loop-i.i 0, refl, search rules)
 
 pub returns : goal.returns
 returns g c = let xs = c.args.self.now.now in rw (take_all c.loop-i.i xs (omega arith)) at c.loop-i.invariant
