@@ -1,12 +1,9 @@
 -- What a parser sees of a stream.
-use Rattle.std.specs.Prelude.{◌≡◌, ℕ, ◌+◌, ◌≤◌, Bool, true, false, List, [], ◌++◌, length}
+use Rattle.std.specs.Prelude.{◌≡◌, ℕ, ◌≤◌, Bool, true, false, List, [], ◌++◌, length}
 use Rattle.std.proofs.Common.{append_assoc, refl, ap, ◌∙◌, sym, subst, arith, length-append}
 use Rattle.streams.specs.Kind.{Kind}
-
--- Where the tokens left begin: the units passed from the start, and the bits read of the first byte.
-pub record Place : Type 0 where
-  pub passed : ℕ
-  pub bits_read : ℕ
+use Rattle.streams.specs.Place.{Place, no_place}
+use Rattle.streams.specs.Reading.{Reading, units-nil}
 
 -- What is left to read: the tokens, their place, and whether they can be read at all (a place inside a byte that is not there cannot).
 pub record Left (T : Type 0) : Type 0 where
@@ -24,15 +21,29 @@ pub record Input (T : Type 0) : Type 0 where
   pub left : Left T
   pub side : Side
 
--- The tokens of later end those of earlier.
-pub record Ends {T : Type 0} (later earlier : Left T) : Type 0 where
+-- Later is what is left of earlier after some first tokens are dropped.
+pub record Ends {T S : Type 0} (reading : Reading T S) (later earlier : Left T) : Type 0 where
   pub dropped : List T
   pub tokens : earlier.tokens ≡ dropped ++ later.tokens
+  pub place : later.place ≡ reading.advance earlier.place (reading.units dropped)
+  pub possible : later.possible ≡ earlier.possible
 
 -- Later is what remains of earlier after some first tokens are dropped, with the same flag.
-pub record IsEndOf {T : Type 0} (later earlier : Input T) : Type 0 where
-  pub ends : Ends later.left earlier.left
+pub record IsEndOf {T S : Type 0} (reading : Reading T S) (later earlier : Input T) : Type 0 where
+  pub ends : Ends reading later.left earlier.left
   pub cut : later.side.cut ≡ earlier.side.cut
+
+-- From earlier to later the tokens `front` are passed, and nothing else changes.
+pub record Passes {T S : Type 0} (reading : Reading T S) (front : List T) (earlier later : Input T) : Type 0 where
+  pub tokens : earlier.left.tokens ≡ front ++ later.left.tokens
+  pub place : later.left.place ≡ reading.advance earlier.left.place (reading.units front)
+  pub possible : later.left.possible ≡ earlier.left.possible
+  pub side : later.side ≡ earlier.side
+
+-- From earlier to later the tokens `front` are passed, and the slice shows them.
+pub record Takes {T S : Type 0} (reading : Reading T S) (front : List T) (earlier : Input T) (slice : S) (later : Input T) : Type 0 where
+  pub shown : reading.shows slice front
+  pub passed : Passes reading front earlier later
 
 -- i with more tokens behind, cut or marked complete
 abbrev pub extended : {T : Type 0} → Input T → List T → Bool → Input T
@@ -44,48 +55,60 @@ back_at x now = record now { left = x }
 
 -- what is left of a stream that keeps no place, at these tokens
 abbrev pub at_start : {T : Type 0} → List T → Left T
-at_start tokens = record { tokens = tokens; place = record { passed = 0; bits_read = 0 }; possible = true }
+at_start tokens = record { tokens = tokens; place = no_place; possible = true }
 
 -- the side of a stream that is whole and records nothing
 abbrev pub no_side : Side
 no_side = record { cut = false; recorded = [] }
 
--- n units more are passed
-abbrev pub further : Place → ℕ → Place
-further place n = record place { passed = place.passed + n }
+pub ends_refl : {T S : Type 0} (reading : Reading T S) (a : Left T) → Ends reading a a
+ends_refl reading a = record {
+  dropped = [];
+  tokens = refl;
+  place = sym (ap (λ n. reading.advance a.place n) (units-nil reading) ∙ reading.advance_none a.place);
+  possible = refl
+}
 
-pub ends_refl : {T : Type 0} (a : Left T) → Ends a a
-ends_refl a = record { dropped = []; tokens = refl }
-
-pub ends_trans : {T : Type 0} {a b c : Left T} → Ends c b → Ends b a → Ends c a
-ends_trans {a = a} {b = b} {c = c} p q = record { dropped = q.dropped ++ p.dropped; tokens = q.tokens ∙ ap (λ x. q.dropped ++ x) p.tokens ∙ sym (append_assoc q.dropped p.dropped c.tokens) }
+pub ends_trans : {T S : Type 0} {reading : Reading T S} {a b c : Left T} → Ends reading c b → Ends reading b a → Ends reading c a
+ends_trans {reading = reading} {a = a} {b = b} {c = c} p q = record {
+  dropped = q.dropped ++ p.dropped;
+  tokens = q.tokens ∙ ap (λ x. q.dropped ++ x) p.tokens ∙ sym (append_assoc q.dropped p.dropped c.tokens);
+  place = p.place ∙ ap (λ x. reading.advance x (reading.units p.dropped)) q.place ∙ reading.advance_add a.place (reading.units q.dropped) (reading.units p.dropped) ∙ ap (λ n. reading.advance a.place n) (sym (reading.units_add q.dropped p.dropped));
+  possible = p.possible ∙ q.possible
+}
 
 -- an end has no more tokens than the whole
-pub ends-length : {T : Type 0} {a b : Left T} → Ends b a → length b.tokens ≤ length a.tokens
+pub ends-length : {T S : Type 0} {reading : Reading T S} {a b : Left T} → Ends reading b a → length b.tokens ≤ length a.tokens
 ends-length {a = a} {b = b} e = omega (arith, ap (λ x. length x) e.tokens, length-append e.dropped b.tokens)
 
-pub is_end_of_refl : {T : Type 0} (a : Input T) → IsEndOf a a
-is_end_of_refl a = record { ends = ends_refl a.left; cut = refl }
+pub is_end_of_refl : {T S : Type 0} (reading : Reading T S) (a : Input T) → IsEndOf reading a a
+is_end_of_refl reading a = record { ends = ends_refl reading a.left; cut = refl }
 
-pub is_end_of_trans : {T : Type 0} {a b c : Input T} → IsEndOf c b → IsEndOf b a → IsEndOf c a
+pub is_end_of_trans : {T S : Type 0} {reading : Reading T S} {a b c : Input T} → IsEndOf reading c b → IsEndOf reading b a → IsEndOf reading c a
 is_end_of_trans p q = record { ends = ends_trans p.ends q.ends; cut = p.cut ∙ q.cut }
 
-pub is_end_of_trans3 : {T : Type 0} {a b c d : Input T} → IsEndOf d c → IsEndOf c b → IsEndOf b a → IsEndOf d a
+pub is_end_of_trans3 : {T S : Type 0} {reading : Reading T S} {a b c d : Input T} → IsEndOf reading d c → IsEndOf reading c b → IsEndOf reading b a → IsEndOf reading d a
 is_end_of_trans3 p q r = is_end_of_trans p (is_end_of_trans q r)
 
-pub is_end_of_trans4 : {T : Type 0} {a b c d e : Input T} → IsEndOf e d → IsEndOf d c → IsEndOf c b → IsEndOf b a → IsEndOf e a
+pub is_end_of_trans4 : {T S : Type 0} {reading : Reading T S} {a b c d e : Input T} → IsEndOf reading e d → IsEndOf reading d c → IsEndOf reading c b → IsEndOf reading b a → IsEndOf reading e a
 is_end_of_trans4 p q r s = is_end_of_trans p (is_end_of_trans3 q r s)
 
-pub is_end_of_trans5 : {T : Type 0} {a b c d e f : Input T} → IsEndOf f e → IsEndOf e d → IsEndOf d c → IsEndOf c b → IsEndOf b a → IsEndOf f a
+pub is_end_of_trans5 : {T S : Type 0} {reading : Reading T S} {a b c d e f : Input T} → IsEndOf reading f e → IsEndOf reading e d → IsEndOf reading d c → IsEndOf reading c b → IsEndOf reading b a → IsEndOf reading f a
 is_end_of_trans5 p q r s t = is_end_of_trans p (is_end_of_trans4 q r s t)
 
-pub is_end_of_trans6 : {T : Type 0} {a b c d e f g : Input T} → IsEndOf g f → IsEndOf f e → IsEndOf e d → IsEndOf d c → IsEndOf c b → IsEndOf b a → IsEndOf g a
+pub is_end_of_trans6 : {T S : Type 0} {reading : Reading T S} {a b c d e f g : Input T} → IsEndOf reading g f → IsEndOf reading f e → IsEndOf reading e d → IsEndOf reading d c → IsEndOf reading c b → IsEndOf reading b a → IsEndOf reading g a
 is_end_of_trans6 p q r s t u = is_end_of_trans p (is_end_of_trans5 q r s t u)
 
+pub passes_end : {T S : Type 0} {reading : Reading T S} {front : List T} {i j : Input T} → Passes reading front i j → IsEndOf reading j i
+passes_end p = record { ends = record { dropped = _; tokens = p.tokens; place = p.place; possible = p.possible }; cut = ap (λ s. s.cut) p.side }
+
+pub takes_end : {T S : Type 0} {reading : Reading T S} {front : List T} {i : Input T} {s : S} {j : Input T} → Takes reading front i s j → IsEndOf reading j i
+takes_end p = passes_end p.passed
+
 -- back at the start of a run that left an end
-pub is_end_of_back : {T : Type 0} {a b : Input T} {x : Left T} → x ≡ a.left → IsEndOf b a → IsEndOf (back_at x b) a
-is_end_of_back {a = a} e p = let P : Left _ → Type 0 = λ y. Ends y a.left in record { ends = subst P (sym e) (ends_refl a.left); cut = p.cut }
+pub is_end_of_back : {T S : Type 0} {reading : Reading T S} {a b : Input T} {x : Left T} → x ≡ a.left → IsEndOf reading b a → IsEndOf reading (back_at x b) a
+is_end_of_back {reading = reading} {a = a} e p = let P : Left _ → Type 0 = λ y. Ends reading y a.left in record { ends = subst P (sym e) (ends_refl reading a.left); cut = p.cut }
 
 -- a reset goes back to what was left at the start
-pub ends_of_start : {T : Type 0} {a b : Input T} {x : Left T} → x ≡ a.left → IsEndOf b a → Ends b.left x
-ends_of_start {b = b} e p = let P : Left _ → Type 0 = λ y. Ends b.left y in subst P (sym e) p.ends
+pub ends_of_start : {T S : Type 0} {reading : Reading T S} {a b : Input T} {x : Left T} → x ≡ a.left → IsEndOf reading b a → Ends reading b.left x
+ends_of_start {reading = reading} {b = b} e p = let P : Left _ → Type 0 = λ y. Ends reading b.left y in subst P (sym e) p.ends

@@ -1,6 +1,7 @@
 pub mod Kind
-pub mod Input
+pub mod Place
 pub mod Reading
+pub mod Input
 pub mod Stream
 pub mod Bytes
 pub mod Needed

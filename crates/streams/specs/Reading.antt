@@ -1,7 +1,7 @@
 -- How a stream counts its tokens and hands them out.
 use Rattle.std.specs.Prelude.{◌≡◌, ◌<◌, ◌+◌, ℕ, List, [], ◌∷◌, ◌++◌}
-use Rattle.std.proofs.Common.{ap, refl, arith}
-use Rattle.streams.specs.Input.{Input, Place, IsEndOf}
+use Rattle.std.proofs.Common.{refl, arith}
+use Rattle.streams.specs.Place.{Place, further}
 
 -- What a stream of tokens T and slices S says of itself.
 pub record Reading (T S : Type 0) : Type 1 where
@@ -11,30 +11,22 @@ pub record Reading (T S : Type 0) : Type 1 where
   pub advance : Place → ℕ → Place
   -- the tokens that a slice may stand for
   pub shows : S → List T → Type 0
-
--- From earlier to later the tokens `front` are passed, and nothing else changes.
-pub record Passes {T S : Type 0} (reading : Reading T S) (front : List T) (earlier later : Input T) : Type 0 where
-  pub tokens : earlier.left.tokens ≡ front ++ later.left.tokens
-  pub place : later.left.place ≡ reading.advance earlier.left.place (reading.units front)
-  pub possible : later.left.possible ≡ earlier.left.possible
-  pub side : later.side ≡ earlier.side
-
--- From earlier to later the tokens `front` are passed, and the slice shows them.
-pub record Takes {T S : Type 0} (reading : Reading T S) (front : List T) (earlier : Input T) (slice : S) (later : Input T) : Type 0 where
-  pub shown : reading.shows slice front
-  pub passed : Passes reading front earlier later
-
-pub passes_end : {T S : Type 0} {reading : Reading T S} {front : List T} {i j : Input T} → Passes reading front i j → IsEndOf j i
-passes_end p = record { ends = record { dropped = _; tokens = p.tokens }; cut = ap (λ s. s.cut) p.side }
-
-pub takes_end : {T S : Type 0} {reading : Reading T S} {front : List T} {i : Input T} {s : S} {j : Input T} → Takes reading front i s j → IsEndOf j i
-takes_end p = passes_end p.passed
-
--- where each token takes a unit, no units are left of no tokens alone
-pub units-zero : {T : Type 0} (units : List T → ℕ) → ((x : T) (xs : List T) → 0 < units (x ∷ xs)) → (xs : List T) → units xs ≡ 0 → xs ≡ []
-units-zero units positive [] e = refl
-units-zero units positive (x ∷ xs) e = absurd (omega (arith, e, positive x xs))
+  -- units of a list are those of its parts
+  pub units_add : (xs ys : List T) → units (xs ++ ys) ≡ units xs + units ys
+  -- each token takes at least one unit
+  pub units_positive : (x : T) (xs : List T) → 0 < units (x ∷ xs)
+  -- no unit on is the same place
+  pub advance_none : (p : Place) → advance p 0 ≡ p
+  -- some units on, and then some more
+  pub advance_add : (p : Place) (m n : ℕ) → advance (advance p m) n ≡ advance p (m + n)
+  -- a count of units that is kept beside does not change how the place moves
+  pub advance_further : (p : Place) (n k : ℕ) → advance (further p n) k ≡ further (advance p k) n
 
 -- no tokens take no units
-pub units-nil : {T : Type 0} (units : List T → ℕ) → ((xs ys : List T) → units (xs ++ ys) ≡ units xs + units ys) → units [] ≡ 0
-units-nil units add = omega (arith, add [] [])
+pub units-nil : {T S : Type 0} (reading : Reading T S) → reading.units [] ≡ 0
+units-nil reading = omega (arith, reading.units_add [] [])
+
+-- no units are taken by no tokens alone
+pub units-zero : {T S : Type 0} (reading : Reading T S) (xs : List T) → reading.units xs ≡ 0 → xs ≡ []
+units-zero reading [] e = refl
+units-zero reading (x ∷ xs) e = absurd (omega (arith, e, reading.units_positive x xs))

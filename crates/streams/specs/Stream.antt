@@ -2,8 +2,8 @@
 use Rattle.std.specs.Prelude.{◌≡◌, ℕ, ◌+◌, ◌-◌, ◌≤◌, ◌<◌, Bool, true, false, List, [], ◌∷◌, ◌++◌, Option, Some, None, Result, MatchOption, MatchResult, length, take, if◌then◌else◌}
 use Rattle.std.specs.List.{All}
 use Rattle.std.proofs.Common.{refl, ap, suc}
-use Rattle.streams.specs.Input.{Input, Place}
-use Rattle.streams.specs.Reading.{Reading, Passes, Takes}
+use Rattle.streams.specs.Input.{Input, Takes}
+use Rattle.streams.specs.Reading.{Reading}
 
 -- the offset is behind some first tokens
 abbrev pub IsBoundary : {T : Type 0} → (List T → ℕ) → List T → ℕ → Type 0

@@ -2,11 +2,9 @@
 ghost use Rattle.std.specs.Prelude.{◌≡◌, ◌==◌, ℕ, ◌+◌, ◌<◌, ◌^◌, ◌≤◌, List, [], ◌∷◌, ◌++◌, length, true, false, drop, refl};
 ghost use Rattle.std.specs.Iterator.{at_most};
 ghost use Rattle.std.specs.List.{All};
-ghost use Rattle.std.proofs.Common.{rules};
-ghost use Rattle.std.proofs.lemmas.List.{length-append};
 ghost use Rattle.streams.specs.Input.{at_start};
 ghost use Rattle.streams.specs.Stream.{with_offsets, GivesNext};
-ghost use Rattle.streams.specs.Bytes.{bytes_input, bytes_reading, length-positive};
+ghost use Rattle.streams.specs.Bytes.{bytes_input, bytes_reading};
 
 use crate::needed::Needed;
 use crate::stream::{Stream, StreamIsPartial};
@@ -148,12 +146,6 @@ impl<'a> Stream for &'a [u8] {
     fn offset_from(&self, start: &&'a [u8]) -> usize {
         start.len() - self.len()
     }
-
-    ghost units_add = { λ xs ys. length-append xs ys };
-
-    ghost units_positive = { λ x xs. length-positive x xs };
-
-    ghost advance_further = { λ p n k. refl };
 
     ghost offsets_step = { λ s r t e. e };
 }

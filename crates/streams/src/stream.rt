@@ -1,8 +1,8 @@
 //! The traits of streams.
-ghost use Rattle.std.specs.Prelude.{◌≡◌, ℕ, ◌+◌, ◌<◌, List, [], ◌∷◌, ◌++◌, Bool, true, false, Option, ⊤, MatchOption};
+ghost use Rattle.std.specs.Prelude.{◌≡◌, ℕ, ◌+◌, List, [], ◌∷◌, Bool, false, Option, MatchOption};
 ghost use Rattle.std.specs.Iterator.{IsFinite};
-ghost use Rattle.streams.specs.Input.{Input, Left, Place, Ends, IsEndOf, back_at, further};
-ghost use Rattle.streams.specs.Reading.{Reading, Passes, Takes};
+ghost use Rattle.streams.specs.Input.{Input, Left, Ends, IsEndOf, Passes, Takes, back_at};
+ghost use Rattle.streams.specs.Reading.{Reading};
 ghost use Rattle.streams.specs.Stream.{IsBoundary, AnswersSeen, Cuts, FindsFirst, FindsOffset, with_offsets};
 ghost use Rattle.streams.specs.Needed.{by_need};
 
@@ -67,7 +67,7 @@ pub trait Stream: Drop {
 
     /// The first token, which is consumed; `None` at the end.
     fn next_token(&mut self) -> Option<Self::Token>
-        ensures ends { IsEndOf (view self.new) (view self.old) }
+        ensures ends { IsEndOf reading (view self.new) (view self.old) }
         ensures passes { MatchOption result (((view self.old).left.tokens ≡ []) × (view self.new ≡ view self.old)) (λ t. Passes reading (seen_as t ∷ []) (view self.old) (view self.new)) };
 
     /// The offset, in units, of the first token for which `predicate` holds, if there is one.
@@ -84,12 +84,12 @@ pub trait Stream: Drop {
     /// stream between two tokens or at an end.
     fn next_slice(&mut self, offset: usize) -> Self::Slice
         requires { IsBoundary reading.units (view self.old).left.tokens offset }
-        ensures ends { IsEndOf (view self.new) (view self.old) }
+        ensures ends { IsEndOf reading (view self.new) (view self.old) }
         ensures cuts { Cuts reading offset (view self.old) result (view self.new) };
 
     /// All that is left, which is consumed.
     fn finish(&mut self) -> Self::Slice
-        ensures ends { IsEndOf (view self.new) (view self.old) }
+        ensures ends { IsEndOf reading (view self.new) (view self.old) }
         ensures takes { Takes reading (view self.old).left.tokens (view self.old) result (view self.new) }
         ensures nothing { (view self.new).left.tokens ≡ [] };
 
@@ -100,23 +100,14 @@ pub trait Stream: Drop {
     /// Goes back to a place, and changes neither the flag nor the recorded errors. The caller owes
     /// a place of this stream.
     fn reset(&mut self, checkpoint: &Self::Checkpoint)
-        requires { Ends (view self.old).left (seen checkpoint.now) }
+        requires { Ends reading (view self.old).left (seen checkpoint.now) }
         ensures { view self.new ≡ back_at (seen checkpoint.now) (view self.old) };
 
     /// How many units lie between a place and the present one. The caller owes an earlier place of
     /// this stream.
     fn offset_from(&self, start: &Self::Checkpoint) -> usize
-        requires { Ends (view self.now).left (seen start.now) }
+        requires { Ends reading (view self.now).left (seen start.now) }
         ensures { result + reading.units (view self.now).left.tokens ≡ reading.units (seen start.now).tokens };
-
-    // Units of a list are those of its parts.
-    ghost units_add: { (xs ys : List Self.Seen) → reading.units (xs ++ ys) ≡ reading.units xs + reading.units ys };
-
-    // Each token takes at least one unit.
-    ghost units_positive: { (x : Self.Seen) (xs : List Self.Seen) → 0 < reading.units (x ∷ xs) };
-
-    // A count that a wrapper keeps does not change how the place moves.
-    ghost advance_further: { (p : Place) (n k : ℕ) → reading.advance (further p n) k ≡ further (reading.advance p k) n };
 
     // A step of the iterator gives the first of the tokens still to come.
     ghost offsets_step: { (s : Self.IterOffsets) (r : Option (ℕ × Self.Token)) (t : Self.IterOffsets) → Self.IterOffsets.next_gives s r t → MatchOption r (offsets_left s ≡ []) (λ x. offsets_left s ≡ (x.0, seen_as x.1) ∷ offsets_left t) };

@@ -7,7 +7,7 @@ use Rattle.std.proofs.lemmas.List.Elements.{All-append, All-cons, All-nil}
 use Rattle.std.proofs.lemmas.Bool.{le-leb, lt-leb, leb-true, leb-false, ltb-true, ltb-false, eq-eqb, cases_lt}
 use Rattle.std.proofs.Math.Dec.{eqb, ltb, leb}
 use Rattle.streams.specs.Input.{Input}
-use Rattle.streams.specs.Reading.{Reading, units-nil, units-zero}
+use Rattle.streams.specs.Reading.{Reading}
 use Rattle.streams.specs.Stream.{AnswersSeen, FindsFirst, with_offsets}
 use Rattle.stream_errors.specs.Form.{ErrorForm, Answer}
 use Rattle.winnow_core.specs.TakeWhile.{IsLongest, IsEnded, IsOpen, IsWithin, IsBelow, TakeWhileRuns, greatest_of}

@@ -1,8 +1,8 @@
 -- The end of the input.
 use Rattle.std.specs.Prelude.{◌≡◌, List, [], Ok, Err, ◌⊎◌}
-use Rattle.streams.specs.Input.{Input}
+use Rattle.streams.specs.Input.{Input, Takes}
 use Rattle.streams.specs.Kind.{backtrack}
-use Rattle.streams.specs.Reading.{Reading, Takes}
+use Rattle.streams.specs.Reading.{Reading}
 use Rattle.stream_errors.specs.Form.{Answer}
 
 -- A run of the parser of the end: it never asks whether more may come.

@@ -1,8 +1,8 @@
 -- Literals.
 use Rattle.std.specs.Prelude.{◌≡◌, Bool, true, false, List, None, Ok, Err, ◌⊎◌}
-use Rattle.streams.specs.Input.{Input}
+use Rattle.streams.specs.Input.{Input, Takes}
 use Rattle.streams.specs.Kind.{backtrack}
-use Rattle.streams.specs.Reading.{Reading, Takes}
+use Rattle.streams.specs.Reading.{Reading}
 use Rattle.stream_errors.specs.Form.{ErrorForm, Answer, incompleted}
 use Rattle.stream_sets.specs.Compare.{StandsFirst, IsShort}
 

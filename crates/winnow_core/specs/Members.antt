@@ -1,9 +1,9 @@
 -- Members counted, before it is known what is answered.
 use Rattle.std.specs.Prelude.{◌≡◌, ◌≤◌, ◌<◌, ◌↔◌, IsTrue, ℕ, Bool, true, false, List, [], ◌∷◌, ◌++◌, length, Option, Some, None, Ok, Err, ◌⊎◌, MatchOption}
 use Rattle.std.specs.List.{All}
-use Rattle.streams.specs.Input.{Input}
+use Rattle.streams.specs.Input.{Input, Takes}
 use Rattle.streams.specs.Kind.{backtrack}
-use Rattle.streams.specs.Reading.{Reading, Takes}
+use Rattle.streams.specs.Reading.{Reading}
 use Rattle.streams.specs.Stream.{Cuts}
 use Rattle.stream_errors.specs.Form.{ErrorForm, Answer, incompleted}
 use Rattle.winnow_core.specs.TakeWhile.{IsLongest, IsEnded, IsOpen, missing_of}

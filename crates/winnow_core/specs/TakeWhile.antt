@@ -1,9 +1,9 @@
 -- Takes by set.
 use Rattle.std.specs.Prelude.{◌≡◌, ◌<◌, ◌≤◌, ◌-◌, ◌^◌, ℕ, max, nat_le, if◌then◌else◌, Bool, true, false, List, [], ◌∷◌, ◌++◌, length, Option, Some, None, Ok, Err, ◌⊎◌, ⊤, MatchOption}
 use Rattle.std.specs.List.{All}
-use Rattle.streams.specs.Input.{Input}
+use Rattle.streams.specs.Input.{Input, Takes}
 use Rattle.streams.specs.Kind.{backtrack}
-use Rattle.streams.specs.Reading.{Reading, Takes}
+use Rattle.streams.specs.Reading.{Reading}
 use Rattle.stream_errors.specs.Form.{ErrorForm, Answer, incompleted, asserted}
 
 -- The greatest number of tokens taken. The forms `0..` and `1..` have none; another range with no greatest count has the greatest number of its type.

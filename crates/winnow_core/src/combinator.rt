@@ -20,7 +20,7 @@ pub fn eof<Input: Stream, Error: ParserError<Input>>(
     input: &mut Input,
 ) -> Result<Input::Slice, Error>
     ensures ran { EofRuns Input.reading (Input.view input.old) (answer_by Error.kind result) (Input.view input.new) }
-    ensures ends { IsEndOf (Input.view input.new) (Input.view input.old) }
+    ensures ends { IsEndOf Input.reading (Input.view input.new) (Input.view input.old) }
 {
     if input.eof_offset() == 0 {
         Ok(input.next_slice(0))

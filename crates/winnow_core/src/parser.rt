@@ -36,7 +36,7 @@ pub trait Parser<I: Stream, O, E: ParserError<I>> {
         requires { can_parse self.old }
         ensures again { can_parse self.new }
         ensures ran { run self.old (I.view input.old) (answer_by E.kind result) self.new (I.view input.new) }
-        ensures ends { IsEndOf (I.view input.new) (I.view input.old) };
+        ensures ends { IsEndOf I.reading (I.view input.new) (I.view input.old) };
 
     /// Parses all of `input`: the parser is run, and then nothing may be left.
     ///
@@ -79,7 +79,7 @@ fn fault_at<I: Stream, E: ParserError<I>>(
     start: I::Checkpoint,
     error: E,
 ) -> ParseFault<I, E::Inner>
-    requires { Ends (I.view input).left (I.seen start) }
+    requires { Ends I.reading (I.view input).left (I.seen start) }
     ensures { IsFaultAt I.view I.reading.units E.inner_kind (I.seen start) (I.view input) (E.kind error) result }
 {
     match error.into_inner() {

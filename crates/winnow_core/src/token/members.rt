@@ -50,7 +50,7 @@ pub(crate) fn take_members<S: ContainsToken<I::Token>, I: StreamIsPartial, E: Pa
 ) -> Result<I::Slice, E>
     requires { S.can_test set.now }
     ensures ran { TakeWhileRuns I.reading E.form (AnswersSeen I.seen_as (S.tells set.now)) occurrences.start_inclusive (greatest_of occurrences.start_inclusive occurrences.end_inclusive) (I.view input.old) (answer_by E.kind result) (I.view input.new) }
-    ensures ends { IsEndOf (I.view input.new) (I.view input.old) }
+    ensures ends { IsEndOf I.reading (I.view input.new) (I.view input.old) }
 {
     let least = occurrences.start_inclusive;
     match occurrences.end_inclusive {
@@ -75,7 +75,7 @@ fn take_unbounded<S: ContainsToken<I::Token>, I: StreamIsPartial, E: ParserError
     requires set { S.can_test set.now }
     requires form { least ≤ 1 }
     ensures ran { TakeWhileRuns I.reading E.form (AnswersSeen I.seen_as (S.tells set.now)) least None (I.view input.old) (answer_by E.kind result) (I.view input.new) }
-    ensures ends { IsEndOf (I.view input.new) (I.view input.old) }
+    ensures ends { IsEndOf I.reading (I.view input.new) (I.view input.old) }
 {
     let end = input.offset_for(Outside(set));
     let is_enough = least == 0 || end.unwrap_or(input.eof_offset()) > 0;
@@ -92,7 +92,7 @@ fn take_bounded<S: ContainsToken<I::Token>, I: StreamIsPartial, E: ParserError<I
 ) -> Result<I::Slice, E>
     requires { S.can_test set.now }
     ensures ran { TakeWhileRuns I.reading E.form (AnswersSeen I.seen_as (S.tells set.now)) least (Some greatest) (I.view input.old) (answer_by E.kind result) (I.view input.new) }
-    ensures ends { IsEndOf (I.view input.new) (I.view input.old) }
+    ensures ends { IsEndOf I.reading (I.view input.new) (I.view input.old) }
 {
     if greatest < least {
         return Err(E::assert(input, "the greatest count is below the least"));
@@ -111,7 +111,7 @@ fn take_found<I: StreamIsPartial, E: ParserError<I>>(
 ) -> Result<I::Slice, E>
     requires { IfSome end (λ offset. IsBoundary I.reading.units (I.view input.old).left.tokens offset) }
     ensures ran { FoundRuns I.reading E.form end is_enough least (I.view input.old) (answer_by E.kind result) (I.view input.new) }
-    ensures ends { IsEndOf (I.view input.new) (I.view input.old) }
+    ensures ends { IsEndOf I.reading (I.view input.new) (I.view input.old) }
 {
     match end {
         Some(offset) if is_enough => Ok(input.next_slice(offset)),

@@ -7,7 +7,7 @@ use Rattle.winnow_core.proofs.token.members.count_members.Goals as goal
 
 pub loop-offset-init : goal.loop-offset-init
 loop-offset-init g c =
-    let none = units-nil g.I.Stream.reading.units g.met.I.Stream.units_add in (
+    let none = units-nil g.I.Stream.reading in (
       grind (arith, common_steps),
       grind (arith, common_steps),
       counted_none _ _ _ _ _ none (ap g.I.Stream.offsets_left c.into_iter-offset-iterator.ensures.into_iter_gives ∙ c.iter_offsets-offset-items.ensures.items),
@@ -29,7 +29,7 @@ loop-offset-preserved g c =
     let within = c.loop-offset.invariant.2.within in (
       grind (arith, common_steps),
       grind (arith, common_steps),
-      counted_more _ _ _ _ _ _ _ _ _ g.met.I.Stream.units_add (g.met.I.Stream.offsets_step _ _ _ c.in-Some.ensures.steps) (c.in-Some.token, refl, grind (arith, common_steps)) (omega (arith, within)) c.loop-offset.invariant.2,
+      counted_more _ _ _ _ _ _ _ _ _ g.I.Stream.reading.units_add (g.met.I.Stream.offsets_step _ _ _ c.in-Some.ensures.steps) (c.in-Some.token, refl, grind (arith, common_steps)) (omega (arith, within)) c.loop-offset.invariant.2,
     )
 
 pub returns-then-count-greatest-2 : goal.returns-then-count-greatest-2
