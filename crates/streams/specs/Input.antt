@@ -1,5 +1,5 @@
 -- What a parser sees of a stream.
-use Rattle.std.specs.Prelude.{◌≡◌, ℕ, ◌≤◌, Bool, true, false, List, [], ◌++◌, length}
+use Rattle.std.specs.Prelude.{◌≡◌, ℕ, ◌≤◌, Bool, true, false, List, [], ◌∷◌, ◌++◌, length}
 use Rattle.std.proofs.Common.{append_assoc, refl, ap, ◌∙◌, sym, subst, arith, length-append}
 use Rattle.streams.specs.Kind.{Kind}
 use Rattle.streams.specs.Place.{Place, no_place}
@@ -112,3 +112,25 @@ is_end_of_back {reading = reading} {a = a} e p = let P : Left _ → Type 0 = λ 
 -- a reset goes back to what was left at the start
 pub ends_of_start : {T S : Type 0} {reading : Reading T S} {a b : Input T} {x : Left T} → x ≡ a.left → IsEndOf reading b a → Ends reading b.left x
 ends_of_start {reading = reading} {b = b} e p = let P : Left _ → Type 0 = λ y. Ends reading b.left y in subst P (sym e) p.ends
+
+-- inputs that are the same in each part are the same
+same_parts : {T : Type 0} (a b : Input T) → a.left.tokens ≡ b.left.tokens → a.left.place ≡ b.left.place → a.left.possible ≡ b.left.possible → a.side ≡ b.side → a ≡ b
+same_parts {T} a b tokens place possible side =
+  let make : List T → Place → Bool → Side → Input T = λ t p q s. record { left = record { tokens = t; place = p; possible = q }; side = s } in
+  ap (λ t. make t a.left.place a.left.possible a.side) tokens
+    ∙ ap (λ p. make b.left.tokens p a.left.possible a.side) place
+    ∙ ap (λ q. make b.left.tokens b.left.place q a.side) possible
+    ∙ ap (λ s. make b.left.tokens b.left.place b.left.possible s) side
+
+same_others : {T : Type 0} {x y : T} {xs ys : List T} → x ∷ xs ≡ y ∷ ys → xs ≡ ys
+same_others e = cc
+
+-- what follows one beginning follows the other
+pub same_rest : {T : Type 0} (xs ys zs : List T) → xs ++ ys ≡ xs ++ zs → ys ≡ zs
+same_rest [] ys zs e = e
+same_rest (x ∷ xs) ys zs e = same_rest xs ys zs (same_others e)
+
+-- Back at the start of a run, the tokens that it passed lead to its end again.
+pub passed_again : {T S : Type 0} {reading : Reading T S} {i j k : Input T} (e : IsEndOf reading j i) → Passes reading e.ends.dropped (back_at i.left j) k → k ≡ j
+passed_again {i = i} {j = j} {k = k} e p =
+  same_parts k j (sym (same_rest e.ends.dropped j.left.tokens k.left.tokens (sym e.ends.tokens ∙ p.tokens))) (p.place ∙ sym e.ends.place) (p.possible ∙ sym e.ends.possible) p.side

@@ -5,5 +5,10 @@ pub mod TakeWhile
 pub mod Members
 pub mod Eof
 pub mod Sequence
+pub mod Map
+pub mod VerifyMap
+pub mod Void
+pub mod Take
+pub mod Func
 pub mod Whole
 pub mod Parts

@@ -1,5 +1,9 @@
 -- The parts of the parsers' structs.
 use Rattle.stream_sets.specs.declared.range.Range.{Range}
+use Rattle.winnow_core.specs.declared.combinator.impls.map.Map.{Map}
+use Rattle.winnow_core.specs.declared.combinator.impls.map.VerifyMap.{VerifyMap}
+use Rattle.winnow_core.specs.declared.combinator.impls.take.Take.{Take}
+use Rattle.winnow_core.specs.declared.combinator.impls.take.Void.{Void}
 use Rattle.winnow_core.specs.declared.token.impls.Literal.{Literal}
 use Rattle.winnow_core.specs.declared.token.impls.TakeWhile.{TakeWhile}
 
@@ -14,3 +18,27 @@ take_while_occurrences s = s.occurrences
 -- the set whose members are taken
 abbrev pub take_while_set : {S I E : Type 0} → TakeWhile S I E → S
 take_while_set s = s.set
+
+-- the parser whose output is dropped
+abbrev pub void_parser : {F I O E : Type 0} → Void F I O E → F
+void_parser s = s.parser
+
+-- the parser whose slice is answered
+abbrev pub take_parser : {F I O E : Type 0} → Take F I O E → F
+take_parser s = s.parser
+
+-- the parser whose output is mapped
+abbrev pub map_parser : {F G I O U E : Type 0} → Map F G I O U E → F
+map_parser s = s.parser
+
+-- the closure that maps
+abbrev pub map_closure : {F G I O U E : Type 0} → Map F G I O U E → G
+map_closure s = s.map
+
+-- the parser whose output is mapped or refused
+abbrev pub verify_map_parser : {F G I O U E : Type 0} → VerifyMap F G I O U E → F
+verify_map_parser s = s.parser
+
+-- the closure that maps or refuses
+abbrev pub verify_map_closure : {F G I O U E : Type 0} → VerifyMap F G I O U E → G
+verify_map_closure s = s.filter

@@ -2,12 +2,16 @@
 ghost use Rattle.std.specs.Prelude.{◌≡◌, false, ⊤};
 ghost use Rattle.streams.specs.Input.{Input, Left, Ends, IsEndOf};
 ghost use Rattle.stream_errors.specs.Form.{Answer, answer_by};
+ghost use Rattle.winnow_core.specs.Parts.{map_parser, map_closure, verify_map_parser, verify_map_closure, void_parser, take_parser};
 ghost use Rattle.winnow_core.specs.Whole.{IsFaultAt, ParsesWhole};
 
+mod func;
 mod literals;
 mod tuples;
 
-use crate::combinator::eof;
+use crate::combinator::impls::{Map, Take, VerifyMap, Void};
+pub use crate::parser::func::Func;
+use std::marker::PhantomData;
 use stream_errors::fault::{ParseError, ParseFault};
 use stream_errors::parser_error::ParserError;
 use streams::needed::Needed;
@@ -69,6 +73,93 @@ pub trait Parser<I: Stream, O, E: ParserError<I>> {
                 }
             }
             Err(error) => Err(fault_at(input, start, error)),
+        }
+    }
+
+    /// The parser with its output dropped.
+    ///
+    /// ```text
+    /// b"key".void().parse_next(&mut input)   is Ok(()) where b"key" stands first
+    /// ```
+    #[inline(always)]
+    final fn void(self) -> Void<Self, I, O, E>
+    where
+        Self: Sized,
+        ensures { void_parser result ≡ self }
+    {
+        Void {
+            parser: self,
+            input: PhantomData,
+            output: PhantomData,
+            error: PhantomData,
+        }
+    }
+
+    /// The parser with the slice that it read in place of its output.
+    ///
+    /// ```text
+    /// (b'a', b'b').take().parse_next(&mut b"abc".as_slice())   is Ok(b"ab"), and b"c" is left
+    /// ```
+    #[inline(always)]
+    final fn take(self) -> Take<Self, I, O, E>
+    where
+        Self: Sized,
+        ensures { take_parser result ≡ self }
+    {
+        Take {
+            parser: self,
+            input: PhantomData,
+            output: PhantomData,
+            error: PhantomData,
+        }
+    }
+
+    /// The parser with its output made into another by `map`, which is called once, where the
+    /// parser succeeds.
+    ///
+    /// ```text
+    /// b'a'.map(|b: u8| b == b'a').parse_next(&mut b"a".as_slice())   is Ok(true)
+    /// ```
+    #[inline(always)]
+    final fn map<G, O2>(self, map: G) -> Map<Self, G, I, O, O2, E>
+    where
+        Self: Sized,
+        G: FnMut(O) -> O2,
+        ensures parser { map_parser result ≡ self }
+        ensures map { map_closure result ≡ map }
+    {
+        Map {
+            parser: self,
+            map,
+            input: PhantomData,
+            output: PhantomData,
+            mapped: PhantomData,
+            error: PhantomData,
+        }
+    }
+
+    /// The parser with its output made into another by `filter`, which is called once, where the
+    /// parser succeeds. Where it gives `None` the parser backtracks, and the input is back at the
+    /// start.
+    ///
+    /// ```text
+    /// b"a".verify_map(|s: &[u8]| s.get(1).copied()).parse_next(&mut b"a".as_slice())   backtracks
+    /// ```
+    #[inline(always)]
+    final fn verify_map<G, O2>(self, filter: G) -> VerifyMap<Self, G, I, O, O2, E>
+    where
+        Self: Sized,
+        G: FnMut(O) -> Option<O2>,
+        ensures parser { verify_map_parser result ≡ self }
+        ensures filter { verify_map_closure result ≡ filter }
+    {
+        VerifyMap {
+            parser: self,
+            filter,
+            input: PhantomData,
+            output: PhantomData,
+            mapped: PhantomData,
+            error: PhantomData,
         }
     }
 }

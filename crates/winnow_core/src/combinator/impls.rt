@@ -1,8 +1,13 @@
-//! The parsers of the module above, as structs.
+//! The parsers of the module above and the adapters of `Parser`, as structs.
 ghost use Rattle.std.specs.Prelude.{◌≡◌};
 ghost use Rattle.winnow_core.specs.Eof.{EofRuns};
 
+mod map;
+mod take;
+
 use crate::combinator::eof;
+pub use crate::combinator::impls::map::{Map, VerifyMap};
+pub use crate::combinator::impls::take::{Take, Void};
 use crate::parser::Parser;
 use stream_errors::parser_error::ParserError;
 use streams::stream::Stream;

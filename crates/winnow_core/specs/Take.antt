@@ -1,0 +1,15 @@
+-- The slice that a parser read.
+use Rattle.std.specs.Prelude.{◌≡◌, List, ◌++◌, Ok, Err, ◌⊎◌}
+use Rattle.streams.specs.Input.{Input}
+use Rattle.streams.specs.Kind.{Kind}
+use Rattle.streams.specs.Reading.{Reading}
+use Rattle.stream_errors.specs.Form.{Answer}
+use Rattle.winnow_core.specs.Runs.{Runs}
+
+-- A run of the child, in whose place the tokens between its start and its end are answered.
+abbrev pub TakeRuns : {S T L O : Type 0} → Reading T L → Runs S T O → S → Input T → Answer L → S → Input T → Type 0
+TakeRuns {S} {T} {L} {O} reading run s i answer t j =
+    -- the child succeeds
+    ((o : O) × (front : List T) × (slice : L) × run s i (Ok o) t j × (i.left.tokens ≡ front ++ j.left.tokens) × reading.shows slice front × (answer ≡ Ok slice))
+    -- the child fails
+    ⊎ ((k : Kind) × run s i (Err k) t j × (answer ≡ Err k))
