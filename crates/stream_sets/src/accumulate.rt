@@ -1,0 +1,82 @@
+//! What repetition puts its outputs into.
+ghost use Rattle.std.specs.Prelude.{◌≡◌, ◌≤◌, [], ◌∷◌, ◌++◌, MatchResult, ⊤, vec_len, vec_capacity};
+
+use std::alloc::{AllocError, Allocator};
+
+/// What a repetition puts its outputs into: nothing, or a list, as winnow's documentation has it.
+/// `A` is the allocator that it is made with.
+///
+/// ```text
+/// <Vec<u8> as Accumulate<u8, Global>>::initial(alloc, None)   is Ok of an empty list
+/// ```
+pub trait Accumulate<O, A>: Drop {
+    // The empty ones.
+    ghost starts: { Self → Type 0 };
+
+    // One that takes one output more, and what it is then.
+    ghost takes: { Self → O → Self → Type 0 };
+
+    // Whether making an empty one asks for memory.
+    ghost start_grows: { Type 0 };
+
+    // The ones that ask for memory to take one output more.
+    ghost grows: { Self → Type 0 };
+
+    /// An empty one, for `capacity` outputs if that is known. It fails only where a request for
+    /// memory was refused.
+    fn initial(alloc: A, capacity: Option<usize>) -> Result<Self, AllocError>
+    where
+        Self: Sized,
+        ensures { MatchResult result (λ empty. starts empty) (λ _. start_grows) };
+
+    /// Takes one output more. It fails only where a request for memory was refused.
+    fn accumulate(&mut self, output: O) -> Result<(), AllocError>
+        ensures { MatchResult result (λ _. takes self.old output self.new) (λ _. grows self.old) };
+}
+
+/// Nothing is kept, and no memory is taken.
+impl<O: Drop, A: Drop> Accumulate<O, A> for () {
+    ghost starts = { λ _. ⊤ };
+
+    ghost takes = { λ _ _ _. ⊤ };
+
+    ghost start_grows = { ⊥ };
+
+    ghost grows = { λ _. ⊥ };
+
+    #[inline(always)]
+    fn initial(_alloc: A, _capacity: Option<usize>) -> Result<(), AllocError>
+        ensures { MatchResult result (λ _. ⊤) (λ _. ⊥) }
+    {
+        Ok(())
+    }
+
+    #[inline(always)]
+    fn accumulate(&mut self, _output: O) -> Result<(), AllocError> {
+        Ok(())
+    }
+}
+
+/// A list to whose end the outputs are put. An empty one takes no memory.
+impl<O: Drop, A: Allocator> Accumulate<O, A> for Vec<O, A> {
+    ghost starts = { λ list. list.items ≡ [] };
+
+    ghost takes = { λ list output more. more.items ≡ list.items ++ output ∷ [] };
+
+    ghost start_grows = { ⊥ };
+
+    ghost grows = { λ list. vec_capacity list ≤ vec_len list };
+
+    #[inline(always)]
+    fn initial(alloc: A, _capacity: Option<usize>) -> Result<Vec<O, A>, AllocError>
+        ensures { MatchResult result (λ list. list.items ≡ []) (λ _. ⊥) }
+    {
+        Ok(Vec::new(alloc))
+    }
+
+    #[inline(always)]
+    fn accumulate(&mut self, output: O) -> Result<(), AllocError> {
+        self.push(output)?;
+        Ok(())
+    }
+}
