@@ -8,7 +8,8 @@ use Rattle.streams.specs.Bytes.{bytes_input, bytes_reading}
 use Rattle.streams.specs.Kind.{Kind}
 use Rattle.stream_sets.specs.Compare.{StandsFirst, IsShort}
 use Rattle.stream_errors.specs.Form.{ErrorForm, Answer}
-use Rattle.winnow_core.specs.TakeWhile.{TakeWhileRuns, IsLongest, IsWithin, greatest_of}
+use Rattle.winnow_core.specs.TakeWhile.{TakeWhileRuns, IsLongest}
+use Rattle.stream_sets.specs.Range.{IsWithin, greatest_of}
 use Rattle.stream_sets.specs.declared.range.Range.{Range}
 use Rattle.winnow_core.specs.Literal.{LiteralRuns}
 use Rattle.readers.specs.Pair.{IsKeyByte, IsPairLine, IsRefusedPair}

@@ -1,5 +1,5 @@
 //! How many times something may stand.
-ghost use Rattle.std.specs.Prelude.{◌≡◌, ◌-◌, ℕ, Some, None};
+ghost use Rattle.std.specs.Prelude.{◌≡◌, ◌≤◌, ◌-◌, ℕ, Some, None};
 ghost use Rattle.std.specs.Range.{range_inclusive_start, range_inclusive_end};
 
 use std::ops;
@@ -20,6 +20,35 @@ pub struct Range {
     /// The greatest count, if there is one. It may be below the least: such a range is refused
     /// where it is used.
     pub end_inclusive: Option<usize>,
+}
+
+impl Range {
+    ghost use Rattle.stream_sets.specs.Range.{greatest_of};
+
+    /// The greatest count that is looked at: none in the forms `0..` and `1..`, and the greatest
+    /// `usize` of another range with no end.
+    ///
+    /// ```text
+    /// Range::from(1..).greatest()    is None
+    /// Range::from(1..4).greatest()   is Some(3)
+    /// ```
+    #[inline(always)]
+    #[tactic(auto, using(crate::specs::Range::greatest_by_least))]
+    pub fn greatest(self) -> Option<usize>
+        ensures value { result ≡ greatest_of self.start_inclusive self.end_inclusive }
+        ensures none { result ≡ None → self.start_inclusive ≤ 1 }
+    {
+        match self.end_inclusive {
+            Some(last) => Some(last),
+            None => {
+                if self.start_inclusive <= 1 {
+                    None
+                } else {
+                    Some(usize::MAX)
+                }
+            }
+        }
+    }
 }
 
 impl From<usize> for Range {

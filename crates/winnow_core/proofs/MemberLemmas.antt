@@ -4,13 +4,14 @@ use Rattle.std.specs.Prelude.{MatchOption, unwrap_or, max}
 use Rattle.std.specs.List.{All}
 use Rattle.std.proofs.lemmas.List.{append-nil}
 use Rattle.std.proofs.lemmas.List.Elements.{All-append, All-cons, All-nil}
-use Rattle.std.proofs.lemmas.Bool.{le-leb, lt-leb, leb-true, leb-false, ltb-true, ltb-false, eq-eqb, cases_lt}
+use Rattle.std.proofs.lemmas.Bool.{leb-true, leb-false, ltb-true, ltb-false, eq-eqb, cases_lt}
 use Rattle.std.proofs.Math.Dec.{eqb, ltb, leb}
 use Rattle.streams.specs.Input.{Input}
 use Rattle.streams.specs.Reading.{Reading}
 use Rattle.streams.specs.Stream.{AnswersSeen, FindsFirst, with_offsets}
 use Rattle.stream_errors.specs.Form.{ErrorForm, Answer}
-use Rattle.winnow_core.specs.TakeWhile.{IsLongest, IsEnded, IsOpen, IsWithin, IsBelow, TakeWhileRuns, greatest_of}
+use Rattle.stream_sets.specs.Range.{IsWithin, IsBelow}
+use Rattle.winnow_core.specs.TakeWhile.{IsLongest, IsEnded, IsOpen, TakeWhileRuns}
 use Rattle.winnow_core.specs.Members.{CountsMembers, FoundRuns}
 
 -- `count` members stand first, and `left` are the tokens behind them, each with its offset.
@@ -140,14 +141,6 @@ unbounded seen tells units none positive tokens None all = let both = taken unit
 unbounded seen tells units none positive tokens (Some offset) (front, x, rest, splits, members, stranger, at) =
     let both = taken units none positive front in
     (length front, (front, x ∷ rest, record { splits = splits; members = members; within = tt; stops = λ y more same. inl (let P : _ → Type 0 = λ z. AnswersSeen seen tells z false in subst P (same_first same) stranger) }, inl (x, rest, refl, stranger), at, refl), (λ h. let b = both.0 h in omega (arith, b, at)), (λ h. both.1 (omega (arith, h, at))))
-
--- the greatest number by the form
-pub greatest_of-unbounded : (least : ℕ) → least ≤ 1 → greatest_of least None ≡ None
-greatest_of-unbounded least h = rw (le-leb least 1 h)
-
-pub greatest_of-bounded : (least : ℕ) (end : Option ℕ) → (end ≡ None → 1 < least) → greatest_of least end ≡ Some (unwrap_or end 18446744073709551615)
-greatest_of-bounded least None h = let above : 1 < least = h refl in rw (lt-leb least 1 above)
-greatest_of-bounded least (Some n) h = refl
 
 true_is_false : true ≡ false → ⊥
 true_is_false e = cc

@@ -1,23 +1,11 @@
 -- Takes by set.
-use Rattle.std.specs.Prelude.{◌≡◌, ◌<◌, ◌≤◌, ◌-◌, ◌^◌, ℕ, max, nat_le, if◌then◌else◌, Bool, true, false, List, [], ◌∷◌, ◌++◌, length, Option, Some, None, Ok, Err, ◌⊎◌, ⊤, MatchOption}
+use Rattle.std.specs.Prelude.{◌≡◌, ◌<◌, ◌≤◌, ◌-◌, ℕ, max, Bool, true, false, List, [], ◌∷◌, ◌++◌, length, Option, Some, None, Ok, Err, ◌⊎◌}
 use Rattle.std.specs.List.{All}
 use Rattle.streams.specs.Input.{Input, Takes}
 use Rattle.streams.specs.Kind.{backtrack}
 use Rattle.streams.specs.Reading.{Reading}
+use Rattle.stream_sets.specs.Range.{IsWithin, IsBelow}
 use Rattle.stream_errors.specs.Form.{ErrorForm, Answer, incompleted, asserted}
-
--- The greatest number of tokens taken. The forms `0..` and `1..` have none; another range with no greatest count has the greatest number of its type.
-abbrev pub greatest_of : ℕ → Option ℕ → Option ℕ
-greatest_of least (Some n) = Some n
-greatest_of least None = if nat_le least 1 then None else Some (2 ^ 64 - 1)
-
--- n is at most the greatest number, if there is one
-abbrev pub IsWithin : Option ℕ → ℕ → Type 0
-IsWithin greatest n = MatchOption greatest ⊤ (λ most. n ≤ most)
-
--- n is below the greatest number, if there is one
-abbrev pub IsBelow : Option ℕ → ℕ → Type 0
-IsBelow greatest n = MatchOption greatest ⊤ (λ most. n < most)
 
 -- The tokens' longest beginning of members, of at most the greatest number.
 pub record IsLongest {T : Type 0} (member : T → Bool → Type 0) (greatest : Option ℕ) (tokens front rest : List T) : Type 0 where

@@ -2,7 +2,8 @@
 ghost use Rattle.std.specs.Prelude.{◌≡◌};
 ghost use Rattle.streams.specs.Stream.{AnswersSeen};
 ghost use Rattle.winnow_core.specs.Literal.{LiteralRuns};
-ghost use Rattle.winnow_core.specs.TakeWhile.{TakeWhileRuns, greatest_of};
+ghost use Rattle.stream_sets.specs.Range.{greatest_of};
+ghost use Rattle.winnow_core.specs.TakeWhile.{TakeWhileRuns};
 
 use crate::parser::Parser;
 use crate::token::members::take_members;
