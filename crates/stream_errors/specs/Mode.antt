@@ -1,5 +1,5 @@
 -- The kinds of errors with a mode.
-use Rattle.std.specs.Prelude.{◌≡◌, ℕ, Option, Some, None, refl}
+use Rattle.std.specs.Prelude.{◌≡◌, Some, refl}
 use Rattle.streams.specs.Kind.{Kind, backtrack, cut, incomplete, memory}
 use Rattle.streams.specs.Needed.{need_of}
 use Rattle.streams.specs.declared.needed.Needed.{Needed}
@@ -24,6 +24,20 @@ mode_kind kind (Incomplete n) = incomplete (need_of n)
 abbrev pub as_inner : Kind → Kind
 as_inner = mode_round backtrack
 
+-- the kind of an error once it cuts where it backtracked
+abbrev pub cut_of : Kind → Kind
+cut_of backtrack = cut
+cut_of cut = cut
+cut_of (incomplete need) = incomplete need
+cut_of memory = memory
+
+-- the kind of an error once it backtracks where it cut
+abbrev pub backtrack_of : Kind → Kind
+backtrack_of backtrack = backtrack
+backtrack_of cut = backtrack
+backtrack_of (incomplete need) = incomplete need
+backtrack_of memory = memory
+
 -- The mode is kept, and its inner error is what one call made of the old one.
 abbrev pub MapsMode : {E F N : Type 0} → (E → F → Type 0) → ErrMode E N → ErrMode F N → Type 0
 MapsMode {E} {F} {N} step (Backtrack e) new = (f : F) × step e f × (new ≡ Backtrack f)
@@ -41,3 +55,29 @@ inner_kind_of-mode_round_cut memory = refl
 inner_kind_of-mode_round_cut backtrack = refl
 inner_kind_of-mode_round_cut cut = refl
 inner_kind_of-mode_round_cut (incomplete need) = refl
+
+pub cut_of-mode_round_backtrack : (k : Kind) → cut_of (mode_round backtrack k) ≡ mode_round cut k
+cut_of-mode_round_backtrack memory = refl
+cut_of-mode_round_backtrack backtrack = refl
+cut_of-mode_round_backtrack cut = refl
+cut_of-mode_round_backtrack (incomplete need) = refl
+
+pub cut_of-mode_round_cut : (k : Kind) → cut_of (mode_round cut k) ≡ mode_round cut k
+cut_of-mode_round_cut memory = refl
+cut_of-mode_round_cut backtrack = refl
+cut_of-mode_round_cut cut = refl
+cut_of-mode_round_cut (incomplete need) = refl
+
+pub backtrack_of-mode_round_backtrack : (k : Kind) → backtrack_of (mode_round backtrack k) ≡ mode_round backtrack k
+backtrack_of-mode_round_backtrack memory = refl
+backtrack_of-mode_round_backtrack backtrack = refl
+backtrack_of-mode_round_backtrack cut = refl
+backtrack_of-mode_round_backtrack (incomplete need) = refl
+
+pub backtrack_of-mode_round_cut : (k : Kind) → backtrack_of (mode_round cut k) ≡ mode_round backtrack k
+backtrack_of-mode_round_cut memory = refl
+backtrack_of-mode_round_cut backtrack = refl
+backtrack_of-mode_round_cut cut = refl
+backtrack_of-mode_round_cut (incomplete need) = refl
+
+pub ruleset modes_change = (cut_of-mode_round_backtrack, cut_of-mode_round_cut, backtrack_of-mode_round_backtrack, backtrack_of-mode_round_cut)

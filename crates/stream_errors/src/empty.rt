@@ -3,6 +3,7 @@ ghost use Rattle.std.specs.Prelude.{◌≡◌};
 ghost use Rattle.streams.specs.Kind.{Kind};
 ghost use Rattle.stream_errors.specs.Form.{marked_kind, plain, inner_kind_of-marked_kind, marked_kind-cases};
 
+use crate::has_kind::HasKind;
 use crate::parser_error::ParserError;
 use streams::needed::Needed;
 use streams::stream::Stream;
@@ -17,10 +18,12 @@ pub struct EmptyError {
     is_memory: bool,
 }
 
+impl HasKind for EmptyError {
+    ghost kind = { λ e. marked_kind e.is_memory };
+}
+
 impl<I: Stream> ParserError<I> for EmptyError {
     type Inner = EmptyError;
-
-    ghost kind = { λ e. marked_kind e.is_memory };
 
     ghost form = { plain };
 

@@ -3,6 +3,7 @@ ghost use Rattle.std.specs.Prelude.{◌≡◌, false};
 ghost use Rattle.streams.specs.Kind.{Kind};
 ghost use Rattle.stream_errors.specs.Form.{marked_kind, plain, inner_kind_of-marked_kind, marked_kind-cases};
 
+use crate::has_kind::HasKind;
 use crate::parser_error::ParserError;
 use streams::needed::Needed;
 use streams::stream::Stream;
@@ -32,10 +33,12 @@ impl<I> InputError<I> {
     }
 }
 
+impl<I> HasKind for InputError<I> {
+    ghost kind = { λ e. marked_kind e.is_memory };
+}
+
 impl<I: Stream + Copy> ParserError<I> for InputError<I> {
     type Inner = InputError<I>;
-
-    ghost kind = { λ e. marked_kind e.is_memory };
 
     ghost form = { plain };
 

@@ -7,7 +7,9 @@
 
 pub mod empty;
 pub mod fault;
+pub mod has_kind;
 pub mod input_error;
+pub mod modal;
 pub mod mode;
 pub mod parser_error;
 #[cfg(test)]

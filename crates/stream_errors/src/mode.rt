@@ -5,6 +5,7 @@ ghost use Rattle.streams.specs.Kind.{Kind};
 ghost use Rattle.stream_errors.specs.Form.{ErrorForm, modal, plain, modal-not_plain};
 ghost use Rattle.stream_errors.specs.Mode.{mode_kind, as_inner, MapsMode};
 
+use crate::has_kind::HasKind;
 use crate::parser_error::ParserError;
 use streams::needed::Needed;
 use streams::stream::Stream;
@@ -43,10 +44,12 @@ impl<E, N> ErrMode<E, N> {
     }
 }
 
+impl<E: HasKind> HasKind for ErrMode<E> {
+    ghost kind = { λ e. mode_kind E.kind e };
+}
+
 impl<I: Stream, E: ParserError<I>> ParserError<I> for ErrMode<E> {
     type Inner = E;
-
-    ghost kind = { λ e. mode_kind E.kind e };
 
     ghost form = { modal };
 

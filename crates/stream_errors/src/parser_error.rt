@@ -4,6 +4,7 @@ ghost use Rattle.streams.specs.Kind.{Kind, backtrack, cut, incomplete, memory};
 ghost use Rattle.streams.specs.Needed.{need_of};
 ghost use Rattle.stream_errors.specs.Form.{ErrorForm, plain, asserted, incompleted, inner_kind_of, need_of_kind};
 
+use crate::has_kind::HasKind;
 use streams::needed::Needed;
 use streams::stream::Stream;
 
@@ -17,12 +18,9 @@ use streams::stream::Stream;
 /// EmptyError::from_input(&input)                 backtracks
 /// ErrMode::<EmptyError>::assert(&input, "why")   cuts
 /// ```
-pub trait ParserError<I: Stream>: Drop {
+pub trait ParserError<I: Stream>: HasKind + Drop {
     /// The error without its mode.
     type Inner: Drop;
-
-    // The kind of an error.
-    ghost kind: { Self → Kind };
 
     // Whether the type has all kinds, or backtrack and memory alone.
     ghost form: { ErrorForm };
@@ -32,50 +30,50 @@ pub trait ParserError<I: Stream>: Drop {
 
     /// A backtracking error at the place of `input`.
     fn from_input(input: &I) -> Self
-        ensures { kind result ≡ backtrack };
+        ensures { Self.kind result ≡ backtrack };
 
     /// The error for a parser that was made or called wrongly: it cuts, or backtracks for a plain
     /// type. It never ends the process.
     fn assert(input: &I, message: &'static str) -> Self
-        ensures { kind result ≡ asserted form };
+        ensures { Self.kind result ≡ asserted form };
 
     /// The error for a need of more input: it is incomplete, or backtracks for a plain type.
     fn incomplete(input: &I, needed: Needed) -> Self
-        ensures { kind result ≡ incompleted form (need_of needed) };
+        ensures { Self.kind result ≡ incompleted form (need_of needed) };
 
     /// The error for want of memory.
     fn no_memory(input: &I) -> Self
-        ensures { kind result ≡ memory };
+        ensures { Self.kind result ≡ memory };
 
     /// Joins the errors of two branches. Two that backtrack give one that does, or that wants
     /// memory where they could not be joined.
     fn or(self, other: Self) -> Self
-        ensures { kind self ≡ backtrack → kind other ≡ backtrack → (kind result ≡ backtrack) ⊎ (kind result ≡ memory) };
+        ensures { Self.kind self ≡ backtrack → Self.kind other ≡ backtrack → (Self.kind result ≡ backtrack) ⊎ (Self.kind result ≡ memory) };
 
     /// Adds the place of an enclosing parser. The kind stays, or is memory.
     fn append(self, input: &I, token_start: &I::Checkpoint) -> Self
-        ensures { (kind result ≡ kind self) ⊎ (kind result ≡ memory) };
+        ensures { (Self.kind result ≡ Self.kind self) ⊎ (Self.kind result ≡ memory) };
 
     /// Whether another branch may be tried.
     fn is_backtrack(&self) -> bool
-        ensures { IsTrue result ↔ (kind self.now ≡ backtrack) };
+        ensures { IsTrue result ↔ (Self.kind self.now ≡ backtrack) };
 
     /// Whether more input may change the answer.
     fn is_incomplete(&self) -> bool
-        ensures { IsTrue result ↔ IsSome (need_of_kind (kind self.now)) };
+        ensures { IsTrue result ↔ IsSome (need_of_kind (Self.kind self.now)) };
 
     /// Whether a request for memory was refused.
     fn is_memory(&self) -> bool
-        ensures { IsTrue result ↔ (kind self.now ≡ memory) };
+        ensures { IsTrue result ↔ (Self.kind self.now ≡ memory) };
 
     /// How much more input is needed, for an incomplete error.
     fn needed(&self) -> Option<Needed>
-        ensures { option_map need_of result ≡ need_of_kind (kind self.now) };
+        ensures { option_map need_of result ≡ need_of_kind (Self.kind self.now) };
 
     /// The error without its mode; an incomplete one has none inside and is given back.
     fn into_inner(self) -> Result<Self::Inner, Self>
-        ensures { MatchResult result (λ inner. inner_kind_of (kind self) ≡ Some (inner_kind inner)) (λ e. (inner_kind_of (kind self) ≡ None) × (e ≡ self)) };
+        ensures { MatchResult result (λ inner. inner_kind_of (Self.kind self) ≡ Some (inner_kind inner)) (λ e. (inner_kind_of (Self.kind self) ≡ None) × (e ≡ self)) };
 
     // An error of a plain type backtracks or wants memory.
-    ghost plain_kinds: { form ≡ plain → (e : Self) → (kind e ≡ backtrack) ⊎ (kind e ≡ memory) };
+    ghost plain_kinds: { form ≡ plain → (e : Self) → (Self.kind e ≡ backtrack) ⊎ (Self.kind e ≡ memory) };
 }

@@ -1,0 +1,43 @@
+//! Errors whose mode can be changed.
+ghost use Rattle.std.specs.Prelude.{◌≡◌};
+ghost use Rattle.stream_errors.specs.Mode.{cut_of, backtrack_of};
+
+use crate::has_kind::HasKind;
+use crate::mode::ErrMode;
+
+/// An error that says whether other branches may be tried, and can be told, as winnow's
+/// documentation has it.
+///
+/// ```text
+/// ErrMode::Backtrack(error).cut()     is ErrMode::Cut(error)
+/// ErrMode::Cut(error).backtrack()     is ErrMode::Backtrack(error)
+/// ```
+pub trait ModalError: HasKind {
+    /// The error, such that no other branch is tried. Incomplete stays, and so does want of memory.
+    fn cut(self) -> Self
+        ensures { Self.kind result ≡ cut_of (Self.kind self) };
+
+    /// The error, such that another branch may be tried. Incomplete stays, and so does want of
+    /// memory.
+    fn backtrack(self) -> Self
+        ensures { Self.kind result ≡ backtrack_of (Self.kind self) };
+}
+
+#[tactic(auto, using(crate::specs::Mode::modes_change))]
+impl<E: HasKind> ModalError for ErrMode<E> {
+    #[inline(always)]
+    fn cut(self) -> ErrMode<E> {
+        match self {
+            ErrMode::Backtrack(error) => ErrMode::Cut(error),
+            other => other,
+        }
+    }
+
+    #[inline(always)]
+    fn backtrack(self) -> ErrMode<E> {
+        match self {
+            ErrMode::Cut(error) => ErrMode::Backtrack(error),
+            other => other,
+        }
+    }
+}

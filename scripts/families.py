@@ -1,0 +1,438 @@
+#!/usr/bin/env python3
+"""Writes the files whose items differ in nothing but the number of members of a tuple.
+
+Run it by hand at the top of the repository, and then `rt fmt` in the crates it names:
+
+    python3 scripts/families.py
+
+It writes the meanings and the impls of sequences (tuples of one to six) in the crate
+`winnow_core`, and those of choices among as many branches in the crate `winnow_comb`, with their
+laws.
+"""
+import pathlib
+
+TOP = pathlib.Path(__file__).resolve().parent.parent
+HEAD = "Written by scripts/families.py."
+MOST = 6
+NUMBER = ["no", "one", "two", "three", "four", "five", "six"]
+ORDINAL = ["", "first", "second", "third", "fourth", "fifth", "sixth"]
+BETWEEN = "abcde"
+
+
+def upto(n):
+    return range(1, n + 1)
+
+
+def tuple_type(parts):
+    """The type of a tuple in a specification."""
+    return "record { 0 : %s }" % parts[0] if len(parts) == 1 else " × ".join(parts)
+
+
+def tuple_value(parts):
+    """A tuple in a specification."""
+    return "record { 0 = %s }" % parts[0] if len(parts) == 1 else "(%s)" % ", ".join(parts)
+
+
+def rust_tuple(parts):
+    """A tuple in code, as a type or a value."""
+    return "(%s,)" % parts[0] if len(parts) == 1 else "(%s)" % ", ".join(parts)
+
+
+def conjunction(parts):
+    return " × ".join(parts)
+
+
+def disjunction(cases):
+    """Cases as a nested disjunction, each a line under its comment."""
+    lines = []
+    for k, (comment, case) in enumerate(cases):
+        last = k == len(cases) - 1
+        opening = "⊎ " if k > 0 else ""
+        if len(cases) > 1:
+            case = "(%s)" % case
+            if k > 0 and not last:
+                case = "(" + case
+        closing = ")" * (len(cases) - 2) if last else ""
+        lines.append("    -- %s" % comment)
+        lines.append("    %s%s%s" % (opening, case, closing))
+    return "\n".join(lines)
+
+
+# Sequences.
+
+
+def sequence_case(n, failing):
+    """All of n children succeed, or all before the failing one do."""
+    ran = failing or n
+    succeeding = ran - 1 if failing else n
+    parts = ["(o%d : O%d)" % (k, k) for k in upto(succeeding)]
+    if failing:
+        parts.append("(k : Kind)")
+    parts += ["(%s : Input T)" % BETWEEN[k - 1] for k in upto(ran - 1)]
+    for k in upto(ran):
+        before = "i" if k == 1 else BETWEEN[k - 2]
+        after = "j" if k == ran else BETWEEN[k - 1]
+        answer = "(Err k)" if k == failing else "(Ok o%d)" % k
+        parts.append("run%d s.%d %s %s t.%d %s" % (k, k - 1, before, answer, k - 1, after))
+    parts += ["(t.%d ≡ s.%d)" % (k - 1, k - 1) for k in range(ran + 1, n + 1)]
+    output = tuple_value(["o%d" % k for k in upto(n)])
+    parts.append("(answer ≡ Err k)" if failing else "(answer ≡ Ok %s)" % (output if n > 1 else "(%s)" % output))
+    return conjunction(parts)
+
+
+def sequence_spec(n):
+    states = ["S%d" % k for k in upto(n)]
+    outputs = ["O%d" % k for k in upto(n)]
+    names = states + ["T"] + outputs
+    runs = " → ".join("Runs S%d T O%d" % (k, k) for k in upto(n))
+    kinds = "Runs (%s) T (%s)" % (tuple_type(states), tuple_type(outputs))
+    success = {1: "it succeeds", 2: "both succeed"}.get(n, "all succeed")
+    cases = [(success, sequence_case(n, 0))]
+    cases += [("it fails" if n == 1 else "the %s fails" % ORDINAL[k], sequence_case(n, k)) for k in upto(n)]
+    return "\n".join(
+        [
+            "-- %s" % ("one child" if n == 1 else "%s children" % NUMBER[n]),
+            "abbrev pub SequenceRuns%d : {%s : Type 0} → %s → %s" % (n, " ".join(names), runs, kinds),
+            "SequenceRuns%d %s %s s i answer t j =" % (n, " ".join("{%s}" % x for x in names), " ".join("run%d" % k for k in upto(n))),
+            disjunction(cases),
+        ]
+    )
+
+
+SEQUENCE_SPECS = """-- Sequences: one run of each child in order, each where the one before it ended, to the first that fails.
+-- {head}
+use Rattle.std.specs.Prelude.{{◌≡◌, ⊤, Ok, Err, ◌⊎◌}}
+use Rattle.streams.specs.Input.{{Input}}
+use Rattle.streams.specs.Kind.{{Kind}}
+use Rattle.winnow_core.specs.Runs.{{Runs}}
+
+-- no children: nothing is taken
+abbrev pub SequenceRuns0 : {{T : Type 0}} → Runs ⊤ T ⊤
+SequenceRuns0 s i answer t j = (answer ≡ Ok tt) × (j ≡ i)
+
+{family}
+"""
+
+
+def bounds(n, output):
+    return ", ".join("P%d: Parser<I, %s, E>" % (k, output(k)) for k in upto(n))
+
+
+def sequence_impl(n):
+    outputs = rust_tuple(["O%d" % k for k in upto(n)])
+    parsers = rust_tuple(["P%d" % k for k in upto(n)])
+    dropped = ", ".join("O%d: Drop" % k if k < n else "O%d" % k for k in upto(n))
+    lines = [
+        "impl<I: Stream, %s, E: ParserError<I>, %s> Parser<I, %s, E> for %s {" % (dropped, bounds(n, lambda k: "O%d" % k), outputs, parsers),
+        "    ghost can_parse = { λ s. %s };" % conjunction(["P%d.can_parse s.%d" % (k, k - 1) for k in upto(n)]),
+        "",
+        "    ghost run = { λ s i answer t j. SequenceRuns%d %s s i answer t j };" % (n, " ".join("P%d.run" % k for k in upto(n))),
+        "",
+        "    #[inline(always)]",
+        "    fn parse_next(&mut self, input: &mut I) -> Result<%s, E> {" % outputs,
+    ]
+    lines += ["        let %s = self.%d.parse_next(input)?;" % (ORDINAL[k], k - 1) for k in upto(n)]
+    lines += ["        Ok(%s)" % rust_tuple([ORDINAL[k] for k in upto(n)]), "    }", "}"]
+    return "\n".join(lines)
+
+
+SEQUENCE_IMPLS = """//! Tuples: their members run in order, and the first failure is handed on.
+//!
+//! {head}
+ghost use Rattle.std.specs.Prelude.{{◌≡◌}};
+ghost use Rattle.winnow_core.specs.Sequence.{{{names}}};
+
+use crate::parser::Parser;
+use stream_errors::parser_error::ParserError;
+use streams::stream::Stream;
+
+/// Nothing is run, and nothing taken.
+impl<I: Stream, E: ParserError<I>> Parser<I, (), E> for () {{
+    ghost run = {{ λ s i answer t j. SequenceRuns0 s i answer t j }};
+
+    #[inline(always)]
+    fn parse_next(&mut self, _input: &mut I) -> Result<(), E> {{
+        Ok(())
+    }}
+}}
+
+{family}
+"""
+
+
+def injected(case, cases, term):
+    """The term as the case of so many nested cases."""
+    term = "inl (%s)" % term if case < cases - 1 else term
+    for _ in range(case):
+        term = "inr (%s)" % term
+    return term
+
+
+def sequence_ran(n, failing):
+    """What answers the clause `ran` at a return of n children."""
+    ran = failing or n
+    succeeding = ran - 1 if failing else n
+    parts = ["_"] * succeeding
+    if failing:
+        parts.append("g.E.HasKind.kind c.in_err-%s.field-0.0" % ORDINAL[failing])
+    parts += ["_"] * (ran - 1)
+    parts += ["c.in_ok-%s.ensures.ran" % ORDINAL[k] for k in upto(succeeding)]
+    if failing:
+        parts.append("c.in_err-%s.ensures.ran" % ORDINAL[failing])
+    parts += ["refl"] * (n - ran)
+    parts.append("search rules" if failing else "refl")
+    goal = "returns-in_err-%s-clause-ran" % ORDINAL[failing] if failing else "returns-clause-ran"
+    return "pub {0} : goal.{0}\n{0} g c = {1}".format(goal, injected(failing, n + 1, ", ".join(parts)))
+
+
+def sequence_ends(n, failing):
+    """What answers the clause `ends` at a return of n children, the last of which fails or not."""
+    last = "c.in_%s-%s.ensures.ends" % ("err" if failing else "ok", ORDINAL[n])
+    steps = [last] + ["c.in_ok-%s.ensures.ends" % ORDINAL[k] for k in range(n - 1, 0, -1)]
+    goal = "returns-in_err-%s-clause-ends" % ORDINAL[n] if failing else "returns-clause-ends"
+    return "pub {0} : goal.{0}\n{0} g c = is_end_of_trans{1} {2}".format(goal, n, " ".join(steps))
+
+
+def sequence_answers(n):
+    """The answers of the goals that the check leaves: at many children, the late returns."""
+    failing = [sequence_ran(n, k) for k in range(4, n + 1)]
+    if n < MOST:
+        return failing
+    return failing + [sequence_ran(n, 0), sequence_ends(n, True), sequence_ends(n, False)]
+
+
+SEQUENCE_ANSWERS = """-- {head}
+use Rattle.std.proofs.Common.{{rules, refl, inl, inr}}{ends}
+use Rattle.winnow_core.proofs.parser.tuples.Tuple{n}Parser.parse_next.Goals as goal
+
+{answers}
+"""
+
+
+# Choices.
+
+
+def choice_case(n, answering):
+    """The branches before the answering one backtracked, and those behind it are not run."""
+    parts = ["(%s : Input T)" % BETWEEN[k - 1] for k in upto(answering - 1)]
+    for k in upto(answering):
+        before = "i" if k == 1 else "(back_at i.left %s)" % BETWEEN[k - 2]
+        end = "answer t.%d j" % (k - 1) if k == answering else "(Err backtrack) t.%d %s" % (k - 1, BETWEEN[k - 1])
+        parts.append("run%d s.%d %s %s" % (k, k - 1, before, end))
+    if answering < n:
+        parts.append("(answer ≡ Err backtrack → ⊥)")
+    parts += ["(t.%d ≡ s.%d)" % (k - 1, k - 1) for k in range(answering + 1, n + 1)]
+    return conjunction(parts)
+
+
+def choice_spec(n):
+    states = ["S%d" % k for k in upto(n)]
+    names = states + ["T", "O"]
+    runs = " → ".join("Runs S%d T O" % k for k in upto(n))
+    cases = [("the branch is run" if n == 1 else "the %s answers" % ORDINAL[k], choice_case(n, k)) for k in upto(n)]
+    if n == 1:
+        body = "    -- %s\n    %s" % cases[0]
+    else:
+        body = disjunction(cases)
+    return "\n".join(
+        [
+            "-- %s" % ("one branch" if n == 1 else "%s branches" % NUMBER[n]),
+            "abbrev pub AltRuns%d : {%s : Type 0} → %s → Runs (%s) T O" % (n, " ".join(names), runs, tuple_type(states)),
+            "AltRuns%d %s %s s i answer t j =" % (n, " ".join("{%s}" % x for x in names), " ".join("run%d" % k for k in upto(n))),
+            body,
+        ]
+    )
+
+
+CHOICE_SPECS = """-- Choices among the members of a tuple: each branch is run from the start, with the side as the one before it left it, and the first answer that does not backtrack is the answer. Where all backtrack the last one answers.
+-- {head}
+use Rattle.std.specs.Prelude.{{◌≡◌, Err, ◌⊎◌}}
+use Rattle.streams.specs.Input.{{Input, back_at}}
+use Rattle.streams.specs.Kind.{{backtrack}}
+use Rattle.winnow_core.specs.Runs.{{Runs}}
+
+{family}
+"""
+
+
+def choice_impl(n):
+    parsers = rust_tuple(["P%d" % k for k in upto(n)])
+    lines = [
+        "impl<I: Stream, O, E: ParserError<I>, %s> Alt<I, O, E> for %s {" % (bounds(n, lambda k: "O"), parsers),
+        "    ghost can_choose = { λ s. %s };" % conjunction(["P%d.can_parse s.%d" % (k, k - 1) for k in upto(n)]),
+        "",
+        "    ghost chooses = { λ s i answer t j. AltRuns%d %s s i answer t j };" % (n, " ".join("P%d.run" % k for k in upto(n))),
+        "",
+        "    #[inline(always)]",
+        "    fn choice(&mut self, input: &mut I) -> Result<O, E> {",
+    ]
+    if n > 1:
+        lines.append("        let start = input.checkpoint();")
+    for k in upto(n - 1):
+        lines += [
+            "        if let Some(answer) = attempt(&mut self.%d, input, &start) {" % (k - 1),
+            "            return answer;",
+            "        }",
+        ]
+    lines += ["        self.%d.parse_next(input)" % (n - 1), "    }", "}"]
+    return "\n".join(lines)
+
+
+CHOICE_IMPLS = """//! Tuples as branches.
+//!
+//! {head}
+ghost use Rattle.winnow_comb.specs.AltTuples.{{{names}}};
+
+use crate::combinator::impls::branch::{{Alt, attempt}};
+use stream_errors::parser_error::ParserError;
+use streams::stream::Stream;
+use winnow_core::parser::Parser;
+
+{family}
+"""
+
+
+def write(path, text, **parts):
+    path = TOP / path
+    path.parent.mkdir(parents=True, exist_ok=True)
+    path.write_text(text.format(head=HEAD, **parts), encoding="utf-8")
+
+
+def write_sequences():
+    core = "crates/winnow_core/"
+    write(core + "specs/Sequence.antt", SEQUENCE_SPECS, family="\n\n".join(sequence_spec(n) for n in upto(MOST)))
+    names = ", ".join("SequenceRuns%d" % n for n in range(MOST + 1))
+    write(core + "src/parser/tuples.rt", SEQUENCE_IMPLS, names=names, family="\n\n".join(sequence_impl(n) for n in upto(MOST)))
+    for n in (5, 6):
+        ends = "\nuse Rattle.streams.specs.Input.{is_end_of_trans6}" if n == MOST else ""
+        path = core + "proofs/parser/tuples/Tuple%dParser/parse_next/Answers.antt" % n
+        write(path, SEQUENCE_ANSWERS, n=n, ends=ends, answers="\n\n".join(sequence_answers(n)))
+
+
+def write_choices():
+    comb = "crates/winnow_comb/"
+    write(comb + "specs/AltTuples.antt", CHOICE_SPECS, family="\n\n".join(choice_spec(n) for n in upto(MOST)))
+    names = ", ".join("AltRuns%d" % n for n in upto(MOST))
+    write(comb + "src/combinator/impls/branch/tuples.rt", CHOICE_IMPLS, names=names, family="\n\n".join(choice_impl(n) for n in upto(MOST)))
+
+
+# The law of choices.
+
+
+def first_of(n):
+    """The runs of n branches, from the states s to the states t."""
+    return " ∷ ".join("(λ x a y. run%d s.%d x a t.%d y)" % (k, k - 1, k - 1) for k in upto(n)) + " ∷ []"
+
+
+def law_spec(n):
+    states = ["S%d" % k for k in upto(n)]
+    names = states + ["T", "O"]
+    runs = " → ".join("Runs S%d T O" % k for k in upto(n))
+    product = tuple_type(states)
+    arguments = " ".join("run%d" % k for k in upto(n))
+    return "\n".join(
+        [
+            "-- the choices are the first of %s branches that does not backtrack" % NUMBER[n],
+            "abbrev pub ChoosesFirst%d : {%s : Type 0} → %s → Runs (%s) T O → Type 0" % (n, " ".join(names), runs, product),
+            "ChoosesFirst%d %s %s chooses =" % (n, " ".join("{%s}" % x for x in names), arguments),
+            "    (s : %s) (i : Input T) (answer : Answer O) (t : %s) (j : Input T) → chooses s i answer t j → AnswersAsFirst i.left (%s) i answer j" % (product, product, first_of(n)),
+        ]
+    )
+
+
+def law_lemma(n):
+    names = ["S%d" % k for k in upto(n)] + ["T", "O"]
+    runs = " ".join("(run%d : Runs S%d T O)" % (k, k) for k in upto(n))
+    arguments = " ".join("run%d" % k for k in upto(n))
+    lines = ["pub chooses_first%d : {%s : Type 0} %s → ChoosesFirst%d %s (λ s i answer t j. AltRuns%d %s s i answer t j)" % (n, " ".join(names), runs, n, arguments, n, arguments)]
+    for k in upto(n):
+        inputs = [BETWEEN[x - 1] for x in upto(k - 1)]
+        ran = ["r%d" % x for x in upto(k)]
+        rest = ["n"] if k < n else []
+        rest += ["e%d" % x for x in range(k + 1, n + 1)]
+        term = "inl (r%d, n)" % k if k < n else "r%d" % k
+        for x in range(k - 1, 0, -1):
+            term = "inr (%s, r%d, %s)" % (BETWEEN[x - 1], x, term)
+        found = ", ".join(inputs + ran + rest)
+        found = injected(k - 1, n, found) if k < n else injected(k - 1, n, "(%s)" % found if n == 1 else found)
+        lines.append("chooses_first%d %s s i answer t j (%s) = %s" % (n, arguments, found, term))
+    return "\n".join(lines)
+
+
+LAW_SPECS = """-- Choices answer as the first of their branches that does not backtrack.
+-- {head}
+use Rattle.std.specs.Prelude.{{[], ◌∷◌}}
+use Rattle.streams.specs.Input.{{Input}}
+use Rattle.stream_errors.specs.Form.{{Answer}}
+use Rattle.winnow_core.specs.Runs.{{Runs}}
+use Rattle.winnow_comb.specs.Laws.{{AnswersAsFirst}}
+
+{family}
+"""
+
+LAW_LEMMAS = """-- Choices answer as the first of their branches that does not backtrack.
+-- {head}
+use Rattle.std.proofs.Common.{{inl, inr}}
+use Rattle.winnow_core.specs.Runs.{{Runs}}
+use Rattle.winnow_comb.specs.AltTuples.{{{alts}}}
+use Rattle.winnow_comb.specs.ChoiceLaws.{{{laws}}}
+
+{family}
+"""
+
+
+def law_function(n):
+    parsers = rust_tuple(["P%d" % k for k in upto(n)])
+    types = ", ".join(["P%d: Parser<I, O, E>" % k for k in upto(n)])
+    return "\n".join(
+        [
+            "/// A choice of %s answers as the first branch that does not backtrack, or as the last one, and" % NUMBER[n],
+            "/// each is run from the same place.",
+            "pub fn alt_of_%s_answers_as_the_first<%s, I: Stream, O, E: ParserError<I>>()" % (NUMBER[n], types),
+            "    ensures { ChoosesFirst%d %s ⟦<%s as Alt<I, O, E>>⟧.chooses }" % (n, " ".join("P%d.run" % k for k in upto(n)), parsers),
+            "{",
+            "}",
+        ]
+    )
+
+
+LAW_FUNCTIONS = """//! Laws of choices among the members of a tuple.
+//!
+//! {head}
+ghost use Rattle.winnow_comb.specs.ChoiceLaws.{{{laws}}};
+
+use crate::combinator::impls::Alt;
+use stream_errors::parser_error::ParserError;
+use streams::stream::Stream;
+use winnow_core::parser::Parser;
+
+{family}
+"""
+
+LAW_ANSWERS = """-- {head}
+use Rattle.winnow_comb.proofs.ChoiceLaws.{{chooses_first{n}}}
+use Rattle.winnow_comb.proofs.laws.choices.alt_of_{number}_answers_as_the_first.Goals as goal
+
+pub returns : goal.returns
+returns g c = chooses_first{n} {runs}
+"""
+
+
+def write_laws():
+    comb = "crates/winnow_comb/"
+    sizes = range(2, MOST + 1)
+    alts = ", ".join("AltRuns%d" % n for n in sizes)
+    laws = ", ".join("ChoosesFirst%d" % n for n in sizes)
+    write(comb + "specs/ChoiceLaws.antt", LAW_SPECS, family="\n\n".join(law_spec(n) for n in sizes))
+    write(comb + "proofs/ChoiceLaws.antt", LAW_LEMMAS, alts=alts, laws=laws, family="\n\n".join(law_lemma(n) for n in sizes))
+    write(comb + "src/laws/choices.rt", LAW_FUNCTIONS, laws=laws, family="\n\n".join(law_function(n) for n in sizes))
+    for n in sizes:
+        path = comb + "proofs/laws/choices/alt_of_%s_answers_as_the_first/Answers.antt" % NUMBER[n]
+        runs = " ".join("g.P%d.Parser.run" % k for k in upto(n))
+        write(path, LAW_ANSWERS, n=n, number=NUMBER[n], runs=runs)
+
+
+if __name__ == "__main__":
+    write_sequences()
+    write_choices()
+    write_laws()
