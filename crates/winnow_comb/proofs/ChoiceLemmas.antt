@@ -1,0 +1,88 @@
+-- The branches of a slice, one by one.
+use Rattle.std.proofs.Common.{◌≡◌, ℕ, ◌+◌, ◌<◌, List, [], ◌∷◌, ◌++◌, length, get_or, refl, sym, ap, ◌∙◌, subst, append_assoc, arith, inr, Err, length-append}
+use Rattle.std.specs.Prelude.{slice_set}
+use Rattle.std.proofs.lemmas.List.{get_or_at, length_push}
+use Rattle.std.proofs.Math.Seq.{set-append_seam}
+use Rattle.streams.specs.Input.{Input, Left, back_at}
+use Rattle.streams.specs.Kind.{Kind, backtrack}
+use Rattle.stream_errors.specs.Form.{Answer}
+use Rattle.winnow_core.specs.Runs.{Runs}
+use Rattle.winnow_comb.specs.AltSlice.{Backtracked, AltSliceRuns}
+
+-- The first k branches backtracked, and the others are as they were: `m` is where the next one starts.
+pub record Earlier {S T O : Type 0} (run : Runs S T O) (orig now : List S) (i m : Input T) (k : ℕ) : Type 0 where
+  pub before : List S
+  pub ran : List S
+  pub rest : List S
+  pub count : length ran ≡ k
+  pub old : orig ≡ before ++ rest
+  pub new : now ≡ ran ++ rest
+  pub backtracked : Backtracked run i.left before i ran m
+
+pub earlier_none : {S T O : Type 0} (run : Runs S T O) (s : List S) (i : Input T) → Earlier run s s i i 0
+earlier_none run s i = record { before = []; ran = []; rest = s; count = refl; old = refl; new = refl; backtracked = refl }
+
+backtracked_more : {S T O : Type 0} (run : Runs S T O) (start : Left T) (before : List S) (i : Input T) (ran : List S) (m : Input T) (x y : S) (a : Input T)
+    → Backtracked run start before i ran m → run x m (Err backtrack) y a → Backtracked run start (before ++ x ∷ []) i (ran ++ y ∷ []) (back_at start a)
+backtracked_more run start [] i [] m x y a e r = (a, subst (λ z. run x z (Err backtrack) y a) e r, refl)
+backtracked_more run start [] i (t ∷ ts) m x y a h r = absurd h
+backtracked_more run start (s ∷ ss) i [] m x y a h r = absurd h
+backtracked_more run start (s ∷ ss) i (t ∷ ts) m x y a (n, q, h) r = (n, q, backtracked_more run start ss (back_at start n) ts m x y a h r)
+
+-- the branch k begins the rest
+rest_of : {S : Type 0} (ran rest now : List S) (k : ℕ) (item d : S) → length ran ≡ k → now ≡ ran ++ rest → k < length now → item ≡ get_or now k d → (tail : List S) × (rest ≡ item ∷ tail)
+rest_of ran [] now k item d count e within is = absurd (omega (arith, ap (λ l. length l) e, length-append ran []))
+rest_of ran (x ∷ tail) now k item d count e within is =
+    let same : x ≡ item = sym (is ∙ ap (λ l. get_or l k d) e ∙ get_or_at ran x tail d k count) in
+    (tail, ap (λ z. z ∷ tail) same)
+
+-- a write at the branch k
+set_at : {S : Type 0} (ran tail now : List S) (k : ℕ) (item new : S) → length ran ≡ k → now ≡ ran ++ item ∷ tail → slice_set now k new ≡ ran ++ new ∷ tail
+set_at ran tail now k item new count e =
+    ap (λ l. slice_set l k new) e ∙ ap (λ n. slice_set (ran ++ item ∷ tail) n new) (sym count) ∙ set-append_seam ran item tail new
+
+length-zero : {S : Type 0} (xs : List S) → length xs ≡ 0 → xs ≡ []
+length-zero [] e = refl
+length-zero (x ∷ xs) e = absurd (omega (arith, e))
+
+module _ {S T O : Type 0} (run : Runs S T O) (orig now : List S) (i m : Input T) (k : ℕ) (item d new : S) (p : Earlier run orig now i m k) (within : k < length now) (is : item ≡ get_or now k d) where
+  tail : (tail : List S) × (p.rest ≡ item ∷ tail)
+  tail = rest_of p.ran p.rest now k item d p.count p.new within is
+
+  old_split : orig ≡ p.before ++ item ∷ tail.0
+  old_split = p.old ∙ ap (λ z. p.before ++ z) tail.1
+
+  now_split : now ≡ p.ran ++ item ∷ tail.0
+  now_split = p.new ∙ ap (λ z. p.ran ++ z) tail.1
+
+  new_split : slice_set now k new ≡ p.ran ++ new ∷ tail.0
+  new_split = set_at p.ran tail.0 now k item new p.count now_split
+
+  pub earlier_more : (start : Left T) (a j : Input T) → start ≡ i.left → run item m (Err backtrack) new a → j ≡ back_at start a → Earlier run orig (slice_set now k new) i j (k + 1)
+  earlier_more start a j from r back = record {
+    before = p.before ++ item ∷ [];
+    ran = p.ran ++ new ∷ [];
+    rest = tail.0;
+    count = length_push p.ran new ∙ ap (λ n. n + 1) p.count;
+    old = old_split ∙ sym (append_assoc p.before (item ∷ []) tail.0);
+    new = new_split ∙ sym (append_assoc p.ran (new ∷ []) tail.0);
+    backtracked =
+        subst (λ z. Backtracked run i.left (p.before ++ item ∷ []) i (p.ran ++ new ∷ []) z) (ap (λ x. back_at x a) (sym from) ∙ sym back)
+        (backtracked_more run i.left p.before i p.ran m item new a p.backtracked r);
+  }
+
+  pub answered : (asserted : Kind) (answer : Answer O) (j : Input T) → run item m answer new j → (answer ≡ Err backtrack → k + 1 ≡ length now) → AltSliceRuns run asserted orig i answer (slice_set now k new) j
+  answered asserted answer j r last =
+      inr (
+        p.before,
+        item,
+        tail.0,
+        p.ran,
+        new,
+        m,
+        old_split,
+        new_split,
+        p.backtracked,
+        r,
+        (λ e. length-zero tail.0 (omega (arith, last e, ap (λ l. length l) now_split, length-append p.ran (item ∷ tail.0), p.count))),
+      )

@@ -1,0 +1,3 @@
+pub mod ChoiceLemmas
+pub mod ChoiceLaws
+pub mod RepeatLemmas

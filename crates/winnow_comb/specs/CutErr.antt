@@ -1,0 +1,13 @@
+-- A child whose errors cut.
+use Rattle.std.specs.Prelude.{◌≡◌, Ok, Err, ◌⊎◌}
+use Rattle.streams.specs.Kind.{Kind}
+use Rattle.stream_errors.specs.Mode.{cut_of}
+use Rattle.winnow_core.specs.Runs.{Runs}
+
+-- A run of a child whose errors cut where they backtracked.
+abbrev pub CutErrRuns : {S T O : Type 0} → Runs S T O → Runs S T O
+CutErrRuns {S} {T} {O} run s i answer t j =
+    -- the child succeeds
+    ((o : O) × run s i (Ok o) t j × (answer ≡ Ok o))
+    -- the child fails
+    ⊎ ((k : Kind) × run s i (Err k) t j × (answer ≡ Err (cut_of k)))

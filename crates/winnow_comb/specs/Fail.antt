@@ -1,0 +1,9 @@
+-- The parser that fails.
+use Rattle.std.specs.Prelude.{◌≡◌, Err}
+use Rattle.streams.specs.Input.{Input}
+use Rattle.streams.specs.Kind.{backtrack}
+use Rattle.stream_errors.specs.Form.{Answer}
+
+-- A run that backtracks and takes nothing.
+abbrev pub FailRuns : {T O : Type 0} → Input T → Answer O → Input T → Type 0
+FailRuns i answer j = (answer ≡ Err backtrack) × (j ≡ i)

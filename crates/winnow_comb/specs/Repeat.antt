@@ -1,0 +1,60 @@
+-- Repetition.
+use Rattle.std.specs.Prelude.{◌≡◌, ◌<◌, ◌≤◌, ℕ, List, [], ◌∷◌, length, Option, Some, None, Ok, Err, ◌⊎◌}
+use Rattle.streams.specs.Input.{Input, back_at}
+use Rattle.streams.specs.Kind.{Kind, backtrack, memory}
+use Rattle.stream_errors.specs.Form.{Answer}
+use Rattle.winnow_core.specs.Runs.{Runs}
+use Rattle.stream_sets.specs.Range.{IsWithin, IsBelow}
+use Rattle.winnow_comb.specs.Chain.{Chain, Accumulates}
+
+-- What an accumulator is to a repetition: the empty ones, how one takes an output, and when a request for memory may be refused.
+pub record Accumulator (C O : Type 0) : Type 1 where
+  pub starts : C → Type 0
+  pub takes : C → O → C → Type 0
+  pub start_grows : Type 0
+  pub grows : C → Type 0
+
+-- What ends a repetition of at least `least` items and at most the greatest number, behind the items of a chain.
+abbrev pub RepeatEnds : {S T O C : Type 0} → Runs S T O → Accumulator C O → Kind → ℕ → Option ℕ → C → List O → S → Input T → Answer C → S → Input T → Type 0
+RepeatEnds {S} {T} {O} {C} run into asserted least greatest before outputs u m answer t j =
+    -- the greatest number is reached
+    ((all : C) × (greatest ≡ Some (length outputs)) × Accumulates into.takes before outputs all × (answer ≡ Ok all) × (t ≡ u) × (j ≡ m))
+    -- an item backtracks and there are enough: back before it
+    ⊎ (((all : C) × (x : Input T) × IsBelow greatest (length outputs) × (least ≤ length outputs) × run u m (Err backtrack) t x × Accumulates into.takes before outputs all × (answer ≡ Ok all) × (j ≡ back_at m.left x))
+    -- an item fails: by another kind, or too early
+    ⊎ (((k : Kind) × IsBelow greatest (length outputs) × run u m (Err k) t j × (k ≡ backtrack → length outputs < least) × (answer ≡ Err k))
+    -- an item consumes nothing
+    ⊎ (((o : O) × IsBelow greatest (length outputs) × run u m (Ok o) t j × (j.left.tokens ≡ m.left.tokens) × (answer ≡ Err asserted))
+    -- an item is one too many for the memory
+    ⊎ ((o : O) × (some : C) × IsBelow greatest (length outputs) × run u m (Ok o) t j × Accumulates into.takes before outputs some × into.grows some × (answer ≡ Err memory)))))
+
+-- A chain of items, and what ended it.
+abbrev pub ItemsRun : {S T O C : Type 0} → Runs S T O → Accumulator C O → Kind → ℕ → Option ℕ → C → S → Input T → Answer C → S → Input T → Type 0
+ItemsRun {S} {T} {O} {C} run into asserted least greatest before s i answer t j =
+    (outputs : List O) × (u : S) × (m : Input T) × Chain run s i outputs u m × RepeatEnds run into asserted least greatest before outputs u m answer t j
+
+-- One item or more: the first may consume nothing, and the accumulator is made behind it.
+abbrev pub RepeatOneRuns : {S T O C : Type 0} → Runs S T O → Accumulator C O → Kind → S → Input T → Answer C → S → Input T → Type 0
+RepeatOneRuns {S} {T} {O} {C} run into asserted s i answer t j =
+    -- the first item fails
+    ((k : Kind) × run s i (Err k) t j × (answer ≡ Err k))
+    -- it is followed by others
+    ⊎ (((o : O) × (v : S) × (n : Input T) × (empty : C) × (one : C) × run s i (Ok o) v n × into.starts empty × into.takes empty o one × ItemsRun run into asserted 0 None one v n answer t j)
+    -- there is no memory for an accumulator, or for the first item in it
+    ⊎ ((o : O) × run s i (Ok o) t j × (into.start_grows ⊎ ((empty : C) × into.starts empty × into.grows empty)) × (answer ≡ Err memory)))
+
+-- At least `least` items and at most the greatest number.
+abbrev pub RepeatManyRuns : {S T O C : Type 0} → Runs S T O → Accumulator C O → Kind → ℕ → Option ℕ → S → Input T → Answer C → S → Input T → Type 0
+RepeatManyRuns {S} {T} {O} {C} run into asserted least greatest s i answer t j =
+    -- the greatest number is below the least
+    ((most : ℕ) × (greatest ≡ Some most) × (most < least) × (answer ≡ Err asserted) × (t ≡ s) × (j ≡ i))
+    -- there is no memory for an accumulator
+    ⊎ ((IsWithin greatest least × into.start_grows × (answer ≡ Err memory) × (t ≡ s) × (j ≡ i))
+    -- the items
+    ⊎ ((empty : C) × IsWithin greatest least × into.starts empty × ItemsRun run into asserted least greatest empty s i answer t j))
+
+-- A repetition: the form `1..` has its own rule for the first item.
+abbrev pub RepeatRuns : {S T O C : Type 0} → Runs S T O → Accumulator C O → Kind → ℕ → Option ℕ → S → Input T → Answer C → S → Input T → Type 0
+RepeatRuns {S} {T} {O} {C} run into asserted least greatest s i answer t j =
+    ((least ≡ 1) × (greatest ≡ None) × RepeatOneRuns run into asserted s i answer t j)
+    ⊎ (((least ≡ 1) × (greatest ≡ None) → ⊥) × RepeatManyRuns run into asserted least greatest s i answer t j)

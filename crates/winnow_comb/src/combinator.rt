@@ -1,0 +1,13 @@
+//! Combinators.
+pub mod basic;
+pub mod branch;
+pub mod impls;
+pub mod multi;
+pub mod sequence;
+#[cfg(test)]
+mod tests;
+
+pub use crate::combinator::basic::{backtrack_err, cond, cut_err, empty, fail, not, opt, peek};
+pub use crate::combinator::branch::alt;
+pub use crate::combinator::multi::repeat;
+pub use crate::combinator::sequence::{delimited, preceded, separated_pair, terminated};

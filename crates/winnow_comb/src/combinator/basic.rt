@@ -1,0 +1,209 @@
+//! Combinators of one parser, and parsers that take nothing.
+ghost use Rattle.std.specs.Prelude.{◌≡◌};
+ghost use Rattle.streams.specs.Input.{IsEndOf};
+ghost use Rattle.stream_errors.specs.Form.{answer_by};
+ghost use Rattle.winnow_comb.specs.Empty.{EmptyRuns};
+ghost use Rattle.winnow_comb.specs.Fail.{FailRuns};
+ghost use Rattle.winnow_comb.specs.Parts.{opt_parser, cond_condition, cond_parser, peek_parser, not_parser, cut_err_parser, backtrack_err_parser};
+
+use crate::combinator::impls::{BacktrackErr, Cond, CutErr, Not, Opt, Peek};
+use std::marker::PhantomData;
+use stream_errors::modal::ModalError;
+use stream_errors::parser_error::ParserError;
+use streams::stream::Stream;
+use winnow_core::parser::Parser;
+
+/// A parser of `parser` or of nothing, as winnow's documentation has it.
+///
+/// Where `parser` backtracks the output is `None`, and the input is back at the start. Its other
+/// errors, cut, incomplete and want of memory, are handed on, with the input as it left it.
+///
+/// ```text
+/// opt(b'a').parse_next(&mut b"ab".as_slice())   is Ok(Some(b'a')), and b"b" is left
+/// opt(b'a').parse_next(&mut b"b".as_slice())    is Ok(None), and b"b" is left
+/// ```
+#[inline(always)]
+pub fn opt<Input, Output, Error, ParseNext>(
+    parser: ParseNext,
+) -> Opt<ParseNext, Input, Output, Error>
+where
+    Input: Stream,
+    ParseNext: Parser<Input, Output, Error>,
+    Error: ParserError<Input>,
+    ensures { opt_parser result ≡ parser }
+{
+    Opt {
+        parser,
+        input: PhantomData,
+        output: PhantomData,
+        error: PhantomData,
+    }
+}
+
+/// A parser that runs `parser` only where `condition` holds, as winnow's documentation has it.
+///
+/// Where it does not hold the output is `None`, and nothing is run. Where it holds the output is
+/// that of `parser`, and each of its errors is handed on, with the input as it left it.
+///
+/// ```text
+/// cond(true, b'a').parse_next(&mut b"ab".as_slice())    is Ok(Some(b'a')), and b"b" is left
+/// cond(false, b'a').parse_next(&mut b"ab".as_slice())   is Ok(None), and b"ab" is left
+/// ```
+#[inline(always)]
+pub fn cond<Input, Output, Error, ParseNext>(
+    condition: bool,
+    parser: ParseNext,
+) -> Cond<ParseNext, Input, Output, Error>
+where
+    Input: Stream,
+    ParseNext: Parser<Input, Output, Error>,
+    Error: ParserError<Input>,
+    ensures condition { cond_condition result ≡ condition }
+    ensures parser { cond_parser result ≡ parser }
+{
+    Cond {
+        condition,
+        parser,
+        input: PhantomData,
+        output: PhantomData,
+        error: PhantomData,
+    }
+}
+
+/// A parser that answers as `parser` does and consumes nothing, as winnow's documentation has it.
+/// Known as `look_ahead` and `rewind` too.
+///
+/// Whatever `parser` answers, an output or an error of any kind, the input is back at the start.
+///
+/// ```text
+/// peek(b'a').parse_next(&mut b"ab".as_slice())   is Ok(b'a'), and b"ab" is left
+/// ```
+#[inline(always)]
+pub fn peek<Input, Output, Error, ParseNext>(
+    parser: ParseNext,
+) -> Peek<ParseNext, Input, Output, Error>
+where
+    Input: Stream,
+    ParseNext: Parser<Input, Output, Error>,
+    Error: ParserError<Input>,
+    ensures { peek_parser result ≡ parser }
+{
+    Peek {
+        parser,
+        input: PhantomData,
+        output: PhantomData,
+        error: PhantomData,
+    }
+}
+
+/// A parser that succeeds where `parser` does not, and consumes nothing, as winnow's documentation
+/// has it.
+///
+/// Where `parser` backtracks the output is `()`, and where it succeeds this backtracks. Its other
+/// errors, cut, incomplete and want of memory, are handed on. In each case the input is back at
+/// the start.
+///
+/// ```text
+/// not(b'a').parse_next(&mut b"b".as_slice())   is Ok(()), and b"b" is left
+/// not(b'a').parse_next(&mut b"a".as_slice())   backtracks, and b"a" is left
+/// ```
+#[inline(always)]
+pub fn not<Input, Output, Error, ParseNext>(
+    parser: ParseNext,
+) -> Not<ParseNext, Input, Output, Error>
+where
+    Input: Stream,
+    ParseNext: Parser<Input, Output, Error>,
+    Error: ParserError<Input>,
+    ensures { not_parser result ≡ parser }
+{
+    Not {
+        parser,
+        input: PhantomData,
+        output: PhantomData,
+        error: PhantomData,
+    }
+}
+
+/// A parser that cuts where `parser` backtracks, so that no other branch is tried, as winnow's
+/// documentation has it.
+///
+/// An output is handed on, and so is an error that cuts, is incomplete or wants memory. The input
+/// stands where `parser` left it.
+///
+/// ```text
+/// cut_err(b'a').parse_next(&mut b"b".as_slice())   cuts, and b"b" is left
+/// ```
+#[inline(always)]
+pub fn cut_err<Input, Output, Error, ParseNext>(
+    parser: ParseNext,
+) -> CutErr<ParseNext, Input, Output, Error>
+where
+    Input: Stream,
+    Error: ParserError<Input> + ModalError,
+    ParseNext: Parser<Input, Output, Error>,
+    ensures { cut_err_parser result ≡ parser }
+{
+    CutErr {
+        parser,
+        input: PhantomData,
+        output: PhantomData,
+        error: PhantomData,
+    }
+}
+
+/// A parser that backtracks where `parser` cuts, so that another branch may be tried, as winnow's
+/// documentation has it.
+///
+/// An output is handed on, and so is an error that backtracks, is incomplete or wants memory. The
+/// input stands where `parser` left it.
+///
+/// ```text
+/// backtrack_err(cut_err(b'a')).parse_next(&mut b"b".as_slice())   backtracks, and b"b" is left
+/// ```
+#[inline(always)]
+pub fn backtrack_err<Input, Output, Error, ParseNext>(
+    parser: ParseNext,
+) -> BacktrackErr<ParseNext, Input, Output, Error>
+where
+    Input: Stream,
+    Error: ParserError<Input> + ModalError,
+    ParseNext: Parser<Input, Output, Error>,
+    ensures { backtrack_err_parser result ≡ parser }
+{
+    BacktrackErr {
+        parser,
+        input: PhantomData,
+        output: PhantomData,
+        error: PhantomData,
+    }
+}
+
+/// Succeeds, and consumes nothing, as winnow's documentation has it. Known as `value` and
+/// `success` too.
+///
+/// ```text
+/// empty(&mut b"a".as_slice())   is Ok(()), and b"a" is left
+/// ```
+#[inline(always)]
+pub fn empty<Input: Stream, Error: ParserError<Input>>(_input: &mut Input) -> Result<(), Error>
+    ensures ran { EmptyRuns (Input.view _input.old) (answer_by Error.kind result) (Input.view _input.new) }
+    ensures ends { IsEndOf Input.reading (Input.view _input.new) (Input.view _input.old) }
+{
+    Ok(())
+}
+
+/// Backtracks, and consumes nothing, as winnow's documentation has it. Known as `unexpected` too.
+///
+/// ```text
+/// fail::<_, u8, _>(&mut b"a".as_slice())   backtracks, and b"a" is left
+/// ```
+#[inline(always)]
+pub fn fail<Input: Stream, Output, Error: ParserError<Input>>(
+    input: &mut Input,
+) -> Result<Output, Error>
+    ensures ran { FailRuns (Input.view input.old) (answer_by Error.kind result) (Input.view input.new) }
+    ensures ends { IsEndOf Input.reading (Input.view input.new) (Input.view input.old) }
+{
+    Err(Error::from_input(input))
+}

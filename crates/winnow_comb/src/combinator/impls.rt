@@ -1,0 +1,12 @@
+//! The parsers that the combinators make.
+pub mod basic;
+pub mod branch;
+pub mod repeat;
+pub mod sequence;
+
+pub use crate::combinator::impls::basic::{
+    BacktrackErr, Cond, CutErr, Empty, Fail, Not, Opt, Peek,
+};
+pub use crate::combinator::impls::branch::{Alt, AltParser};
+pub use crate::combinator::impls::repeat::Repeat;
+pub use crate::combinator::impls::sequence::{Delimited, Preceded, SeparatedPair, Terminated};

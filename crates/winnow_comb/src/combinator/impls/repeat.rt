@@ -1,0 +1,162 @@
+//! Repetition.
+ghost use Rattle.std.specs.Prelude.{◌≡◌, ◌<◌, ℕ, Some, MatchBool};
+ghost use Rattle.streams.specs.Input.{IsEndOf};
+ghost use Rattle.stream_errors.specs.Form.{answer_by, asserted};
+ghost use Rattle.stream_sets.specs.Range.{greatest_of, IsWithin};
+ghost use Rattle.winnow_comb.specs.Repeat.{RepeatRuns, RepeatOneRuns, RepeatManyRuns, ItemsRun};
+
+use std::alloc::Allocator;
+use std::marker::PhantomData;
+use stream_errors::parser_error::ParserError;
+use stream_sets::accumulate::Accumulate;
+use stream_sets::range::Range;
+use streams::stream::Stream;
+use winnow_core::parser::Parser;
+
+/// The parser that [`repeat`](crate::combinator::repeat) makes.
+///
+/// ```text
+/// repeat(alloc, Range::from(2), b'a')   is a Repeat
+/// ```
+#[derive(Drop)]
+pub struct Repeat<P, I, O, C, E, A> {
+    pub(crate) alloc: A,
+    pub(crate) occurrences: Range,
+    pub(crate) parser: P,
+    pub(crate) input: PhantomData<I>,
+    pub(crate) output: PhantomData<O>,
+    pub(crate) accumulator: PhantomData<C>,
+    pub(crate) error: PhantomData<E>,
+}
+
+impl<
+    P: Parser<I, O, E>,
+    I: Stream,
+    O: Drop,
+    C: Accumulate<O, A>,
+    E: ParserError<I>,
+    A: Allocator + Copy,
+> Parser<I, C, E> for Repeat<P, I, O, C, E, A> {
+    ghost can_parse = { λ s. P.can_parse s.parser };
+
+    ghost run = { λ s i answer t j. RepeatRuns P.run (record { starts = C.starts; takes = C.takes; start_grows = C.start_grows; grows = C.grows }) (asserted E.form) s.occurrences.start_inclusive (greatest_of s.occurrences.start_inclusive s.occurrences.end_inclusive) s.parser i answer t.parser j × (t.occurrences ≡ s.occurrences) };
+
+    fn parse_next(&mut self, input: &mut I) -> Result<C, E> {
+        let least = self.occurrences.start_inclusive;
+        match self.occurrences.greatest() {
+            None => {
+                if least == 1 {
+                    repeat_one(self.alloc, &mut self.parser, input)
+                } else {
+                    repeat_many(self.alloc, least, None, &mut self.parser, input)
+                }
+            }
+            Some(most) => repeat_many(self.alloc, least, Some(most), &mut self.parser, input),
+        }
+    }
+}
+
+/// Whether the greatest count is below the least.
+fn is_descending(least: usize, greatest: Option<usize>) -> bool
+    ensures { MatchBool result ((most : ℕ) × (greatest ≡ Some most) × (most < least)) (IsWithin greatest least) }
+{
+    match greatest {
+        Some(most) => most < least,
+        None => false,
+    }
+}
+
+/// Repeats from `least` times on, to `greatest` times if there is a bound.
+fn repeat_many<
+    P: Parser<I, O, E>,
+    I: Stream,
+    O: Drop,
+    C: Accumulate<O, A>,
+    E: ParserError<I>,
+    A: Allocator + Copy,
+>(alloc: A, least: usize, greatest: Option<usize>, parser: &mut P, input: &mut I) -> Result<C, E>
+    requires { P.can_parse parser.old }
+    ensures again { P.can_parse parser.new }
+    ensures ran { RepeatManyRuns P.run (record { starts = C.starts; takes = C.takes; start_grows = C.start_grows; grows = C.grows }) (asserted E.form) least greatest parser.old (I.view input.old) (answer_by E.kind result) parser.new (I.view input.new) }
+    ensures ends { IsEndOf I.reading (I.view input.new) (I.view input.old) }
+{
+    if is_descending(least, greatest) {
+        return Err(E::assert(input, "the greatest count is below the least"));
+    }
+    match C::initial(alloc, greatest) {
+        Ok(all) => repeat_items(all, least, greatest, parser, input),
+        Err(_) => Err(E::no_memory(input)),
+    }
+}
+
+/// Repeats once or more: the accumulator is made behind the first item.
+fn repeat_one<
+    P: Parser<I, O, E>,
+    I: Stream,
+    O: Drop,
+    C: Accumulate<O, A>,
+    E: ParserError<I>,
+    A: Allocator + Copy,
+>(alloc: A, parser: &mut P, input: &mut I) -> Result<C, E>
+    requires { P.can_parse parser.old }
+    ensures again { P.can_parse parser.new }
+    ensures ran { RepeatOneRuns P.run (record { starts = C.starts; takes = C.takes; start_grows = C.start_grows; grows = C.grows }) (asserted E.form) parser.old (I.view input.old) (answer_by E.kind result) parser.new (I.view input.new) }
+    ensures ends { IsEndOf I.reading (I.view input.new) (I.view input.old) }
+{
+    let first = parser.parse_next(input)?;
+    let mut all = match C::initial(alloc, None) {
+        Ok(all) => all,
+        Err(_) => return Err(E::no_memory(input)),
+    };
+    match all.accumulate(first) {
+        Ok(()) => repeat_items(all, 0, None, parser, input),
+        Err(_) => Err(E::no_memory(input)),
+    }
+}
+
+/// Repeats into an accumulator, at least `missing` times and at most `room` times.
+fn repeat_items<
+    P: Parser<I, O, E>,
+    I: Stream,
+    O: Drop,
+    C: Accumulate<O, A>,
+    E: ParserError<I>,
+    A: Allocator + Copy,
+>(all: C, missing: usize, room: Option<usize>, parser: &mut P, input: &mut I) -> Result<C, E>
+    requires parser { P.can_parse parser.old }
+    requires range { IsWithin room missing }
+    ensures again { P.can_parse parser.new }
+    ensures ran { ItemsRun P.run (record { starts = C.starts; takes = C.takes; start_grows = C.start_grows; grows = C.grows }) (asserted E.form) missing room all parser.old (I.view input.old) (answer_by E.kind result) parser.new (I.view input.new) }
+    ensures ends { IsEndOf I.reading (I.view input.new) (I.view input.old) }
+{
+    let mut all = all;
+    let mut missing = missing;
+    let mut room = room;
+    'items: loop {
+        if room == Some(0) {
+            return Ok(all);
+        }
+        let start = input.checkpoint();
+        let left = input.eof_offset();
+        match parser.parse_next(input) {
+            Ok(output) => {
+                if input.eof_offset() == left {
+                    return Err(E::assert(input, "each item must consume"));
+                }
+                match all.accumulate(output) {
+                    Ok(()) => {}
+                    Err(_) => return Err(E::no_memory(input)),
+                }
+                missing = missing.saturating_sub(1);
+                room = room.map(|n: usize| n.saturating_sub(1));
+            }
+            Err(error) => {
+                if missing == 0 && error.is_backtrack() {
+                    input.reset(&start);
+                    return Ok(all);
+                }
+                return Err(error);
+            }
+        }
+    }
+}

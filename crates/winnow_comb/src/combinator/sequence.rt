@@ -1,0 +1,156 @@
+//! Combinators of children in order.
+ghost use Rattle.std.specs.Prelude.{◌≡◌};
+ghost use Rattle.winnow_comb.specs.Parts.{preceded_ignored, preceded_parser, terminated_parser, terminated_ignored, separated_pair_first, separated_pair_separator, separated_pair_second, delimited_ignored1, delimited_parser, delimited_ignored2};
+
+use crate::combinator::impls::{Delimited, Preceded, SeparatedPair, Terminated};
+use std::marker::PhantomData;
+use stream_errors::parser_error::ParserError;
+use streams::stream::Stream;
+use winnow_core::parser::Parser;
+
+/// A parser of `ignored` and then `parser`, with the output of `parser`, as winnow's documentation
+/// has it.
+///
+/// The first failure is handed on, with the input as the failing parser left it.
+///
+/// ```text
+/// preceded(b'(', b'a').parse_next(&mut b"(a)".as_slice())   is Ok(b'a'), and b")" is left
+/// preceded(b'(', b'a').parse_next(&mut b"(b)".as_slice())   backtracks, and b"b)" is left
+/// ```
+#[inline(always)]
+pub fn preceded<Input, Ignored, Output, Error, IgnoredParser, ParseNext>(
+    ignored: IgnoredParser,
+    parser: ParseNext,
+) -> Preceded<IgnoredParser, ParseNext, Input, Ignored, Output, Error>
+where
+    Input: Stream,
+    Error: ParserError<Input>,
+    IgnoredParser: Parser<Input, Ignored, Error>,
+    ParseNext: Parser<Input, Output, Error>,
+    ensures ignored { preceded_ignored result ≡ ignored }
+    ensures parser { preceded_parser result ≡ parser }
+{
+    Preceded {
+        ignored,
+        parser,
+        input: PhantomData,
+        output1: PhantomData,
+        output2: PhantomData,
+        error: PhantomData,
+    }
+}
+
+/// A parser of `parser` and then `ignored`, with the output of `parser`, as winnow's documentation
+/// has it.
+///
+/// The first failure is handed on, with the input as the failing parser left it.
+///
+/// ```text
+/// terminated(b'a', b';').parse_next(&mut b"a;b".as_slice())   is Ok(b'a'), and b"b" is left
+/// terminated(b'a', b';').parse_next(&mut b"ab".as_slice())    backtracks, and b"b" is left
+/// ```
+#[inline(always)]
+pub fn terminated<Input, Output, Ignored, Error, ParseNext, IgnoredParser>(
+    parser: ParseNext,
+    ignored: IgnoredParser,
+) -> Terminated<ParseNext, IgnoredParser, Input, Output, Ignored, Error>
+where
+    Input: Stream,
+    Error: ParserError<Input>,
+    ParseNext: Parser<Input, Output, Error>,
+    IgnoredParser: Parser<Input, Ignored, Error>,
+    ensures parser { terminated_parser result ≡ parser }
+    ensures ignored { terminated_ignored result ≡ ignored }
+{
+    Terminated {
+        parser,
+        ignored,
+        input: PhantomData,
+        output1: PhantomData,
+        output2: PhantomData,
+        error: PhantomData,
+    }
+}
+
+/// A parser of `first`, `separator` and `second`, with the outputs of the first and the last, as
+/// winnow's documentation has it.
+///
+/// The first failure is handed on, with the input as the failing parser left it.
+///
+/// ```text
+/// separated_pair(b'a', b'=', b'b').parse_next(&mut b"a=b".as_slice())
+///     is Ok((b'a', b'b')), and nothing is left
+/// ```
+#[inline(always)]
+pub fn separated_pair<Input, Output1, Sep, Output2, Error, Parser1, SepParser, Parser2>(
+    first: Parser1,
+    separator: SepParser,
+    second: Parser2,
+) -> SeparatedPair<Parser1, SepParser, Parser2, Input, Output1, Sep, Output2, Error>
+where
+    Input: Stream,
+    Error: ParserError<Input>,
+    Parser1: Parser<Input, Output1, Error>,
+    SepParser: Parser<Input, Sep, Error>,
+    Parser2: Parser<Input, Output2, Error>,
+    ensures first { separated_pair_first result ≡ first }
+    ensures separator { separated_pair_separator result ≡ separator }
+    ensures second { separated_pair_second result ≡ second }
+{
+    SeparatedPair {
+        first,
+        separator,
+        second,
+        input: PhantomData,
+        output1: PhantomData,
+        output2: PhantomData,
+        output3: PhantomData,
+        error: PhantomData,
+    }
+}
+
+/// A parser of `ignored1`, `parser` and `ignored2`, with the output of `parser`, as winnow's
+/// documentation has it.
+///
+/// The first failure is handed on, with the input as the failing parser left it.
+///
+/// ```text
+/// delimited(b'(', b'a', b')').parse_next(&mut b"(a);".as_slice())   is Ok(b'a'), and b";" is left
+/// delimited(b'(', b'a', b')').parse_next(&mut b"(a;".as_slice())    backtracks, and b";" is left
+/// ```
+#[inline(always)]
+pub fn delimited<
+    Input,
+    Ignored1,
+    Output,
+    Ignored2,
+    Error,
+    IgnoredParser1,
+    ParseNext,
+    IgnoredParser2,
+>(
+    ignored1: IgnoredParser1,
+    parser: ParseNext,
+    ignored2: IgnoredParser2,
+) -> Delimited<IgnoredParser1, ParseNext, IgnoredParser2, Input, Ignored1, Output, Ignored2, Error>
+where
+    Input: Stream,
+    Error: ParserError<Input>,
+    IgnoredParser1: Parser<Input, Ignored1, Error>,
+    ParseNext: Parser<Input, Output, Error>,
+    IgnoredParser2: Parser<Input, Ignored2, Error>,
+    ensures ignored1 { delimited_ignored1 result ≡ ignored1 }
+    ensures parser { delimited_parser result ≡ parser }
+    ensures ignored2 { delimited_ignored2 result ≡ ignored2 }
+{
+    Delimited {
+        ignored1,
+        parser,
+        ignored2,
+        input: PhantomData,
+        output1: PhantomData,
+        output2: PhantomData,
+        output3: PhantomData,
+        error: PhantomData,
+    }
+}
