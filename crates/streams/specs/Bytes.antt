@@ -24,14 +24,14 @@ bytes_reading = record {
   units_positive = λ x xs. length-positive x xs;
   advance_none = λ p. refl;
   advance_add = λ p m n. refl;
-  advance_further = λ p n k. refl
+  advance_further = λ p n k. refl;
 }
 
 -- what is left of a slice of which a part is left
 pub slice_ends : (n : ℕ) (xs : List ℕ) → IsEndOf bytes_reading (bytes_input (take (length xs - n) (drop n xs))) (bytes_input xs)
 slice_ends n xs = record {
   ends = record { dropped = take n xs; tokens = sym (ap (λ ys. take n xs ++ ys) (take_rest xs n) ∙ take-append-drop n xs); place = refl; possible = refl };
-  cut = refl
+  cut = refl;
 }
 
 -- each place up to the end is between two bytes, or at an end

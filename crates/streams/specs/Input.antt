@@ -66,7 +66,7 @@ ends_refl reading a = record {
   dropped = [];
   tokens = refl;
   place = sym (ap (λ n. reading.advance a.place n) (units-nil reading) ∙ reading.advance_none a.place);
-  possible = refl
+  possible = refl;
 }
 
 pub ends_trans : {T S : Type 0} {reading : Reading T S} {a b c : Left T} → Ends reading c b → Ends reading b a → Ends reading c a
@@ -74,7 +74,7 @@ ends_trans {reading = reading} {a = a} {b = b} {c = c} p q = record {
   dropped = q.dropped ++ p.dropped;
   tokens = q.tokens ∙ ap (λ x. q.dropped ++ x) p.tokens ∙ sym (append_assoc q.dropped p.dropped c.tokens);
   place = p.place ∙ ap (λ x. reading.advance x (reading.units p.dropped)) q.place ∙ reading.advance_add a.place (reading.units q.dropped) (reading.units p.dropped) ∙ ap (λ n. reading.advance a.place n) (sym (reading.units_add q.dropped p.dropped));
-  possible = p.possible ∙ q.possible
+  possible = p.possible ∙ q.possible;
 }
 
 -- an end has no more tokens than the whole
@@ -116,8 +116,8 @@ ends_of_start {reading = reading} {b = b} e p = let P : Left _ → Type 0 = λ y
 -- inputs that are the same in each part are the same
 same_parts : {T : Type 0} (a b : Input T) → a.left.tokens ≡ b.left.tokens → a.left.place ≡ b.left.place → a.left.possible ≡ b.left.possible → a.side ≡ b.side → a ≡ b
 same_parts {T} a b tokens place possible side =
-  let make : List T → Place → Bool → Side → Input T = λ t p q s. record { left = record { tokens = t; place = p; possible = q }; side = s } in
-  ap (λ t. make t a.left.place a.left.possible a.side) tokens
+    let make : List T → Place → Bool → Side → Input T = λ t p q s. record { left = record { tokens = t; place = p; possible = q }; side = s } in
+    ap (λ t. make t a.left.place a.left.possible a.side) tokens
     ∙ ap (λ p. make b.left.tokens p a.left.possible a.side) place
     ∙ ap (λ q. make b.left.tokens b.left.place q a.side) possible
     ∙ ap (λ s. make b.left.tokens b.left.place b.left.possible s) side
@@ -133,4 +133,4 @@ same_rest (x ∷ xs) ys zs e = same_rest xs ys zs (same_others e)
 -- Back at the start of a run, the tokens that it passed lead to its end again.
 pub passed_again : {T S : Type 0} {reading : Reading T S} {i j k : Input T} (e : IsEndOf reading j i) → Passes reading e.ends.dropped (back_at i.left j) k → k ≡ j
 passed_again {i = i} {j = j} {k = k} e p =
-  same_parts k j (sym (same_rest e.ends.dropped j.left.tokens k.left.tokens (sym e.ends.tokens ∙ p.tokens))) (p.place ∙ sym e.ends.place) (p.possible ∙ sym e.ends.possible) p.side
+    same_parts k j (sym (same_rest e.ends.dropped j.left.tokens k.left.tokens (sym e.ends.tokens ∙ p.tokens))) (p.place ∙ sym e.ends.place) (p.possible ∙ sym e.ends.possible) p.side

@@ -10,6 +10,7 @@ use Rattle.stream_sets.specs.Range.{IsBelow}
 use Rattle.streams.specs.Kind.{Kind}
 use Rattle.stream_errors.specs.Form.{Answer}
 use Rattle.winnow_comb.specs.Chain.{Chain, IsItem, Accumulates}
+use Rattle.winnow_comb.specs.RepeatLaws.{RunsAtMostOnceAUnit}
 use Rattle.winnow_comb.specs.Repeat.{Accumulator, RepeatManyRuns, RepeatRuns}
 
 pub chain_none : {S T O : Type 0} (run : Runs S T O) (s : S) (i : Input T) → Chain run s i [] s i
@@ -96,3 +97,16 @@ many_runs run into asserted least given greatest s i answer t j same other ran =
 
 pub some_is_none : {m : ℕ} → Some m ≡ None → ⊥
 some_is_none e = cc
+
+-- tokens take at least as many units as they are
+length-units : {T S : Type 0} (reading : Reading T S) (xs : List T) → length xs ≤ reading.units xs
+length-units reading [] = omega arith
+length-units reading (x ∷ xs) = omega (arith, length-units reading xs, reading.units_add (x ∷ []) xs, reading.units_positive x [])
+
+-- each item of a chain drops a token
+chain-length : {S T O : Type 0} (run : Runs S T O) (outputs : List O) (s : S) (i : Input T) (t : S) (j : Input T) → FoldsTo (λ p o q. IsItem run p o q) (s, i) outputs (t, j) → length outputs + length j.left.tokens ≤ length i.left.tokens
+chain-length run [] s i t j e = omega (arith, ap (λ p. length p.1.left.tokens) e)
+chain-length run (o ∷ os) s i t j (p, item, rest) = omega (arith, item.1, chain-length run os p.0 p.1 t j rest)
+
+pub runs_at_most_once_a_unit : {S T L O : Type 0} (reading : Reading T L) (run : Runs S T O) → RunsAtMostOnceAUnit reading.units run
+runs_at_most_once_a_unit reading run s i outputs t j c = omega (arith, chain-length run outputs s i t j c.runs, length-units reading i.left.tokens)

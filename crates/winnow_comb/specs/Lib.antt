@@ -21,3 +21,4 @@ pub mod ChoiceLaws
 pub mod Chain
 pub mod Repeat
 pub mod RepeatParts
+pub mod RepeatLaws

@@ -12,3 +12,4 @@ pub mod Take
 pub mod Func
 pub mod Whole
 pub mod Parts
+pub mod Laws

@@ -6,6 +6,7 @@
 #![tactic(auto, using(crate::specs::Ends::ends_follow))]
 
 pub mod combinator;
+pub mod laws;
 pub mod parser;
 #[cfg(test)]
 mod tests;

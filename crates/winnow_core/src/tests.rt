@@ -160,3 +160,43 @@ fn whole_parses(rt: HostRuntime) {
     };
     assert_eq!(rt; failed.offset(), 0);
 }
+
+#[test]
+fn adapters(rt: HostRuntime) {
+    let first = left_by::<&[u8], usize, EmptyError, _>(b"ab".map(|s: &[u8]| s.len()), b"abc");
+    assert_eq!(rt; first, (true, false, 1));
+    let dropped = left_by::<&[u8], (), EmptyError, _>(b"ab".void(), b"abc");
+    assert_eq!(rt; dropped, (true, false, 1));
+    let refused = left_by::<&[u8], u8, EmptyError, _>(
+        b"ab".verify_map(|s: &[u8]| s.get(2).copied()),
+        b"abc",
+    );
+    assert_eq!(rt; refused, (false, true, 3), "the input is back at the start");
+    let kept = left_by::<&[u8], u8, EmptyError, _>(
+        b"ab".verify_map(|s: &[u8]| s.first().copied()),
+        b"abc",
+    );
+    assert_eq!(rt; kept, (true, false, 1));
+}
+
+#[test]
+fn taken(rt: HostRuntime) {
+    let mut input = b"abc".as_slice();
+    let both: Result<&[u8], EmptyError> = (b'a', b'b').take().parse_next(&mut input);
+    assert_eq!(rt; both.ok(), Some(b"ab".as_slice()));
+    assert_eq!(rt; input, b"c".as_slice());
+}
+
+#[test]
+fn large_tuples(rt: HostRuntime) {
+    let six = (b'a', b'b', b'c', b'd', b'e', b'f');
+    let all = left_by::<&[u8], (u8, u8, u8, u8, u8, u8), EmptyError, _>(six, b"abcdefg");
+    assert_eq!(rt; all, (true, false, 1));
+    let five = (b'a', b'b', b'c', b'd', b'e');
+    let some = left_by::<&[u8], (u8, u8, u8, u8, u8), EmptyError, _>(five, b"abcdx");
+    assert_eq!(rt; some, (false, true, 1));
+    let one = left_by::<&[u8], (u8,), EmptyError, _>((b'a',), b"abc");
+    assert_eq!(rt; one, (true, false, 2));
+    let none = left_by::<&[u8], (), EmptyError, _>((), b"abxsbsh");
+    assert_eq!(rt; none, (true, false, 7));
+}

@@ -3,6 +3,7 @@ ghost use Rattle.std.specs.Prelude.{⊤};
 
 mod basic;
 mod branch;
+mod multi;
 mod sequence;
 
 use std::fmt::Debug;

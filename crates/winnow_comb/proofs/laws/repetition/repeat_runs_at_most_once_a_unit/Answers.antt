@@ -1,0 +1,5 @@
+use Rattle.winnow_comb.proofs.RepeatLemmas.{runs_at_most_once_a_unit}
+use Rattle.winnow_comb.proofs.laws.repetition.repeat_runs_at_most_once_a_unit.Goals as goal
+
+pub returns : goal.returns
+returns g c = runs_at_most_once_a_unit g.I.Stream.reading g.P.Parser.run
