@@ -1,6 +1,6 @@
 -- What a comparison answers.
-use Rattle.std.specs.Prelude.{◌≡◌, ◌≤◌, ◌<◌, ℕ, List, [], ◌∷◌, ◌++◌, length, take, drop}
-use Rattle.std.proofs.Common.{refl, sym, ap, subst, ◌∙◌}
+use Rattle.std.specs.Prelude.{◌≡◌, ℕ, List, ◌∷◌, ◌++◌, length}
+use Rattle.std.proofs.Common.{sym, ap, ◌∙◌}
 use Rattle.stream_sets.specs.declared.compare.CompareResult.{CompareResult}
 use Rattle.stream_sets.specs.declared.compare.CompareResult.TheVariants.{Ok, Incomplete, Error}
 

@@ -1,2 +1,3 @@
+pub mod AsChar
 pub mod Compare
 pub mod Range

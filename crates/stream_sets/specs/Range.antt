@@ -1,6 +1,5 @@
 -- How many times something may stand.
 use Rattle.std.specs.Prelude.{◌≡◌, ◌<◌, ◌≤◌, ◌-◌, ◌^◌, ℕ, nat_le, if◌then◌else◌, Option, Some, None, ⊤, MatchOption}
-use Rattle.std.proofs.Common.{refl, arith}
 use Rattle.std.proofs.lemmas.Bool.{le-leb, lt-leb}
 
 -- The greatest count by the least and the written greatest one. The forms `0..` and `1..` have none; another range with no greatest count has the greatest number of its type.

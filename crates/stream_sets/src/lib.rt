@@ -1,7 +1,10 @@
-//! What parsers ask of the tokens of a stream: counts, sets of tokens and comparisons.
+//! What parsers ask of the tokens of a stream: counts, classes of characters, sets of tokens and
+//! comparisons.
 #![tactic(auto)]
 
 pub mod accumulate;
+pub mod as_char;
+pub mod classes;
 pub mod compare;
 pub mod range;
 pub mod sets;

@@ -1,4 +1,4 @@
-use Rattle.std.proofs.Common.{◌≡◌, ◌∙◌, sym, ap, refl, ℕ, List, ◌++◌, length, drop, arith}
+use Rattle.std.proofs.Common.{sym, refl, length, drop, arith}
 use Rattle.std.proofs.lemmas.Bool.{both_ways}
 use Rattle.std.proofs.lemmas.Slice.Eq.{starts_is}
 use Rattle.stream_sets.proofs.CompareLemmas.{eqb-Decides, StandsFirst-length, IsShort-length, IsShort-of_beginning, StandsFirst-begins}

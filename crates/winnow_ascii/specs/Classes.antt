@@ -1,0 +1,29 @@
+-- The parsers of classes of characters: takes of their members.
+use Rattle.std.specs.Prelude.{◌↔◌, ℕ, IsTrue, None}
+use Rattle.streams.specs.Input.{Input}
+use Rattle.streams.specs.Reading.{Reading}
+use Rattle.streams.specs.Stream.{AnswersSeen}
+use Rattle.stream_errors.specs.Form.{ErrorForm, Answer}
+use Rattle.stream_sets.specs.AsChar.{IsAlphanum, IsDecDigit, IsSpace, IsMultispace}
+use Rattle.winnow_core.specs.TakeWhile.{TakeWhileRuns}
+
+-- A run of a take of the characters of a class, of at least `least` and with no greatest number. The tokens have the numbers `code`, and are seen by `seen`.
+abbrev pub ClassRuns : {K T S : Type 0} → (ℕ → Type 0) → ℕ → (K → ℕ) → (K → T) → Reading T S → ErrorForm → Input T → Answer S → Input T → Type 0
+ClassRuns class least code seen reading form i answer j =
+    TakeWhileRuns reading form (AnswersSeen seen (λ t b. IsTrue b ↔ class (code t))) least None i answer j
+
+-- One digit or more.
+abbrev pub DigitRuns : {K T S : Type 0} → (K → ℕ) → (K → T) → Reading T S → ErrorForm → Input T → Answer S → Input T → Type 0
+DigitRuns = ClassRuns IsDecDigit 1
+
+-- One letter or digit or more.
+abbrev pub AlphanumericRuns : {K T S : Type 0} → (K → ℕ) → (K → T) → Reading T S → ErrorForm → Input T → Answer S → Input T → Type 0
+AlphanumericRuns = ClassRuns IsAlphanum 1
+
+-- Any number of spaces and tabs.
+abbrev pub SpaceRuns : {K T S : Type 0} → (K → ℕ) → (K → T) → Reading T S → ErrorForm → Input T → Answer S → Input T → Type 0
+SpaceRuns = ClassRuns IsSpace 0
+
+-- One space, tab, carriage return or line feed, or more.
+abbrev pub MultispaceRuns : {K T S : Type 0} → (K → ℕ) → (K → T) → Reading T S → ErrorForm → Input T → Answer S → Input T → Type 0
+MultispaceRuns = ClassRuns IsMultispace 1

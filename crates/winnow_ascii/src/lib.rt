@@ -1,0 +1,9 @@
+//! The parsers of ASCII's classes of characters.
+//!
+//! Each is a take of the members of a class, by a definition of `specs/Classes.antt`. They work on
+//! each stream whose tokens are characters, as bytes and text.
+#![tactic(auto, using(crate::specs::Ends::ends_follow))]
+
+pub mod ascii;
+#[cfg(test)]
+mod tests;
