@@ -114,6 +114,57 @@ SequenceRuns0 s i answer t j = (answer ≡ Ok tt) × (j ≡ i)
 """
 
 
+def end_chain(steps):
+    """That the end of these steps, the last one first, is an end of their start."""
+    if len(steps) == 1:
+        return steps[0]
+    return "is_end_of_trans%s %s" % ("" if len(steps) == 2 else len(steps), " ".join("(%s)" % step for step in steps))
+
+
+def sequence_end_case(n, failing):
+    """That a run of n children that all succeed, or of which one fails, leaves an end."""
+    ran = failing or n
+    succeeding = ran - 1 if failing else n
+    names = ["o%d" % k for k in upto(succeeding)] + (["k"] if failing else [])
+    names += [BETWEEN[k - 1] for k in upto(ran - 1)] + ["r%d" % k for k in upto(ran)]
+    names += ["same%d" % k for k in range(ran + 1, n + 1)] + ["is"]
+    steps = []
+    for k in range(ran, 0, -1):
+        before = "i" if k == 1 else BETWEEN[k - 2]
+        after = "j" if k == ran else BETWEEN[k - 1]
+        answer = "(Err k)" if k == failing else "(Ok o%d)" % k
+        steps.append("ends%d s.%d %s %s t.%d %s r%d" % (k, k - 1, before, answer, k - 1, after, k))
+    return injected(failing, n + 1, "(%s)" % ", ".join(names) if failing == n else ", ".join(names)), end_chain(steps)
+
+
+def sequence_ends_law(n):
+    """The law that a sequence of n children leaves an end where they do."""
+    types = ["S%d" % k for k in upto(n)] + ["T", "L"] + ["O%d" % k for k in upto(n)]
+    runs = " ".join("(run%d : Runs S%d T O%d)" % (k, k, k) for k in upto(n))
+    laws = " → ".join("LeaveEnds reading run%d" % k for k in upto(n))
+    arguments = " ".join("run%d" % k for k in upto(n))
+    whole = "λ s i answer t j. SequenceRuns%d %s s i answer t j" % (n, arguments)
+    name = "sequence%d_ends" % n
+    lines = ["pub %s : {%s : Type 0} (reading : Reading T L) %s → %s → LeaveEnds reading (%s)" % (name, " ".join(types), runs, laws, whole)]
+    for failing in range(n + 1):
+        case, term = sequence_end_case(n, failing)
+        lines.append("%s reading %s %s s i answer t j (%s) = %s" % (name, arguments, " ".join("ends%d" % k for k in upto(n)), case, term))
+    return "\n".join(lines)
+
+
+SEQUENCE_ENDS = """-- Sequences leave an end of their input, where their children do.
+-- {head}
+use Rattle.std.specs.Prelude.{{Ok, Err}}
+use Rattle.std.proofs.Common.{{inl, inr}}
+use Rattle.streams.specs.Input.{{is_end_of_trans, is_end_of_trans3, is_end_of_trans4, is_end_of_trans5, is_end_of_trans6}}
+use Rattle.streams.specs.Reading.{{Reading}}
+use Rattle.winnow_core.specs.Runs.{{Runs, LeaveEnds}}
+use Rattle.winnow_core.specs.Sequence.{{{names}}}
+
+{family}
+"""
+
+
 def bounds(n, output):
     return ", ".join("P%d: Parser<I, %s, E>" % (k, output(k)) for k in upto(n))
 
@@ -128,6 +179,8 @@ def sequence_impl(n):
         "",
         "    ghost run = { λ s i answer t j. SequenceRuns%d %s s i answer t j };" % (n, " ".join("P%d.run" % k for k in upto(n))),
         "",
+        "    ghost leaves_ends = { sequence%d_ends I.reading %s };" % (n, " ".join(["P%d.run" % k for k in upto(n)] + ["P%d.leaves_ends" % k for k in upto(n)])),
+        "",
         "    #[inline(always)]",
         "    fn parse_next(&mut self, input: &mut I) -> Result<%s, E> {" % outputs,
     ]
@@ -140,7 +193,9 @@ SEQUENCE_IMPLS = """//! Tuples: their members run in order, and the first failur
 //!
 //! {head}
 ghost use Rattle.std.specs.Prelude.{{◌≡◌}};
+ghost use Rattle.winnow_core.specs.RunEnds.{{same_ends}};
 ghost use Rattle.winnow_core.specs.Sequence.{{{names}}};
+ghost use Rattle.winnow_core.specs.SequenceEnds.{{{laws}}};
 
 use crate::parser::Parser;
 use stream_errors::parser_error::ParserError;
@@ -149,6 +204,8 @@ use streams::stream::Stream;
 /// Nothing is run, and nothing taken.
 impl<I: Stream, E: ParserError<I>> Parser<I, (), E> for () {{
     ghost run = {{ λ s i answer t j. SequenceRuns0 s i answer t j }};
+
+    ghost leaves_ends = {{ λ s i answer t j r. same_ends I.reading i j r.1 }};
 
     #[inline(always)]
     fn parse_next(&mut self, _input: &mut I) -> Result<(), E> {{
@@ -302,7 +359,10 @@ def write_sequences():
     core = "crates/winnow_core/"
     write(core + "specs/Sequence.antt", SEQUENCE_SPECS, family="\n\n".join(sequence_spec(n) for n in upto(MOST)))
     names = ", ".join("SequenceRuns%d" % n for n in range(MOST + 1))
-    write(core + "src/parser/tuples.rt", SEQUENCE_IMPLS, names=names, family="\n\n".join(sequence_impl(n) for n in upto(MOST)))
+    some = ", ".join("SequenceRuns%d" % n for n in upto(MOST))
+    write(core + "specs/SequenceEnds.antt", SEQUENCE_ENDS, names=some, family="\n\n".join(sequence_ends_law(n) for n in upto(MOST)))
+    laws = ", ".join("sequence%d_ends" % n for n in upto(MOST))
+    write(core + "src/parser/tuples.rt", SEQUENCE_IMPLS, names=names, laws=laws, family="\n\n".join(sequence_impl(n) for n in upto(MOST)))
     for n in (5, 6):
         ends = "\nuse Rattle.streams.specs.Input.{is_end_of_trans6}" if n == MOST else ""
         path = core + "proofs/parser/tuples/Tuple%dParser/parse_next/Answers.antt" % n

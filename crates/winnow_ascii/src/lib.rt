@@ -2,7 +2,7 @@
 //!
 //! Each is a take of the members of a class, by a definition of `specs/Classes.antt`. They work on
 //! each stream whose tokens are characters, as bytes and text.
-#![tactic(auto, using(crate::specs::Ends::ends_follow))]
+#![tactic(auto)]
 
 pub mod ascii;
 #[cfg(test)]

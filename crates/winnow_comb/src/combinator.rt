@@ -1,4 +1,5 @@
 //! Combinators.
+#![tactic(auto, using(crate::specs::Ends::ends_follow))]
 pub mod basic;
 pub mod branch;
 pub mod impls;

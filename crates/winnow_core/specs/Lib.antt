@@ -10,6 +10,8 @@ pub mod VerifyMap
 pub mod Void
 pub mod Take
 pub mod Func
+pub mod RunEnds
+pub mod SequenceEnds
 pub mod Whole
 pub mod Parts
 pub mod Laws

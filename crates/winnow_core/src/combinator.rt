@@ -1,4 +1,6 @@
 //! Parsers that ask for nothing but a place in the input.
+#![tactic(auto, using(crate::specs::Ends::ends_follow))]
+
 ghost use Rattle.streams.specs.Input.{IsEndOf};
 ghost use Rattle.stream_errors.specs.Form.{answer_by};
 ghost use Rattle.winnow_core.specs.Eof.{EofRuns};

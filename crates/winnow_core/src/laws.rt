@@ -1,7 +1,7 @@
 //! Laws of the parsers, for those that build on them.
-ghost use Rattle.streams.specs.Input.{IsEndOf};
 ghost use Rattle.winnow_core.specs.Laws.{GoesBackOnRefusal};
 ghost use Rattle.winnow_core.specs.Parts.{verify_map_parser};
+ghost use Rattle.winnow_core.specs.Runs.{LeaveEnds};
 
 use crate::combinator::impls::VerifyMap;
 use crate::parser::Parser;
@@ -9,20 +9,9 @@ use stream_errors::parser_error::ParserError;
 use streams::stream::Stream;
 
 /// After `parse_next` the input is an end of the input before, whatever it answers.
-///
-/// ```text
-/// leaves_an_end(&mut parser, &mut input)   is parser.parse_next(&mut input)
-/// ```
-#[inline(always)]
-pub fn leaves_an_end<P: Parser<I, O, E>, I: Stream, O, E: ParserError<I>>(
-    parser: &mut P,
-    input: &mut I,
-) -> Result<O, E>
-    requires { P.can_parse parser.old }
-    ensures { IsEndOf I.reading (I.view input.new) (I.view input.old) }
-{
-    parser.parse_next(input)
-}
+pub fn leaves_an_end<P: Parser<I, O, E>, I: Stream, O, E: ParserError<I>>()
+    ensures { LeaveEnds I.reading P.run }
+{}
 
 /// Where [`verify_map`](crate::parser::Parser::verify_map) backtracks though its parser succeeded,
 /// the input is back where it was.

@@ -3,7 +3,7 @@
 //! A parser is proved to be its definition: each implementation of
 //! [`Parser`](crate::parser::Parser) says by its ghost member `run` which runs it has, by a
 //! definition of `specs/` with the parser's name, over the runs of its children.
-#![tactic(auto, using(crate::specs::Ends::ends_follow))]
+#![tactic(auto)]
 
 pub mod combinator;
 pub mod laws;

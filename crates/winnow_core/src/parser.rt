@@ -1,8 +1,11 @@
 //! The trait of parsers.
+#![tactic(auto, using(crate::specs::Ends::ends_follow))]
+
 ghost use Rattle.std.specs.Prelude.{◌≡◌, false, ⊤};
 ghost use Rattle.streams.specs.Input.{Input, Left, Ends, IsEndOf};
 ghost use Rattle.stream_errors.specs.Form.{Answer, answer_by};
 ghost use Rattle.winnow_core.specs.Parts.{map_parser, map_closure, verify_map_parser, verify_map_closure, void_parser, take_parser};
+ghost use Rattle.winnow_core.specs.Runs.{LeaveEnds};
 ghost use Rattle.winnow_core.specs.Whole.{IsFaultAt, ParsesWhole};
 
 mod func;
@@ -162,6 +165,9 @@ pub trait Parser<I: Stream, O, E: ParserError<I>> {
             error: PhantomData,
         }
     }
+
+    // Each run leaves an end of its input.
+    ghost leaves_ends: { LeaveEnds I.reading run };
 }
 
 /// The fault of an error that arose where `input` stands.

@@ -1,4 +1,6 @@
 //! Parsers that take tokens.
+#![tactic(auto, using(crate::specs::Ends::ends_follow))]
+
 ghost use Rattle.std.specs.Prelude.{◌≡◌};
 ghost use Rattle.streams.specs.Input.{IsEndOf};
 ghost use Rattle.stream_errors.specs.Form.{answer_by};

@@ -1,6 +1,7 @@
 //! The parsers of the module above and the adapters of `Parser`, as structs.
 ghost use Rattle.std.specs.Prelude.{◌≡◌};
 ghost use Rattle.winnow_core.specs.Eof.{EofRuns};
+ghost use Rattle.winnow_core.specs.RunEnds.{eof_ends};
 
 mod map;
 mod take;
@@ -22,6 +23,8 @@ pub struct Eof;
 
 impl<I: Stream, E: ParserError<I>> Parser<I, I::Slice, E> for Eof {
     ghost run = { λ s i answer t j. EofRuns I.reading i answer j × (t ≡ s) };
+
+    ghost leaves_ends = { λ s i answer t j r. eof_ends I.reading i answer j r.0 };
 
     #[inline(always)]
     fn parse_next(&mut self, input: &mut I) -> Result<I::Slice, E> {

@@ -19,7 +19,9 @@ impl<F: FnMut(&mut I) -> Result<O, E>, I: Stream, O, E: ParserError<I>> Parser<I
     for Func<F> {
     ghost can_parse = { λ s. F.IsAlwaysCallable s.0 × LeavesEnds I.reading I.view (CalledAtMut F.FnMut) };
 
-    ghost run = { λ s i answer t j. FuncRuns I.view E.kind (CalledAtMut F.FnMut) s.0 i answer t.0 j };
+    ghost run = { λ s i answer t j. FuncRuns I.reading I.view E.kind (CalledAtMut F.FnMut) s.0 i answer t.0 j };
+
+    ghost leaves_ends = { λ s i answer t j r. r.1 };
 
     #[inline(always)]
     fn parse_next(&mut self, input: &mut I) -> Result<O, E> {

@@ -1,6 +1,7 @@
 //! Values that are parsers of themselves.
 ghost use Rattle.std.specs.Prelude.{◌≡◌};
 ghost use Rattle.winnow_core.specs.Literal.{LiteralRuns};
+ghost use Rattle.winnow_core.specs.RunEnds.{literal_ends};
 
 use crate::parser::Parser;
 use crate::token::take_literal;
@@ -15,6 +16,8 @@ use streams::stream::StreamIsPartial;
 impl<I: StreamIsPartial + Compare<u8>, E: ParserError<I>> Parser<I, u8, E> for u8 {
     ghost run = { λ s i answer t j. LiteralRuns I.reading E.form (I.spells s) (λ _. s) i answer j × (t ≡ s) };
 
+    ghost leaves_ends = { λ s i answer t j r. literal_ends I.reading E.form (I.spells s) (λ _. s) i answer j r.0 };
+
     #[inline(always)]
     fn parse_next(&mut self, input: &mut I) -> Result<u8, E> {
         let _slice = take_literal(input, *self)?;
@@ -26,6 +29,8 @@ impl<I: StreamIsPartial + Compare<u8>, E: ParserError<I>> Parser<I, u8, E> for u
 impl<'t, I: StreamIsPartial + Compare<&'t [u8]>, E: ParserError<I>> Parser<I, I::Slice, E>
     for &'t [u8] {
     ghost run = { λ s i answer t j. LiteralRuns I.reading E.form (I.spells s) (λ slice. slice) i answer j × (t ≡ s) };
+
+    ghost leaves_ends = { λ s i answer t j r. literal_ends I.reading E.form (I.spells s) (λ slice. slice) i answer j r.0 };
 
     #[inline(always)]
     fn parse_next(&mut self, input: &mut I) -> Result<I::Slice, E> {
@@ -40,6 +45,8 @@ impl<'t, const N: usize, I: StreamIsPartial + Compare<&'t [u8; N]>, E: ParserErr
     E,
 > for &'t [u8; N] {
     ghost run = { λ s i answer t j. LiteralRuns I.reading E.form (I.spells s) (λ slice. slice) i answer j × (t ≡ s) };
+
+    ghost leaves_ends = { λ s i answer t j r. literal_ends I.reading E.form (I.spells s) (λ slice. slice) i answer j r.0 };
 
     #[inline(always)]
     fn parse_next(&mut self, input: &mut I) -> Result<I::Slice, E> {

@@ -2,7 +2,9 @@
 //!
 //! Written by scripts/families.py.
 ghost use Rattle.std.specs.Prelude.{◌≡◌};
+ghost use Rattle.winnow_core.specs.RunEnds.{same_ends};
 ghost use Rattle.winnow_core.specs.Sequence.{SequenceRuns0, SequenceRuns1, SequenceRuns2, SequenceRuns3, SequenceRuns4, SequenceRuns5, SequenceRuns6};
+ghost use Rattle.winnow_core.specs.SequenceEnds.{sequence1_ends, sequence2_ends, sequence3_ends, sequence4_ends, sequence5_ends, sequence6_ends};
 
 use crate::parser::Parser;
 use stream_errors::parser_error::ParserError;
@@ -11,6 +13,8 @@ use streams::stream::Stream;
 /// Nothing is run, and nothing taken.
 impl<I: Stream, E: ParserError<I>> Parser<I, (), E> for () {
     ghost run = { λ s i answer t j. SequenceRuns0 s i answer t j };
+
+    ghost leaves_ends = { λ s i answer t j r. same_ends I.reading i j r.1 };
 
     #[inline(always)]
     fn parse_next(&mut self, _input: &mut I) -> Result<(), E> {
@@ -22,6 +26,8 @@ impl<I: Stream, O1, E: ParserError<I>, P1: Parser<I, O1, E>> Parser<I, (O1,), E>
     ghost can_parse = { λ s. P1.can_parse s.0 };
 
     ghost run = { λ s i answer t j. SequenceRuns1 P1.run s i answer t j };
+
+    ghost leaves_ends = { sequence1_ends I.reading P1.run P1.leaves_ends };
 
     #[inline(always)]
     fn parse_next(&mut self, input: &mut I) -> Result<(O1,), E> {
@@ -38,6 +44,8 @@ impl<I: Stream, O1: Drop, O2, E: ParserError<I>, P1: Parser<I, O1, E>, P2: Parse
     ghost can_parse = { λ s. P1.can_parse s.0 × P2.can_parse s.1 };
 
     ghost run = { λ s i answer t j. SequenceRuns2 P1.run P2.run s i answer t j };
+
+    ghost leaves_ends = { sequence2_ends I.reading P1.run P2.run P1.leaves_ends P2.leaves_ends };
 
     #[inline(always)]
     fn parse_next(&mut self, input: &mut I) -> Result<(O1, O2), E> {
@@ -60,6 +68,8 @@ impl<
     ghost can_parse = { λ s. P1.can_parse s.0 × P2.can_parse s.1 × P3.can_parse s.2 };
 
     ghost run = { λ s i answer t j. SequenceRuns3 P1.run P2.run P3.run s i answer t j };
+
+    ghost leaves_ends = { sequence3_ends I.reading P1.run P2.run P3.run P1.leaves_ends P2.leaves_ends P3.leaves_ends };
 
     #[inline(always)]
     fn parse_next(&mut self, input: &mut I) -> Result<(O1, O2, O3), E> {
@@ -85,6 +95,8 @@ impl<
     ghost can_parse = { λ s. P1.can_parse s.0 × P2.can_parse s.1 × P3.can_parse s.2 × P4.can_parse s.3 };
 
     ghost run = { λ s i answer t j. SequenceRuns4 P1.run P2.run P3.run P4.run s i answer t j };
+
+    ghost leaves_ends = { sequence4_ends I.reading P1.run P2.run P3.run P4.run P1.leaves_ends P2.leaves_ends P3.leaves_ends P4.leaves_ends };
 
     #[inline(always)]
     fn parse_next(&mut self, input: &mut I) -> Result<(O1, O2, O3, O4), E> {
@@ -113,6 +125,8 @@ impl<
     ghost can_parse = { λ s. P1.can_parse s.0 × P2.can_parse s.1 × P3.can_parse s.2 × P4.can_parse s.3 × P5.can_parse s.4 };
 
     ghost run = { λ s i answer t j. SequenceRuns5 P1.run P2.run P3.run P4.run P5.run s i answer t j };
+
+    ghost leaves_ends = { sequence5_ends I.reading P1.run P2.run P3.run P4.run P5.run P1.leaves_ends P2.leaves_ends P3.leaves_ends P4.leaves_ends P5.leaves_ends };
 
     #[inline(always)]
     fn parse_next(&mut self, input: &mut I) -> Result<(O1, O2, O3, O4, O5), E> {
@@ -144,6 +158,8 @@ impl<
     ghost can_parse = { λ s. P1.can_parse s.0 × P2.can_parse s.1 × P3.can_parse s.2 × P4.can_parse s.3 × P5.can_parse s.4 × P6.can_parse s.5 };
 
     ghost run = { λ s i answer t j. SequenceRuns6 P1.run P2.run P3.run P4.run P5.run P6.run s i answer t j };
+
+    ghost leaves_ends = { sequence6_ends I.reading P1.run P2.run P3.run P4.run P5.run P6.run P1.leaves_ends P2.leaves_ends P3.leaves_ends P4.leaves_ends P5.leaves_ends P6.leaves_ends };
 
     #[inline(always)]
     fn parse_next(&mut self, input: &mut I) -> Result<(O1, O2, O3, O4, O5, O6), E> {

@@ -4,6 +4,7 @@ ghost use Rattle.streams.specs.Stream.{AnswersSeen};
 ghost use Rattle.winnow_core.specs.Literal.{LiteralRuns};
 ghost use Rattle.stream_sets.specs.Range.{greatest_of};
 ghost use Rattle.winnow_core.specs.TakeWhile.{TakeWhileRuns};
+ghost use Rattle.winnow_core.specs.RunEnds.{literal_ends, take_while_ends};
 
 use crate::parser::Parser;
 use crate::token::members::take_members;
@@ -31,6 +32,8 @@ impl<T: Copy, I: StreamIsPartial + Compare<T>, E: ParserError<I>> Parser<I, I::S
     for Literal<T, I, E> {
     ghost run = { λ s i answer t j. LiteralRuns I.reading E.form (I.spells s.literal) (λ slice. slice) i answer j × (t ≡ s) };
 
+    ghost leaves_ends = { λ s i answer t j r. literal_ends I.reading E.form (I.spells s.literal) (λ slice. slice) i answer j r.0 };
+
     #[inline(always)]
     fn parse_next(&mut self, input: &mut I) -> Result<I::Slice, E> {
         take_literal(input, self.literal)
@@ -55,6 +58,8 @@ impl<S: ContainsToken<I::Token>, I: StreamIsPartial, E: ParserError<I>> Parser<I
     ghost can_parse = { λ s. S.can_test s.set };
 
     ghost run = { λ s i answer t j. TakeWhileRuns I.reading E.form (AnswersSeen I.seen_as (S.tells s.set)) s.occurrences.start_inclusive (greatest_of s.occurrences.start_inclusive s.occurrences.end_inclusive) i answer j × (t ≡ s) };
+
+    ghost leaves_ends = { λ s i answer t j r. take_while_ends I.reading E.form (AnswersSeen I.seen_as (S.tells s.set)) s.occurrences.start_inclusive (greatest_of s.occurrences.start_inclusive s.occurrences.end_inclusive) i answer j r.0 };
 
     #[inline(always)]
     fn parse_next(&mut self, input: &mut I) -> Result<I::Slice, E> {

@@ -2,6 +2,7 @@
 ghost use Rattle.std.specs.Prelude.{◌≡◌};
 ghost use Rattle.winnow_core.specs.Map.{MapRuns};
 ghost use Rattle.winnow_core.specs.VerifyMap.{VerifyMapRuns};
+ghost use Rattle.winnow_core.specs.RunEnds.{map_ends, verify_map_ends};
 
 use crate::parser::Parser;
 use std::marker::PhantomData;
@@ -28,6 +29,8 @@ impl<F: Parser<I, O, E>, G: FnMut(O) -> O2, I: Stream, O, O2, E: ParserError<I>>
     ghost can_parse = { λ s. F.can_parse s.parser × G.IsAlwaysCallable s.map };
 
     ghost run = { λ s i answer t j. MapRuns F.run G.step s.parser s.map i answer t.parser t.map j };
+
+    ghost leaves_ends = { λ s i answer t j. map_ends I.reading F.run G.step F.leaves_ends s.parser s.map i answer t.parser t.map j };
 
     #[inline(always)]
     fn parse_next(&mut self, input: &mut I) -> Result<O2, E> {
@@ -59,6 +62,8 @@ impl<F: Parser<I, O, E>, G: FnMut(O) -> Option<O2>, I: Stream, O, O2, E: ParserE
     ghost can_parse = { λ s. F.can_parse s.parser × G.IsAlwaysCallable s.filter };
 
     ghost run = { λ s i answer t j. VerifyMapRuns F.run G.step s.parser s.filter i answer t.parser t.filter j };
+
+    ghost leaves_ends = { λ s i answer t j. verify_map_ends I.reading F.run G.step F.leaves_ends s.parser s.filter i answer t.parser t.filter j };
 
     #[inline]
     fn parse_next(&mut self, input: &mut I) -> Result<O2, E> {

@@ -2,6 +2,7 @@
 ghost use Rattle.std.specs.Prelude.{◌≡◌};
 ghost use Rattle.winnow_core.specs.Take.{TakeRuns};
 ghost use Rattle.winnow_core.specs.Void.{VoidRuns};
+ghost use Rattle.winnow_core.specs.RunEnds.{take_ends, void_ends};
 
 use crate::parser::Parser;
 use std::marker::PhantomData;
@@ -26,6 +27,8 @@ impl<F: Parser<I, O, E>, I: Stream, O: Drop, E: ParserError<I>> Parser<I, (), E>
     ghost can_parse = { λ s. F.can_parse s.parser };
 
     ghost run = { λ s i answer t j. VoidRuns F.run s.parser i answer t.parser j };
+
+    ghost leaves_ends = { λ s i answer t j. void_ends I.reading F.run F.leaves_ends s.parser i answer t.parser j };
 
     #[inline(always)]
     fn parse_next(&mut self, input: &mut I) -> Result<(), E> {
@@ -52,6 +55,8 @@ impl<F: Parser<I, O, E>, I: Stream, O: Drop, E: ParserError<I>> Parser<I, I::Sli
     ghost can_parse = { λ s. F.can_parse s.parser };
 
     ghost run = { λ s i answer t j. TakeRuns I.reading F.run s.parser i answer t.parser j };
+
+    ghost leaves_ends = { λ s i answer t j. take_ends I.reading F.run F.leaves_ends s.parser i answer t.parser j };
 
     #[inline]
     fn parse_next(&mut self, input: &mut I) -> Result<I::Slice, E> {

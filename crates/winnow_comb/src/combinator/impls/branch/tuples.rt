@@ -19,8 +19,7 @@ impl<I: Stream, O, E: ParserError<I>, P1: Parser<I, O, E>> Alt<I, O, E> for (P1,
     }
 }
 
-impl<I: Stream, O, E: ParserError<I>, P1: Parser<I, O, E>, P2: Parser<I, O, E>> Alt<I, O, E>
-    for (P1, P2) {
+impl<I: Stream, O, E: ParserError<I>, P1: Parser<I, O, E>, P2: Parser<I, O, E>> Alt<I, O, E> for (P1, P2) {
     ghost can_choose = { λ s. P1.can_parse s.0 × P2.can_parse s.1 };
 
     ghost chooses = { λ s i answer t j. AltRuns2 P1.run P2.run s i answer t j };
@@ -35,14 +34,7 @@ impl<I: Stream, O, E: ParserError<I>, P1: Parser<I, O, E>, P2: Parser<I, O, E>> 
     }
 }
 
-impl<
-    I: Stream,
-    O,
-    E: ParserError<I>,
-    P1: Parser<I, O, E>,
-    P2: Parser<I, O, E>,
-    P3: Parser<I, O, E>,
-> Alt<I, O, E> for (P1, P2, P3) {
+impl<I: Stream, O, E: ParserError<I>, P1: Parser<I, O, E>, P2: Parser<I, O, E>, P3: Parser<I, O, E>> Alt<I, O, E> for (P1, P2, P3) {
     ghost can_choose = { λ s. P1.can_parse s.0 × P2.can_parse s.1 × P3.can_parse s.2 };
 
     ghost chooses = { λ s i answer t j. AltRuns3 P1.run P2.run P3.run s i answer t j };
@@ -60,15 +52,7 @@ impl<
     }
 }
 
-impl<
-    I: Stream,
-    O,
-    E: ParserError<I>,
-    P1: Parser<I, O, E>,
-    P2: Parser<I, O, E>,
-    P3: Parser<I, O, E>,
-    P4: Parser<I, O, E>,
-> Alt<I, O, E> for (P1, P2, P3, P4) {
+impl<I: Stream, O, E: ParserError<I>, P1: Parser<I, O, E>, P2: Parser<I, O, E>, P3: Parser<I, O, E>, P4: Parser<I, O, E>> Alt<I, O, E> for (P1, P2, P3, P4) {
     ghost can_choose = { λ s. P1.can_parse s.0 × P2.can_parse s.1 × P3.can_parse s.2 × P4.can_parse s.3 };
 
     ghost chooses = { λ s i answer t j. AltRuns4 P1.run P2.run P3.run P4.run s i answer t j };
@@ -89,16 +73,7 @@ impl<
     }
 }
 
-impl<
-    I: Stream,
-    O,
-    E: ParserError<I>,
-    P1: Parser<I, O, E>,
-    P2: Parser<I, O, E>,
-    P3: Parser<I, O, E>,
-    P4: Parser<I, O, E>,
-    P5: Parser<I, O, E>,
-> Alt<I, O, E> for (P1, P2, P3, P4, P5) {
+impl<I: Stream, O, E: ParserError<I>, P1: Parser<I, O, E>, P2: Parser<I, O, E>, P3: Parser<I, O, E>, P4: Parser<I, O, E>, P5: Parser<I, O, E>> Alt<I, O, E> for (P1, P2, P3, P4, P5) {
     ghost can_choose = { λ s. P1.can_parse s.0 × P2.can_parse s.1 × P3.can_parse s.2 × P4.can_parse s.3 × P5.can_parse s.4 };
 
     ghost chooses = { λ s i answer t j. AltRuns5 P1.run P2.run P3.run P4.run P5.run s i answer t j };
@@ -122,17 +97,7 @@ impl<
     }
 }
 
-impl<
-    I: Stream,
-    O,
-    E: ParserError<I>,
-    P1: Parser<I, O, E>,
-    P2: Parser<I, O, E>,
-    P3: Parser<I, O, E>,
-    P4: Parser<I, O, E>,
-    P5: Parser<I, O, E>,
-    P6: Parser<I, O, E>,
-> Alt<I, O, E> for (P1, P2, P3, P4, P5, P6) {
+impl<I: Stream, O, E: ParserError<I>, P1: Parser<I, O, E>, P2: Parser<I, O, E>, P3: Parser<I, O, E>, P4: Parser<I, O, E>, P5: Parser<I, O, E>, P6: Parser<I, O, E>> Alt<I, O, E> for (P1, P2, P3, P4, P5, P6) {
     ghost can_choose = { λ s. P1.can_parse s.0 × P2.can_parse s.1 × P3.can_parse s.2 × P4.can_parse s.3 × P5.can_parse s.4 × P6.can_parse s.5 };
 
     ghost chooses = { λ s i answer t j. AltRuns6 P1.run P2.run P3.run P4.run P5.run P6.run s i answer t j };
