@@ -320,6 +320,8 @@ def choice_impl(n):
         "",
         "    ghost chooses = { λ s i answer t j. AltRuns%d %s s i answer t j };" % (n, " ".join("P%d.run" % k for k in upto(n))),
         "",
+        "    ghost leaves_ends = { alt%d_ends I.reading %s };" % (n, " ".join(["P%d.run" % k for k in upto(n)] + ["P%d.leaves_ends" % k for k in upto(n)])),
+        "",
         "    #[inline(always)]",
         "    fn choice(&mut self, input: &mut I) -> Result<O, E> {",
     ]
@@ -335,9 +337,55 @@ def choice_impl(n):
     return "\n".join(lines)
 
 
+def choice_end_case(n, answering):
+    """That a run of n branches, of which one answers, leaves an end."""
+    names = [BETWEEN[k - 1] for k in upto(answering - 1)] + ["r%d" % k for k in upto(answering)]
+    if answering < n:
+        names.append("other")
+    names += ["same%d" % k for k in range(answering + 1, n + 1)]
+    steps = []
+    for k in range(answering, 0, -1):
+        before = "i" if k == 1 else "(back_at i.left %s)" % BETWEEN[k - 2]
+        if k == answering:
+            steps.append("ends%d s.%d %s answer t.%d j r%d" % (k, k - 1, before, k - 1, k))
+        else:
+            steps.append("is_end_of_back refl (ends%d s.%d %s (Err backtrack) t.%d %s r%d)" % (k, k - 1, before, k - 1, BETWEEN[k - 1], k))
+    case = names[0] if n == 1 else injected(answering - 1, n, "(%s)" % ", ".join(names) if answering == n else ", ".join(names))
+    return case, end_chain(steps)
+
+
+def choice_ends_law(n):
+    """The law that a choice among n branches leaves an end where they do."""
+    types = ["S%d" % k for k in upto(n)] + ["T", "L", "O"]
+    runs = " ".join("(run%d : Runs S%d T O)" % (k, k) for k in upto(n))
+    laws = " → ".join("LeaveEnds reading run%d" % k for k in upto(n))
+    arguments = " ".join("run%d" % k for k in upto(n))
+    whole = "λ s i answer t j. AltRuns%d %s s i answer t j" % (n, arguments)
+    name = "alt%d_ends" % n
+    lines = ["pub %s : {%s : Type 0} (reading : Reading T L) %s → %s → LeaveEnds reading (%s)" % (name, " ".join(types), runs, laws, whole)]
+    for answering in upto(n):
+        case, term = choice_end_case(n, answering)
+        lines.append("%s reading %s %s s i answer t j (%s) = %s" % (name, arguments, " ".join("ends%d" % k for k in upto(n)), case, term))
+    return "\n".join(lines)
+
+
+CHOICE_ENDS = """-- Choices among the members of a tuple leave an end of their input, where their branches do.
+-- {head}
+use Rattle.std.specs.Prelude.{{Err}}
+use Rattle.std.proofs.Common.{{refl, inl, inr}}
+use Rattle.streams.specs.Input.{{back_at, is_end_of_back, is_end_of_trans, is_end_of_trans3, is_end_of_trans4, is_end_of_trans5, is_end_of_trans6}}
+use Rattle.streams.specs.Kind.{{backtrack}}
+use Rattle.streams.specs.Reading.{{Reading}}
+use Rattle.winnow_core.specs.Runs.{{Runs, LeaveEnds}}
+use Rattle.winnow_comb.specs.AltTuples.{{{names}}}
+
+{family}
+"""
+
 CHOICE_IMPLS = """//! Tuples as branches.
 //!
 //! {head}
+ghost use Rattle.winnow_comb.specs.AltEnds.{{{laws}}};
 ghost use Rattle.winnow_comb.specs.AltTuples.{{{names}}};
 
 use crate::combinator::impls::branch::{{Alt, attempt}};
@@ -373,7 +421,9 @@ def write_choices():
     comb = "crates/winnow_comb/"
     write(comb + "specs/AltTuples.antt", CHOICE_SPECS, family="\n\n".join(choice_spec(n) for n in upto(MOST)))
     names = ", ".join("AltRuns%d" % n for n in upto(MOST))
-    write(comb + "src/combinator/impls/branch/tuples.rt", CHOICE_IMPLS, names=names, family="\n\n".join(choice_impl(n) for n in upto(MOST)))
+    write(comb + "specs/AltEnds.antt", CHOICE_ENDS, names=names, family="\n\n".join(choice_ends_law(n) for n in upto(MOST)))
+    laws = ", ".join("alt%d_ends" % n for n in upto(MOST))
+    write(comb + "src/combinator/impls/branch/tuples.rt", CHOICE_IMPLS, names=names, laws=laws, family="\n\n".join(choice_impl(n) for n in upto(MOST)))
 
 
 # The law of choices.

@@ -22,3 +22,5 @@ pub mod Chain
 pub mod Repeat
 pub mod RepeatParts
 pub mod RepeatLaws
+pub mod RunEnds
+pub mod AltEnds

@@ -1,5 +1,6 @@
 //! Combinators.
 #![tactic(auto, using(crate::specs::Ends::ends_follow))]
+
 pub mod basic;
 pub mod branch;
 pub mod impls;

@@ -8,6 +8,8 @@ ghost use Rattle.winnow_comb.specs.CutErr.{CutErrRuns};
 ghost use Rattle.winnow_comb.specs.BacktrackErr.{BacktrackErrRuns};
 ghost use Rattle.winnow_comb.specs.Empty.{EmptyRuns};
 ghost use Rattle.winnow_comb.specs.Fail.{FailRuns};
+ghost use Rattle.winnow_core.specs.RunEnds.{same_ends};
+ghost use Rattle.winnow_comb.specs.RunEnds.{opt_ends, cond_ends, peek_ends, not_ends, cut_err_ends, backtrack_err_ends};
 
 use crate::combinator::basic::{empty, fail};
 use std::marker::PhantomData;
@@ -34,6 +36,8 @@ impl<P: Parser<I, O, E>, I: Stream, O, E: ParserError<I>> Parser<I, Option<O>, E
     ghost can_parse = { λ s. P.can_parse s.parser };
 
     ghost run = { λ s i answer t j. OptRuns P.run s.parser i answer t.parser j };
+
+    ghost leaves_ends = { λ s i answer t j. opt_ends I.reading P.run P.leaves_ends s.parser i answer t.parser j };
 
     #[inline(always)]
     fn parse_next(&mut self, input: &mut I) -> Result<Option<O>, E> {
@@ -72,6 +76,8 @@ impl<P: Parser<I, O, E>, I: Stream, O, E: ParserError<I>> Parser<I, Option<O>, E
 
     ghost run = { λ s i answer t j. CondRuns s.condition P.run s.parser i answer t.parser j × (t.condition ≡ s.condition) };
 
+    ghost leaves_ends = { λ s i answer t j r. cond_ends I.reading s.condition P.run P.leaves_ends s.parser i answer t.parser j r.0 };
+
     #[inline(always)]
     fn parse_next(&mut self, input: &mut I) -> Result<Option<O>, E> {
         if self.condition {
@@ -101,6 +107,8 @@ impl<P: Parser<I, O, E>, I: Stream, O, E: ParserError<I>> Parser<I, O, E> for Pe
 
     ghost run = { λ s i answer t j. PeekRuns P.run s.parser i answer t.parser j };
 
+    ghost leaves_ends = { λ s i answer t j. peek_ends I.reading P.run P.leaves_ends s.parser i answer t.parser j };
+
     #[inline(always)]
     fn parse_next(&mut self, input: &mut I) -> Result<O, E> {
         let start = input.checkpoint();
@@ -128,6 +136,8 @@ impl<P: Parser<I, O, E>, I: Stream, O: Drop, E: ParserError<I>> Parser<I, (), E>
     ghost can_parse = { λ s. P.can_parse s.parser };
 
     ghost run = { λ s i answer t j. NotRuns P.run s.parser i answer t.parser j };
+
+    ghost leaves_ends = { λ s i answer t j. not_ends I.reading P.run P.leaves_ends s.parser i answer t.parser j };
 
     #[inline(always)]
     fn parse_next(&mut self, input: &mut I) -> Result<(), E> {
@@ -166,6 +176,8 @@ impl<P: Parser<I, O, E>, I: Stream, O, E: ParserError<I> + ModalError> Parser<I,
 
     ghost run = { λ s i answer t j. CutErrRuns P.run s.parser i answer t.parser j };
 
+    ghost leaves_ends = { λ s i answer t j. cut_err_ends I.reading P.run P.leaves_ends s.parser i answer t.parser j };
+
     #[inline(always)]
     fn parse_next(&mut self, input: &mut I) -> Result<O, E> {
         match self.parser.parse_next(input) {
@@ -194,6 +206,8 @@ impl<P: Parser<I, O, E>, I: Stream, O, E: ParserError<I> + ModalError> Parser<I,
 
     ghost run = { λ s i answer t j. BacktrackErrRuns P.run s.parser i answer t.parser j };
 
+    ghost leaves_ends = { λ s i answer t j. backtrack_err_ends I.reading P.run P.leaves_ends s.parser i answer t.parser j };
+
     #[inline(always)]
     fn parse_next(&mut self, input: &mut I) -> Result<O, E> {
         match self.parser.parse_next(input) {
@@ -214,6 +228,8 @@ pub struct Empty;
 impl<I: Stream, E: ParserError<I>> Parser<I, (), E> for Empty {
     ghost run = { λ s i answer t j. EmptyRuns i answer j × (t ≡ s) };
 
+    ghost leaves_ends = { λ s i answer t j r. same_ends I.reading i j r.0.1 };
+
     #[inline(always)]
     fn parse_next(&mut self, input: &mut I) -> Result<(), E> {
         empty(input)
@@ -230,6 +246,8 @@ pub struct Fail;
 
 impl<I: Stream, O, E: ParserError<I>> Parser<I, O, E> for Fail {
     ghost run = { λ s i answer t j. FailRuns i answer j × (t ≡ s) };
+
+    ghost leaves_ends = { λ s i answer t j r. same_ends I.reading i j r.0.1 };
 
     #[inline(always)]
     fn parse_next(&mut self, input: &mut I) -> Result<O, E> {

@@ -2,6 +2,7 @@
 ghost use Rattle.std.specs.Prelude.{◌≡◌, ⊤};
 ghost use Rattle.streams.specs.Input.{Input, IsEndOf};
 ghost use Rattle.stream_errors.specs.Form.{Answer, answer_by};
+ghost use Rattle.winnow_core.specs.Runs.{LeaveEnds};
 ghost use Rattle.winnow_comb.specs.Attempt.{AttemptRuns};
 
 mod slices;
@@ -32,6 +33,9 @@ pub trait Alt<I: Stream, O, E: ParserError<I>> {
         ensures again { can_choose self.new }
         ensures ran { chooses self.old (I.view input.old) (answer_by E.kind result) self.new (I.view input.new) }
         ensures ends { IsEndOf I.reading (I.view input.new) (I.view input.old) };
+
+    // Each run leaves an end of its input.
+    ghost leaves_ends: { LeaveEnds I.reading chooses };
 }
 
 /// The parser that [`alt`](crate::combinator::alt) makes.
@@ -51,6 +55,8 @@ impl<A: Alt<I, O, E>, I: Stream, O, E: ParserError<I>> Parser<I, O, E> for AltPa
     ghost can_parse = { λ s. A.can_choose s.alternatives };
 
     ghost run = { λ s i answer t j. A.chooses s.alternatives i answer t.alternatives j };
+
+    ghost leaves_ends = { λ s i answer t j. A.leaves_ends s.alternatives i answer t.alternatives j };
 
     #[inline(always)]
     fn parse_next(&mut self, input: &mut I) -> Result<O, E> {

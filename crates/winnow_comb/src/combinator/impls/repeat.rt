@@ -4,6 +4,7 @@ ghost use Rattle.streams.specs.Input.{IsEndOf};
 ghost use Rattle.stream_errors.specs.Form.{answer_by, asserted};
 ghost use Rattle.stream_sets.specs.Range.{greatest_of, IsWithin};
 ghost use Rattle.winnow_comb.specs.Repeat.{RepeatRuns, RepeatOneRuns, RepeatManyRuns, ItemsRun};
+ghost use Rattle.winnow_comb.specs.RunEnds.{repeat_ends};
 
 use std::alloc::Allocator;
 use std::marker::PhantomData;
@@ -40,6 +41,8 @@ impl<
     ghost can_parse = { λ s. P.can_parse s.parser };
 
     ghost run = { λ s i answer t j. RepeatRuns P.run (record { starts = C.starts; takes = C.takes; start_grows = C.start_grows; grows = C.grows }) (asserted E.form) s.occurrences.start_inclusive (greatest_of s.occurrences.start_inclusive s.occurrences.end_inclusive) s.parser i answer t.parser j × (t.occurrences ≡ s.occurrences) };
+
+    ghost leaves_ends = { λ s i answer t j r. repeat_ends I.reading P.run (record { starts = C.starts; takes = C.takes; start_grows = C.start_grows; grows = C.grows }) (asserted E.form) s.occurrences.start_inclusive (greatest_of s.occurrences.start_inclusive s.occurrences.end_inclusive) P.leaves_ends s.parser i answer t.parser j r.0 };
 
     fn parse_next(&mut self, input: &mut I) -> Result<C, E> {
         let least = self.occurrences.start_inclusive;

@@ -3,6 +3,7 @@ ghost use Rattle.winnow_comb.specs.Preceded.{PrecededRuns};
 ghost use Rattle.winnow_comb.specs.Terminated.{TerminatedRuns};
 ghost use Rattle.winnow_comb.specs.SeparatedPair.{SeparatedPairRuns};
 ghost use Rattle.winnow_comb.specs.Delimited.{DelimitedRuns};
+ghost use Rattle.winnow_comb.specs.RunEnds.{both_ends, three_ends};
 
 use std::marker::PhantomData;
 use stream_errors::parser_error::ParserError;
@@ -32,6 +33,8 @@ impl<P1: Parser<I, O1, E>, P2: Parser<I, O2, E>, I: Stream, O1: Drop, O2, E: Par
     ghost can_parse = { λ s. P1.can_parse s.ignored × P2.can_parse s.parser };
 
     ghost run = { λ s i answer t j. PrecededRuns P1.run P2.run (s.ignored, s.parser) i answer (t.ignored, t.parser) j };
+
+    ghost leaves_ends = { λ s i answer t j. both_ends I.reading (λ o1 o2. o2) P1.run P2.run P1.leaves_ends P2.leaves_ends (s.ignored, s.parser) i answer (t.ignored, t.parser) j };
 
     #[inline(always)]
     fn parse_next(&mut self, input: &mut I) -> Result<O2, E> {
@@ -66,6 +69,8 @@ impl<
     ghost can_parse = { λ s. P1.can_parse s.parser × P2.can_parse s.ignored };
 
     ghost run = { λ s i answer t j. TerminatedRuns P1.run P2.run (s.parser, s.ignored) i answer (t.parser, t.ignored) j };
+
+    ghost leaves_ends = { λ s i answer t j. both_ends I.reading (λ o1 o2. o1) P1.run P2.run P1.leaves_ends P2.leaves_ends (s.parser, s.ignored) i answer (t.parser, t.ignored) j };
 
     #[inline(always)]
     fn parse_next(&mut self, input: &mut I) -> Result<O1, E> {
@@ -106,6 +111,8 @@ impl<
 
     ghost run = { λ s i answer t j. SeparatedPairRuns P1.run P2.run P3.run (s.first, s.separator, s.second) i answer (t.first, t.separator, t.second) j };
 
+    ghost leaves_ends = { λ s i answer t j. three_ends I.reading (λ o1 o2 o3. (o1, o3)) P1.run P2.run P3.run P1.leaves_ends P2.leaves_ends P3.leaves_ends (s.first, s.separator, s.second) i answer (t.first, t.separator, t.second) j };
+
     #[inline(always)]
     fn parse_next(&mut self, input: &mut I) -> Result<(O1, O3), E> {
         let first = self.first.parse_next(input)?;
@@ -145,6 +152,8 @@ impl<
     ghost can_parse = { λ s. P1.can_parse s.ignored1 × P2.can_parse s.parser × P3.can_parse s.ignored2 };
 
     ghost run = { λ s i answer t j. DelimitedRuns P1.run P2.run P3.run (s.ignored1, s.parser, s.ignored2) i answer (t.ignored1, t.parser, t.ignored2) j };
+
+    ghost leaves_ends = { λ s i answer t j. three_ends I.reading (λ o1 o2 o3. o2) P1.run P2.run P3.run P1.leaves_ends P2.leaves_ends P3.leaves_ends (s.ignored1, s.parser, s.ignored2) i answer (t.ignored1, t.parser, t.ignored2) j };
 
     #[inline(always)]
     fn parse_next(&mut self, input: &mut I) -> Result<O2, E> {

@@ -3,6 +3,7 @@ ghost use Rattle.std.specs.List.{All};
 ghost use Rattle.streams.specs.Input.{IsEndOf};
 ghost use Rattle.stream_errors.specs.Form.{answer_by, asserted};
 ghost use Rattle.winnow_comb.specs.AltSlice.{AltSliceRuns};
+ghost use Rattle.winnow_comb.specs.RunEnds.{alt_slice_ends};
 
 use crate::combinator::impls::branch::{Alt, attempt};
 use stream_errors::parser_error::ParserError;
@@ -14,6 +15,8 @@ impl<const N: usize, I: Stream, O, E: ParserError<I>, P: Parser<I, O, E>> Alt<I,
 
     ghost chooses = { λ s i answer t j. AltSliceRuns P.run (asserted E.form) s i answer t j };
 
+    ghost leaves_ends = { λ s i answer t j. alt_slice_ends I.reading P.run (asserted E.form) P.leaves_ends s i answer t j };
+
     #[inline(always)]
     fn choice(&mut self, input: &mut I) -> Result<O, E> {
         choose(self, input)
@@ -24,6 +27,8 @@ impl<'a, I: Stream, O, E: ParserError<I>, P: Parser<I, O, E>> Alt<I, O, E> for &
     ghost can_choose = { λ s. All P.can_parse s.now };
 
     ghost chooses = { λ s i answer t j. AltSliceRuns P.run (asserted E.form) s.now i answer t.now j };
+
+    ghost leaves_ends = { λ s i answer t j. alt_slice_ends I.reading P.run (asserted E.form) P.leaves_ends s.now i answer t.now j };
 
     #[inline(always)]
     fn choice(&mut self, input: &mut I) -> Result<O, E> {
