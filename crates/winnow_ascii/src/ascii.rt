@@ -1,5 +1,6 @@
 //! Parsers of ASCII's classes of characters.
 #![tactic(auto, using(crate::specs::Ends::ends_follow))]
+
 ghost use Rattle.streams.specs.Input.{IsEndOf};
 ghost use Rattle.stream_errors.specs.Form.{answer_by};
 ghost use Rattle.winnow_ascii.specs.Classes.{AlphanumericRuns, DigitRuns, MultispaceRuns, SpaceRuns};

@@ -9,7 +9,7 @@ use Rattle.winnow_comb.specs.declared.combinator.impls.basic.BacktrackErr.{Backt
 use Rattle.winnow_comb.specs.declared.combinator.impls.sequence.Preceded.{Preceded}
 use Rattle.winnow_comb.specs.declared.combinator.impls.sequence.Terminated.{Terminated}
 use Rattle.winnow_comb.specs.declared.combinator.impls.sequence.SeparatedPair.{SeparatedPair}
-use Rattle.winnow_comb.specs.declared.combinator.impls.sequence.Delimited.{Delimited}
+use Rattle.winnow_comb.specs.declared.combinator.impls.delimited.Delimited.{Delimited}
 use Rattle.winnow_comb.specs.declared.combinator.impls.branch.AltParser.{AltParser}
 
 -- the parser that may be left out

@@ -1,7 +1,7 @@
 //! Each parser at bytes, under an error with a mode and a plain one.
 use crate::combinator::eof;
 use crate::combinator::impls::Eof;
-use crate::parser::Parser;
+use crate::parser::{Func, Parser};
 use crate::token::{literal, take_while};
 use std::process::Abort;
 use stream_errors::empty::EmptyError;
@@ -199,4 +199,14 @@ fn large_tuples(rt: HostRuntime) {
     assert_eq!(rt; one, (true, false, 2));
     let none = left_by::<&[u8], (), EmptyError, _>((), b"abxsbsh");
     assert_eq!(rt; none, (true, false, 7));
+}
+
+#[test]
+fn closures(rt: HostRuntime) {
+    let first = Func(|input: &mut &[u8]| {
+        let answer: Result<u8, EmptyError> = b'a'.parse_next(input);
+        answer
+    });
+    let got = left_by::<&[u8], u8, EmptyError, _>(first, b"ab");
+    assert_eq!(rt; got, (true, false, 1));
 }

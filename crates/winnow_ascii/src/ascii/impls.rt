@@ -1,6 +1,7 @@
 //! The parsers of the module above, as structs.
 ghost use Rattle.std.specs.Prelude.{◌≡◌};
-ghost use Rattle.winnow_ascii.specs.Classes.{AlphanumericRuns, DigitRuns, MultispaceRuns, SpaceRuns};
+ghost use Rattle.stream_sets.specs.AsChar.{IsAlphanum, IsDecDigit, IsSpace, IsMultispace};
+ghost use Rattle.winnow_ascii.specs.Classes.{class_ends, AlphanumericRuns, DigitRuns, MultispaceRuns, SpaceRuns};
 
 use crate::ascii::{alphanumeric1, digit1, multispace1, space0};
 use stream_errors::parser_error::ParserError;
@@ -22,6 +23,8 @@ where
 {
     ghost run = { λ s i answer t j. DigitRuns I.Token.code I.seen_as I.reading E.form i answer j × (t ≡ s) };
 
+    ghost leaves_ends = { λ s i answer t j r. class_ends IsDecDigit 1 I.Token.code I.seen_as I.reading E.form i answer j r.0 };
+
     #[inline(always)]
     fn parse_next(&mut self, input: &mut I) -> Result<I::Slice, E> {
         digit1(input)
@@ -41,6 +44,8 @@ where
     I::Token: AsChar,
 {
     ghost run = { λ s i answer t j. AlphanumericRuns I.Token.code I.seen_as I.reading E.form i answer j × (t ≡ s) };
+
+    ghost leaves_ends = { λ s i answer t j r. class_ends IsAlphanum 1 I.Token.code I.seen_as I.reading E.form i answer j r.0 };
 
     #[inline(always)]
     fn parse_next(&mut self, input: &mut I) -> Result<I::Slice, E> {
@@ -62,6 +67,8 @@ where
 {
     ghost run = { λ s i answer t j. SpaceRuns I.Token.code I.seen_as I.reading E.form i answer j × (t ≡ s) };
 
+    ghost leaves_ends = { λ s i answer t j r. class_ends IsSpace 0 I.Token.code I.seen_as I.reading E.form i answer j r.0 };
+
     #[inline(always)]
     fn parse_next(&mut self, input: &mut I) -> Result<I::Slice, E> {
         space0(input)
@@ -81,6 +88,8 @@ where
     I::Token: AsChar,
 {
     ghost run = { λ s i answer t j. MultispaceRuns I.Token.code I.seen_as I.reading E.form i answer j × (t ≡ s) };
+
+    ghost leaves_ends = { λ s i answer t j r. class_ends IsMultispace 1 I.Token.code I.seen_as I.reading E.form i answer j r.0 };
 
     #[inline(always)]
     fn parse_next(&mut self, input: &mut I) -> Result<I::Slice, E> {
