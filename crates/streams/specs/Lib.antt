@@ -4,4 +4,5 @@ pub mod Reading
 pub mod Input
 pub mod Stream
 pub mod Bytes
+pub mod Partial
 pub mod Needed

@@ -7,6 +7,7 @@
 
 pub mod bytes;
 pub mod needed;
+pub mod partial;
 pub mod stream;
 #[cfg(test)]
 mod tests;

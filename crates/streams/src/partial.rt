@@ -1,0 +1,158 @@
+//! Streams that may get more.
+ghost use Rattle.std.specs.Prelude.{◌≡◌, true};
+ghost use Rattle.streams.specs.Partial.{flagged, true_is_false};
+
+use crate::needed::Needed;
+use crate::stream::{Stream, StreamIsPartial};
+use crate::token_test::TokenTest;
+
+/// A stream of which only a beginning may be there, as winnow's documentation has it.
+///
+/// A parser whose answer more input could change answers that it is incomplete, until the stream
+/// is marked as complete.
+///
+/// ```text
+/// let mut input = Partial::new(b"ab".as_slice());
+/// input.is_partial()   is true
+/// input.complete()     is true, and then input.is_partial() is false
+/// ```
+#[derive(Clone, Copy, Debug, PartialEq, Eq, Drop)]
+pub struct Partial<I> {
+    input: I,
+    partial: bool,
+}
+
+impl<I: Stream> Partial<I> {
+    /// The stream, with more to come.
+    #[inline(always)]
+    pub fn new(input: I) -> Partial<I>
+        ensures { ⟦<Partial<I> as Stream>⟧.view result ≡ flagged (I.view input) true }
+    {
+        Partial {
+            input,
+            partial: true,
+        }
+    }
+
+    /// What is left of the stream, with the flag that it has itself.
+    #[inline(always)]
+    pub fn into_inner(self) -> I
+        ensures { (I.view result).left ≡ (⟦<Partial<I> as Stream>⟧.view self).left }
+    {
+        self.input
+    }
+}
+
+impl<I: Stream> Stream for Partial<I> {
+    type Token = I::Token;
+
+    type Seen = I::Seen;
+
+    type Slice = I::Slice;
+
+    type IterOffsets = I::IterOffsets;
+
+    type Checkpoint = I::Checkpoint;
+
+    ghost view = { λ s. flagged (I.view s.input) s.partial };
+
+    ghost seen = { I.seen };
+
+    ghost reading = { I.reading };
+
+    ghost seen_as = { I.seen_as };
+
+    ghost counts_missing = { I.counts_missing };
+
+    ghost can_follow = { I.can_follow };
+
+    ghost offsets_left = { I.offsets_left };
+
+    #[inline(always)]
+    fn iter_offsets(&self) -> I::IterOffsets {
+        self.input.iter_offsets()
+    }
+
+    #[inline(always)]
+    fn eof_offset(&self) -> usize {
+        self.input.eof_offset()
+    }
+
+    #[inline(always)]
+    fn next_token(&mut self) -> Option<I::Token> {
+        self.input.next_token()
+    }
+
+    #[inline(always)]
+    fn offset_for<P: TokenTest<I::Token> + Drop>(&self, predicate: P) -> Option<usize> {
+        self.input.offset_for(predicate)
+    }
+
+    #[inline(always)]
+    fn offset_at(&self, tokens: usize) -> Result<usize, Needed> {
+        self.input.offset_at(tokens)
+    }
+
+    #[inline(always)]
+    fn next_slice(&mut self, offset: usize) -> I::Slice {
+        self.input.next_slice(offset)
+    }
+
+    #[inline(always)]
+    fn finish(&mut self) -> I::Slice {
+        self.input.finish()
+    }
+
+    #[inline(always)]
+    fn checkpoint(&self) -> I::Checkpoint {
+        self.input.checkpoint()
+    }
+
+    #[inline(always)]
+    fn reset(&mut self, checkpoint: &I::Checkpoint) {
+        self.input.reset(checkpoint);
+    }
+
+    #[inline(always)]
+    fn offset_from(&self, start: &I::Checkpoint) -> usize {
+        self.input.offset_from(start)
+    }
+
+    ghost offsets_step = { I.offsets_step };
+}
+
+impl<I: Stream> StreamIsPartial for Partial<I> {
+    type PartialState = bool;
+
+    ghost supports_partial = { true };
+
+    ghost flag = { λ state. state };
+
+    #[inline(always)]
+    fn complete(&mut self) -> bool {
+        let was_partial = self.partial;
+        self.partial = false;
+        was_partial
+    }
+
+    #[inline(always)]
+    fn restore_partial(&mut self, state: bool) {
+        self.partial = state;
+    }
+
+    #[inline(always)]
+    fn is_partial_supported() -> bool
+        ensures { result ≡ true }
+    {
+        true
+    }
+
+    #[inline(always)]
+    fn is_partial(&self) -> bool {
+        self.partial
+    }
+
+    ghost whole = { λ e. true_is_false e };
+
+    ghost whole_state = { λ e. true_is_false e };
+}
