@@ -1,6 +1,6 @@
 //! The faults of a whole parse.
 ghost use Rattle.std.specs.Prelude.{◌≡◌, ◌+◌};
-ghost use Rattle.streams.specs.Input.{Ends, back_at};
+ghost use Rattle.streams.specs.Input.{Remains, back_at};
 
 use streams::needed::Needed;
 use streams::stream::Stream;
@@ -25,7 +25,7 @@ impl<I, E> ParseError<I, E> {
     pub fn new(input: I, start: I::Checkpoint, inner: E) -> ParseError<I, E>
     where
         I: Stream,
-        requires { Ends I.reading (I.view input).left (I.seen start) }
+        requires { Remains (I.view input).left (I.seen start) }
         ensures input { I.view (refused_input result) ≡ back_at (I.seen start) (I.view input) }
         ensures offset { refused_offset result + I.reading.units (I.view input).left.tokens ≡ I.reading.units (I.seen start).tokens }
         ensures inner { refused_inner result ≡ inner }

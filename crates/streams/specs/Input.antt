@@ -28,6 +28,11 @@ pub record Ends {T S : Type 0} (reading : Reading T S) (later earlier : Left T) 
   pub place : later.place ≡ reading.advance earlier.place (reading.units dropped)
   pub possible : later.possible ≡ earlier.possible
 
+-- The tokens of later are what remains of those of earlier after some first ones are dropped.
+pub record Remains {T : Type 0} (later earlier : Left T) : Type 0 where
+  pub dropped : List T
+  pub tokens : earlier.tokens ≡ dropped ++ later.tokens
+
 -- Later is what remains of earlier after some first tokens are dropped, with the same flag.
 pub record IsEndOf {T S : Type 0} (reading : Reading T S) (later earlier : Input T) : Type 0 where
   pub ends : Ends reading later.left earlier.left
@@ -109,9 +114,15 @@ takes_end p = passes_end p.passed
 pub is_end_of_back : {T S : Type 0} {reading : Reading T S} {a b : Input T} {x : Left T} → x ≡ a.left → IsEndOf reading b a → IsEndOf reading (back_at x b) a
 is_end_of_back {reading = reading} {a = a} e p = let P : Left _ → Type 0 = λ y. Ends reading y a.left in record { ends = subst P (sym e) (ends_refl reading a.left); cut = p.cut }
 
+pub remains_refl : {T : Type 0} (a : Left T) → Remains a a
+remains_refl a = record { dropped = []; tokens = refl }
+
+pub ends_remain : {T S : Type 0} {reading : Reading T S} {a b : Left T} → Ends reading b a → Remains b a
+ends_remain e = record { dropped = e.dropped; tokens = e.tokens }
+
 -- a reset goes back to what was left at the start
-pub ends_of_start : {T S : Type 0} {reading : Reading T S} {a b : Input T} {x : Left T} → x ≡ a.left → IsEndOf reading b a → Ends reading b.left x
-ends_of_start {reading = reading} {b = b} e p = let P : Left _ → Type 0 = λ y. Ends reading b.left y in subst P (sym e) p.ends
+pub remains_of_start : {T S : Type 0} {reading : Reading T S} {a b : Input T} {x : Left T} → x ≡ a.left → IsEndOf reading b a → Remains b.left x
+remains_of_start {b = b} e p = let P : Left _ → Type 0 = λ y. Remains b.left y in subst P (sym e) (ends_remain p.ends)
 
 -- inputs that are the same in each part are the same
 same_parts : {T : Type 0} (a b : Input T) → a.left.tokens ≡ b.left.tokens → a.left.place ≡ b.left.place → a.left.possible ≡ b.left.possible → a.side ≡ b.side → a ≡ b

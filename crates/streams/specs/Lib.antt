@@ -5,4 +5,5 @@ pub mod Input
 pub mod Stream
 pub mod Bytes
 pub mod Partial
+pub mod Located
 pub mod Needed

@@ -6,6 +6,7 @@
 #![tactic(auto)]
 
 pub mod bytes;
+pub mod locating;
 pub mod needed;
 pub mod partial;
 pub mod stream;

@@ -1,7 +1,7 @@
 //! The traits of streams.
 ghost use Rattle.std.specs.Prelude.{◌≡◌, ℕ, ◌+◌, List, [], ◌∷◌, Bool, false, Option, MatchOption};
 ghost use Rattle.std.specs.Iterator.{IsFinite};
-ghost use Rattle.streams.specs.Input.{Input, Left, Ends, IsEndOf, Passes, Takes, back_at};
+ghost use Rattle.streams.specs.Input.{Input, Left, IsEndOf, Remains, Passes, Takes, back_at};
 ghost use Rattle.streams.specs.Reading.{Reading};
 ghost use Rattle.streams.specs.Stream.{IsBoundary, AnswersSeen, Cuts, FindsFirst, FindsOffset, with_offsets};
 ghost use Rattle.streams.specs.Needed.{by_need};
@@ -100,13 +100,13 @@ pub trait Stream: Drop {
     /// Goes back to a place, and changes neither the flag nor the recorded errors. The caller owes
     /// a place of this stream.
     fn reset(&mut self, checkpoint: &Self::Checkpoint)
-        requires { Ends reading (view self.old).left (seen checkpoint.now) }
+        requires { Remains (view self.old).left (seen checkpoint.now) }
         ensures { view self.new ≡ back_at (seen checkpoint.now) (view self.old) };
 
     /// How many units lie between a place and the present one. The caller owes an earlier place of
     /// this stream.
     fn offset_from(&self, start: &Self::Checkpoint) -> usize
-        requires { Ends reading (view self.now).left (seen start.now) }
+        requires { Remains (view self.now).left (seen start.now) }
         ensures { result + reading.units (view self.now).left.tokens ≡ reading.units (seen start.now).tokens };
 
     // A step of the iterator gives the first of the tokens still to come.

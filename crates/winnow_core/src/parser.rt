@@ -2,7 +2,7 @@
 #![tactic(auto, using(crate::specs::Ends::ends_follow))]
 
 ghost use Rattle.std.specs.Prelude.{◌≡◌, false, ⊤};
-ghost use Rattle.streams.specs.Input.{Input, Left, Ends, IsEndOf};
+ghost use Rattle.streams.specs.Input.{Input, Left, Remains, IsEndOf};
 ghost use Rattle.stream_errors.specs.Form.{Answer, answer_by};
 ghost use Rattle.winnow_core.specs.Parts.{map_parser, map_closure, verify_map_parser, verify_map_closure, void_parser, take_parser};
 ghost use Rattle.winnow_core.specs.Runs.{LeaveEnds};
@@ -176,7 +176,7 @@ fn fault_at<I: Stream, E: ParserError<I>>(
     start: I::Checkpoint,
     error: E,
 ) -> ParseFault<I, E::Inner>
-    requires { Ends I.reading (I.view input).left (I.seen start) }
+    requires { Remains (I.view input).left (I.seen start) }
     ensures { IsFaultAt I.view I.reading.units E.inner_kind (I.seen start) (I.view input) (E.kind error) result }
 {
     match error.into_inner() {

@@ -1,0 +1,166 @@
+//! Streams that know their place.
+ghost use Rattle.std.specs.Prelude.{◌≡◌, ◌^◌, ◌+◌, ◌<◌};
+ghost use Rattle.streams.specs.Located.{located_input, located_left, located_reading};
+
+use crate::needed::Needed;
+use crate::stream::{Stream, StreamIsPartial};
+use crate::token_test::TokenTest;
+
+/// A stream that counts the units passed from its start, as winnow's documentation has it.
+///
+/// The place is a number of units: bytes of bytes and text, items of token lists.
+///
+/// ```text
+/// let mut input = LocatingSlice::new(b"ab".as_slice());
+/// input.next_token()   is Some(b'a'), and b"b" is left, at place 1
+/// ```
+#[derive(Drop)]
+pub struct LocatingSlice<I: Stream> {
+    input: I,
+    passed: usize,
+    ghost fits: { passed + I.reading.units (I.view input).left.tokens < 2 ^ 64 },
+}
+
+/// A place of a [`LocatingSlice`](crate::locating::LocatingSlice) to go back to.
+#[derive(Drop)]
+pub struct LocatedCheckpoint<I: Stream> {
+    inner: I::Checkpoint,
+    passed: usize,
+    ghost fits: { passed + I.reading.units (I.seen inner).tokens < 2 ^ 64 },
+}
+
+impl<I: Stream> LocatingSlice<I> {
+    /// The stream, of which this is the start.
+    #[inline(always)]
+    pub fn new(input: I) -> LocatingSlice<I>
+        ensures { ⟦<LocatingSlice<I> as Stream>⟧.view result ≡ located_input (I.view input) 0 }
+    {
+        let _units = input.eof_offset();
+        LocatingSlice { input, passed: 0 }
+    }
+}
+
+impl<I: Stream> Stream for LocatingSlice<I> {
+    type Token = I::Token;
+
+    type Seen = I::Seen;
+
+    type Slice = I::Slice;
+
+    type IterOffsets = I::IterOffsets;
+
+    type Checkpoint = LocatedCheckpoint<I>;
+
+    ghost view = { λ s. located_input (I.view s.input) s.passed };
+
+    ghost seen = { λ c. located_left (I.seen c.inner) c.passed };
+
+    ghost reading = { located_reading I.reading };
+
+    ghost seen_as = { I.seen_as };
+
+    ghost counts_missing = { I.counts_missing };
+
+    ghost can_follow = { I.can_follow };
+
+    ghost offsets_left = { I.offsets_left };
+
+    #[inline(always)]
+    fn iter_offsets(&self) -> I::IterOffsets {
+        self.input.iter_offsets()
+    }
+
+    #[inline(always)]
+    fn eof_offset(&self) -> usize {
+        self.input.eof_offset()
+    }
+
+    #[inline(always)]
+    fn next_token(&mut self) -> Option<I::Token> {
+        let before = self.input.eof_offset();
+        let token = self.input.next_token()?;
+        self.passed += before - self.input.eof_offset();
+        Some(token)
+    }
+
+    #[inline(always)]
+    fn offset_for<P: TokenTest<I::Token> + Drop>(&self, predicate: P) -> Option<usize> {
+        self.input.offset_for(predicate)
+    }
+
+    #[inline(always)]
+    fn offset_at(&self, tokens: usize) -> Result<usize, Needed> {
+        self.input.offset_at(tokens)
+    }
+
+    #[inline(always)]
+    fn next_slice(&mut self, offset: usize) -> I::Slice {
+        let slice = self.input.next_slice(offset);
+        self.passed += offset;
+        slice
+    }
+
+    #[inline(always)]
+    fn finish(&mut self) -> I::Slice {
+        let units = self.input.eof_offset();
+        let slice = self.input.finish();
+        self.passed += units;
+        slice
+    }
+
+    #[inline(always)]
+    fn checkpoint(&self) -> LocatedCheckpoint<I> {
+        let _units = self.input.eof_offset();
+        LocatedCheckpoint {
+            inner: self.input.checkpoint(),
+            passed: self.passed,
+        }
+    }
+
+    #[inline(always)]
+    fn reset(&mut self, checkpoint: &LocatedCheckpoint<I>) {
+        self.input.reset(&checkpoint.inner);
+        self.passed = checkpoint.passed;
+    }
+
+    #[inline(always)]
+    fn offset_from(&self, start: &LocatedCheckpoint<I>) -> usize {
+        self.input.offset_from(&start.inner)
+    }
+
+    ghost offsets_step = { I.offsets_step };
+}
+
+impl<I: StreamIsPartial> StreamIsPartial for LocatingSlice<I> {
+    type PartialState = I::PartialState;
+
+    ghost supports_partial = { I.supports_partial };
+
+    ghost flag = { I.flag };
+
+    #[inline(always)]
+    fn complete(&mut self) -> I::PartialState {
+        self.input.complete()
+    }
+
+    #[inline(always)]
+    fn restore_partial(&mut self, state: I::PartialState) {
+        self.input.restore_partial(state);
+    }
+
+    #[inline(always)]
+    fn is_partial_supported() -> bool
+        ensures { result ≡ I.supports_partial }
+    {
+        I::is_partial_supported()
+    }
+
+    #[inline(always)]
+    fn is_partial(&self) -> bool {
+        self.input.is_partial()
+    }
+
+    ghost whole = { λ none s. I.whole none s.input };
+
+    ghost whole_state = { I.whole_state };
+}
