@@ -59,7 +59,7 @@ located_reading reading = record {
 }
 
 -- Tokens that the stream inside drops lead to a place further by their units.
-located_place : {T S : Type 0} (reading : Reading T S) (p q : Place) (m n k : ℕ) → q ≡ reading.advance p k → n ≡ m + k → located q n ≡ (located_reading reading).advance (located p m) k
+pub located_place : {T S : Type 0} (reading : Reading T S) (p q : Place) (m n k : ℕ) → q ≡ reading.advance p k → n ≡ m + k → located q n ≡ (located_reading reading).advance (located p m) k
 located_place reading p q m n k e at =
     same_place (located q n) (located (reading.advance (located p m) k) (m + k)) at
     (ap (λ x. x.bits_read) e ∙ sym (same_bits reading (located p m) p k refl))

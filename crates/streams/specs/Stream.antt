@@ -41,6 +41,13 @@ abbrev pub Cuts : {T S : Type 0} → Reading T S → ℕ → Input T → S → I
 Cuts {T} reading offset earlier slice later =
     (front rest : List T) → earlier.left.tokens ≡ front ++ rest → offset ≡ reading.units front → Takes reading front earlier slice later
 
+-- Now stands in the place of before: what is left is what the slice shows, and it ends where before begins.
+pub record IsUpdate {T S : Type 0} (reading : Reading T S) (before : Input T) (slice : S) (now : Input T) : Type 0 where
+  pub shown : reading.shows slice now.left.tokens
+  pub place : before.left.place ≡ reading.advance now.left.place (reading.units now.left.tokens)
+  pub possible : now.left.possible ≡ before.left.possible
+  pub side : now.side ≡ before.side
+
 pub length-with_offsets : {T : Type 0} (units : List T → ℕ) (start : ℕ) (tokens : List T) → length (with_offsets units start tokens) ≡ length tokens
 length-with_offsets units start [] = refl
 length-with_offsets units start (t ∷ ts) = ap suc (length-with_offsets units (start + units (t ∷ [])) ts)

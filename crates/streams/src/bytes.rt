@@ -7,7 +7,7 @@ ghost use Rattle.streams.specs.Stream.{with_offsets, GivesNext};
 ghost use Rattle.streams.specs.Bytes.{bytes_input, bytes_reading};
 
 use crate::needed::Needed;
-use crate::stream::{Stream, StreamIsPartial};
+use crate::stream::{Stream, StreamIsPartial, UpdateSlice};
 use crate::token_test::TokenTest;
 
 /// The bytes left, each with its offset in bytes.
@@ -178,4 +178,11 @@ impl<'a> StreamIsPartial for &'a [u8] {
     ghost whole = { λ _ _. refl };
 
     ghost whole_state = { λ _ _. refl };
+}
+
+impl<'a> UpdateSlice for &'a [u8] {
+    #[inline(always)]
+    fn update_slice(self, slice: &'a [u8]) -> &'a [u8] {
+        slice
+    }
 }

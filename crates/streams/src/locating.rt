@@ -1,10 +1,11 @@
 //! Streams that know their place.
-ghost use Rattle.std.specs.Prelude.{◌≡◌, ◌^◌, ◌+◌, ◌<◌};
+ghost use Rattle.std.specs.Prelude.{◌≡◌, ◌^◌, ◌+◌, ◌<◌, ◌≤◌, List, ⊤};
 ghost use Rattle.streams.specs.Located.{located_input, located_left, located_reading};
 
 use crate::needed::Needed;
-use crate::stream::{Stream, StreamIsPartial};
+use crate::stream::{Location, Stream, StreamIsPartial, UpdateSlice};
 use crate::token_test::TokenTest;
+use std::alloc::AllocError;
 
 /// A stream that counts the units passed from its start, as winnow's documentation has it.
 ///
@@ -14,7 +15,7 @@ use crate::token_test::TokenTest;
 /// let mut input = LocatingSlice::new(b"ab".as_slice());
 /// input.next_token()   is Some(b'a'), and b"b" is left, at place 1
 /// ```
-#[derive(Drop)]
+#[derive(Debug, PartialEq, Eq, Drop)]
 pub struct LocatingSlice<I: Stream> {
     input: I,
     passed: usize,
@@ -39,6 +40,22 @@ impl<I: Stream> LocatingSlice<I> {
         LocatingSlice { input, passed: 0 }
     }
 }
+
+impl<I: Stream + Copy> Clone for LocatingSlice<I> {
+    ghost is_clone = { λ x y. located_input (I.view y.input) y.passed ≡ located_input (I.view x.input) x.passed };
+
+    ghost is_infallible = { λ _. ⊤ };
+
+    #[inline(always)]
+    fn clone(&self) -> Result<LocatingSlice<I>, AllocError> {
+        Ok(LocatingSlice {
+            input: self.input,
+            passed: self.passed,
+        })
+    }
+}
+
+impl<I: Stream + Copy> Copy for LocatingSlice<I> {}
 
 impl<I: Stream> Stream for LocatingSlice<I> {
     type Token = I::Token;
@@ -163,4 +180,30 @@ impl<I: StreamIsPartial> StreamIsPartial for LocatingSlice<I> {
     ghost whole = { λ none s. I.whole none s.input };
 
     ghost whole_state = { I.whole_state };
+}
+
+impl<I: Stream> Location for LocatingSlice<I> {
+    #[inline(always)]
+    fn current_token_start(&self) -> usize {
+        self.passed
+    }
+
+    #[inline(always)]
+    fn previous_token_end(&self) -> usize {
+        self.passed
+    }
+}
+
+impl<I: UpdateSlice> UpdateSlice for LocatingSlice<I> {
+    ghost can_update = { λ s slice. I.can_update s.input slice × ((tokens : List I.Seen) → I.reading.shows slice tokens → I.reading.units tokens ≤ s.passed) };
+
+    #[inline(always)]
+    fn update_slice(self, slice: I::Slice) -> LocatingSlice<I> {
+        let input = self.input.update_slice(slice);
+        let units = input.eof_offset();
+        LocatingSlice {
+            input,
+            passed: self.passed - units,
+        }
+    }
 }

@@ -3,7 +3,7 @@ ghost use Rattle.std.specs.Prelude.{◌≡◌, true};
 ghost use Rattle.streams.specs.Partial.{flagged, true_is_false};
 
 use crate::needed::Needed;
-use crate::stream::{Stream, StreamIsPartial};
+use crate::stream::{Location, Stream, StreamIsPartial, UpdateSlice};
 use crate::token_test::TokenTest;
 
 /// A stream of which only a beginning may be there, as winnow's documentation has it.
@@ -155,4 +155,28 @@ impl<I: Stream> StreamIsPartial for Partial<I> {
     ghost whole = { λ e. true_is_false e };
 
     ghost whole_state = { λ e. true_is_false e };
+}
+
+impl<I: Location> Location for Partial<I> {
+    #[inline(always)]
+    fn current_token_start(&self) -> usize {
+        self.input.current_token_start()
+    }
+
+    #[inline(always)]
+    fn previous_token_end(&self) -> usize {
+        self.input.previous_token_end()
+    }
+}
+
+impl<I: UpdateSlice> UpdateSlice for Partial<I> {
+    ghost can_update = { λ s slice. I.can_update s.input slice };
+
+    #[inline(always)]
+    fn update_slice(self, slice: I::Slice) -> Partial<I> {
+        Partial {
+            input: self.input.update_slice(slice),
+            partial: self.partial,
+        }
+    }
 }

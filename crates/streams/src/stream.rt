@@ -1,9 +1,9 @@
 //! The traits of streams.
-ghost use Rattle.std.specs.Prelude.{◌≡◌, ℕ, ◌+◌, List, [], ◌∷◌, Bool, false, Option, MatchOption};
+ghost use Rattle.std.specs.Prelude.{◌≡◌, ℕ, ◌+◌, List, [], ◌∷◌, Bool, false, Option, MatchOption, ⊤};
 ghost use Rattle.std.specs.Iterator.{IsFinite};
 ghost use Rattle.streams.specs.Input.{Input, Left, IsEndOf, Remains, Passes, Takes, back_at};
 ghost use Rattle.streams.specs.Reading.{Reading};
-ghost use Rattle.streams.specs.Stream.{IsBoundary, AnswersSeen, Cuts, FindsFirst, FindsOffset, with_offsets};
+ghost use Rattle.streams.specs.Stream.{IsBoundary, AnswersSeen, Cuts, FindsFirst, FindsOffset, IsUpdate, with_offsets};
 ghost use Rattle.streams.specs.Needed.{by_need};
 
 use crate::needed::Needed;
@@ -152,4 +152,37 @@ pub trait StreamIsPartial: Stream {
 
     // ... and so is each of its states.
     ghost whole_state: { supports_partial ≡ false → (s : Self.PartialState) → flag s ≡ false };
+}
+
+/// A stream that knows its place, as winnow's documentation has it.
+///
+/// ```text
+/// let mut input = LocatingSlice::new(b"ab".as_slice());
+/// input.next_token()            is Some(b'a')
+/// input.current_token_start()   is 1
+/// ```
+pub trait Location: Stream {
+    /// Where the next token begins, in units from the start.
+    fn current_token_start(&self) -> usize
+        ensures { result ≡ (Self.view self.now).left.place.passed };
+
+    /// Where the last token taken ended, in units from the start.
+    fn previous_token_end(&self) -> usize
+        ensures { result ≡ (Self.view self.now).left.place.passed };
+}
+
+/// A stream in whose place one over a part of it can be put, as winnow's documentation has it.
+///
+/// ```text
+/// b"abc".as_slice().update_slice(b"b".as_slice())   is b"b"
+/// ```
+pub trait UpdateSlice: Stream {
+    // What the caller owes.
+    ghost can_update: { Self → Self.Slice → Type 0 } = { λ _ _. ⊤ };
+
+    /// A stream over `slice`, with the same flag, which ends where this one begins. The caller owes
+    /// a stream that knows its place a slice of no more units than were passed.
+    fn update_slice(self, slice: Self::Slice) -> Self
+        requires { can_update self slice }
+        ensures { IsUpdate Self.reading (Self.view self) slice (Self.view result) };
 }
