@@ -5,9 +5,9 @@ Run it by hand at the top of the repository, and then `rt fmt` in the crates it 
 
     python3 scripts/families.py
 
-It writes the meanings and the impls of sequences (tuples of one to six) in the crate
-`winnow_core`, and those of choices among as many branches in the crate `winnow_comb`, with their
-laws.
+It writes the sets that are tuples in the crate `stream_sets`, the meanings and the impls of
+sequences (tuples of one to six) in the crate `winnow_core`, and those of choices among as many
+branches in the crate `winnow_comb`, with their laws.
 """
 import pathlib
 
@@ -542,7 +542,55 @@ def write_laws():
         write(path, LAW_ANSWERS, n=n, number=NUMBER[n], runs=runs)
 
 
+# Sets.
+
+
+def set_tells(n):
+    """What n sets tell of a token, asked in order."""
+    tells = ["(S%d.tells s.%d)" % (k, k - 1) for k in upto(n)]
+    if n == 1:
+        return "S1.tells s.0 t b"
+    term = tells[-1]
+    for first in reversed(tells[1:-1]):
+        term = "(EitherTells %s %s)" % (first, term)
+    return "EitherTells %s %s t b" % (tells[0], term)
+
+
+def set_impl(n):
+    sets = rust_tuple(["S%d" % k for k in upto(n)])
+    bounds = ", ".join("S%d: ContainsToken<T>" % k for k in upto(n))
+    lines = [
+        "impl<T: Copy, %s> ContainsToken<T> for %s {" % (bounds, sets),
+        "    ghost can_test = { λ s. %s };" % conjunction(["S%d.can_test s.%d" % (k, k - 1) for k in upto(n)]),
+        "",
+        "    ghost tells = { λ s t b. %s };" % set_tells(n),
+        "",
+        "    #[inline(always)]",
+        "    fn contains_token(&self, token: T) -> bool {",
+        "        " + " || ".join("self.%d.contains_token(token)" % (k - 1) for k in upto(n)),
+        "    }",
+        "}",
+    ]
+    return "\n".join(lines)
+
+
+SET_IMPLS = """//! Tuples of sets: a token is a member where one of the sets has it, which are asked in order.
+//!
+//! {head}
+ghost use Rattle.stream_sets.specs.Sets.{{EitherTells}};
+
+use crate::sets::ContainsToken;
+
+{family}
+"""
+
+
+def write_sets():
+    write("crates/stream_sets/src/sets/tuples.rt", SET_IMPLS, family="\n\n".join(set_impl(n) for n in upto(MOST)))
+
+
 if __name__ == "__main__":
+    write_sets()
     write_sequences()
     write_choices()
     write_laws()

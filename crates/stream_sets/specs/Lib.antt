@@ -1,3 +1,4 @@
 pub mod AsChar
 pub mod Compare
 pub mod Range
+pub mod Sets
