@@ -5,3 +5,5 @@ pub mod Input
 pub mod Stream
 pub mod Bytes
 pub mod Needed
+pub mod Utf8
+pub mod Text

@@ -10,4 +10,5 @@ pub mod needed;
 pub mod stream;
 #[cfg(test)]
 mod tests;
+pub mod text;
 pub mod token_test;

@@ -3,6 +3,8 @@ use crate::needed::Needed;
 use crate::stream::{Stream, StreamIsPartial};
 use std::process::Abort;
 
+mod text;
+
 /// Takes the first byte of `ab;c`, then all before `;`, then the rest, and goes back.
 fn walks<'a, I>(rt: &impl Abort, mut input: I)
 where
