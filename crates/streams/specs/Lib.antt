@@ -7,3 +7,4 @@ pub mod Bytes
 pub mod Needed
 pub mod Utf8
 pub mod Text
+pub mod TokenSlice

@@ -11,4 +11,5 @@ pub mod stream;
 #[cfg(test)]
 mod tests;
 pub mod text;
+pub mod token_slice;
 pub mod token_test;
