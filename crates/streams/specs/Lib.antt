@@ -7,3 +7,6 @@ pub mod Bytes
 pub mod Partial
 pub mod Located
 pub mod Needed
+pub mod Utf8
+pub mod Text
+pub mod TokenSlice

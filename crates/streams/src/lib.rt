@@ -12,4 +12,6 @@ pub mod partial;
 pub mod stream;
 #[cfg(test)]
 mod tests;
+pub mod text;
+pub mod token_slice;
 pub mod token_test;

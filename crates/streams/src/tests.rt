@@ -3,6 +3,9 @@ use crate::needed::Needed;
 use crate::stream::{Stream, StreamIsPartial};
 use std::process::Abort;
 
+mod text;
+mod token_slice;
+
 /// Takes the first byte of `ab;c`, then all before `;`, then the rest, and goes back.
 fn walks<'a, I>(rt: &impl Abort, mut input: I)
 where

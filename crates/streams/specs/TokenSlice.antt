@@ -1,0 +1,51 @@
+-- A list of tokens as a stream.
+use Rattle.std.specs.Prelude.{◌≡◌, ℕ, ◌+◌, ◌≤◌, List, [], ◌∷◌, length, take, drop, Option, Some, None, MatchOption}
+use Rattle.std.specs.Borrow.{Bor}
+use Rattle.std.specs.Iterator.Adapters.{enumerate_source, enumerate_count, enumerate_steps}
+use Rattle.std.specs.Slice.Iter.{iter_rest, iter_steps}
+use Rattle.std.specs.declared.iter.Enumerate.{Enumerate}
+use Rattle.std.specs.declared.slice.Iter.{Iter}
+use Rattle.std.proofs.Common.{refl, sym, ap, ◌∙◌}
+use Rattle.std.proofs.lemmas.List.{length-append, length-take-le, nil_from_length, take-append-drop}
+use Rattle.streams.specs.Input.{Input, at_start, no_side}
+use Rattle.streams.specs.Reading.{Reading}
+use Rattle.streams.specs.Stream.{IsBoundary, with_offsets}
+use Rattle.streams.specs.Bytes.{length-positive}
+use Rattle.streams.specs.declared.token_slice.TokenSlice.{TokenSlice}
+
+-- the tokens that are left
+abbrev pub tokens_of : {T : Type 0} → TokenSlice T → List T
+tokens_of s = s.tokens.now
+
+-- What is seen of a list of tokens: the tokens, with no place kept, whole.
+abbrev pub tokens_input : {T : Type 0} → List T → Input T
+tokens_input tokens = record { left = at_start tokens; side = no_side }
+
+-- Tokens are counted one by one, and a slice shows its own.
+abbrev pub tokens_reading : {T : Type 0} → Reading T (Bor (List T))
+tokens_reading = record {
+  units = length;
+  advance = λ place _. place;
+  shows = λ s tokens. s.now ≡ tokens;
+  units_add = λ xs ys. length-append xs ys;
+  units_positive = λ x xs. length-positive x xs;
+  advance_none = λ p. refl;
+  advance_add = λ p m n. refl;
+  advance_further = λ p n k. refl;
+}
+
+-- each place up to the end is between two tokens, or at an end
+pub tokens_boundary : {T : Type 0} (n : ℕ) (tokens : List T) → n ≤ length tokens → IsBoundary length tokens n
+tokens_boundary n tokens h = (take n tokens, drop n tokens, sym (take-append-drop n tokens), sym (length-take-le n tokens h))
+
+-- the tokens that an iterator has still to give, each with its offset
+abbrev pub tokens_left : {T : Type 0} → Enumerate (Iter T) → List (ℕ × T)
+tokens_left s = with_offsets length (enumerate_count s) (iter_rest (enumerate_source s))
+
+-- A step of the iterator gives the first of the tokens still to come.
+pub tokens_left_step : {T : Type 0} (s : Enumerate (Iter T)) (r : Option (ℕ × Bor T)) (t : Enumerate (Iter T)) → enumerate_steps iter_steps s r t → MatchOption r (tokens_left s ≡ []) (λ x. tokens_left s ≡ (x.0, x.1.now) ∷ tokens_left t)
+tokens_left_step s None t (none, _) = ap (λ tokens. with_offsets length (enumerate_count s) tokens) (nil_from_length _ none.0)
+tokens_left_step s (Some x) t (first, at, passed, _) =
+    ap (λ tokens. with_offsets length (enumerate_count s) tokens) first
+    ∙ ap (λ n. (n, x.1.now) ∷ with_offsets length (enumerate_count s + 1) (iter_rest (enumerate_source t))) (sym at)
+    ∙ ap (λ n. (x.0, x.1.now) ∷ with_offsets length n (iter_rest (enumerate_source t))) (sym passed)

@@ -1,0 +1,175 @@
+//! A list of tokens as a stream.
+ghost use Rattle.std.specs.Prelude.{◌≡◌, [], true, false, refl, ⊤};
+ghost use Rattle.streams.specs.Input.{at_start};
+ghost use Rattle.streams.specs.TokenSlice.{tokens_of, tokens_input, tokens_reading, tokens_left, tokens_left_step};
+
+use crate::needed::Needed;
+use crate::stream::{Stream, StreamIsPartial};
+use crate::token_test::TokenTest;
+use std::alloc::AllocError;
+use std::iter::Enumerate;
+use std::slice::Iter;
+
+/// A list of tokens, such as a lexer makes, as winnow's documentation has it.
+///
+/// A token is handed out by reference. Each offset and each need counts items.
+///
+/// ```text
+/// let mut input = TokenSlice::new(&[7, 8]);
+/// input.next_token()   is Some(&7), and [8] is left
+/// input.offset_at(3)   is Err(Needed::new(2))
+/// ```
+#[derive(Debug, PartialEq, Eq)]
+pub struct TokenSlice<'t, T> {
+    tokens: &'t [T],
+}
+
+impl<'t, T> Copy for TokenSlice<'t, T> {}
+
+impl<'t, T> Clone for TokenSlice<'t, T> {
+    ghost is_clone = { λ s r. tokens_of r ≡ tokens_of s };
+
+    ghost is_infallible = { λ _. ⊤ };
+
+    fn clone(&self) -> Result<Self, AllocError> {
+        Ok(*self)
+    }
+}
+
+impl<'t, T> TokenSlice<'t, T> {
+    /// The stream of `tokens`, from the first on.
+    ///
+    /// ```text
+    /// TokenSlice::new(&[7, 8]).eof_offset()   is 2
+    /// ```
+    pub fn new(tokens: &'t [T]) -> Self
+        ensures { tokens_of result ≡ tokens.now }
+    {
+        TokenSlice { tokens }
+    }
+}
+
+impl<'t, T> Stream for TokenSlice<'t, T> {
+    type Token = &'t T;
+
+    type Seen = T;
+
+    type Slice = &'t [T];
+
+    type IterOffsets = Enumerate<Iter<'t, T>>;
+
+    type Checkpoint = &'t [T];
+
+    ghost view = { λ s. tokens_input (tokens_of s) };
+
+    ghost seen = { λ s. at_start s.now };
+
+    ghost reading = { tokens_reading };
+
+    ghost seen_as = { λ t. t.now };
+
+    ghost counts_missing = { true };
+
+    // A list of tokens is always whole: none follows it.
+    ghost can_follow = { λ more. more ≡ [] };
+
+    ghost offsets_left = { tokens_left };
+
+    #[inline(always)]
+    fn iter_offsets(&self) -> Enumerate<Iter<'t, T>> {
+        self.tokens.iter().enumerate()
+    }
+
+    #[inline(always)]
+    fn eof_offset(&self) -> usize {
+        self.tokens.len()
+    }
+
+    #[inline(always)]
+    fn next_token(&mut self) -> Option<&'t T> {
+        let (first, rest) = self.tokens.split_first()?;
+        self.tokens = rest;
+        Some(first)
+    }
+
+    #[inline(always)]
+    fn offset_for<P: TokenTest<&'t T> + Drop>(&self, predicate: P) -> Option<usize> {
+        for (offset, token) in self.tokens.iter().enumerate() {
+            if predicate.test(token) {
+                return Some(offset);
+            }
+        }
+        None
+    }
+
+    #[inline(always)]
+    fn offset_at(&self, tokens: usize) -> Result<usize, Needed> {
+        let len = self.tokens.len();
+        if tokens <= len {
+            Ok(tokens)
+        } else {
+            Err(Needed::new(tokens - len))
+        }
+    }
+
+    #[inline(always)]
+    fn next_slice(&mut self, offset: usize) -> &'t [T] {
+        let (front, rest) = self.tokens.split_at(offset);
+        self.tokens = rest;
+        front
+    }
+
+    #[inline(always)]
+    fn finish(&mut self) -> &'t [T] {
+        let (all, end) = self.tokens.split_at(self.tokens.len());
+        self.tokens = end;
+        all
+    }
+
+    #[inline(always)]
+    fn checkpoint(&self) -> &'t [T] {
+        self.tokens
+    }
+
+    #[inline(always)]
+    fn reset(&mut self, checkpoint: &&'t [T]) {
+        self.tokens = *checkpoint;
+    }
+
+    #[inline(always)]
+    fn offset_from(&self, start: &&'t [T]) -> usize {
+        start.len() - self.tokens.len()
+    }
+
+    ghost offsets_step = { tokens_left_step };
+}
+
+impl<'t, T> StreamIsPartial for TokenSlice<'t, T> {
+    type PartialState = ();
+
+    ghost supports_partial = { false };
+
+    ghost flag = { λ _. false };
+
+    #[inline(always)]
+    fn complete(&mut self) {}
+
+    #[inline(always)]
+    fn restore_partial(&mut self, _state: ()) {}
+
+    #[inline(always)]
+    fn is_partial_supported() -> bool
+        ensures { result ≡ false }
+    {
+        false
+    }
+
+    #[inline(always)]
+    fn is_partial(&self) -> bool {
+        false
+    }
+
+    ghost whole = { λ _ _. refl };
+
+    ghost whole_state = { λ _ _. refl };
+}
