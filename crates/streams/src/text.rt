@@ -19,7 +19,7 @@ ghost use Rattle.streams.specs.Input.{at_start};
 ghost use Rattle.streams.specs.Text.{text_input, text_reading, chars_left, chars_left_step};
 
 use crate::needed::Needed;
-use crate::stream::{Stream, StreamIsPartial};
+use crate::stream::{Stream, StreamIsPartial, UpdateSlice};
 use crate::token_test::TokenTest;
 use std::str::CharIndices;
 
@@ -151,4 +151,11 @@ impl<'a> StreamIsPartial for &'a str {
     ghost whole = { λ _ _. refl };
 
     ghost whole_state = { λ _ _. refl };
+}
+
+impl<'a> UpdateSlice for &'a str {
+    #[inline(always)]
+    fn update_slice(self, slice: &'a str) -> &'a str {
+        slice
+    }
 }

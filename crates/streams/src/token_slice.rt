@@ -4,7 +4,7 @@ ghost use Rattle.streams.specs.Input.{at_start};
 ghost use Rattle.streams.specs.TokenSlice.{tokens_of, tokens_input, tokens_reading, tokens_left, tokens_left_step};
 
 use crate::needed::Needed;
-use crate::stream::{Stream, StreamIsPartial};
+use crate::stream::{Stream, StreamIsPartial, UpdateSlice};
 use crate::token_test::TokenTest;
 use std::alloc::AllocError;
 use std::iter::Enumerate;
@@ -172,4 +172,11 @@ impl<'t, T> StreamIsPartial for TokenSlice<'t, T> {
     ghost whole = { λ _ _. refl };
 
     ghost whole_state = { λ _ _. refl };
+}
+
+impl<'t, T> UpdateSlice for TokenSlice<'t, T> {
+    #[inline(always)]
+    fn update_slice(self, slice: &'t [T]) -> TokenSlice<'t, T> {
+        TokenSlice::new(slice)
+    }
 }
