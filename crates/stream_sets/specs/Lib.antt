@@ -1,4 +1,5 @@
 pub mod AsChar
 pub mod Compare
+pub mod TextCompare
 pub mod Range
 pub mod Sets

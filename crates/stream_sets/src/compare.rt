@@ -1,7 +1,13 @@
 //! Comparisons of the input with a literal.
+//!
+//! Those of bytes stand here, those of other streams in the files below.
 ghost use Rattle.std.specs.Prelude.{◌≡◌, ℕ, List, [], ◌∷◌, length};
 ghost use Rattle.std.proofs.Common.{ap, sym, ◌∙◌};
+ghost use Rattle.std.specs.Char.{encode_utf8};
 ghost use Rattle.stream_sets.specs.Compare.{ComparesAs, StandsFirst, IsShort, same-length};
+
+mod text;
+mod wrapped;
 
 use streams::stream::Stream;
 
@@ -102,6 +108,31 @@ impl<'a, 'b, const N: usize> Compare<&'b [u8; N]> for &'a [u8] {
     #[inline(always)]
     fn compare(&self, literal: &'b [u8; N]) -> CompareResult {
         compare_bytes(*self, literal.as_slice())
+    }
+
+    ghost same_units = { λ t xs ys p q. same-length p q };
+}
+
+/// A character stands for the bytes of its UTF-8.
+impl<'a> Compare<char> for &'a [u8] {
+    ghost spells = { λ c xs. xs ≡ encode_utf8 c };
+
+    #[inline(always)]
+    fn compare(&self, literal: char) -> CompareResult {
+        let mut buffer = [0; 4];
+        compare_bytes(*self, literal.encode_utf8(&mut buffer).as_bytes())
+    }
+
+    ghost same_units = { λ t xs ys p q. same-length p q };
+}
+
+/// A text stands for its bytes.
+impl<'a, 'b> Compare<&'b str> for &'a [u8] {
+    ghost spells = { λ s xs. xs ≡ s.now };
+
+    #[inline(always)]
+    fn compare(&self, literal: &'b str) -> CompareResult {
+        compare_bytes(*self, literal.as_bytes())
     }
 
     ghost same_units = { λ t xs ys p q. same-length p q };

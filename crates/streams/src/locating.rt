@@ -39,6 +39,15 @@ impl<I: Stream> LocatingSlice<I> {
         let _units = input.eof_offset();
         LocatingSlice { input, passed: 0 }
     }
+
+    /// The stream inside.
+    #[inline(always)]
+    pub fn as_inner(&self) -> &I
+        ensures tokens { (I.view result.now).left.tokens ≡ (⟦<LocatingSlice<I> as Stream>⟧.view self.now).left.tokens }
+        ensures side { (I.view result.now).side ≡ (⟦<LocatingSlice<I> as Stream>⟧.view self.now).side }
+    {
+        &self.input
+    }
 }
 
 impl<I: Stream + Copy> Clone for LocatingSlice<I> {

@@ -34,7 +34,15 @@ impl<I: Stream> Partial<I> {
         }
     }
 
-    /// What is left of the stream, with the flag that it has itself.
+    /// The stream inside, with the flag that it has itself.
+    #[inline(always)]
+    pub fn as_inner(&self) -> &I
+        ensures { (I.view result.now).left ≡ (⟦<Partial<I> as Stream>⟧.view self.now).left }
+    {
+        &self.input
+    }
+
+    /// The stream inside, with the flag that it has itself.
     #[inline(always)]
     pub fn into_inner(self) -> I
         ensures { (I.view result).left ≡ (⟦<Partial<I> as Stream>⟧.view self).left }
