@@ -3,3 +3,4 @@ pub mod Compare
 pub mod TextCompare
 pub mod Range
 pub mod Sets
+pub mod FindSlice

@@ -6,6 +6,7 @@ pub mod accumulate;
 pub mod as_char;
 pub mod classes;
 pub mod compare;
+pub mod find;
 pub mod range;
 pub mod sets;
 #[cfg(test)]
