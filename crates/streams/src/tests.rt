@@ -5,6 +5,7 @@ use std::process::Abort;
 
 mod text;
 mod token_slice;
+mod wrapped;
 
 /// Takes the first byte of `ab;c`, then all before `;`, then the rest, and goes back.
 fn walks<'a, I>(rt: &impl Abort, mut input: I)
