@@ -39,14 +39,28 @@ fn located<I: Location + Stream<Token = char>>(rt: &impl Abort, mut input: I) {
     assert_eq!(rt; input.previous_token_end(), 4);
 }
 
+/// A stream in both wrappers, one in the other.
+fn both<I: StreamIsPartial + Copy>(rt: &impl Abort, input: I) {
+    flagged(rt, Partial::new(LocatingSlice::new(input)));
+    flagged(rt, LocatingSlice::new(Partial::new(input)));
+    goes_back(rt, LocatingSlice::new(input));
+    goes_back(rt, Partial::new(LocatingSlice::new(input)));
+    assert!(rt; LocatingSlice::new(Partial::new(input)).is_partial());
+    assert!(rt; Partial::new(input).into_inner().eof_offset() == input.eof_offset());
+}
+
+/// The places in a text, in each nesting.
+fn places_in<I: Stream<Token = char> + Copy>(rt: &impl Abort, input: I) {
+    located(rt, Partial::new(LocatingSlice::new(input)));
+    located(rt, LocatingSlice::new(Partial::new(input)));
+    located(rt, LocatingSlice::new(LocatingSlice::new(input)));
+}
+
 #[test]
 fn nested(rt: HostRuntime) {
-    flagged(&rt, Partial::new(LocatingSlice::new("aé;")));
-    flagged(&rt, LocatingSlice::new(Partial::new(b"ab".as_slice())));
-    located(&rt, Partial::new(LocatingSlice::new("aé;")));
-    located(&rt, LocatingSlice::new(Partial::new("aé;")));
-    located(&rt, LocatingSlice::new(LocatingSlice::new("aé;")));
-    assert!(rt; !LocatingSlice::new("a").is_partial());
+    both(&rt, "aé;");
+    both(&rt, b"ab".as_slice());
+    places_in(&rt, "aé;");
 }
 
 /// The place behind a token, back at the start, and behind it again.
@@ -59,12 +73,6 @@ fn goes_back<I: Location>(rt: &impl Abort, mut input: I) {
     input.reset(&start);
     assert_eq!(rt; input.current_token_start(), 0);
     assert_eq!(rt; input.offset_from(&start), 0);
-}
-
-#[test]
-fn places(rt: HostRuntime) {
-    goes_back(&rt, LocatingSlice::new(b"ab".as_slice()));
-    goes_back(&rt, Partial::new(LocatingSlice::new("aé")));
 }
 
 #[test]
