@@ -3,6 +3,9 @@ ghost use Rattle.std.specs.Prelude.{◌≡◌, List, [], ◌∷◌, ◌⊎◌, l
 ghost use Rattle.std.specs.Char.{encode_utf8};
 ghost use Rattle.stream_sets.specs.FindSlice.{FindsSlice};
 
+mod text;
+mod wrapped;
+
 use memchr::{memchr, memchr2, memchr3, memmem};
 use std::ops;
 use streams::stream::Stream;
