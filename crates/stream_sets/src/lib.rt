@@ -3,10 +3,12 @@
 #![tactic(auto)]
 
 pub mod accumulate;
+pub mod as_bstr;
 pub mod as_char;
 pub mod classes;
 pub mod compare;
 pub mod find;
+pub mod numbers;
 pub mod range;
 pub mod sets;
 #[cfg(test)]
