@@ -1,3 +1,4 @@
 pub mod CompareLemmas
 pub mod FindLemmas
 pub mod TextFindLemmas
+pub mod SeveralLemmas

@@ -3,4 +3,5 @@ pub mod Compare
 pub mod TextCompare
 pub mod Range
 pub mod Sets
+pub mod Three
 pub mod FindSlice

@@ -43,7 +43,7 @@ pub trait Compare<T>: Stream {
 
 /// Compares bytes with bytes; each is looked at once.
 #[inline(always)]
-fn compare_bytes(all: &[u8], literal: &[u8]) -> CompareResult
+pub(crate) fn compare_bytes(all: &[u8], literal: &[u8]) -> CompareResult
     ensures { ComparesAs length (λ xs. xs ≡ literal.now) all.now result }
 {
     if literal.len() <= all.len() {

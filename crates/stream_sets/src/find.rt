@@ -3,6 +3,8 @@ ghost use Rattle.std.specs.Prelude.{◌≡◌, List, [], ◌∷◌, ◌⊎◌, l
 ghost use Rattle.std.specs.Char.{encode_utf8};
 ghost use Rattle.stream_sets.specs.FindSlice.{FindsSlice};
 
+mod characters;
+mod several;
 mod text;
 mod wrapped;
 

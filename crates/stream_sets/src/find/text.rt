@@ -1,5 +1,5 @@
 //! Searches of text: a literal stands for its characters.
-ghost use Rattle.std.specs.Prelude.{◌≡◌, [], ◌∷◌, ◌⊎◌};
+ghost use Rattle.std.specs.Prelude.{◌≡◌, [], ◌∷◌};
 ghost use Rattle.std.specs.Str.{chars};
 
 use crate::find::{FindSlice, find_bytes};
@@ -21,14 +21,5 @@ impl<'a> FindSlice<char> for &'a str {
     fn find_slice(&self, substr: char) -> Option<ops::Range<usize>> {
         let mut buffer = [0; 4];
         find_bytes(self.as_bytes(), substr.encode_utf8(&mut buffer).as_bytes())
-    }
-}
-
-impl<'a> FindSlice<(char,)> for &'a str {
-    ghost sought = { λ t xs. xs ≡ t.0 ∷ [] };
-
-    #[inline(always)]
-    fn find_slice(&self, substr: (char,)) -> Option<ops::Range<usize>> {
-        self.find_slice(substr.0)
     }
 }
