@@ -6,6 +6,8 @@ use crate::range::Range;
 use crate::sets::{ContainsToken, Pred};
 use std::process::Abort;
 
+mod kinds;
+
 /// The range has these bounds.
 fn has(rt: &impl Abort, range: Range, first: usize, last: Option<usize>) {
     assert_eq!(rt; range.start_inclusive, first);
