@@ -7,6 +7,7 @@ ghost use Rattle.std.specs.Char.{encode_utf8};
 ghost use Rattle.stream_sets.specs.Compare.{ComparesAs, StandsFirst, IsShort, same-length};
 
 mod text;
+mod tokens;
 mod wrapped;
 
 use streams::stream::Stream;

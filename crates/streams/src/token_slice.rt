@@ -47,6 +47,18 @@ impl<'t, T> TokenSlice<'t, T> {
     {
         TokenSlice { tokens }
     }
+
+    /// The tokens left.
+    ///
+    /// ```text
+    /// TokenSlice::new(&[7, 8]).as_slice()   is [7, 8]
+    /// ```
+    #[inline(always)]
+    pub fn as_slice(&self) -> &'t [T]
+        ensures { result.now ≡ tokens_of self.now }
+    {
+        self.tokens
+    }
 }
 
 impl<'t, T> Stream for TokenSlice<'t, T> {
