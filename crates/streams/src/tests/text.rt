@@ -3,14 +3,8 @@ use crate::needed::Needed;
 use crate::stream::{Stream, StreamIsPartial};
 use std::process::Abort;
 
-/// The stream of `aé€𝄞`: places, searches, and the characters one by one.
-fn walks<'a, I>(rt: &impl Abort, mut input: I)
-where
-    I: Stream<Token = char, Slice = &'a str> + StreamIsPartial,
-{
-    assert_eq!(rt; input.is_partial(), false);
-    let _state = input.complete();
-    assert_eq!(rt; input.is_partial(), false);
+/// Places and searches in the stream of `aé€𝄞`.
+fn finds<I: Stream<Token = char>>(rt: &impl Abort, input: &I) {
     for (tokens, offset) in [(0, 0), (1, 1), (2, 3), (3, 6), (4, 10)] {
         assert_eq!(rt; input.offset_at(tokens), Ok(offset));
     }
@@ -21,6 +15,13 @@ where
         assert_eq!(rt; input.offset_for(move |c: char| c == token), Some(offset));
     }
     assert_eq!(rt; input.offset_for(|c: char| c == 'b'), None);
+}
+
+/// The characters of the stream of `aé€𝄞`, one by one, and then all of them.
+fn passes<'a, I>(rt: &impl Abort, mut input: I)
+where
+    I: Stream<Token = char, Slice = &'a str> + StreamIsPartial,
+{
     let start = input.checkpoint();
     for (token, passed, left) in [('a', 1, 9), ('é', 3, 7), ('€', 6, 4), ('𝄞', 10, 0)] {
         assert_eq!(rt; input.next_token(), Some(token));
@@ -31,11 +32,15 @@ where
     input.reset(&start);
     assert_eq!(rt; input.finish(), "aé€𝄞");
     assert_eq!(rt; input.eof_offset(), 0);
+    assert_eq!(rt; input.is_partial(), false);
+    let _state = input.complete();
+    assert_eq!(rt; input.is_partial(), false);
 }
 
 #[test]
 fn each_call(rt: HostRuntime) {
-    walks(&rt, "aé€𝄞");
+    finds(&rt, &"aé€𝄞");
+    passes(&rt, "aé€𝄞");
     let mut offsets = "aé€𝄞".iter_offsets();
     assert_eq!(rt; offsets.next(), Some((0, 'a')));
     assert_eq!(rt; offsets.next(), Some((1, 'é')));
