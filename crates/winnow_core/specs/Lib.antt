@@ -2,6 +2,9 @@ pub mod Ends
 pub mod Runs
 pub mod Literal
 pub mod TakeWhile
+pub mod Any
+pub mod TakeCount
+pub mod Rest
 pub mod Members
 pub mod Eof
 pub mod Sequence

@@ -5,7 +5,12 @@ use Rattle.winnow_core.specs.declared.combinator.impls.map.VerifyMap.{VerifyMap}
 use Rattle.winnow_core.specs.declared.combinator.impls.take.Take.{Take}
 use Rattle.winnow_core.specs.declared.combinator.impls.take.Void.{Void}
 use Rattle.winnow_core.specs.declared.token.impls.Literal.{Literal}
+use Rattle.winnow_core.specs.declared.token.impls.NoneOf.{NoneOf}
+use Rattle.winnow_core.specs.declared.token.impls.OneOf.{OneOf}
+use Rattle.winnow_core.specs.declared.token.impls.Take.{Take as TokenTake}
+use Rattle.winnow_core.specs.declared.token.impls.TakeTill.{TakeTill}
 use Rattle.winnow_core.specs.declared.token.impls.TakeWhile.{TakeWhile}
+use Rattle.std.specs.Prelude.{ℕ}
 
 -- the literal that is compared
 abbrev pub literal_value : {T I E : Type 0} → Literal T I E → T
@@ -42,3 +47,23 @@ verify_map_parser s = s.parser
 -- the closure that maps or refuses
 abbrev pub verify_map_closure : {F G I O U E : Type 0} → VerifyMap F G I O U E → G
 verify_map_closure s = s.filter
+
+-- how many tokens are taken
+abbrev pub take_till_occurrences : {S I E : Type 0} → TakeTill S I E → Range
+take_till_occurrences s = s.occurrences
+
+-- the set whose members end the take
+abbrev pub take_till_set : {S I E : Type 0} → TakeTill S I E → S
+take_till_set s = s.set
+
+-- the set of which the token is to be
+abbrev pub one_of_set : {S I E : Type 0} → OneOf S I E → S
+one_of_set s = s.set
+
+-- the set of which the token is not to be
+abbrev pub none_of_set : {S I E : Type 0} → NoneOf S I E → S
+none_of_set s = s.set
+
+-- how many tokens are taken
+abbrev pub take_count : {I E : Type 0} → TokenTake I E → ℕ
+take_count s = s.count

@@ -1,13 +1,16 @@
 -- The runs of each parser leave an end of their input, where those of its children do.
 use Rattle.std.specs.Prelude.{◌≡◌, ⊤, ℕ, Bool, List, Option, Some, None, Ok, Err}
 use Rattle.std.proofs.Common.{refl, sym, subst, inl, inr, ◌⊎◌}
-use Rattle.streams.specs.Input.{Input, IsEndOf, is_end_of_refl, back_at, is_end_of_back, takes_end}
+use Rattle.streams.specs.Input.{Input, IsEndOf, is_end_of_refl, back_at, is_end_of_back, passes_end, takes_end}
 use Rattle.streams.specs.Kind.{Kind}
 use Rattle.streams.specs.Reading.{Reading}
 use Rattle.stream_errors.specs.Form.{ErrorForm, Answer}
 use Rattle.winnow_core.specs.Runs.{Runs, LeaveEnds}
 use Rattle.winnow_core.specs.Literal.{LiteralRuns}
 use Rattle.winnow_core.specs.TakeWhile.{TakeWhileRuns}
+use Rattle.winnow_core.specs.Any.{AnyRuns, OneOfRuns}
+use Rattle.winnow_core.specs.TakeCount.{TakeCountRuns}
+use Rattle.winnow_core.specs.Rest.{RestRuns, RestLenRuns}
 use Rattle.winnow_core.specs.Eof.{EofRuns}
 use Rattle.winnow_core.specs.Map.{MapRuns}
 use Rattle.winnow_core.specs.VerifyMap.{VerifyMapRuns}
@@ -53,3 +56,20 @@ void_ends reading run child s i answer t j (inr (k, r, e)) = child s i (Err k) t
 pub take_ends : {S T L O : Type 0} (reading : Reading T L) (run : Runs S T O) → LeaveEnds reading run → (s : S) (i : Input T) (answer : Answer L) (t : S) (j : Input T) → TakeRuns reading run s i answer t j → IsEndOf reading j i
 take_ends reading run child s i answer t j (inl (o, front, slice, r, splits, shown, e)) = child s i (Ok o) t j r
 take_ends reading run child s i answer t j (inr (k, r, e)) = child s i (Err k) t j r
+
+pub any_ends : {K T L : Type 0} (seen : K → T) (reading : Reading T L) (form : ErrorForm) (i : Input T) (answer : Answer K) (j : Input T) → AnyRuns seen reading form i answer j → IsEndOf reading j i
+any_ends seen reading form i answer j (inl (x, passes, e)) = passes_end passes
+any_ends seen reading form i answer j (inr (k, none, kind, e, same)) = same_ends reading i j same
+
+pub one_of_ends : {K T L : Type 0} (seen : K → T) (reading : Reading T L) (form : ErrorForm) (member : K → Bool → Type 0) (i : Input T) (answer : Answer K) (j : Input T) → OneOfRuns seen reading form member i answer j → IsEndOf reading j i
+one_of_ends seen reading form member i answer j (inl (x, passes, is, e)) = passes_end passes
+one_of_ends seen reading form member i answer j (inr (inl (x, rest, split, stranger, e, same))) = same_ends reading i j same
+one_of_ends seen reading form member i answer j (inr (inr (k, none, kind, e, same))) = same_ends reading i j same
+
+pub take_count_ends : {T L : Type 0} (reading : Reading T L) (form : ErrorForm) (counts : Bool) (n : ℕ) (i : Input T) (answer : Answer L) (j : Input T) → TakeCountRuns reading form counts n i answer j → IsEndOf reading j i
+take_count_ends reading form counts n i answer j (inl (front, slice, count, takes, e)) = takes_end takes
+take_count_ends reading form counts n i answer j (inr (inl (few, is_cut, e, same))) = same_ends reading i j same
+take_count_ends reading form counts n i answer j (inr (inr (few, whole, e, same))) = same_ends reading i j same
+
+pub rest_ends : {T L : Type 0} (reading : Reading T L) (i : Input T) (answer : Answer L) (j : Input T) → RestRuns reading i answer j → IsEndOf reading j i
+rest_ends reading i answer j (slice, takes, none, e) = takes_end takes

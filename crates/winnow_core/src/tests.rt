@@ -14,6 +14,8 @@ use stream_sets::sets::Pred;
 use streams::needed::Needed;
 use streams::stream::Stream;
 
+mod cut;
+
 type Mode<'a> = ErrMode<InputError<&'a [u8]>>;
 
 /// How a run ended.

@@ -5,15 +5,20 @@ ghost use Rattle.std.specs.Prelude.{◌≡◌};
 ghost use Rattle.streams.specs.Input.{IsEndOf};
 ghost use Rattle.stream_errors.specs.Form.{answer_by};
 ghost use Rattle.winnow_core.specs.Literal.{LiteralRuns};
-ghost use Rattle.winnow_core.specs.Parts.{literal_value, take_while_occurrences, take_while_set};
+ghost use Rattle.winnow_core.specs.Any.{AnyRuns};
+ghost use Rattle.winnow_core.specs.Parts.{literal_value, none_of_set, one_of_set, take_count, take_till_occurrences, take_till_set, take_while_occurrences, take_while_set};
+ghost use Rattle.winnow_core.specs.Rest.{RestLenRuns, RestRuns};
 
 pub mod impls;
 mod members;
+mod one;
 
-use crate::token::impls::{Literal, TakeWhile};
+use crate::token::impls::{Literal, NoneOf, OneOf, Take, TakeTill, TakeWhile};
+use crate::token::one::no_token;
 use std::marker::PhantomData;
 use stream_errors::parser_error::ParserError;
 use stream_sets::compare::{Compare, CompareResult};
+use stream_sets::numbers::ToUsize;
 use stream_sets::range::Range;
 use stream_sets::sets::ContainsToken;
 use streams::needed::Needed;
@@ -68,6 +73,152 @@ where
         input: PhantomData,
         error: PhantomData,
     }
+}
+
+/// A parser of the longest beginning of tokens that are not in `set`, of as many tokens as
+/// `occurrences` says; the output is the slice of the input.
+///
+/// It is [`take_while`](crate::token::take_while) over the tokens outside the set, and fails and is
+/// incomplete as that is.
+///
+/// ```text
+/// take_till(Range::from(0..), b';').parse_next(&mut b"ab;c".as_slice())
+///     is Ok(b"ab"), and b";c" is left
+/// ```
+#[inline(always)]
+pub fn take_till<Set, Input, Error>(occurrences: Range, set: Set) -> TakeTill<Set, Input, Error>
+where
+    Input: StreamIsPartial,
+    Set: ContainsToken<Input::Token>,
+    Error: ParserError<Input>,
+    ensures occurrences { take_till_occurrences result ≡ occurrences }
+    ensures set { take_till_set result ≡ set }
+{
+    TakeTill {
+        occurrences,
+        set,
+        input: PhantomData,
+        error: PhantomData,
+    }
+}
+
+/// One token.
+///
+/// Where none is left it fails, and on a cut input it is incomplete with a need of 1 unit.
+///
+/// ```text
+/// any(&mut b"ab".as_slice())   is Ok(b'a'), and b"b" is left
+/// ```
+#[inline(always)]
+pub fn any<Input: StreamIsPartial, Error: ParserError<Input>>(
+    input: &mut Input,
+) -> Result<Input::Token, Error>
+    ensures ran { AnyRuns Input.seen_as Input.reading Error.form (Input.view input.old) (answer_by Error.kind result) (Input.view input.new) }
+    ensures ends { IsEndOf Input.reading (Input.view input.new) (Input.view input.old) }
+{
+    match input.next_token() {
+        Some(token) => Ok(token),
+        None => Err(no_token(input)),
+    }
+}
+
+/// A parser of one token that is in `set`.
+///
+/// It fails, and consumes nothing, on another token and where none is left; on a cut input with
+/// nothing left it is incomplete with a need of 1 unit.
+///
+/// ```text
+/// one_of((b'+', b'-')).parse_next(&mut b"-1".as_slice())   is Ok(b'-'), and b"1" is left
+/// ```
+#[inline(always)]
+pub fn one_of<Set, Input, Error>(set: Set) -> OneOf<Set, Input, Error>
+where
+    Input: StreamIsPartial,
+    Input::Token: Copy,
+    Set: ContainsToken<Input::Token>,
+    Error: ParserError<Input>,
+    ensures { one_of_set result ≡ set }
+{
+    OneOf {
+        set,
+        input: PhantomData,
+        error: PhantomData,
+    }
+}
+
+/// A parser of one token that is not in `set`.
+///
+/// It fails, and consumes nothing, on a token of the set and where none is left; on a cut input
+/// with nothing left it is incomplete with a need of 1 unit.
+///
+/// ```text
+/// none_of(b';').parse_next(&mut b"a;".as_slice())   is Ok(b'a'), and b";" is left
+/// ```
+#[inline(always)]
+pub fn none_of<Set, Input, Error>(set: Set) -> NoneOf<Set, Input, Error>
+where
+    Input: StreamIsPartial,
+    Input::Token: Copy,
+    Set: ContainsToken<Input::Token>,
+    Error: ParserError<Input>,
+    ensures { none_of_set result ≡ set }
+{
+    NoneOf {
+        set,
+        input: PhantomData,
+        error: PhantomData,
+    }
+}
+
+/// A parser of `token_count` tokens; the output is the slice of the input.
+///
+/// Where there are fewer it fails, and consumes nothing; on a cut input it is incomplete: the need
+/// is how many units are missing, and unknown over text, where a character takes one to four.
+///
+/// ```text
+/// take(2u8).parse_next(&mut b"abc".as_slice())   is Ok(b"ab"), and b"c" is left
+/// ```
+#[inline(always)]
+pub fn take<UsizeLike, Input, Error>(token_count: UsizeLike) -> Take<Input, Error>
+where
+    UsizeLike: ToUsize + Drop,
+    Input: StreamIsPartial,
+    Error: ParserError<Input>,
+    ensures { take_count result ≡ UsizeLike.number token_count }
+{
+    Take {
+        count: token_count.to_usize(),
+        input: PhantomData,
+        error: PhantomData,
+    }
+}
+
+/// All that is left, also of a cut input: it never asks whether more may come, and never fails.
+///
+/// ```text
+/// rest(&mut b"ab".as_slice())   is Ok(b"ab"), and nothing is left
+/// ```
+#[inline(always)]
+pub fn rest<Input: Stream, Error: ParserError<Input>>(
+    input: &mut Input,
+) -> Result<Input::Slice, Error>
+    ensures ran { RestRuns Input.reading (Input.view input.old) (answer_by Error.kind result) (Input.view input.new) }
+    ensures ends { IsEndOf Input.reading (Input.view input.new) (Input.view input.old) }
+{
+    Ok(input.finish())
+}
+
+/// How many units are left, also of a cut input: nothing is consumed, and it never fails.
+///
+/// ```text
+/// rest_len(&mut b"ab".as_slice())   is Ok(2), and b"ab" is left
+/// ```
+#[inline(always)]
+pub fn rest_len<Input: Stream, Error: ParserError<Input>>(input: &mut Input) -> Result<usize, Error>
+    ensures ran { RestLenRuns Input.reading (Input.view input.old) (answer_by Error.kind result) (Input.view input.new) }
+    ensures ends { IsEndOf Input.reading (Input.view input.new) (Input.view input.old) }
+{
+    Ok(input.eof_offset())
 }
 
 /// Takes a literal from the beginning of the input.

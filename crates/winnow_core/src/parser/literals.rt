@@ -53,3 +53,32 @@ impl<'t, const N: usize, I: StreamIsPartial + Compare<&'t [u8; N]>, E: ParserErr
         take_literal(input, *self)
     }
 }
+
+/// A character stands for itself, and is its own output.
+///
+/// It fails, and consumes nothing, where the character does not stand first; where a cut input is
+/// too short to tell it is incomplete with an unknown need.
+impl<I: StreamIsPartial + Compare<char>, E: ParserError<I>> Parser<I, char, E> for char {
+    ghost run = { λ s i answer t j. LiteralRuns I.reading E.form (I.spells s) (λ _. s) i answer j × (t ≡ s) };
+
+    ghost leaves_ends = { λ s i answer t j r. literal_ends I.reading E.form (I.spells s) (λ _. s) i answer j r.0 };
+
+    #[inline(always)]
+    fn parse_next(&mut self, input: &mut I) -> Result<char, E> {
+        let _slice = take_literal(input, *self)?;
+        Ok(*self)
+    }
+}
+
+/// A text stands for itself; the output is the slice of the input.
+impl<'t, I: StreamIsPartial + Compare<&'t str>, E: ParserError<I>> Parser<I, I::Slice, E>
+    for &'t str {
+    ghost run = { λ s i answer t j. LiteralRuns I.reading E.form (I.spells s) (λ slice. slice) i answer j × (t ≡ s) };
+
+    ghost leaves_ends = { λ s i answer t j r. literal_ends I.reading E.form (I.spells s) (λ slice. slice) i answer j r.0 };
+
+    #[inline(always)]
+    fn parse_next(&mut self, input: &mut I) -> Result<I::Slice, E> {
+        take_literal(input, *self)
+    }
+}

@@ -1,0 +1,34 @@
+-- One token.
+use Rattle.std.specs.Prelude.{◌≡◌, Bool, true, false, List, [], ◌∷◌, Some, Ok, Err, ◌⊎◌}
+use Rattle.streams.specs.Input.{Input, Passes}
+use Rattle.streams.specs.Kind.{Kind, backtrack}
+use Rattle.streams.specs.Reading.{Reading}
+use Rattle.stream_errors.specs.Form.{ErrorForm, Answer, incompleted}
+
+-- The kind of an error where no token is left: a cut input lacks one unit, and a whole one fails.
+abbrev pub NoTokenKind : {T : Type 0} → ErrorForm → Input T → Kind → Type 0
+NoTokenKind form i kind =
+    ((i.side.cut ≡ true) × (kind ≡ incompleted form (Some 1)))
+    ⊎ ((i.side.cut ≡ false) × (kind ≡ backtrack))
+
+-- A run where no token is left.
+abbrev pub NoTokenRuns : {T O : Type 0} → ErrorForm → Input T → Answer O → Input T → Type 0
+NoTokenRuns form i answer j = (k : Kind) × (i.left.tokens ≡ []) × NoTokenKind form i k × (answer ≡ Err k) × (j ≡ i)
+
+-- A run of the parser of one token. Tokens are seen by `seen`.
+abbrev pub AnyRuns : {K T S : Type 0} → (K → T) → Reading T S → ErrorForm → Input T → Answer K → Input T → Type 0
+AnyRuns {K} {T} {S} seen reading form i answer j =
+    -- the first token is taken
+    ((x : K) × Passes reading (seen x ∷ []) i j × (answer ≡ Ok x))
+    -- none is left
+    ⊎ NoTokenRuns form i answer j
+
+-- A run of the parser of one token that is a member.
+abbrev pub OneOfRuns : {K T S : Type 0} → (K → T) → Reading T S → ErrorForm → (K → Bool → Type 0) → Input T → Answer K → Input T → Type 0
+OneOfRuns {K} {T} {S} seen reading form member i answer j =
+    -- the first token is a member, and is taken
+    ((x : K) × Passes reading (seen x ∷ []) i j × member x true × (answer ≡ Ok x))
+    -- it is none
+    ⊎ (((x : K) × (rest : List T) × (i.left.tokens ≡ seen x ∷ rest) × member x false × (answer ≡ Err backtrack) × (j ≡ i))
+    -- none is left
+    ⊎ NoTokenRuns form i answer j)
