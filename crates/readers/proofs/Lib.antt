@@ -1,4 +1,5 @@
 pub mod Bytes
+pub mod DocumentLemmas
 pub mod Owed
 pub mod PairLemmas
 pub mod PairRuns
