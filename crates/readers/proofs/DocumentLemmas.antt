@@ -1,10 +1,9 @@
 -- An input begins with at most one part, and is a document in at most one way.
-use Rattle.std.proofs.Common.{◌≡◌, ◌≢◌, ◌≤◌, ◌<◌, ◌+◌, ◌∙◌, ◌⊎◌, ℕ, List, [], ◌∷◌, ◌++◌, length, refl, sym, ap, subst, arith, inl, inr, append_assoc, length-append, lit<}
+use Rattle.std.proofs.Common.{◌≡◌, ◌≢◌, ◌≤◌, ◌<◌, ◌∙◌, ℕ, List, [], ◌∷◌, ◌++◌, length, refl, sym, ap, subst, arith, inl, inr, append_assoc, lit<}
 use Rattle.std.specs.List.{All}
-use Rattle.std.proofs.lemmas.List.{append-nil}
-use Rattle.std.proofs.lemmas.List.Elements.{All-nil, All-cons, All-tail}
+use Rattle.std.proofs.lemmas.List.Elements.{All-cons, All-tail}
 use Rattle.readers.specs.Pair.{IsKeyByte}
-use Rattle.readers.specs.Document.{IsBlank, IsWhite, IsTrailing, IsCommentByte, IsNameByte, IsValueByte, NotFirst, NotLast, EndsLine, PairBytes, Part, white, comment, section, pair, bytes_of, IsRemark, IsPairBefore, FitsBefore, Begins, BeginsWith, NoPairBeforeSections, BeginsDocument, IsDocument}
+use Rattle.readers.specs.Document.{IsBlank, IsWhite, IsTrailing, IsCommentByte, IsNameByte, IsValueByte, NotFirst, NotLast, EndsLine, PairBytes, Part, white, comment, section, pair, bytes_of, IsRemark, Begins, BeginsWith, IsDocument}
 use Rattle.readers.proofs.PairLemmas.{All-head, All-middle, same_first, same_others, not_none, mark_is_no_key}
 
 -- the longest front of bytes of P is one
