@@ -1,4 +1,12 @@
 pub mod Bytes
+pub mod DocumentLemmas
+pub mod DocumentReading
+pub mod GapLemmas
+pub mod KeyValueLemmas
 pub mod Owed
 pub mod PairLemmas
 pub mod PairRuns
+pub mod PartRuns
+pub mod Repeated
+pub mod SectionLemmas
+pub mod TrailLemmas

@@ -1,14 +1,38 @@
 -- A written answer is what a run owes.
-use Rattle.std.proofs.Common.{◌≡◌, ◌≤◌, ℕ, List, length, Option, Some, None, inl, inr}
-use Rattle.std.specs.Prelude.{IfSome}
+use Rattle.std.proofs.Common.{◌≡◌, ◌≤◌, ◌∙◌, ℕ, List, [], ◌∷◌, length, Option, Some, None, inl, inr, refl, sym, ap, subst, arith}
+use Rattle.std.specs.Borrow.{Bor}
+use Rattle.std.specs.Prelude.{IfSome, ◌↔◌}
 use Rattle.readers.specs.declared.program.Stop.TheVariants.{Unwritable}
 use Rattle.readers.specs.declared.program.Verdict.{Verdict}
 use Rattle.readers.specs.declared.program.Verdict.TheVariants.{Accepted, Refused}
-use Rattle.readers.specs.Program.{IsAnswerText, WritesAnswer, RunOwes, most_bytes}
+use Rattle.readers.specs.declared.program.Format.{Format}
+use Rattle.readers.specs.declared.program.Format.TheVariants.{Pair, Ini}
+use Rattle.readers.specs.Program.{IsAnswerText, WritesAnswer, RunOwes, IsWord, format_word, most_bytes}
 
-pub written_is_owed : (known : Option (List ℕ)) (verdict : Verdict) (text : List ℕ) (status : ℕ) (out_old out_new err_old err_new : Option (List ℕ)) → IfSome known (λ bytes. (length bytes ≤ most_bytes) × IsAnswerText bytes verdict text) → WritesAnswer verdict text status out_old out_new err_old err_new → IfSome known (λ bytes. RunOwes bytes status out_old out_new err_old err_new)
+pub written_is_owed : (format : Format) (known : Option (List ℕ)) (verdict : Verdict) (text : List ℕ) (status : ℕ) (out_old out_new err_old err_new : Option (List ℕ)) → IfSome known (λ bytes. (length bytes ≤ most_bytes) × IsAnswerText format bytes verdict text) → WritesAnswer verdict text status out_old out_new err_old err_new → IfSome known (λ bytes. RunOwes format bytes status out_old out_new err_old err_new)
 unfolding IsAnswerText
-written_is_owed None verdict text status out_old out_new err_old err_new told wrote = tt
-written_is_owed (Some bytes) Accepted text status out_old out_new err_old err_new (le, is_text) (inl (zero, all, kept)) = inl (zero, le, (text, is_text, all), kept)
-written_is_owed (Some bytes) Accepted text status out_old out_new err_old err_new (le, is_text) (inr (two, some, why)) = inr (inr (two, (Unwritable, (le, (text, is_text, some)), why)))
-written_is_owed (Some bytes) Refused text status out_old out_new err_old err_new (le, is_text) (one, kept, some) = inr (inl (one, le, kept, (text, is_text, some)))
+written_is_owed format None verdict text status out_old out_new err_old err_new told wrote = tt
+written_is_owed format (Some bytes) Accepted text status out_old out_new err_old err_new (le, is_text) (inl (zero, all, kept)) = inl (zero, le, (text, is_text, all), kept)
+written_is_owed format (Some bytes) Accepted text status out_old out_new err_old err_new (le, is_text) (inr (two, some, why)) = inr (inr (two, (Unwritable, (le, (text, is_text, some)), why)))
+written_is_owed format (Some bytes) Refused text status out_old out_new err_old err_new (le, is_text) (one, kept, some) = inr (inl (one, le, kept, (text, is_text, some)))
+
+-- the same by the word that asked for the format
+pub owed_by_word : (format other : Format) (known : Option (List ℕ)) (verdict : Verdict) (text : List ℕ) (status : ℕ) (out_old out_new err_old err_new : Option (List ℕ)) → other ≡ format → IfSome known (λ bytes. (length bytes ≤ most_bytes) × IsAnswerText format bytes verdict text) → WritesAnswer verdict text status out_old out_new err_old err_new → IfSome known (λ bytes. RunOwes other bytes status out_old out_new err_old err_new)
+owed_by_word format other known verdict text status out_old out_new err_old err_new same told wrote =
+    let P : Format → Type 0 = λ f. IfSome known (λ bytes. RunOwes f bytes status out_old out_new err_old err_new) in
+    subst P (sym same) (written_is_owed format known verdict text status out_old out_new err_old err_new told wrote)
+
+-- the words are one word
+one_word : (words : List (Bor (List ℕ))) (v w : List ℕ) → IsWord words v → IsWord words w → v ≡ w
+one_word [] v w h k = absurd (omega (arith, h.0))
+one_word (x ∷ xs) v w h k = sym (h.1 x) ∙ k.1 x
+
+-- words that ask for a format ask for no other
+pub asks_for_one : (words : List (Bor (List ℕ))) (format : Format) → IsWord words (format_word format) → (other : Format) → IsWord words (format_word other) ↔ (other ≡ format)
+asks_for_one words format is other = ((λ h. same_format other format (one_word words (format_word other) (format_word format) h is)), λ e. let P : Format → Type 0 = λ f. IsWord words (format_word f) in subst P (sym e) is)
+  where
+    same_format : (f g : Format) → format_word f ≡ format_word g → f ≡ g
+    same_format Pair Pair e = refl
+    same_format Pair Ini e = absurd (omega (arith, ap (λ l. length l) e))
+    same_format Ini Pair e = absurd (omega (arith, ap (λ l. length l) e))
+    same_format Ini Ini e = refl

@@ -1,21 +1,20 @@
 -- What the runs of the parsers of a pair's line say of the bytes.
-use Rattle.std.proofs.Common.{◌≡◌, ◌≢◌, ◌≤◌, ◌<◌, ◌+◌, ◌∙◌, ◌⊎◌, ℕ, Bool, true, false, List, [], ◌∷◌, ◌++◌, length, Option, Some, None, Result, Ok, Err, refl, sym, ap, subst, arith, inl, inr, append_assoc, length-append}
+use Rattle.std.proofs.Common.{◌≡◌, ◌≢◌, ◌≤◌, ◌<◌, ◌+◌, ◌∙◌, ◌⊎◌, ℕ, Bool, true, false, List, [], ◌∷◌, ◌++◌, length, Option, Some, None, Ok, Err, refl, sym, ap, subst, arith, inl, inr, length-append}
 use Rattle.std.specs.Borrow.{Bor}
 use Rattle.std.specs.List.{All}
 use Rattle.std.proofs.lemmas.List.{append-nil}
 use Rattle.streams.specs.Input.{Input}
 use Rattle.streams.specs.Bytes.{bytes_input, bytes_reading}
 use Rattle.streams.specs.Kind.{Kind}
-use Rattle.stream_sets.specs.Compare.{StandsFirst, IsShort}
 use Rattle.stream_errors.specs.Form.{ErrorForm, Answer}
 use Rattle.winnow_core.specs.TakeWhile.{TakeWhileRuns, IsLongest}
 use Rattle.stream_sets.specs.Range.{IsWithin, greatest_of}
 use Rattle.stream_sets.specs.declared.range.Range.{Range}
 use Rattle.winnow_core.specs.Literal.{LiteralRuns}
 use Rattle.readers.specs.Pair.{IsKeyByte, IsPairLine, IsRefusedPair}
-use Rattle.readers.proofs.PairLemmas.{same_first, same_others, not_none, refused_after_key, refused_after_line}
+use Rattle.readers.proofs.PairLemmas.{same_others, refused_after_key, refused_after_line}
 
-true_is_false : true ≡ false → ⊥
+pub true_is_false : true ≡ false → ⊥
 true_is_false e = cc
 
 -- an output is no error

@@ -1,5 +1,5 @@
 -- What the program answers and writes.
-use Rattle.std.specs.Prelude.{◌≡◌, ℕ, ◌<◌, ◌≤◌, List, [], ◌∷◌, ◌++◌, length, ◌⊎◌, codes, Option, slice_index_or, Result, MatchResult}
+use Rattle.std.specs.Prelude.{◌≡◌, ℕ, ◌<◌, ◌≤◌, List, [], ◌∷◌, ◌++◌, length, ◌⊎◌, codes, Option, slice_index_or}
 use Rattle.std.specs.Borrow.{Bor}
 use Rattle.std.specs.Fmt.{decimal}
 use Rattle.std.specs.Io.KnownBytes.{Consumes, Keeps, Appends}
@@ -7,7 +7,10 @@ use Rattle.readers.specs.declared.program.Stop.{Stop}
 use Rattle.readers.specs.declared.program.Stop.TheVariants.{Usage, Unreadable, Unwritable, TooLong, NoMemory}
 use Rattle.readers.specs.declared.program.Verdict.{Verdict}
 use Rattle.readers.specs.declared.program.Verdict.TheVariants.{Accepted, Refused}
+use Rattle.readers.specs.declared.program.Format.{Format}
+use Rattle.readers.specs.declared.program.Format.TheVariants.{Pair, Ini}
 use Rattle.readers.specs.Pair.{IsPairLine, IsRefusedPair}
+use Rattle.readers.specs.Document.{SectionText, HasSections, IsRefusedDocument}
 
 -- at most n of the known bytes were taken
 abbrev pub ConsumesAtMost : Option (List ℕ) → Option (List ℕ) → ℕ → Type 0
@@ -21,6 +24,20 @@ AppendsSome old new bytes = (front : List ℕ) × (rest : List ℕ) × (bytes �
 abbrev pub pair_line : List ℕ → List ℕ → List ℕ
 pair_line key value = key ++ codes ": " ++ value ++ 10 ∷ []
 
+-- the lines of pairs
+abbrev pub pair_lines : List (List ℕ × List ℕ) → List ℕ
+pair_lines [] = []
+pair_lines (p ∷ ps) = pair_line p.0 p.1 ++ pair_lines ps
+
+-- the line of a section's name, and those of its pairs
+abbrev pub section_lines : SectionText → List ℕ
+section_lines s = (codes "section " ++ s.0 ++ 10 ∷ []) ++ pair_lines s.1
+
+-- the lines of a document's sections
+abbrev pub document_lines : List SectionText → List ℕ
+document_lines [] = []
+document_lines (s ∷ ss) = section_lines s ++ document_lines ss
+
 -- the line of a refusal
 abbrev pub refused_line : ℕ → List ℕ
 refused_line n = codes "refused at " ++ decimal n ++ 10 ∷ []
@@ -28,6 +45,11 @@ refused_line n = codes "refused at " ++ decimal n ++ 10 ∷ []
 -- the greatest length of an input, in bytes
 abbrev pub most_bytes : ℕ
 most_bytes = 1048576
+
+-- the word that asks for a format
+abbrev pub format_word : Format → List ℕ
+format_word Pair = codes "pair"
+format_word Ini = codes "ini"
 
 -- the words are the one word
 abbrev pub IsWord : List (Bor (List ℕ)) → List ℕ → Type 0
@@ -37,14 +59,28 @@ IsWord words word = (length words ≡ 1) × ((d : Bor (List ℕ)) → (slice_ind
 abbrev pub IsPairText : List ℕ → List ℕ → Type 0
 IsPairText bytes text = (key : List ℕ) × (value : List ℕ) × IsPairLine bytes key value × (text ≡ pair_line key value)
 
+-- The bytes are a document, and the text is the lines of its sections.
+abbrev pub IsDocumentText : List ℕ → List ℕ → Type 0
+IsDocumentText bytes text = (sections : List SectionText) × HasSections bytes sections × (text ≡ document_lines sections)
+
+-- The bytes are in the format, and the text is their lines.
+abbrev pub IsLinesText : Format → List ℕ → List ℕ → Type 0
+IsLinesText Pair bytes text = IsPairText bytes text
+IsLinesText Ini bytes text = IsDocumentText bytes text
+
+-- The bytes are not in the format, and n is where they are refused.
+abbrev pub IsRefusedAt : Format → List ℕ → ℕ → Type 0
+IsRefusedAt Pair bytes n = IsRefusedPair bytes n
+IsRefusedAt Ini bytes n = IsRefusedDocument bytes n
+
 -- The bytes are refused, and the text says where.
-abbrev pub IsRefusedText : List ℕ → List ℕ → Type 0
-IsRefusedText bytes text = (n : ℕ) × IsRefusedPair bytes n × (text ≡ refused_line n)
+abbrev pub IsRefusedText : Format → List ℕ → List ℕ → Type 0
+IsRefusedText format bytes text = (n : ℕ) × IsRefusedAt format bytes n × (text ≡ refused_line n)
 
 -- the text of an answer, by its verdict
-unfoldable pub IsAnswerText : List ℕ → Verdict → List ℕ → Type 0
-IsAnswerText bytes Accepted text = IsPairText bytes text
-IsAnswerText bytes Refused text = IsRefusedText bytes text
+unfoldable pub IsAnswerText : Format → List ℕ → Verdict → List ℕ → Type 0
+IsAnswerText format bytes Accepted text = IsLinesText format bytes text
+IsAnswerText format bytes Refused text = IsRefusedText format bytes text
 
 -- the text on standard error
 abbrev pub stop_text : Stop → List ℕ
@@ -62,23 +98,23 @@ StopsAnswer bytes Unwritable = ⊥
 StopsAnswer bytes TooLong = most_bytes < length bytes
 StopsAnswer bytes NoMemory = Unit {0}
 
--- What a stop says of the bytes, and of what standard output held and holds: nothing was written, or a beginning of the pair's line.
-abbrev pub StopLeaves : List ℕ → Stop → Option (List ℕ) → Option (List ℕ) → Type 0
-StopLeaves bytes Usage old new = ⊥
-StopLeaves bytes Unreadable old new = Keeps old new
-StopLeaves bytes Unwritable old new = (length bytes ≤ most_bytes) × ((text : List ℕ) × IsPairText bytes text × AppendsSome old new text)
-StopLeaves bytes TooLong old new = (most_bytes < length bytes) × Keeps old new
-StopLeaves bytes NoMemory old new = Keeps old new
+-- What a stop says of the bytes, and of what standard output held and holds: nothing was written, or a beginning of the answer's lines.
+abbrev pub StopLeaves : Format → List ℕ → Stop → Option (List ℕ) → Option (List ℕ) → Type 0
+StopLeaves format bytes Usage old new = ⊥
+StopLeaves format bytes Unreadable old new = Keeps old new
+StopLeaves format bytes Unwritable old new = (length bytes ≤ most_bytes) × ((text : List ℕ) × IsLinesText format bytes text × AppendsSome old new text)
+StopLeaves format bytes TooLong old new = (most_bytes < length bytes) × Keeps old new
+StopLeaves format bytes NoMemory old new = Keeps old new
 
 -- What a run owes for these bytes, by its status: to standard output, and to standard error, whose own faults are passed over.
-abbrev pub RunOwes : List ℕ → ℕ → Option (List ℕ) → Option (List ℕ) → Option (List ℕ) → Option (List ℕ) → Type 0
-RunOwes bytes status out_old out_new err_old err_new =
-    -- the line of the pair
-    ((status ≡ 0) × (length bytes ≤ most_bytes) × ((text : List ℕ) × IsPairText bytes text × Appends out_old out_new text) × Keeps err_old err_new)
+abbrev pub RunOwes : Format → List ℕ → ℕ → Option (List ℕ) → Option (List ℕ) → Option (List ℕ) → Option (List ℕ) → Type 0
+RunOwes format bytes status out_old out_new err_old err_new =
+    -- the lines of the answer
+    ((status ≡ 0) × (length bytes ≤ most_bytes) × ((text : List ℕ) × IsLinesText format bytes text × Appends out_old out_new text) × Keeps err_old err_new)
     -- where the bytes are refused
-    ⊎ (((status ≡ 1) × (length bytes ≤ most_bytes) × Keeps out_old out_new × ((text : List ℕ) × IsRefusedText bytes text × AppendsSome err_old err_new text))
+    ⊎ (((status ≡ 1) × (length bytes ≤ most_bytes) × Keeps out_old out_new × ((text : List ℕ) × IsRefusedText format bytes text × AppendsSome err_old err_new text))
     -- why there is no answer
-    ⊎ ((status ≡ 2) × ((stop : Stop) × StopLeaves bytes stop out_old out_new × AppendsSome err_old err_new (stop_text stop))))
+    ⊎ ((status ≡ 2) × ((stop : Stop) × StopLeaves format bytes stop out_old out_new × AppendsSome err_old err_new (stop_text stop))))
 
 -- What writing an answer leaves, by its verdict, and the status that is answered for it.
 abbrev pub WritesAnswer : Verdict → List ℕ → ℕ → Option (List ℕ) → Option (List ℕ) → Option (List ℕ) → Option (List ℕ) → Type 0

@@ -2,7 +2,13 @@
 ghost use Rattle.std.specs.Prelude.{◌≡◌, ◌≢◌, ◌↔◌, IsTrue, IfOk, IfErr};
 ghost use Rattle.readers.specs.Pair.{IsKeyByte, IsPairLine, IsPairFault};
 
+pub mod impls;
+mod parts;
+mod sections;
+
 use crate::fault::Fault;
+pub use crate::ini::parts::{category, key_value};
+pub use crate::ini::sections::{Section, document};
 use stream_errors::empty::EmptyError;
 use stream_errors::fault::ParseFault;
 use stream_sets::range::Range;

@@ -3,6 +3,7 @@
 
 pub mod fault;
 pub mod ini;
+pub mod laws;
 pub mod program;
 #[cfg(test)]
 mod rows;

@@ -1,13 +1,15 @@
 //! The program over any reader and two writers.
-ghost use Rattle.std.specs.Prelude.{◌≡◌, ◌≤◌, ◌↔◌, IsTrue, List, ℕ, length, IfOk, IfSome, MatchResult, codes, ◌+◌};
+ghost use Rattle.std.specs.Prelude.{◌≡◌, ◌≤◌, ◌↔◌, IsTrue, List, ℕ, length, IfOk, IfSome, MatchOption, MatchResult, ◌+◌};
 ghost use Rattle.std.specs.Io.KnownBytes.{Keeps, Appends};
-ghost use Rattle.readers.specs.Program.{ConsumesAtMost, AppendsSome, pair_line, refused_line, IsAnswerText, StopsAnswer, WritesAnswer, RunOwes, stop_text, IsWord, most_bytes};
+ghost use Rattle.readers.specs.Program.{ConsumesAtMost, AppendsSome, IsAnswerText, StopsAnswer, WritesAnswer, RunOwes, stop_text, refused_line, format_word, IsWord, most_bytes};
 
 mod bytes_io;
+mod lines;
 
 use crate::fault::Fault;
 use crate::ini;
 use crate::program::bytes_io::{ReadFault, put, read_up_to};
+use crate::program::lines::{line_of_pair, line_of_refusal, lines_of_sections};
 use std::alloc::{AllocError, Allocator};
 use std::io::{Read, Write};
 
@@ -48,6 +50,19 @@ impl Stop {
     }
 }
 
+/// What an input is read as.
+///
+/// ```text
+/// Format::Ini   is asked for by the word "ini"
+/// ```
+#[derive(Clone, Copy, Debug, PartialEq)]
+pub enum Format {
+    /// One line of a key and a value, by the word `pair`.
+    Pair,
+    /// A document of sections and pairs, by the word `ini`.
+    Ini,
+}
+
 /// Whether an input is in its format.
 #[derive(Clone, Copy, Debug, PartialEq)]
 enum Verdict {
@@ -66,11 +81,12 @@ struct Answer<A: Allocator> {
 /// The program over any reader and two writers. `words` are the arguments behind its name; the
 /// answer is the exit status.
 ///
-/// The words are checked first, and nothing is read where they are not one reader's name. At most
-/// one byte more than the limit of 1,048,576 is read. The whole answer is computed before anything
-/// is written:
+/// The words are checked first, and nothing is read where they are not one reader's name, `pair` or
+/// `ini`. At most one byte more than the limit of 1,048,576 is read. The whole answer is computed
+/// before anything is written:
 ///
-/// - status 0: the answer's lines are on `output`;
+/// - status 0: the answer's lines are on `output`: of a pair `KEY: VALUE`, of a document for each
+///   section `section NAME` and then its pairs;
 /// - status 1: `refused at N` is on `errors`, N in bytes from the start, and nothing on `output`;
 /// - status 2: why there is no answer is on `errors`.
 ///
@@ -79,6 +95,8 @@ struct Answer<A: Allocator> {
 /// ```text
 /// run(alloc, &["pair"], &mut b"key=value".as_slice(), &mut output, &mut errors)
 ///     is 0, and output holds "key: value\n"
+/// run(alloc, &["ini"], &mut b"[a]\nx=1".as_slice(), &mut output, &mut errors)
+///     is 0, and output holds "section a\nx: 1\n"
 /// ```
 pub fn run<A: Allocator + Copy, R: Read, W: Write, E: Write>(
     alloc: A,
@@ -89,23 +107,36 @@ pub fn run<A: Allocator + Copy, R: Read, W: Write, E: Write>(
 ) -> u8
     ensures status { result ≤ 2 }
     ensures most { ConsumesAtMost (R.remaining input.old) (R.remaining input.new) (most_bytes + 1) }
-    ensures usage { (IsWord words.now (codes "pair") → ⊥) → (result ≡ 2)
+    ensures usage { ((format : Format) → IsWord words.now (format_word format) → ⊥) → (result ≡ 2)
         × Keeps (R.remaining input.old) (R.remaining input.new)
         × Keeps (W.contents output.old) (W.contents output.new)
         × AppendsSome (E.contents errors.old) (E.contents errors.new) (stop_text Stop.Usage) }
-    ensures answered { IsWord words.now (codes "pair") → IfSome (R.remaining input.old) (λ bytes.
-        RunOwes bytes result (W.contents output.old) (W.contents output.new) (E.contents errors.old) (E.contents errors.new)) }
+    ensures answered { (format : Format) → IsWord words.now (format_word format) → IfSome (R.remaining input.old) (λ bytes.
+        RunOwes format bytes result (W.contents output.old) (W.contents output.new) (E.contents errors.old) (E.contents errors.new)) }
 {
-    if !is_word(words, "pair") {
+    let Some(format) = format_of(words) else {
         put(errors, Stop::Usage.text());
         return 2;
-    }
-    match make_answer(alloc, input) {
+    };
+    match make_answer(alloc, format, input) {
         Ok(answer) => write_answer(&answer, output, errors),
         Err(stop) => {
             put(errors, stop.text());
             2
         }
+    }
+}
+
+/// The format whose word the words are.
+fn format_of(words: &[&str]) -> Option<Format>
+    ensures { MatchOption result ((format : Format) → IsWord words.now (format_word format) → ⊥) (λ format. (other : Format) → IsWord words.now (format_word other) ↔ (other ≡ format)) }
+{
+    if is_word(words, "pair") {
+        Some(Format::Pair)
+    } else if is_word(words, "ini") {
+        Some(Format::Ini)
+    } else {
+        None
     }
 }
 
@@ -120,10 +151,14 @@ fn is_word(words: &[&str], word: &str) -> bool
 }
 
 /// Reads the input, and computes the whole answer to it.
-fn make_answer<A: Allocator + Copy, R: Read>(alloc: A, input: &mut R) -> Result<Answer<A>, Stop>
+fn make_answer<A: Allocator + Copy, R: Read>(
+    alloc: A,
+    format: Format,
+    input: &mut R,
+) -> Result<Answer<A>, Stop>
     ensures most { ConsumesAtMost (R.remaining input.old) (R.remaining input.new) (most_bytes + 1) }
     ensures bytes { IfSome (R.remaining input.old) (λ bytes. MatchResult result
-        (λ a. (length bytes ≤ most_bytes) × IsAnswerText bytes a.verdict a.text.items)
+        (λ a. (length bytes ≤ most_bytes) × IsAnswerText format bytes a.verdict a.text.items)
         (λ stop. StopsAnswer bytes stop)) }
 {
     let mut bytes = Vec::new(alloc);
@@ -135,13 +170,27 @@ fn make_answer<A: Allocator + Copy, R: Read>(alloc: A, input: &mut R) -> Result<
     if bytes.len() > LIMIT {
         return Err(Stop::TooLong);
     }
-    answer_pair(alloc, bytes.as_slice()).map_err(|_| Stop::NoMemory)
+    answer_bytes(alloc, format, bytes.as_slice()).map_err(|_| Stop::NoMemory)
+}
+
+/// The answer to the bytes in a format.
+fn answer_bytes<A: Allocator + Copy>(
+    alloc: A,
+    format: Format,
+    bytes: &[u8],
+) -> Result<Answer<A>, AllocError>
+    ensures { IfOk result (λ a. IsAnswerText format bytes.now a.verdict a.text.items) }
+{
+    match format {
+        Format::Pair => answer_pair(alloc, bytes),
+        Format::Ini => answer_document(alloc, bytes),
+    }
 }
 
 /// The answer to the bytes of a pair.
 #[tactic(auto, unfolding(crate::specs::Program::IsAnswerText))]
 fn answer_pair<A: Allocator + Copy>(alloc: A, bytes: &[u8]) -> Result<Answer<A>, AllocError>
-    ensures { IfOk result (λ a. IsAnswerText bytes.now a.verdict a.text.items) }
+    ensures { IfOk result (λ a. IsAnswerText Format.Pair bytes.now a.verdict a.text.items) }
 {
     match ini::pair(bytes) {
         Ok((key, value)) => {
@@ -151,35 +200,38 @@ fn answer_pair<A: Allocator + Copy>(alloc: A, bytes: &[u8]) -> Result<Answer<A>,
                 text,
             })
         }
-        Err(Fault::Refused(at)) => {
-            let text = line_of_refusal(alloc, at)?;
-            Ok(Answer {
-                verdict: Verdict::Refused,
-                text,
-            })
-        }
+        Err(Fault::Refused(at)) => refusal(alloc, at),
         Err(Fault::NoMemory) => Err(AllocError),
     }
 }
 
-/// The line of a pair.
-fn line_of_pair<A: Allocator>(alloc: A, key: &[u8], value: &[u8]) -> Result<Vec<u8, A>, AllocError>
-    ensures { IfOk result (λ v. v.items ≡ pair_line key.now value.now) }
+/// The answer to the bytes of a document.
+#[tactic(auto, unfolding(crate::specs::Program::IsAnswerText))]
+fn answer_document<A: Allocator + Copy>(alloc: A, bytes: &[u8]) -> Result<Answer<A>, AllocError>
+    ensures { IfOk result (λ a. IsAnswerText Format.Ini bytes.now a.verdict a.text.items) }
 {
-    let mut line = Vec::new(alloc);
-    line.extend_from_slice(key)?;
-    line.extend_from_slice(b": ")?;
-    line.extend_from_slice(value)?;
-    line.push(b'\n')?;
-    Ok(line)
+    match ini::document(alloc, bytes) {
+        Ok(sections) => {
+            let text = lines_of_sections(alloc, sections.as_slice())?;
+            Ok(Answer {
+                verdict: Verdict::Accepted,
+                text,
+            })
+        }
+        Err(Fault::Refused(at)) => refusal(alloc, at),
+        Err(Fault::NoMemory) => Err(AllocError),
+    }
 }
 
-/// The line of a refusal.
-fn line_of_refusal<A: Allocator>(alloc: A, at: usize) -> Result<Vec<u8, A>, AllocError>
-    ensures { IfOk result (λ v. v.items ≡ refused_line at) }
+/// The answer to bytes that are refused.
+fn refusal<A: Allocator>(alloc: A, at: usize) -> Result<Answer<A>, AllocError>
+    ensures { IfOk result (λ a. (a.verdict ≡ Verdict.Refused) × (a.text.items ≡ refused_line at)) }
 {
-    let line = format!(in alloc; "refused at {at}\n")?;
-    Ok(line.into_bytes())
+    let text = line_of_refusal(alloc, at)?;
+    Ok(Answer {
+        verdict: Verdict::Refused,
+        text,
+    })
 }
 
 /// Writes an answer where it goes, and says the exit status.

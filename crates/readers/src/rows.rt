@@ -1,4 +1,6 @@
 //! Tables of inputs and answers, and faults of reading, writing and memory.
+mod documents;
+
 use crate::program::run;
 use refusing::Refusing;
 use std::alloc::Global;
@@ -92,7 +94,7 @@ fn wrong_words(rt: HostRuntime) {
     refuses_words(&rt, rt.alloc(), &["pair", "pair"]);
     refuses_words(&rt, rt.alloc(), &["PAIR"]);
     refuses_words(&rt, rt.alloc(), &[""]);
-    refuses_words(&rt, rt.alloc(), &["ini"]);
+    refuses_words(&rt, rt.alloc(), &["ini", "ini"]);
     refuses_words(&rt, rt.alloc(), &["calc"]);
 }
 
@@ -162,9 +164,17 @@ fn faults_of_writing(rt: HostRuntime) {
 
 #[test]
 fn refused_memory(rt: HostRuntime) {
-    for (text, line, error, status) in [
-        ("key=value\n", "key: value\n", "", 0),
-        ("key", "", "refused at 3\n", 1),
+    for (word, text, line, error, status) in [
+        ("pair", "key=value\n", "key: value\n", "", 0),
+        ("pair", "key", "", "refused at 3\n", 1),
+        (
+            "ini",
+            "[a]\nx=1\n[b]\n",
+            "section a\nx: 1\nsection b\n",
+            "",
+            0,
+        ),
+        ("ini", "[a]\nx", "", "refused at 4\n", 1),
     ] {
         let mut is_done = false;
         for n in 0..100u64 {
@@ -172,7 +182,7 @@ fn refused_memory(rt: HostRuntime) {
             let mut input = text.as_bytes();
             let mut output = Vec::new(rt.alloc());
             let mut errors = Vec::new(rt.alloc());
-            let got = run(&heap, &["pair"], &mut input, &mut output, &mut errors);
+            let got = run(&heap, &[word], &mut input, &mut output, &mut errors);
             if !heap.met() {
                 assert!(rt; n > 0, "memory is asked for");
                 assert_eq!(rt; got, status);

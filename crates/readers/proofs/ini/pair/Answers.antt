@@ -1,4 +1,4 @@
-use Rattle.std.proofs.Common.{rules, ap, ◌+◌, ◌≡◌, ◌∙◌, sym, refl, subst, inl, inr, lit≤, length}
+use Rattle.std.proofs.Common.{rules, ap, ◌+◌, ◌∙◌, sym, refl, subst, inl, inr, lit≤, length}
 use Rattle.stream_errors.specs.Form.{plain}
 use Rattle.readers.specs.Pair.{IsPairLine}
 use Rattle.readers.proofs.PairRuns.{took_by, took_too_few_by, matched, not_matched, line_read, line_left, no_key, no_mark, never_too_few, ok_is_err, same_ok}

@@ -1,5 +1,5 @@
-use Rattle.std.proofs.Common.{take, rules, ◌++◌}
-use Rattle.std.proofs.KnownBytes.{Appends-trans, Appends-kept}
+use Rattle.std.proofs.Common.{take, ◌++◌}
+use Rattle.std.proofs.KnownBytes.{Appends-trans}
 use Rattle.readers.proofs.Bytes.{moves_front}
 use Rattle.readers.proofs.program.bytes_io.put.Goals as goal
 

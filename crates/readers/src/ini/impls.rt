@@ -1,0 +1,115 @@
+//! The parsers of a document's parts, as structs.
+ghost use Rattle.std.specs.Prelude.{◌≡◌};
+ghost use Rattle.readers.specs.DocumentRuns.{CategoryRuns, CommentRuns, GapRuns, KeyRuns, KeyValueRuns, MarkRuns, ValueRuns};
+
+use crate::ini::parts::{category, comment, gap, key, key_value, mark, value};
+use std::alloc::Allocator;
+use stream_errors::input_error::InputError;
+use stream_errors::mode::ErrMode;
+use winnow_core::parser::Parser;
+
+/// The parser [`category`](crate::ini::category).
+///
+/// ```text
+/// Category.parse_next(&mut b"[a]".as_slice())   is Ok("a")
+/// ```
+#[derive(Clone, Copy, Debug, PartialEq, Eq)]
+pub struct Category;
+
+impl<'i> Parser<&'i [u8], &'i str, ErrMode<InputError<&'i [u8]>>> for Category {
+    ghost run = { λ s i answer t j. CategoryRuns i answer j };
+
+    fn parse_next(
+        &mut self,
+        input: &mut &'i [u8],
+    ) -> Result<&'i str, ErrMode<InputError<&'i [u8]>>> {
+        category(input)
+    }
+}
+
+/// The parser [`key_value`](crate::ini::key_value).
+///
+/// ```text
+/// KeyValue.parse_next(&mut b"x=1".as_slice())   is Ok(("x", "1"))
+/// ```
+#[derive(Clone, Copy, Debug, PartialEq, Eq)]
+pub struct KeyValue;
+
+impl<'i> Parser<&'i [u8], (&'i str, &'i str), ErrMode<InputError<&'i [u8]>>> for KeyValue {
+    ghost run = { λ s i answer t j. KeyValueRuns i answer j };
+
+    fn parse_next(
+        &mut self,
+        input: &mut &'i [u8],
+    ) -> Result<(&'i str, &'i str), ErrMode<InputError<&'i [u8]>>> {
+        key_value(input)
+    }
+}
+
+/// The parser of a gap.
+#[derive(Clone, Copy, Drop)]
+pub(super) struct Gap<A> {
+    pub(super) alloc: A,
+}
+
+impl<'i, A: Allocator + Copy> Parser<&'i [u8], (), ErrMode<InputError<&'i [u8]>>> for Gap<A> {
+    ghost run = { λ s i answer t j. GapRuns i answer j };
+
+    fn parse_next(&mut self, input: &mut &'i [u8]) -> Result<(), ErrMode<InputError<&'i [u8]>>> {
+        gap(self.alloc, input)
+    }
+}
+
+/// The parser of a comment.
+#[derive(Clone, Copy)]
+pub(super) struct Comment;
+
+impl<'i> Parser<&'i [u8], (), ErrMode<InputError<&'i [u8]>>> for Comment {
+    ghost run = { λ s i answer t j. CommentRuns i answer j };
+
+    fn parse_next(&mut self, input: &mut &'i [u8]) -> Result<(), ErrMode<InputError<&'i [u8]>>> {
+        comment(input)
+    }
+}
+
+/// The parser of a key.
+#[derive(Clone, Copy)]
+pub(super) struct Key;
+
+impl<'i> Parser<&'i [u8], &'i str, ErrMode<InputError<&'i [u8]>>> for Key {
+    ghost run = { λ s i answer t j. KeyRuns i answer j };
+
+    fn parse_next(
+        &mut self,
+        input: &mut &'i [u8],
+    ) -> Result<&'i str, ErrMode<InputError<&'i [u8]>>> {
+        key(input)
+    }
+}
+
+/// The parser of `=` with spaces and tabs round it.
+#[derive(Clone, Copy)]
+pub(super) struct Mark;
+
+impl<'i> Parser<&'i [u8], (), ErrMode<InputError<&'i [u8]>>> for Mark {
+    ghost run = { λ s i answer t j. MarkRuns i answer j };
+
+    fn parse_next(&mut self, input: &mut &'i [u8]) -> Result<(), ErrMode<InputError<&'i [u8]>>> {
+        mark(input)
+    }
+}
+
+/// The parser of a value.
+#[derive(Clone, Copy)]
+pub(super) struct Value;
+
+impl<'i> Parser<&'i [u8], &'i str, ErrMode<InputError<&'i [u8]>>> for Value {
+    ghost run = { λ s i answer t j. ValueRuns i answer j };
+
+    fn parse_next(
+        &mut self,
+        input: &mut &'i [u8],
+    ) -> Result<&'i str, ErrMode<InputError<&'i [u8]>>> {
+        value(input)
+    }
+}

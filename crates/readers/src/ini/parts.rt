@@ -1,0 +1,135 @@
+//! The parts of a document: sections' names, pairs, and what stands between them.
+ghost use Rattle.std.specs.Prelude.{◌≡◌, MatchOption, List, ℕ};
+ghost use Rattle.std.specs.Str.{IsUtf8};
+ghost use Rattle.streams.specs.Bytes.{bytes_input};
+ghost use Rattle.stream_errors.specs.Form.{answer_by};
+ghost use Rattle.readers.specs.DocumentRuns.{CategoryRuns, CommentRuns, GapRuns, KeyRuns, KeyValueRuns, MarkRuns, ValueRuns, IsWithoutTrailing};
+
+use crate::ini::impls::{Comment, Key, Mark, Value};
+use std::alloc::Allocator;
+use std::str;
+use stream_errors::has_kind::HasKind;
+use stream_errors::input_error::InputError;
+use stream_errors::mode::ErrMode;
+use stream_sets::range::Range;
+use stream_sets::sets::Pred;
+use winnow_ascii::ascii::impls::{Alphanumeric1, Multispace1, Space0};
+use winnow_comb::combinator::{alt, delimited, opt, repeat, separated_pair, terminated};
+use winnow_core::parser::Parser;
+use winnow_core::token::take_while;
+
+/// The bytes as text, where they are UTF-8.
+fn text(bytes: &[u8]) -> Option<&str>
+    ensures { MatchOption result (IsUtf8 bytes.now → ⊥) (λ s. (s.now ≡ bytes.now) × IsUtf8 bytes.now) }
+{
+    str::from_utf8(bytes).ok()
+}
+
+/// The bytes without trailing spaces, tabs and carriage returns.
+fn without_trailing(bytes: &[u8]) -> &[u8]
+    ensures { IsWithoutTrailing bytes.now result.now }
+{
+    match bytes
+        .iter()
+        .rposition(|&b| b != b' ' && b != b'\t' && b != b'\r')
+    {
+        Some(last) => &bytes[..last + 1],
+        None => &bytes[..0],
+    }
+}
+
+/// The value of these bytes, where it is UTF-8.
+fn value_text(bytes: &[u8]) -> Option<&str>
+    ensures { MatchOption result ((value : List ℕ) → IsWithoutTrailing bytes.now value → IsUtf8 value → ⊥) (λ s. IsWithoutTrailing bytes.now s.now × IsUtf8 s.now) }
+{
+    text(without_trailing(bytes))
+}
+
+/// The name of a section: `[`, bytes other than `]` and a line feed, `]`. The name is UTF-8, may be
+/// empty, and is a slice of the input; what follows `]` is left.
+///
+/// It backtracks where no such name begins the input: the input then stands where `[` or `]` is
+/// missing, or at the start where the name is not UTF-8. It takes no memory.
+///
+/// As the example `ini` of winnow reads it, but that a name ends with its line.
+///
+/// ```text
+/// ini::category(&mut b"[a]x".as_slice())   is Ok("a"), and b"x" is left
+/// ini::category(&mut b"a]".as_slice())     backtracks, and b"a]" is left
+/// ```
+pub fn category<'i>(input: &mut &'i [u8]) -> Result<&'i str, ErrMode<InputError<&'i [u8]>>>
+    ensures { CategoryRuns (bytes_input input.old.now) (answer_by ⟦<ErrMode<InputError<&'i [u8]>> as HasKind>⟧.kind result) (bytes_input input.new.now) }
+{
+    delimited(
+        b'[',
+        take_while(Range::from(0..), Pred(|b: u8| b != b']' && b != b'\n')),
+        b']',
+    )
+    .verify_map(text)
+    .parse_next(input)
+}
+
+/// The key of a pair: ASCII letters and digits.
+pub(super) fn key<'i>(input: &mut &'i [u8]) -> Result<&'i str, ErrMode<InputError<&'i [u8]>>>
+    ensures { KeyRuns (bytes_input input.old.now) (answer_by ⟦<ErrMode<InputError<&'i [u8]>> as HasKind>⟧.kind result) (bytes_input input.new.now) }
+{
+    Alphanumeric1.verify_map(text).parse_next(input)
+}
+
+/// `=`, with spaces and tabs round it.
+pub(super) fn mark<'i>(input: &mut &'i [u8]) -> Result<(), ErrMode<InputError<&'i [u8]>>>
+    ensures { MarkRuns (bytes_input input.old.now) (answer_by ⟦<ErrMode<InputError<&'i [u8]>> as HasKind>⟧.kind result) (bytes_input input.new.now) }
+{
+    (Space0, b'=', Space0).void().parse_next(input)
+}
+
+/// The value of a pair: the bytes before `;` and the end of the line, without what trails.
+pub(super) fn value<'i>(input: &mut &'i [u8]) -> Result<&'i str, ErrMode<InputError<&'i [u8]>>>
+    ensures { ValueRuns (bytes_input input.old.now) (answer_by ⟦<ErrMode<InputError<&'i [u8]>> as HasKind>⟧.kind result) (bytes_input input.new.now) }
+{
+    take_while(Range::from(0..), Pred(|b: u8| b != b';' && b != b'\n'))
+        .verify_map(value_text)
+        .parse_next(input)
+}
+
+/// A key and its value: one or more ASCII letters or digits, spaces and tabs, `=`, spaces and tabs,
+/// a value of bytes other than `;` and a line feed, and a comment, if one follows: `;` with the
+/// bytes before the next line feed, which is left. The value is UTF-8, without trailing spaces,
+/// tabs and carriage returns, and may be empty. Both are slices of the input.
+///
+/// It backtracks where no such pair begins the input: the input then stands where the key or `=` is
+/// missing, or where a value begins that is not UTF-8. It takes no memory.
+///
+/// As the example `ini` of winnow reads it, but that a value ends where its text does.
+///
+/// ```text
+/// ini::key_value(&mut b"x = 1 ; c\n".as_slice())   is Ok(("x", "1")), and b"\n" is left
+/// ini::key_value(&mut b"x: 1".as_slice())          backtracks, and b": 1" is left
+/// ```
+pub fn key_value<'i>(
+    input: &mut &'i [u8],
+) -> Result<(&'i str, &'i str), ErrMode<InputError<&'i [u8]>>>
+    ensures { KeyValueRuns (bytes_input input.old.now) (answer_by ⟦<ErrMode<InputError<&'i [u8]>> as HasKind>⟧.kind result) (bytes_input input.new.now) }
+{
+    terminated(separated_pair(Key, Mark, Value), opt(Comment)).parse_next(input)
+}
+
+/// A comment: `;` and the bytes before the next line feed, which need not be text.
+pub(super) fn comment<'i>(input: &mut &'i [u8]) -> Result<(), ErrMode<InputError<&'i [u8]>>>
+    ensures { CommentRuns (bytes_input input.old.now) (answer_by ⟦<ErrMode<InputError<&'i [u8]>> as HasKind>⟧.kind result) (bytes_input input.new.now) }
+{
+    (b';', take_while(Range::from(0..), Pred(|b: u8| b != b'\n')))
+        .void()
+        .parse_next(input)
+}
+
+/// What stands between sections and pairs: any number of white space and comments, to the first byte
+/// that begins neither. It never fails, and takes no memory.
+pub(super) fn gap<'i, A: Allocator + Copy>(
+    alloc: A,
+    input: &mut &'i [u8],
+) -> Result<(), ErrMode<InputError<&'i [u8]>>>
+    ensures { GapRuns (bytes_input input.old.now) (answer_by ⟦<ErrMode<InputError<&'i [u8]>> as HasKind>⟧.kind result) (bytes_input input.new.now) }
+{
+    repeat(alloc, Range::from(0..), alt((Multispace1.void(), Comment))).parse_next(input)
+}

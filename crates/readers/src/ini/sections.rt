@@ -1,0 +1,151 @@
+//! Documents, section by section.
+ghost use Rattle.std.specs.Prelude.{◌≡◌, map, MatchResult};
+ghost use Rattle.readers.specs.Document.{HasSections, IsDocumentFault};
+ghost use Rattle.readers.specs.DocumentRuns.{DocumentRuns, PairsRuns, SectionRuns, SectionsRuns};
+ghost use Rattle.readers.specs.Sections.{pair_text, section_text};
+
+use crate::fault::Fault;
+use crate::ini::impls::{Category, Gap, KeyValue};
+use std::alloc::Allocator;
+use stream_errors::fault::ParseFault;
+use stream_errors::input_error::InputError;
+use stream_errors::mode::ErrMode;
+use stream_errors::parser_error::ParserError;
+use stream_sets::range::Range;
+use winnow_comb::combinator::{preceded, repeat, terminated};
+use winnow_core::parser::Parser;
+
+/// A section: its name, and its pairs of a key and a value in order, as slices of the input. `A` is
+/// the allocator of the list.
+///
+/// ```text
+/// ini::document(alloc, b"[a]\nx=1")   is Ok of one Section with the name "a" and the pair ("x", "1")
+/// ```
+#[derive(Debug, PartialEq, Drop)]
+pub struct Section<'i, A: Allocator> {
+    /// The name between `[` and `]`.
+    pub name: &'i str,
+    /// The pairs, repeats kept.
+    pub pairs: Vec<(&'i str, &'i str), A>,
+}
+
+/// The parser of the pairs behind a section's name, each with the gap behind it.
+#[derive(Clone, Copy, Drop)]
+struct Pairs<A> {
+    alloc: A,
+}
+
+impl<'i, A: Allocator + Copy> Parser<
+    &'i [u8],
+    Vec<(&'i str, &'i str), A>,
+    ErrMode<InputError<&'i [u8]>>,
+> for Pairs<A> {
+    ghost run = { λ s i answer t j. PairsRuns (λ all. map pair_text all.items) i answer j };
+
+    fn parse_next(
+        &mut self,
+        input: &mut &'i [u8],
+    ) -> Result<Vec<(&'i str, &'i str), A>, ErrMode<InputError<&'i [u8]>>> {
+        let alloc = self.alloc;
+        repeat(alloc, Range::from(0..), terminated(KeyValue, Gap { alloc })).parse_next(input)
+    }
+}
+
+/// The parser of a section: its name, a gap, and its pairs.
+#[derive(Clone, Copy, Drop)]
+struct SectionReader<A> {
+    alloc: A,
+}
+
+impl<'i, A: Allocator + Copy> Parser<&'i [u8], Section<'i, A>, ErrMode<InputError<&'i [u8]>>>
+    for SectionReader<A> {
+    ghost run = { λ s i answer t j. SectionRuns section_text i answer j };
+
+    fn parse_next(
+        &mut self,
+        input: &mut &'i [u8],
+    ) -> Result<Section<'i, A>, ErrMode<InputError<&'i [u8]>>> {
+        let alloc = self.alloc;
+        (terminated(Category, Gap { alloc }), Pairs { alloc })
+            .map(|(name, pairs)| Section { name, pairs })
+            .parse_next(input)
+    }
+}
+
+/// The parser of all sections.
+#[derive(Clone, Copy, Drop)]
+struct Sections<A> {
+    alloc: A,
+}
+
+impl<'i, A: Allocator + Copy> Parser<
+    &'i [u8],
+    Vec<Section<'i, A>, A>,
+    ErrMode<InputError<&'i [u8]>>,
+> for Sections<A> {
+    ghost run = { λ s i answer t j. SectionsRuns (λ all. map section_text all.items) i answer j };
+
+    fn parse_next(
+        &mut self,
+        input: &mut &'i [u8],
+    ) -> Result<Vec<Section<'i, A>, A>, ErrMode<InputError<&'i [u8]>>> {
+        let alloc = self.alloc;
+        repeat(alloc, Range::from(0..), SectionReader { alloc }).parse_next(input)
+    }
+}
+
+/// The parser of a document: a gap, and all sections.
+#[derive(Clone, Copy, Drop)]
+struct DocumentReader<A> {
+    alloc: A,
+}
+
+impl<'i, A: Allocator + Copy> Parser<
+    &'i [u8],
+    Vec<Section<'i, A>, A>,
+    ErrMode<InputError<&'i [u8]>>,
+> for DocumentReader<A> {
+    ghost run = { λ s i answer t j. DocumentRuns (λ all. map section_text all.items) i answer j };
+
+    fn parse_next(
+        &mut self,
+        input: &mut &'i [u8],
+    ) -> Result<Vec<Section<'i, A>, A>, ErrMode<InputError<&'i [u8]>>> {
+        let alloc = self.alloc;
+        preceded(Gap { alloc }, Sections { alloc }).parse_next(input)
+    }
+}
+
+/// Reads a document: any number of sections, each a name in brackets, as
+/// [`category`](crate::ini::category) reads it, and pairs, as
+/// [`key_value`](crate::ini::key_value) reads them, with white space and comments before, between
+/// and behind them. No pair stands before the first section.
+///
+/// The answer is the sections in order, each with its pairs in order, repeats kept, as slices of the
+/// input. Other bytes are [`Fault::Refused`] at the place, in bytes from the start, where the first
+/// part begins that is no section, pair, white space or comment. Memory is taken for the lists
+/// alone, and [`Fault::NoMemory`] is answered where a request for it was refused. The input is read
+/// once, in a time that grows as its length does.
+///
+/// ```text
+/// ini::document(alloc, b"[a]\nx=1\n")   is Ok of the section "a" with the pair ("x", "1")
+/// ini::document(alloc, b"[a]\nx\n")     is Err(Fault::Refused(4))
+/// ```
+pub fn document<'i, A: Allocator + Copy>(
+    alloc: A,
+    input: &'i [u8],
+) -> Result<Vec<Section<'i, A>, A>, Fault>
+    ensures { MatchResult result (λ sections. HasSections input.now (map section_text sections.items)) (λ fault. IsDocumentFault input.now fault) }
+{
+    match (DocumentReader { alloc }).parse(input) {
+        Ok(sections) => Ok(sections),
+        Err(ParseFault::Refused(error)) => {
+            if error.inner().is_memory() {
+                Err(Fault::NoMemory)
+            } else {
+                Err(Fault::Refused(error.offset()))
+            }
+        }
+        Err(ParseFault::Incomplete(_)) => unreachable!(),
+    }
+}
