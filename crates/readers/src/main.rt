@@ -1,5 +1,5 @@
 //! Readers of small formats, made of the library's parsers, and the program over them.
-#![tactic(auto, using(crate::proofs::Bytes::known_bytes))]
+#![tactic(auto)]
 
 pub mod fault;
 pub mod ini;

@@ -1,4 +1,6 @@
 //! The program over any reader and two writers.
+#![tactic(auto, using(crate::proofs::Bytes::known_bytes))]
+
 ghost use Rattle.std.specs.Prelude.{◌≡◌, ◌≤◌, ◌↔◌, IsTrue, List, ℕ, length, IfOk, IfSome, MatchOption, MatchResult, ◌+◌};
 ghost use Rattle.std.specs.Io.KnownBytes.{Keeps, Appends};
 ghost use Rattle.readers.specs.Program.{ConsumesAtMost, AppendsSome, IsAnswerText, StopsAnswer, WritesAnswer, RunOwes, stop_text, refused_line, format_word, IsWord, most_bytes};

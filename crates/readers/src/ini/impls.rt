@@ -19,6 +19,8 @@ pub struct Category;
 impl<'i> Parser<&'i [u8], &'i str, ErrMode<InputError<&'i [u8]>>> for Category {
     ghost run = { λ s i answer t j. CategoryRuns i answer j };
 
+    ghost leaves_ends = { λ s i answer t j r. r.0 };
+
     fn parse_next(
         &mut self,
         input: &mut &'i [u8],
@@ -38,6 +40,8 @@ pub struct KeyValue;
 impl<'i> Parser<&'i [u8], (&'i str, &'i str), ErrMode<InputError<&'i [u8]>>> for KeyValue {
     ghost run = { λ s i answer t j. KeyValueRuns i answer j };
 
+    ghost leaves_ends = { λ s i answer t j r. r.0 };
+
     fn parse_next(
         &mut self,
         input: &mut &'i [u8],
@@ -55,6 +59,8 @@ pub(super) struct Gap<A> {
 impl<'i, A: Allocator + Copy> Parser<&'i [u8], (), ErrMode<InputError<&'i [u8]>>> for Gap<A> {
     ghost run = { λ s i answer t j. GapRuns i answer j };
 
+    ghost leaves_ends = { λ s i answer t j r. r.0 };
+
     fn parse_next(&mut self, input: &mut &'i [u8]) -> Result<(), ErrMode<InputError<&'i [u8]>>> {
         gap(self.alloc, input)
     }
@@ -67,6 +73,8 @@ pub(super) struct Comment;
 impl<'i> Parser<&'i [u8], (), ErrMode<InputError<&'i [u8]>>> for Comment {
     ghost run = { λ s i answer t j. CommentRuns i answer j };
 
+    ghost leaves_ends = { λ s i answer t j r. r.0 };
+
     fn parse_next(&mut self, input: &mut &'i [u8]) -> Result<(), ErrMode<InputError<&'i [u8]>>> {
         comment(input)
     }
@@ -78,6 +86,8 @@ pub(super) struct Key;
 
 impl<'i> Parser<&'i [u8], &'i str, ErrMode<InputError<&'i [u8]>>> for Key {
     ghost run = { λ s i answer t j. KeyRuns i answer j };
+
+    ghost leaves_ends = { λ s i answer t j r. r.0 };
 
     fn parse_next(
         &mut self,
@@ -94,6 +104,8 @@ pub(super) struct Mark;
 impl<'i> Parser<&'i [u8], (), ErrMode<InputError<&'i [u8]>>> for Mark {
     ghost run = { λ s i answer t j. MarkRuns i answer j };
 
+    ghost leaves_ends = { λ s i answer t j r. r.0 };
+
     fn parse_next(&mut self, input: &mut &'i [u8]) -> Result<(), ErrMode<InputError<&'i [u8]>>> {
         mark(input)
     }
@@ -105,6 +117,8 @@ pub(super) struct Value;
 
 impl<'i> Parser<&'i [u8], &'i str, ErrMode<InputError<&'i [u8]>>> for Value {
     ghost run = { λ s i answer t j. ValueRuns i answer j };
+
+    ghost leaves_ends = { λ s i answer t j r. r.0 };
 
     fn parse_next(
         &mut self,

@@ -42,6 +42,8 @@ impl<'i, A: Allocator + Copy> Parser<
 > for Pairs<A> {
     ghost run = { λ s i answer t j. PairsRuns (λ all. map pair_text all.items) i answer j };
 
+    ghost leaves_ends = { λ s i answer t j r. r.0 };
+
     fn parse_next(
         &mut self,
         input: &mut &'i [u8],
@@ -60,6 +62,8 @@ struct SectionReader<A> {
 impl<'i, A: Allocator + Copy> Parser<&'i [u8], Section<'i, A>, ErrMode<InputError<&'i [u8]>>>
     for SectionReader<A> {
     ghost run = { λ s i answer t j. SectionRuns section_text i answer j };
+
+    ghost leaves_ends = { λ s i answer t j r. r.0 };
 
     fn parse_next(
         &mut self,
@@ -85,6 +89,8 @@ impl<'i, A: Allocator + Copy> Parser<
 > for Sections<A> {
     ghost run = { λ s i answer t j. SectionsRuns (λ all. map section_text all.items) i answer j };
 
+    ghost leaves_ends = { λ s i answer t j r. r.0 };
+
     fn parse_next(
         &mut self,
         input: &mut &'i [u8],
@@ -106,6 +112,8 @@ impl<'i, A: Allocator + Copy> Parser<
     ErrMode<InputError<&'i [u8]>>,
 > for DocumentReader<A> {
     ghost run = { λ s i answer t j. DocumentRuns (λ all. map section_text all.items) i answer j };
+
+    ghost leaves_ends = { λ s i answer t j r. r.0 };
 
     fn parse_next(
         &mut self,
