@@ -159,11 +159,14 @@ HasSections input sections = (parts : List Part) × IsDocument input parts × (s
 
 -- The input is no document, and n is the length of its longest beginning that is made of parts as a document is.
 pub record IsRefusedDocument (input : List ℕ) (n : ℕ) : Type 0 where
+  -- no parts are the whole input
   pub no_document : (parts : List Part) → IsDocument input parts → ⊥
+  -- these are its first n bytes
   pub parts : List Part
   pub rest : List ℕ
   pub begins : BeginsDocument parts input rest
   pub at : n + length rest ≡ length input
+  -- and none are more
   pub longest : (others : List Part) (left : List ℕ) → BeginsDocument others input left → length input ≤ n + length left
 
 -- A fault of the reader of documents: the input is refused at a place, or a request for memory was.

@@ -30,6 +30,9 @@ pub struct Section<'i, A: Allocator> {
 }
 
 /// The parser of the pairs behind a section's name, each with the gap behind it.
+///
+/// A struct of its own: the prover does not cover a repetition into a list as a member of a tuple
+/// at a reference with a named lifetime.
 #[derive(Clone, Copy, Drop)]
 struct Pairs<A> {
     alloc: A,
@@ -100,7 +103,7 @@ impl<'i, A: Allocator + Copy> Parser<
     }
 }
 
-/// The parser of a document: a gap, and all sections.
+/// The parser of a document: a gap, and all sections. It is a struct of its own for the same reason.
 #[derive(Clone, Copy, Drop)]
 struct DocumentReader<A> {
     alloc: A,
