@@ -5,6 +5,8 @@ pub mod TakeWhile
 pub mod Any
 pub mod TakeCount
 pub mod Rest
+pub mod TakeUntil
+pub mod Before
 pub mod Members
 pub mod Eof
 pub mod Sequence

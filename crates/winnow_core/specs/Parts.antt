@@ -9,6 +9,7 @@ use Rattle.winnow_core.specs.declared.token.impls.NoneOf.{NoneOf}
 use Rattle.winnow_core.specs.declared.token.impls.OneOf.{OneOf}
 use Rattle.winnow_core.specs.declared.token.impls.Take.{Take as TokenTake}
 use Rattle.winnow_core.specs.declared.token.impls.TakeTill.{TakeTill}
+use Rattle.winnow_core.specs.declared.token.impls.TakeUntil.{TakeUntil}
 use Rattle.winnow_core.specs.declared.token.impls.TakeWhile.{TakeWhile}
 use Rattle.std.specs.Prelude.{ℕ}
 
@@ -67,3 +68,11 @@ none_of_set s = s.set
 -- how many tokens are taken
 abbrev pub take_count : {I E : Type 0} → TokenTake I E → ℕ
 take_count s = s.count
+
+-- how many tokens may stand before the literal
+abbrev pub take_until_occurrences : {T I E : Type 0} → TakeUntil T I E → Range
+take_until_occurrences s = s.occurrences
+
+-- the literal before which tokens are taken
+abbrev pub take_until_literal : {T I E : Type 0} → TakeUntil T I E → T
+take_until_literal s = s.literal

@@ -11,6 +11,7 @@ use Rattle.winnow_core.specs.TakeWhile.{TakeWhileRuns}
 use Rattle.winnow_core.specs.Any.{AnyRuns, OneOfRuns}
 use Rattle.winnow_core.specs.TakeCount.{TakeCountRuns}
 use Rattle.winnow_core.specs.Rest.{RestRuns, RestLenRuns}
+use Rattle.winnow_core.specs.TakeUntil.{TakeUntilRuns}
 use Rattle.winnow_core.specs.Eof.{EofRuns}
 use Rattle.winnow_core.specs.Map.{MapRuns}
 use Rattle.winnow_core.specs.VerifyMap.{VerifyMapRuns}
@@ -73,3 +74,10 @@ take_count_ends reading form counts n i answer j (inr (inr (few, whole, e, same)
 
 pub rest_ends : {T L : Type 0} (reading : Reading T L) (i : Input T) (answer : Answer L) (j : Input T) → RestRuns reading i answer j → IsEndOf reading j i
 rest_ends reading i answer j (slice, takes, none, e) = takes_end takes
+
+pub take_until_ends : {T L : Type 0} (reading : Reading T L) (form : ErrorForm) (sought : List T → Type 0) (least : ℕ) (greatest : Option ℕ) (i : Input T) (answer : Answer L) (j : Input T) → TakeUntilRuns reading form sought least greatest i answer j → IsEndOf reading j i
+take_until_ends reading form sought least greatest i answer j (inl (most, is, below, e, same)) = same_ends reading i j same
+take_until_ends reading form sought least greatest i answer j (inr (inl (k, within, nowhere, kind, e, same))) = same_ends reading i j same
+take_until_ends reading form sought least greatest i answer j (inr (inr (inl (start, end, m, slice, enough, within, takes, e)))) = takes_end takes
+take_until_ends reading form sought least greatest i answer j (inr (inr (inr (inl (start, end, m, k, within, few, kind, e, same))))) = same_ends reading i j same
+take_until_ends reading form sought least greatest i answer j (inr (inr (inr (inr (start, end, m, most, is, le, many, e, same))))) = same_ends reading i j same

@@ -6,18 +6,20 @@ ghost use Rattle.streams.specs.Input.{IsEndOf};
 ghost use Rattle.stream_errors.specs.Form.{answer_by};
 ghost use Rattle.winnow_core.specs.Literal.{LiteralRuns};
 ghost use Rattle.winnow_core.specs.Any.{AnyRuns};
-ghost use Rattle.winnow_core.specs.Parts.{literal_value, none_of_set, one_of_set, take_count, take_till_occurrences, take_till_set, take_while_occurrences, take_while_set};
+ghost use Rattle.winnow_core.specs.Parts.{literal_value, none_of_set, one_of_set, take_count, take_till_occurrences, take_till_set, take_until_literal, take_until_occurrences, take_while_occurrences, take_while_set};
 ghost use Rattle.winnow_core.specs.Rest.{RestLenRuns, RestRuns};
 
 pub mod impls;
 mod members;
 mod one;
+mod until;
 
-use crate::token::impls::{Literal, NoneOf, OneOf, Take, TakeTill, TakeWhile};
+use crate::token::impls::{Literal, NoneOf, OneOf, Take, TakeTill, TakeUntil, TakeWhile};
 use crate::token::one::no_token;
 use std::marker::PhantomData;
 use stream_errors::parser_error::ParserError;
 use stream_sets::compare::{Compare, CompareResult};
+use stream_sets::find::FindSlice;
 use stream_sets::numbers::ToUsize;
 use stream_sets::range::Range;
 use stream_sets::sets::ContainsToken;
@@ -188,6 +190,39 @@ where
 {
     Take {
         count: token_count.to_usize(),
+        input: PhantomData,
+        error: PhantomData,
+    }
+}
+
+/// A parser of what stands before the first match of `literal`, which stays unread, of as many
+/// tokens as `occurrences` says; the output is the slice of the input.
+///
+/// A tuple of one to three bytes or characters is matched by each of them. Where nothing matches
+/// it fails, and on a cut input it is incomplete with an unknown need. With a greatest count, a
+/// match behind fewer tokens than the least is the same, and one behind more than the greatest
+/// fails; without one, in the form `1..`, a match at the start fails. Nothing is then consumed. A
+/// greatest count below the least is an assert error.
+///
+/// ```text
+/// take_until(Range::from(0..), b"-->".as_slice()).parse_next(&mut b"ab-->c".as_slice())
+///     is Ok(b"ab"), and b"-->c" is left
+/// ```
+#[inline(always)]
+pub fn take_until<Literal, Input, Error>(
+    occurrences: Range,
+    literal: Literal,
+) -> TakeUntil<Literal, Input, Error>
+where
+    Literal: Copy,
+    Input: StreamIsPartial + FindSlice<Literal>,
+    Error: ParserError<Input>,
+    ensures occurrences { take_until_occurrences result ≡ occurrences }
+    ensures literal { take_until_literal result ≡ literal }
+{
+    TakeUntil {
+        occurrences,
+        literal,
         input: PhantomData,
         error: PhantomData,
     }

@@ -1,5 +1,5 @@
 //! Tests of the combinators over bytes.
-ghost use Rattle.std.specs.Prelude.{⊤};
+ghost use Rattle.streams.specs.Input.{IsEndOf};
 
 mod basic;
 mod branch;
@@ -29,7 +29,9 @@ enum Mode {
 struct Failing(Mode);
 
 impl<I: Stream, E: ParserError<I>> Parser<I, u8, E> for Failing {
-    ghost run = { λ _ _ _ _ _. ⊤ };
+    ghost run = { λ _ i _ _ j. IsEndOf I.reading j i };
+
+    ghost leaves_ends = { λ _ _ _ _ _ ends. ends };
 
     fn parse_next(&mut self, input: &mut I) -> Result<u8, E> {
         let _token = input.next_token();

@@ -1,7 +1,7 @@
 //! Parsers of tokens on whole and on cut inputs.
 use crate::parser::Parser;
 use crate::token::impls::{Any, Rest, RestLen};
-use crate::token::{literal, none_of, one_of, take, take_till, take_while};
+use crate::token::{literal, none_of, one_of, take, take_till, take_until, take_while};
 use stream_errors::empty::EmptyError;
 use stream_errors::mode::ErrMode;
 use stream_sets::range::Range;
@@ -160,4 +160,58 @@ fn token_lists(rt: HostRuntime) {
     let first: Result<&i32, Mode> = Any.parse_next(&mut input);
     assert_eq!(rt; first.ok(), Some(&7));
     assert_eq!(rt; input.eof_offset(), 1);
+}
+
+#[test]
+fn searches(rt: HostRuntime) {
+    let unknown = Ending::Lacks(Needed::Unknown);
+    for (range, text, whole, cut) in [
+        (
+            Range::from(0..),
+            "ab;c;",
+            Ending::Taken(2),
+            Ending::Taken(2),
+        ),
+        (Range::from(0..), ";a", Ending::Taken(0), Ending::Taken(0)),
+        (
+            Range::from(1..),
+            ";a",
+            Ending::Backtracks,
+            Ending::Backtracks,
+        ),
+        (Range::from(0..), "ab", Ending::Backtracks, unknown),
+        (Range::from(3..), "a;bcde;", Ending::Backtracks, unknown),
+        (
+            Range::from(0..=2),
+            "abc;",
+            Ending::Backtracks,
+            Ending::Backtracks,
+        ),
+        (
+            Range::from(0..=3),
+            "éßç;",
+            Ending::Taken(6),
+            Ending::Taken(6),
+        ),
+        (Range::from(2), "é;ß;", Ending::Backtracks, unknown),
+        (Range::from(3..=2), "abc;", Ending::Cuts, Ending::Cuts),
+    ] {
+        assert_eq!(rt; run(take_until(range, ";"), text), whole, "{text:?}");
+        assert_eq!(rt;
+            run(take_until(range, ';'), Partial::new(text)),
+            cut,
+            "{text:?}"
+        );
+    }
+    assert_eq!(rt;
+        run(take_until(Range::from(0..=5), (';', ',')), "ab,c;"),
+        Ending::Taken(2)
+    );
+    assert_eq!(rt;
+        run(
+            take_until(Range::from(0..), (b';', b'c')),
+            b"ab,c;".as_slice()
+        ),
+        Ending::Taken(3)
+    );
 }

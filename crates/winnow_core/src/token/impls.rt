@@ -6,16 +6,19 @@ ghost use Rattle.stream_sets.specs.Range.{greatest_of};
 ghost use Rattle.winnow_core.specs.TakeWhile.{TakeWhileRuns};
 ghost use Rattle.winnow_core.specs.Any.{AnyRuns, OneOfRuns};
 ghost use Rattle.winnow_core.specs.Rest.{RestLenRuns, RestRuns};
-ghost use Rattle.winnow_core.specs.RunEnds.{any_ends, literal_ends, one_of_ends, rest_ends, same_ends, take_count_ends, take_while_ends};
+ghost use Rattle.winnow_core.specs.RunEnds.{any_ends, literal_ends, one_of_ends, rest_ends, same_ends, take_count_ends, take_until_ends, take_while_ends};
 ghost use Rattle.winnow_core.specs.TakeCount.{TakeCountRuns};
+ghost use Rattle.winnow_core.specs.TakeUntil.{TakeUntilRuns};
 
 use crate::parser::Parser;
 use crate::token::members::take_members;
 use crate::token::one::take_member;
+use crate::token::until::take_before;
 use crate::token::{any, rest, rest_len, take_literal};
 use std::marker::PhantomData;
 use stream_errors::parser_error::ParserError;
 use stream_sets::compare::Compare;
+use stream_sets::find::FindSlice;
 use stream_sets::range::Range;
 use stream_sets::sets::ContainsToken;
 use streams::stream::{Stream, StreamIsPartial};
@@ -95,6 +98,31 @@ impl<S: ContainsToken<I::Token>, I: StreamIsPartial, E: ParserError<I>> Parser<I
     #[inline(always)]
     fn parse_next(&mut self, input: &mut I) -> Result<I::Slice, E> {
         take_members(input, self.occurrences, &Others(&self.set))
+    }
+}
+
+/// The parser that [`take_until`](crate::token::take_until) makes.
+///
+/// ```text
+/// take_until(Range::from(0..), b';')   is a TakeUntil<u8, _, _>
+/// ```
+#[derive(Drop)]
+pub struct TakeUntil<T, I, E> {
+    pub(crate) occurrences: Range,
+    pub(crate) literal: T,
+    pub(crate) input: PhantomData<I>,
+    pub(crate) error: PhantomData<E>,
+}
+
+impl<T: Copy, I: StreamIsPartial + FindSlice<T>, E: ParserError<I>> Parser<I, I::Slice, E>
+    for TakeUntil<T, I, E> {
+    ghost run = { λ s i answer t j. TakeUntilRuns I.reading E.form (I.sought s.literal) s.occurrences.start_inclusive (greatest_of s.occurrences.start_inclusive s.occurrences.end_inclusive) i answer j × (t ≡ s) };
+
+    ghost leaves_ends = { λ s i answer t j r. take_until_ends I.reading E.form (I.sought s.literal) s.occurrences.start_inclusive (greatest_of s.occurrences.start_inclusive s.occurrences.end_inclusive) i answer j r.0 };
+
+    #[inline(always)]
+    fn parse_next(&mut self, input: &mut I) -> Result<I::Slice, E> {
+        take_before(input, self.occurrences, self.literal)
     }
 }
 
