@@ -7,6 +7,7 @@ use crate::numbers::ToUsize;
 use crate::sets::ContainsToken;
 use streams::partial::Partial;
 use streams::stream::Stream;
+use streams::token_slice::TokenSlice;
 
 /// Whether a set has a token.
 fn has<T, S: ContainsToken<T> + Drop>(set: S, token: T) -> bool
@@ -90,6 +91,26 @@ fn comparisons_of_text(rt: HostRuntime) {
         compared([0xC3u8].as_slice(), 'é'),
         CompareResult::Incomplete
     );
+}
+
+#[test]
+fn comparisons_of_tokens(rt: HostRuntime) {
+    for (literal, want) in [
+        ([7, 8].as_slice(), CompareResult::Ok(2)),
+        ([7].as_slice(), CompareResult::Ok(1)),
+        ([].as_slice(), CompareResult::Ok(0)),
+        ([7, 8, 9].as_slice(), CompareResult::Incomplete),
+        ([8].as_slice(), CompareResult::Error),
+        ([7, 9, 8].as_slice(), CompareResult::Error),
+    ] {
+        assert_eq!(rt;
+            compared(TokenSlice::new(&[7, 8]), literal),
+            want,
+            "{literal:?}"
+        );
+    }
+    assert_eq!(rt; compared(TokenSlice::new(&[7, 8]), 7), CompareResult::Ok(1));
+    assert_eq!(rt; compared(TokenSlice::new(&[7, 8]), 8), CompareResult::Error);
 }
 
 /// The first range at which something stands in the input.

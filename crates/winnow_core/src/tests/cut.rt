@@ -40,118 +40,113 @@ fn run<I: Stream, O: Drop, P: Parser<I, O, Mode> + Drop>(parser: P, input: I) ->
 
 #[test]
 fn one_token(rt: HostRuntime) {
+    let lacks = Ending::Lacks(Needed::new(1));
     for (text, first, in_set, outside) in [
         ("a;", Ending::Taken(1), Ending::Taken(1), Ending::Backtracks),
         ("é;", Ending::Taken(2), Ending::Backtracks, Ending::Taken(2)),
-        (
-            "",
-            Ending::Backtracks,
-            Ending::Backtracks,
-            Ending::Backtracks,
-        ),
     ] {
         assert_eq!(rt; run(Any, text), first, "{text:?}");
-        assert_eq!(rt; run(one_of('a'..='z'), text), in_set, "{text:?}");
-        assert_eq!(rt; run(none_of('a'..='z'), text), outside, "{text:?}");
+        assert_eq!(rt;
+            run(one_of('a'..='z'), Partial::new(text)),
+            in_set,
+            "{text:?}"
+        );
+        assert_eq!(rt;
+            run(none_of('a'..='z'), Partial::new(text)),
+            outside,
+            "{text:?}"
+        );
     }
-    let lacks = Ending::Lacks(Needed::new(1));
-    assert_eq!(rt; run(Any, Partial::new("")), lacks);
-    assert_eq!(rt; run(Any, Partial::new("a")), Ending::Taken(1));
+    assert_eq!(rt; run(Any, ""), Ending::Backtracks);
     assert_eq!(rt; run(one_of('a'), Partial::new("")), lacks);
-    assert_eq!(rt; run(one_of('a'), Partial::new("b")), Ending::Backtracks);
-    assert_eq!(rt; run(none_of('a'), Partial::new("")), lacks);
-    assert_eq!(rt; run(none_of('a'), Partial::new("b")), Ending::Taken(1));
 }
 
 #[test]
 fn counts(rt: HostRuntime) {
-    assert_eq!(rt; run(take(3u8), b"abcd".as_slice()), Ending::Taken(3));
-    assert_eq!(rt; run(take(3u8), b"ab".as_slice()), Ending::Backtracks);
-    assert_eq!(rt;
-        run(take(3u8), Partial::new(b"ab".as_slice())),
-        Ending::Lacks(Needed::new(1))
-    );
-    assert_eq!(rt;
-        run(take(3u8), Partial::new("ab")),
-        Ending::Lacks(Needed::Unknown)
-    );
-    assert_eq!(rt; run(take(2u8), Partial::new("éa;")), Ending::Taken(3));
-    assert_eq!(rt; run(take(0u8), Partial::new("")), Ending::Taken(0));
-    assert_eq!(rt;
-        run(take(usize::MAX), Partial::new(b"a".as_slice())),
-        Ending::Lacks(Needed::new(usize::MAX - 1))
-    );
-    assert_eq!(rt; run(Rest, Partial::new("ab")), Ending::Taken(2));
+    for (count, text, whole, cut) in [
+        (3usize, "abcd", Ending::Taken(3), Ending::Taken(3)),
+        (3, "ab", Ending::Backtracks, Ending::Lacks(Needed::new(1))),
+        (0, "", Ending::Taken(0), Ending::Taken(0)),
+        (
+            usize::MAX,
+            "a",
+            Ending::Backtracks,
+            Ending::Lacks(Needed::new(usize::MAX - 1)),
+        ),
+    ] {
+        assert_eq!(rt; run(take(count), text.as_bytes()), whole, "{text:?}");
+        assert_eq!(rt;
+            run(take(count), Partial::new(text.as_bytes())),
+            cut,
+            "{text:?}"
+        );
+    }
+    for (count, text, want) in [
+        (3u8, "ab", Ending::Lacks(Needed::Unknown)),
+        (2, "éa;", Ending::Taken(3)),
+    ] {
+        assert_eq!(rt; run(take(count), Partial::new(text)), want, "{text:?}");
+    }
+}
+
+#[test]
+fn all_that_is_left(rt: HostRuntime) {
     assert_eq!(rt; run((Rest, RestLen), Partial::new("ab")), Ending::Taken(2));
-    assert_eq!(rt; run(RestLen, "ab"), Ending::Taken(0));
+    assert_eq!(rt; run(RestLen, Partial::new("ab")), Ending::Taken(0));
 }
 
 #[test]
 fn sets(rt: HostRuntime) {
-    let digit = '0'..='9';
-    assert_eq!(rt;
-        run(take_while(Range::from(1..=3), digit), Partial::new("123")),
-        Ending::Taken(3)
-    );
     let lacks_one = Ending::Lacks(Needed::new(1));
-    assert_eq!(rt;
-        run(
-            take_while(Range::from(1..=3), '0'..='9'),
-            Partial::new("12")
+    for (range, text, want) in [
+        (Range::from(1..=3), "ééé", Ending::Taken(6)),
+        (Range::from(1..=3), "éé", lacks_one),
+        (Range::from(2..=4), "", Ending::Lacks(Needed::new(2))),
+        (Range::from(5..), "éé", lacks_one),
+        (Range::from(0..), "éé", lacks_one),
+        (Range::from(0..), "éé;", Ending::Taken(4)),
+    ] {
+        assert_eq!(rt;
+            run(take_while(range, 'é'), Partial::new(text)),
+            want,
+            "{text:?}"
+        );
+    }
+    for (range, text, whole, cut) in [
+        (
+            Range::from(1..),
+            ";a",
+            Ending::Backtracks,
+            Ending::Backtracks,
         ),
-        lacks_one
-    );
-    assert_eq!(rt;
-        run(take_while(Range::from(2..=4), '0'..='9'), Partial::new("")),
-        Ending::Lacks(Needed::new(2))
-    );
-    assert_eq!(rt;
-        run(take_while(Range::from(5..), 'é'), Partial::new("éé")),
-        lacks_one
-    );
-    assert_eq!(rt;
-        run(take_while(Range::from(0..), '0'..='9'), Partial::new("12")),
-        lacks_one
-    );
-    assert_eq!(rt;
-        run(take_while(Range::from(0..), '0'..='9'), Partial::new("12;")),
-        Ending::Taken(2)
-    );
-    assert_eq!(rt;
-        run(take_till(Range::from(1..), ';'), ";a"),
-        Ending::Backtracks
-    );
-    assert_eq!(rt;
-        run(take_till(Range::from(0..), ';'), "aé;"),
-        Ending::Taken(3)
-    );
-    assert_eq!(rt;
-        run(take_till(Range::from(0..), ';'), Partial::new("aé")),
-        lacks_one
-    );
-    assert_eq!(rt;
-        run(take_till(Range::from(3..=2), ';'), Partial::new("aé")),
-        Ending::Cuts
-    );
+        (Range::from(0..), "aé;", Ending::Taken(3), Ending::Taken(3)),
+        (Range::from(0..), "aé", Ending::Taken(3), lacks_one),
+        (Range::from(3..=2), "aé", Ending::Cuts, Ending::Cuts),
+    ] {
+        assert_eq!(rt; run(take_till(range, ';'), text), whole, "{text:?}");
+        assert_eq!(rt;
+            run(take_till(range, ';'), Partial::new(text)),
+            cut,
+            "{text:?}"
+        );
+    }
 }
 
 #[test]
 fn literals_of_text(rt: HostRuntime) {
+    let unknown = Ending::Lacks(Needed::Unknown);
+    for (text, whole, cut) in [
+        ("", Ending::Backtracks, unknown),
+        ("π", Ending::Backtracks, unknown),
+        ("πa", Ending::Taken(3), Ending::Taken(3)),
+        ("πb", Ending::Backtracks, Ending::Backtracks),
+    ] {
+        assert_eq!(rt; run("πa", text), whole, "{text:?}");
+        assert_eq!(rt; run("πa", Partial::new(text.as_bytes())), cut, "{text:?}");
+    }
     assert_eq!(rt; run(literal('π'), "π3.14"), Ending::Taken(2));
     assert_eq!(rt; run(literal('-'), "π"), Ending::Backtracks);
-    let unknown = Ending::Lacks(Needed::Unknown);
-    for (text, want) in [
-        ("", unknown),
-        ("π", unknown),
-        ("πa", Ending::Taken(3)),
-        ("πb", Ending::Backtracks),
-    ] {
-        assert_eq!(rt; run("πa", Partial::new(text)), want, "{text:?}");
-        assert_eq!(rt; run("πa", Partial::new(text.as_bytes())), want, "{text:?}");
-    }
     assert_eq!(rt; run('π', Partial::new([0xCFu8].as_slice())), unknown);
-    assert_eq!(rt; run('π', Partial::new("")), unknown);
-    assert_eq!(rt; run('π', Partial::new("π")), Ending::Taken(2));
 }
 
 #[test]
@@ -206,12 +201,5 @@ fn searches(rt: HostRuntime) {
     assert_eq!(rt;
         run(take_until(Range::from(0..=5), (';', ',')), "ab,c;"),
         Ending::Taken(2)
-    );
-    assert_eq!(rt;
-        run(
-            take_until(Range::from(0..), (b';', b'c')),
-            b"ab,c;".as_slice()
-        ),
-        Ending::Taken(3)
     );
 }
