@@ -2,7 +2,9 @@ pub mod Kind
 pub mod Place
 pub mod Reading
 pub mod Input
+pub mod Ends
 pub mod Stream
+pub mod Counted
 pub mod Bytes
 pub mod Partial
 pub mod Located

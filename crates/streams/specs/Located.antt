@@ -1,7 +1,7 @@
 -- Streams that know their place: the units passed from their start.
 use Rattle.std.specs.Prelude.{◌≡◌, ℕ, ◌+◌, List}
 use Rattle.std.proofs.Common.{refl, sym, ap, subst, ◌∙◌, arith}
-use Rattle.streams.specs.Input.{Input, Left, IsEndOf, Passes, Takes, is_end_of_refl, passes_end}
+use Rattle.streams.specs.Input.{Input, Left, IsEndOf, Passes, Takes, is_end_of_refl}
 use Rattle.streams.specs.Place.{Place, further}
 use Rattle.streams.specs.Reading.{Reading}
 

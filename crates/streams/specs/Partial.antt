@@ -1,7 +1,7 @@
 -- Streams that may get more.
 use Rattle.std.specs.Prelude.{◌≡◌, Bool, true, false}
 use Rattle.std.proofs.Common.{refl}
-use Rattle.streams.specs.Input.{Input, IsEndOf, Passes, Takes}
+use Rattle.streams.specs.Input.{Input, IsEndOf}
 use Rattle.streams.specs.Reading.{Reading}
 
 -- An input with a flag of its own: whether more may come.

@@ -1,6 +1,5 @@
 -- Where the tokens left begin.
-use Rattle.std.specs.Prelude.{◌≡◌, ℕ, ◌+◌}
-use Rattle.std.proofs.Common.{ap, arith}
+use Rattle.std.specs.Prelude.{ℕ, ◌+◌}
 
 -- The units passed from the start, and the bits read of the first byte.
 pub record Place : Type 0 where

@@ -1,42 +1,18 @@
 -- A list of tokens as a stream.
-use Rattle.std.specs.Prelude.{◌≡◌, ℕ, ◌+◌, ◌≤◌, List, [], ◌∷◌, length, take, drop, Option, Some, None, MatchOption}
+use Rattle.std.specs.Prelude.{◌≡◌, ℕ, ◌+◌, List, [], ◌∷◌, length, Option, Some, None, MatchOption}
 use Rattle.std.specs.Borrow.{Bor}
 use Rattle.std.specs.Iterator.Adapters.{enumerate_source, enumerate_count, enumerate_steps}
 use Rattle.std.specs.Slice.Iter.{iter_rest, iter_steps}
 use Rattle.std.specs.declared.iter.Enumerate.{Enumerate}
 use Rattle.std.specs.declared.slice.Iter.{Iter}
-use Rattle.std.proofs.Common.{refl, sym, ap, ◌∙◌}
-use Rattle.std.proofs.lemmas.List.{length-append, length-take-le, nil_from_length, take-append-drop}
-use Rattle.streams.specs.Input.{Input, at_start, no_side}
-use Rattle.streams.specs.Reading.{Reading}
-use Rattle.streams.specs.Stream.{IsBoundary, with_offsets}
-use Rattle.streams.specs.Bytes.{length-positive}
+use Rattle.std.proofs.Common.{sym, ap, ◌∙◌}
+use Rattle.std.proofs.lemmas.List.{nil_from_length}
+use Rattle.streams.specs.Stream.{with_offsets}
 use Rattle.streams.specs.declared.token_slice.TokenSlice.{TokenSlice}
 
 -- the tokens that are left
 abbrev pub tokens_of : {T : Type 0} → TokenSlice T → List T
 tokens_of s = s.tokens.now
-
--- What is seen of a list of tokens: the tokens, with no place kept, whole.
-abbrev pub tokens_input : {T : Type 0} → List T → Input T
-tokens_input tokens = record { left = at_start tokens; side = no_side }
-
--- Tokens are counted one by one, and a slice shows its own.
-abbrev pub tokens_reading : {T : Type 0} → Reading T (Bor (List T))
-tokens_reading = record {
-  units = length;
-  advance = λ place _. place;
-  shows = λ s tokens. s.now ≡ tokens;
-  units_add = λ xs ys. length-append xs ys;
-  units_positive = λ x xs. length-positive x xs;
-  advance_none = λ p. refl;
-  advance_add = λ p m n. refl;
-  advance_further = λ p n k. refl;
-}
-
--- each place up to the end is between two tokens, or at an end
-pub tokens_boundary : {T : Type 0} (n : ℕ) (tokens : List T) → n ≤ length tokens → IsBoundary length tokens n
-tokens_boundary n tokens h = (take n tokens, drop n tokens, sym (take-append-drop n tokens), sym (length-take-le n tokens h))
 
 -- the tokens that an iterator has still to give, each with its offset
 abbrev pub tokens_left : {T : Type 0} → Enumerate (Iter T) → List (ℕ × T)

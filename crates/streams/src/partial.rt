@@ -37,7 +37,7 @@ impl<I: Stream> Partial<I> {
     /// The stream inside, with the flag that it has itself.
     #[inline(always)]
     pub fn as_inner(&self) -> &I
-        ensures { (I.view result.now).left ≡ (⟦<Partial<I> as Stream>⟧.view self.now).left }
+        ensures { flagged (I.view result.now) (⟦<Partial<I> as Stream>⟧.view self.now).side.cut ≡ ⟦<Partial<I> as Stream>⟧.view self.now }
     {
         &self.input
     }
@@ -45,7 +45,7 @@ impl<I: Stream> Partial<I> {
     /// The stream inside, with the flag that it has itself.
     #[inline(always)]
     pub fn into_inner(self) -> I
-        ensures { (I.view result).left ≡ (⟦<Partial<I> as Stream>⟧.view self).left }
+        ensures { flagged (I.view result) (⟦<Partial<I> as Stream>⟧.view self).side.cut ≡ ⟦<Partial<I> as Stream>⟧.view self }
     {
         self.input
     }

@@ -1,7 +1,8 @@
 //! A list of tokens as a stream.
 ghost use Rattle.std.specs.Prelude.{◌≡◌, [], true, false, refl, ⊤};
 ghost use Rattle.streams.specs.Input.{at_start};
-ghost use Rattle.streams.specs.TokenSlice.{tokens_of, tokens_input, tokens_reading, tokens_left, tokens_left_step};
+ghost use Rattle.streams.specs.Counted.{counted_input, counted_reading};
+ghost use Rattle.streams.specs.TokenSlice.{tokens_of, tokens_left, tokens_left_step};
 
 use crate::needed::Needed;
 use crate::stream::{Stream, StreamIsPartial, UpdateSlice};
@@ -72,11 +73,11 @@ impl<'t, T> Stream for TokenSlice<'t, T> {
 
     type Checkpoint = &'t [T];
 
-    ghost view = { λ s. tokens_input (tokens_of s) };
+    ghost view = { λ s. counted_input (tokens_of s) };
 
     ghost seen = { λ s. at_start s.now };
 
-    ghost reading = { tokens_reading };
+    ghost reading = { counted_reading };
 
     ghost seen_as = { λ t. t.now };
 

@@ -1,5 +1,5 @@
 //! Parsers of ASCII's classes of characters.
-#![tactic(auto, using(crate::specs::Ends::ends_follow))]
+#![tactic(auto, using(streams::specs::Ends::ends_follow))]
 
 ghost use Rattle.streams.specs.Input.{IsEndOf};
 ghost use Rattle.stream_errors.specs.Form.{answer_by};

@@ -1,4 +1,3 @@
-pub mod Ends
 pub mod Opt
 pub mod Cond
 pub mod Peek

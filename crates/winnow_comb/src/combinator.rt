@@ -1,5 +1,5 @@
 //! Combinators.
-#![tactic(auto, using(crate::specs::Ends::ends_follow))]
+#![tactic(auto, using(streams::specs::Ends::ends_follow))]
 
 pub mod basic;
 pub mod branch;

@@ -3,17 +3,12 @@ use Rattle.std.specs.Prelude.{◌≡◌, Bool, true, false, List, [], ◌∷◌,
 use Rattle.streams.specs.Input.{Input, Passes}
 use Rattle.streams.specs.Kind.{Kind, backtrack}
 use Rattle.streams.specs.Reading.{Reading}
-use Rattle.stream_errors.specs.Form.{ErrorForm, Answer, incompleted}
+use Rattle.stream_errors.specs.Form.{ErrorForm, Answer}
+use Rattle.winnow_core.specs.Short.{ShortKind}
 
--- The kind of an error where no token is left: a cut input lacks one unit, and a whole one fails.
-abbrev pub NoTokenKind : {T : Type 0} → ErrorForm → Input T → Kind → Type 0
-NoTokenKind form i kind =
-    ((i.side.cut ≡ true) × (kind ≡ incompleted form (Some 1)))
-    ⊎ ((i.side.cut ≡ false) × (kind ≡ backtrack))
-
--- A run where no token is left.
+-- A run where no token is left: a cut input lacks one unit.
 abbrev pub NoTokenRuns : {T O : Type 0} → ErrorForm → Input T → Answer O → Input T → Type 0
-NoTokenRuns form i answer j = (k : Kind) × (i.left.tokens ≡ []) × NoTokenKind form i k × (answer ≡ Err k) × (j ≡ i)
+NoTokenRuns form i answer j = (k : Kind) × (i.left.tokens ≡ []) × ShortKind form (Some 1) i k × (answer ≡ Err k) × (j ≡ i)
 
 -- A run of the parser of one token. Tokens are seen by `seen`.
 abbrev pub AnyRuns : {K T S : Type 0} → (K → T) → Reading T S → ErrorForm → Input T → Answer K → Input T → Type 0

@@ -1,7 +1,7 @@
-pub mod Ends
 pub mod Runs
 pub mod Literal
 pub mod TakeWhile
+pub mod Short
 pub mod Any
 pub mod TakeCount
 pub mod Rest
@@ -10,6 +10,7 @@ pub mod Before
 pub mod Members
 pub mod Eof
 pub mod Sequence
+pub mod ByRef
 pub mod Map
 pub mod VerifyMap
 pub mod Void
@@ -18,5 +19,6 @@ pub mod Func
 pub mod RunEnds
 pub mod SequenceEnds
 pub mod Whole
+pub mod Peek
 pub mod Parts
 pub mod Laws

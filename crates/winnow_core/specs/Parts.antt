@@ -1,5 +1,6 @@
 -- The parts of the parsers' structs.
 use Rattle.stream_sets.specs.declared.range.Range.{Range}
+use Rattle.winnow_core.specs.declared.combinator.impls.by_ref.ByRef.{ByRef}
 use Rattle.winnow_core.specs.declared.combinator.impls.map.Map.{Map}
 use Rattle.winnow_core.specs.declared.combinator.impls.map.VerifyMap.{VerifyMap}
 use Rattle.winnow_core.specs.declared.combinator.impls.take.Take.{Take}
@@ -24,6 +25,14 @@ take_while_occurrences s = s.occurrences
 -- the set whose members are taken
 abbrev pub take_while_set : {S I E : Type 0} → TakeWhile S I E → S
 take_while_set s = s.set
+
+-- the parser behind the reference
+abbrev pub by_ref_parser : {P I O E : Type 0} → ByRef P I O E → P
+by_ref_parser s = s.parser.now
+
+-- which reference it is
+abbrev pub by_ref_name : {P I O E : Type 0} → ByRef P I O E → ℕ
+by_ref_name s = s.parser.ghost_name
 
 -- the parser whose output is dropped
 abbrev pub void_parser : {F I O E : Type 0} → Void F I O E → F

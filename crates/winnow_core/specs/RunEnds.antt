@@ -69,8 +69,7 @@ one_of_ends seen reading form member i answer j (inr (inr (k, none, kind, e, sam
 
 pub take_count_ends : {T L : Type 0} (reading : Reading T L) (form : ErrorForm) (counts : Bool) (n : ℕ) (i : Input T) (answer : Answer L) (j : Input T) → TakeCountRuns reading form counts n i answer j → IsEndOf reading j i
 take_count_ends reading form counts n i answer j (inl (front, slice, count, takes, e)) = takes_end takes
-take_count_ends reading form counts n i answer j (inr (inl (few, is_cut, e, same))) = same_ends reading i j same
-take_count_ends reading form counts n i answer j (inr (inr (few, whole, e, same))) = same_ends reading i j same
+take_count_ends reading form counts n i answer j (inr (k, few, kind, e, same)) = same_ends reading i j same
 
 pub rest_ends : {T L : Type 0} (reading : Reading T L) (i : Input T) (answer : Answer L) (j : Input T) → RestRuns reading i answer j → IsEndOf reading j i
 rest_ends reading i answer j (slice, takes, none, e) = takes_end takes

@@ -1,16 +1,15 @@
 -- Takes by count.
 use Rattle.std.specs.Prelude.{◌≡◌, ◌<◌, ◌-◌, ℕ, Bool, true, false, List, length, Some, None, Ok, Err, ◌⊎◌, if◌then◌else◌}
 use Rattle.streams.specs.Input.{Input, Takes}
-use Rattle.streams.specs.Kind.{backtrack}
+use Rattle.streams.specs.Kind.{Kind}
 use Rattle.streams.specs.Reading.{Reading}
-use Rattle.stream_errors.specs.Form.{ErrorForm, Answer, incompleted}
+use Rattle.stream_errors.specs.Form.{ErrorForm, Answer}
+use Rattle.winnow_core.specs.Short.{ShortKind}
 
 -- A run of a take of n tokens. Where `counts` holds, a cut input says how many units are missing.
 abbrev pub TakeCountRuns : {T S : Type 0} → Reading T S → ErrorForm → Bool → ℕ → Input T → Answer S → Input T → Type 0
 TakeCountRuns {T} {S} reading form counts n i answer j =
     -- there are as many, and they are taken
     ((front : List T) × (slice : S) × (length front ≡ n) × Takes reading front i slice j × (answer ≡ Ok slice))
-    -- a cut input has too few
-    ⊎ (((length i.left.tokens < n) × (i.side.cut ≡ true) × (answer ≡ Err (incompleted form (if counts then Some (n - length i.left.tokens) else None))) × (j ≡ i))
-    -- a whole one has too few
-    ⊎ ((length i.left.tokens < n) × (i.side.cut ≡ false) × (answer ≡ Err backtrack) × (j ≡ i)))
+    -- there are too few
+    ⊎ ((k : Kind) × (length i.left.tokens < n) × ShortKind form (if counts then Some (n - length i.left.tokens) else None) i k × (answer ≡ Err k) × (j ≡ i))

@@ -1,5 +1,5 @@
 //! Parsers that ask for nothing but a place in the input.
-#![tactic(auto, using(crate::specs::Ends::ends_follow))]
+#![tactic(auto, using(streams::specs::Ends::ends_follow))]
 
 ghost use Rattle.streams.specs.Input.{IsEndOf};
 ghost use Rattle.stream_errors.specs.Form.{answer_by};

@@ -1,18 +1,19 @@
 //! The trait of parsers.
-#![tactic(auto, using(crate::specs::Ends::ends_follow))]
+#![tactic(auto, using(streams::specs::Ends::ends_follow))]
 
 ghost use Rattle.std.specs.Prelude.{◌≡◌, false, ⊤};
 ghost use Rattle.streams.specs.Input.{Input, Left, Remains, IsEndOf};
 ghost use Rattle.stream_errors.specs.Form.{Answer, answer_by};
-ghost use Rattle.winnow_core.specs.Parts.{map_parser, map_closure, verify_map_parser, verify_map_closure, void_parser, take_parser};
+ghost use Rattle.winnow_core.specs.Parts.{by_ref_name, by_ref_parser, map_parser, map_closure, verify_map_parser, verify_map_closure, void_parser, take_parser};
 ghost use Rattle.winnow_core.specs.Runs.{LeaveEnds};
+ghost use Rattle.winnow_core.specs.Peek.{PeekAnswers};
 ghost use Rattle.winnow_core.specs.Whole.{IsFaultAt, ParsesWhole};
 
 mod func;
 mod literals;
 mod tuples;
 
-use crate::combinator::impls::{Map, Take, VerifyMap, Void};
+use crate::combinator::impls::{ByRef, Map, Take, VerifyMap, Void};
 pub use crate::parser::func::Func;
 use std::marker::PhantomData;
 use stream_errors::fault::{ParseError, ParseFault};
@@ -76,6 +77,47 @@ pub trait Parser<I: Stream, O, E: ParserError<I>> {
                 }
             }
             Err(error) => Err(fault_at(input, start, error)),
+        }
+    }
+
+    /// Runs the parser on a stream that is handed over: the rest and the output, or the error.
+    ///
+    /// ```text
+    /// b'a'.parse_peek(b"ab".as_slice())   is Ok((b"b", b'a'))
+    /// ```
+    #[inline(always)]
+    final fn parse_peek(&mut self, input: I) -> Result<(I, O), E>
+    where
+        Self: Sized,
+        requires { can_parse self.old }
+        ensures again { can_parse self.new }
+        ensures ran { PeekAnswers I.view E.kind (λ answer j. run self.old (I.view input) answer self.new j) result }
+    {
+        let mut input = input;
+        match self.parse_next(&mut input) {
+            Ok(output) => Ok((input, output)),
+            Err(error) => Err(error),
+        }
+    }
+
+    /// The parser behind a reference, as a parser: it runs this one, whose state goes on.
+    ///
+    /// ```text
+    /// let mut first = b'a'.map(..);
+    /// first.by_ref().parse_next(&mut input)   runs first, which can be run again after it
+    /// ```
+    #[inline(always)]
+    final fn by_ref(&mut self) -> ByRef<'_, Self, I, O, E>
+    where
+        Self: Sized,
+        ensures state { by_ref_parser result ≡ self.old }
+        ensures behind { by_ref_name result ≡ self.entry.ghost_name }
+    {
+        ByRef {
+            parser: self,
+            input: PhantomData,
+            output: PhantomData,
+            error: PhantomData,
         }
     }
 

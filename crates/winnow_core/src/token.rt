@@ -1,5 +1,5 @@
 //! Parsers that take tokens.
-#![tactic(auto, using(crate::specs::Ends::ends_follow))]
+#![tactic(auto, using(streams::specs::Ends::ends_follow))]
 
 ghost use Rattle.std.specs.Prelude.{◌≡◌};
 ghost use Rattle.streams.specs.Input.{IsEndOf};
@@ -12,10 +12,11 @@ ghost use Rattle.winnow_core.specs.Rest.{RestLenRuns, RestRuns};
 pub mod impls;
 mod members;
 mod one;
+mod short;
 mod until;
 
 use crate::token::impls::{Literal, NoneOf, OneOf, Take, TakeTill, TakeUntil, TakeWhile};
-use crate::token::one::no_token;
+use crate::token::short::short;
 use std::marker::PhantomData;
 use stream_errors::parser_error::ParserError;
 use stream_sets::compare::{Compare, CompareResult};
@@ -120,7 +121,7 @@ pub fn any<Input: StreamIsPartial, Error: ParserError<Input>>(
 {
     match input.next_token() {
         Some(token) => Ok(token),
-        None => Err(no_token(input)),
+        None => Err(short(input, Needed::new(1))),
     }
 }
 
@@ -267,13 +268,7 @@ pub(crate) fn take_literal<T, I: StreamIsPartial + Compare<T>, E: ParserError<I>
 {
     match input.compare(literal) {
         CompareResult::Ok(length) => Ok(input.next_slice(length)),
-        CompareResult::Incomplete => {
-            if input.is_partial() {
-                Err(E::incomplete(input, Needed::Unknown))
-            } else {
-                Err(E::from_input(input))
-            }
-        }
+        CompareResult::Incomplete => Err(short(input, Needed::Unknown)),
         CompareResult::Error => Err(E::from_input(input)),
     }
 }

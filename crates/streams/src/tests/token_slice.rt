@@ -57,7 +57,7 @@ fn each_call(rt: HostRuntime) {
 }
 
 #[test]
-#[tactic(auto, using(crate::specs::TokenSlice::tokens_boundary))]
+#[tactic(auto, using(crate::specs::Counted::counted_boundary))]
 fn slices(rt: HostRuntime) {
     let words = [Word::Letter('a'), Word::Comma, Word::Letter('b')];
     for offset in [0, 1, 2, 3] {

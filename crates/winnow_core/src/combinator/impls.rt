@@ -3,10 +3,12 @@ ghost use Rattle.std.specs.Prelude.{◌≡◌};
 ghost use Rattle.winnow_core.specs.Eof.{EofRuns};
 ghost use Rattle.winnow_core.specs.RunEnds.{eof_ends};
 
+mod by_ref;
 mod map;
 mod take;
 
 use crate::combinator::eof;
+pub use crate::combinator::impls::by_ref::ByRef;
 pub use crate::combinator::impls::map::{Map, VerifyMap};
 pub use crate::combinator::impls::take::{Take, Void};
 use crate::parser::Parser;

@@ -13,6 +13,7 @@ ghost use Rattle.winnow_core.specs.TakeUntil.{TakeUntilRuns};
 use crate::parser::Parser;
 use crate::token::members::take_members;
 use crate::token::one::take_member;
+use crate::token::short::short;
 use crate::token::until::take_before;
 use crate::token::{any, rest, rest_len, take_literal};
 use std::marker::PhantomData;
@@ -244,13 +245,7 @@ impl<I: StreamIsPartial, E: ParserError<I>> Parser<I, I::Slice, E> for Take<I, E
     fn parse_next(&mut self, input: &mut I) -> Result<I::Slice, E> {
         match input.offset_at(self.count) {
             Ok(offset) => Ok(input.next_slice(offset)),
-            Err(needed) => {
-                if input.is_partial() {
-                    Err(E::incomplete(input, needed))
-                } else {
-                    Err(E::from_input(input))
-                }
-            }
+            Err(needed) => Err(short(input, needed)),
         }
     }
 }

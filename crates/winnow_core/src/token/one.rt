@@ -1,8 +1,9 @@
 //! One token.
 ghost use Rattle.streams.specs.Input.{IsEndOf};
 ghost use Rattle.stream_errors.specs.Form.{answer_by};
-ghost use Rattle.winnow_core.specs.Any.{NoTokenKind, OneOfRuns};
+ghost use Rattle.winnow_core.specs.Any.{OneOfRuns};
 
+use crate::token::short::short;
 use stream_errors::parser_error::ParserError;
 use stream_sets::sets::ContainsToken;
 use streams::needed::Needed;
@@ -30,18 +31,6 @@ where
                 Err(E::from_input(input))
             }
         }
-        None => Err(no_token(input)),
-    }
-}
-
-/// The error of a parser that finds no token.
-#[inline(always)]
-pub(crate) fn no_token<I: StreamIsPartial, E: ParserError<I>>(input: &I) -> E
-    ensures { NoTokenKind E.form (I.view input.now) (E.kind result) }
-{
-    if input.is_partial() {
-        E::incomplete(input, Needed::new(1))
-    } else {
-        E::from_input(input)
+        None => Err(short(input, Needed::new(1))),
     }
 }

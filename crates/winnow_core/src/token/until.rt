@@ -4,8 +4,9 @@ ghost use Rattle.streams.specs.Input.{IsEndOf};
 ghost use Rattle.stream_errors.specs.Form.{answer_by};
 ghost use Rattle.stream_sets.specs.Range.{greatest_of};
 ghost use Rattle.winnow_core.specs.Before.{SaysAtLeast, SaysAtMost};
-ghost use Rattle.winnow_core.specs.TakeUntil.{ShortKind, TakeUntilRuns};
+ghost use Rattle.winnow_core.specs.TakeUntil.{TakeUntilRuns};
 
+use crate::token::short::short;
 use stream_errors::parser_error::ParserError;
 use stream_sets::find::FindSlice;
 use stream_sets::range::Range;
@@ -41,7 +42,7 @@ fn take_before_unbounded<T: Copy, I: StreamIsPartial + FindSlice<T>, E: ParserEr
     ensures ends { IsEndOf I.reading (I.view input.new) (I.view input.old) }
 {
     match input.find_slice(literal) {
-        None => Err(too_short(input)),
+        None => Err(short(input, Needed::Unknown)),
         Some(range) => {
             if least > 0 && range.start == 0 {
                 Err(E::from_input(input))
@@ -67,10 +68,10 @@ fn take_before_bounded<T: Copy, I: StreamIsPartial + FindSlice<T>, E: ParserErro
         return Err(E::assert(input, "the greatest count is below the least"));
     }
     match input.find_slice(literal) {
-        None => Err(too_short(input)),
+        None => Err(short(input, Needed::Unknown)),
         Some(range) => {
             if !is_at_least(input, least, range.start) {
-                Err(too_short(input))
+                Err(short(input, Needed::Unknown))
             } else if !is_at_most(input, greatest, range.start) {
                 Err(E::from_input(input))
             } else {
@@ -99,17 +100,5 @@ fn is_at_most<I: Stream>(input: &I, count: usize, offset: usize) -> bool
     match input.offset_at(count) {
         Ok(end) => offset <= end,
         Err(_) => true,
-    }
-}
-
-/// The error of a parser that more input could help.
-#[inline(always)]
-fn too_short<I: StreamIsPartial, E: ParserError<I>>(input: &I) -> E
-    ensures { ShortKind E.form (I.view input.now) (E.kind result) }
-{
-    if input.is_partial() {
-        E::incomplete(input, Needed::Unknown)
-    } else {
-        E::from_input(input)
     }
 }

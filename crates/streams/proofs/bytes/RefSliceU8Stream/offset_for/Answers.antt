@@ -1,6 +1,4 @@
-use Rattle.std.proofs.Common.{rules, arith, ◌≡◌, ◌∙◌, sym, ap, subst, ℕ, ◌+◌, ◌<◌, ◌≤◌, List, [], ◌∷◌, ◌++◌, length, true, false, take, drop, refl, Bool, slice_index_or, get_or}
-use Rattle.std.specs.List.{All}
-use Rattle.std.proofs.lemmas.Grind.{common_steps}
+use Rattle.std.proofs.Common.{rules, arith, ◌≡◌, ◌∙◌, sym, ap, ℕ, ◌+◌, ◌<◌, List, ◌∷◌, ◌++◌, length, false, take, drop, refl, get_or}
 use Rattle.std.proofs.lemmas.List.{take-append-drop, drop_more, length-take-le, take_all}
 use Rattle.std.proofs.lemmas.List.Elements.{All-more}
 use Rattle.streams.specs.Stream.{AnswersSeen}

@@ -1,4 +1,4 @@
-use Rattle.std.proofs.Common.{ℕ, false, take}
+use Rattle.std.proofs.Common.{false, take}
 use Rattle.std.specs.List.{All}
 use Rattle.streams.specs.Stream.{AnswersSeen}
 use Rattle.streams.proofs.bytes.RefSliceU8Stream.offset_for.Given as goal

@@ -1,4 +1,4 @@
-use Rattle.std.proofs.Common.{◌≡◌, ◌+◌, arith}
+use Rattle.std.proofs.Common.{◌+◌, arith}
 use Rattle.streams.specs.Input.{takes_end}
 use Rattle.streams.specs.Located.{located_takes}
 use Rattle.streams.proofs.locating.LocatingSliceStream.finish.Goals as goal

@@ -1,4 +1,4 @@
-use Rattle.std.proofs.Common.{◌≡◌, ◌+◌, ◌-◌, ◌∷◌, [], arith}
+use Rattle.std.proofs.Common.{◌+◌, ◌-◌, ◌∷◌, [], arith}
 use Rattle.streams.specs.Input.{passes_end}
 use Rattle.streams.specs.Located.{located_passes, located_same, passed_units}
 use Rattle.streams.proofs.locating.LocatingSliceStream.next_token.Goals as goal

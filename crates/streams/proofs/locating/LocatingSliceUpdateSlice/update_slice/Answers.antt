@@ -1,4 +1,4 @@
-use Rattle.std.proofs.Common.{◌≡◌, ◌≤◌, ◌+◌, ◌-◌, arith}
+use Rattle.std.proofs.Common.{◌≤◌, ◌-◌, arith}
 use Rattle.streams.specs.Located.{located_place}
 use Rattle.streams.proofs.locating.LocatingSliceUpdateSlice.update_slice.Goals as goal
 

@@ -11,7 +11,7 @@ returns-then-not-is_at_least-clause-ran g c =
       | inl lt ↦ lt
       | inr ge ↦ absurd (false≢true (sym c.if-not-is_at_least.true ∙ says.1 ge))
     ] in
-    inr (inr (inr (inl (range.start, range.end, m, _, c.if-greatest-least.false, few, inr (c.args.greatest, refl, c.too_short-then-not-is_at_least.ensures), refl, refl))))
+    inr (inr (inr (inl (range.start, range.end, m, _, c.if-greatest-least.false, few, inr (c.args.greatest, refl, c.short-then-not-is_at_least.ensures), refl, refl))))
 
 pub returns-then-not-is_at_most-clause-ran : goal.returns-then-not-is_at_most-clause-ran
 returns-then-not-is_at_most-clause-ran g c =

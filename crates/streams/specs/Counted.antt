@@ -1,0 +1,32 @@
+-- Streams whose tokens are counted one by one, and whose slices show their own.
+use Rattle.std.specs.Prelude.{◌≡◌, ℕ, ◌<◌, ◌≤◌, List, ◌∷◌, length, take, drop}
+use Rattle.std.specs.Borrow.{Bor}
+use Rattle.std.proofs.Common.{refl, sym, arith}
+use Rattle.std.proofs.lemmas.List.{take-append-drop, length-take-le, length-append}
+use Rattle.streams.specs.Input.{Input, at_start, no_side}
+use Rattle.streams.specs.Reading.{Reading}
+use Rattle.streams.specs.Stream.{IsBoundary}
+
+pub length-positive : {T : Type 0} (x : T) (xs : List T) → 0 < length (x ∷ xs)
+length-positive x xs = omega arith
+
+-- What is seen of a list of tokens: the tokens, with no place kept, whole.
+abbrev pub counted_input : {T : Type 0} → List T → Input T
+counted_input tokens = record { left = at_start tokens; side = no_side }
+
+-- Each token is one unit, and a slice shows its own.
+abbrev pub counted_reading : {T : Type 0} → Reading T (Bor (List T))
+counted_reading = record {
+  units = length;
+  advance = λ place _. place;
+  shows = λ s tokens. s.now ≡ tokens;
+  units_add = λ xs ys. length-append xs ys;
+  units_positive = λ x xs. length-positive x xs;
+  advance_none = λ p. refl;
+  advance_add = λ p m n. refl;
+  advance_further = λ p n k. refl;
+}
+
+-- each place up to the end is between two tokens, or at an end
+pub counted_boundary : {T : Type 0} (n : ℕ) (tokens : List T) → n ≤ length tokens → IsBoundary length tokens n
+counted_boundary n tokens h = (take n tokens, drop n tokens, sym (take-append-drop n tokens), sym (length-take-le n tokens h))
