@@ -21,4 +21,5 @@ pub mod SequenceEnds
 pub mod Whole
 pub mod Peek
 pub mod Parts
+pub mod Complete
 pub mod Laws

@@ -85,3 +85,7 @@ take_until_occurrences s = s.occurrences
 -- the literal before which tokens are taken
 abbrev pub take_until_literal : {T I E : Type 0} → TakeUntil T I E → T
 take_until_literal s = s.literal
+
+-- what a take of members is made of
+abbrev pub take_while_parts : {S I E : Type 0} → TakeWhile S I E → Range × S
+take_while_parts s = (s.occurrences, s.set)

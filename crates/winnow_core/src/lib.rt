@@ -6,6 +6,7 @@
 #![tactic(auto)]
 
 pub mod combinator;
+pub mod complete;
 pub mod laws;
 pub mod parser;
 #[cfg(test)]
