@@ -426,6 +426,141 @@ def write_choices():
     write(comb + "src/combinator/impls/branch/tuples.rt", CHOICE_IMPLS, names=names, laws=laws, family="\n\n".join(choice_impl(n) for n in upto(MOST)))
 
 
+# Sequences on whole inputs.
+
+
+def sequence_follows_case(n, failing):
+    """That the other n children have the run too, where all succeed or one fails."""
+    ran = failing or n
+    succeeding = ran - 1 if failing else n
+    names = ["o%d" % k for k in upto(succeeding)] + (["k"] if failing else [])
+    between = [BETWEEN[k - 1] for k in upto(ran - 1)]
+    same = ["same%d" % k for k in range(ran + 1, n + 1)]
+    found = ", ".join(names + between + ["r%d" % k for k in upto(ran)] + same + ["is"])
+    case = injected(failing, n + 1, "(%s)" % found if failing == n else found)
+    lines, whole = [], "whole"
+    for k in upto(ran):
+        before = "i" if k == 1 else BETWEEN[k - 2]
+        after = "j" if k == ran else BETWEEN[k - 1]
+        answer = "(Err k)" if k == failing else "(Ok o%d)" % k
+        arguments = "s.%d %%s %s %s t.%d %s" % (k - 1, before, answer, k - 1, after)
+        lines.append("    let (v%d, again%d, q%d) = follows%d %s %s l%d r%d in" % (k, k, k, k, arguments % ("u.%d" % (k - 1)), whole, k, k))
+        if k < ran:
+            whole_next = "whole%d" % k
+            lines.append("    let %s = still_whole reading (ends%d %s r%d) %s in" % (whole_next, k, (arguments % "").replace("  ", " "), k, whole))
+            whole = whole_next
+    for k in range(ran + 1, n + 1):
+        lines.append("    let P%d : _ → Type 0 = λ x. alike%d x u.%d in" % (k, k, k - 1))
+    states = ["v%d" % k if k <= ran else "u.%d" % (k - 1) for k in upto(n)]
+    agains = ["again%d" % k if k <= ran else "subst P%d (sym same%d) l%d" % (k, k, k) for k in upto(n)]
+    again = agains[0] if n == 1 else "(%s)" % ", ".join(agains)
+    parts = names + between + ["q%d" % k for k in upto(ran)] + ["refl"] * (n - ran) + ["is"]
+    lines.append("    (%s, %s, %s)" % (tuple_value(states), again, injected(failing, n + 1, ", ".join(parts))))
+    return case, "\n".join(lines)
+
+
+def sequence_follows_law(n):
+    """The law that the runs of n children on whole inputs are those of others, where theirs are."""
+    types = ["S%d" % k for k in upto(n)] + ["U%d" % k for k in upto(n)] + ["T", "L"] + ["O%d" % k for k in upto(n)]
+    runs = " ".join("(run%d : Runs S%d T O%d)" % (k, k, k) for k in upto(n))
+    others = " ".join("(other%d : Runs U%d T O%d)" % (k, k, k) for k in upto(n))
+    alikes = " ".join("(alike%d : S%d → U%d → Type 0)" % (k, k, k) for k in upto(n))
+    ends = ["LeaveEnds reading run%d" % k for k in upto(n - 1)]
+    follows = ["FollowsOnWhole alike%d run%d other%d" % (k, k, k) for k in upto(n)]
+    alike = "λ s u. %s" % conjunction(["alike%d s.%d u.%d" % (k, k - 1, k - 1) for k in upto(n)])
+    whole = "λ s i answer t j. SequenceRuns%d %s s i answer t j"
+    run_names = " ".join("run%d" % k for k in upto(n))
+    other_names = " ".join("other%d" % k for k in upto(n))
+    name = "sequence%d_follows" % n
+    kind = "FollowsOnWhole (%s) (%s) (%s)" % (alike, whole % (n, run_names), whole % (n, other_names))
+    lines = ["%s : {%s : Type 0} (reading : Reading T L) %s %s %s → %s → %s" % (name, " ".join(types), runs, others, alikes, " → ".join(ends + follows), kind)]
+    given = " ".join([run_names, other_names] + ["alike%d" % k for k in upto(n)] + ["ends%d" % k for k in upto(n - 1)] + ["follows%d" % k for k in upto(n)])
+    found = "l1" if n == 1 else "(%s)" % ", ".join("l%d" % k for k in upto(n))
+    for failing in range(n + 1):
+        case, term = sequence_follows_case(n, failing)
+        lines.append("%s reading %s s u i answer t j whole %s (%s) =\n%s" % (name, given, found, case, term))
+    both = ["LeaveEnds reading run%d" % k for k in upto(n - 1)] + ["LeaveEnds reading other%d" % k for k in upto(n - 1)]
+    agree = ["AgreeOnWhole alike%d run%d other%d" % (k, k, k) for k in upto(n)]
+    lines += [
+        "",
+        "pub sequence%d_agrees : {%s : Type 0} (reading : Reading T L) %s %s %s → %s → Agree%s" % (n, " ".join(types), runs, others, alikes, " → ".join(both + agree), kind[len("Follows"):]),
+        "sequence%d_agrees reading %s %s %s %s %s %s = record {" % (n, run_names, other_names, " ".join("alike%d" % k for k in upto(n)), " ".join("ends%d" % k for k in upto(n - 1)), " ".join("other_ends%d" % k for k in upto(n - 1)), " ".join("agrees%d" % k for k in upto(n))),
+        "  there = %s reading %s %s %s %s %s;" % (name, run_names, other_names, " ".join("alike%d" % k for k in upto(n)), " ".join("ends%d" % k for k in upto(n - 1)), " ".join("agrees%d.there" % k for k in upto(n))),
+        "  back = %s reading %s %s %s %s %s;" % (name, other_names, run_names, " ".join("(λ u s. alike%d s u)" % k for k in upto(n)), " ".join("other_ends%d" % k for k in upto(n - 1)), " ".join("agrees%d.back" % k for k in upto(n))),
+        "}",
+    ]
+    return "\n".join(" ".join(part for part in line.split(" ") if part) if not line.startswith(" ") else line for line in lines)
+
+
+SEQUENCE_COMPLETE = """-- Sequences have the same runs on whole inputs, where their children do.
+-- {head}
+use Rattle.std.specs.Prelude.{{◌≡◌, ⊤, false, Ok, Err}}
+use Rattle.std.proofs.Common.{{refl, sym, subst, inl, inr}}
+use Rattle.streams.specs.Reading.{{Reading}}
+use Rattle.winnow_core.specs.Complete.{{AgreeOnWhole, FollowsOnWhole, still_whole}}
+use Rattle.winnow_core.specs.Runs.{{Runs, LeaveEnds}}
+use Rattle.winnow_core.specs.Sequence.{{SequenceRuns0, {names}}}
+
+pub sequence0_agrees : {{T : Type 0}} → AgreeOnWhole {{S = ⊤}} {{U = ⊤}} {{T = T}} (λ s u. ⊤) (λ s i answer t j. SequenceRuns0 s i answer t j) (λ s i answer t j. SequenceRuns0 s i answer t j)
+sequence0_agrees = record {{
+  there = λ s u i answer t j whole same r. (tt, tt, r);
+  back = λ u s i answer t j whole same r. (tt, tt, r);
+}}
+
+{family}
+"""
+
+
+def sequence_complete_impl(n):
+    parsers = rust_tuple(["P%d" % k for k in upto(n)])
+    others = rust_tuple(["Q%d" % k for k in upto(n)])
+    outputs = rust_tuple(["O%d" % k for k in upto(n)])
+    dropped = ", ".join("O%d: Drop" % k if k < n else "O%d" % k for k in upto(n))
+    bound = ", ".join("P%d: AgreesWhenComplete<I, O%d, E, Q%d, F>, Q%d: Parser<Partial<I>, O%d, F>" % (k, k, k, k, k) for k in upto(n))
+    arguments = ["P%d.run" % k for k in upto(n)] + ["Q%d.run" % k for k in upto(n)] + ["P%d.alike" % k for k in upto(n)]
+    arguments += ["P%d.leaves_ends" % k for k in upto(n - 1)] + ["Q%d.leaves_ends" % k for k in upto(n - 1)] + ["(P%d.agrees e)" % k for k in upto(n)]
+    return "\n".join(
+        [
+            "impl<I: Stream, %s, E: ParserError<I>, F: ParserError<Partial<I>>, %s> AgreesWhenComplete<I, %s, E, %s, F> for %s {" % (dropped, bound, outputs, others, parsers),
+            "    ghost alike = { λ s u. %s };" % conjunction(["P%d.alike s.%d u.%d" % (k, k - 1, k - 1) for k in upto(n)]),
+            "",
+            "    ghost agrees = { λ e. sequence%d_agrees I.reading %s };" % (n, " ".join(arguments)),
+            "}",
+        ]
+    )
+
+
+SEQUENCE_COMPLETE_IMPLS = """//! Tuples.
+//!
+//! {head}
+ghost use Rattle.std.specs.Prelude.{{⊤}};
+ghost use Rattle.winnow_core.specs.SequenceComplete.{{{laws}}};
+
+use crate::complete::AgreesWhenComplete;
+use crate::parser::Parser;
+use stream_errors::parser_error::ParserError;
+use streams::partial::Partial;
+use streams::stream::Stream;
+
+impl<I: Stream, E: ParserError<I>, F: ParserError<Partial<I>>> AgreesWhenComplete<I, (), E, (), F>
+    for () {{
+    ghost alike = {{ λ s u. ⊤ }};
+
+    ghost agrees = {{ λ e. sequence0_agrees }};
+}}
+
+{family}
+"""
+
+
+def write_complete_sequences():
+    core = "crates/winnow_core/"
+    names = ", ".join("SequenceRuns%d" % n for n in upto(MOST))
+    write(core + "specs/SequenceComplete.antt", SEQUENCE_COMPLETE, names=names, family="\n\n".join(sequence_follows_law(n) for n in upto(MOST)))
+    laws = ", ".join("sequence%d_agrees" % n for n in range(MOST + 1))
+    write(core + "src/complete/tuples.rt", SEQUENCE_COMPLETE_IMPLS, laws=laws, family="\n\n".join(sequence_complete_impl(n) for n in upto(MOST)))
+
+
 # The law of choices.
 
 
@@ -592,5 +727,6 @@ def write_sets():
 if __name__ == "__main__":
     write_sets()
     write_sequences()
+    write_complete_sequences()
     write_choices()
     write_laws()

@@ -22,4 +22,6 @@ pub mod Whole
 pub mod Peek
 pub mod Parts
 pub mod Complete
+pub mod CompleteRuns
+pub mod SequenceComplete
 pub mod Laws

@@ -2,7 +2,10 @@
 ghost use Rattle.std.specs.Prelude.{◌≡◌};
 ghost use Rattle.winnow_core.specs.Complete.{AgreeOnWhole};
 
+mod adapters;
+mod literals;
 mod token;
+mod tuples;
 
 use crate::parser::Parser;
 use stream_errors::parser_error::ParserError;
@@ -28,6 +31,12 @@ pub trait AgreesWhenComplete<
 >: Parser<I, O, E> {
     // The states in which the two are the same parser.
     ghost alike: { Self → Q → Type 0 };
+
+    /// The law of this trait, for those that prove with it: on whole inputs the runs of one parser
+    /// are those of the other. It does nothing.
+    fn agree()
+        ensures { E.form ≡ F.form → AgreeOnWhole alike Self.run Q.run }
+    {}
 
     // On whole inputs the runs of one are those of the other.
     ghost agrees: { E.form ≡ F.form → AgreeOnWhole alike Self.run Q.run };
