@@ -1,6 +1,6 @@
 -- What is known while members are counted, and what is answered for it.
-use Rattle.std.proofs.Common.{◌≡◌, ◌≤◌, ◌<◌, ◌+◌, ◌∙◌, ℕ, Bool, true, false, not, List, [], ◌∷◌, ◌++◌, length, Option, Some, None, refl, sym, ap, subst, arith, inl, inr, ◌⊎◌, append_assoc, length-append, suc, zero}
-use Rattle.std.specs.Prelude.{MatchOption, unwrap_or, max}
+use Rattle.std.proofs.Common.{◌≡◌, ◌≤◌, ◌<◌, ◌+◌, ◌∙◌, ℕ, Bool, true, false, not, List, [], ◌∷◌, ◌++◌, length, Option, Some, None, refl, sym, ap, subst, arith, inl, inr, ◌⊎◌, append_assoc, length-append}
+use Rattle.std.specs.Prelude.{unwrap_or}
 use Rattle.std.specs.List.{All}
 use Rattle.std.proofs.lemmas.List.{append-nil}
 use Rattle.std.proofs.lemmas.List.Elements.{All-append, All-cons, All-nil}
@@ -11,7 +11,7 @@ use Rattle.streams.specs.Reading.{Reading}
 use Rattle.streams.specs.Stream.{AnswersSeen, FindsFirst, with_offsets}
 use Rattle.stream_errors.specs.Form.{ErrorForm, Answer}
 use Rattle.stream_sets.specs.Range.{IsWithin, IsBelow}
-use Rattle.winnow_core.specs.TakeWhile.{IsLongest, IsEnded, IsOpen, TakeWhileRuns}
+use Rattle.winnow_core.specs.TakeWhile.{IsLongest, IsEnded, TakeWhileRuns}
 use Rattle.winnow_core.specs.Members.{CountsMembers, FoundRuns}
 
 -- `count` members stand first, and `left` are the tokens behind them, each with its offset.

@@ -1,9 +1,7 @@
 -- The adapters have the same runs on whole inputs where their children do.
-use Rattle.std.specs.Prelude.{◌≡◌, ℕ, Option, Some, None, false, Ok, Err}
+use Rattle.std.specs.Prelude.{◌≡◌, ℕ, Option, Some, None, Ok, Err}
 use Rattle.std.proofs.Common.{refl, sym, subst, inl, inr, ◌∙◌}
-use Rattle.streams.specs.Input.{Input}
 use Rattle.streams.specs.Reading.{Reading}
-use Rattle.stream_errors.specs.Form.{Answer}
 use Rattle.winnow_core.specs.ByRef.{ByRefRuns}
 use Rattle.winnow_core.specs.Complete.{AgreeOnWhole, FollowsOnWhole, agrees_inside}
 use Rattle.winnow_core.specs.Map.{MapRuns}

@@ -1,8 +1,7 @@
 -- The runs of each parser leave an end of their input, where those of its children do.
-use Rattle.std.specs.Prelude.{◌≡◌, ⊤, ℕ, Bool, List, Option, Some, None, Ok, Err}
-use Rattle.std.proofs.Common.{refl, sym, subst, inl, inr, ◌⊎◌}
+use Rattle.std.specs.Prelude.{◌≡◌, ℕ, Bool, List, Option, Ok, Err}
+use Rattle.std.proofs.Common.{refl, sym, subst, inl, inr}
 use Rattle.streams.specs.Input.{Input, IsEndOf, is_end_of_refl, back_at, is_end_of_back, passes_end, takes_end}
-use Rattle.streams.specs.Kind.{Kind}
 use Rattle.streams.specs.Reading.{Reading}
 use Rattle.stream_errors.specs.Form.{ErrorForm, Answer}
 use Rattle.winnow_core.specs.Runs.{Runs, LeaveEnds}
@@ -10,7 +9,7 @@ use Rattle.winnow_core.specs.Literal.{LiteralRuns}
 use Rattle.winnow_core.specs.TakeWhile.{TakeWhileRuns}
 use Rattle.winnow_core.specs.Any.{AnyRuns, OneOfRuns}
 use Rattle.winnow_core.specs.TakeCount.{TakeCountRuns}
-use Rattle.winnow_core.specs.Rest.{RestRuns, RestLenRuns}
+use Rattle.winnow_core.specs.Rest.{RestRuns}
 use Rattle.winnow_core.specs.TakeUntil.{TakeUntilRuns}
 use Rattle.winnow_core.specs.Eof.{EofRuns}
 use Rattle.winnow_core.specs.Map.{MapRuns}

@@ -1,5 +1,5 @@
 -- Takes by count.
-use Rattle.std.specs.Prelude.{◌≡◌, ◌<◌, ◌-◌, ℕ, Bool, true, false, List, length, Some, None, Ok, Err, ◌⊎◌, if◌then◌else◌}
+use Rattle.std.specs.Prelude.{◌≡◌, ◌<◌, ◌-◌, ℕ, Bool, List, length, Some, None, Ok, Err, ◌⊎◌, if◌then◌else◌}
 use Rattle.streams.specs.Input.{Input, Takes}
 use Rattle.streams.specs.Kind.{Kind}
 use Rattle.streams.specs.Reading.{Reading}

@@ -1,12 +1,17 @@
 //! Laws of the parsers, for those that build on them.
-ghost use Rattle.winnow_core.specs.Laws.{GoesBackOnRefusal};
+ghost use Rattle.std.specs.Prelude.{◌≡◌, false};
+ghost use Rattle.std.specs.Str.{chars};
+ghost use Rattle.winnow_core.specs.Laws.{AnswersAsPlain, GoesBackOnRefusal, TakesFromTheFront};
 ghost use Rattle.winnow_core.specs.Parts.{verify_map_parser};
 ghost use Rattle.winnow_core.specs.Runs.{LeaveEnds};
 
-use crate::combinator::impls::VerifyMap;
+use crate::combinator::impls::{Take, VerifyMap};
+use crate::complete::AgreesWhenComplete;
 use crate::parser::Parser;
 use stream_errors::parser_error::ParserError;
-use streams::stream::Stream;
+use streams::partial::Partial;
+use streams::stream::{Stream, StreamIsPartial};
+use streams::token_slice::TokenSlice;
 
 /// After `parse_next` the input is an end of the input before, whatever it answers.
 pub fn leaves_an_end<P: Parser<I, O, E>, I: Stream, O, E: ParserError<I>>()
@@ -24,4 +29,51 @@ pub fn verify_map_goes_back<
     E: ParserError<I>,
 >()
     ensures { GoesBackOnRefusal verify_map_parser P.run ⟦<VerifyMap<P, G, I, O, O2, E> as Parser<I, O2, E>>⟧.run }
+{}
+
+/// A parser over a partial stream that is marked complete has the runs of the like parser over the
+/// stream inside, where that has no flag of its own.
+pub fn a_complete_stream_is_answered_as_the_plain_one<
+    P: AgreesWhenComplete<I, O, E, Q, F>,
+    Q: Parser<Partial<I>, O, F>,
+    I: StreamIsPartial,
+    O,
+    E: ParserError<I>,
+    F: ParserError<Partial<I>>,
+>()
+    ensures { I.supports_partial ≡ false → E.form ≡ F.form → AnswersAsPlain I.view ⟦<Partial<I> as Stream>⟧.view P.alike P.run Q.run }
+{}
+
+/// Over bytes, the slice that [`take`](crate::parser::Parser::take) answers and then the rest are
+/// the input before.
+pub fn taken_bytes_and_the_rest_are_the_input<
+    'a,
+    P: Parser<&'a [u8], O, E>,
+    O: Drop,
+    E: ParserError<&'a [u8]>,
+>()
+    ensures { TakesFromTheFront (λ slice. slice.now) ⟦<Take<P, &'a [u8], O, E> as Parser<&'a [u8], &'a [u8], E>>⟧.run }
+{}
+
+/// Over text, the slice that [`take`](crate::parser::Parser::take) answers and then the rest are
+/// the input before.
+pub fn taken_text_and_the_rest_are_the_input<
+    'a,
+    P: Parser<&'a str, O, E>,
+    O: Drop,
+    E: ParserError<&'a str>,
+>()
+    ensures { TakesFromTheFront (λ slice. chars slice.now) ⟦<Take<P, &'a str, O, E> as Parser<&'a str, &'a str, E>>⟧.run }
+{}
+
+/// Over a list of tokens, the slice that [`take`](crate::parser::Parser::take) answers and then the
+/// rest are the input before.
+pub fn taken_tokens_and_the_rest_are_the_input<
+    't,
+    T: 't,
+    P: Parser<TokenSlice<'t, T>, O, E>,
+    O: Drop,
+    E: ParserError<TokenSlice<'t, T>>,
+>()
+    ensures { TakesFromTheFront (λ slice. slice.now) ⟦<Take<P, TokenSlice<'t, T>, O, E> as Parser<TokenSlice<'t, T>, &'t [T], E>>⟧.run }
 {}

@@ -1,4 +1,4 @@
-use Rattle.std.proofs.Common.{◌≡◌, ℕ, Option, Some, None, sym, subst, ◌∙◌}
+use Rattle.std.proofs.Common.{ℕ, Option, sym, subst, ◌∙◌}
 use Rattle.stream_errors.specs.Form.{answer_by}
 use Rattle.winnow_core.specs.TakeUntil.{TakeUntilRuns}
 use Rattle.winnow_core.proofs.token.until.take_before.Goals as goal

@@ -1,4 +1,4 @@
-use Rattle.std.proofs.Common.{◌≡◌, ◌<◌, ◌≤◌, ◌++◌, length, refl, sym, ap, Err, inl, inr, ◌∙◌}
+use Rattle.std.proofs.Common.{◌<◌, ◌++◌, length, refl, sym, ap, Err, inl, inr, ◌∙◌}
 use Rattle.std.proofs.lemmas.Bool.{cases_lt, false≢true}
 use Rattle.winnow_core.proofs.token.until.take_before_bounded.Goals as goal
 

@@ -1,4 +1,4 @@
-use Rattle.std.proofs.Common.{◌≡◌, ◌<◌, ◌≤◌, ◌++◌, length, refl, inl, inr, arith}
+use Rattle.std.proofs.Common.{◌≤◌, ◌++◌, length, refl, inl, inr, arith}
 use Rattle.winnow_core.proofs.UntilLemmas.{none_before, some_before}
 use Rattle.winnow_core.proofs.token.until.take_before_unbounded.Goals as goal
 

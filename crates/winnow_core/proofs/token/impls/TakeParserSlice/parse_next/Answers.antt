@@ -1,4 +1,4 @@
-use Rattle.std.proofs.Common.{◌≡◌, take, drop, sym, refl, inl}
+use Rattle.std.proofs.Common.{take, drop, sym, refl, inl}
 use Rattle.std.proofs.lemmas.List.{take-append-drop, length-take-le}
 use Rattle.winnow_core.proofs.token.impls.TakeParserSlice.parse_next.Goals as goal
 

@@ -1,5 +1,5 @@
-use Rattle.std.proofs.Common.{◌≡◌, sym, ap, refl, subst, ◌∙◌, inl, arith, ◌+◌, ◌++◌, Ok}
-use Rattle.streams.specs.Input.{Input, IsEndOf, Passes, Takes, back_at, passed_again}
+use Rattle.std.proofs.Common.{◌≡◌, sym, ap, refl, subst, ◌∙◌, inl, arith, ◌++◌, Ok}
+use Rattle.streams.specs.Input.{Input, Passes, back_at, passed_again}
 use Rattle.winnow_core.proofs.combinator.impls.take.TakeParserSlice.parse_next.Goals as goal
 
 pub returns-clause-ran : goal.returns-clause-ran
