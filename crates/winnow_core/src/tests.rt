@@ -15,6 +15,7 @@ use streams::needed::Needed;
 use streams::stream::Stream;
 
 mod cut;
+mod sweeps;
 
 type Mode<'a> = ErrMode<InputError<&'a [u8]>>;
 
