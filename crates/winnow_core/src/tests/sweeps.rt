@@ -341,15 +341,15 @@ fn ends_of_what_is_there(rt: HostRuntime) {
 #[test]
 fn outputs_and_rests(rt: HostRuntime) {
     let pi: Result<(&str, &str), Mode> = literal('π').parse_peek("π3.14");
-    assert_eq!(rt; pi, Ok(("3.14", "π")));
+    assert_eq!(rt; pi.ok(), Some(("3.14", "π")));
     let other: Result<(&str, &str), Mode> = literal('-').parse_peek("π");
-    assert!(rt; matches!(other, Err(ErrMode::Backtrack(_))));
+    assert!(rt; other.is_err());
     let both: Result<(Partial<&str>, (&str, usize)), Mode> = (Rest, RestLen).parse_peek(
         Partial::new("ab"),
     );
-    assert_eq!(rt; both, Ok((Partial::new(""), ("ab", 0))));
+    assert_eq!(rt; both.ok(), Some((Partial::new(""), ("ab", 0))));
     let count: Result<(Partial<&str>, usize), Mode> = RestLen.parse_peek(Partial::new("éa"));
-    assert_eq!(rt; count, Ok((Partial::new("éa"), 3)));
+    assert_eq!(rt; count.ok(), Some((Partial::new("éa"), 3)));
 }
 
 #[test]
@@ -361,11 +361,11 @@ fn a_parser_goes_on_behind_a_reference(rt: HostRuntime) {
     });
     let mut input = "abc";
     let first: Result<u8, Mode> = counted.by_ref().parse_next(&mut input);
-    assert_eq!(rt; first, Ok(1));
+    assert_eq!(rt; first.ok(), Some(1));
     let second: Result<(u8, u8), Mode> = (counted.by_ref(), Any.map(|_: char| 0)).parse_next(
         &mut input,
     );
-    assert_eq!(rt; second, Ok((2, 0)));
+    assert_eq!(rt; second.ok(), Some((2, 0)));
     let third: Result<u8, Mode> = counted.parse_next(&mut input);
-    assert!(rt; matches!(third, Err(ErrMode::Backtrack(_))));
+    assert!(rt; third.is_err());
 }
