@@ -6,6 +6,7 @@ use crate::token::{literal, none_of, one_of, take, take_till, take_until, take_w
 use std::process::Abort;
 use stream_errors::empty::EmptyError;
 use stream_errors::mode::ErrMode;
+use stream_errors::parser_error::ParserError;
 use stream_sets::range::Range;
 use streams::needed::Needed;
 use streams::partial::Partial;
@@ -368,4 +369,36 @@ fn a_parser_goes_on_behind_a_reference(rt: HostRuntime) {
     assert_eq!(rt; second.ok(), Some((2, 0)));
     let third: Result<u8, Mode> = counted.parse_next(&mut input);
     assert!(rt; third.is_err());
+}
+
+/// Whether a run under a plain error type backtracks, and how many units it leaves.
+fn run_plain<I: Stream, O: Drop, P: Parser<I, O, EmptyError> + Drop>(
+    mut parser: P,
+    mut input: I,
+) -> (bool, usize)
+    requires { P.can_parse parser }
+{
+    let answer = parser.parse_next(&mut input);
+    let backtracks = match answer {
+        Ok(_) => false,
+        Err(error) => ParserError::<I>::is_backtrack(&error),
+    };
+    (backtracks, input.eof_offset())
+}
+
+#[test]
+fn a_plain_error_backtracks_for_want_of_input(rt: HostRuntime) {
+    for (text, left) in [("", 0), ("é", 2)] {
+        let cut = Partial::new(text);
+        assert_eq!(rt; run_plain(take(2usize), cut), (true, left));
+        assert_eq!(rt; run_plain("éa", cut), (true, left));
+        assert_eq!(rt;
+            run_plain(take_while(Range::from(0..), 'é'), cut),
+            (true, left)
+        );
+        assert_eq!(rt;
+            run_plain(take_until(Range::from(0..), ';'), cut),
+            (true, left)
+        );
+    }
 }
