@@ -2,9 +2,10 @@
 use Rattle.std.proofs.Common.{◌≡◌, ◌≢◌, ◌≤◌, ◌<◌, ◌∙◌, ℕ, List, [], ◌∷◌, ◌++◌, length, refl, sym, ap, subst, arith, inl, inr, append_assoc, lit<}
 use Rattle.std.specs.List.{All}
 use Rattle.std.proofs.lemmas.List.Elements.{All-cons, All-tail}
+use Rattle.streams.specs.Equal.{same_first, same_others}
 use Rattle.readers.specs.Pair.{IsKeyByte}
 use Rattle.readers.specs.Document.{IsBlank, IsWhite, IsTrailing, IsCommentByte, IsNameByte, IsValueByte, NotFirst, NotLast, EndsLine, PairBytes, Part, white, comment, section, pair, bytes_of, IsRemark, Begins, BeginsWith, IsDocument}
-use Rattle.readers.proofs.PairLemmas.{All-head, All-middle, same_first, same_others, not_none, mark_is_no_key}
+use Rattle.readers.proofs.PairLemmas.{All-head, All-middle, not_none, mark_is_no_key}
 
 -- the longest front of bytes of P is one
 pub same_front : (P : ℕ → Type 0) (xs ys xs' ys' : List ℕ) → All P xs → All P ys → NotFirst P xs' → NotFirst P ys' → xs ++ xs' ≡ ys ++ ys' → (xs ≡ ys) × (xs' ≡ ys')

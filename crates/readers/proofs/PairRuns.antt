@@ -6,16 +6,14 @@ use Rattle.std.proofs.lemmas.List.{append-nil}
 use Rattle.streams.specs.Input.{Input}
 use Rattle.streams.specs.Bytes.{bytes_input, bytes_reading}
 use Rattle.streams.specs.Kind.{Kind}
+use Rattle.streams.specs.Equal.{same_rest, same_some, true_is_false}
 use Rattle.stream_errors.specs.Form.{ErrorForm, Answer}
 use Rattle.winnow_core.specs.TakeWhile.{TakeWhileRuns, IsLongest}
 use Rattle.stream_sets.specs.Range.{IsWithin, greatest_of}
 use Rattle.stream_sets.specs.declared.range.Range.{Range}
 use Rattle.winnow_core.specs.Literal.{LiteralRuns}
 use Rattle.readers.specs.Pair.{IsKeyByte, IsPairLine, IsRefusedPair}
-use Rattle.readers.proofs.PairLemmas.{same_others, refused_after_key, refused_after_line}
-
-pub true_is_false : true ≡ false → ⊥
-true_is_false e = cc
+use Rattle.readers.proofs.PairLemmas.{refused_after_key, refused_after_line}
 
 -- an output is no error
 pub ok_is_err : {O P : Type 0} {a : Answer O} {o : O} {k : Kind} → a ≡ Ok o → a ≡ Err k → P
@@ -23,11 +21,6 @@ ok_is_err e f = absurd (cc)
 
 pub same_ok : {O : Type 0} {a : Answer O} {o p : O} → a ≡ Ok o → a ≡ Ok p → o ≡ p
 same_ok e f = cc
-
--- what follows one beginning follows the other
-same_rest : {X : Type 0} (xs ys zs : List X) → xs ++ ys ≡ xs ++ zs → ys ≡ zs
-same_rest [] ys zs e = e
-same_rest (x ∷ xs) ys zs e = same_rest xs ys zs (same_others e)
 
 -- A take of a whole input of bytes: the members taken, and what is left.
 pub record Took (member : ℕ → Bool → Type 0) (greatest : Option ℕ) (least : ℕ) (i : Input ℕ) (taken : List ℕ) (j : Input ℕ) : Type 0 where
@@ -103,9 +96,6 @@ line_read key_set value_set feed_set input k v x a b c j keys mark values feeds 
   feed_end feed_set c j x is_feed feeds,
   line_bytes key_set value_set feed_set input k v x a b c j keys mark values feeds ∙ ap (λ l. k ++ (61 ∷ (v ++ l))) (ap (λ l. x ++ l) nothing ∙ append-nil x),
 )
-
-pub same_some : {m n : ℕ} → Some m ≡ Some n → m ≡ n
-same_some e = cc
 
 -- something follows the line
 after_feed : (feed_set : ℕ → Bool → Type 0) (input k v x left_c left_j : List ℕ) (n : ℕ) → ((b : ℕ) → feed_set b false → b ≢ 10) → 0 < length k → All IsKeyByte k → All (λ y. y ≢ 10) v → ((y : ℕ) (more : List ℕ) → left_c ≡ y ∷ more → y ≡ 10) → (x ≡ []) ⊎ (x ≡ 10 ∷ []) → IsLongest feed_set (Some 1) left_c x left_j → (left_j ≡ [] → ⊥) → input ≡ k ++ (61 ∷ (v ++ (x ++ left_j))) → n + length left_j ≡ length input → IsRefusedPair input n

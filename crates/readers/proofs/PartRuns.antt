@@ -11,19 +11,17 @@ use Rattle.readers.specs.DocumentRuns.{NoGapBegins, IsFront}
 use Rattle.stream_sets.specs.AsChar.{IsAlphanum}
 use Rattle.std.proofs.lemmas.Str.{IsUtf8-from_ascii}
 use Rattle.std.proofs.lemmas.Str.Ascii.{IsAscii-from_all}
-use Rattle.readers.proofs.PairLemmas.{same_first, same_others, All-head}
+use Rattle.readers.proofs.PairLemmas.{All-head}
 use Rattle.std.specs.Borrow.{Bor}
 use Rattle.streams.specs.Bytes.{bytes_reading}
 use Rattle.streams.specs.Kind.{Kind, backtrack}
+use Rattle.streams.specs.Equal.{same_first, same_others, none_is_some, true_is_false}
 use Rattle.stream_errors.specs.Form.{ErrorForm, Answer}
 use Rattle.winnow_core.specs.Literal.{LiteralRuns}
 use Rattle.winnow_core.specs.TakeWhile.{TakeWhileRuns}
 use Rattle.stream_sets.specs.Range.{IsWithin}
-use Rattle.readers.proofs.PairRuns.{Took, TookTooFew, ok_is_err, true_is_false}
+use Rattle.readers.proofs.PairRuns.{Took, TookTooFew, ok_is_err}
 use Rattle.readers.proofs.DocumentLemmas.{All-as, same_front, no_part_of_none}
-
-none_is_some : {P : Type 0} {m : ℕ} → None ≡ Some m → P
-none_is_some e = absurd (cc)
 
 -- behind a take with no greatest number no member stands first
 pub took_stops : (P : ℕ → Type 0) (member : ℕ → Bool → Type 0) (least : ℕ) (i : Input ℕ) (taken : List ℕ) (j : Input ℕ) → Took member None least i taken j → ((b : ℕ) → member b false → P b → ⊥) → NotFirst P j.left.tokens

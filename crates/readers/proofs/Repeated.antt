@@ -1,8 +1,9 @@
 -- What a repetition of any number of items says.
-use Rattle.std.proofs.Common.{◌≡◌, ◌⊎◌, ℕ, List, Some, None, Ok, Err, subst, arith, inl, inr}
+use Rattle.std.proofs.Common.{◌≡◌, ◌⊎◌, List, None, Ok, Err, subst, arith, inl, inr}
 use Rattle.std.specs.List.{FoldsTo}
 use Rattle.streams.specs.Input.{Input, back_at}
 use Rattle.streams.specs.Kind.{Kind, backtrack, memory}
+use Rattle.streams.specs.Equal.{none_is_some}
 use Rattle.stream_errors.specs.Form.{Answer}
 use Rattle.stream_sets.specs.Range.{greatest_of}
 use Rattle.stream_sets.specs.declared.range.Range.{Range}
@@ -26,9 +27,6 @@ RepeatStops {S} {T} {O} {C} run into asserted empty outputs u m answer t j =
 abbrev pub Repeated : {S T O C : Type 0} → Runs S T O → Accumulator C O → Kind → S → Input T → Answer C → S → Input T → Type 0
 Repeated {S} {T} {O} {C} run into asserted s i answer t j =
     (empty : C) × (outputs : List O) × (u : S) × (m : Input T) × into.starts empty × FoldsTo (λ p o q. IsItem run p o q) (s, i) outputs (u, m) × RepeatStops run into asserted empty outputs u m answer t j
-
-none_is_some : {P : Type 0} {m : ℕ} → None ≡ Some m → P
-none_is_some e = absurd (cc)
 
 -- a repetition with no least and no greatest number, whose accumulator starts without memory
 pub repeated : {S T O C : Type 0} (run : Runs S T O) (into : Accumulator C O) (asserted : Kind) (s : S) (i : Input T) (answer : Answer C) (t : S) (j : Input T) → (into.start_grows → ⊥) → RepeatRuns run into asserted 0 None s i answer t j → Repeated run into asserted s i answer t j

@@ -1,7 +1,6 @@
 -- What searches of bytes find, as lists.
-use Rattle.std.proofs.Common.{◌≡◌, ℕ, ◌+◌, ◌<◌, ◌≤◌, Bool, true, List, [], ◌∷◌, ◌++◌, length, take, drop, Option, Some, None, refl, sym, ap, subst, ◌∙◌, arith, inl, inr, ◌⊎◌, length-append, get_or, get_or-drop}
+use Rattle.std.proofs.Common.{◌≡◌, ℕ, ◌+◌, ◌<◌, Bool, true, List, [], ◌∷◌, ◌++◌, length, take, drop, Option, Some, None, refl, sym, ap, ◌∙◌, arith, inl, inr, ◌⊎◌, length-append, get_or}
 use Rattle.std.specs.Prelude.{MatchOption, slice_index, ◌||◌}
-use Rattle.std.specs.Str.TwoWay.{IsFirst, NoneBefore, Nowhere}
 use Rattle.std.proofs.lemmas.Bool.{cases_lt, eqb-true, eq-eqb, or_cases, or_left, or_right}
 use Rattle.std.proofs.lemmas.List.{take-append-drop, length-take-le, drop_at, at_drop_more, get_or_at}
 use Rattle.std.proofs.Math.Dec.{eqb}

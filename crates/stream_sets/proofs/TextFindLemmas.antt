@@ -1,6 +1,6 @@
 -- Searches of texts by their bytes.
-use Rattle.std.proofs.Common.{◌≡◌, ℕ, ◌+◌, ◌<◌, ◌≤◌, List, [], ◌∷◌, ◌++◌, length, take, drop, Option, Some, None, refl, sym, ap, subst, ◌∙◌, arith, length-append, inl, inr, ◌⊎◌}
-use Rattle.std.specs.Prelude.{MatchOption, slice_index}
+use Rattle.std.proofs.Common.{◌≡◌, ℕ, ◌+◌, ◌≤◌, List, [], ◌∷◌, ◌++◌, length, take, Option, Some, None, refl, sym, ap, subst, ◌∙◌, arith, length-append, inl, inr, ◌⊎◌}
+use Rattle.std.specs.Prelude.{slice_index}
 use Rattle.std.specs.declared.ops.Range.{Range}
 use Rattle.std.specs.Str.{chars, encode_utf8_all, IsUtf8, IsCharBoundary}
 use Rattle.std.proofs.lemmas.List.{append-nil, get_or_at}
@@ -9,7 +9,7 @@ use Rattle.std.proofs.Math.Seq.{take-append_seam}
 use Rattle.std.specs.Char.{encode_utf8}
 use Rattle.streams.specs.Utf8.{chars-encode}
 use Rattle.streams.specs.Text.{width, width_chars, length_encodes}
-use Rattle.stream_sets.specs.FindSlice.{Stands, IsFirstMatch, FindsSlice}
+use Rattle.stream_sets.specs.FindSlice.{Stands, FindsSlice}
 use Rattle.stream_sets.specs.Three.{IsOneOfThree}
 
 -- a text that stands in a text stands behind a text, where it is not empty

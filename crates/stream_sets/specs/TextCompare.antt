@@ -1,13 +1,13 @@
 -- Comparisons of texts by their bytes.
 use Rattle.std.specs.Prelude.{◌≡◌, ℕ, ◌+◌, ◌<◌, List, [], ◌∷◌, ◌++◌, length}
 use Rattle.std.specs.Char.{len_utf8}
-use Rattle.std.specs.List.{sum_by}
 use Rattle.std.specs.Str.{chars, encode_utf8_all, IsUtf8}
-use Rattle.std.proofs.Common.{refl, sym, ap, subst, ◌∙◌, arith}
+use Rattle.std.proofs.Common.{refl, sym, ap, ◌∙◌, arith}
 use Rattle.std.proofs.lemmas.List.{length-append}
 use Rattle.std.proofs.lemmas.List.Sums.{sum_by-append, sum_by-cons}
 use Rattle.std.proofs.lemmas.Str.{chars-append, encodes-append, encodes-chars}
 use Rattle.streams.specs.Text.{width, width_chars, width_positive, length_encodes}
+use Rattle.streams.specs.Equal.{same_first}
 use Rattle.stream_sets.specs.Compare.{ComparesAs, StandsFirst, IsShort}
 use Rattle.stream_sets.specs.declared.compare.CompareResult.{CompareResult}
 use Rattle.stream_sets.specs.declared.compare.CompareResult.TheVariants.{Ok, Incomplete, Error}
@@ -64,9 +64,6 @@ text_compares all lit all_utf8 lit_utf8 Error (long, other) =
 -- two lists that are the same third list take the same bytes
 pub same_width : {xs ys zs : List ℕ} → xs ≡ zs → ys ≡ zs → width xs ≡ width ys
 same_width {zs = zs} p q = ap width (p ∙ sym q)
-
-same_first : {x y : ℕ} {xs ys : List ℕ} → x ∷ xs ≡ y ∷ ys → x ≡ y
-same_first e = cc
 
 -- A comparison of the first character, if there is one.
 pub none_compares : (lit : ℕ) (all : List ℕ) → all ≡ [] → ComparesAs width (IsList (lit ∷ [])) all Incomplete

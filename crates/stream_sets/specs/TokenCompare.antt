@@ -1,15 +1,15 @@
 -- Comparisons of token lists, by an equality of their tokens.
-use Rattle.std.specs.Prelude.{◌≡◌, ◌≤◌, ◌<◌, ◌+◌, ℕ, Bool, true, false, ◌&&◌, List, [], ◌∷◌, ◌++◌, length, take, drop}
+use Rattle.std.specs.Prelude.{◌≡◌, ◌≤◌, ◌<◌, Bool, true, false, List, [], ◌∷◌, ◌++◌, length, take, drop}
 use Rattle.std.specs.Cmp.Lexicographic.{pointwise}
 use Rattle.std.specs.Cmp.{IsEquivalence}
 use Rattle.std.specs.List.{starts_with}
 use Rattle.std.proofs.Common.{refl, sym, ap, subst, suc, ◌∙◌, arith}
-use Rattle.std.proofs.lemmas.Bool.{and_from, and_parts, both_ways, false≢true}
+use Rattle.std.proofs.lemmas.Bool.{and_from, and_parts, false≢true}
 use Rattle.std.proofs.lemmas.Cmp.{lists_equiv}
 use Rattle.std.proofs.lemmas.List.{take-append-drop, length-take-le, length-append}
 use Rattle.std.proofs.Math.Seq.{take-append_seam}
+use Rattle.streams.specs.Equal.{same_first}
 use Rattle.stream_sets.specs.Compare.{ComparesAs, StandsFirst, IsShort}
-use Rattle.stream_sets.specs.declared.compare.CompareResult.{CompareResult}
 use Rattle.stream_sets.specs.declared.compare.CompareResult.TheVariants.{Ok, Incomplete, Error}
 
 -- a list of as many tokens, each equal to that of the literal
@@ -90,10 +90,7 @@ same_count eq literal xs ys p q = sym (equal_length eq literal xs p) ∙ equal_l
 module _ {T : Type 0} (eq : T → T → Bool) (literal : T) where
   one_first : (x : T) (xs front rest : List T) → x ∷ xs ≡ front ++ rest → EqualsList eq (literal ∷ []) front → eq literal x ≡ true
   one_first x xs [] rest e same = absurd (false≢true same)
-  one_first x xs (y ∷ ys) rest e same = ap (λ z. eq literal z) (same_head e) ∙ (and_parts (eq literal y) (pointwise eq [] ys) same).0
-    where
-      same_head : {A : Type 0} {a b : A} {cs ds : List A} → a ∷ cs ≡ b ∷ ds → a ≡ b
-      same_head e = cc
+  one_first x xs (y ∷ ys) rest e same = ap (λ z. eq literal z) (same_first e) ∙ (and_parts (eq literal y) (pointwise eq [] ys) same).0
 
   one_short : (x : T) (xs : List T) → IsShort (EqualsList eq (literal ∷ [])) (x ∷ xs) → ⊥
   one_short x xs (y, more, e) = let n = equal_length eq (literal ∷ []) ((x ∷ xs) ++ y ∷ more) e in omega (arith, n, length-append xs (y ∷ more))

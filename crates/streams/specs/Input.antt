@@ -1,9 +1,10 @@
 -- What a parser sees of a stream.
-use Rattle.std.specs.Prelude.{◌≡◌, ◌≤◌, Bool, true, false, List, [], ◌∷◌, ◌++◌, length}
+use Rattle.std.specs.Prelude.{◌≡◌, ◌≤◌, Bool, true, false, List, [], ◌++◌, length}
 use Rattle.std.proofs.Common.{append_assoc, refl, ap, ◌∙◌, sym, subst, arith, length-append}
 use Rattle.streams.specs.Kind.{Kind}
 use Rattle.streams.specs.Place.{Place, no_place}
 use Rattle.streams.specs.Reading.{Reading, units-nil}
+use Rattle.streams.specs.Equal.{same_rest}
 
 -- What is left to read: the tokens, their place, and whether they can be read at all (a place inside a byte that is not there cannot).
 pub record Left (T : Type 0) : Type 0 where
@@ -136,14 +137,6 @@ same_parts {T} a b tokens place possible side =
     ∙ ap (λ p. make b.left.tokens p a.left.possible a.side) place
     ∙ ap (λ q. make b.left.tokens b.left.place q a.side) possible
     ∙ ap (λ s. make b.left.tokens b.left.place b.left.possible s) side
-
-same_others : {T : Type 0} {x y : T} {xs ys : List T} → x ∷ xs ≡ y ∷ ys → xs ≡ ys
-same_others e = cc
-
--- what follows one beginning follows the other
-pub same_rest : {T : Type 0} (xs ys zs : List T) → xs ++ ys ≡ xs ++ zs → ys ≡ zs
-same_rest [] ys zs e = e
-same_rest (x ∷ xs) ys zs e = same_rest xs ys zs (same_others e)
 
 -- Back at the start of a run, the tokens that it passed lead to its end again.
 pub passed_again : {T S : Type 0} {reading : Reading T S} {i j k : Input T} (e : IsEndOf reading j i) → Passes reading e.ends.dropped (back_at i.left j) k → k ≡ j

@@ -1,3 +1,4 @@
+pub mod Equal
 pub mod Kind
 pub mod Place
 pub mod Reading

@@ -1,5 +1,5 @@
 -- Streams that may get more.
-use Rattle.std.specs.Prelude.{◌≡◌, Bool, true, false}
+use Rattle.std.specs.Prelude.{Bool}
 use Rattle.std.proofs.Common.{refl}
 use Rattle.streams.specs.Input.{Input, IsEndOf}
 use Rattle.streams.specs.Reading.{Reading}
@@ -11,6 +11,3 @@ flagged i cut = record i { side = record i.side { cut = cut } }
 -- An end of an input is one with a flag too.
 pub flagged_end : {T S : Type 0} {reading : Reading T S} {i j : Input T} (cut : Bool) → IsEndOf reading j i → IsEndOf reading (flagged j cut) (flagged i cut)
 flagged_end cut e = record { ends = e.ends; cut = refl }
-
-pub true_is_false : {P : Type 0} → true ≡ false → P
-true_is_false e = absurd (cc)

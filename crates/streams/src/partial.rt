@@ -1,6 +1,7 @@
 //! Streams that may get more.
 ghost use Rattle.std.specs.Prelude.{◌≡◌, true};
-ghost use Rattle.streams.specs.Partial.{flagged, true_is_false};
+ghost use Rattle.streams.specs.Equal.{true_is_false};
+ghost use Rattle.streams.specs.Partial.{flagged};
 
 use crate::needed::Needed;
 use crate::stream::{Location, Stream, StreamIsPartial, UpdateSlice};

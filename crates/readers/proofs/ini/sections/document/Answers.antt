@@ -1,9 +1,9 @@
 use Rattle.std.proofs.Common.{◌+◌, ◌∙◌, ap, sym, length, inl, inr}
 use Rattle.std.specs.Prelude.{map}
+use Rattle.streams.specs.Equal.{true_is_false}
 use Rattle.readers.specs.Sections.{section_text}
 use Rattle.readers.proofs.DocumentReading.{refused_document, document_fails, inner_memory, marked_memory}
 use Rattle.stream_errors.specs.Form.{marked_kind}
-use Rattle.readers.proofs.PairRuns.{true_is_false}
 use Rattle.readers.proofs.ini.sections.document.Goals as goal
 
 pub returns-else-is_memory : goal.returns-else-is_memory

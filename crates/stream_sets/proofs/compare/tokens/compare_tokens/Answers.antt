@@ -1,4 +1,4 @@
-use Rattle.std.proofs.Common.{◌≡◌, sym, ◌∙◌}
+use Rattle.std.proofs.Common.{sym, ◌∙◌}
 use Rattle.stream_sets.specs.TokenCompare.{stands, differs, begins, strays}
 use Rattle.stream_sets.proofs.compare.tokens.compare_tokens.Goals as goal
 

@@ -1,6 +1,4 @@
-use Rattle.std.proofs.Common.{◌≡◌, sym, subst, Option, ℕ, Some, None}
-use Rattle.std.specs.Prelude.{MatchOption}
-use Rattle.memchr.specs.Find.{FindsNeedle, IsFirstByte, is_byte, is_byte2, is_byte3}
+use Rattle.std.proofs.Common.{Some, None}
 use Rattle.stream_sets.proofs.FindLemmas.{two_stand}
 use Rattle.stream_sets.proofs.find.RefSliceU8FindSliceTuple2U8U8.find_slice.Goals as goal
 

@@ -1,4 +1,4 @@
-use Rattle.std.proofs.Common.{◌≡◌, List, ℕ, subst}
+use Rattle.std.proofs.Common.{List, ℕ, subst}
 use Rattle.std.specs.Str.{chars}
 use Rattle.streams.specs.Text.{width}
 use Rattle.stream_sets.specs.Compare.{ComparesAs}

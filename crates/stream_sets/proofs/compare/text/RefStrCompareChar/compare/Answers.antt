@@ -1,4 +1,4 @@
-use Rattle.std.proofs.Common.{◌≡◌, ◌∙◌}
+use Rattle.std.proofs.Common.{◌∙◌}
 use Rattle.std.specs.Str.{chars}
 use Rattle.stream_sets.specs.TextCompare.{none_compares, same_compares, other_compares}
 use Rattle.stream_sets.proofs.compare.text.RefStrCompareChar.compare.Goals as goal

@@ -1,4 +1,4 @@
-use Rattle.std.proofs.Common.{◌≡◌, sym, ◌∙◌}
+use Rattle.std.proofs.Common.{sym, ◌∙◌}
 use Rattle.std.proofs.lemmas.Bool.{false≢true}
 use Rattle.streams.specs.TokenSlice.{tokens_of}
 use Rattle.stream_sets.specs.TokenCompare.{one_none, one_same, one_other}

@@ -2,7 +2,6 @@ use Rattle.std.proofs.Common.{◌≡◌, ◌⊎◌, List, [], ◌∷◌, ℕ, su
 use Rattle.std.specs.Str.{chars}
 use Rattle.streams.specs.Text.{width}
 use Rattle.stream_sets.specs.FindSlice.{FindsSlice}
-use Rattle.stream_sets.specs.Three.{IsOneOfThree}
 use Rattle.stream_sets.proofs.TextFindLemmas.{two_characters}
 use Rattle.stream_sets.proofs.find.characters.RefStrFindSliceTuple2CharChar.find_slice.Goals as goal
 
