@@ -1,4 +1,4 @@
-//! Parsers of ASCII's classes of characters.
+//! Parsers of ASCII's classes of characters, as winnow's documentation has them.
 #![tactic(auto, using(streams::specs::Ends::ends_follow))]
 
 ghost use Rattle.streams.specs.Input.{IsEndOf};

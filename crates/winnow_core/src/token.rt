@@ -1,4 +1,4 @@
-//! Parsers that take tokens.
+//! Parsers that take tokens, as winnow's documentation has them.
 #![tactic(auto, using(streams::specs::Ends::ends_follow))]
 
 ghost use Rattle.std.specs.Prelude.{◌≡◌};
