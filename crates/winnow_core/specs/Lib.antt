@@ -22,6 +22,8 @@ pub mod Whole
 pub mod Peek
 pub mod Parts
 pub mod Complete
+pub mod Holds
+pub mod Holders
 pub mod CompleteRuns
 pub mod SequenceComplete
 pub mod Laws

@@ -102,25 +102,6 @@ take_until_parts s = (s.occurrences, s.literal)
 abbrev pub map_parts : {F G I O U E : Type 0} → Map F G I O U E → F × G
 map_parts s = (s.parser, s.map)
 
-abbrev pub with_map_parts : {F G I O U E : Type 0} → Map F G I O U E → F × G → Map F G I O U E
-with_map_parts s x = record s { parser = x.0; map = x.1 }
-
 -- the parser whose output is mapped or refused, and the closure
 abbrev pub verify_map_parts : {F G I O U E : Type 0} → VerifyMap F G I O U E → F × G
 verify_map_parts s = (s.parser, s.filter)
-
-abbrev pub with_verify_map_parts : {F G I O U E : Type 0} → VerifyMap F G I O U E → F × G → VerifyMap F G I O U E
-with_verify_map_parts s x = record s { parser = x.0; filter = x.1 }
-
-abbrev pub with_void_parser : {F I O E : Type 0} → Void F I O E → F → Void F I O E
-with_void_parser s x = record s { parser = x }
-
-abbrev pub with_take_parser : {F I O E : Type 0} → Take F I O E → F → Take F I O E
-with_take_parser s x = record s { parser = x }
-
--- the parser behind the reference, and which reference it is
-abbrev pub by_ref_parts : {P I O E : Type 0} → ByRef P I O E → P × ℕ
-by_ref_parts s = (s.parser.now, s.parser.ghost_name)
-
-abbrev pub with_by_ref_parts : {P I O E : Type 0} → ByRef P I O E → P × ℕ → ByRef P I O E
-with_by_ref_parts s x = record s { parser = record s.parser { now = x.0; ghost_name = x.1 } }
