@@ -1,6 +1,7 @@
 //! The parsers that the combinators make.
 pub mod basic;
 pub mod branch;
+mod complete;
 pub mod delimited;
 pub mod repeat;
 pub mod sequence;

@@ -1,0 +1,4 @@
+//! The combinators on a stream and on that stream as a partial one.
+mod basic;
+mod repeat;
+mod sequence;
