@@ -29,3 +29,5 @@ pub mod WholeEnds
 pub mod CompleteRuns
 pub mod CompleteInOrder
 pub mod CompleteRepeat
+pub mod CompleteSlices
+pub mod CompleteTuples

@@ -1,11 +1,10 @@
 -- The runs of each combinator leave an end of their input, where those of its children do.
-use Rattle.std.specs.Prelude.{◌≡◌, ⊤, ℕ, Bool, List, [], ◌∷◌, Option, Some, None, Ok, Err}
+use Rattle.std.specs.Prelude.{◌≡◌, ℕ, Bool, List, [], ◌∷◌, Option, None, Ok, Err}
 use Rattle.std.specs.List.{FoldsTo}
-use Rattle.std.proofs.Common.{refl, sym, ap, inl, inr, ◌⊎◌}
-use Rattle.streams.specs.Input.{Input, Left, IsEndOf, back_at, is_end_of_refl, is_end_of_back, is_end_of_trans, is_end_of_trans3}
+use Rattle.std.proofs.Common.{refl, sym, ap, inl, inr}
+use Rattle.streams.specs.Input.{Input, Left, IsEndOf, back_at, is_end_of_back, is_end_of_trans, is_end_of_trans3}
 use Rattle.streams.specs.Kind.{Kind, backtrack}
 use Rattle.streams.specs.Reading.{Reading}
-use Rattle.stream_errors.specs.Form.{Answer}
 use Rattle.winnow_core.specs.Runs.{Runs, LeaveEnds}
 use Rattle.winnow_core.specs.RunEnds.{same_ends, back_ends}
 use Rattle.winnow_comb.specs.Opt.{OptRuns}

@@ -9,7 +9,7 @@ pub mod sequence;
 pub use crate::combinator::impls::basic::{
     BacktrackErr, Cond, CutErr, Empty, Fail, Not, Opt, Peek,
 };
-pub use crate::combinator::impls::branch::{Alt, AltParser};
+pub use crate::combinator::impls::branch::{Alt, AltAgreesWhenComplete, AltParser};
 pub use crate::combinator::impls::delimited::Delimited;
 pub use crate::combinator::impls::repeat::Repeat;
 pub use crate::combinator::impls::sequence::{Preceded, SeparatedPair, Terminated};
