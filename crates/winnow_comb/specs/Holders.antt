@@ -1,5 +1,6 @@
 -- What the combinators' structs hold.
 use Rattle.std.specs.Prelude.{Bool}
+use Rattle.std.specs.Borrow.{MutBor}
 use Rattle.std.proofs.Common.{refl}
 use Rattle.stream_sets.specs.declared.range.Range.{Range}
 use Rattle.winnow_comb.specs.Holds.{Holds, HoldsBeside}
@@ -71,3 +72,7 @@ repeat_holds = record {
   setting = λ s. s.occurrences;
   stays = λ _ _. refl;
 }
+
+-- what is behind a reference
+abbrev pub reference_holds : {X : Type 0} → Holds (MutBor X) X
+reference_holds = record { held = λ s. s.now; put = λ s x. record s { now = x }; holds_it = λ _ _. refl }

@@ -1,7 +1,7 @@
 //! Arrays and slices as branches.
-ghost use Rattle.std.proofs.Common.{refl};
 ghost use Rattle.std.specs.List.{AllZip};
 ghost use Rattle.winnow_comb.specs.CompleteSlices.{alt_slice_agrees};
+ghost use Rattle.winnow_comb.specs.Holders.{reference_holds};
 ghost use Rattle.winnow_comb.specs.Holds.{agrees_held};
 
 use crate::combinator::impls::AltAgreesWhenComplete;
@@ -37,5 +37,5 @@ impl<
 > AltAgreesWhenComplete<I, O, E, &'b mut [Q], F> for &'a mut [P] {
     ghost alike = { λ s u. AllZip P.alike s.now u.now };
 
-    ghost agrees = { λ same. agrees_held (record { held = λ s. s.now; put = λ s x. record s { now = x }; holds_it = λ _ _. refl }) (record { held = λ s. s.now; put = λ s x. record s { now = x }; holds_it = λ _ _. refl }) (alt_slice_agrees I.reading E.form F.form same P.leaves_ends Q.leaves_ends (P.agrees same)) };
+    ghost agrees = { λ same. agrees_held reference_holds reference_holds (alt_slice_agrees I.reading E.form F.form same P.leaves_ends Q.leaves_ends (P.agrees same)) };
 }
