@@ -64,81 +64,97 @@ fn letter<I: StreamIsPartial<Token = char>>(letter: char) -> TakeWhile<char, I, 
     take_while(Range::from(1..=1), letter)
 }
 
+/// How the parsers of one child end, and the like ones.
+fn of_one_child<I: StreamIsPartial<Token = char> + Copy>(input: I) -> [(Ending, Ending); 7] {
+    [
+        run_whole(opt(letter('a')), opt(letter('a')), input),
+        run_whole(cond(true, letter('a')), cond(true, letter('a')), input),
+        run_whole(peek(letter('a')), peek(letter('a')), input),
+        run_whole(not(letter('a')), not(letter('a')), input),
+        run_whole(cut_err(letter('a')), cut_err(letter('a')), input),
+        run_whole(
+            backtrack_err(letter('a')),
+            backtrack_err(letter('a')),
+            input,
+        ),
+        run_whole(Empty, Empty, input),
+    ]
+}
+
 #[test]
 fn one_child(rt: HostRuntime) {
     let fails = Ending::Backtracks(0);
     let none = Ending::Takes(0);
-    for (text, optional, ahead, refused, cut) in [
-        ("a;", Ending::Takes(1), none, fails, Ending::Takes(1)),
-        (";", none, fails, none, Ending::Cuts(0)),
-        ("", none, fails, none, Ending::Cuts(0)),
+    let one = Ending::Takes(1);
+    for (text, wanted) in [
+        ("a;", [one, one, none, fails, one, one, none]),
+        (
+            ";",
+            [none, fails, fails, none, Ending::Cuts(0), fails, none],
+        ),
+        ("", [none, fails, fails, none, Ending::Cuts(0), fails, none]),
     ] {
-        let ends = run_whole(opt(letter('a')), opt(letter('a')), text);
-        assert_eq!(rt; ends, (optional, optional), "{text:?}");
-        let ends = run_whole(peek(letter('a')), peek(letter('a')), text);
-        assert_eq!(rt; ends, (ahead, ahead), "{text:?}");
-        let ends = run_whole(not(letter('a')), not(letter('a')), text);
-        assert_eq!(rt; ends, (refused, refused), "{text:?}");
-        let ends = run_whole(cut_err(letter('a')), cut_err(letter('a')), text);
-        assert_eq!(rt; ends, (cut, cut), "{text:?}");
+        let wanted = wanted.map(|want: Ending| (want, want));
+        assert_eq!(rt; of_one_child(text), wanted, "{text:?}");
     }
 }
 
-#[test]
-fn others_of_one_child(rt: HostRuntime) {
-    let none = Ending::Takes(0);
-    for (text, run_on, back, empty) in [
-        ("a;", Ending::Takes(1), Ending::Takes(1), none),
-        ("", Ending::Backtracks(0), Ending::Backtracks(0), none),
-    ] {
-        let ends = run_whole(cond(true, letter('a')), cond(true, letter('a')), text);
-        assert_eq!(rt; ends, (run_on, run_on), "{text:?}");
-        let ends = run_whole(
-            backtrack_err(cut_err(letter('a'))),
-            backtrack_err(cut_err(letter('a'))),
-            text,
-        );
-        assert_eq!(rt; ends, (back, back), "{text:?}");
-        let ends = run_whole(Empty, Empty, text);
-        assert_eq!(rt; ends, (empty, empty), "{text:?}");
-    }
+/// How the parsers of children in order end, and the like ones.
+fn of_children<I: StreamIsPartial<Token = char> + Copy>(input: I) -> [(Ending, Ending); 4] {
+    [
+        run_whole(
+            preceded(letter('a'), letter('b')),
+            preceded(letter('a'), letter('b')),
+            input,
+        ),
+        run_whole(
+            terminated(letter('a'), letter('b')),
+            terminated(letter('a'), letter('b')),
+            input,
+        ),
+        run_whole(
+            separated_pair(letter('a'), letter('b'), letter('a')),
+            separated_pair(letter('a'), letter('b'), letter('a')),
+            input,
+        ),
+        run_whole(
+            delimited(letter('a'), letter('b'), letter('a')),
+            delimited(letter('a'), letter('b'), letter('a')),
+            input,
+        ),
+    ]
 }
 
 #[test]
 fn in_order(rt: HostRuntime) {
-    let both = Ending::Takes(2);
-    let late = Ending::Backtracks(1);
     for (text, two, three) in [
-        ("aba", both, Ending::Takes(3)),
-        ("ab", both, Ending::Backtracks(2)),
-        ("aa", late, late),
+        ("aba", Ending::Takes(2), Ending::Takes(3)),
+        ("ab", Ending::Takes(2), Ending::Backtracks(2)),
+        ("aa", Ending::Backtracks(1), Ending::Backtracks(1)),
         ("b", Ending::Backtracks(0), Ending::Backtracks(0)),
     ] {
-        let ends = run_whole(
-            preceded(letter('a'), letter('b')),
-            preceded(letter('a'), letter('b')),
-            text,
-        );
-        assert_eq!(rt; ends, (two, two), "{text:?}");
-        let ends = run_whole(
-            terminated(letter('a'), letter('b')),
-            terminated(letter('a'), letter('b')),
-            text,
-        );
-        assert_eq!(rt; ends, (two, two), "{text:?}");
-        let ends = run_whole(
-            separated_pair(letter('a'), letter('b'), letter('a')),
-            separated_pair(letter('a'), letter('b'), letter('a')),
-            text,
-        );
-        assert_eq!(rt; ends, (three, three), "{text:?}");
-        let ends = run_whole(
-            delimited(letter('a'), letter('b'), letter('a')),
-            delimited(letter('a'), letter('b'), letter('a')),
-            text,
-        );
-        assert_eq!(rt; ends, (three, three), "{text:?}");
+        let wanted = [(two, two), (two, two), (three, three), (three, three)];
+        assert_eq!(rt; of_children(text), wanted, "{text:?}");
     }
+}
+
+/// How choices end, and the like ones.
+fn of_branches<I: StreamIsPartial<Token = char> + Copy>(input: I) -> [(Ending, Ending); 3] {
+    let mut branches = [letter('a'), letter('b'), letter('c')];
+    let mut others = [letter('a'), letter('b'), letter('c')];
+    [
+        run_whole(
+            alt((letter('a'), Fail, letter('c'))),
+            alt((letter('a'), Fail, letter('c'))),
+            input,
+        ),
+        run_whole(alt(&mut branches[..]), alt(&mut others[..]), input),
+        run_whole(
+            alt([letter('a'), letter('c')]),
+            alt([letter('a'), letter('c')]),
+            input,
+        ),
+    ]
 }
 
 #[test]
@@ -148,28 +164,25 @@ fn choices(rt: HostRuntime) {
         ("c;", Ending::Takes(1)),
         ("d;", Ending::Backtracks(0)),
     ] {
-        let ends = run_whole(
-            alt((letter('a'), Fail, letter('c'))),
-            alt((letter('a'), Fail, letter('c'))),
-            text,
-        );
-        assert_eq!(rt; ends, (want, want), "{text:?}");
-        let mut branches = [letter('a'), letter('b'), letter('c')];
-        let mut others = [letter('a'), letter('b'), letter('c')];
-        let ends = run_whole(alt(&mut branches[..]), alt(&mut others[..]), text);
-        assert_eq!(rt; ends, (want, want), "{text:?}");
-        let ends = run_whole(alt(branches), alt(others), text);
-        assert_eq!(rt; ends, (want, want), "{text:?}");
+        assert_eq!(rt; of_branches(text), [(want, want); 3], "{text:?}");
     }
 }
 
-/// A repetition that keeps nothing.
-fn repeated<I: Stream, O: Drop, P: Parser<I, O, Mode>, A: Allocator + Copy>(
+/// A repetition of a letter that keeps nothing.
+fn repeated<I: StreamIsPartial<Token = char>, A: Allocator + Copy>(
     alloc: A,
     range: Range,
-    parser: P,
-) -> Repeat<P, I, O, (), Mode, A> {
-    repeat(alloc, range, parser)
+) -> Repeat<TakeWhile<char, I, Mode>, I, I::Slice, (), Mode, A> {
+    repeat(alloc, range, letter('a'))
+}
+
+/// How a repetition ends, and the like one.
+fn of_many<I: StreamIsPartial<Token = char> + Copy, A: Allocator + Copy>(
+    alloc: A,
+    range: Range,
+    input: I,
+) -> (Ending, Ending) {
+    run_whole(repeated(alloc, range), repeated(alloc, range), input)
 }
 
 #[test]
@@ -182,11 +195,6 @@ fn repetitions(rt: HostRuntime) {
         (Range::from(3..), "aa", Ending::Backtracks(2)),
         (Range::from(3..=2), "aa", Ending::Cuts(0)),
     ] {
-        let ends = run_whole(
-            repeated(alloc, range, letter('a')),
-            repeated(alloc, range, letter('a')),
-            text,
-        );
-        assert_eq!(rt; ends, (want, want), "{text:?}");
+        assert_eq!(rt; of_many(alloc, range, text), (want, want), "{text:?}");
     }
 }
