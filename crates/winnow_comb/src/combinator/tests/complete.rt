@@ -1,9 +1,6 @@
 //! Combinators on a stream, and the like ones on that stream as a partial one that is complete.
 use crate::combinator::impls::{Empty, Fail, Repeat};
-use crate::combinator::{
-    alt, backtrack_err, cond, cut_err, delimited, not, opt, peek, preceded, repeat, separated_pair,
-    terminated,
-};
+use crate::combinator::{alt, cond, not, opt, preceded, repeat, separated_pair};
 use std::alloc::{Allocator, Global};
 use stream_errors::empty::EmptyError;
 use stream_errors::mode::ErrMode;
@@ -64,21 +61,19 @@ fn letter<I: StreamIsPartial<Token = char>>(letter: char) -> TakeWhile<char, I, 
     take_while(Range::from(1..=1), letter)
 }
 
-/// How the parsers of one child end, and the like ones.
-fn of_one_child<I: StreamIsPartial<Token = char> + Copy>(input: I) -> [(Ending, Ending); 7] {
-    [
-        run_whole(opt(letter('a')), opt(letter('a')), input),
-        run_whole(cond(true, letter('a')), cond(true, letter('a')), input),
-        run_whole(peek(letter('a')), peek(letter('a')), input),
-        run_whole(not(letter('a')), not(letter('a')), input),
-        run_whole(cut_err(letter('a')), cut_err(letter('a')), input),
-        run_whole(
-            backtrack_err(letter('a')),
-            backtrack_err(letter('a')),
-            input,
-        ),
-        run_whole(Empty, Empty, input),
-    ]
+/// How `opt` of a letter ends, and the like one.
+fn optional<I: StreamIsPartial<Token = char> + Copy>(input: I) -> (Ending, Ending) {
+    run_whole(opt(letter('a')), opt(letter('a')), input)
+}
+
+/// How `cond` of a letter ends, and the like one.
+fn on_condition<I: StreamIsPartial<Token = char> + Copy>(input: I) -> (Ending, Ending) {
+    run_whole(cond(true, letter('a')), cond(true, letter('a')), input)
+}
+
+/// How `not` of a letter ends, and the like one.
+fn refused<I: StreamIsPartial<Token = char> + Copy>(input: I) -> (Ending, Ending) {
+    run_whole(not(letter('a')), not(letter('a')), input)
 }
 
 #[test]
@@ -86,43 +81,34 @@ fn one_child(rt: HostRuntime) {
     let fails = Ending::Backtracks(0);
     let none = Ending::Takes(0);
     let one = Ending::Takes(1);
-    for (text, wanted) in [
-        ("a;", [one, one, none, fails, one, one, none]),
-        (
-            ";",
-            [none, fails, fails, none, Ending::Cuts(0), fails, none],
-        ),
-        ("", [none, fails, fails, none, Ending::Cuts(0), fails, none]),
+    for (text, left_out, run_on, reversed) in [
+        ("a;", one, one, fails),
+        (";", none, fails, none),
+        ("", none, fails, none),
     ] {
-        let wanted = wanted.map(|want: Ending| (want, want));
-        assert_eq!(rt; of_one_child(text), wanted, "{text:?}");
+        assert_eq!(rt; optional(text), (left_out, left_out), "{text:?}");
+        assert_eq!(rt; on_condition(text), (run_on, run_on), "{text:?}");
+        assert_eq!(rt; refused(text), (reversed, reversed), "{text:?}");
     }
+    assert_eq!(rt; run_whole(Empty, Empty, "a"), (none, none));
 }
 
-/// How the parsers of children in order end, and the like ones.
-fn of_children<I: StreamIsPartial<Token = char> + Copy>(input: I) -> [(Ending, Ending); 4] {
-    [
-        run_whole(
-            preceded(letter('a'), letter('b')),
-            preceded(letter('a'), letter('b')),
-            input,
-        ),
-        run_whole(
-            terminated(letter('a'), letter('b')),
-            terminated(letter('a'), letter('b')),
-            input,
-        ),
-        run_whole(
-            separated_pair(letter('a'), letter('b'), letter('a')),
-            separated_pair(letter('a'), letter('b'), letter('a')),
-            input,
-        ),
-        run_whole(
-            delimited(letter('a'), letter('b'), letter('a')),
-            delimited(letter('a'), letter('b'), letter('a')),
-            input,
-        ),
-    ]
+/// How `preceded` ends, and the like one.
+fn behind<I: StreamIsPartial<Token = char> + Copy>(input: I) -> (Ending, Ending) {
+    run_whole(
+        preceded(letter('a'), letter('b')),
+        preceded(letter('a'), letter('b')),
+        input,
+    )
+}
+
+/// How `separated_pair` ends, and the like one.
+fn around<I: StreamIsPartial<Token = char> + Copy>(input: I) -> (Ending, Ending) {
+    run_whole(
+        separated_pair(letter('a'), letter('b'), letter('a')),
+        separated_pair(letter('a'), letter('b'), letter('a')),
+        input,
+    )
 }
 
 #[test]
@@ -133,28 +119,25 @@ fn in_order(rt: HostRuntime) {
         ("aa", Ending::Backtracks(1), Ending::Backtracks(1)),
         ("b", Ending::Backtracks(0), Ending::Backtracks(0)),
     ] {
-        let wanted = [(two, two), (two, two), (three, three), (three, three)];
-        assert_eq!(rt; of_children(text), wanted, "{text:?}");
+        assert_eq!(rt; behind(text), (two, two), "{text:?}");
+        assert_eq!(rt; around(text), (three, three), "{text:?}");
     }
 }
 
-/// How choices end, and the like ones.
-fn of_branches<I: StreamIsPartial<Token = char> + Copy>(input: I) -> [(Ending, Ending); 3] {
-    let mut branches = [letter('a'), letter('b'), letter('c')];
-    let mut others = [letter('a'), letter('b'), letter('c')];
-    [
-        run_whole(
-            alt((letter('a'), Fail, letter('c'))),
-            alt((letter('a'), Fail, letter('c'))),
-            input,
-        ),
-        run_whole(alt(&mut branches[..]), alt(&mut others[..]), input),
-        run_whole(
-            alt([letter('a'), letter('c')]),
-            alt([letter('a'), letter('c')]),
-            input,
-        ),
-    ]
+/// How a choice among the members of a tuple ends, and the like one.
+fn of_tuple<I: StreamIsPartial<Token = char> + Copy>(input: I) -> (Ending, Ending) {
+    run_whole(
+        alt((letter('a'), Fail, letter('c'))),
+        alt((letter('a'), Fail, letter('c'))),
+        input,
+    )
+}
+
+/// How a choice among the items of a slice ends, and the like one.
+fn of_slice<I: StreamIsPartial<Token = char> + Copy>(input: I) -> (Ending, Ending) {
+    let mut branches = [letter('a'), letter('c')];
+    let mut others = [letter('a'), letter('c')];
+    run_whole(alt(&mut branches[..]), alt(&mut others[..]), input)
 }
 
 #[test]
@@ -164,7 +147,8 @@ fn choices(rt: HostRuntime) {
         ("c;", Ending::Takes(1)),
         ("d;", Ending::Backtracks(0)),
     ] {
-        assert_eq!(rt; of_branches(text), [(want, want); 3], "{text:?}");
+        assert_eq!(rt; of_tuple(text), (want, want), "{text:?}");
+        assert_eq!(rt; of_slice(text), (want, want), "{text:?}");
     }
 }
 
