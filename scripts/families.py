@@ -382,6 +382,118 @@ use Rattle.winnow_comb.specs.AltTuples.{{{names}}}
 {family}
 """
 
+def choice_follows_case(n, answering):
+    """That branches which agree answer alike, where so many are run."""
+    inputs = [BETWEEN[k - 1] for k in upto(answering - 1)]
+    lines = []
+    for k in upto(answering):
+        before = "i" if k == 1 else "(back_at i.left %s)" % BETWEEN[k - 2]
+        whole = "whole" if k == 1 else "whole_%s" % BETWEEN[k - 2]
+        like = "like" if n == 1 else "like.%d" % (k - 1)
+        end = "answer t.%d j" % (k - 1) if k == answering else "(Err backtrack) t.%d %s" % (k - 1, BETWEEN[k - 1])
+        line = "    let (v%d, again%d, ran%d) = child%d s.%d u.%d %s %s %s %s r%d in" % (k, k, k, k, k - 1, k - 1, before, end, whole, like, k)
+        if k < answering:
+            line += " let whole_%s = end_of_whole (ends%d s.%d %s %s r%d) %s in" % (BETWEEN[k - 1], k, k - 1, before, end, k, whole)
+        lines.append(line)
+    behind = range(answering + 1, n + 1)
+    names = inputs + ["r%d" % k for k in upto(answering)]
+    terms = inputs + ["ran%d" % k for k in upto(answering)]
+    if answering < n:
+        names.append("other")
+        terms.append("other")
+    names += ["same%d" % k for k in behind]
+    terms += ["refl" for k in behind]
+    states = tuple_value(["v%d" % k for k in upto(answering)] + ["u.%d" % (k - 1) for k in behind])
+    again = ["again%d" % k for k in upto(answering)]
+    again += ["subst (λ x. alike%d x u.%d) (sym same%d) like.%d" % (k, k - 1, k, k - 1) for k in behind]
+    again = again[0] if n == 1 else tuple_value(again)
+    found = names[0] if n == 1 else injected(answering - 1, n, "(%s)" % ", ".join(names) if answering == n else ", ".join(names))
+    term = terms[0] if n == 1 else injected(answering - 1, n, ", ".join(terms))
+    lines.append("    (%s, %s, %s)" % (states, again, term))
+    implicit = "".join(" {alike%d = alike%d}" % (k, k) for k in behind)
+    return implicit, found, "\n".join(lines)
+
+
+def choice_agrees_law(n):
+    """The law that choices among n branches agree on whole inputs where the branches do."""
+    types = ["S%d" % k for k in upto(n)] + ["U%d" % k for k in upto(n)] + ["T", "L", "O"]
+    implicit = " ".join("{alike%d : S%d → U%d → Type 0} {run%d : Runs S%d T O} {other%d : Runs U%d T O}" % (k, k, k, k, k, k, k) for k in upto(n))
+    states = tuple_type(["S%d" % k for k in upto(n)])
+    others = tuple_type(["U%d" % k for k in upto(n)])
+    alike = "(λ (s : %s) (u : %s). %s)" % (states, others, conjunction(["alike%d s.%d u.%d" % (k, k - 1, k - 1) for k in upto(n)]))
+    runs = "(λ s i answer t j. AltRuns%d %s s i answer t j)" % (n, " ".join("run%d" % k for k in upto(n)))
+    other_runs = "(λ u i answer v j. AltRuns%d %s u i answer v j)" % (n, " ".join("other%d" % k for k in upto(n)))
+    head = "{%s : Type 0} %s (reading : Reading T L)" % (" ".join(types), implicit)
+    ends = ["LeaveEnds reading run%d" % k for k in upto(n - 1)]
+    other_ends = ["LeaveEnds reading other%d" % k for k in upto(n - 1)]
+    children = ["FollowsOnWhole alike%d run%d other%d" % (k, k, k) for k in upto(n)]
+    agreeing = ["AgreeOnWhole alike%d run%d other%d" % (k, k, k) for k in upto(n)]
+    arguments = " ".join(["reading"] + ["ends%d" % k for k in upto(n - 1)] + ["child%d" % k for k in upto(n)])
+    name = "alt%d_follows" % n
+    lines = ["%s : %s → %s → FollowsOnWhole %s %s %s" % (name, head, " → ".join(ends + children), alike, runs, other_runs)]
+    for answering in upto(n):
+        implicit, found, term = choice_follows_case(n, answering)
+        lines.append("%s%s %s s u i answer t j whole like (%s) =\n%s" % (name, implicit, arguments, found, term))
+    there = " ".join(["reading"] + ["ends%d" % k for k in upto(n - 1)] + ["child%d.there" % k for k in upto(n)])
+    back = " ".join(["reading"] + ["other_ends%d" % k for k in upto(n - 1)] + ["child%d.back" % k for k in upto(n)])
+    bound = ["reading"] + ["ends%d" % k for k in upto(n - 1)] + ["other_ends%d" % k for k in upto(n - 1)] + ["child%d" % k for k in upto(n)]
+    lines += [
+        "",
+        "pub alt%d_agrees : %s → %s → AgreeOnWhole %s %s %s" % (n, head, " → ".join(ends + other_ends + agreeing), alike, runs, other_runs),
+        "alt%d_agrees %s = record { there = %s %s; back = %s %s }" % (n, " ".join(bound), name, there, name, back),
+    ]
+    return "\n".join(lines)
+
+
+CHOICE_AGREES = """-- Choices among the members of a tuple are the same on whole inputs, where those of the branches are.
+-- {head}
+use Rattle.std.specs.Prelude.{{Err}}
+use Rattle.std.proofs.Common.{{refl, sym, subst, inl, inr}}
+use Rattle.streams.specs.Input.{{back_at}}
+use Rattle.streams.specs.Kind.{{backtrack}}
+use Rattle.streams.specs.Reading.{{Reading}}
+use Rattle.winnow_core.specs.Complete.{{FollowsOnWhole, AgreeOnWhole}}
+use Rattle.winnow_core.specs.Runs.{{Runs, LeaveEnds}}
+use Rattle.winnow_comb.specs.AltTuples.{{{names}}}
+use Rattle.winnow_comb.specs.WholeEnds.{{end_of_whole}}
+
+{family}
+"""
+
+
+def choice_agrees_impl(n):
+    """The impl that n branches agree with as many on the partial stream, once it is complete."""
+    ours = rust_tuple(["P%d" % k for k in upto(n)])
+    others = rust_tuple(["Q%d" % k for k in upto(n)])
+    parsers = ["P%d: AgreesWhenComplete<I, O, E, Q%d, F>" % (k, k) for k in upto(n)] + ["Q%d: Parser<Partial<I>, O, F>" % k for k in upto(n)]
+    ends = ["P%d.leaves_ends" % k for k in upto(n - 1)] + ["Q%d.leaves_ends" % k for k in upto(n - 1)]
+    arguments = " ".join(["I.reading"] + ends + ["(P%d.agrees same)" % k for k in upto(n)])
+    return "\n".join(
+        [
+            "impl<%s, I: Stream, O, E: ParserError<I>, F: ParserError<Partial<I>>> AltAgreesWhenComplete<I, O, E, %s, F> for %s {" % (", ".join(parsers), others, ours),
+            "    ghost alike = { λ s u. %s };" % conjunction(["P%d.alike s.%d u.%d" % (k, k - 1, k - 1) for k in upto(n)]),
+            "",
+            "    ghost agrees = { λ same. alt%d_agrees %s };" % (n, arguments),
+            "}",
+        ]
+    )
+
+
+CHOICE_AGREES_IMPLS = """//! Tuples as branches.
+//!
+//! {head}
+ghost use Rattle.winnow_comb.specs.CompleteTuples.{{{laws}}};
+
+use crate::combinator::impls::AltAgreesWhenComplete;
+use stream_errors::parser_error::ParserError;
+use streams::partial::Partial;
+use streams::stream::Stream;
+use winnow_core::complete::AgreesWhenComplete;
+use winnow_core::parser::Parser;
+
+{family}
+"""
+
 CHOICE_IMPLS = """//! Tuples as branches.
 //!
 //! {head}
@@ -424,6 +536,9 @@ def write_choices():
     write(comb + "specs/AltEnds.antt", CHOICE_ENDS, names=names, family="\n\n".join(choice_ends_law(n) for n in upto(MOST)))
     laws = ", ".join("alt%d_ends" % n for n in upto(MOST))
     write(comb + "src/combinator/impls/branch/tuples.rt", CHOICE_IMPLS, names=names, laws=laws, family="\n\n".join(choice_impl(n) for n in upto(MOST)))
+    write(comb + "specs/CompleteTuples.antt", CHOICE_AGREES, names=names, family="\n\n".join(choice_agrees_law(n) for n in upto(MOST)))
+    laws = ", ".join("alt%d_agrees" % n for n in upto(MOST))
+    write(comb + "src/combinator/impls/complete/branch/tuples.rt", CHOICE_AGREES_IMPLS, laws=laws, family="\n\n".join(choice_agrees_impl(n) for n in upto(MOST)))
 
 
 # Sequences on whole inputs.

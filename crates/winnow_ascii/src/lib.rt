@@ -5,5 +5,6 @@
 #![tactic(auto)]
 
 pub mod ascii;
+mod complete;
 #[cfg(test)]
 mod tests;

@@ -1,4 +1,6 @@
 //! Each parser at bytes, under a plain error and one with a mode.
+mod inputs;
+
 use crate::ascii::impls::{Alphanumeric1, Digit1, Multispace1, Space0};
 use crate::ascii::{alphanumeric1, digit1, multispace1, space0};
 use std::process::Abort;

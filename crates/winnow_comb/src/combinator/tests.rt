@@ -3,6 +3,7 @@ ghost use Rattle.streams.specs.Input.{IsEndOf};
 
 mod basic;
 mod branch;
+mod complete;
 mod multi;
 mod sequence;
 

@@ -2,6 +2,7 @@
 ghost use Rattle.std.specs.Prelude.{◌≡◌, ⊤};
 ghost use Rattle.streams.specs.Input.{Input, IsEndOf};
 ghost use Rattle.stream_errors.specs.Form.{Answer, answer_by};
+ghost use Rattle.winnow_core.specs.Complete.{AgreeOnWhole};
 ghost use Rattle.winnow_core.specs.Runs.{LeaveEnds};
 ghost use Rattle.winnow_comb.specs.Attempt.{AttemptRuns};
 
@@ -10,6 +11,7 @@ mod tuples;
 
 use std::marker::PhantomData;
 use stream_errors::parser_error::ParserError;
+use streams::partial::Partial;
 use streams::stream::Stream;
 use winnow_core::parser::Parser;
 
@@ -36,6 +38,30 @@ pub trait Alt<I: Stream, O, E: ParserError<I>> {
 
     // Each run leaves an end of its input.
     ghost leaves_ends: { LeaveEnds I.reading chooses };
+}
+
+/// Branches over a stream, of which `Q` are the same branches over that stream as a partial one.
+///
+/// Once the partial stream is marked as complete, both choose the same. All branches have this
+/// whose parsers have it.
+///
+/// ```text
+/// let mut input = Partial::new(b"b".as_slice());
+/// input.complete();
+/// alt((b'a', b'b')).parse_next(&mut input)   is Ok(b'b'), as on b"b"
+/// ```
+pub trait AltAgreesWhenComplete<
+    I: Stream,
+    O,
+    E: ParserError<I>,
+    Q: Alt<Partial<I>, O, F>,
+    F: ParserError<Partial<I>>,
+>: Alt<I, O, E> {
+    // The states in which the two are the same branches.
+    ghost alike: { Self → Q → Type 0 };
+
+    // On whole inputs the choices of one are those of the other.
+    ghost agrees: { E.form ≡ F.form → AgreeOnWhole alike Self.chooses Q.chooses };
 }
 
 /// The parser that [`alt`](crate::combinator::alt) makes.
