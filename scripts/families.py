@@ -393,7 +393,7 @@ def choice_follows_case(n, answering):
         end = "answer t.%d j" % (k - 1) if k == answering else "(Err backtrack) t.%d %s" % (k - 1, BETWEEN[k - 1])
         line = "    let (v%d, again%d, ran%d) = child%d s.%d u.%d %s %s %s %s r%d in" % (k, k, k, k, k - 1, k - 1, before, end, whole, like, k)
         if k < answering:
-            line += " let whole_%s = end_of_whole (ends%d s.%d %s %s r%d) %s in" % (BETWEEN[k - 1], k, k - 1, before, end, k, whole)
+            line += " let whole_%s = still_whole (ends%d s.%d %s %s r%d) %s in" % (BETWEEN[k - 1], k, k - 1, before, end, k, whole)
         lines.append(line)
     behind = range(answering + 1, n + 1)
     names = inputs + ["r%d" % k for k in upto(answering)]
@@ -452,10 +452,9 @@ use Rattle.std.proofs.Common.{{refl, sym, subst, inl, inr}}
 use Rattle.streams.specs.Input.{{back_at}}
 use Rattle.streams.specs.Kind.{{backtrack}}
 use Rattle.streams.specs.Reading.{{Reading}}
-use Rattle.winnow_core.specs.Complete.{{FollowsOnWhole, AgreeOnWhole}}
+use Rattle.winnow_core.specs.Complete.{{AgreeOnWhole, FollowsOnWhole, still_whole}}
 use Rattle.winnow_core.specs.Runs.{{Runs, LeaveEnds}}
 use Rattle.winnow_comb.specs.AltTuples.{{{names}}}
-use Rattle.winnow_comb.specs.WholeEnds.{{end_of_whole}}
 
 {family}
 """
@@ -562,7 +561,7 @@ def sequence_follows_case(n, failing):
         lines.append("    let (v%d, again%d, q%d) = follows%d %s %s l%d r%d in" % (k, k, k, k, arguments % ("u.%d" % (k - 1)), whole, k, k))
         if k < ran:
             whole_next = "whole%d" % k
-            lines.append("    let %s = still_whole reading (ends%d %s r%d) %s in" % (whole_next, k, (arguments % "").replace("  ", " "), k, whole))
+            lines.append("    let %s = still_whole (ends%d %s r%d) %s in" % (whole_next, k, (arguments % "").replace("  ", " "), k, whole))
             whole = whole_next
     for k in range(ran + 1, n + 1):
         lines.append("    let P%d : _ → Type 0 = λ x. alike%d x u.%d in" % (k, k, k - 1))

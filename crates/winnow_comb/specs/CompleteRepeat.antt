@@ -7,10 +7,9 @@ use Rattle.streams.specs.Kind.{Kind, backtrack}
 use Rattle.streams.specs.Reading.{Reading}
 use Rattle.stream_errors.specs.Form.{Answer, ErrorForm, asserted}
 use Rattle.winnow_core.specs.Runs.{Runs, LeaveEnds}
-use Rattle.winnow_core.specs.Complete.{FollowsOnWhole, AgreeOnWhole}
+use Rattle.winnow_core.specs.Complete.{AgreeOnWhole, FollowsOnWhole, still_whole}
 use Rattle.winnow_comb.specs.Chain.{IsItem}
 use Rattle.winnow_comb.specs.Repeat.{Accumulator, RepeatEnds, ItemsRun, RepeatOneRuns, RepeatManyRuns, RepeatRuns}
-use Rattle.winnow_comb.specs.WholeEnds.{end_of_whole}
 
 -- the chain of the other parser ends at the same input, which is whole again
 chain_follows : {S U T L O : Type 0} {alike : S → U → Type 0} {run : Runs S T O} {other : Runs U T O} (reading : Reading T L) → LeaveEnds reading run → FollowsOnWhole alike run other → (outputs : List O) (s : S) (u : U) (i : Input T) (t : S) (j : Input T) → i.side.cut ≡ false → alike s u → FoldsTo (λ p o q. IsItem run p o q) (s, i) outputs (t, j) → (v : U) × alike t v × FoldsTo (λ p o q. IsItem other p o q) (u, i) outputs (v, j) × (j.side.cut ≡ false)
@@ -20,7 +19,7 @@ chain_follows {S = S} {T = T} {alike = alike} reading ends child [] s u i t j wh
     (u, subst P same like, ap (λ (p : S × Input T). (u, p.1)) same, subst Q same whole)
 chain_follows reading ends child (o ∷ os) s u i t j whole like (p, item, rest) =
     let (w, again, ran) = child s u i (Ok o) p.0 p.1 whole like item.0 in
-    let (v, last, more, still) = chain_follows reading ends child os p.0 w p.1 t j (end_of_whole (ends s i (Ok o) p.0 p.1 item.0) whole) again rest in
+    let (v, last, more, still) = chain_follows reading ends child os p.0 w p.1 t j (still_whole (ends s i (Ok o) p.0 p.1 item.0) whole) again rest in
     (v, last, ((w, p.1), (ran, item.1), more), still)
 
 -- what ends the items ends those of the other parser, where their kinds of assert errors are the same
@@ -47,7 +46,7 @@ one_follows reading into asserts other_asserts is ends child s u i answer t j wh
     let (v, again, ran) = child s u i (Err k) t j whole like r in (v, again, inl (k, ran, e))
 one_follows reading into asserts other_asserts is ends child s u i answer t j whole like (inr (inl (o, s', n, empty, one, r, starts, takes, items))) =
     let (u', again, ran) = child s u i (Ok o) s' n whole like r in
-    let (v, last, so) = items_follow reading into asserts other_asserts is 0 None one ends child s' u' n answer t j (end_of_whole (ends s i (Ok o) s' n r) whole) again items in
+    let (v, last, so) = items_follow reading into asserts other_asserts is 0 None one ends child s' u' n answer t j (still_whole (ends s i (Ok o) s' n r) whole) again items in
     (v, last, inr (inl (o, u', n, empty, one, ran, starts, takes, so)))
 one_follows reading into asserts other_asserts is ends child s u i answer t j whole like (inr (inr (o, r, grows, e))) =
     let (v, again, ran) = child s u i (Ok o) t j whole like r in (v, again, inr (inr (o, ran, grows, e)))

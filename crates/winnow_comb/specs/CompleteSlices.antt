@@ -7,9 +7,8 @@ use Rattle.streams.specs.Kind.{Kind, backtrack}
 use Rattle.streams.specs.Reading.{Reading}
 use Rattle.stream_errors.specs.Form.{ErrorForm, asserted}
 use Rattle.winnow_core.specs.Runs.{Runs, LeaveEnds}
-use Rattle.winnow_core.specs.Complete.{FollowsOnWhole, AgreeOnWhole}
+use Rattle.winnow_core.specs.Complete.{AgreeOnWhole, FollowsOnWhole, still_whole}
 use Rattle.winnow_comb.specs.AltSlice.{Backtracked, AltSliceRuns}
-use Rattle.winnow_comb.specs.WholeEnds.{end_of_whole}
 
 -- alike place by place, the other way round
 turned : {S U : Type 0} (alike : S → U → Type 0) (ss : List S) (us : List U) → AllZip alike ss us → AllZip (λ u s. alike s u) us ss
@@ -47,7 +46,7 @@ backtracked_follow reading ends child start (s ∷ ss) [] i ran j whole like don
 backtracked_follow reading ends child start (s ∷ ss) (u ∷ us) i [] j whole like none = absurd none
 backtracked_follow reading ends child start (s ∷ ss) (u ∷ us) i (y ∷ ys) j whole (like, more) (m, r, rest) =
     let (v, again, ran) = child s u i (Err backtrack) y m whole like r in
-    let (vs, agains, rans, still) = backtracked_follow reading ends child start ss us (back_at start m) ys j (end_of_whole (ends s i (Err backtrack) y m r) whole) more rest in
+    let (vs, agains, rans, still) = backtracked_follow reading ends child start ss us (back_at start m) ys j (still_whole (ends s i (Err backtrack) y m r) whole) more rest in
     (v ∷ vs, (again, agains), (m, ran, rans), still)
 
 alt_slice_follows : {S U T L O : Type 0} {alike : S → U → Type 0} {run : Runs S T O} {other : Runs U T O} (reading : Reading T L) (asserts other_asserts : Kind) → asserts ≡ other_asserts → LeaveEnds reading run → FollowsOnWhole alike run other → FollowsOnWhole (λ ss us. AllZip alike ss us) (AltSliceRuns run asserts) (AltSliceRuns other other_asserts)

@@ -1,9 +1,8 @@
 -- What the combinators' structs hold.
 use Rattle.std.specs.Prelude.{Bool}
-use Rattle.std.specs.Borrow.{MutBor}
 use Rattle.std.proofs.Common.{refl}
 use Rattle.stream_sets.specs.declared.range.Range.{Range}
-use Rattle.winnow_comb.specs.Holds.{Holds, HoldsBeside}
+use Rattle.winnow_core.specs.Holds.{Holds, HoldsBeside}
 use Rattle.winnow_comb.specs.declared.combinator.impls.basic.Opt.{Opt}
 use Rattle.winnow_comb.specs.declared.combinator.impls.basic.Cond.{Cond}
 use Rattle.winnow_comb.specs.declared.combinator.impls.basic.Peek.{Peek}
@@ -72,7 +71,3 @@ repeat_holds = record {
   setting = λ s. s.occurrences;
   stays = λ _ _. refl;
 }
-
--- what is behind a reference
-abbrev pub reference_holds : {X : Type 0} → Holds (MutBor X) X
-reference_holds = record { held = λ s. s.now; put = λ s x. record s { now = x }; holds_it = λ _ _. refl }

@@ -23,9 +23,7 @@ pub mod RepeatParts
 pub mod RepeatLaws
 pub mod RunEnds
 pub mod AltEnds
-pub mod Holds
 pub mod Holders
-pub mod WholeEnds
 pub mod CompleteRuns
 pub mod CompleteInOrder
 pub mod CompleteRepeat

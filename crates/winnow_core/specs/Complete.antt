@@ -31,5 +31,5 @@ agrees_by_part part other_part runs f g same = record {
 }
 
 -- an end of a whole input is whole
-pub still_whole : {T L : Type 0} (reading : Reading T L) {i j : Input T} → IsEndOf reading j i → i.side.cut ≡ false → j.side.cut ≡ false
-still_whole reading ends whole = ends.cut ∙ whole
+pub still_whole : {T L : Type 0} {reading : Reading T L} {i j : Input T} → IsEndOf reading j i → i.side.cut ≡ false → j.side.cut ≡ false
+still_whole ends whole = ends.cut ∙ whole

@@ -4,7 +4,7 @@ ghost use Rattle.winnow_comb.specs.CompleteRuns.{opt_agrees, cond_agrees, peek_a
 ghost use Rattle.winnow_comb.specs.Empty.{EmptyRuns};
 ghost use Rattle.winnow_comb.specs.Fail.{FailRuns};
 ghost use Rattle.winnow_comb.specs.Holders.{opt_holds, cond_holds, peek_holds, not_holds, cut_err_holds, backtrack_err_holds};
-ghost use Rattle.winnow_comb.specs.Holds.{agrees_held, agrees_beside};
+ghost use Rattle.winnow_core.specs.Holds.{agrees_held, agrees_beside};
 ghost use Rattle.winnow_core.specs.Complete.{agrees_by_part};
 
 use crate::combinator::impls::{BacktrackErr, Cond, CutErr, Empty, Fail, Not, Opt, Peek};

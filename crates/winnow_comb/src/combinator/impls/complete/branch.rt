@@ -1,6 +1,6 @@
 //! Choices.
 ghost use Rattle.winnow_comb.specs.Holders.{alt_holds};
-ghost use Rattle.winnow_comb.specs.Holds.{agrees_held};
+ghost use Rattle.winnow_core.specs.Holds.{agrees_held};
 
 mod slices;
 mod tuples;

@@ -3,7 +3,7 @@ ghost use Rattle.std.specs.Prelude.{◌≡◌};
 ghost use Rattle.stream_sets.specs.Range.{greatest_of};
 ghost use Rattle.winnow_comb.specs.CompleteRepeat.{repeat_agrees};
 ghost use Rattle.winnow_comb.specs.Holders.{repeat_holds};
-ghost use Rattle.winnow_comb.specs.Holds.{agrees_beside};
+ghost use Rattle.winnow_core.specs.Holds.{agrees_beside};
 
 use crate::combinator::impls::Repeat;
 use std::alloc::Allocator;

@@ -1,7 +1,7 @@
 //! The parsers of children in order.
 ghost use Rattle.winnow_comb.specs.CompleteInOrder.{both_agrees, three_agrees};
 ghost use Rattle.winnow_comb.specs.Holders.{preceded_holds, terminated_holds, separated_pair_holds, delimited_holds};
-ghost use Rattle.winnow_comb.specs.Holds.{agrees_held};
+ghost use Rattle.winnow_core.specs.Holds.{agrees_held};
 
 use crate::combinator::impls::{Delimited, Preceded, SeparatedPair, Terminated};
 use stream_errors::parser_error::ParserError;

@@ -1,8 +1,7 @@
 //! Arrays and slices as branches.
 ghost use Rattle.std.specs.List.{AllZip};
 ghost use Rattle.winnow_comb.specs.CompleteSlices.{alt_slice_agrees};
-ghost use Rattle.winnow_comb.specs.Holders.{reference_holds};
-ghost use Rattle.winnow_comb.specs.Holds.{agrees_held};
+ghost use Rattle.winnow_core.specs.Holds.{agrees_held, reference_holds};
 
 use crate::combinator::impls::AltAgreesWhenComplete;
 use stream_errors::parser_error::ParserError;
