@@ -1,4 +1,4 @@
-//! Combinators on a stream, and the like ones on that stream as a partial one that is complete.
+//! Combinators on a stream, and the like ones on that stream as a partial one, complete and cut.
 use crate::combinator::impls::{Empty, Fail, Repeat};
 use crate::combinator::{alt, cond, not, opt, preceded, repeat, separated_pair};
 use std::alloc::{Allocator, Global};
@@ -21,14 +21,14 @@ enum Ending {
     Takes(usize),
     Backtracks(usize),
     Cuts(usize),
-    Otherwise,
+    Lacks(usize),
 }
 
 /// How one run of a parser ends.
-fn run<I: Stream, O: Drop, P: Parser<I, O, Mode> + Drop>(parser: P, input: I) -> Ending
-    requires { P.can_parse parser }
+fn run<I: Stream, O: Drop, P: Parser<I, O, Mode>>(parser: &mut P, input: I) -> Ending
+    requires { P.can_parse parser.old }
+    ensures { P.can_parse parser.new }
 {
-    let mut parser = parser;
     let mut input = input;
     let before = input.eof_offset();
     let answer = parser.parse_next(&mut input);
@@ -37,23 +37,39 @@ fn run<I: Stream, O: Drop, P: Parser<I, O, Mode> + Drop>(parser: P, input: I) ->
         Ok(_) => Ending::Takes(taken),
         Err(ErrMode::Backtrack(_)) => Ending::Backtracks(taken),
         Err(ErrMode::Cut(_)) => Ending::Cuts(taken),
-        Err(_) => Ending::Otherwise,
+        Err(ErrMode::Incomplete(_)) => Ending::Lacks(taken),
     }
 }
 
-/// How it ends on a stream, and how the like parser does on the partial one that is complete.
-fn run_whole<
+/// How it ends on a stream, and how the like parser does on the partial one that is complete and
+/// on the one that is cut.
+fn run_each<
     I: Stream + Copy,
     O: Drop,
     P: AgreesWhenComplete<I, O, Mode, Q, Mode> + Drop,
     Q: Parser<Partial<I>, O, Mode> + Drop,
->(parser: P, other: Q, input: I) -> (Ending, Ending)
+>(mut parser: P, mut other: Q, input: I) -> [Ending; 3]
     requires first { P.can_parse parser }
     requires second { Q.can_parse other }
 {
     let mut complete = Partial::new(input);
     let _state = complete.complete();
-    (run(parser, input), run(other, complete))
+    [
+        run(&mut parser, input),
+        run(&mut other, complete),
+        run(&mut other, Partial::new(input)),
+    ]
+}
+
+/// A failure behind so many units, whatever more comes.
+fn fails(taken: usize) -> [Ending; 3] {
+    [Ending::Backtracks(taken); 3]
+}
+
+/// A failure behind so many units, for want of more.
+fn short(taken: usize) -> [Ending; 3] {
+    let fails = Ending::Backtracks(taken);
+    [fails, fails, Ending::Lacks(taken)]
 }
 
 /// The parser of one such letter.
@@ -62,40 +78,40 @@ fn letter<I: StreamIsPartial<Token = char>>(letter: char) -> TakeWhile<char, I, 
 }
 
 /// How `opt` of a letter ends, and the like one.
-fn optional<I: StreamIsPartial<Token = char> + Copy>(input: I) -> (Ending, Ending) {
-    run_whole(opt(letter('a')), opt(letter('a')), input)
+fn optional<I: StreamIsPartial<Token = char> + Copy>(input: I) -> [Ending; 3] {
+    run_each(opt(letter('a')), opt(letter('a')), input)
 }
 
 /// How `cond` of a letter ends, and the like one.
-fn on_condition<I: StreamIsPartial<Token = char> + Copy>(input: I) -> (Ending, Ending) {
-    run_whole(cond(true, letter('a')), cond(true, letter('a')), input)
+fn on_condition<I: StreamIsPartial<Token = char> + Copy>(input: I) -> [Ending; 3] {
+    run_each(cond(true, letter('a')), cond(true, letter('a')), input)
 }
 
 /// How `not` of a letter ends, and the like one.
-fn refused<I: StreamIsPartial<Token = char> + Copy>(input: I) -> (Ending, Ending) {
-    run_whole(not(letter('a')), not(letter('a')), input)
+fn refused<I: StreamIsPartial<Token = char> + Copy>(input: I) -> [Ending; 3] {
+    run_each(not(letter('a')), not(letter('a')), input)
 }
 
 #[test]
 fn one_child(rt: HostRuntime) {
-    let fails = Ending::Backtracks(0);
-    let none = Ending::Takes(0);
-    let one = Ending::Takes(1);
+    let none = [Ending::Takes(0); 3];
+    let one = [Ending::Takes(1); 3];
+    let left = [Ending::Takes(0), Ending::Takes(0), Ending::Lacks(0)];
     for (text, left_out, run_on, reversed) in [
-        ("a;", one, one, fails),
-        (";", none, fails, none),
-        ("", none, fails, none),
+        ("a;", one, one, fails(0)),
+        (";", none, fails(0), none),
+        ("", left, short(0), left),
     ] {
-        assert_eq!(rt; optional(text), (left_out, left_out), "{text:?}");
-        assert_eq!(rt; on_condition(text), (run_on, run_on), "{text:?}");
-        assert_eq!(rt; refused(text), (reversed, reversed), "{text:?}");
+        assert_eq!(rt; optional(text), left_out, "{text:?}");
+        assert_eq!(rt; on_condition(text), run_on, "{text:?}");
+        assert_eq!(rt; refused(text), reversed, "{text:?}");
     }
-    assert_eq!(rt; run_whole(Empty, Empty, "a"), (none, none));
+    assert_eq!(rt; run_each(Empty, Empty, "a"), none);
 }
 
 /// How `preceded` ends, and the like one.
-fn behind<I: StreamIsPartial<Token = char> + Copy>(input: I) -> (Ending, Ending) {
-    run_whole(
+fn behind<I: StreamIsPartial<Token = char> + Copy>(input: I) -> [Ending; 3] {
+    run_each(
         preceded(letter('a'), letter('b')),
         preceded(letter('a'), letter('b')),
         input,
@@ -103,8 +119,8 @@ fn behind<I: StreamIsPartial<Token = char> + Copy>(input: I) -> (Ending, Ending)
 }
 
 /// How `separated_pair` ends, and the like one.
-fn around<I: StreamIsPartial<Token = char> + Copy>(input: I) -> (Ending, Ending) {
-    run_whole(
+fn around<I: StreamIsPartial<Token = char> + Copy>(input: I) -> [Ending; 3] {
+    run_each(
         separated_pair(letter('a'), letter('b'), letter('a')),
         separated_pair(letter('a'), letter('b'), letter('a')),
         input,
@@ -114,19 +130,20 @@ fn around<I: StreamIsPartial<Token = char> + Copy>(input: I) -> (Ending, Ending)
 #[test]
 fn in_order(rt: HostRuntime) {
     for (text, two, three) in [
-        ("aba", Ending::Takes(2), Ending::Takes(3)),
-        ("ab", Ending::Takes(2), Ending::Backtracks(2)),
-        ("aa", Ending::Backtracks(1), Ending::Backtracks(1)),
-        ("b", Ending::Backtracks(0), Ending::Backtracks(0)),
+        ("aba", [Ending::Takes(2); 3], [Ending::Takes(3); 3]),
+        ("ab", [Ending::Takes(2); 3], short(2)),
+        ("a", short(1), short(1)),
+        ("aa", fails(1), fails(1)),
+        ("b", fails(0), fails(0)),
     ] {
-        assert_eq!(rt; behind(text), (two, two), "{text:?}");
-        assert_eq!(rt; around(text), (three, three), "{text:?}");
+        assert_eq!(rt; behind(text), two, "{text:?}");
+        assert_eq!(rt; around(text), three, "{text:?}");
     }
 }
 
 /// How a choice among the members of a tuple ends, and the like one.
-fn of_tuple<I: StreamIsPartial<Token = char> + Copy>(input: I) -> (Ending, Ending) {
-    run_whole(
+fn of_tuple<I: StreamIsPartial<Token = char> + Copy>(input: I) -> [Ending; 3] {
+    run_each(
         alt((letter('a'), Fail, letter('c'))),
         alt((letter('a'), Fail, letter('c'))),
         input,
@@ -134,21 +151,22 @@ fn of_tuple<I: StreamIsPartial<Token = char> + Copy>(input: I) -> (Ending, Endin
 }
 
 /// How a choice among the items of a slice ends, and the like one.
-fn of_slice<I: StreamIsPartial<Token = char> + Copy>(input: I) -> (Ending, Ending) {
+fn of_slice<I: StreamIsPartial<Token = char> + Copy>(input: I) -> [Ending; 3] {
     let mut branches = [letter('a'), letter('c')];
     let mut others = [letter('a'), letter('c')];
-    run_whole(alt(&mut branches[..]), alt(&mut others[..]), input)
+    run_each(alt(&mut branches[..]), alt(&mut others[..]), input)
 }
 
 #[test]
 fn choices(rt: HostRuntime) {
     for (text, want) in [
-        ("a;", Ending::Takes(1)),
-        ("c;", Ending::Takes(1)),
-        ("d;", Ending::Backtracks(0)),
+        ("a;", [Ending::Takes(1); 3]),
+        ("c;", [Ending::Takes(1); 3]),
+        ("d;", fails(0)),
+        ("", short(0)),
     ] {
-        assert_eq!(rt; of_tuple(text), (want, want), "{text:?}");
-        assert_eq!(rt; of_slice(text), (want, want), "{text:?}");
+        assert_eq!(rt; of_tuple(text), want, "{text:?}");
+        assert_eq!(rt; of_slice(text), want, "{text:?}");
     }
 }
 
@@ -165,20 +183,33 @@ fn of_many<I: StreamIsPartial<Token = char> + Copy, A: Allocator + Copy>(
     alloc: A,
     range: Range,
     input: I,
-) -> (Ending, Ending) {
-    run_whole(repeated(alloc, range), repeated(alloc, range), input)
+) -> [Ending; 3] {
+    run_each(repeated(alloc, range), repeated(alloc, range), input)
 }
 
 #[test]
 fn repetitions(rt: HostRuntime) {
     let alloc: Global = rt.alloc();
-    for (range, text, want) in [
-        (Range::from(0..), "aa;", Ending::Takes(2)),
-        (Range::from(1..), "a", Ending::Takes(1)),
-        (Range::from(1..), "", Ending::Backtracks(0)),
-        (Range::from(3..), "aa", Ending::Backtracks(2)),
-        (Range::from(3..=2), "aa", Ending::Cuts(0)),
+    for (range, text, whole, cut) in [
+        (Range::from(0..), "aa;", Ending::Takes(2), Ending::Takes(2)),
+        (Range::from(0..), "aa", Ending::Takes(2), Ending::Lacks(2)),
+        (Range::from(..=2), "aa", Ending::Takes(2), Ending::Takes(2)),
+        (Range::from(1..), "a", Ending::Takes(1), Ending::Lacks(1)),
+        (
+            Range::from(1..),
+            "",
+            Ending::Backtracks(0),
+            Ending::Lacks(0),
+        ),
+        (
+            Range::from(3..),
+            "aa",
+            Ending::Backtracks(2),
+            Ending::Lacks(2),
+        ),
+        (Range::from(3..=2), "aa", Ending::Cuts(0), Ending::Cuts(0)),
     ] {
-        assert_eq!(rt; of_many(alloc, range, text), (want, want), "{text:?}");
+        let want = [whole, whole, cut];
+        assert_eq!(rt; of_many(alloc, range, text), want, "{text:?}");
     }
 }
