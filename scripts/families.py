@@ -1,15 +1,17 @@
 #!/usr/bin/env python3
-"""Writes the files whose items differ in nothing but the number of members of a tuple.
+"""Writes the files whose items differ in nothing but a number or a name.
 
 Run it by hand at the top of the repository, and then `rt fmt` in the crates it names:
 
     python3 scripts/families.py
 
 It writes the sets that are tuples in the crate `stream_sets`, the meanings and the impls of
-sequences (tuples of one to six) in the crate `winnow_core`, and those of choices among as many
-branches in the crate `winnow_comb`, with their laws.
+sequences (tuples of one to six) in the crate `winnow_core`, those of choices among as many
+branches in the crate `winnow_comb`, with their laws, and the parsers of classes of characters in
+the crate `winnow_ascii`.
 """
 import pathlib
+import textwrap
 
 TOP = pathlib.Path(__file__).resolve().parent.parent
 HEAD = "Written by scripts/families.py."
@@ -838,9 +840,231 @@ def write_sets():
     write("crates/stream_sets/src/sets/tuples.rt", SET_IMPLS, family="\n\n".join(set_impl(n) for n in upto(MOST)))
 
 
+# Classes of ASCII.
+
+# name, members, one of them, the set, its specification, a beginning of members, what ends it
+CLASSES = [
+    ("alpha", "ASCII letters", "letter", "Letters", "IsAlpha", "ab", "1"),
+    ("digit", "ASCII digits", "digit", "DecimalDigits", "IsDecDigit", "12", ";"),
+    ("hex_digit", "hexadecimal digits, in either case", "such digit", "HexadecimalDigits", "IsHexDigit", "1fA", "g"),
+    ("oct_digit", "octal digits", "such digit", "OctalDigits", "IsOctDigit", "17", "8"),
+    ("alphanumeric", "ASCII letters and digits", "letter or digit", "Alphanumerics", "IsAlphanum", "a1", ";"),
+    ("space", "spaces and tabs", "such character", "Spaces", "IsSpace", " \\t", "a"),
+    ("multispace", "spaces, tabs, carriage returns and line feeds", "such character", "Multispaces", "IsMultispace", " \\n", "a"),
+]
+
+
+def camel(name):
+    return "".join(part.capitalize() for part in name.split("_"))
+
+
+def class_parsers():
+    """Each class with its least number of members."""
+    return [(*row, least) for row in CLASSES for least in (0, 1)]
+
+
+def documented(text):
+    return "\n".join("/// " + line for line in textwrap.wrap(text, 96))
+
+
+def class_spec(name, members, one, chars, is_member, front, rest, least):
+    how_many = "One or more" if least else "Any number"
+    return "\n".join(
+        [
+            "-- %s of %s." % (how_many, members),
+            "abbrev pub %s%dRuns : {K T S : Type 0} → (K → ℕ) → (K → T) → Reading T S → ErrorForm → Input T → Answer S → Input T → Type 0" % (camel(name), least),
+            "%s%dRuns = ClassRuns %s %d" % (camel(name), least, is_member, least),
+        ]
+    )
+
+
+CLASS_SPECS = """-- The parsers of classes of characters: takes of their members.
+-- {head}
+use Rattle.std.specs.Prelude.{{ℕ}}
+use Rattle.streams.specs.Input.{{Input}}
+use Rattle.streams.specs.Reading.{{Reading}}
+use Rattle.stream_errors.specs.Form.{{ErrorForm, Answer}}
+use Rattle.stream_sets.specs.AsChar.{{{members}}}
+use Rattle.winnow_ascii.specs.ClassRuns.{{ClassRuns}}
+
+{family}
+"""
+
+
+def class_function(name, members, one, chars, is_member, front, rest, least):
+    call = "%s%d" % (name, least)
+    if least:
+        fails = "It backtracks, and consumes nothing, where no %s stands first. On a cut input it is incomplete" % one
+        other = "backtracks"
+    else:
+        fails = "It never backtracks on a whole input. On a cut input it is incomplete"
+        other = 'is Ok(b"")'
+    fails += ", and consumes nothing, where nothing is left or all that is left is taken: the need is 1 unit."
+    first = '%s(&mut b"%s%s".as_slice())' % (call, front, rest)
+    second = '%s(&mut b"%s".as_slice())' % (call, rest)
+    return "\n".join(
+        [
+            documented("The longest beginning of %s, %s; the output is the slice of the input." % (members, "at least one" if least else "none too")),
+            "///",
+            documented(fails),
+            "///",
+            "/// ```text",
+            '/// %s   is Ok(b"%s"), and b"%s" is left' % (first, front, rest),
+            "/// %s%s   %s, and b\"%s\" is left" % (second, " " * (len(first) - len(second)), other, rest),
+            "/// ```",
+            "#[inline(always)]",
+            "pub fn %s<Input, Error>(input: &mut Input) -> Result<Input::Slice, Error>" % call,
+            "where",
+            "    Input: StreamIsPartial,",
+            "    Input::Token: AsChar,",
+            "    Error: ParserError<Input>,",
+            "    ensures ran { %s%dRuns Input.Token.code Input.seen_as Input.reading Error.form (Input.view input.old) (answer_by Error.kind result) (Input.view input.new) }" % (camel(name), least),
+            "    ensures ends { IsEndOf Input.reading (Input.view input.new) (Input.view input.old) }",
+            "{",
+            "    take_while::<_, Input, Error>(Range::from(%d..), %s).parse_next(input)" % (least, chars),
+            "}",
+        ]
+    )
+
+
+CLASS_FUNCTIONS = """//! Parsers of ASCII's classes of characters.
+//!
+//! {head}
+ghost use Rattle.streams.specs.Input.{{IsEndOf}};
+ghost use Rattle.stream_errors.specs.Form.{{answer_by}};
+ghost use Rattle.winnow_ascii.specs.Classes.{{{runs}}};
+
+use stream_errors::parser_error::ParserError;
+use stream_sets::as_char::AsChar;
+use stream_sets::classes::{{{sets}}};
+use stream_sets::range::Range;
+use streams::stream::StreamIsPartial;
+use winnow_core::parser::Parser;
+use winnow_core::token::take_while;
+
+{family}
+"""
+
+
+def class_struct(name, members, one, chars, is_member, front, rest, least):
+    kind = "%s%d" % (camel(name), least)
+    return "\n".join(
+        [
+            "/// The parser [`%s%d`](crate::ascii::%s%d)." % (name, least, name, least),
+            "///",
+            "/// ```text",
+            '/// %s.parse_next(&mut b"%s%s".as_slice())   is Ok(b"%s"), and b"%s" is left' % (kind, front, rest, front, rest),
+            "/// ```",
+            "#[derive(Clone, Copy, Debug, PartialEq, Eq)]",
+            "pub struct %s;" % kind,
+            "",
+            "impl<I: StreamIsPartial, E: ParserError<I>> Parser<I, I::Slice, E> for %s" % kind,
+            "where",
+            "    I::Token: AsChar,",
+            "{",
+            "    ghost run = { λ s i answer t j. %sRuns I.Token.code I.seen_as I.reading E.form i answer j × (t ≡ s) };" % kind,
+            "",
+            "    ghost leaves_ends = { λ s i answer t j r. class_ends %s %d I.Token.code I.seen_as I.reading E.form i answer j r.0 };" % (is_member, least),
+            "",
+            "    #[inline(always)]",
+            "    fn parse_next(&mut self, input: &mut I) -> Result<I::Slice, E> {",
+            "        %s%d(input)" % (name, least),
+            "    }",
+            "}",
+        ]
+    )
+
+
+CLASS_STRUCTS = """//! The parsers of classes, as structs.
+//!
+//! {head}
+ghost use Rattle.std.specs.Prelude.{{◌≡◌}};
+ghost use Rattle.stream_sets.specs.AsChar.{{{members}}};
+ghost use Rattle.winnow_ascii.specs.ClassRuns.{{class_ends}};
+ghost use Rattle.winnow_ascii.specs.Classes.{{{runs}}};
+
+use crate::ascii::{{{calls}}};
+use stream_errors::parser_error::ParserError;
+use stream_sets::as_char::AsChar;
+use streams::stream::StreamIsPartial;
+use winnow_core::parser::Parser;
+
+{family}
+"""
+
+
+def class_complete(name, members, one, chars, is_member, front, rest, least):
+    kind = "%s%d" % (camel(name), least)
+    return "\n".join(
+        [
+            "impl<I: StreamIsPartial, E: ParserError<I>, F: ParserError<Partial<I>>> AgreesWhenComplete<I, I::Slice, E, %s, F> for %s" % (kind, kind),
+            "where",
+            "    I::Token: AsChar,",
+            "{",
+            "    ghost alike = { λ s u. s ≡ u };",
+            "",
+            "    ghost agrees = { agrees_by_part (λ s. s) (λ u. u) (λ form _. %sRuns I.Token.code I.seen_as I.reading form) E.form F.form };" % kind,
+            "}",
+        ]
+    )
+
+
+CLASS_COMPLETE = """//! The parsers of classes.
+//!
+//! {head}
+ghost use Rattle.std.specs.Prelude.{{◌≡◌}};
+ghost use Rattle.winnow_ascii.specs.Classes.{{{runs}}};
+ghost use Rattle.winnow_core.specs.Complete.{{agrees_by_part}};
+
+use crate::ascii::impls::{{{kinds}}};
+use stream_errors::parser_error::ParserError;
+use stream_sets::as_char::AsChar;
+use streams::partial::Partial;
+use streams::stream::StreamIsPartial;
+use winnow_core::complete::AgreesWhenComplete;
+
+{family}
+"""
+
+CLASS_ANSWERS = """-- {head}
+use Rattle.std.proofs.Common.{{arith, ◌∙◌}}
+use Rattle.stream_sets.specs.AsChar.{{{is_member}}}
+use Rattle.winnow_ascii.proofs.ClassLemmas.{{class_runs}}
+use Rattle.winnow_ascii.proofs.ascii.classes.{call}.Goals as goal
+
+pub returns-clause-ran : goal.returns-clause-ran
+returns-clause-ran g c =
+    class_runs {is_member} {least} _ _ _ _ _ _ _ _ (omega arith) (c.take_while.ensures.occurrences ∙ c.from.ensures) c.parse_next.ensures.ran.0
+"""
+
+
+def write_classes():
+    ascii_crate = "crates/winnow_ascii/"
+    rows = class_parsers()
+    kinds = ["%s%d" % (camel(row[0]), row[-1]) for row in rows]
+    parts = {
+        "members": ", ".join(row[4] for row in CLASSES),
+        "runs": ", ".join("%sRuns" % kind for kind in kinds),
+        "sets": ", ".join(row[3] for row in CLASSES),
+        "calls": ", ".join("%s%d" % (row[0], row[-1]) for row in rows),
+        "kinds": ", ".join(kinds),
+    }
+    for path, text, of in [
+        ("specs/Classes.antt", CLASS_SPECS, class_spec),
+        ("src/ascii/classes.rt", CLASS_FUNCTIONS, class_function),
+        ("src/ascii/impls/classes.rt", CLASS_STRUCTS, class_struct),
+        ("src/complete/classes.rt", CLASS_COMPLETE, class_complete),
+    ]:
+        write(ascii_crate + path, text, family="\n\n".join(of(*row) for row in rows), **parts)
+    for row in rows:
+        call = "%s%d" % (row[0], row[-1])
+        write(ascii_crate + "proofs/ascii/classes/%s/Answers.antt" % call, CLASS_ANSWERS, is_member=row[4], least=row[-1], call=call)
+
+
 if __name__ == "__main__":
     write_sets()
     write_sequences()
     write_complete_sequences()
     write_choices()
     write_laws()
+    write_classes()

@@ -2,3 +2,4 @@ pub mod CompareLemmas
 pub mod FindLemmas
 pub mod TextFindLemmas
 pub mod SeveralLemmas
+pub mod CaselessLemmas

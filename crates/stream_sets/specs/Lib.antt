@@ -1,6 +1,7 @@
 pub mod AsChar
 pub mod Compare
 pub mod TextCompare
+pub mod Caseless
 pub mod TokenCompare
 pub mod Range
 pub mod Sets

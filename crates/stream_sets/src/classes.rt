@@ -1,9 +1,27 @@
 //! Sets of characters, by the classes of ASCII.
 ghost use Rattle.std.specs.Prelude.{◌↔◌, IsTrue};
-ghost use Rattle.stream_sets.specs.AsChar.{IsAlphanum, IsDecDigit, IsSpace, IsMultispace};
+ghost use Rattle.stream_sets.specs.AsChar.{IsAlpha, IsAlphanum, IsDecDigit, IsHexDigit, IsOctDigit, IsSpace, IsMultispace};
 
 use crate::as_char::AsChar;
 use crate::sets::ContainsToken;
+
+/// The set of ASCII letters.
+///
+/// ```text
+/// Letters.contains_token(b'a')   is true
+/// Letters.contains_token(b'1')   is false
+/// ```
+#[derive(Clone, Copy, Debug, PartialEq, Eq)]
+pub struct Letters;
+
+impl<T: AsChar> ContainsToken<T> for Letters {
+    ghost tells = { λ s t b. IsTrue b ↔ IsAlpha (T.code t) };
+
+    #[inline(always)]
+    fn contains_token(&self, token: T) -> bool {
+        token.is_alpha()
+    }
+}
 
 /// The set of ASCII letters and digits.
 ///
@@ -38,6 +56,42 @@ impl<T: AsChar> ContainsToken<T> for DecimalDigits {
     #[inline(always)]
     fn contains_token(&self, token: T) -> bool {
         token.is_dec_digit()
+    }
+}
+
+/// The set of hexadecimal digits, in either case.
+///
+/// ```text
+/// HexadecimalDigits.contains_token(b'f')   is true
+/// HexadecimalDigits.contains_token(b'g')   is false
+/// ```
+#[derive(Clone, Copy, Debug, PartialEq, Eq)]
+pub struct HexadecimalDigits;
+
+impl<T: AsChar> ContainsToken<T> for HexadecimalDigits {
+    ghost tells = { λ s t b. IsTrue b ↔ IsHexDigit (T.code t) };
+
+    #[inline(always)]
+    fn contains_token(&self, token: T) -> bool {
+        token.is_hex_digit()
+    }
+}
+
+/// The set of octal digits.
+///
+/// ```text
+/// OctalDigits.contains_token(b'7')   is true
+/// OctalDigits.contains_token(b'8')   is false
+/// ```
+#[derive(Clone, Copy, Debug, PartialEq, Eq)]
+pub struct OctalDigits;
+
+impl<T: AsChar> ContainsToken<T> for OctalDigits {
+    ghost tells = { λ s t b. IsTrue b ↔ IsOctDigit (T.code t) };
+
+    #[inline(always)]
+    fn contains_token(&self, token: T) -> bool {
+        token.is_oct_digit()
     }
 }
 

@@ -6,6 +6,7 @@ ghost use Rattle.std.proofs.Common.{ap, sym, ◌∙◌};
 ghost use Rattle.std.specs.Char.{encode_utf8};
 ghost use Rattle.stream_sets.specs.Compare.{ComparesAs, StandsFirst, IsShort, same-length};
 
+mod caseless;
 mod text;
 mod tokens;
 mod wrapped;

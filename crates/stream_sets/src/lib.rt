@@ -5,11 +5,13 @@
 pub mod accumulate;
 pub mod as_bstr;
 pub mod as_char;
+pub mod caseless;
 pub mod classes;
 pub mod compare;
 pub mod find;
 pub mod numbers;
 pub mod range;
 pub mod sets;
+pub mod slice_len;
 #[cfg(test)]
 mod tests;

@@ -6,6 +6,7 @@ use crate::range::Range;
 use crate::sets::{ContainsToken, Pred};
 use std::process::Abort;
 
+mod caseless;
 mod kinds;
 
 /// The range has these bounds.

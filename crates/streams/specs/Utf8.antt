@@ -18,17 +18,17 @@ ended c [] = refl
 ended c (b ∷ bs) = refl
 
 -- the bytes of a character that takes two, three and four of them
-two : (c : ℕ) → 128 ≤ c → c < 2048 → encode_utf8 c ≡ (192 + c / 64) ∷ (128 + c % 64) ∷ []
+pub two_bytes : (c : ℕ) → 128 ≤ c → c < 2048 → encode_utf8 c ≡ (192 + c / 64) ∷ (128 + c % 64) ∷ []
 unfolding encode_utf8
-two c l h = rw (le-ltb c 128 l, lt-ltb c 2048 h)
+two_bytes c l h = rw (le-ltb c 128 l, lt-ltb c 2048 h)
 
-three : (c : ℕ) → 2048 ≤ c → c < 65536 → encode_utf8 c ≡ (224 + c / 4096) ∷ (128 + c / 64 % 64) ∷ (128 + c % 64) ∷ []
+pub three_bytes : (c : ℕ) → 2048 ≤ c → c < 65536 → encode_utf8 c ≡ (224 + c / 4096) ∷ (128 + c / 64 % 64) ∷ (128 + c % 64) ∷ []
 unfolding encode_utf8
-three c l h = rw (le-ltb c 128 (omega arith), le-ltb c 2048 l, lt-ltb c 65536 h)
+three_bytes c l h = rw (le-ltb c 128 (omega arith), le-ltb c 2048 l, lt-ltb c 65536 h)
 
-four : (c : ℕ) → 65536 ≤ c → encode_utf8 c ≡ (240 + c / 262144) ∷ (128 + c / 4096 % 64) ∷ (128 + c / 64 % 64) ∷ (128 + c % 64) ∷ []
+pub four_bytes : (c : ℕ) → 65536 ≤ c → encode_utf8 c ≡ (240 + c / 262144) ∷ (128 + c / 4096 % 64) ∷ (128 + c / 64 % 64) ∷ (128 + c % 64) ∷ []
 unfolding encode_utf8
-four c l = rw (le-ltb c 128 (omega arith), le-ltb c 2048 (omega arith), le-ltb c 65536 l)
+four_bytes c l = rw (le-ltb c 128 (omega arith), le-ltb c 2048 (omega arith), le-ltb c 65536 l)
 
 -- The bytes of a character spell it, whatever number it is and whatever bytes follow.
 pub chars-encode : (c : ℕ) (rest : List ℕ) → chars (encode_utf8 c ++ rest) ≡ c ∷ chars rest
@@ -38,16 +38,16 @@ chars-encode c rest = by (cases_lt c 128) (cases_lt c 2048) (cases_lt c 65536)
     by (inl h) _ _ = ap (λ p. chars (p ++ rest)) (encode_ascii c h) ∙ led c zero c rest (grind arith) (grind arith) ∙ ended c rest
     by (inr l) (inl h) _ =
         let is : (c / 64) * 64 + ((128 + c % 64) - 128) ≡ c = omega arith in
-        ap (λ p. chars (p ++ rest)) (two c l h)
+        ap (λ p. chars (p ++ rest)) (two_bytes c l h)
         ∙ led (192 + c / 64) (suc zero) (c / 64) ((128 + c % 64) ∷ rest) (grind arith) (grind arith)
         ∙ ended _ rest ∙ ap (λ x. x ∷ chars rest) is
     by (inr _) (inr l) (inl h) =
         let is : ((c / 4096) * 64 + ((128 + c / 64 % 64) - 128)) * 64 + ((128 + c % 64) - 128) ≡ c = omega arith in
-        ap (λ p. chars (p ++ rest)) (three c l h)
+        ap (λ p. chars (p ++ rest)) (three_bytes c l h)
         ∙ led (224 + c / 4096) (suc (suc zero)) (c / 4096) ((128 + c / 64 % 64) ∷ (128 + c % 64) ∷ rest) (grind arith) (grind arith)
         ∙ ended _ rest ∙ ap (λ x. x ∷ chars rest) is
     by (inr _) (inr _) (inr l) =
         let is : (((c / 262144) * 64 + ((128 + c / 4096 % 64) - 128)) * 64 + ((128 + c / 64 % 64) - 128)) * 64 + ((128 + c % 64) - 128) ≡ c = omega arith in
-        ap (λ p. chars (p ++ rest)) (four c l)
+        ap (λ p. chars (p ++ rest)) (four_bytes c l)
         ∙ led (240 + c / 262144) (suc (suc (suc zero))) (c / 262144) ((128 + c / 4096 % 64) ∷ (128 + c / 64 % 64) ∷ (128 + c % 64) ∷ rest) (grind arith) (grind arith)
         ∙ ended _ rest ∙ ap (λ x. x ∷ chars rest) is

@@ -1,34 +1,64 @@
 -- The parsers of classes of characters: takes of their members.
-use Rattle.std.specs.Prelude.{◌↔◌, ℕ, IsTrue, None}
-use Rattle.streams.specs.Input.{Input, IsEndOf}
+-- Written by scripts/families.py.
+use Rattle.std.specs.Prelude.{ℕ}
+use Rattle.streams.specs.Input.{Input}
 use Rattle.streams.specs.Reading.{Reading}
-use Rattle.streams.specs.Stream.{AnswersSeen}
 use Rattle.stream_errors.specs.Form.{ErrorForm, Answer}
-use Rattle.stream_sets.specs.AsChar.{IsAlphanum, IsDecDigit, IsSpace, IsMultispace}
-use Rattle.winnow_core.specs.RunEnds.{take_while_ends}
-use Rattle.winnow_core.specs.TakeWhile.{TakeWhileRuns}
+use Rattle.stream_sets.specs.AsChar.{IsAlpha, IsDecDigit, IsHexDigit, IsOctDigit, IsAlphanum, IsSpace, IsMultispace}
+use Rattle.winnow_ascii.specs.ClassRuns.{ClassRuns}
 
--- A run of a take of the characters of a class, of at least `least` and with no greatest number. The tokens have the numbers `code`, and are seen by `seen`.
-abbrev pub ClassRuns : {K T S : Type 0} → (ℕ → Type 0) → ℕ → (K → ℕ) → (K → T) → Reading T S → ErrorForm → Input T → Answer S → Input T → Type 0
-ClassRuns class least code seen reading form i answer j =
-    TakeWhileRuns reading form (AnswersSeen seen (λ t b. IsTrue b ↔ class (code t))) least None i answer j
+-- Any number of ASCII letters.
+abbrev pub Alpha0Runs : {K T S : Type 0} → (K → ℕ) → (K → T) → Reading T S → ErrorForm → Input T → Answer S → Input T → Type 0
+Alpha0Runs = ClassRuns IsAlpha 0
 
--- One digit or more.
-abbrev pub DigitRuns : {K T S : Type 0} → (K → ℕ) → (K → T) → Reading T S → ErrorForm → Input T → Answer S → Input T → Type 0
-DigitRuns = ClassRuns IsDecDigit 1
+-- One or more of ASCII letters.
+abbrev pub Alpha1Runs : {K T S : Type 0} → (K → ℕ) → (K → T) → Reading T S → ErrorForm → Input T → Answer S → Input T → Type 0
+Alpha1Runs = ClassRuns IsAlpha 1
 
--- One letter or digit or more.
-abbrev pub AlphanumericRuns : {K T S : Type 0} → (K → ℕ) → (K → T) → Reading T S → ErrorForm → Input T → Answer S → Input T → Type 0
-AlphanumericRuns = ClassRuns IsAlphanum 1
+-- Any number of ASCII digits.
+abbrev pub Digit0Runs : {K T S : Type 0} → (K → ℕ) → (K → T) → Reading T S → ErrorForm → Input T → Answer S → Input T → Type 0
+Digit0Runs = ClassRuns IsDecDigit 0
+
+-- One or more of ASCII digits.
+abbrev pub Digit1Runs : {K T S : Type 0} → (K → ℕ) → (K → T) → Reading T S → ErrorForm → Input T → Answer S → Input T → Type 0
+Digit1Runs = ClassRuns IsDecDigit 1
+
+-- Any number of hexadecimal digits, in either case.
+abbrev pub HexDigit0Runs : {K T S : Type 0} → (K → ℕ) → (K → T) → Reading T S → ErrorForm → Input T → Answer S → Input T → Type 0
+HexDigit0Runs = ClassRuns IsHexDigit 0
+
+-- One or more of hexadecimal digits, in either case.
+abbrev pub HexDigit1Runs : {K T S : Type 0} → (K → ℕ) → (K → T) → Reading T S → ErrorForm → Input T → Answer S → Input T → Type 0
+HexDigit1Runs = ClassRuns IsHexDigit 1
+
+-- Any number of octal digits.
+abbrev pub OctDigit0Runs : {K T S : Type 0} → (K → ℕ) → (K → T) → Reading T S → ErrorForm → Input T → Answer S → Input T → Type 0
+OctDigit0Runs = ClassRuns IsOctDigit 0
+
+-- One or more of octal digits.
+abbrev pub OctDigit1Runs : {K T S : Type 0} → (K → ℕ) → (K → T) → Reading T S → ErrorForm → Input T → Answer S → Input T → Type 0
+OctDigit1Runs = ClassRuns IsOctDigit 1
+
+-- Any number of ASCII letters and digits.
+abbrev pub Alphanumeric0Runs : {K T S : Type 0} → (K → ℕ) → (K → T) → Reading T S → ErrorForm → Input T → Answer S → Input T → Type 0
+Alphanumeric0Runs = ClassRuns IsAlphanum 0
+
+-- One or more of ASCII letters and digits.
+abbrev pub Alphanumeric1Runs : {K T S : Type 0} → (K → ℕ) → (K → T) → Reading T S → ErrorForm → Input T → Answer S → Input T → Type 0
+Alphanumeric1Runs = ClassRuns IsAlphanum 1
 
 -- Any number of spaces and tabs.
-abbrev pub SpaceRuns : {K T S : Type 0} → (K → ℕ) → (K → T) → Reading T S → ErrorForm → Input T → Answer S → Input T → Type 0
-SpaceRuns = ClassRuns IsSpace 0
+abbrev pub Space0Runs : {K T S : Type 0} → (K → ℕ) → (K → T) → Reading T S → ErrorForm → Input T → Answer S → Input T → Type 0
+Space0Runs = ClassRuns IsSpace 0
 
--- One space, tab, carriage return or line feed, or more.
-abbrev pub MultispaceRuns : {K T S : Type 0} → (K → ℕ) → (K → T) → Reading T S → ErrorForm → Input T → Answer S → Input T → Type 0
-MultispaceRuns = ClassRuns IsMultispace 1
+-- One or more of spaces and tabs.
+abbrev pub Space1Runs : {K T S : Type 0} → (K → ℕ) → (K → T) → Reading T S → ErrorForm → Input T → Answer S → Input T → Type 0
+Space1Runs = ClassRuns IsSpace 1
 
--- A run of a class leaves an end of its input.
-pub class_ends : {K T S : Type 0} (class : ℕ → Type 0) (least : ℕ) (code : K → ℕ) (seen : K → T) (reading : Reading T S) (form : ErrorForm) (i : Input T) (answer : Answer S) (j : Input T) → ClassRuns class least code seen reading form i answer j → IsEndOf reading j i
-class_ends class least code seen reading form i answer j r = take_while_ends reading form (AnswersSeen seen (λ t b. IsTrue b ↔ class (code t))) least None i answer j r
+-- Any number of spaces, tabs, carriage returns and line feeds.
+abbrev pub Multispace0Runs : {K T S : Type 0} → (K → ℕ) → (K → T) → Reading T S → ErrorForm → Input T → Answer S → Input T → Type 0
+Multispace0Runs = ClassRuns IsMultispace 0
+
+-- One or more of spaces, tabs, carriage returns and line feeds.
+abbrev pub Multispace1Runs : {K T S : Type 0} → (K → ℕ) → (K → T) → Reading T S → ErrorForm → Input T → Answer S → Input T → Type 0
+Multispace1Runs = ClassRuns IsMultispace 1

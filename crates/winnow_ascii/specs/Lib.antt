@@ -1,1 +1,2 @@
+pub mod ClassRuns
 pub mod Classes

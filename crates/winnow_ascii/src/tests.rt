@@ -1,4 +1,5 @@
 //! Each parser at bytes, under a plain error and one with a mode.
+mod classes;
 mod inputs;
 
 use crate::ascii::impls::{Alphanumeric1, Digit1, Multispace1, Space0};

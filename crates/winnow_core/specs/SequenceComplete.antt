@@ -1,6 +1,6 @@
 -- Sequences have the same runs on whole inputs, where their children do.
 -- Written by scripts/families.py.
-use Rattle.std.specs.Prelude.{◌≡◌, ⊤, false, Ok, Err}
+use Rattle.std.specs.Prelude.{⊤, Ok, Err}
 use Rattle.std.proofs.Common.{refl, sym, subst, inl, inr}
 use Rattle.streams.specs.Reading.{Reading}
 use Rattle.winnow_core.specs.Complete.{AgreeOnWhole, FollowsOnWhole, still_whole}

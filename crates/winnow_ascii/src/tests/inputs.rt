@@ -14,7 +14,7 @@ type Mode = ErrMode<EmptyError>;
 
 /// How a run ended, with the units that it took.
 #[derive(Clone, Copy, Debug, PartialEq)]
-enum Ending {
+pub(crate) enum Ending {
     Taken(usize),
     Backtracks,
     Lacks(Needed),
@@ -32,7 +32,7 @@ fn ending_of<O: Drop>(answer: Result<O, Mode>, taken: usize) -> Ending {
 }
 
 /// How one run of a parser ends.
-fn run<I: Stream, O: Drop, P: Parser<I, O, Mode> + Drop>(parser: P, input: I) -> Ending
+pub(crate) fn run<I: Stream, O: Drop, P: Parser<I, O, Mode> + Drop>(parser: P, input: I) -> Ending
     requires { P.can_parse parser }
 {
     let mut parser = parser;

@@ -7,6 +7,7 @@ use std::process::Abort;
 use stream_errors::empty::EmptyError;
 use stream_errors::mode::ErrMode;
 use stream_errors::parser_error::ParserError;
+use stream_sets::caseless::Caseless;
 use stream_sets::range::Range;
 use streams::needed::Needed;
 use streams::partial::Partial;
@@ -283,6 +284,27 @@ fn takes_up_to_a_match(rt: HostRuntime) {
             whole,
         );
     }
+}
+
+#[test]
+fn literals_without_regard_to_case(rt: HostRuntime) {
+    let unknown = Lacks(Needed::Unknown);
+    sweep(
+        &rt,
+        Caseless("aé"),
+        Caseless("aé"),
+        &[
+            ("", unknown),
+            ("A", unknown),
+            ("Aé", Taken(3)),
+            ("Aé;", Taken(3)),
+        ],
+        Taken(3),
+    );
+    let hello: Result<(&str, &str), Mode> = Caseless("hello").parse_peek("HeLLo!");
+    assert_eq!(rt; hello.ok(), Some(("!", "HeLLo")));
+    assert_eq!(rt; run(&mut Caseless("hello"), "help"), Backtracks);
+    assert_eq!(rt; run(&mut literal(Caseless("é")), "É"), Backtracks);
 }
 
 #[test]

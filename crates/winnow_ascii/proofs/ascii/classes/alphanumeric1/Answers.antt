@@ -1,7 +1,8 @@
+-- Written by scripts/families.py.
 use Rattle.std.proofs.Common.{arith, ◌∙◌}
 use Rattle.stream_sets.specs.AsChar.{IsAlphanum}
 use Rattle.winnow_ascii.proofs.ClassLemmas.{class_runs}
-use Rattle.winnow_ascii.proofs.ascii.alphanumeric1.Goals as goal
+use Rattle.winnow_ascii.proofs.ascii.classes.alphanumeric1.Goals as goal
 
 pub returns-clause-ran : goal.returns-clause-ran
 returns-clause-ran g c =

@@ -1,0 +1,26 @@
+//! Literals without regard to ASCII case.
+ghost use Rattle.std.specs.Prelude.{◌≡◌, ℕ, length};
+
+/// A literal that is compared without regard to the case of ASCII letters, as winnow's
+/// documentation has it. Other letters differ from theirs in another case.
+///
+/// ```text
+/// b"HeLLo!".as_slice().compare(Caseless("hello"))   is CompareResult::Ok(5)
+/// "É".compare(Caseless("é"))                        is CompareResult::Error
+/// ```
+#[derive(Clone, Copy, Debug)]
+pub struct Caseless<T>(pub T);
+
+impl<'a> Caseless<&'a str> {
+    /// The literal as its bytes, without regard to case too.
+    ///
+    /// ```text
+    /// Caseless("é").as_bytes()   is Caseless of [0xC3, 0xA9]
+    /// ```
+    #[inline(always)]
+    pub fn as_bytes(&self) -> Caseless<&'a [u8]>
+        ensures { result.0.now ≡ self.now.0.now }
+    {
+        Caseless(self.0.as_bytes())
+    }
+}
