@@ -610,7 +610,7 @@ def sequence_follows_law(n):
 
 SEQUENCE_COMPLETE = """-- Sequences have the same runs on whole inputs, where their children do.
 -- {head}
-use Rattle.std.specs.Prelude.{{◌≡◌, ⊤, false, Ok, Err}}
+use Rattle.std.specs.Prelude.{{⊤, Ok, Err}}
 use Rattle.std.proofs.Common.{{refl, sym, subst, inl, inr}}
 use Rattle.streams.specs.Reading.{{Reading}}
 use Rattle.winnow_core.specs.Complete.{{AgreeOnWhole, FollowsOnWhole, still_whole}}
