@@ -3,6 +3,7 @@ use super::compared;
 use crate::caseless::Caseless;
 use crate::compare::CompareResult;
 use crate::slice_len::SliceLen;
+use std::test::Fail;
 use streams::partial::Partial;
 
 #[test]
@@ -74,4 +75,14 @@ fn lengths(rt: HostRuntime) {
     assert_eq!(rt; b"abc".slice_len(), 3);
     assert_eq!(rt; [1u8, 2].slice_len(), 2);
     assert_eq!(rt; Caseless("é").slice_len(), 2);
+}
+
+#[test]
+fn derives(rt: HostRuntime) -> Result<(), Fail> {
+    let literal = Caseless("É");
+    let same = literal;
+    assert_eq!(rt; literal.0, same.0);
+    let shown = format!(in rt.alloc(); "{literal:?}")?;
+    assert_eq!(rt; shown.as_str(), "Caseless(\"É\")");
+    Ok(())
 }
