@@ -13,8 +13,9 @@ use Rattle.stream_sets.specs.declared.range.Range.{Range}
 use Rattle.winnow_core.specs.Runs.{Runs}
 use Rattle.winnow_comb.specs.Chain.{IsItem}
 use Rattle.winnow_comb.specs.InOrder.{BothRuns}
-use Rattle.winnow_comb.specs.Repeat.{Accumulator, RepeatRuns}
-use Rattle.readers.specs.Document.{SectionText, PairBytes, Part, white, comment, section, pair, Begins, BeginsWith, BeginsDocument, IsRefusedDocument, NoPairBegins, NoSectionBegins, pairs_of, sections_of, NoPairBeforeSections}
+use Rattle.stream_sets.specs.Accumulator.{Accumulator}
+use Rattle.winnow_comb.specs.Repeat.{RepeatRuns}
+use Rattle.readers.specs.Document.{SectionText, PairBytes, Part, white, comment, section, pair, Begins, BeginsWith, BeginsDocument, IsRefusedDocument, NoPairBegins, NoSectionBegins, SectionBegins, ReachesSection, pairs_of, sections_of, NoPairBeforeSections}
 use Rattle.readers.specs.DocumentRuns.{IsGapPart, NoGapBegins, HasNoSection, BeginsAtSection, GapRuns, SectionRuns, SectionsRuns, DocumentRuns}
 use Rattle.readers.proofs.PairLemmas.{not_none}
 use Rattle.readers.proofs.PairRuns.{ok_is_err, same_ok}
@@ -80,24 +81,38 @@ sections_read {S} {X} told run reads (o ∷ os) s i u m (q, item, rest) =
           λ some. no_pair_behind parts q.1.left.tokens m.left.tokens no_pair with last_pair,
         )
     more parts with at texts last last_pair (ends, inr (inl (none, is))) = ok_is_err refl is
-    more parts with at texts last last_pair (ends, inr (inr is)) = ok_is_err refl is
+    more parts with at texts last last_pair (ends, inr (inr (some, is))) = ok_is_err refl is
 
 -- What a run of the reader of sections says, but for the end of the input.
 abbrev pub SectionsRead : {C : Type 0} → (C → List SectionText) → Input ℕ → Answer C → Input ℕ → Type 0
 SectionsRead {C} told i answer j =
     ((all : C) × (parts : List Part) × BeginsWith parts i.left.tokens j.left.tokens × BeginsAtSection parts × (told all ≡ sections_of parts) × NoSectionBegins j.left.tokens × (NoGapBegins i.left.tokens → NoGapBegins j.left.tokens) × ((parts ≡ [] → ⊥) → NoPairBegins j.left.tokens) × (answer ≡ Ok all))
-    ⊎ (answer ≡ Err memory)
+    ⊎ (SectionBegins i.left.tokens × (answer ≡ Err memory))
 
--- where a section fails by backtracking there is none; it fails otherwise for want of memory
-section_fails : {X : Type 0} (told : X → SectionText) (i : Input ℕ) (k : Kind) (j : Input ℕ) → SectionRuns told i (Err k) j → (NoSectionBegins i.left.tokens × (k ≡ backtrack)) ⊎ (k ≡ memory)
+-- where a section fails by backtracking there is none; it fails otherwise for want of memory, and there is one
+section_fails : {X : Type 0} (told : X → SectionText) (i : Input ℕ) (k : Kind) (j : Input ℕ) → SectionRuns told i (Err k) j → (NoSectionBegins i.left.tokens × (k ≡ backtrack)) ⊎ (SectionBegins i.left.tokens × (k ≡ memory))
 section_fails told i k j (ends, inl (x, name, ps, begins, no_section, no_gap, no_pair, text, is)) = ok_is_err is refl
 section_fails told i k j (ends, inr (inl (none, is))) = inl (none, same_err refl is)
-section_fails told i k j (ends, inr (inr is)) = inr (same_err refl is)
+section_fails told i k j (ends, inr (inr (some, is))) = inr (some, same_err refl is)
+
+-- where a section was read there was one
+section_begins : {X : Type 0} (told : X → SectionText) (i : Input ℕ) (o : X) (j : Input ℕ) → SectionRuns told i (Ok o) j → SectionBegins i.left.tokens
+section_begins told i o j (ends, inl (x, name, ps, (behind, begins, more), no_section, no_gap, no_pair, text, is)) = (name, behind, begins)
+section_begins told i o j (ends, inr (inl (none, is))) = ok_is_err refl is
+section_begins told i o j (ends, inr (inr (some, is))) = ok_is_err refl is
+
+-- sections, and one behind them: one stands first
+first_section : (ps : List Part) (a b : List ℕ) → BeginsWith ps a b → BeginsAtSection ps → SectionBegins b → SectionBegins a
+first_section [] a b e at some = let P : List ℕ → Type 0 = λ l. SectionBegins l in subst P (sym e) some
+first_section (white bytes ∷ ps) a b with at some = absurd at
+first_section (comment text ∷ ps) a b with at some = absurd at
+first_section (section name ∷ ps) a b (behind, begins, more) at some = (name, behind, begins)
+first_section (pair p ∷ ps) a b with at some = absurd at
 
 section_consumes : {X : Type 0} (told : X → SectionText) (i : Input ℕ) (o : X) (j : Input ℕ) → SectionRuns told i (Ok o) j → j.left.tokens ≡ i.left.tokens → ⊥
 section_consumes told i o j (ends, inl (x, name, ps, (behind, begins, more), no_section, no_gap, no_pair, text, is)) same = omega (arith, part_shortens (section name) i.left.tokens behind begins, begins_length ps behind j.left.tokens more, ap (λ l. length l) same)
 section_consumes told i o j (ends, inr (inl (none, is))) same = ok_is_err refl is
-section_consumes told i o j (ends, inr (inr is)) same = ok_is_err refl is
+section_consumes told i o j (ends, inr (inr (some, is))) same = ok_is_err refl is
 
 memory_backtracks : backtrack ≡ memory → ⊥
 memory_backtracks e = cc
@@ -113,17 +128,17 @@ sections_ended told run into asserted i answer t j items empty outputs u m parts
       let there = subst P (sym (ap (λ y. y.left.tokens) back)) (with, none.0, last, last_pair) in
       let held = collected into.takes items keeps outputs empty all taken ∙ ap (λ l. l ++ outputs) start in
       inl (all, parts, there.0, at, ap (λ l. map told l) held ∙ sym texts, there.1, there.2, there.3, is)
-  | inr e ↦ absurd (memory_backtracks e)
+  | inr e ↦ absurd (memory_backtracks e.1)
 ]
 sections_ended told run into asserted i answer t j items empty outputs u m parts start keeps reads with at texts last last_pair (inr (inl (k, ran, other, is))) = elim (section_fails told m k j (reads u m (Err k) t j ran)) [
   | inl none ↦ absurd (other none.1)
-  | inr e ↦ inr (is ∙ ap Err e)
+  | inr e ↦ inr (first_section parts i.left.tokens m.left.tokens with at e.0, is ∙ ap Err e.1)
 ]
 sections_ended told run into asserted i answer t j items empty outputs u m parts start keeps reads with at texts last last_pair (inr (inr (inl (o, ran, same, is)))) = absurd (section_consumes told m o j (reads u m (Ok o) t j ran) same)
-sections_ended told run into asserted i answer t j items empty outputs u m parts start keeps reads with at texts last last_pair (inr (inr (inr (o, some, ran, grows, is)))) = inr is
+sections_ended told run into asserted i answer t j items empty outputs u m parts start keeps reads with at texts last last_pair (inr (inr (inr (o, some, ran, grows, is)))) = inr (first_section parts i.left.tokens m.left.tokens with at (section_begins told m o j (reads u m (Ok o) t j ran)), is)
 
 pub sections_repeated : {S X C : Type 0} (told : X → SectionText) (run : Runs S ℕ X) (into : Accumulator C X) (asserted : Kind) (range : Range) (s : S) (i : Input ℕ) (answer : Answer C) (t : S) (j : Input ℕ) (items : C → List X)
-    → range ≡ record { start_inclusive = 0; end_inclusive = None } → (into.start_grows → ⊥) → ((c : C) → into.starts c → items c ≡ []) → ((c : C) (o : X) (d : C) → into.takes c o d → items d ≡ items c ++ (o ∷ []))
+    → range ≡ record { start_inclusive = 0; end_inclusive = None } → (into.start_grows None → ⊥) → ((c : C) → into.starts None c → items c ≡ []) → ((c : C) (o : X) (d : C) → into.takes c o d → items d ≡ items c ++ (o ∷ []))
     → RepeatRuns run into asserted range.start_inclusive (greatest_of range.start_inclusive range.end_inclusive) s i answer t j
     → ((s : S) (i : Input ℕ) (answer : Answer X) (t : S) (j : Input ℕ) → run s i answer t j → SectionRuns told i answer j)
     → SectionsRead (λ c. map told (items c)) i answer j
@@ -161,7 +176,17 @@ no_part_behind gap (q ∷ qs) rest all no_gap no_section no_pair (pair p) behind
 abbrev pub DocumentRead : {C : Type 0} → (C → List SectionText) → Input ℕ → Answer C → Input ℕ → Type 0
 DocumentRead {C} told i answer j =
     ((all : C) × (parts : List Part) × BeginsDocument parts i.left.tokens j.left.tokens × (told all ≡ sections_of parts) × ((part : Part) (behind : List ℕ) → Begins part j.left.tokens behind → NoPairBeforeSections (parts ++ (part ∷ [])) → ⊥) × (answer ≡ Ok all))
-    ⊎ (answer ≡ Err memory)
+    ⊎ (ReachesSection i.left.tokens × (answer ≡ Err memory))
+
+-- behind a gap a section begins: so the document has one
+reaches_behind : (gap : List Part) (input rest : List ℕ) → AllByRecursion IsGapPart gap → BeginsWith gap input rest → SectionBegins rest → ReachesSection input
+reaches_behind gap input rest all with (name, behind, begins) =
+    let one = section name ∷ [] in (
+      gap ++ one,
+      behind,
+      (begins_append gap one input rest behind with (behind, begins, refl), gap_before gap one all tt),
+      omega (arith, ap (λ l. length l) (gap_no_sections gap one all)),
+    )
 
 pub document_read : {S2 C : Type 0} (told : C → List SectionText) (s : Unit {0} × S2) (i : Input ℕ) (answer : Answer C) (t : Unit {0} × S2) (j : Input ℕ) → BothRuns (λ o1 o2. o2) (λ s i answer t j. GapRuns i answer j) (λ s i answer t j. SectionsRuns told i answer j) s i answer t j → DocumentRead told i answer j
 document_read {S2} {C} told s i answer t j (inl (o1, o2, a, (ge, (gap, all_gap, with_gap, no_gap, gis)), (se, inl (all, parts, with, at, texts, no_section, last, last_pair, sis)), e)) =
@@ -174,10 +199,10 @@ document_read {S2} {C} told s i answer t j (inl (o1, o2, a, (ge, (gap, all_gap, 
       no_part_behind gap parts j.left.tokens all_gap (last no_gap) no_section last_pair,
       e,
     )
-document_read told s i answer t j (inl (o1, o2, a, g, (se, inr sis), e)) = ok_is_err refl sis
+document_read told s i answer t j (inl (o1, o2, a, g, (se, inr (some, sis)), e)) = ok_is_err refl sis
 document_read told s i answer t j (inr (inl (k, (ge, (gap, all_gap, with_gap, no_gap, gis)), s2, e))) = ok_is_err gis refl
 document_read told s i answer t j (inr (inr (o1, k, a, g, (se, inl (all, parts, with, at, texts, no_section, last, last_pair, sis)), e))) = ok_is_err sis refl
-document_read told s i answer t j (inr (inr (o1, k, a, g, (se, inr sis), e))) = inr (fails_as e refl sis refl)
+document_read told s i answer t j (inr (inr (o1, k, a, (ge, (gap, all_gap, with_gap, no_gap, gis)), (se, inr (some, sis)), e))) = inr (reaches_behind gap i.left.tokens a.left.tokens all_gap with_gap some, fails_as e refl sis refl)
 
 -- No parts reach further than those behind which no part follows.
 longest_of_all : (ps qs : List Part) (input rest left : List ℕ) → BeginsWith ps input rest → BeginsWith qs input left → ((part : Part) (behind : List ℕ) → Begins part rest behind → ⊥) → length rest ≤ length left
@@ -229,12 +254,12 @@ refused_there input rest parts n begins none some at = record {
 
 pub refused_document : {C : Type 0} (told : C → List SectionText) (input : List ℕ) (o : C) (j : Input ℕ) (n : ℕ) → DocumentRuns told (bytes_input input) (Ok o) j → (j.left.tokens ≡ [] → ⊥) → n + length j.left.tokens ≡ length input → IsRefusedDocument input n
 refused_document told input o j n (ends, inl (all, parts, begins, texts, none, is)) some at = refused_there input j.left.tokens parts n begins none some at
-refused_document told input o j n (ends, inr is) some at = ok_is_err refl is
+refused_document told input o j n (ends, inr (reaches, is)) some at = ok_is_err refl is
 
--- a document fails for want of memory alone
-pub document_fails : {C : Type 0} (told : C → List SectionText) (i : Input ℕ) (k : Kind) (j : Input ℕ) → DocumentRuns told i (Err k) j → k ≡ memory
+-- a document fails for want of memory alone, and only where it has a section
+pub document_fails : {C : Type 0} (told : C → List SectionText) (i : Input ℕ) (k : Kind) (j : Input ℕ) → DocumentRuns told i (Err k) j → ReachesSection i.left.tokens × (k ≡ memory)
 document_fails told i k j (ends, inl (all, parts, begins, texts, none, is)) = ok_is_err is refl
-document_fails told i k j (ends, inr is) = same_err refl is
+document_fails told i k j (ends, inr (reaches, is)) = (reaches, same_err refl is)
 
 same_kind : {a b : Kind} → Some a ≡ Some b → a ≡ b
 same_kind e = cc
@@ -248,3 +273,7 @@ inner_memory k inner is e =
 pub marked_memory : (is_memory : Bool) → as_inner (marked_kind is_memory) ≡ memory → marked_kind is_memory ≡ memory
 marked_memory true e = refl
 marked_memory false e = e
+
+-- the inner error of one that backtracks wants none
+pub inner_backtracks : (k : Kind) → Some backtrack ≡ Some (as_inner k) → k ≡ memory → ⊥
+inner_backtracks k told is = memory_backtracks (same_kind told ∙ ap as_inner is)

@@ -6,7 +6,8 @@ use Rattle.streams.specs.Kind.{Kind, backtrack}
 use Rattle.stream_errors.specs.Form.{Answer}
 use Rattle.winnow_core.specs.Runs.{Runs}
 use Rattle.winnow_comb.specs.Chain.{IsItem}
-use Rattle.winnow_comb.specs.Repeat.{Accumulator, RepeatRuns}
+use Rattle.stream_sets.specs.Accumulator.{Accumulator}
+use Rattle.winnow_comb.specs.Repeat.{RepeatRuns}
 use Rattle.stream_sets.specs.Range.{greatest_of}
 use Rattle.stream_sets.specs.declared.range.Range.{Range}
 use Rattle.readers.specs.Document.{Part, Begins, BeginsWith}
@@ -39,7 +40,7 @@ gap_ended run into asserted empty outputs u m answer t j reads free kept (inr (i
 gap_ended run into asserted empty outputs u m answer t j reads free kept (inr (inr (inr (o, some, ran, grows, is)))) = absurd (free some grows)
 
 -- A repetition of them takes all that there are.
-pub gap_read : {S O : Type 0} (run : Runs S ℕ O) (into : Accumulator (Unit {0}) O) (asserted : Kind) (range : Range) (s : S) (i : Input ℕ) (answer : Answer (Unit {0})) (t : S) (j : Input ℕ) → range ≡ record { start_inclusive = 0; end_inclusive = None } → (into.start_grows → ⊥) → ((c : Unit {0}) → into.grows c → ⊥) → i.side.cut ≡ false
+pub gap_read : {S O : Type 0} (run : Runs S ℕ O) (into : Accumulator (Unit {0}) O) (asserted : Kind) (range : Range) (s : S) (i : Input ℕ) (answer : Answer (Unit {0})) (t : S) (j : Input ℕ) → range ≡ record { start_inclusive = 0; end_inclusive = None } → (into.start_grows None → ⊥) → ((c : Unit {0}) → into.grows c → ⊥) → i.side.cut ≡ false
     → RepeatRuns run into asserted range.start_inclusive (greatest_of range.start_inclusive range.end_inclusive) s i answer t j → ReadsGapPart run
     → (parts : List Part) × AllByRecursion IsGapPart parts × BeginsWith parts i.left.tokens j.left.tokens × NoGapBegins j.left.tokens × (answer ≡ Ok tt)
 gap_read run into asserted range s i answer t j e free none whole ran reads =

@@ -8,7 +8,7 @@ use Rattle.streams.specs.Bytes.{bytes_input, bytes_reading}
 use Rattle.streams.specs.Kind.{Kind}
 use Rattle.streams.specs.Equal.{same_rest, same_some, true_is_false}
 use Rattle.stream_errors.specs.Form.{ErrorForm, Answer}
-use Rattle.winnow_core.specs.TakeWhile.{TakeWhileRuns, IsLongest}
+use Rattle.winnow_token.specs.TakeWhile.{TakeWhileRuns, IsLongest}
 use Rattle.stream_sets.specs.Range.{IsWithin, greatest_of}
 use Rattle.stream_sets.specs.declared.range.Range.{Range}
 use Rattle.winnow_core.specs.Literal.{LiteralRuns}

@@ -18,7 +18,7 @@ use Rattle.streams.specs.Kind.{Kind, backtrack}
 use Rattle.streams.specs.Equal.{same_first, same_others, none_is_some, true_is_false}
 use Rattle.stream_errors.specs.Form.{ErrorForm, Answer}
 use Rattle.winnow_core.specs.Literal.{LiteralRuns}
-use Rattle.winnow_core.specs.TakeWhile.{TakeWhileRuns}
+use Rattle.winnow_token.specs.TakeWhile.{TakeWhileRuns}
 use Rattle.stream_sets.specs.Range.{IsWithin}
 use Rattle.readers.proofs.PairRuns.{Took, TookTooFew, ok_is_err}
 use Rattle.readers.proofs.DocumentLemmas.{All-as, same_front, no_part_of_none}

@@ -12,8 +12,9 @@ use Rattle.stream_sets.specs.declared.range.Range.{Range}
 use Rattle.winnow_core.specs.Runs.{Runs}
 use Rattle.winnow_comb.specs.Chain.{IsItem}
 use Rattle.winnow_comb.specs.InOrder.{BothRuns}
-use Rattle.winnow_comb.specs.Repeat.{Accumulator, RepeatRuns}
-use Rattle.readers.specs.Document.{SectionText, PairBytes, Part, white, comment, section, pair, Begins, BeginsWith, NoPairBegins, NoSectionBegins, pairs_of, sections_of, NoPairBeforeSections}
+use Rattle.stream_sets.specs.Accumulator.{Accumulator}
+use Rattle.winnow_comb.specs.Repeat.{RepeatRuns}
+use Rattle.readers.specs.Document.{SectionText, PairBytes, Part, white, comment, section, pair, Begins, BeginsWith, NoPairBegins, NoSectionBegins, SectionBegins, pairs_of, sections_of, NoPairBeforeSections}
 use Rattle.readers.specs.DocumentRuns.{IsGapPart, NoGapBegins, HasNoSection, CategoryRuns, GapRuns, KeyValueRuns, PairsRuns}
 use Rattle.readers.specs.Sections.{pair_text}
 use Rattle.readers.proofs.PairRuns.{ok_is_err, same_ok}
@@ -74,9 +75,9 @@ pub pair_gap_read : {S2 : Type 0} (s : Unit {0} × S2) (i : Input ℕ) (answer :
 pair_gap_read s i answer t j (inl (o1, o2, a, (ke, inl (p, key, value, begins, keys, values, kis)), (ge, (parts, all, with, none, gis)), e)) =
     let P : Bor (List ℕ) × Bor (List ℕ) → Type 0 = λ o. pair_text o ≡ (p.key, p.value) in
     inl (o1, p, parts, (a.left.tokens, begins, with), all, none, subst P (sym (same_ok refl kis)) (same_both keys values), e)
-pair_gap_read s i answer t j (inl (o1, o2, a, (ke, inr (none, kis)), g, e)) = ok_is_err refl kis
+pair_gap_read s i answer t j (inl (o1, o2, a, (ke, inr (none, back, kis)), g, e)) = ok_is_err refl kis
 pair_gap_read s i answer t j (inr (inl (k, (ke, inl (p, key, value, begins, keys, values, kis)), s2, e))) = ok_is_err kis refl
-pair_gap_read s i answer t j (inr (inl (k, (ke, inr (none, kis)), s2, e))) = inr (none, fails_as e refl kis refl)
+pair_gap_read s i answer t j (inr (inl (k, (ke, inr (none, back, kis)), s2, e))) = inr (none, fails_as e refl kis refl)
 pair_gap_read s i answer t j (inr (inr (o1, k, a, r1, (ge, (parts, all, with, none, gis)), e))) = ok_is_err gis refl
 
 -- What the run of a name and the gap behind it says.
@@ -89,9 +90,9 @@ pub name_gap_read : {S2 : Type 0} (s : Unit {0} × S2) (i : Input ℕ) (answer :
 name_gap_read s i answer t j (inl (o1, o2, a, (ke, inl (name, begins, kis)), (ge, (parts, all, with, none, gis)), e)) =
     let P : Bor (List ℕ) → Type 0 = λ n. Begins (section n.now) i.left.tokens a.left.tokens in
     inl (o1, parts, (a.left.tokens, subst P (sym (same_ok refl kis)) begins, with), all, none, e)
-name_gap_read s i answer t j (inl (o1, o2, a, (ke, inr (none, kis)), g, e)) = ok_is_err refl kis
+name_gap_read s i answer t j (inl (o1, o2, a, (ke, inr (none, back, kis)), g, e)) = ok_is_err refl kis
 name_gap_read s i answer t j (inr (inl (k, (ke, inl (name, begins, kis)), s2, e))) = ok_is_err kis refl
-name_gap_read s i answer t j (inr (inl (k, (ke, inr (none, kis)), s2, e))) = inr (none, fails_as e refl kis refl)
+name_gap_read s i answer t j (inr (inl (k, (ke, inr (none, back, kis)), s2, e))) = inr (none, fails_as e refl kis refl)
 name_gap_read s i answer t j (inr (inr (o1, k, a, r1, (ge, (parts, all, with, none, gis)), e))) = ok_is_err gis refl
 
 -- the parts of some pairs with their gaps
@@ -150,7 +151,7 @@ pairs_ended run into asserted i answer t j items empty outputs u m parts start k
 pairs_ended run into asserted i answer t j items empty outputs u m parts start keeps reads with no_section pairs last (inr (inr (inr (o, some, ran, grows, is)))) = inr is
 
 pub pairs_repeated : {S C : Type 0} (run : Runs S ℕ (Bor (List ℕ) × Bor (List ℕ))) (into : Accumulator C (Bor (List ℕ) × Bor (List ℕ))) (asserted : Kind) (range : Range) (s : S) (i : Input ℕ) (answer : Answer C) (t : S) (j : Input ℕ) (items : C → List (Bor (List ℕ) × Bor (List ℕ)))
-    → range ≡ record { start_inclusive = 0; end_inclusive = None } → (into.start_grows → ⊥) → ((c : C) → into.starts c → items c ≡ []) → ((c : C) (o : Bor (List ℕ) × Bor (List ℕ)) (d : C) → into.takes c o d → items d ≡ items c ++ (o ∷ []))
+    → range ≡ record { start_inclusive = 0; end_inclusive = None } → (into.start_grows None → ⊥) → ((c : C) → into.starts None c → items c ≡ []) → ((c : C) (o : Bor (List ℕ) × Bor (List ℕ)) (d : C) → into.takes c o d → items d ≡ items c ++ (o ∷ []))
     → RepeatRuns run into asserted range.start_inclusive (greatest_of range.start_inclusive range.end_inclusive) s i answer t j
     → ((s : S) (i : Input ℕ) (answer : Answer (Bor (List ℕ) × Bor (List ℕ))) (t : S) (j : Input ℕ) → run s i answer t j → PairGapRead i answer j)
     → PairsRead items i answer j
@@ -173,6 +174,11 @@ section_ok {C} told i o1 a o2 j (inl (name, gap, begins, all_gap, no_gap, is)) (
     (gap ++ parts, subst P (sym (same_ok refl is)) (begins_append (section name.now ∷ gap) parts i.left.tokens a.left.tokens j.left.tokens begins with), gap_no_section gap parts all_gap no_section, last no_gap, no_pair, subst Q (sym (same_ok refl inner)) (texts ∙ sym (gap_no_pairs gap parts all_gap)))
 section_ok told i o1 a o2 j (inr (none, is)) pairs = ok_is_err refl is
 section_ok told i o1 a o2 j (inl (name, gap, begins, all_gap, no_gap, is)) (ends, inr inner) = ok_is_err refl inner
+
+-- where they succeed, there is one
+pub name_begins : (i : Input ℕ) (o : Bor (List ℕ)) (j : Input ℕ) → NameGapRead i (Ok o) j → SectionBegins i.left.tokens
+name_begins i o j (inl (name, gap, (behind, begins, more), all, none, is)) = (name.now, behind, begins)
+name_begins i o j (inr (none, is)) = ok_is_err refl is
 
 -- where the name and its gap fail, there is no section
 pub name_fails : (i : Input ℕ) (k : Kind) (j : Input ℕ) → NameGapRead i (Err k) j → NoSectionBegins i.left.tokens × (k ≡ backtrack)

@@ -169,10 +169,18 @@ pub record IsRefusedDocument (input : List ℕ) (n : ℕ) : Type 0 where
   -- and none are more
   pub longest : (others : List Part) (left : List ℕ) → BeginsDocument others input left → length input ≤ n + length left
 
--- A fault of the reader of documents: the input is refused at a place, or a request for memory was.
+-- The input begins with a section.
+abbrev pub SectionBegins : List ℕ → Type 0
+SectionBegins input = (name : List ℕ) × (behind : List ℕ) × Begins (section name) input behind
+
+-- What the input begins with as a document does has a section: there is an entry for the list of sections.
+abbrev pub ReachesSection : List ℕ → Type 0
+ReachesSection input = (parts : List Part) × (rest : List ℕ) × BeginsDocument parts input rest × (0 < length (sections_of parts))
+
+-- A fault of the reader of documents: the input is refused at a place, or a request for memory was, and no list has to grow without a section.
 abbrev pub IsDocumentFault : List ℕ → Fault → Type 0
 IsDocumentFault input (Refused n) = IsRefusedDocument input n
-IsDocumentFault input NoMemory = ⊤
+IsDocumentFault input NoMemory = ReachesSection input
 
 -- The input begins with no section.
 abbrev pub NoSectionBegins : List ℕ → Type 0

@@ -8,7 +8,7 @@ use Rattle.streams.specs.Bytes.{bytes_reading}
 use Rattle.stream_errors.specs.Form.{Answer}
 use Rattle.std.specs.Str.{IsUtf8}
 use Rattle.readers.specs.Pair.{IsKeyByte}
-use Rattle.readers.specs.Document.{IsBlank, IsValueByte, IsTrailing, NotFirst, NotLast, Part, PairBytes, white, comment, section, pair, Begins, BeginsWith, BeginsDocument, NoPairBeforeSections, SectionText, pairs_of, sections_of, NoSectionBegins, NoPairBegins}
+use Rattle.readers.specs.Document.{IsBlank, IsValueByte, IsTrailing, NotFirst, NotLast, Part, PairBytes, white, comment, section, pair, Begins, BeginsWith, BeginsDocument, NoPairBeforeSections, SectionText, pairs_of, sections_of, NoSectionBegins, NoPairBegins, SectionBegins, ReachesSection}
 
 -- The value is these bytes without trailing spaces, tabs and carriage returns.
 abbrev pub IsWithoutTrailing : List ℕ → List ℕ → Type 0
@@ -55,16 +55,16 @@ abbrev pub CategoryRuns : Input ℕ → Answer (Bor (List ℕ)) → Input ℕ �
 CategoryRuns i answer j = IsEndOf bytes_reading j i × (
     -- a section begins the input, and is taken
     ((name : Bor (List ℕ)) × Begins (section name.now) i.left.tokens j.left.tokens × (answer ≡ Ok name))
-    -- none does
-    ⊎ (NoSectionBegins i.left.tokens × (answer ≡ Err backtrack)))
+    -- none does, and the input is as it was
+    ⊎ (NoSectionBegins i.left.tokens × (j ≡ i) × (answer ≡ Err backtrack)))
 
 -- A run of the reader of a pair.
 abbrev pub KeyValueRuns : Input ℕ → Answer (Bor (List ℕ) × Bor (List ℕ)) → Input ℕ → Type 0
 KeyValueRuns i answer j = IsEndOf bytes_reading j i × (
     -- a pair begins the input, and is taken
     ((p : PairBytes) × (key : Bor (List ℕ)) × (value : Bor (List ℕ)) × Begins (pair p) i.left.tokens j.left.tokens × (key.now ≡ p.key) × (value.now ≡ p.value) × (answer ≡ Ok (key, value)))
-    -- none does
-    ⊎ (NoPairBegins i.left.tokens × (answer ≡ Err backtrack)))
+    -- none does, and the input is as it was
+    ⊎ (NoPairBegins i.left.tokens × (j ≡ i) × (answer ≡ Err backtrack)))
 
 -- White space or a comment.
 abbrev pub IsGapPart : Part → Type 0
@@ -105,8 +105,8 @@ SectionRuns {S} told i answer j = IsEndOf bytes_reading j i × (
     ((s : S) × (name : List ℕ) × (parts : List Part) × BeginsWith (section name ∷ parts) i.left.tokens j.left.tokens × HasNoSection parts × NoGapBegins j.left.tokens × NoPairBegins j.left.tokens × (told s ≡ (name, pairs_of parts)) × (answer ≡ Ok s))
     -- none does
     ⊎ ((NoSectionBegins i.left.tokens × (answer ≡ Err backtrack))
-    -- there is no memory for its pairs
-    ⊎ (answer ≡ Err memory)))
+    -- one does, and there is no memory for its pairs
+    ⊎ (SectionBegins i.left.tokens × (answer ≡ Err memory))))
 
 -- The first part is a section, or there is none.
 abbrev pub BeginsAtSection : List Part → Type 0
@@ -121,13 +121,13 @@ abbrev pub SectionsRuns : {C : Type 0} → (C → List SectionText) → Input �
 SectionsRuns {C} told i answer j = IsEndOf bytes_reading j i × (
     -- all the sections that there are, with all that stands behind them
     ((all : C) × (parts : List Part) × BeginsWith parts i.left.tokens j.left.tokens × BeginsAtSection parts × (told all ≡ sections_of parts) × NoSectionBegins j.left.tokens × (NoGapBegins i.left.tokens → NoGapBegins j.left.tokens) × ((parts ≡ [] → ⊥) → NoPairBegins j.left.tokens) × (answer ≡ Ok all))
-    -- there is no memory for them
-    ⊎ (answer ≡ Err memory))
+    -- one begins the input, and there is no memory for them
+    ⊎ (SectionBegins i.left.tokens × (answer ≡ Err memory)))
 
 -- A run of the reader of a document, where `told` is what a list of sections says.
 abbrev pub DocumentRuns : {C : Type 0} → (C → List SectionText) → Input ℕ → Answer C → Input ℕ → Type 0
 DocumentRuns {C} told i answer j = IsEndOf bytes_reading j i × (
     -- all that the input begins with as a document does, up to what is no part, or no part there
     ((all : C) × (parts : List Part) × BeginsDocument parts i.left.tokens j.left.tokens × (told all ≡ sections_of parts) × ((part : Part) (behind : List ℕ) → Begins part j.left.tokens behind → NoPairBeforeSections (parts ++ (part ∷ [])) → ⊥) × (answer ≡ Ok all))
-    -- there is no memory for the sections
-    ⊎ (answer ≡ Err memory))
+    -- there are sections, and no memory for them
+    ⊎ (ReachesSection i.left.tokens × (answer ≡ Err memory)))

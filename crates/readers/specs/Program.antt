@@ -1,5 +1,5 @@
 -- What the program answers and writes.
-use Rattle.std.specs.Prelude.{◌≡◌, ℕ, ◌<◌, ◌≤◌, List, [], ◌∷◌, ◌++◌, length, ◌⊎◌, codes, Option, slice_index_or}
+use Rattle.std.specs.Prelude.{◌≡◌, Bool, true, IsTrue, ℕ, ◌<◌, ◌≤◌, List, [], ◌∷◌, ◌++◌, length, ◌⊎◌, codes, Option, slice_index_or}
 use Rattle.std.specs.Borrow.{Bor}
 use Rattle.std.specs.Fmt.{decimal}
 use Rattle.std.specs.Io.KnownBytes.{Consumes, Keeps, Appends}
@@ -19,6 +19,10 @@ ConsumesAtMost old new n = (bytes : List ℕ) × Consumes old new bytes × (leng
 -- the known bytes grew by a beginning of these
 abbrev pub AppendsSome : Option (List ℕ) → Option (List ℕ) → List ℕ → Type 0
 AppendsSome old new bytes = (front : List ℕ) × (rest : List ℕ) × (bytes ≡ front ++ rest) × Appends old new front
+
+-- What became of a text: it was appended whole where it is said to be told, and else a beginning of it was.
+abbrev pub Tells : Bool → Option (List ℕ) → Option (List ℕ) → List ℕ → Type 0
+Tells told old new text = (IsTrue told → Appends old new text) × AppendsSome old new text
 
 -- the line of a pair
 abbrev pub pair_line : List ℕ → List ℕ → List ℕ
@@ -106,20 +110,20 @@ StopLeaves format bytes Unwritable old new = (length bytes ≤ most_bytes) × ((
 StopLeaves format bytes TooLong old new = (most_bytes < length bytes) × Keeps old new
 StopLeaves format bytes NoMemory old new = Keeps old new
 
--- What a run owes for these bytes, by its status: to standard output, and to standard error, whose own faults are passed over.
-abbrev pub RunOwes : Format → List ℕ → ℕ → Option (List ℕ) → Option (List ℕ) → Option (List ℕ) → Option (List ℕ) → Type 0
-RunOwes format bytes status out_old out_new err_old err_new =
-    -- the lines of the answer
-    ((status ≡ 0) × (length bytes ≤ most_bytes) × ((text : List ℕ) × IsLinesText format bytes text × Appends out_old out_new text) × Keeps err_old err_new)
+-- What a run owes for these bytes, by its status and by whether its text stands whole on standard error: to standard output, and to standard error, whose own faults are passed over.
+abbrev pub RunOwes : Format → List ℕ → ℕ → Bool → Option (List ℕ) → Option (List ℕ) → Option (List ℕ) → Option (List ℕ) → Type 0
+RunOwes format bytes status told out_old out_new err_old err_new =
+    -- the lines of the answer, and nothing to tell
+    ((status ≡ 0) × (told ≡ true) × (length bytes ≤ most_bytes) × ((text : List ℕ) × IsLinesText format bytes text × Appends out_old out_new text) × Keeps err_old err_new)
     -- where the bytes are refused
-    ⊎ (((status ≡ 1) × (length bytes ≤ most_bytes) × Keeps out_old out_new × ((text : List ℕ) × IsRefusedText format bytes text × AppendsSome err_old err_new text))
+    ⊎ (((status ≡ 1) × (length bytes ≤ most_bytes) × Keeps out_old out_new × ((text : List ℕ) × IsRefusedText format bytes text × Tells told err_old err_new text))
     -- why there is no answer
-    ⊎ ((status ≡ 2) × ((stop : Stop) × StopLeaves format bytes stop out_old out_new × AppendsSome err_old err_new (stop_text stop))))
+    ⊎ ((status ≡ 2) × ((stop : Stop) × StopLeaves format bytes stop out_old out_new × Tells told err_old err_new (stop_text stop))))
 
--- What writing an answer leaves, by its verdict, and the status that is answered for it.
-abbrev pub WritesAnswer : Verdict → List ℕ → ℕ → Option (List ℕ) → Option (List ℕ) → Option (List ℕ) → Option (List ℕ) → Type 0
-WritesAnswer Accepted text status out_old out_new err_old err_new =
-    ((status ≡ 0) × Appends out_old out_new text × Keeps err_old err_new)
-    ⊎ ((status ≡ 2) × AppendsSome out_old out_new text × AppendsSome err_old err_new (stop_text Unwritable))
-WritesAnswer Refused text status out_old out_new err_old err_new =
-    (status ≡ 1) × Keeps out_old out_new × AppendsSome err_old err_new text
+-- What writing an answer leaves, by its verdict, with the status that is answered for it, and whether the text stands whole on standard error.
+abbrev pub WritesAnswer : Verdict → List ℕ → ℕ → Bool → Option (List ℕ) → Option (List ℕ) → Option (List ℕ) → Option (List ℕ) → Type 0
+WritesAnswer Accepted text status told out_old out_new err_old err_new =
+    ((status ≡ 0) × (told ≡ true) × Appends out_old out_new text × Keeps err_old err_new)
+    ⊎ ((status ≡ 2) × AppendsSome out_old out_new text × Tells told err_old err_new (stop_text Unwritable))
+WritesAnswer Refused text status told out_old out_new err_old err_new =
+    (status ≡ 1) × Keeps out_old out_new × Tells told err_old err_new text

@@ -14,7 +14,7 @@ use stream_errors::fault::ParseFault;
 use stream_sets::range::Range;
 use stream_sets::sets::Pred;
 use winnow_core::parser::Parser;
-use winnow_core::token::take_while;
+use winnow_token::token::take_while;
 
 /// Reads one line of a key, `=` and a value: one or more ASCII letters or digits, `=`, bytes other
 /// than a line feed, and at most one line feed.

@@ -1,15 +1,17 @@
 //! The program over any reader and two writers.
 #![tactic(auto, using(crate::proofs::Bytes::known_bytes))]
 
-ghost use Rattle.std.specs.Prelude.{◌≡◌, ◌≤◌, ◌↔◌, IsTrue, List, ℕ, length, IfOk, IfSome, MatchOption, MatchResult, ◌+◌};
+ghost use Rattle.std.specs.Prelude.{◌≡◌, Bool, ◌≤◌, ◌↔◌, IsTrue, List, ℕ, length, IfOk, IfSome, MatchOption, MatchResult, ◌+◌};
 ghost use Rattle.std.specs.Io.KnownBytes.{Keeps, Appends};
-ghost use Rattle.readers.specs.Program.{ConsumesAtMost, AppendsSome, IsAnswerText, StopsAnswer, WritesAnswer, RunOwes, stop_text, refused_line, format_word, IsWord, most_bytes};
+ghost use Rattle.readers.specs.Program.{ConsumesAtMost, AppendsSome, Tells, IsAnswerText, StopsAnswer, WritesAnswer, RunOwes, stop_text, refused_line, format_word, IsWord, most_bytes};
 
+mod arguments;
 mod bytes_io;
 mod lines;
 
 use crate::fault::Fault;
 use crate::ini;
+pub use crate::program::arguments::serve;
 use crate::program::bytes_io::{ReadFault, put, read_up_to};
 use crate::program::lines::{line_of_pair, line_of_refusal, lines_of_sections};
 use std::alloc::{AllocError, Allocator};
@@ -17,6 +19,20 @@ use std::io::{Read, Write};
 
 /// The greatest length of an input, in bytes.
 const LIMIT: usize = 1_048_576;
+
+/// What a run comes to.
+///
+/// ```text
+/// Outcome { status: 1, is_told: true }   says that the input is refused, and the errors say where
+/// ```
+#[derive(Clone, Copy, Debug, PartialEq)]
+pub struct Outcome {
+    /// The exit status: 0, 1 or 2.
+    pub status: u8,
+    /// Whether the text that is owed to the writer of errors stands there whole. With status 0 none
+    /// is owed, and this is true.
+    pub is_told: bool,
+}
 
 /// Why there is no answer: each ends the program with status 2.
 ///
@@ -92,7 +108,8 @@ struct Answer<A: Allocator> {
 /// - status 1: `refused at N` is on `errors`, N in bytes from the start, and nothing on `output`;
 /// - status 2: why there is no answer is on `errors`.
 ///
-/// A fault of `errors` changes no status.
+/// A fault of `errors` changes no status, and leaves a beginning of the text there;
+/// [`run_and_tell`] also says whether it stands whole. Neither writer is flushed.
 ///
 /// ```text
 /// run(alloc, &["pair"], &mut b"key=value".as_slice(), &mut output, &mut errors)
@@ -113,20 +130,51 @@ pub fn run<A: Allocator + Copy, R: Read, W: Write, E: Write>(
         × Keeps (R.remaining input.old) (R.remaining input.new)
         × Keeps (W.contents output.old) (W.contents output.new)
         × AppendsSome (E.contents errors.old) (E.contents errors.new) (stop_text Stop.Usage) }
+    ensures answered { (format : Format) → IsWord words.now (format_word format) → (told : Bool) × IfSome (R.remaining input.old) (λ bytes.
+        RunOwes format bytes result told (W.contents output.old) (W.contents output.new) (E.contents errors.old) (E.contents errors.new)) }
+{
+    run_and_tell(alloc, words, input, output, errors).status
+}
+
+/// [`run`], with its status and also whether what it owes to `errors` stands there whole: the line
+/// of a refusal, the usage line, or why there is no answer.
+///
+/// ```text
+/// run_and_tell(alloc, &["pair"], &mut b"key".as_slice(), &mut output, &mut errors)
+///     is Outcome { status: 1, is_told: true }, and errors holds "refused at 3\n"
+/// ```
+pub fn run_and_tell<A: Allocator + Copy, R: Read, W: Write, E: Write>(
+    alloc: A,
+    words: &[&str],
+    input: &mut R,
+    output: &mut W,
+    errors: &mut E,
+) -> Outcome
+    ensures status { result.status ≤ 2 }
+    ensures most { ConsumesAtMost (R.remaining input.old) (R.remaining input.new) (most_bytes + 1) }
+    ensures usage { ((format : Format) → IsWord words.now (format_word format) → ⊥) → (result.status ≡ 2)
+        × Keeps (R.remaining input.old) (R.remaining input.new)
+        × Keeps (W.contents output.old) (W.contents output.new)
+        × Tells result.is_told (E.contents errors.old) (E.contents errors.new) (stop_text Stop.Usage) }
     ensures answered { (format : Format) → IsWord words.now (format_word format) → IfSome (R.remaining input.old) (λ bytes.
-        RunOwes format bytes result (W.contents output.old) (W.contents output.new) (E.contents errors.old) (E.contents errors.new)) }
+        RunOwes format bytes result.status result.is_told (W.contents output.old) (W.contents output.new) (E.contents errors.old) (E.contents errors.new)) }
 {
     let Some(format) = format_of(words) else {
-        put(errors, Stop::Usage.text());
-        return 2;
+        return stopped(Stop::Usage, errors);
     };
     match make_answer(alloc, format, input) {
         Ok(answer) => write_answer(&answer, output, errors),
-        Err(stop) => {
-            put(errors, stop.text());
-            2
-        }
+        Err(stop) => stopped(stop, errors),
     }
+}
+
+/// Says why there is no answer.
+fn stopped<E: Write>(stop: Stop, errors: &mut E) -> Outcome
+    ensures status { result.status ≡ 2 }
+    ensures told { Tells result.is_told (E.contents errors.old) (E.contents errors.new) (stop_text stop) }
+{
+    let is_told = put(errors, stop.text());
+    Outcome { status: 2, is_told }
 }
 
 /// The format whose word the words are.
@@ -236,25 +284,27 @@ fn refusal<A: Allocator>(alloc: A, at: usize) -> Result<Answer<A>, AllocError>
     })
 }
 
-/// Writes an answer where it goes, and says the exit status.
+/// Writes an answer where it goes.
 fn write_answer<A: Allocator, W: Write, E: Write>(
     answer: &Answer<A>,
     output: &mut W,
     errors: &mut E,
-) -> u8
-    ensures { WritesAnswer answer.now.verdict answer.now.text.items result (W.contents output.old) (W.contents output.new) (E.contents errors.old) (E.contents errors.new) }
+) -> Outcome
+    ensures { WritesAnswer answer.now.verdict answer.now.text.items result.status result.is_told (W.contents output.old) (W.contents output.new) (E.contents errors.old) (E.contents errors.new) }
 {
     match answer.verdict {
         Verdict::Accepted => {
             if put(output, answer.text.as_slice()) {
-                return 0;
+                return Outcome {
+                    status: 0,
+                    is_told: true,
+                };
             }
-            put(errors, Stop::Unwritable.text());
-            2
+            stopped(Stop::Unwritable, errors)
         }
         Verdict::Refused => {
-            put(errors, answer.text.as_slice());
-            1
+            let is_told = put(errors, answer.text.as_slice());
+            Outcome { status: 1, is_told }
         }
     }
 }

@@ -1,43 +1,20 @@
-//! Tables of inputs and answers, and faults of reading, writing and memory.
+//! Tables of inputs and answers.
+mod arguments;
 mod documents;
+mod faults;
 
-use crate::program::run;
-use refusing::Refusing;
+use crate::run;
 use std::alloc::Global;
-use std::io;
-use std::io::{ErrorKind, Read, Write};
+use std::fmt::Debug;
 use std::process::Abort;
 use std::test::Fail;
 
-/// A reader of bytes that fails behind so many reads.
-#[derive(Drop)]
-struct FailingReader<'a> {
-    bytes: &'a [u8],
-    reads: usize,
-}
+/// The words of the usage line.
+const USAGE: &str = "usage: readers pair|ini|calc\n";
 
-impl Read for FailingReader<'_> {
-    fn read(&mut self, buf: &mut [u8]) -> io::Result<usize> {
-        if self.reads == 0 {
-            return Err(io::Error::from(ErrorKind::PermissionDenied));
-        }
-        self.reads -= 1;
-        self.bytes.read(buf)
-    }
-}
-
-/// A writer that has no room.
-#[derive(Drop)]
-struct FullWriter;
-
-impl Write for FullWriter {
-    fn write(&mut self, _buf: &[u8]) -> io::Result<usize> {
-        Err(io::Error::from(ErrorKind::PermissionDenied))
-    }
-
-    fn flush(&mut self) -> io::Result<()> {
-        Ok(())
-    }
+/// What was got is what was wanted.
+fn same<T: PartialEq + Debug + Drop>(rt: &impl Abort, got: T, want: T, label: &str) {
+    assert!(rt; got == want, "{label:?}: got {got:?}, wanted {want:?}");
 }
 
 /// Runs the program over bytes, and tells the status and what it wrote.
@@ -47,6 +24,20 @@ fn ran(alloc: Global, words: &[&str], bytes: &[u8]) -> (u8, Vec<u8>, Vec<u8>) {
     let mut errors = Vec::new(alloc);
     let status = run(alloc, words, &mut input, &mut output, &mut errors);
     (status, output, errors)
+}
+
+/// A run over bytes writes these lines, or this error, with this status.
+fn answers(
+    rt: &impl Abort,
+    alloc: Global,
+    (words, bytes): (&[&str], &[u8]),
+    (lines, error, want): (&str, &str, u8),
+) {
+    let (status, output, errors) = ran(alloc, words, bytes);
+    let label = if lines.is_empty() { error } else { lines };
+    same(rt, output.as_slice(), lines.as_bytes(), label);
+    same(rt, errors.as_slice(), error.as_bytes(), label);
+    same(rt, status, want, label);
 }
 
 #[test]
@@ -65,10 +56,13 @@ fn pairs(rt: HostRuntime) {
         ("Z9=\r\n", "Z9: \r\n", "", 0),
     ];
     for (text, line, error, status) in rows {
-        let (got, output, errors) = ran(rt.alloc(), &["pair"], text.as_bytes());
-        assert_eq!(rt; got, status, "{text:?}");
-        assert_eq!(rt; output.as_slice(), line.as_bytes(), "{text:?}");
-        assert_eq!(rt; errors.as_slice(), error.as_bytes(), "{text:?}");
+        let words = ["pair"];
+        answers(
+            &rt,
+            rt.alloc(),
+            (&words, text.as_bytes()),
+            (line, error, status),
+        );
     }
 }
 
@@ -78,13 +72,10 @@ fn refuses_words(rt: &impl Abort, alloc: Global, words: &[&str]) {
     let mut output = Vec::new(alloc);
     let mut errors = Vec::new(alloc);
     let status = run(alloc, words, &mut input, &mut output, &mut errors);
-    assert_eq!(rt; status, 2);
-    assert_eq!(rt; input.len(), 9, "nothing is read");
-    assert_eq!(rt; output.len(), 0);
-    assert_eq!(rt;
-        errors.as_slice(),
-        b"usage: readers pair|ini|calc\n".as_slice()
-    );
+    same(rt, status, 2, USAGE);
+    same(rt, input.len(), 9, "nothing is read");
+    same(rt, output.len(), 0, USAGE);
+    same(rt, errors.as_slice(), USAGE.as_bytes(), USAGE);
 }
 
 #[test]
@@ -101,104 +92,15 @@ fn wrong_words(rt: HostRuntime) {
 #[test]
 fn limits(rt: HostRuntime) -> Result<(), Fail> {
     let mut longest = vec![in rt.alloc(); b'a'; 1_048_577]?;
-    let (status, output, errors) = ran(rt.alloc(), &["pair"], longest.as_slice());
-    assert_eq!(rt; status, 2);
-    assert_eq!(rt; output.len(), 0);
-    assert_eq!(rt; errors.as_slice(), b"input too long\n".as_slice());
-    let _last = longest.pop();
-    let (status, output, errors) = ran(rt.alloc(), &["pair"], longest.as_slice());
-    assert_eq!(rt; status, 1);
-    assert_eq!(rt; output.len(), 0);
-    assert_eq!(rt; errors.as_slice(), b"refused at 1048576\n".as_slice());
-    Ok(())
-}
-
-#[test]
-fn faults_of_reading(rt: HostRuntime) {
-    for reads in 0..2 {
-        let mut input = FailingReader {
-            bytes: b"key=value\n",
-            reads,
-        };
-        let mut output = Vec::new(rt.alloc());
-        let mut errors = Vec::new(rt.alloc());
-        let status = run(rt.alloc(), &["pair"], &mut input, &mut output, &mut errors);
-        assert_eq!(rt; status, 2);
-        assert_eq!(rt; output.len(), 0);
-        assert_eq!(rt;
-            errors.as_slice(),
-            b"cannot read standard input\n".as_slice()
+    for (error, status) in [("input too long\n", 2), ("refused at 1048576\n", 1)] {
+        let words = ["pair"];
+        answers(
+            &rt,
+            rt.alloc(),
+            (&words, longest.as_slice()),
+            ("", error, status),
         );
+        let _last = longest.pop();
     }
-}
-
-#[test]
-fn faults_of_writing(rt: HostRuntime) {
-    let mut input = b"key=value\n".as_slice();
-    let mut errors = Vec::new(rt.alloc());
-    let status = run(
-        rt.alloc(),
-        &["pair"],
-        &mut input,
-        &mut FullWriter,
-        &mut errors,
-    );
-    assert_eq!(rt; status, 2);
-    assert_eq!(rt;
-        errors.as_slice(),
-        b"cannot write standard output\n".as_slice()
-    );
-
-    let mut refused = b"=".as_slice();
-    let mut output = Vec::new(rt.alloc());
-    let status = run(
-        rt.alloc(),
-        &["pair"],
-        &mut refused,
-        &mut output,
-        &mut FullWriter,
-    );
-    assert_eq!(rt; status, 1, "a fault of the errors changes no status");
-    assert_eq!(rt; output.len(), 0);
-}
-
-#[test]
-fn refused_memory(rt: HostRuntime) {
-    for (word, text, line, error, status) in [
-        ("pair", "key=value\n", "key: value\n", "", 0),
-        ("pair", "key", "", "refused at 3\n", 1),
-        (
-            "ini",
-            "[a]\nx=1\n[b]\n",
-            "section a\nx: 1\nsection b\n",
-            "",
-            0,
-        ),
-        ("ini", "[a]\nx", "", "refused at 4\n", 1),
-    ] {
-        let mut is_done = false;
-        for n in 0..100u64 {
-            let heap = Refusing::once(rt.alloc(), n);
-            let mut input = text.as_bytes();
-            let mut output = Vec::new(rt.alloc());
-            let mut errors = Vec::new(rt.alloc());
-            let got = run(&heap, &[word], &mut input, &mut output, &mut errors);
-            if !heap.met() {
-                assert!(rt; n > 0, "memory is asked for");
-                assert_eq!(rt; got, status);
-                assert_eq!(rt; output.as_slice(), line.as_bytes());
-                assert_eq!(rt; errors.as_slice(), error.as_bytes());
-                is_done = true;
-                break;
-            }
-            assert_eq!(rt; got, 2, "refused at {n}");
-            assert_eq!(rt; output.len(), 0, "refused at {n}");
-            assert_eq!(rt;
-                errors.as_slice(),
-                b"out of memory\n".as_slice(),
-                "refused at {n}"
-            );
-        }
-        assert!(rt; is_done);
-    }
+    Ok(())
 }

@@ -1,3 +1,4 @@
 pub mod Form
 pub mod Mode
+pub mod Join
 pub mod Fault

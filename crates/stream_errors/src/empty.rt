@@ -1,5 +1,5 @@
 //! An error that says nothing.
-ghost use Rattle.std.specs.Prelude.{◌≡◌};
+ghost use Rattle.std.specs.Prelude.{◌≡◌, if◌then◌else◌};
 ghost use Rattle.streams.specs.Kind.{Kind};
 ghost use Rattle.stream_errors.specs.Form.{marked_kind, plain, inner_kind_of-marked_kind, marked_kind-cases};
 
@@ -29,6 +29,10 @@ impl<I: Stream> ParserError<I> for EmptyError {
 
     ghost inner_kind = { λ e. marked_kind e.is_memory };
 
+    ghost or_grows = { λ _ _. ⊥ };
+
+    ghost append_grows = { λ _. ⊥ };
+
     #[inline(always)]
     fn from_input(_input: &I) -> EmptyError {
         EmptyError { is_memory: false }
@@ -51,9 +55,9 @@ impl<I: Stream> ParserError<I> for EmptyError {
 
     #[inline(always)]
     fn or(self, other: EmptyError) -> EmptyError
-        ensures { result ≡ other }
+        ensures { result ≡ (if self.is_memory then self else other) }
     {
-        other
+        if self.is_memory { self } else { other }
     }
 
     #[inline(always)]

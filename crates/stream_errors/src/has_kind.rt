@@ -1,15 +1,3 @@
-//! What contracts see of an error.
-ghost use Rattle.streams.specs.Kind.{Kind};
-
-/// An error that contracts see by its kind.
-///
-/// The traits that make and change errors stand on it, so that a bound on several of them speaks
-/// of one kind. It has no functions: an error type says which kind each of its values has.
-///
-/// ```text
-/// ErrMode::Cut(error)   has the kind cut, or memory where `error` wants memory
-/// ```
-pub trait HasKind {
-    // The kind of an error.
-    ghost kind: { Self → Kind };
-}
+//! What contracts see of an error. The trait stands in the crate `streams`, since a stream that
+//! records errors shows their kinds.
+pub use streams::has_kind::HasKind;

@@ -1,5 +1,5 @@
 //! An error with the input at its place.
-ghost use Rattle.std.specs.Prelude.{◌≡◌, false};
+ghost use Rattle.std.specs.Prelude.{◌≡◌, false, if◌then◌else◌};
 ghost use Rattle.streams.specs.Kind.{Kind};
 ghost use Rattle.stream_errors.specs.Form.{marked_kind, plain, inner_kind_of-marked_kind, marked_kind-cases};
 
@@ -44,6 +44,10 @@ impl<I: Stream + Copy> ParserError<I> for InputError<I> {
 
     ghost inner_kind = { λ e. marked_kind e.is_memory };
 
+    ghost or_grows = { λ _ _. ⊥ };
+
+    ghost append_grows = { λ _. ⊥ };
+
     #[inline(always)]
     fn from_input(input: &I) -> InputError<I> {
         InputError::at(*input)
@@ -69,9 +73,9 @@ impl<I: Stream + Copy> ParserError<I> for InputError<I> {
 
     #[inline(always)]
     fn or(self, other: InputError<I>) -> InputError<I>
-        ensures { result ≡ other }
+        ensures { result ≡ (if self.is_memory then self else other) }
     {
-        other
+        if self.is_memory { self } else { other }
     }
 
     #[inline(always)]

@@ -12,5 +12,3 @@ pub mod input_error;
 pub mod modal;
 pub mod mode;
 pub mod parser_error;
-#[cfg(test)]
-mod tests;

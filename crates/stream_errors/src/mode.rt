@@ -3,6 +3,7 @@ ghost use Rattle.std.specs.Prelude.{◌≡◌};
 ghost use Rattle.std.proofs.Common.{rules};
 ghost use Rattle.streams.specs.Kind.{Kind};
 ghost use Rattle.stream_errors.specs.Form.{ErrorForm, modal, plain, modal-not_plain};
+ghost use Rattle.stream_errors.specs.Join.{inner_grows, inner_join_grows};
 ghost use Rattle.stream_errors.specs.Mode.{mode_kind, as_inner, MapsMode};
 
 use crate::has_kind::HasKind;
@@ -55,6 +56,10 @@ impl<I: Stream, E: ParserError<I>> ParserError<I> for ErrMode<E> {
 
     ghost inner_kind = { λ e. as_inner (E.kind e) };
 
+    ghost or_grows = { inner_join_grows E.or_grows };
+
+    ghost append_grows = { inner_grows E.append_grows };
+
     #[inline(always)]
     fn from_input(input: &I) -> ErrMode<E> {
         ErrMode::Backtrack(E::from_input(input))
@@ -79,13 +84,37 @@ impl<I: Stream, E: ParserError<I>> ParserError<I> for ErrMode<E> {
         match self {
             ErrMode::Backtrack(first) => match other {
                 ErrMode::Backtrack(second) => ErrMode::Backtrack(first.or(second)),
-                other => other,
+                other => {
+                    if first.is_memory() {
+                        ErrMode::Backtrack(first)
+                    } else {
+                        other
+                    }
+                }
             },
             ErrMode::Cut(first) => match other {
-                ErrMode::Incomplete(needed) => ErrMode::Incomplete(needed),
-                _ => ErrMode::Cut(first),
+                ErrMode::Backtrack(second) | ErrMode::Cut(second) => {
+                    if second.is_memory() {
+                        ErrMode::Cut(second)
+                    } else {
+                        ErrMode::Cut(first)
+                    }
+                }
+                ErrMode::Incomplete(needed) => {
+                    if first.is_memory() {
+                        ErrMode::Cut(first)
+                    } else {
+                        ErrMode::Incomplete(needed)
+                    }
+                }
             },
-            ErrMode::Incomplete(needed) => ErrMode::Incomplete(needed),
+            ErrMode::Incomplete(needed) => {
+                if ParserError::<I>::is_memory(&other) {
+                    other
+                } else {
+                    ErrMode::Incomplete(needed)
+                }
+            }
         }
     }
 

@@ -2,6 +2,7 @@
 ghost use Rattle.std.specs.Prelude.{◌≡◌, ◌↔◌, IsTrue, IsSome, ℕ, Option, None, Some, ◌⊎◌, MatchResult, option_map};
 ghost use Rattle.streams.specs.Kind.{Kind, backtrack, cut, incomplete, memory};
 ghost use Rattle.streams.specs.Needed.{need_of};
+ghost use Rattle.stream_errors.specs.Join.{IsOrMemory, joined};
 ghost use Rattle.stream_errors.specs.Form.{ErrorForm, plain, asserted, incompleted, inner_kind_of, need_of_kind};
 
 use crate::has_kind::HasKind;
@@ -28,6 +29,12 @@ pub trait ParserError<I: Stream>: HasKind + Drop {
     // The kind of an inner error.
     ghost inner_kind: { Self.Inner → Kind };
 
+    // The pairs whose joining asks for memory.
+    ghost or_grows: { Self → Self → Type 0 };
+
+    // The errors that ask for memory to add a place.
+    ghost append_grows: { Self → Type 0 };
+
     /// A backtracking error at the place of `input`.
     fn from_input(input: &I) -> Self
         ensures { Self.kind result ≡ backtrack };
@@ -45,14 +52,16 @@ pub trait ParserError<I: Stream>: HasKind + Drop {
     fn no_memory(input: &I) -> Self
         ensures { Self.kind result ≡ memory };
 
-    /// Joins the errors of two branches. Two that backtrack give one that does, or that wants
-    /// memory where they could not be joined.
+    /// Joins the errors of two branches. Two that backtrack give one that does. Want of memory on
+    /// either side stays; else the error is incomplete where one was, as the first of two; else it
+    /// cuts where one did. Only where joining asks for memory can it also be want of memory.
     fn or(self, other: Self) -> Self
-        ensures { Self.kind self ≡ backtrack → Self.kind other ≡ backtrack → (Self.kind result ≡ backtrack) ⊎ (Self.kind result ≡ memory) };
+        ensures { IsOrMemory (joined (Self.kind self) (Self.kind other)) (or_grows self other) (Self.kind result) };
 
-    /// Adds the place of an enclosing parser. The kind stays, or is memory.
+    /// Adds the place of an enclosing parser. The kind stays; only where that asks for memory can
+    /// it be want of memory instead.
     fn append(self, input: &I, token_start: &I::Checkpoint) -> Self
-        ensures { (Self.kind result ≡ Self.kind self) ⊎ (Self.kind result ≡ memory) };
+        ensures { IsOrMemory (Self.kind self) (append_grows self) (Self.kind result) };
 
     /// Whether another branch may be tried.
     fn is_backtrack(&self) -> bool

@@ -8,7 +8,7 @@ use Rattle.std.proofs.lemmas.Str.{chars-nil, encode_ascii, encodes-append, encod
 use Rattle.std.proofs.lemmas.List.{append-nil, length-append, take-append-drop}
 use Rattle.streams.specs.Equal.{same_first, same_others}
 use Rattle.streams.specs.Text.{length_encodes, width, width_chars, width_positive}
-use Rattle.streams.specs.Utf8.{chars-encode, two_bytes, three_bytes, four_bytes}
+use Rattle.streams.specs.Utf8.{chars_spelled, two_bytes, three_bytes, four_bytes}
 use Rattle.stream_sets.specs.Compare.{ComparesAs, StandsFirst, IsShort}
 use Rattle.stream_sets.specs.declared.compare.CompareResult.{CompareResult}
 use Rattle.stream_sets.specs.declared.compare.CompareResult.TheVariants.{Ok, Incomplete, Error}
@@ -80,20 +80,12 @@ lowered_encodes (c ∷ cs) =
 lowered_width : (cs : List ℕ) → width (lowered cs) ≡ width cs
 lowered_width cs = sym (length_encodes (lowered cs)) ∙ ap (λ l. length l) (sym (lowered_encodes cs)) ∙ lowered-length (encode_utf8_all cs) ∙ length_encodes cs
 
--- bytes of characters spell them, whatever follows
-chars_spell : (cs rest : List ℕ) → chars (encode_utf8_all cs ++ rest) ≡ cs ++ chars rest
-chars_spell [] rest = refl
-chars_spell (c ∷ cs) rest =
-    ap chars (append_assoc (encode_utf8 c) (encode_utf8_all cs) rest)
-    ∙ chars-encode c (encode_utf8_all cs ++ rest)
-    ∙ ap (λ l. c ∷ l) (chars_spell cs rest)
-
 -- a text in lower case spells its characters in lower case, whatever follows
 chars_lowered : (text rest : List ℕ) → IsUtf8 text → chars (lowered text ++ rest) ≡ lowered (chars text) ++ chars rest
 chars_lowered text rest utf8 =
     ap (λ l. chars (lowered l ++ rest)) (sym (encodes-chars text utf8))
     ∙ ap (λ l. chars (l ++ rest)) (lowered_encodes (chars text))
-    ∙ chars_spell (lowered (chars text)) rest
+    ∙ chars_spelled (lowered (chars text)) rest
 
 chars_lowered_all : (text : List ℕ) → IsUtf8 text → chars (lowered text) ≡ lowered (chars text)
 chars_lowered_all text utf8 =

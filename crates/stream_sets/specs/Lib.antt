@@ -1,3 +1,4 @@
+pub mod AsBStr
 pub mod AsChar
 pub mod Compare
 pub mod TextCompare
@@ -7,3 +8,5 @@ pub mod Range
 pub mod Sets
 pub mod Three
 pub mod FindSlice
+pub mod Accumulator
+pub mod FirstMatch

@@ -1,5 +1,6 @@
 //! What repetition puts its outputs into.
 ghost use Rattle.std.specs.Prelude.{◌≡◌, ◌≤◌, [], ◌∷◌, ◌++◌, MatchResult, ⊤, vec_len, vec_capacity};
+ghost use Rattle.stream_sets.specs.Accumulator.{Accumulator};
 
 use std::alloc::{AllocError, Allocator};
 
@@ -10,39 +11,29 @@ use std::alloc::{AllocError, Allocator};
 /// <Vec<u8> as Accumulate<u8, Global>>::initial(alloc, None)   is Ok of an empty list
 /// ```
 pub trait Accumulate<O, A>: Drop {
-    // The empty ones.
-    ghost starts: { Self → Type 0 };
-
-    // One that takes one output more, and what it is then.
-    ghost takes: { Self → O → Self → Type 0 };
-
-    // Whether making an empty one asks for memory.
-    ghost start_grows: { Type 0 };
-
-    // The ones that ask for memory to take one output more.
-    ghost grows: { Self → Type 0 };
+    // The empty ones, how one takes an output, and when a request for memory may be refused.
+    ghost accumulator: { Accumulator Self O };
 
     /// An empty one, for `capacity` outputs if that is known. It fails only where a request for
     /// memory was refused.
     fn initial(alloc: A, capacity: Option<usize>) -> Result<Self, AllocError>
     where
         Self: Sized,
-        ensures { MatchResult result (λ empty. starts empty) (λ _. start_grows) };
+        ensures { MatchResult result (accumulator.starts capacity) (λ _. accumulator.start_grows capacity) };
 
     /// Takes one output more. It fails only where a request for memory was refused.
     fn accumulate(&mut self, output: O) -> Result<(), AllocError>
-        ensures { MatchResult result (λ _. takes self.old output self.new) (λ _. grows self.old) };
+        ensures { MatchResult result (λ _. accumulator.takes self.old output self.new) (λ _. accumulator.grows self.old) };
 }
 
 /// Nothing is kept, and no memory is taken.
 impl<O: Drop, A: Drop> Accumulate<O, A> for () {
-    ghost starts = { λ _. ⊤ };
-
-    ghost takes = { λ _ _ _. ⊤ };
-
-    ghost start_grows = { ⊥ };
-
-    ghost grows = { λ _. ⊥ };
+    ghost accumulator = { record {
+      starts = λ _ _. ⊤;
+      takes = λ _ _ _. ⊤;
+      start_grows = λ _. ⊥;
+      grows = λ _. ⊥;
+    } };
 
     #[inline(always)]
     fn initial(_alloc: A, _capacity: Option<usize>) -> Result<(), AllocError>
@@ -59,13 +50,12 @@ impl<O: Drop, A: Drop> Accumulate<O, A> for () {
 
 /// A list to whose end the outputs are put. An empty one takes no memory.
 impl<O: Drop, A: Allocator> Accumulate<O, A> for Vec<O, A> {
-    ghost starts = { λ list. list.items ≡ [] };
-
-    ghost takes = { λ list output more. more.items ≡ list.items ++ output ∷ [] };
-
-    ghost start_grows = { ⊥ };
-
-    ghost grows = { λ list. vec_capacity list ≤ vec_len list };
+    ghost accumulator = { record {
+      starts = λ _ list. list.items ≡ [];
+      takes = λ list output more. more.items ≡ list.items ++ output ∷ [];
+      start_grows = λ _. ⊥;
+      grows = λ list. vec_capacity list ≤ vec_len list;
+    } };
 
     #[inline(always)]
     fn initial(alloc: A, _capacity: Option<usize>) -> Result<Vec<O, A>, AllocError>

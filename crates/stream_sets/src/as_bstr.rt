@@ -1,5 +1,13 @@
 //! Slices that are seen as bytes.
-ghost use Rattle.std.specs.Prelude.{◌≡◌, ℕ, List};
+ghost use Rattle.std.specs.Prelude.{◌≡◌, ◌<◌, ℕ, List, [], ◌∷◌, ◌++◌, refl};
+ghost use Rattle.std.specs.Str.{encode_utf8_all};
+ghost use Rattle.std.proofs.lemmas.Str.{encodes-append};
+ghost use Rattle.stream_sets.specs.AsBStr.{encodes_ascii};
+
+use crate::as_char::AsChar;
+use streams::locating::LocatingSlice;
+use streams::partial::Partial;
+use streams::stream::Stream;
 
 /// A slice of bytes or of text, seen as its bytes, as winnow's documentation has it.
 ///
@@ -31,4 +39,78 @@ impl<'a> AsBStr for &'a str {
     fn as_bstr(&self) -> &[u8] {
         self.as_bytes()
     }
+}
+
+/// A stream whose slices are seen as bytes: those of the tokens that a slice shows.
+///
+/// It has no functions. Contracts of parsers that look at the bytes of a slice speak by it of
+/// tokens.
+///
+/// ```text
+/// of the text "é7"   the bytes are [0xC3, 0xA9, 0x37], also where the stream locates or is partial
+/// ```
+pub trait SlicesAsBytes: Stream
+where
+    Self::Token: AsChar,
+    Self::Slice: AsBStr,
+{
+    // The bytes of tokens: themselves, or their UTF-8.
+    ghost bytes_of: { List Self.Seen → List ℕ };
+
+    // A slice has the bytes of the tokens that it shows.
+    ghost has_bytes: { (slice : Self.Slice) (tokens : List Self.Seen) → Self.reading.shows slice tokens → Self.Slice.bytes slice ≡ bytes_of tokens };
+
+    // Bytes of a list are those of its parts.
+    ghost bytes_add: { (xs ys : List Self.Seen) → bytes_of (xs ++ ys) ≡ bytes_of xs ++ bytes_of ys };
+
+    // An ASCII character is the byte of its number.
+    ghost ascii_byte: { (token : Self.Token) → Self.Token.code token < 128 → bytes_of (Self.seen_as token ∷ []) ≡ Self.Token.code token ∷ [] };
+}
+
+impl<'a> SlicesAsBytes for &'a [u8] {
+    ghost bytes_of = { λ tokens. tokens };
+
+    ghost has_bytes = { λ slice tokens shown. shown };
+
+    ghost bytes_add = { λ xs ys. refl };
+
+    ghost ascii_byte = { λ token small. refl };
+}
+
+impl<'a> SlicesAsBytes for &'a str {
+    ghost bytes_of = { encode_utf8_all };
+
+    ghost has_bytes = { λ slice tokens shown. shown };
+
+    ghost bytes_add = { encodes-append };
+
+    ghost ascii_byte = { encodes_ascii };
+}
+
+impl<I: SlicesAsBytes> SlicesAsBytes for Partial<I>
+where
+    I::Token: AsChar,
+    I::Slice: AsBStr,
+{
+    ghost bytes_of = { I.bytes_of };
+
+    ghost has_bytes = { I.has_bytes };
+
+    ghost bytes_add = { I.bytes_add };
+
+    ghost ascii_byte = { I.ascii_byte };
+}
+
+impl<I: SlicesAsBytes> SlicesAsBytes for LocatingSlice<I>
+where
+    I::Token: AsChar,
+    I::Slice: AsBStr,
+{
+    ghost bytes_of = { I.bytes_of };
+
+    ghost has_bytes = { I.has_bytes };
+
+    ghost bytes_add = { I.bytes_add };
+
+    ghost ascii_byte = { I.ascii_byte };
 }

@@ -7,6 +7,7 @@ ghost use Rattle.std.specs.Char.{encode_utf8};
 ghost use Rattle.stream_sets.specs.Compare.{ComparesAs, StandsFirst, IsShort, same-length};
 
 mod caseless;
+pub mod like;
 mod text;
 mod tokens;
 mod wrapped;

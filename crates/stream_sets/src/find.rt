@@ -1,9 +1,12 @@
 //! Searches of the input for a literal.
 ghost use Rattle.std.specs.Prelude.{◌≡◌, List, [], ◌∷◌, ◌⊎◌, length};
 ghost use Rattle.std.specs.Char.{encode_utf8};
+ghost use Rattle.streams.specs.Bytes.{bytes_reading};
 ghost use Rattle.stream_sets.specs.FindSlice.{FindsSlice};
+ghost use Rattle.stream_sets.specs.FirstMatch.{StaysFirst, literal_stays, two_stay, three_stay};
 
 mod characters;
+pub mod like;
 mod several;
 mod text;
 mod wrapped;
@@ -27,6 +30,9 @@ pub trait FindSlice<T>: Stream {
     /// The first range, in units, at which `substr` stands. Nothing is consumed.
     fn find_slice(&self, substr: T) -> Option<ops::Range<usize>>
         ensures { FindsSlice Self.reading.units (sought substr) (Self.view self.now).left.tokens result };
+
+    // The first match stays the first one, whatever tokens come behind.
+    ghost stays_first: { (substr : T) → StaysFirst Self.reading.units (sought substr) };
 }
 
 /// Searches bytes for bytes.
@@ -50,6 +56,8 @@ impl<'a> FindSlice<u8> for &'a [u8] {
             None => None,
         }
     }
+
+    ghost stays_first = { λ b. literal_stays bytes_reading (b ∷ []) };
 }
 
 impl<'a> FindSlice<(u8,)> for &'a [u8] {
@@ -59,6 +67,8 @@ impl<'a> FindSlice<(u8,)> for &'a [u8] {
     fn find_slice(&self, substr: (u8,)) -> Option<ops::Range<usize>> {
         self.find_slice(substr.0)
     }
+
+    ghost stays_first = { λ t. literal_stays bytes_reading (t.0 ∷ []) };
 }
 
 impl<'a> FindSlice<(u8, u8)> for &'a [u8] {
@@ -71,6 +81,8 @@ impl<'a> FindSlice<(u8, u8)> for &'a [u8] {
             None => None,
         }
     }
+
+    ghost stays_first = { λ t. two_stay bytes_reading t.0 t.1 };
 }
 
 impl<'a> FindSlice<(u8, u8, u8)> for &'a [u8] {
@@ -83,6 +95,8 @@ impl<'a> FindSlice<(u8, u8, u8)> for &'a [u8] {
             None => None,
         }
     }
+
+    ghost stays_first = { λ t. three_stay bytes_reading t.0 t.1 t.2 };
 }
 
 impl<'a, 'b> FindSlice<&'b [u8]> for &'a [u8] {
@@ -92,6 +106,8 @@ impl<'a, 'b> FindSlice<&'b [u8]> for &'a [u8] {
     fn find_slice(&self, substr: &'b [u8]) -> Option<ops::Range<usize>> {
         find_bytes(*self, substr)
     }
+
+    ghost stays_first = { λ s. literal_stays bytes_reading s.now };
 }
 
 /// A text stands for its bytes.
@@ -102,6 +118,8 @@ impl<'a, 'b> FindSlice<&'b str> for &'a [u8] {
     fn find_slice(&self, substr: &'b str) -> Option<ops::Range<usize>> {
         find_bytes(*self, substr.as_bytes())
     }
+
+    ghost stays_first = { λ s. literal_stays bytes_reading s.now };
 }
 
 /// A character stands for the bytes of its UTF-8.
@@ -113,4 +131,6 @@ impl<'a> FindSlice<char> for &'a [u8] {
         let mut buffer = [0; 4];
         find_bytes(*self, substr.encode_utf8(&mut buffer).as_bytes())
     }
+
+    ghost stays_first = { λ c. literal_stays bytes_reading (encode_utf8 c) };
 }

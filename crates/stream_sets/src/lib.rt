@@ -13,5 +13,3 @@ pub mod numbers;
 pub mod range;
 pub mod sets;
 pub mod slice_len;
-#[cfg(test)]
-mod tests;

@@ -1,8 +1,14 @@
 //! Lengths of slices and literals.
-ghost use Rattle.std.specs.Prelude.{◌≡◌, ℕ, length};
+ghost use Rattle.std.specs.Prelude.{◌≡◌, ℕ, List, length};
 ghost use Rattle.std.specs.Char.{len_utf8};
+ghost use Rattle.std.proofs.Common.{ap, ◌∙◌};
+ghost use Rattle.streams.specs.Text.{length_encodes};
 
 use crate::caseless::Caseless;
+use streams::locating::LocatingSlice;
+use streams::partial::Partial;
+use streams::stream::Stream;
+use streams::token_slice::TokenSlice;
 
 /// A slice or a literal that knows how many units it takes, as winnow's documentation has it:
 /// bytes of bytes and text, items of token lists.
@@ -81,4 +87,45 @@ impl<S: SliceLen> SliceLen for Caseless<S> {
     fn slice_len(&self) -> usize {
         self.0.slice_len()
     }
+}
+
+/// A stream whose slices know how many units they take: those of the tokens that a slice shows.
+///
+/// It has no functions. Contracts of parsers that ask a slice for its length speak by it of tokens.
+///
+/// ```text
+/// of the text "é7"   a slice of all takes 3 units, also where the stream locates or is partial
+/// ```
+pub trait SlicesWithLength: Stream
+where
+    Self::Slice: SliceLen,
+{
+    // A slice takes the units of the tokens that it shows.
+    ghost has_units: { (slice : Self.Slice) (tokens : List Self.Seen) → Self.reading.shows slice tokens → Self.Slice.units_of slice ≡ Self.reading.units tokens };
+}
+
+impl<'a> SlicesWithLength for &'a [u8] {
+    ghost has_units = { λ slice tokens shown. ap (λ l. length l) shown };
+}
+
+impl<'a> SlicesWithLength for &'a str {
+    ghost has_units = { λ slice tokens shown. ap (λ l. length l) shown ∙ length_encodes tokens };
+}
+
+impl<'t, T> SlicesWithLength for TokenSlice<'t, T> {
+    ghost has_units = { λ slice tokens shown. ap (λ l. length l) shown };
+}
+
+impl<I: SlicesWithLength> SlicesWithLength for Partial<I>
+where
+    I::Slice: SliceLen,
+{
+    ghost has_units = { I.has_units };
+}
+
+impl<I: SlicesWithLength> SlicesWithLength for LocatingSlice<I>
+where
+    I::Slice: SliceLen,
+{
+    ghost has_units = { I.has_units };
 }

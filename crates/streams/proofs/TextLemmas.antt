@@ -9,7 +9,7 @@ use Rattle.std.proofs.lemmas.List.Sums.{sum_by-append, sum_by-cons}
 use Rattle.std.proofs.lemmas.Str.{chars-nil, encodes-append, encodes-chars, scalars-chars, length-encode, IsCharBoundary-at_seam}
 use Rattle.streams.specs.Input.{Passes, Takes}
 use Rattle.streams.specs.Text.{width, text_input, text_reading, length_encodes}
-use Rattle.streams.specs.Utf8.{chars-encode}
+use Rattle.streams.specs.Utf8.{chars-encode, chars_all}
 
 -- ---- characters and the bytes that spell them
 
@@ -21,15 +21,6 @@ both_true false b h = (h, cc)
 later_scalars : (front rest : List ℕ) → all_scalars (front ++ rest) ≡ true → all_scalars rest ≡ true
 later_scalars [] rest h = h
 later_scalars (c ∷ front) rest h = later_scalars front rest (both_true _ (all_scalars (front ++ rest)) h).1
-
--- the bytes of some first characters, and what they spell: no condition on the bytes behind
-chars_spelled : (front bytes : List ℕ) → chars (encode_utf8_all front ++ bytes) ≡ front ++ chars bytes
-chars_spelled [] bytes = refl
-chars_spelled (c ∷ front) bytes =
-    ap chars (append_assoc (encode_utf8 c) (encode_utf8_all front) bytes) ∙ chars-encode c (encode_utf8_all front ++ bytes) ∙ ap (λ cs. c ∷ cs) (chars_spelled front bytes)
-
-spelled : (cs : List ℕ) → chars (encode_utf8_all cs) ≡ cs
-spelled cs = ap chars (sym (append-nil (encode_utf8_all cs))) ∙ chars_spelled cs [] ∙ ap (λ l. cs ++ l) chars-nil ∙ append-nil cs
 
 -- from one text to another whose characters follow some first ones
 pub passes_chars : (front text rest : List ℕ) → chars text ≡ front ++ chars rest → Passes text_reading front (text_input text) (text_input rest)
@@ -51,16 +42,16 @@ module _ (text front rest : List ℕ) (utf8 : IsUtf8 text) (splits : chars text 
   boundary = subst (λ (n : ℕ). IsCharBoundary text n) behind_front (IsCharBoundary-at_seam text (encode_utf8_all front) (encode_utf8_all rest) seam
       (rest, (later_scalars front rest (sym (ap all_scalars splits) ∙ scalars-chars text utf8), refl)))
 
-  chars_before : chars (take offset text) ≡ front
-  chars_before = ap (λ bytes. chars (take offset bytes)) seam ∙ ap chars (take_at (encode_utf8_all front) (encode_utf8_all rest) offset behind_front) ∙ spelled front
+  bytes_before : take offset text ≡ encode_utf8_all front
+  bytes_before = ap (λ bytes. take offset bytes) seam ∙ take_at (encode_utf8_all front) (encode_utf8_all rest) offset behind_front
 
   chars_behind : chars (drop offset text) ≡ rest
-  chars_behind = ap (λ bytes. chars (drop offset bytes)) seam ∙ ap chars (drop_at (encode_utf8_all front) (encode_utf8_all rest) offset behind_front) ∙ spelled rest
+  chars_behind = ap (λ bytes. chars (drop offset bytes)) seam ∙ ap chars (drop_at (encode_utf8_all front) (encode_utf8_all rest) offset behind_front) ∙ chars_all rest
 
   -- the slice before the offset shows the characters there, and the others are left behind it
   pub takes_front : (slice : Bor (List ℕ)) (later : List ℕ) → slice.now ≡ take offset text → later ≡ drop offset text → Takes text_reading front (text_input text) slice (text_input later)
   takes_front slice later before behind = record {
-    shown = ap chars before ∙ chars_before;
+    shown = before ∙ bytes_before;
     passed = passes_chars front text later (splits ∙ ap (λ cs. front ++ cs) (sym (ap chars behind ∙ chars_behind)));
   }
 

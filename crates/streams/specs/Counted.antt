@@ -1,7 +1,7 @@
 -- Streams whose tokens are counted one by one, and whose slices show their own.
 use Rattle.std.specs.Prelude.{◌≡◌, ℕ, ◌<◌, ◌≤◌, List, ◌∷◌, length, take, drop}
 use Rattle.std.specs.Borrow.{Bor}
-use Rattle.std.proofs.Common.{refl, sym, arith}
+use Rattle.std.proofs.Common.{refl, sym, ap, ◌∙◌, arith}
 use Rattle.std.proofs.lemmas.List.{take-append-drop, length-take-le, length-append}
 use Rattle.streams.specs.Input.{Input, at_start, no_side}
 use Rattle.streams.specs.Reading.{Reading}
@@ -25,6 +25,7 @@ counted_reading = record {
   advance_none = λ p. refl;
   advance_add = λ p m n. refl;
   advance_further = λ p n k. refl;
+  one_length = λ s xs ys p q. ap (λ l. length l) (sym p ∙ q);
 }
 
 -- each place up to the end is between two tokens, or at an end

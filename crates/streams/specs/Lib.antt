@@ -3,12 +3,15 @@ pub mod Kind
 pub mod Place
 pub mod Reading
 pub mod Input
+pub mod Following
 pub mod Ends
 pub mod Stream
 pub mod Counted
 pub mod Bytes
 pub mod Partial
 pub mod Located
+pub mod SameReading
+pub mod ByteStream
 pub mod Needed
 pub mod Utf8
 pub mod Text

@@ -2,7 +2,7 @@
 use Rattle.std.specs.Prelude.{◌≡◌, ℕ, ◌+◌, List}
 use Rattle.std.proofs.Common.{refl, sym, ap, subst, ◌∙◌, arith}
 use Rattle.streams.specs.Input.{Input, Left, IsEndOf, Passes, Takes, is_end_of_refl}
-use Rattle.streams.specs.Place.{Place, further}
+use Rattle.streams.specs.Place.{Place, further, same_place}
 use Rattle.streams.specs.Reading.{Reading}
 
 -- the place with so many units passed
@@ -16,11 +16,6 @@ located_left left passed = record left { place = located left.place passed }
 -- an input with so many units passed
 abbrev pub located_input : {T : Type 0} → Input T → ℕ → Input T
 located_input i passed = record i { left = located_left i.left passed }
-
-pub same_place : (p q : Place) → p.passed ≡ q.passed → p.bits_read ≡ q.bits_read → p ≡ q
-same_place p q passed bits =
-    let make : ℕ → ℕ → Place = λ n b. record { passed = n; bits_read = b } in
-    ap (λ n. make n p.bits_read) passed ∙ ap (λ b. make q.passed b) bits
 
 -- The bits read do not depend on the units passed.
 from_start : {T S : Type 0} (reading : Reading T S) (passed bits k : ℕ) → (reading.advance (record { passed = passed; bits_read = bits }) k).bits_read ≡ (reading.advance (record { passed = 0; bits_read = bits }) k).bits_read
@@ -56,6 +51,7 @@ located_reading reading = record {
       (further (located (reading.advance p k) (p.passed + k)) n)
       (omega arith)
       (ap (λ x. x.bits_read) (reading.advance_further p n k));
+  one_length = reading.one_length;
 }
 
 -- Tokens that the stream inside drops lead to a place further by their units.

@@ -21,6 +21,8 @@ pub record Reading (T S : Type 0) : Type 1 where
   pub advance_add : (p : Place) (m n : ℕ) → advance (advance p m) n ≡ advance p (m + n)
   -- a count of units that is kept beside does not change how the place moves
   pub advance_further : (p : Place) (n k : ℕ) → advance (further p n) k ≡ further (advance p k) n
+  -- a slice has one length
+  pub one_length : (s : S) (xs ys : List T) → shows s xs → shows s ys → units xs ≡ units ys
 
 -- no tokens take no units
 pub units-nil : {T S : Type 0} (reading : Reading T S) → reading.units [] ≡ 0

@@ -1,8 +1,9 @@
 -- The words of the contract of Stream.
 use Rattle.std.specs.Prelude.{◌≡◌, ℕ, ◌+◌, ◌-◌, ◌≤◌, ◌<◌, Bool, true, false, List, [], ◌∷◌, ◌++◌, Option, Some, None, Result, MatchOption, MatchResult, length, take, if◌then◌else◌}
 use Rattle.std.specs.List.{All}
-use Rattle.std.proofs.Common.{refl, ap, suc}
+use Rattle.std.proofs.Common.{refl, sym, ap, suc, ◌∙◌}
 use Rattle.streams.specs.Input.{Input, Takes}
+use Rattle.streams.specs.Place.{Place, same_place}
 use Rattle.streams.specs.Reading.{Reading}
 
 -- the offset is behind some first tokens
@@ -41,12 +42,20 @@ abbrev pub Cuts : {T S : Type 0} → Reading T S → ℕ → Input T → S → I
 Cuts {T} reading offset earlier slice later =
     (front rest : List T) → earlier.left.tokens ≡ front ++ rest → offset ≡ reading.units front → Takes reading front earlier slice later
 
--- Now stands in the place of before: what is left is what the slice shows, and it ends where before begins.
+-- Now stands in the place of before: what is left is what the slice shows. Where its units lead from a place to where before begins, now begins at that place.
 pub record IsUpdate {T S : Type 0} (reading : Reading T S) (before : Input T) (slice : S) (now : Input T) : Type 0 where
   pub shown : reading.shows slice now.left.tokens
-  pub place : before.left.place ≡ reading.advance now.left.place (reading.units now.left.tokens)
+  pub bits : (p : Place) → (reading.advance p (reading.units now.left.tokens)).bits_read ≡ before.left.place.bits_read → now.left.place.bits_read ≡ p.bits_read
+  pub passed : (p : Place) → reading.advance p (reading.units now.left.tokens) ≡ before.left.place → now.left.place.passed ≡ p.passed
   pub possible : now.left.possible ≡ before.left.possible
   pub side : now.side ≡ before.side
+
+-- it begins where the tokens of the slice were taken
+pub update_begins : {T S : Type 0} {reading : Reading T S} {front : List T} {earlier before now : Input T} {slice : S} → Takes reading front earlier slice before → IsUpdate reading before slice now → now.left.place ≡ earlier.left.place
+update_begins {reading = reading} {front = front} {earlier = earlier} {now = now} {slice = slice} t u =
+    let from = earlier.left.place in
+    let leads = ap (λ n. reading.advance from n) (reading.one_length slice now.left.tokens front u.shown t.shown) ∙ sym t.passed.place in
+    same_place now.left.place from (u.passed from leads) (u.bits from (ap (λ p. p.bits_read) leads))
 
 pub length-with_offsets : {T : Type 0} (units : List T → ℕ) (start : ℕ) (tokens : List T) → length (with_offsets units start tokens) ≡ length tokens
 length-with_offsets units start [] = refl

@@ -1,8 +1,8 @@
 -- Text as a stream of characters.
 use Rattle.std.specs.Prelude.{◌≡◌, ℕ, ◌+◌, ◌<◌, List, [], ◌∷◌, length, take, drop, Option, Some, None, MatchOption}
 use Rattle.std.specs.Borrow.{Bor}
-use Rattle.std.specs.Char.{len_utf8, encode_utf8}
-use Rattle.std.specs.List.{sum_by}
+use Rattle.std.specs.Char.{IsScalar, len_utf8, encode_utf8}
+use Rattle.std.specs.List.{All, sum_by}
 use Rattle.std.specs.Str.{chars, encode_utf8_all, IsUtf8, IsCharBoundary}
 use Rattle.std.specs.declared.str.CharIndices.{CharIndices}
 use Rattle.std.specs.Str.Iter.{char_indices_rest, char_indices_offset, char_indices_steps}
@@ -10,10 +10,11 @@ use Rattle.std.proofs.Common.{refl, sym, ap, ◌∙◌, arith}
 use Rattle.std.proofs.lemmas.List.{nil_from_length, length-append, length-take-le, take-append-drop}
 use Rattle.std.proofs.lemmas.List.Sums.{sum_by-append, sum_by-cons}
 use Rattle.std.proofs.lemmas.Str.{chars-nil, chars-append, encodes-chars, length-encode, len_utf8_bounds, IsUtf8-take}
+use Rattle.streams.specs.Following.{Following}
 use Rattle.streams.specs.Input.{Input, at_start, no_side}
 use Rattle.streams.specs.Reading.{Reading}
 use Rattle.streams.specs.Stream.{IsBoundary, with_offsets}
-use Rattle.streams.specs.Utf8.{chars-encode}
+use Rattle.streams.specs.Utf8.{chars-encode, chars_all}
 
 -- the bytes that characters take
 abbrev pub width : List ℕ → ℕ
@@ -44,22 +45,31 @@ text_boundary offset text utf8 boundary =
       sym (length-take-le offset text boundary.0) ∙ sym (width_chars (take offset text) front_utf8),
     )
 
+-- any characters may come behind a text
+abbrev pub text_follows : Following ℕ
+text_follows = record { can_follow = λ left more. All IsScalar more; kept = λ dropped later more f. f }
+
 -- What is seen of the bytes of a text: the characters that they spell, with no place kept, whole.
 abbrev pub text_input : List ℕ → Input ℕ
 text_input bytes = record { left = at_start (chars bytes); side = no_side }
 
--- Characters are counted by their bytes, and a slice shows the characters that it spells.
+-- Characters are counted by their bytes, and a slice shows the characters whose UTF-8 it is.
 abbrev pub text_reading : Reading ℕ (Bor (List ℕ))
 text_reading = record {
   units = width;
   advance = λ place _. place;
-  shows = λ s tokens. chars s.now ≡ tokens;
+  shows = λ s tokens. s.now ≡ encode_utf8_all tokens;
   units_add = λ xs ys. sum_by-append len_utf8 xs ys;
   units_positive = λ c cs. width_positive c cs;
   advance_none = λ p. refl;
   advance_add = λ p m n. refl;
   advance_further = λ p n k. refl;
+  one_length = λ s xs ys p q. sym (length_encodes xs) ∙ ap (λ l. length l) (sym p ∙ q) ∙ length_encodes ys;
 }
+
+-- a slice spells the characters that it shows
+pub shown_chars : (s : Bor (List ℕ)) (tokens : List ℕ) → text_reading.shows s tokens → chars s.now ≡ tokens
+shown_chars s tokens shown = ap chars shown ∙ chars_all tokens
 
 -- the characters that an iterator has still to give, each with its offset
 abbrev pub chars_left : CharIndices → List (ℕ × ℕ)

@@ -1,10 +1,11 @@
 -- What the bytes of a character spell.
 use Rattle.std.specs.Prelude.{◌≡◌, ℕ, zero, suc, ◌+◌, ◌-◌, ◌*◌, ◌/◌, ◌%◌, ◌<◌, ◌≤◌, List, [], ◌∷◌, ◌++◌}
 use Rattle.std.specs.Char.{encode_utf8}
-use Rattle.std.specs.Str.{chars, chars_after, continuation_len, lead_bits}
-use Rattle.std.proofs.Common.{refl, sym, ap, ◌∙◌, arith, inl, inr, ◌⊎◌}
+use Rattle.std.specs.Str.{chars, chars_after, continuation_len, encode_utf8_all, lead_bits}
+use Rattle.std.proofs.Common.{append_assoc, refl, sym, ap, ◌∙◌, arith, inl, inr, ◌⊎◌}
 use Rattle.std.proofs.lemmas.Bool.{cases_lt, lt-ltb, le-ltb}
-use Rattle.std.proofs.lemmas.Str.{encode_ascii}
+use Rattle.std.proofs.lemmas.List.{append-nil}
+use Rattle.std.proofs.lemmas.Str.{chars-nil, encode_ascii}
 
 -- a first byte says how many follow, and which bits of the character it holds
 led : (a n v : ℕ) (bs : List ℕ) → n ≡ continuation_len a → v ≡ lead_bits a → chars (a ∷ bs) ≡ chars_after n v bs
@@ -51,3 +52,13 @@ chars-encode c rest = by (cases_lt c 128) (cases_lt c 2048) (cases_lt c 65536)
         ap (λ p. chars (p ++ rest)) (four_bytes c l)
         ∙ led (240 + c / 262144) (suc (suc (suc zero))) (c / 262144) ((128 + c / 4096 % 64) ∷ (128 + c / 64 % 64) ∷ (128 + c % 64) ∷ rest) (grind arith) (grind arith)
         ∙ ended _ rest ∙ ap (λ x. x ∷ chars rest) is
+
+-- The bytes of some first characters spell them, whatever bytes follow.
+pub chars_spelled : (front bytes : List ℕ) → chars (encode_utf8_all front ++ bytes) ≡ front ++ chars bytes
+chars_spelled [] bytes = refl
+chars_spelled (c ∷ front) bytes =
+    ap chars (append_assoc (encode_utf8 c) (encode_utf8_all front) bytes) ∙ chars-encode c (encode_utf8_all front ++ bytes) ∙ ap (λ cs. c ∷ cs) (chars_spelled front bytes)
+
+-- The bytes of characters spell them.
+pub chars_all : (cs : List ℕ) → chars (encode_utf8_all cs) ≡ cs
+chars_all cs = ap chars (sym (append-nil (encode_utf8_all cs))) ∙ chars_spelled cs [] ∙ ap (λ l. cs ++ l) chars-nil ∙ append-nil cs

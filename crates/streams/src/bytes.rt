@@ -4,7 +4,7 @@ ghost use Rattle.std.specs.Iterator.{at_most};
 ghost use Rattle.std.specs.List.{All};
 ghost use Rattle.streams.specs.Input.{at_start};
 ghost use Rattle.streams.specs.Stream.{with_offsets, GivesNext};
-ghost use Rattle.streams.specs.Bytes.{bytes_input, bytes_reading};
+ghost use Rattle.streams.specs.Bytes.{bytes_follow, bytes_input, bytes_reading};
 
 use crate::needed::Needed;
 use crate::stream::{Stream, StreamIsPartial, UpdateSlice};
@@ -65,7 +65,7 @@ impl<'a> Stream for &'a [u8] {
 
     ghost counts_missing = { true };
 
-    ghost can_follow = { All (λ b. b < 256) };
+    ghost following = { bytes_follow };
 
     ghost offsets_left = { λ s. with_offsets length s.offset s.rest.now };
 

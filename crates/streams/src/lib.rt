@@ -5,13 +5,14 @@
 //! seen, and each call of [`Stream`](crate::stream::Stream) is exact over that.
 #![tactic(auto)]
 
+pub mod byte_stream;
 pub mod bytes;
+pub mod has_kind;
 pub mod locating;
 pub mod needed;
 pub mod partial;
+pub mod reads_like;
 pub mod stream;
-#[cfg(test)]
-mod tests;
 pub mod text;
 pub mod token_slice;
 pub mod token_test;

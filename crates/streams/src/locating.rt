@@ -43,8 +43,7 @@ impl<I: Stream> LocatingSlice<I> {
     /// The stream inside.
     #[inline(always)]
     pub fn as_inner(&self) -> &I
-        ensures tokens { (I.view result.now).left.tokens ≡ (⟦<LocatingSlice<I> as Stream>⟧.view self.now).left.tokens }
-        ensures side { (I.view result.now).side ≡ (⟦<LocatingSlice<I> as Stream>⟧.view self.now).side }
+        ensures { located_input (I.view result.now) (⟦<LocatingSlice<I> as Stream>⟧.view self.now).left.place.passed ≡ ⟦<LocatingSlice<I> as Stream>⟧.view self.now }
     {
         &self.input
     }
@@ -87,7 +86,7 @@ impl<I: Stream> Stream for LocatingSlice<I> {
 
     ghost counts_missing = { I.counts_missing };
 
-    ghost can_follow = { I.can_follow };
+    ghost following = { I.following };
 
     ghost offsets_left = { I.offsets_left };
 
@@ -204,15 +203,13 @@ impl<I: Stream> Location for LocatingSlice<I> {
 }
 
 impl<I: UpdateSlice> UpdateSlice for LocatingSlice<I> {
-    ghost can_update = { λ s slice. I.can_update s.input slice × ((tokens : List I.Seen) → I.reading.shows slice tokens → I.reading.units tokens ≤ s.passed) };
-
     #[inline(always)]
     fn update_slice(self, slice: I::Slice) -> LocatingSlice<I> {
         let input = self.input.update_slice(slice);
         let units = input.eof_offset();
         LocatingSlice {
             input,
-            passed: self.passed - units,
+            passed: self.passed.saturating_sub(units),
         }
     }
 }

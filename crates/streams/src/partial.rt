@@ -73,7 +73,7 @@ impl<I: Stream> Stream for Partial<I> {
 
     ghost counts_missing = { I.counts_missing };
 
-    ghost can_follow = { I.can_follow };
+    ghost following = { I.following };
 
     ghost offsets_left = { I.offsets_left };
 
@@ -179,8 +179,6 @@ impl<I: Location> Location for Partial<I> {
 }
 
 impl<I: UpdateSlice> UpdateSlice for Partial<I> {
-    ghost can_update = { λ s slice. I.can_update s.input slice };
-
     #[inline(always)]
     fn update_slice(self, slice: I::Slice) -> Partial<I> {
         Partial {

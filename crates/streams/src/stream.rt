@@ -1,7 +1,8 @@
 //! The traits of streams.
-ghost use Rattle.std.specs.Prelude.{◌≡◌, ℕ, ◌+◌, List, [], ◌∷◌, Bool, false, Option, MatchOption, ⊤};
+ghost use Rattle.std.specs.Prelude.{◌≡◌, ℕ, ◌+◌, List, [], ◌∷◌, Bool, false, Option, MatchOption};
 ghost use Rattle.std.specs.Iterator.{IsFinite};
 ghost use Rattle.streams.specs.Input.{Input, Left, IsEndOf, Remains, Passes, Takes, back_at};
+ghost use Rattle.streams.specs.Following.{Following};
 ghost use Rattle.streams.specs.Reading.{Reading};
 ghost use Rattle.streams.specs.Stream.{IsBoundary, AnswersSeen, Cuts, FindsFirst, FindsOffset, IsUpdate, with_offsets};
 ghost use Rattle.streams.specs.Needed.{by_need};
@@ -49,8 +50,8 @@ pub trait Stream: Drop {
     // Whether `offset_at` says how many tokens are missing.
     ghost counts_missing: { Bool };
 
-    // The lists that more input may add to a cut one.
-    ghost can_follow: { List Self.Seen → Type 0 };
+    // The lists that more input may add behind those left.
+    ghost following: { Following Self.Seen };
 
     // The tokens still to come, each with its offset.
     ghost offsets_left: { Self.IterOffsets → List (ℕ × Self.Seen) };
@@ -97,10 +98,8 @@ pub trait Stream: Drop {
     fn checkpoint(&self) -> Self::Checkpoint
         ensures { seen result ≡ (view self.now).left };
 
-    /// Goes back to a place, and changes neither the flag nor the recorded errors. The caller owes
-    /// a place of this stream.
+    /// Goes back to a place, and changes neither the flag nor the recorded errors.
     fn reset(&mut self, checkpoint: &Self::Checkpoint)
-        requires { Remains (view self.old).left (seen checkpoint.now) }
         ensures { view self.new ≡ back_at (seen checkpoint.now) (view self.old) };
 
     /// How many units lie between a place and the present one. The caller owes an earlier place of
@@ -177,12 +176,8 @@ pub trait Location: Stream {
 /// b"abc".as_slice().update_slice(b"b".as_slice())   is b"b"
 /// ```
 pub trait UpdateSlice: Stream {
-    // What the caller owes.
-    ghost can_update: { Self → Self.Slice → Type 0 } = { λ _ _. ⊤ };
-
-    /// A stream over `slice`, with the same flag, which ends where this one begins. The caller owes
-    /// a stream that knows its place a slice of no more units than were passed.
+    /// A stream over `slice`, with the same flag. Where the slice is what was just taken of this
+    /// stream, it begins where that did; at which place it begins otherwise is not promised.
     fn update_slice(self, slice: Self::Slice) -> Self
-        requires { can_update self slice }
         ensures { IsUpdate Self.reading (Self.view self) slice (Self.view result) };
 }

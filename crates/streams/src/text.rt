@@ -12,11 +12,9 @@
 //! input.next_slice(2)   is "é", and "€" is left
 //! ```
 ghost use Rattle.std.specs.Prelude.{◌≡◌, false, refl};
-ghost use Rattle.std.specs.List.{All};
-ghost use Rattle.std.specs.Char.{IsScalar};
 ghost use Rattle.std.specs.Str.{chars};
 ghost use Rattle.streams.specs.Input.{at_start};
-ghost use Rattle.streams.specs.Text.{text_input, text_reading, chars_left, chars_left_step};
+ghost use Rattle.streams.specs.Text.{text_follows, text_input, text_reading, chars_left, chars_left_step};
 
 use crate::needed::Needed;
 use crate::stream::{Stream, StreamIsPartial, UpdateSlice};
@@ -44,7 +42,7 @@ impl<'a> Stream for &'a str {
 
     ghost counts_missing = { false };
 
-    ghost can_follow = { All IsScalar };
+    ghost following = { text_follows };
 
     ghost offsets_left = { chars_left };
 
@@ -101,6 +99,8 @@ impl<'a> Stream for &'a str {
     #[inline(always)]
     fn finish(&mut self) -> &'a str {
         let all = *self;
+        // That a text is UTF-8 is known of its bytes.
+        let _bytes = all.as_bytes();
         *self = &all[all.len()..];
         all
     }

@@ -1,5 +1,6 @@
 //! A list of tokens as a stream.
-ghost use Rattle.std.specs.Prelude.{◌≡◌, [], true, false, refl, ⊤};
+ghost use Rattle.std.specs.Prelude.{◌≡◌, true, false, refl, ⊤};
+ghost use Rattle.streams.specs.Following.{none_follows};
 ghost use Rattle.streams.specs.Input.{at_start};
 ghost use Rattle.streams.specs.Counted.{counted_input, counted_reading};
 ghost use Rattle.streams.specs.TokenSlice.{tokens_of, tokens_left, tokens_left_step};
@@ -83,8 +84,8 @@ impl<'t, T> Stream for TokenSlice<'t, T> {
 
     ghost counts_missing = { true };
 
-    // A list of tokens is always whole: none follows it.
-    ghost can_follow = { λ more. more ≡ [] };
+    // A list of tokens is always whole.
+    ghost following = { none_follows };
 
     ghost offsets_left = { tokens_left };
 

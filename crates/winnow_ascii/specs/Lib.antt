@@ -1,2 +1,1 @@
-pub mod ClassRuns
-pub mod Classes
+pub mod Class

@@ -3,6 +3,7 @@
 
 mod classes;
 pub mod impls;
+mod members;
 
 pub use crate::ascii::classes::{
     alpha0, alpha1, alphanumeric0, alphanumeric1, digit0, digit1, hex_digit0, hex_digit1,

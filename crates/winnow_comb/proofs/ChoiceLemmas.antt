@@ -1,13 +1,14 @@
 -- The branches of a slice, one by one.
-use Rattle.std.proofs.Common.{◌≡◌, ℕ, ◌+◌, ◌<◌, List, [], ◌∷◌, ◌++◌, length, get_or, refl, sym, ap, ◌∙◌, subst, append_assoc, arith, inr, Err, length-append}
-use Rattle.std.specs.Prelude.{slice_set}
+use Rattle.std.proofs.Common.{◌≡◌, ℕ, ◌+◌, ◌<◌, List, [], ◌∷◌, ◌++◌, length, get_or, refl, sym, ap, ◌∙◌, subst, append_assoc, arith, inl, inr, Err, length-append}
+use Rattle.std.specs.Prelude.{slice_set, map}
+use mathlib.Core.List.{map-append}
 use Rattle.std.proofs.lemmas.List.{get_or_at, length_push}
 use Rattle.std.proofs.Math.Seq.{set-append_seam}
 use Rattle.streams.specs.Input.{Input, Left, back_at}
 use Rattle.streams.specs.Kind.{Kind, backtrack}
 use Rattle.stream_errors.specs.Form.{Answer}
-use Rattle.winnow_core.specs.Runs.{Runs}
-use Rattle.winnow_comb.specs.AltSlice.{Backtracked, AltSliceRuns}
+use Rattle.winnow_core.specs.Runs.{Runs, By}
+use Rattle.winnow_comb.specs.Alt.Slice.{Backtracked, AltSliceRuns}
 
 -- The first k branches backtracked, and the others are as they were: `m` is where the next one starts.
 pub record Earlier {S T O : Type 0} (run : Runs S T O) (orig now : List S) (i m : Input T) (k : ℕ) : Type 0 where
@@ -86,3 +87,15 @@ module _ {S T O : Type 0} (run : Runs S T O) (orig now : List S) (i m : Input T)
         r,
         (λ e. length-zero tail.0 (omega (arith, last e, ap (λ l. length l) now_split, length-append p.ran (item ∷ tail.0), p.count))),
       )
+
+backtracked_held : {P S T O : Type 0} (state : P → S) (run : Runs S T O) (start : Left T) (ps : List P) (i : Input T) (qs : List P) (j : Input T) → Backtracked (By state run) start ps i qs j → Backtracked run start (map state ps) i (map state qs) j
+backtracked_held state run start [] i [] j e = e
+backtracked_held state run start [] i (q ∷ qs) j h = absurd h
+backtracked_held state run start (p ∷ ps) i [] j h = absurd h
+backtracked_held state run start (p ∷ ps) i (q ∷ qs) j (m, r, h) = (m, r, backtracked_held state run start ps (back_at start m) qs j h)
+
+-- a choice among branches is one among what their states mean
+pub choice_held : {P S T O : Type 0} (state : P → S) (run : Runs S T O) (asserted : Kind) (ps : List P) (i : Input T) (answer : Answer O) (qs : List P) (j : Input T) → AltSliceRuns (By state run) asserted ps i answer qs j → AltSliceRuns run asserted (map state ps) i answer (map state qs) j
+choice_held state run asserted ps i answer qs j (inl (none, kept, e, same)) = inl (ap (λ l. map state l) none, ap (λ l. map state l) kept, e, same)
+choice_held state run asserted ps i answer qs j (inr (before, x, rest, ran, y, m, old, new, backtracked, r, last)) =
+    inr (map state before, state x, map state rest, map state ran, state y, m, ap (λ l. map state l) old ∙ map-append state before (x ∷ rest), ap (λ l. map state l) new ∙ map-append state ran (y ∷ rest), backtracked_held state run i.left before i ran m backtracked, r, λ e. ap (λ l. map state l) (last e))

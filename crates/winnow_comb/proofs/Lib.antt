@@ -1,3 +1,5 @@
 pub mod ChoiceLemmas
 pub mod ChoiceLaws
 pub mod RepeatLemmas
+mod RepetitionLaw
+mod ItemChoiceLaw

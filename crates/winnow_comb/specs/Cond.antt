@@ -2,13 +2,24 @@
 use Rattle.std.specs.Prelude.{◌≡◌, Bool, true, false, Option, Some, None, Ok, Err, ◌⊎◌}
 use Rattle.streams.specs.Kind.{Kind}
 use Rattle.winnow_core.specs.Runs.{Runs}
+use Rattle.winnow_comb.specs.declared.combinator.impls.cond.Cond.{Cond}
+pub mod Laws
 
--- A run of a child on a condition.
-abbrev pub CondRuns : {S T O : Type 0} → Bool → Runs S T O → Runs S T (Option O)
-CondRuns {S} {T} {O} condition run s i answer t j =
+-- whether it is run
+abbrev pub cond_condition : {P I O E : Type 0} → Cond P I O E → Bool
+cond_condition s = s.condition
+
+-- the parser that is run
+abbrev pub cond_parser : {P I O E : Type 0} → Cond P I O E → P
+cond_parser s = s.parser
+
+-- A run of a child on a condition, which stays as it is.
+abbrev pub CondRuns : {S T O : Type 0} → Runs S T O → Runs (S × Bool) T (Option O)
+CondRuns {S} {T} {O} run s i answer t j =
     -- it holds, and the child succeeds
-    ((o : O) × (condition ≡ true) × run s i (Ok o) t j × (answer ≡ Ok (Some o)))
+    (((o : O) × (s.1 ≡ true) × run s.0 i (Ok o) t.0 j × (answer ≡ Ok (Some o)))
     -- it holds, and the child fails
-    ⊎ (((k : Kind) × (condition ≡ true) × run s i (Err k) t j × (answer ≡ Err k))
+    ⊎ (((k : Kind) × (s.1 ≡ true) × run s.0 i (Err k) t.0 j × (answer ≡ Err k))
     -- it does not hold, and nothing is run
-    ⊎ ((condition ≡ false) × (answer ≡ Ok None) × (t ≡ s) × (j ≡ i)))
+    ⊎ ((s.1 ≡ false) × (answer ≡ Ok None) × (t.0 ≡ s.0) × (j ≡ i))))
+    × (t.1 ≡ s.1)

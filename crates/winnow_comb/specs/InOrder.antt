@@ -3,6 +3,7 @@ use Rattle.std.specs.Prelude.{◌≡◌, Ok, Err, ◌⊎◌}
 use Rattle.streams.specs.Input.{Input}
 use Rattle.streams.specs.Kind.{Kind}
 use Rattle.winnow_core.specs.Runs.{Runs}
+pub mod Laws
 
 -- A run of two children, the second where the first ended, to the first failure.
 abbrev pub BothRuns : {S1 S2 T O1 O2 O : Type 0} → (O1 → O2 → O) → Runs S1 T O1 → Runs S2 T O2 → Runs (S1 × S2) T O

@@ -1,7 +1,7 @@
 -- Laws of the combinators.
 use Rattle.std.specs.Prelude.{◌≡◌, Option, None, Ok, Err, ◌⊎◌, List, [], ◌∷◌}
 use Rattle.streams.specs.Input.{Input, Left, back_at}
-use Rattle.streams.specs.Kind.{backtrack}
+use Rattle.streams.specs.Kind.{Kind, backtrack}
 use Rattle.stream_errors.specs.Form.{Answer}
 use Rattle.winnow_core.specs.Runs.{Runs}
 
@@ -19,3 +19,15 @@ AnswersAsFirst start [] i answer j = ⊥
 AnswersAsFirst start (ran ∷ []) i answer j = ran i answer j
 AnswersAsFirst {T} {O} start (ran ∷ next ∷ more) i answer j =
     (ran i answer j × (answer ≡ Err backtrack → ⊥)) ⊎ ((m : Input T) × ran i (Err backtrack) m × AnswersAsFirst start (next ∷ more) (back_at start m) answer j)
+
+-- the runs of branches, each from its state to its new state
+abbrev pub branch_runs : {S T O : Type 0} → Runs S T O → List S → List S → List (Input T → Answer O → Input T → Type 0)
+branch_runs run [] ts = []
+branch_runs run (s ∷ ss) [] = []
+branch_runs run (s ∷ ss) (t ∷ ts) = (λ i answer j. run s i answer t j) ∷ branch_runs run ss ts
+
+-- Choices among the items of a list answer as the first that does not backtrack, or as the last one; with no item they are an assert error.
+abbrev pub ChoosesFirstItem : {S T O : Type 0} → Runs S T O → Kind → Runs (List S) T O → Type 0
+ChoosesFirstItem {S} {T} {O} run asserted chooses =
+    (s : List S) (i : Input T) (answer : Answer O) (t : List S) (j : Input T) → chooses s i answer t j
+    → ((s ≡ []) × (answer ≡ Err asserted) × (j ≡ i)) ⊎ AnswersAsFirst i.left (branch_runs run s t) i answer j

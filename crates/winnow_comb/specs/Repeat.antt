@@ -4,15 +4,20 @@ use Rattle.streams.specs.Input.{Input, back_at}
 use Rattle.streams.specs.Kind.{Kind, backtrack, memory}
 use Rattle.stream_errors.specs.Form.{Answer}
 use Rattle.winnow_core.specs.Runs.{Runs}
-use Rattle.stream_sets.specs.Range.{IsWithin, IsBelow}
+use Rattle.stream_sets.specs.declared.range.Range.{Range}
+use Rattle.stream_sets.specs.Range.{IsWithin, IsBelow, greatest_of}
 use Rattle.winnow_comb.specs.Chain.{Chain, Accumulates}
+use Rattle.stream_sets.specs.Accumulator.{Accumulator}
+use Rattle.winnow_comb.specs.declared.combinator.impls.repeat.Repeat.{Repeat}
+pub mod Laws
 
--- What an accumulator is to a repetition: the empty ones, how one takes an output, and when a request for memory may be refused.
-pub record Accumulator (C O : Type 0) : Type 1 where
-  pub starts : C → Type 0
-  pub takes : C → O → C → Type 0
-  pub start_grows : Type 0
-  pub grows : C → Type 0
+-- how often the parser is run
+abbrev pub repeat_occurrences : {P I O C E A : Type 0} → Repeat P I O C E A → Range
+repeat_occurrences s = s.occurrences
+
+-- the parser that is repeated
+abbrev pub repeat_parser : {P I O C E A : Type 0} → Repeat P I O C E A → P
+repeat_parser s = s.parser
 
 -- What ends a repetition of at least `least` items and at most the greatest number, behind the items of a chain.
 abbrev pub RepeatEnds : {S T O C : Type 0} → Runs S T O → Accumulator C O → Kind → ℕ → Option ℕ → C → List O → S → Input T → Answer C → S → Input T → Type 0
@@ -22,11 +27,11 @@ RepeatEnds {S} {T} {O} {C} run into asserted least greatest before outputs u m a
     -- an item backtracks and there are enough: back before it
     ⊎ (((all : C) × (x : Input T) × IsBelow greatest (length outputs) × (least ≤ length outputs) × run u m (Err backtrack) t x × Accumulates into.takes before outputs all × (answer ≡ Ok all) × (j ≡ back_at m.left x))
     -- an item fails: by another kind, or too early
-    ⊎ (((k : Kind) × IsBelow greatest (length outputs) × run u m (Err k) t j × (k ≡ backtrack → length outputs < least) × (answer ≡ Err k))
+    ⊎ (((k : Kind) × (some : C) × IsBelow greatest (length outputs) × run u m (Err k) t j × (k ≡ backtrack → length outputs < least) × Accumulates into.takes before outputs some × (answer ≡ Err k))
     -- an item consumes nothing
-    ⊎ (((o : O) × IsBelow greatest (length outputs) × run u m (Ok o) t j × (j.left.tokens ≡ m.left.tokens) × (answer ≡ Err asserted))
-    -- an item is one too many for the memory
-    ⊎ ((o : O) × (some : C) × IsBelow greatest (length outputs) × run u m (Ok o) t j × Accumulates into.takes before outputs some × into.grows some × (answer ≡ Err memory)))))
+    ⊎ (((o : O) × (some : C) × IsBelow greatest (length outputs) × run u m (Ok o) t j × (j.left.tokens ≡ m.left.tokens) × Accumulates into.takes before outputs some × (answer ≡ Err asserted))
+    -- an item consumes, and is one too many for the memory
+    ⊎ ((o : O) × (some : C) × IsBelow greatest (length outputs) × run u m (Ok o) t j × (length j.left.tokens < length m.left.tokens) × Accumulates into.takes before outputs some × into.grows some × (answer ≡ Err memory)))))
 
 -- A chain of items, and what ended it.
 abbrev pub ItemsRun : {S T O C : Type 0} → Runs S T O → Accumulator C O → Kind → ℕ → Option ℕ → C → S → Input T → Answer C → S → Input T → Type 0
@@ -39,9 +44,14 @@ RepeatOneRuns {S} {T} {O} {C} run into asserted s i answer t j =
     -- the first item fails
     ((k : Kind) × run s i (Err k) t j × (answer ≡ Err k))
     -- it is followed by others
-    ⊎ (((o : O) × (v : S) × (n : Input T) × (empty : C) × (one : C) × run s i (Ok o) v n × into.starts empty × into.takes empty o one × ItemsRun run into asserted 0 None one v n answer t j)
+    ⊎ (((o : O) × (v : S) × (n : Input T) × (empty : C) × (one : C) × run s i (Ok o) v n × into.starts None empty × into.takes empty o one × ItemsRun run into asserted 0 None one v n answer t j)
     -- there is no memory for an accumulator, or for the first item in it
-    ⊎ ((o : O) × run s i (Ok o) t j × (into.start_grows ⊎ ((empty : C) × into.starts empty × into.grows empty)) × (answer ≡ Err memory)))
+    ⊎ ((o : O) × run s i (Ok o) t j × (into.start_grows None ⊎ ((empty : C) × into.starts None empty × into.grows empty)) × (answer ≡ Err memory)))
+
+-- how many items an accumulator is made for: the least number, in a repetition with a greatest one
+abbrev pub capacity_of : ℕ → Option ℕ → Option ℕ
+capacity_of least None = None
+capacity_of least (Some most) = Some least
 
 -- At least `least` items and at most the greatest number.
 abbrev pub RepeatManyRuns : {S T O C : Type 0} → Runs S T O → Accumulator C O → Kind → ℕ → Option ℕ → S → Input T → Answer C → S → Input T → Type 0
@@ -49,12 +59,18 @@ RepeatManyRuns {S} {T} {O} {C} run into asserted least greatest s i answer t j =
     -- the greatest number is below the least
     ((most : ℕ) × (greatest ≡ Some most) × (most < least) × (answer ≡ Err asserted) × (t ≡ s) × (j ≡ i))
     -- there is no memory for an accumulator
-    ⊎ ((IsWithin greatest least × into.start_grows × (answer ≡ Err memory) × (t ≡ s) × (j ≡ i))
+    ⊎ ((IsWithin greatest least × into.start_grows (capacity_of least greatest) × (answer ≡ Err memory) × (t ≡ s) × (j ≡ i))
     -- the items
-    ⊎ ((empty : C) × IsWithin greatest least × into.starts empty × ItemsRun run into asserted least greatest empty s i answer t j))
+    ⊎ ((empty : C) × IsWithin greatest least × into.starts (capacity_of least greatest) empty × ItemsRun run into asserted least greatest empty s i answer t j))
 
 -- A repetition: the form `1..` has its own rule for the first item.
 abbrev pub RepeatRuns : {S T O C : Type 0} → Runs S T O → Accumulator C O → Kind → ℕ → Option ℕ → S → Input T → Answer C → S → Input T → Type 0
 RepeatRuns {S} {T} {O} {C} run into asserted least greatest s i answer t j =
     ((least ≡ 1) × (greatest ≡ None) × RepeatOneRuns run into asserted s i answer t j)
     ⊎ (((least ≡ 1) × (greatest ≡ None) → ⊥) × RepeatManyRuns run into asserted least greatest s i answer t j)
+
+-- A repetition as often as a range says, which stays as it is.
+abbrev pub RangedRuns : {S T O C : Type 0} → Runs S T O → Accumulator C O → Kind → Runs (S × Range) T C
+RangedRuns run into asserted s i answer t j =
+    RepeatRuns run into asserted s.1.start_inclusive (greatest_of s.1.start_inclusive s.1.end_inclusive) s.0 i answer t.0 j
+    × (t.1 ≡ s.1)

@@ -6,8 +6,6 @@ pub mod branch;
 pub mod impls;
 pub mod multi;
 pub mod sequence;
-#[cfg(test)]
-mod tests;
 
 pub use crate::combinator::basic::{backtrack_err, cond, cut_err, empty, fail, not, opt, peek};
 pub use crate::combinator::branch::alt;

@@ -1,11 +1,21 @@
 -- The parser behind a reference.
-use Rattle.std.specs.Prelude.{◌≡◌}
-use Rattle.streams.specs.Input.{Input}
-use Rattle.stream_errors.specs.Form.{Answer}
+use Rattle.std.specs.Prelude.{◌≡◌, ℕ}
 use Rattle.winnow_core.specs.Runs.{Runs}
-use Rattle.winnow_core.specs.Parts.{by_ref_name, by_ref_parser}
 use Rattle.winnow_core.specs.declared.combinator.impls.by_ref.ByRef.{ByRef}
+pub mod Laws
 
--- A run of the parser behind the reference, which stays where it is.
-abbrev pub ByRefRuns : {P I T O E : Type 0} → Runs P T O → ByRef P I O E → Input T → Answer O → ByRef P I O E → Input T → Type 0
-ByRefRuns run s i answer t j = run (by_ref_parser s) i answer (by_ref_parser t) j × (by_ref_name t ≡ by_ref_name s)
+-- the parser behind the reference
+abbrev pub by_ref_parser : {P I O E : Type 0} → ByRef P I O E → P
+by_ref_parser s = s.parser.now
+
+-- which reference it is
+abbrev pub by_ref_name : {P I O E : Type 0} → ByRef P I O E → ℕ
+by_ref_name s = s.parser.ghost_name
+
+-- A run of the parser behind the reference, which stays where it is: the state is that of the parser, and which reference it is.
+abbrev pub ByRefRuns : {S T O : Type 0} → Runs S T O → Runs (S × ℕ) T O
+ByRefRuns run s i answer t j = run s.0 i answer t.0 j × (t.1 ≡ s.1)
+
+-- Runs behind some reference.
+abbrev pub WithoutName : {S T O : Type 0} → Runs (S × ℕ) T O → Runs S T O
+WithoutName {S} {T} {O} run s i answer t j = (x : ℕ) × (y : ℕ) × run (s, x) i answer (t, y) j

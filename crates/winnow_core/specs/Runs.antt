@@ -1,12 +1,27 @@
--- What a run of a parser is.
+-- What a run of a parser is, and what a parser means.
+use Rattle.std.specs.Prelude.{◌≡◌}
 use Rattle.streams.specs.Input.{Input, IsEndOf}
 use Rattle.streams.specs.Reading.{Reading}
-use Rattle.stream_errors.specs.Form.{Answer}
+use Rattle.stream_errors.specs.Form.{Answer, ErrorForm}
 
 -- A run goes from a state and an input to an answer, a new state and a new input.
 abbrev pub Runs : Type 0 → Type 0 → Type 0 → Type 1
 Runs S T O = S → Input T → Answer O → S → Input T → Type 0
 
+-- What a parser means: its runs, by the form of its errors.
+abbrev pub Meaning : Type 0 → Type 0 → Type 0 → Type 1
+Meaning S T O = ErrorForm → Runs S T O
+
 -- Each run leaves an end of its input.
 abbrev pub LeaveEnds : {S T L O : Type 0} → Reading T L → Runs S T O → Type 0
-LeaveEnds {S} {T} {L} {O} reading run = (s : S) (i : Input T) (answer : Answer O) (t : S) (j : Input T) → run s i answer t j → IsEndOf reading j i
+LeaveEnds {S} {T} {L} {O} reading run =
+    (s : S) (i : Input T) (answer : Answer O) (t : S) (j : Input T)
+    → run s i answer t j → IsEndOf reading j i
+
+-- Runs that keep their state.
+abbrev pub Keeps : {S T O : Type 0} → (S → Input T → Answer O → Input T → Type 0) → Runs S T O
+Keeps runs s i answer t j = runs s i answer j × (t ≡ s)
+
+-- Runs over values, by the states of these.
+abbrev pub By : {P S T O : Type 0} → (P → S) → Runs S T O → Runs P T O
+By state run s i answer t j = run (state s) i answer (state t) j

@@ -1,9 +1,10 @@
 -- Sequences: one run of each child in order, each where the one before it ended, to the first that fails.
--- Written by scripts/families.py.
+-- Written by scripts/families.py: do not edit.
 use Rattle.std.specs.Prelude.{◌≡◌, ⊤, Ok, Err, ◌⊎◌}
 use Rattle.streams.specs.Input.{Input}
 use Rattle.streams.specs.Kind.{Kind}
 use Rattle.winnow_core.specs.Runs.{Runs}
+pub mod Laws
 
 -- no children: nothing is taken
 abbrev pub SequenceRuns0 : {T : Type 0} → Runs ⊤ T ⊤

@@ -5,9 +5,15 @@ use Rattle.streams.specs.Kind.{Kind}
 use Rattle.streams.specs.Reading.{Reading}
 use Rattle.stream_errors.specs.Form.{Answer}
 use Rattle.winnow_core.specs.Runs.{Runs}
+use Rattle.winnow_core.specs.declared.combinator.impls.take.Take.{Take}
+pub mod Laws
+
+-- the parser whose slice is answered
+abbrev pub take_parser : {F I O E : Type 0} → Take F I O E → F
+take_parser s = s.parser
 
 -- A run of the child, in whose place the tokens between its start and its end are answered.
-abbrev pub TakeRuns : {S T L O : Type 0} → Reading T L → Runs S T O → S → Input T → Answer L → S → Input T → Type 0
+abbrev pub TakeRuns : {S T L O : Type 0} → Reading T L → Runs S T O → Runs S T L
 TakeRuns {S} {T} {L} {O} reading run s i answer t j =
     -- the child succeeds
     ((o : O) × (front : List T) × (slice : L) × run s i (Ok o) t j × (i.left.tokens ≡ front ++ j.left.tokens) × reading.shows slice front × (answer ≡ Ok slice))

@@ -1,16 +1,15 @@
-//! The core of the parsers: the trait `Parser`, and the parsers of tokens.
+//! The core of the parsers: the trait `Parser` with its adapters, parsers by value, and sequences.
 //!
 //! A parser is proved to be its definition: each implementation of
-//! [`Parser`](crate::parser::Parser) says by its ghost member `run` which runs it has, by a
-//! definition of `specs/` with the parser's name, over the runs of its children.
+//! [`Parser`](crate::parser::Parser) says by its ghost member `meaning` which runs it has, by a
+//! definition of `specs/` with the parser's name, over the meanings of its children.
 #![tactic(auto)]
 
+pub mod agrees_with;
 pub mod combinator;
-pub mod complete;
 pub mod laws;
+pub mod literal;
 pub mod parser;
-#[cfg(test)]
-mod tests;
-pub mod token;
+pub mod short;
 
 pub use crate::parser::Parser;

@@ -1,13 +1,17 @@
 //! The trait of parsers.
 #![tactic(auto, using(streams::specs::Ends::ends_follow))]
 
-ghost use Rattle.std.specs.Prelude.{◌≡◌, false, ⊤};
-ghost use Rattle.streams.specs.Input.{Input, Left, Remains, IsEndOf};
-ghost use Rattle.stream_errors.specs.Form.{Answer, answer_by};
-ghost use Rattle.winnow_core.specs.Parts.{by_ref_name, by_ref_parser, map_parser, map_closure, verify_map_parser, verify_map_closure, void_parser, take_parser};
-ghost use Rattle.winnow_core.specs.Runs.{LeaveEnds};
-ghost use Rattle.winnow_core.specs.Peek.{PeekAnswers};
-ghost use Rattle.winnow_core.specs.Whole.{IsFaultAt, ParsesWhole};
+ghost use Rattle.std.specs.Prelude.{⊤, ◌≡◌, false};
+ghost use Rattle.stream_errors.specs.Form.{ErrorForm, answer_by};
+ghost use Rattle.streams.specs.Input.{IsEndOf, Remains};
+ghost use Rattle.winnow_core.specs.ByRef.{by_ref_name, by_ref_parser};
+ghost use Rattle.winnow_core.specs.Map.{map_closure, map_parser};
+ghost use Rattle.winnow_core.specs.Parse.{IsFaultAt, ParsesWhole};
+ghost use Rattle.winnow_core.specs.ParsePeek.{PeekAnswers};
+ghost use Rattle.winnow_core.specs.Runs.{LeaveEnds, Meaning};
+ghost use Rattle.winnow_core.specs.Take.{take_parser};
+ghost use Rattle.winnow_core.specs.VerifyMap.{verify_map_closure, verify_map_parser};
+ghost use Rattle.winnow_core.specs.Void.{void_parser};
 
 mod func;
 mod literals;
@@ -35,15 +39,22 @@ pub trait Parser<I: Stream, O, E: ParserError<I>> {
     // The states in which it may be run: closures in it may be called.
     ghost can_parse: { Self → Type 0 } = { λ _. ⊤ };
 
-    // Its runs: from a state and an input to an answer, a new state and a new input.
-    ghost run: { Self → Input I.Seen → Answer O → Self → Input I.Seen → Type 0 };
+    // Its states: what of a parser its runs depend on, as the children's states and the closures.
+    ghost State: { Type 0 };
+
+    // The state that a parser is in.
+    ghost state: { Self → State };
+
+    // What the parser means: by the form of its errors, its runs from a state and an input to an
+    // answer, a new state and a new input.
+    ghost meaning: { Meaning State I.Seen O };
 
     /// Takes tokens from the beginning of `input`. Whatever it answers, the input is left at an
     /// end of what it was, and where it stands after an error is said by each parser.
     fn parse_next(&mut self, input: &mut I) -> Result<O, E>
         requires { can_parse self.old }
         ensures again { can_parse self.new }
-        ensures ran { run self.old (I.view input.old) (answer_by E.kind result) self.new (I.view input.new) }
+        ensures ran { meaning E.form (state self.old) (I.view input.old) (answer_by E.kind result) (state self.new) (I.view input.new) }
         ensures ends { IsEndOf I.reading (I.view input.new) (I.view input.old) };
 
     /// Parses all of `input`: the parser is run, and then nothing may be left.
@@ -63,7 +74,7 @@ pub trait Parser<I: Stream, O, E: ParserError<I>> {
         requires callable { can_parse self.old }
         requires whole { I.supports_partial ≡ false }
         ensures again { can_parse self.new }
-        ensures ran { ParsesWhole I.view I.reading.units E.inner_kind (I.view input).left (λ answer j. run self.old (I.view input) answer self.new j) result }
+        ensures ran { ParsesWhole I.view I.reading.units E.inner_kind (I.view input).left (λ answer j. meaning E.form (state self.old) (I.view input) answer (state self.new) j) result }
     {
         let mut input = input;
         let start = input.checkpoint();
@@ -91,7 +102,7 @@ pub trait Parser<I: Stream, O, E: ParserError<I>> {
         Self: Sized,
         requires { can_parse self.old }
         ensures again { can_parse self.new }
-        ensures ran { PeekAnswers I.view E.kind (λ answer j. run self.old (I.view input) answer self.new j) result }
+        ensures ran { PeekAnswers I.view E.kind (λ answer j. meaning E.form (state self.old) (I.view input) answer (state self.new) j) result }
     {
         let mut input = input;
         match self.parse_next(&mut input) {
@@ -209,7 +220,7 @@ pub trait Parser<I: Stream, O, E: ParserError<I>> {
     }
 
     // Each run leaves an end of its input.
-    ghost leaves_ends: { LeaveEnds I.reading run };
+    ghost leaves_ends: { (form : ErrorForm) → LeaveEnds I.reading (meaning form) };
 }
 
 /// The fault of an error that arose where `input` stands.

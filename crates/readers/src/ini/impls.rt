@@ -1,5 +1,5 @@
 //! The parsers of a document's parts, as structs.
-ghost use Rattle.std.specs.Prelude.{◌≡◌};
+ghost use Rattle.std.specs.Prelude.{⊤, ◌≡◌};
 ghost use Rattle.readers.specs.DocumentRuns.{CategoryRuns, CommentRuns, GapRuns, KeyRuns, KeyValueRuns, MarkRuns, ValueRuns};
 
 use crate::ini::parts::{category, comment, gap, key, key_value, mark, value};
@@ -17,9 +17,13 @@ use winnow_core::parser::Parser;
 pub struct Category;
 
 impl<'i> Parser<&'i [u8], &'i str, ErrMode<InputError<&'i [u8]>>> for Category {
-    ghost run = { λ s i answer t j. CategoryRuns i answer j };
+    ghost State = { ⊤ };
 
-    ghost leaves_ends = { λ s i answer t j r. r.0 };
+    ghost state = { λ _. tt };
+
+    ghost meaning = { λ _ _ i answer _ j. CategoryRuns i answer j };
+
+    ghost leaves_ends = { λ form s i answer t j r. r.0 };
 
     fn parse_next(
         &mut self,
@@ -38,9 +42,13 @@ impl<'i> Parser<&'i [u8], &'i str, ErrMode<InputError<&'i [u8]>>> for Category {
 pub struct KeyValue;
 
 impl<'i> Parser<&'i [u8], (&'i str, &'i str), ErrMode<InputError<&'i [u8]>>> for KeyValue {
-    ghost run = { λ s i answer t j. KeyValueRuns i answer j };
+    ghost State = { ⊤ };
 
-    ghost leaves_ends = { λ s i answer t j r. r.0 };
+    ghost state = { λ _. tt };
+
+    ghost meaning = { λ _ _ i answer _ j. KeyValueRuns i answer j };
+
+    ghost leaves_ends = { λ form s i answer t j r. r.0 };
 
     fn parse_next(
         &mut self,
@@ -57,9 +65,13 @@ pub(super) struct Gap<A> {
 }
 
 impl<'i, A: Allocator + Copy> Parser<&'i [u8], (), ErrMode<InputError<&'i [u8]>>> for Gap<A> {
-    ghost run = { λ s i answer t j. GapRuns i answer j };
+    ghost State = { ⊤ };
 
-    ghost leaves_ends = { λ s i answer t j r. r.0 };
+    ghost state = { λ _. tt };
+
+    ghost meaning = { λ _ _ i answer _ j. GapRuns i answer j };
+
+    ghost leaves_ends = { λ form s i answer t j r. r.0 };
 
     fn parse_next(&mut self, input: &mut &'i [u8]) -> Result<(), ErrMode<InputError<&'i [u8]>>> {
         gap(self.alloc, input)
@@ -71,9 +83,13 @@ impl<'i, A: Allocator + Copy> Parser<&'i [u8], (), ErrMode<InputError<&'i [u8]>>
 pub(super) struct Comment;
 
 impl<'i> Parser<&'i [u8], (), ErrMode<InputError<&'i [u8]>>> for Comment {
-    ghost run = { λ s i answer t j. CommentRuns i answer j };
+    ghost State = { ⊤ };
 
-    ghost leaves_ends = { λ s i answer t j r. r.0 };
+    ghost state = { λ _. tt };
+
+    ghost meaning = { λ _ _ i answer _ j. CommentRuns i answer j };
+
+    ghost leaves_ends = { λ form s i answer t j r. r.0 };
 
     fn parse_next(&mut self, input: &mut &'i [u8]) -> Result<(), ErrMode<InputError<&'i [u8]>>> {
         comment(input)
@@ -85,9 +101,13 @@ impl<'i> Parser<&'i [u8], (), ErrMode<InputError<&'i [u8]>>> for Comment {
 pub(super) struct Key;
 
 impl<'i> Parser<&'i [u8], &'i str, ErrMode<InputError<&'i [u8]>>> for Key {
-    ghost run = { λ s i answer t j. KeyRuns i answer j };
+    ghost State = { ⊤ };
 
-    ghost leaves_ends = { λ s i answer t j r. r.0 };
+    ghost state = { λ _. tt };
+
+    ghost meaning = { λ _ _ i answer _ j. KeyRuns i answer j };
+
+    ghost leaves_ends = { λ form s i answer t j r. r.0 };
 
     fn parse_next(
         &mut self,
@@ -102,9 +122,13 @@ impl<'i> Parser<&'i [u8], &'i str, ErrMode<InputError<&'i [u8]>>> for Key {
 pub(super) struct Mark;
 
 impl<'i> Parser<&'i [u8], (), ErrMode<InputError<&'i [u8]>>> for Mark {
-    ghost run = { λ s i answer t j. MarkRuns i answer j };
+    ghost State = { ⊤ };
 
-    ghost leaves_ends = { λ s i answer t j r. r.0 };
+    ghost state = { λ _. tt };
+
+    ghost meaning = { λ _ _ i answer _ j. MarkRuns i answer j };
+
+    ghost leaves_ends = { λ form s i answer t j r. r.0 };
 
     fn parse_next(&mut self, input: &mut &'i [u8]) -> Result<(), ErrMode<InputError<&'i [u8]>>> {
         mark(input)
@@ -116,9 +140,13 @@ impl<'i> Parser<&'i [u8], (), ErrMode<InputError<&'i [u8]>>> for Mark {
 pub(super) struct Value;
 
 impl<'i> Parser<&'i [u8], &'i str, ErrMode<InputError<&'i [u8]>>> for Value {
-    ghost run = { λ s i answer t j. ValueRuns i answer j };
+    ghost State = { ⊤ };
 
-    ghost leaves_ends = { λ s i answer t j r. r.0 };
+    ghost state = { λ _. tt };
+
+    ghost meaning = { λ _ _ i answer _ j. ValueRuns i answer j };
+
+    ghost leaves_ends = { λ form s i answer t j r. r.0 };
 
     fn parse_next(
         &mut self,

@@ -16,7 +16,7 @@ use stream_sets::sets::Pred;
 use winnow_ascii::ascii::impls::{Alphanumeric1, Multispace1, Space0};
 use winnow_comb::combinator::{alt, delimited, opt, repeat, separated_pair, terminated};
 use winnow_core::parser::Parser;
-use winnow_core::token::take_while;
+use winnow_token::token::take_while;
 
 /// The bytes as text, where they are UTF-8.
 fn text(bytes: &[u8]) -> Option<&str>
@@ -48,25 +48,32 @@ fn value_text(bytes: &[u8]) -> Option<&str>
 /// The name of a section: `[`, bytes other than `]` and a line feed, `]`. The name is UTF-8, may be
 /// empty, and is a slice of the input; what follows `]` is left.
 ///
-/// It backtracks where no such name begins the input: the input then stands where `[` or `]` is
-/// missing, or at the start where the name is not UTF-8. It takes no memory.
+/// It backtracks where no such name begins the input, and leaves the input as it was. That is its
+/// only error: it takes no memory.
 ///
 /// As the example `ini` of winnow reads it, but that a name ends with its line.
 ///
 /// ```text
 /// ini::category(&mut b"[a]x".as_slice())   is Ok("a"), and b"x" is left
-/// ini::category(&mut b"a]".as_slice())     backtracks, and b"a]" is left
+/// ini::category(&mut b"[a".as_slice())     backtracks, and b"[a" is left
 /// ```
 pub fn category<'i>(input: &mut &'i [u8]) -> Result<&'i str, ErrMode<InputError<&'i [u8]>>>
     ensures { CategoryRuns (bytes_input input.old.now) (answer_by ⟦<ErrMode<InputError<&'i [u8]>> as HasKind>⟧.kind result) (bytes_input input.new.now) }
 {
-    delimited(
+    let at_name = *input;
+    let mut name = delimited(
         b'[',
         take_while(Range::from(0..), Pred(|b: u8| b != b']' && b != b'\n')),
         b']',
     )
-    .verify_map(text)
-    .parse_next(input)
+    .verify_map(text);
+    match name.parse_next(input) {
+        Ok(name) => Ok(name),
+        Err(error) => {
+            *input = at_name;
+            Err(error)
+        }
+    }
 }
 
 /// The key of a pair: ASCII letters and digits.
@@ -97,21 +104,28 @@ pub(super) fn value<'i>(input: &mut &'i [u8]) -> Result<&'i str, ErrMode<InputEr
 /// bytes before the next line feed, which is left. The value is UTF-8, without trailing spaces,
 /// tabs and carriage returns, and may be empty. Both are slices of the input.
 ///
-/// It backtracks where no such pair begins the input: the input then stands where the key or `=` is
-/// missing, or where a value begins that is not UTF-8. It takes no memory.
+/// It backtracks where no such pair begins the input, and leaves the input as it was. That is its
+/// only error: it takes no memory.
 ///
 /// As the example `ini` of winnow reads it, but that a value ends where its text does.
 ///
 /// ```text
 /// ini::key_value(&mut b"x = 1 ; c\n".as_slice())   is Ok(("x", "1")), and b"\n" is left
-/// ini::key_value(&mut b"x: 1".as_slice())          backtracks, and b": 1" is left
+/// ini::key_value(&mut b"x: 1".as_slice())          backtracks, and b"x: 1" is left
 /// ```
 pub fn key_value<'i>(
     input: &mut &'i [u8],
 ) -> Result<(&'i str, &'i str), ErrMode<InputError<&'i [u8]>>>
     ensures { KeyValueRuns (bytes_input input.old.now) (answer_by ⟦<ErrMode<InputError<&'i [u8]>> as HasKind>⟧.kind result) (bytes_input input.new.now) }
 {
-    terminated(separated_pair(Key, Mark, Value), opt(Comment)).parse_next(input)
+    let at_key = *input;
+    match terminated(separated_pair(Key, Mark, Value), opt(Comment)).parse_next(input) {
+        Ok(pair) => Ok(pair),
+        Err(error) => {
+            *input = at_key;
+            Err(error)
+        }
+    }
 }
 
 /// A comment: `;` and the bytes before the next line feed, which need not be text.

@@ -1,5 +1,5 @@
 //! Documents, section by section.
-ghost use Rattle.std.specs.Prelude.{◌≡◌, map, MatchResult};
+ghost use Rattle.std.specs.Prelude.{⊤, ◌≡◌, map, MatchResult};
 ghost use Rattle.readers.specs.Document.{HasSections, IsDocumentFault};
 ghost use Rattle.readers.specs.DocumentRuns.{DocumentRuns, PairsRuns, SectionRuns, SectionsRuns};
 ghost use Rattle.readers.specs.Sections.{pair_text, section_text};
@@ -43,9 +43,13 @@ impl<'i, A: Allocator + Copy> Parser<
     Vec<(&'i str, &'i str), A>,
     ErrMode<InputError<&'i [u8]>>,
 > for Pairs<A> {
-    ghost run = { λ s i answer t j. PairsRuns (λ all. map pair_text all.items) i answer j };
+    ghost State = { ⊤ };
 
-    ghost leaves_ends = { λ s i answer t j r. r.0 };
+    ghost state = { λ _. tt };
+
+    ghost meaning = { λ _ _ i answer _ j. PairsRuns (λ all. map pair_text all.items) i answer j };
+
+    ghost leaves_ends = { λ form s i answer t j r. r.0 };
 
     fn parse_next(
         &mut self,
@@ -64,9 +68,13 @@ struct SectionReader<A> {
 
 impl<'i, A: Allocator + Copy> Parser<&'i [u8], Section<'i, A>, ErrMode<InputError<&'i [u8]>>>
     for SectionReader<A> {
-    ghost run = { λ s i answer t j. SectionRuns section_text i answer j };
+    ghost State = { ⊤ };
 
-    ghost leaves_ends = { λ s i answer t j r. r.0 };
+    ghost state = { λ _. tt };
+
+    ghost meaning = { λ _ _ i answer _ j. SectionRuns section_text i answer j };
+
+    ghost leaves_ends = { λ form s i answer t j r. r.0 };
 
     fn parse_next(
         &mut self,
@@ -90,9 +98,13 @@ impl<'i, A: Allocator + Copy> Parser<
     Vec<Section<'i, A>, A>,
     ErrMode<InputError<&'i [u8]>>,
 > for Sections<A> {
-    ghost run = { λ s i answer t j. SectionsRuns (λ all. map section_text all.items) i answer j };
+    ghost State = { ⊤ };
 
-    ghost leaves_ends = { λ s i answer t j r. r.0 };
+    ghost state = { λ _. tt };
+
+    ghost meaning = { λ _ _ i answer _ j. SectionsRuns (λ all. map section_text all.items) i answer j };
+
+    ghost leaves_ends = { λ form s i answer t j r. r.0 };
 
     fn parse_next(
         &mut self,
@@ -114,9 +126,13 @@ impl<'i, A: Allocator + Copy> Parser<
     Vec<Section<'i, A>, A>,
     ErrMode<InputError<&'i [u8]>>,
 > for DocumentReader<A> {
-    ghost run = { λ s i answer t j. DocumentRuns (λ all. map section_text all.items) i answer j };
+    ghost State = { ⊤ };
 
-    ghost leaves_ends = { λ s i answer t j r. r.0 };
+    ghost state = { λ _. tt };
+
+    ghost meaning = { λ _ _ i answer _ j. DocumentRuns (λ all. map section_text all.items) i answer j };
+
+    ghost leaves_ends = { λ form s i answer t j r. r.0 };
 
     fn parse_next(
         &mut self,
@@ -135,8 +151,8 @@ impl<'i, A: Allocator + Copy> Parser<
 /// The answer is the sections in order, each with its pairs in order, repeats kept, as slices of the
 /// input. Other bytes are [`Fault::Refused`] at the place, in bytes from the start, where the first
 /// part begins that is no section, pair, white space or comment. Memory is taken for the lists
-/// alone, and [`Fault::NoMemory`] is answered where a request for it was refused. The input is read
-/// once, in a time that grows as its length does.
+/// alone, so for none where no section is read, and [`Fault::NoMemory`] is answered where a request
+/// for it was refused. The input is read once, in a time that grows as its length does.
 ///
 /// ```text
 /// ini::document(alloc, b"[a]\nx=1\n")   is Ok of the section "a" with the pair ("x", "1")

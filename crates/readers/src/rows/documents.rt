@@ -1,7 +1,7 @@
 //! Tables of documents.
 use crate::fault::Fault;
 use crate::ini::{category, document, key_value};
-use crate::rows::ran;
+use crate::rows::{answers, ran, same};
 use refusing::Refusing;
 use std::alloc::Global;
 use std::process::Abort;
@@ -9,10 +9,7 @@ use std::test::Fail;
 
 /// A run over a document writes these lines, or refuses it so, with this status.
 fn reads(rt: &impl Abort, alloc: Global, bytes: &[u8], lines: &str, error: &str, want: u8) {
-    let (status, output, errors) = ran(alloc, &["ini"], bytes);
-    assert_eq!(rt; output.as_slice(), lines.as_bytes(), "{bytes:?}");
-    assert_eq!(rt; errors.as_slice(), error.as_bytes(), "{bytes:?}");
-    assert_eq!(rt; status, want, "{bytes:?}");
+    answers(rt, alloc, (&["ini"], bytes), (lines, error, want));
 }
 
 #[test]
@@ -74,16 +71,29 @@ fn bytes_that_are_no_text(rt: HostRuntime) {
 
 #[test]
 fn parts(rt: HostRuntime) {
-    let mut rest = b"parameter=value;abc\nkey = value2".as_slice();
-    assert_eq!(rt; key_value(&mut rest).ok(), Some(("parameter", "value")));
-    assert_eq!(rt; rest, b"\nkey = value2".as_slice());
-
-    let mut rest = b"[category]\n\nparameter=value\nkey = value2".as_slice();
-    assert_eq!(rt; category(&mut rest).ok(), Some("category"));
-    assert_eq!(rt; rest, b"\n\nparameter=value\nkey = value2".as_slice());
-
-    assert!(rt; category(&mut b"a]".as_slice()).is_err());
-    assert!(rt; key_value(&mut b"a:b".as_slice()).is_err());
+    let pair = "parameter=value;abc\nkey = value2";
+    let name = "[category]\n\nparameter=value\nkey = value2";
+    for (text, want, left) in [
+        (pair, Some(("parameter", "value")), "\nkey = value2"),
+        ("a:b", None, "a:b"),
+        ("a =", Some(("a", "")), ""),
+        (" a=b", None, " a=b"),
+        ("a \n=", None, "a \n="),
+    ] {
+        let mut rest = text.as_bytes();
+        same(&rt, key_value(&mut rest).ok(), want, text);
+        same(&rt, rest, left.as_bytes(), text);
+    }
+    for (text, want, left) in [
+        (name, Some("category"), "\n\nparameter=value\nkey = value2"),
+        ("a]", None, "a]"),
+        ("[a", None, "[a"),
+        ("[a\n]", None, "[a\n]"),
+    ] {
+        let mut rest = text.as_bytes();
+        same(&rt, category(&mut rest).ok(), want, text);
+        same(&rt, rest, left.as_bytes(), text);
+    }
 }
 
 /// A document of a beginning and so many times a line: how many bytes it writes.
@@ -100,8 +110,8 @@ fn written(
         bytes.extend_from_slice(line)?;
     }
     let (status, output, errors) = ran(alloc, &["ini"], bytes.as_slice());
-    assert_eq!(rt; errors.len(), 0);
-    assert_eq!(rt; status, 0);
+    same(rt, errors.len(), 0, "no error");
+    same(rt, status, 0, "written");
     Ok(output.len())
 }
 
@@ -110,42 +120,49 @@ fn sizes(rt: HostRuntime) -> Result<(), Fail> {
     let alloc = rt.alloc();
     // 1 MiB of pairs in one section, each line `k: v` and a line feed
     let written_pairs = written(&rt, alloc, b"[a]\n", b"k=v\n", 262_143)?;
-    assert_eq!(rt; written_pairs, 10 + 262_143 * 5);
+    same(&rt, written_pairs, 10 + 262_143 * 5, "pairs");
     let written_sections = written(&rt, alloc, b"", b"[a]\n", 100_000)?;
-    assert_eq!(rt; written_sections, 100_000 * 10);
+    same(&rt, written_sections, 100_000 * 10, "sections");
     let written_comment = written(&rt, alloc, b";", b"c", 1_048_575)?;
-    assert_eq!(rt; written_comment, 0);
+    same(&rt, written_comment, 0, "a comment");
     let written_line = written(&rt, alloc, b"[a]k=", b"v", 1_048_571)?;
-    assert_eq!(rt; written_line, 10 + 3 + 1_048_571 + 1);
+    same(&rt, written_line, 10 + 3 + 1_048_571 + 1, "a line");
 
     let mut longest = vec![in alloc; b' '; 1_048_577]?;
-    let (status, output, errors) = ran(alloc, &["ini"], longest.as_slice());
-    assert_eq!(rt; status, 2);
-    assert_eq!(rt; output.len(), 0);
-    assert_eq!(rt; errors.as_slice(), b"input too long\n".as_slice());
+    reads(&rt, alloc, longest.as_slice(), "", "input too long\n", 2);
     let _last = longest.pop();
     reads(&rt, alloc, longest.as_slice(), "", "", 0);
     Ok(())
 }
 
+/// How many sections a document has, where the n-th request for memory is refused; and whether one
+/// was.
+fn counted(alloc: Global, n: u64, text: &str) -> (Result<usize, Fault>, bool) {
+    let heap = Refusing::once(alloc, n);
+    let got = match document(&heap, text.as_bytes()) {
+        Ok(sections) => Ok(sections.len()),
+        Err(fault) => Err(fault),
+    };
+    (got, heap.met())
+}
+
 #[test]
 fn refused_lists(rt: HostRuntime) {
-    let text = b"[a]\nx=1\ny=2\nz=3\n[b]\n[c]\nx=1\n".as_slice();
-    let mut is_done = false;
-    for n in 0..100u64 {
-        let heap = Refusing::once(rt.alloc(), n);
-        let result = document(&heap, text);
-        let got = match &result {
-            Ok(sections) => Ok(sections.len()),
-            Err(fault) => Err(*fault),
-        };
-        if !heap.met() {
-            assert!(rt; n > 0, "memory is asked for");
-            assert_eq!(rt; got, Ok(3));
-            is_done = true;
-            break;
+    for (text, sections) in [
+        ("[a]\r\nx = 1 ; c\n\n[b]\n", 2),
+        ("[a]\nx=1\ny=2\nz=3\n[b]\n[c]\nx=1\n", 3),
+    ] {
+        let mut is_done = false;
+        for n in 0..100u64 {
+            let (got, is_refused) = counted(rt.alloc(), n, text);
+            if !is_refused {
+                assert!(rt; n > 0, "memory is asked for");
+                same(&rt, got, Ok(sections), text);
+                is_done = true;
+                break;
+            }
+            same(&rt, got, Err(Fault::NoMemory), text);
         }
-        assert_eq!(rt; got, Err(Fault::NoMemory), "refused at {n}");
+        assert!(rt; is_done);
     }
-    assert!(rt; is_done);
 }

@@ -3,7 +3,10 @@ ghost use Rattle.std.specs.Prelude.{◌≡◌, [], ◌∷◌, ◌⊎◌, length}
 ghost use Rattle.std.specs.Char.{encode_utf8};
 ghost use Rattle.std.specs.Str.{IsUtf8};
 ghost use Rattle.stream_sets.specs.FindSlice.{FindsSlice};
+ghost use Rattle.stream_sets.specs.FirstMatch.{literal_stays, two_stay, three_stay, two_characters_stay, three_characters_stay};
 ghost use Rattle.stream_sets.specs.Three.{IsOneOfThree};
+ghost use Rattle.streams.specs.Bytes.{bytes_reading};
+ghost use Rattle.streams.specs.Text.{text_reading};
 
 use crate::find::FindSlice;
 use crate::find::several::find_several;
@@ -31,6 +34,8 @@ impl<'a> FindSlice<(char,)> for &'a [u8] {
     fn find_slice(&self, substr: (char,)) -> Option<ops::Range<usize>> {
         self.find_slice(substr.0)
     }
+
+    ghost stays_first = { λ t. literal_stays bytes_reading (encode_utf8 t.0) };
 }
 
 /// A character stands for the bytes of its UTF-8.
@@ -41,6 +46,8 @@ impl<'a> FindSlice<(char, char)> for &'a [u8] {
     fn find_slice(&self, substr: (char, char)) -> Option<ops::Range<usize>> {
         find_characters(*self, substr.0, substr.1, substr.1)
     }
+
+    ghost stays_first = { λ t. two_characters_stay bytes_reading t.0 t.1 };
 }
 
 /// A character stands for the bytes of its UTF-8.
@@ -51,6 +58,8 @@ impl<'a> FindSlice<(char, char, char)> for &'a [u8] {
     fn find_slice(&self, substr: (char, char, char)) -> Option<ops::Range<usize>> {
         find_characters(*self, substr.0, substr.1, substr.2)
     }
+
+    ghost stays_first = { λ t. three_characters_stay bytes_reading t.0 t.1 t.2 };
 }
 
 impl<'a> FindSlice<(char,)> for &'a str {
@@ -60,6 +69,8 @@ impl<'a> FindSlice<(char,)> for &'a str {
     fn find_slice(&self, substr: (char,)) -> Option<ops::Range<usize>> {
         self.find_slice(substr.0)
     }
+
+    ghost stays_first = { λ t. literal_stays text_reading (t.0 ∷ []) };
 }
 
 impl<'a> FindSlice<(char, char)> for &'a str {
@@ -69,6 +80,8 @@ impl<'a> FindSlice<(char, char)> for &'a str {
     fn find_slice(&self, substr: (char, char)) -> Option<ops::Range<usize>> {
         find_characters(self.as_bytes(), substr.0, substr.1, substr.1)
     }
+
+    ghost stays_first = { λ t. two_stay text_reading t.0 t.1 };
 }
 
 impl<'a> FindSlice<(char, char, char)> for &'a str {
@@ -78,4 +91,6 @@ impl<'a> FindSlice<(char, char, char)> for &'a str {
     fn find_slice(&self, substr: (char, char, char)) -> Option<ops::Range<usize>> {
         find_characters(self.as_bytes(), substr.0, substr.1, substr.2)
     }
+
+    ghost stays_first = { λ t. three_stay text_reading t.0 t.1 t.2 };
 }

@@ -1,6 +1,8 @@
 //! Searches of text: a literal stands for its characters.
 ghost use Rattle.std.specs.Prelude.{◌≡◌, [], ◌∷◌};
 ghost use Rattle.std.specs.Str.{chars};
+ghost use Rattle.streams.specs.Text.{text_reading};
+ghost use Rattle.stream_sets.specs.FirstMatch.{literal_stays};
 
 use crate::find::{FindSlice, find_bytes};
 use std::ops;
@@ -12,6 +14,8 @@ impl<'a, 'b> FindSlice<&'b str> for &'a str {
     fn find_slice(&self, substr: &'b str) -> Option<ops::Range<usize>> {
         find_bytes(self.as_bytes(), substr.as_bytes())
     }
+
+    ghost stays_first = { λ s. literal_stays text_reading (chars s.now) };
 }
 
 impl<'a> FindSlice<char> for &'a str {
@@ -22,4 +26,6 @@ impl<'a> FindSlice<char> for &'a str {
         let mut buffer = [0; 4];
         find_bytes(self.as_bytes(), substr.encode_utf8(&mut buffer).as_bytes())
     }
+
+    ghost stays_first = { λ c. literal_stays text_reading (c ∷ []) };
 }

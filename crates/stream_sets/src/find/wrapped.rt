@@ -11,6 +11,8 @@ impl<T, I: FindSlice<T>> FindSlice<T> for Partial<I> {
     fn find_slice(&self, substr: T) -> Option<ops::Range<usize>> {
         self.as_inner().find_slice(substr)
     }
+
+    ghost stays_first = { I.stays_first };
 }
 
 impl<T, I: FindSlice<T>> FindSlice<T> for LocatingSlice<I> {
@@ -20,4 +22,6 @@ impl<T, I: FindSlice<T>> FindSlice<T> for LocatingSlice<I> {
     fn find_slice(&self, substr: T) -> Option<ops::Range<usize>> {
         self.as_inner().find_slice(substr)
     }
+
+    ghost stays_first = { I.stays_first };
 }

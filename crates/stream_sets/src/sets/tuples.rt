@@ -1,6 +1,6 @@
 //! Tuples of sets: a token is a member where one of the sets has it, which are asked in order.
 //!
-//! Written by scripts/families.py.
+//! Written by scripts/families.py: do not edit.
 ghost use Rattle.stream_sets.specs.Sets.{EitherTells};
 
 use crate::sets::ContainsToken;

@@ -1,19 +1,18 @@
 //! Parsers of ASCII's classes of characters.
 //!
-//! Written by scripts/families.py.
-ghost use Rattle.streams.specs.Input.{IsEndOf};
+//! Written by scripts/families.py: do not edit.
 ghost use Rattle.stream_errors.specs.Form.{answer_by};
-ghost use Rattle.winnow_ascii.specs.Classes.{Alpha0Runs, Alpha1Runs, Digit0Runs, Digit1Runs, HexDigit0Runs, HexDigit1Runs, OctDigit0Runs, OctDigit1Runs, Alphanumeric0Runs, Alphanumeric1Runs, Space0Runs, Space1Runs, Multispace0Runs, Multispace1Runs};
+ghost use Rattle.stream_sets.specs.AsChar.{IsAlpha, IsDecDigit, IsHexDigit, IsOctDigit, IsAlphanum, IsSpace, IsMultispace};
+ghost use Rattle.streams.specs.Input.{IsEndOf};
+ghost use Rattle.winnow_ascii.specs.Class.{ClassRuns};
 
+use crate::ascii::members::{any_of, some_of};
 use stream_errors::parser_error::ParserError;
 use stream_sets::as_char::AsChar;
 use stream_sets::classes::{
     Alphanumerics, DecimalDigits, HexadecimalDigits, Letters, Multispaces, OctalDigits, Spaces,
 };
-use stream_sets::range::Range;
 use streams::stream::StreamIsPartial;
-use winnow_core::parser::Parser;
-use winnow_core::token::take_while;
 
 /// The longest beginning of ASCII letters, none too; the output is the slice of the input.
 ///
@@ -30,10 +29,10 @@ where
     Input: StreamIsPartial,
     Input::Token: AsChar,
     Error: ParserError<Input>,
-    ensures ran { Alpha0Runs Input.Token.code Input.seen_as Input.reading Error.form (Input.view input.old) (answer_by Error.kind result) (Input.view input.new) }
+    ensures ran { ClassRuns IsAlpha 0 Input.Token.code Input.seen_as Input.reading Error.form (Input.view input.old) (answer_by Error.kind result) (Input.view input.new) }
     ensures ends { IsEndOf Input.reading (Input.view input.new) (Input.view input.old) }
 {
-    take_while::<_, Input, Error>(Range::from(0..), Letters).parse_next(input)
+    any_of(input, Letters)
 }
 
 /// The longest beginning of ASCII letters, at least one; the output is the slice of the input.
@@ -52,10 +51,10 @@ where
     Input: StreamIsPartial,
     Input::Token: AsChar,
     Error: ParserError<Input>,
-    ensures ran { Alpha1Runs Input.Token.code Input.seen_as Input.reading Error.form (Input.view input.old) (answer_by Error.kind result) (Input.view input.new) }
+    ensures ran { ClassRuns IsAlpha 1 Input.Token.code Input.seen_as Input.reading Error.form (Input.view input.old) (answer_by Error.kind result) (Input.view input.new) }
     ensures ends { IsEndOf Input.reading (Input.view input.new) (Input.view input.old) }
 {
-    take_while::<_, Input, Error>(Range::from(1..), Letters).parse_next(input)
+    some_of(input, Letters)
 }
 
 /// The longest beginning of ASCII digits, none too; the output is the slice of the input.
@@ -73,10 +72,10 @@ where
     Input: StreamIsPartial,
     Input::Token: AsChar,
     Error: ParserError<Input>,
-    ensures ran { Digit0Runs Input.Token.code Input.seen_as Input.reading Error.form (Input.view input.old) (answer_by Error.kind result) (Input.view input.new) }
+    ensures ran { ClassRuns IsDecDigit 0 Input.Token.code Input.seen_as Input.reading Error.form (Input.view input.old) (answer_by Error.kind result) (Input.view input.new) }
     ensures ends { IsEndOf Input.reading (Input.view input.new) (Input.view input.old) }
 {
-    take_while::<_, Input, Error>(Range::from(0..), DecimalDigits).parse_next(input)
+    any_of(input, DecimalDigits)
 }
 
 /// The longest beginning of ASCII digits, at least one; the output is the slice of the input.
@@ -95,10 +94,10 @@ where
     Input: StreamIsPartial,
     Input::Token: AsChar,
     Error: ParserError<Input>,
-    ensures ran { Digit1Runs Input.Token.code Input.seen_as Input.reading Error.form (Input.view input.old) (answer_by Error.kind result) (Input.view input.new) }
+    ensures ran { ClassRuns IsDecDigit 1 Input.Token.code Input.seen_as Input.reading Error.form (Input.view input.old) (answer_by Error.kind result) (Input.view input.new) }
     ensures ends { IsEndOf Input.reading (Input.view input.new) (Input.view input.old) }
 {
-    take_while::<_, Input, Error>(Range::from(1..), DecimalDigits).parse_next(input)
+    some_of(input, DecimalDigits)
 }
 
 /// The longest beginning of hexadecimal digits, in either case, none too; the output is the slice
@@ -117,10 +116,10 @@ where
     Input: StreamIsPartial,
     Input::Token: AsChar,
     Error: ParserError<Input>,
-    ensures ran { HexDigit0Runs Input.Token.code Input.seen_as Input.reading Error.form (Input.view input.old) (answer_by Error.kind result) (Input.view input.new) }
+    ensures ran { ClassRuns IsHexDigit 0 Input.Token.code Input.seen_as Input.reading Error.form (Input.view input.old) (answer_by Error.kind result) (Input.view input.new) }
     ensures ends { IsEndOf Input.reading (Input.view input.new) (Input.view input.old) }
 {
-    take_while::<_, Input, Error>(Range::from(0..), HexadecimalDigits).parse_next(input)
+    any_of(input, HexadecimalDigits)
 }
 
 /// The longest beginning of hexadecimal digits, in either case, at least one; the output is the
@@ -140,10 +139,10 @@ where
     Input: StreamIsPartial,
     Input::Token: AsChar,
     Error: ParserError<Input>,
-    ensures ran { HexDigit1Runs Input.Token.code Input.seen_as Input.reading Error.form (Input.view input.old) (answer_by Error.kind result) (Input.view input.new) }
+    ensures ran { ClassRuns IsHexDigit 1 Input.Token.code Input.seen_as Input.reading Error.form (Input.view input.old) (answer_by Error.kind result) (Input.view input.new) }
     ensures ends { IsEndOf Input.reading (Input.view input.new) (Input.view input.old) }
 {
-    take_while::<_, Input, Error>(Range::from(1..), HexadecimalDigits).parse_next(input)
+    some_of(input, HexadecimalDigits)
 }
 
 /// The longest beginning of octal digits, none too; the output is the slice of the input.
@@ -161,10 +160,10 @@ where
     Input: StreamIsPartial,
     Input::Token: AsChar,
     Error: ParserError<Input>,
-    ensures ran { OctDigit0Runs Input.Token.code Input.seen_as Input.reading Error.form (Input.view input.old) (answer_by Error.kind result) (Input.view input.new) }
+    ensures ran { ClassRuns IsOctDigit 0 Input.Token.code Input.seen_as Input.reading Error.form (Input.view input.old) (answer_by Error.kind result) (Input.view input.new) }
     ensures ends { IsEndOf Input.reading (Input.view input.new) (Input.view input.old) }
 {
-    take_while::<_, Input, Error>(Range::from(0..), OctalDigits).parse_next(input)
+    any_of(input, OctalDigits)
 }
 
 /// The longest beginning of octal digits, at least one; the output is the slice of the input.
@@ -183,10 +182,10 @@ where
     Input: StreamIsPartial,
     Input::Token: AsChar,
     Error: ParserError<Input>,
-    ensures ran { OctDigit1Runs Input.Token.code Input.seen_as Input.reading Error.form (Input.view input.old) (answer_by Error.kind result) (Input.view input.new) }
+    ensures ran { ClassRuns IsOctDigit 1 Input.Token.code Input.seen_as Input.reading Error.form (Input.view input.old) (answer_by Error.kind result) (Input.view input.new) }
     ensures ends { IsEndOf Input.reading (Input.view input.new) (Input.view input.old) }
 {
-    take_while::<_, Input, Error>(Range::from(1..), OctalDigits).parse_next(input)
+    some_of(input, OctalDigits)
 }
 
 /// The longest beginning of ASCII letters and digits, none too; the output is the slice of the
@@ -205,10 +204,10 @@ where
     Input: StreamIsPartial,
     Input::Token: AsChar,
     Error: ParserError<Input>,
-    ensures ran { Alphanumeric0Runs Input.Token.code Input.seen_as Input.reading Error.form (Input.view input.old) (answer_by Error.kind result) (Input.view input.new) }
+    ensures ran { ClassRuns IsAlphanum 0 Input.Token.code Input.seen_as Input.reading Error.form (Input.view input.old) (answer_by Error.kind result) (Input.view input.new) }
     ensures ends { IsEndOf Input.reading (Input.view input.new) (Input.view input.old) }
 {
-    take_while::<_, Input, Error>(Range::from(0..), Alphanumerics).parse_next(input)
+    any_of(input, Alphanumerics)
 }
 
 /// The longest beginning of ASCII letters and digits, at least one; the output is the slice of the
@@ -228,10 +227,10 @@ where
     Input: StreamIsPartial,
     Input::Token: AsChar,
     Error: ParserError<Input>,
-    ensures ran { Alphanumeric1Runs Input.Token.code Input.seen_as Input.reading Error.form (Input.view input.old) (answer_by Error.kind result) (Input.view input.new) }
+    ensures ran { ClassRuns IsAlphanum 1 Input.Token.code Input.seen_as Input.reading Error.form (Input.view input.old) (answer_by Error.kind result) (Input.view input.new) }
     ensures ends { IsEndOf Input.reading (Input.view input.new) (Input.view input.old) }
 {
-    take_while::<_, Input, Error>(Range::from(1..), Alphanumerics).parse_next(input)
+    some_of(input, Alphanumerics)
 }
 
 /// The longest beginning of spaces and tabs, none too; the output is the slice of the input.
@@ -249,10 +248,10 @@ where
     Input: StreamIsPartial,
     Input::Token: AsChar,
     Error: ParserError<Input>,
-    ensures ran { Space0Runs Input.Token.code Input.seen_as Input.reading Error.form (Input.view input.old) (answer_by Error.kind result) (Input.view input.new) }
+    ensures ran { ClassRuns IsSpace 0 Input.Token.code Input.seen_as Input.reading Error.form (Input.view input.old) (answer_by Error.kind result) (Input.view input.new) }
     ensures ends { IsEndOf Input.reading (Input.view input.new) (Input.view input.old) }
 {
-    take_while::<_, Input, Error>(Range::from(0..), Spaces).parse_next(input)
+    any_of(input, Spaces)
 }
 
 /// The longest beginning of spaces and tabs, at least one; the output is the slice of the input.
@@ -271,10 +270,10 @@ where
     Input: StreamIsPartial,
     Input::Token: AsChar,
     Error: ParserError<Input>,
-    ensures ran { Space1Runs Input.Token.code Input.seen_as Input.reading Error.form (Input.view input.old) (answer_by Error.kind result) (Input.view input.new) }
+    ensures ran { ClassRuns IsSpace 1 Input.Token.code Input.seen_as Input.reading Error.form (Input.view input.old) (answer_by Error.kind result) (Input.view input.new) }
     ensures ends { IsEndOf Input.reading (Input.view input.new) (Input.view input.old) }
 {
-    take_while::<_, Input, Error>(Range::from(1..), Spaces).parse_next(input)
+    some_of(input, Spaces)
 }
 
 /// The longest beginning of spaces, tabs, carriage returns and line feeds, none too; the output is
@@ -293,10 +292,10 @@ where
     Input: StreamIsPartial,
     Input::Token: AsChar,
     Error: ParserError<Input>,
-    ensures ran { Multispace0Runs Input.Token.code Input.seen_as Input.reading Error.form (Input.view input.old) (answer_by Error.kind result) (Input.view input.new) }
+    ensures ran { ClassRuns IsMultispace 0 Input.Token.code Input.seen_as Input.reading Error.form (Input.view input.old) (answer_by Error.kind result) (Input.view input.new) }
     ensures ends { IsEndOf Input.reading (Input.view input.new) (Input.view input.old) }
 {
-    take_while::<_, Input, Error>(Range::from(0..), Multispaces).parse_next(input)
+    any_of(input, Multispaces)
 }
 
 /// The longest beginning of spaces, tabs, carriage returns and line feeds, at least one; the output
@@ -316,8 +315,8 @@ where
     Input: StreamIsPartial,
     Input::Token: AsChar,
     Error: ParserError<Input>,
-    ensures ran { Multispace1Runs Input.Token.code Input.seen_as Input.reading Error.form (Input.view input.old) (answer_by Error.kind result) (Input.view input.new) }
+    ensures ran { ClassRuns IsMultispace 1 Input.Token.code Input.seen_as Input.reading Error.form (Input.view input.old) (answer_by Error.kind result) (Input.view input.new) }
     ensures ends { IsEndOf Input.reading (Input.view input.new) (Input.view input.old) }
 {
-    take_while::<_, Input, Error>(Range::from(1..), Multispaces).parse_next(input)
+    some_of(input, Multispaces)
 }

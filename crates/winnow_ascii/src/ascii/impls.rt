@@ -1,7 +1,32 @@
 //! The parsers of the module above, as structs.
-mod classes;
+//!
+//! Written by scripts/families.py: do not edit.
+mod alpha0;
+mod alpha1;
+mod alphanumeric0;
+mod alphanumeric1;
+mod digit0;
+mod digit1;
+mod hex_digit0;
+mod hex_digit1;
+mod multispace0;
+mod multispace1;
+mod oct_digit0;
+mod oct_digit1;
+mod space0;
+mod space1;
 
-pub use crate::ascii::impls::classes::{
-    Alpha0, Alpha1, Alphanumeric0, Alphanumeric1, Digit0, Digit1, HexDigit0, HexDigit1,
-    Multispace0, Multispace1, OctDigit0, OctDigit1, Space0, Space1,
-};
+pub use crate::ascii::impls::alpha0::Alpha0;
+pub use crate::ascii::impls::alpha1::Alpha1;
+pub use crate::ascii::impls::alphanumeric0::Alphanumeric0;
+pub use crate::ascii::impls::alphanumeric1::Alphanumeric1;
+pub use crate::ascii::impls::digit0::Digit0;
+pub use crate::ascii::impls::digit1::Digit1;
+pub use crate::ascii::impls::hex_digit0::HexDigit0;
+pub use crate::ascii::impls::hex_digit1::HexDigit1;
+pub use crate::ascii::impls::multispace0::Multispace0;
+pub use crate::ascii::impls::multispace1::Multispace1;
+pub use crate::ascii::impls::oct_digit0::OctDigit0;
+pub use crate::ascii::impls::oct_digit1::OctDigit1;
+pub use crate::ascii::impls::space0::Space0;
+pub use crate::ascii::impls::space1::Space1;

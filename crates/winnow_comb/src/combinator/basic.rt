@@ -1,10 +1,15 @@
 //! Combinators of one parser, and parsers that take nothing.
 ghost use Rattle.std.specs.Prelude.{◌≡◌};
-ghost use Rattle.streams.specs.Input.{IsEndOf};
 ghost use Rattle.stream_errors.specs.Form.{answer_by};
+ghost use Rattle.streams.specs.Input.{IsEndOf};
+ghost use Rattle.winnow_comb.specs.BacktrackErr.{backtrack_err_parser};
+ghost use Rattle.winnow_comb.specs.Cond.{cond_condition, cond_parser};
+ghost use Rattle.winnow_comb.specs.CutErr.{cut_err_parser};
 ghost use Rattle.winnow_comb.specs.Empty.{EmptyRuns};
 ghost use Rattle.winnow_comb.specs.Fail.{FailRuns};
-ghost use Rattle.winnow_comb.specs.Parts.{opt_parser, cond_condition, cond_parser, peek_parser, not_parser, cut_err_parser, backtrack_err_parser};
+ghost use Rattle.winnow_comb.specs.Not.{not_parser};
+ghost use Rattle.winnow_comb.specs.Opt.{opt_parser};
+ghost use Rattle.winnow_comb.specs.Peek.{peek_parser};
 
 use crate::combinator::impls::{BacktrackErr, Cond, CutErr, Not, Opt, Peek};
 use std::marker::PhantomData;

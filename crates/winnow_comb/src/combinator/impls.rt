@@ -1,15 +1,30 @@
-//! The parsers that the combinators make.
-pub mod basic;
-pub mod branch;
-mod complete;
-pub mod delimited;
-pub mod repeat;
-pub mod sequence;
+//! The parsers of the module above, as structs.
+mod alt;
+mod backtrack_err;
+mod cond;
+mod cut_err;
+mod delimited;
+mod empty;
+mod fail;
+mod not;
+mod opt;
+mod peek;
+mod preceded;
+mod repeat;
+mod separated_pair;
+mod terminated;
 
-pub use crate::combinator::impls::basic::{
-    BacktrackErr, Cond, CutErr, Empty, Fail, Not, Opt, Peek,
-};
-pub use crate::combinator::impls::branch::{Alt, AltAgreesWhenComplete, AltParser};
+pub use crate::combinator::impls::alt::{Alt, AltParser};
+pub use crate::combinator::impls::backtrack_err::BacktrackErr;
+pub use crate::combinator::impls::cond::Cond;
+pub use crate::combinator::impls::cut_err::CutErr;
 pub use crate::combinator::impls::delimited::Delimited;
+pub use crate::combinator::impls::empty::Empty;
+pub use crate::combinator::impls::fail::Fail;
+pub use crate::combinator::impls::not::Not;
+pub use crate::combinator::impls::opt::Opt;
+pub use crate::combinator::impls::peek::Peek;
+pub use crate::combinator::impls::preceded::Preceded;
 pub use crate::combinator::impls::repeat::Repeat;
-pub use crate::combinator::impls::sequence::{Preceded, SeparatedPair, Terminated};
+pub use crate::combinator::impls::separated_pair::SeparatedPair;
+pub use crate::combinator::impls::terminated::Terminated;

@@ -1,6 +1,6 @@
 //! Laws of choices among the members of a tuple.
 //!
-//! Written by scripts/families.py.
+//! Written by scripts/families.py: do not edit.
 ghost use Rattle.winnow_comb.specs.ChoiceLaws.{ChoosesFirst2, ChoosesFirst3, ChoosesFirst4, ChoosesFirst5, ChoosesFirst6};
 
 use crate::combinator::impls::Alt;
@@ -17,7 +17,7 @@ pub fn alt_of_two_answers_as_the_first<
     O,
     E: ParserError<I>,
 >()
-    ensures { ChoosesFirst2 P1.run P2.run ⟦<(P1, P2) as Alt<I, O, E>>⟧.chooses }
+    ensures { ChoosesFirst2 (P1.meaning E.form) (P2.meaning E.form) (⟦<(P1, P2) as Alt<I, O, E>>⟧.meaning E.form) }
 {}
 
 /// A choice of three answers as the first branch that does not backtrack, or as the last one, and
@@ -30,7 +30,7 @@ pub fn alt_of_three_answers_as_the_first<
     O,
     E: ParserError<I>,
 >()
-    ensures { ChoosesFirst3 P1.run P2.run P3.run ⟦<(P1, P2, P3) as Alt<I, O, E>>⟧.chooses }
+    ensures { ChoosesFirst3 (P1.meaning E.form) (P2.meaning E.form) (P3.meaning E.form) (⟦<(P1, P2, P3) as Alt<I, O, E>>⟧.meaning E.form) }
 {}
 
 /// A choice of four answers as the first branch that does not backtrack, or as the last one, and
@@ -44,7 +44,7 @@ pub fn alt_of_four_answers_as_the_first<
     O,
     E: ParserError<I>,
 >()
-    ensures { ChoosesFirst4 P1.run P2.run P3.run P4.run ⟦<(P1, P2, P3, P4) as Alt<I, O, E>>⟧.chooses }
+    ensures { ChoosesFirst4 (P1.meaning E.form) (P2.meaning E.form) (P3.meaning E.form) (P4.meaning E.form) (⟦<(P1, P2, P3, P4) as Alt<I, O, E>>⟧.meaning E.form) }
 {}
 
 /// A choice of five answers as the first branch that does not backtrack, or as the last one, and
@@ -59,7 +59,7 @@ pub fn alt_of_five_answers_as_the_first<
     O,
     E: ParserError<I>,
 >()
-    ensures { ChoosesFirst5 P1.run P2.run P3.run P4.run P5.run ⟦<(P1, P2, P3, P4, P5) as Alt<I, O, E>>⟧.chooses }
+    ensures { ChoosesFirst5 (P1.meaning E.form) (P2.meaning E.form) (P3.meaning E.form) (P4.meaning E.form) (P5.meaning E.form) (⟦<(P1, P2, P3, P4, P5) as Alt<I, O, E>>⟧.meaning E.form) }
 {}
 
 /// A choice of six answers as the first branch that does not backtrack, or as the last one, and
@@ -75,5 +75,5 @@ pub fn alt_of_six_answers_as_the_first<
     O,
     E: ParserError<I>,
 >()
-    ensures { ChoosesFirst6 P1.run P2.run P3.run P4.run P5.run P6.run ⟦<(P1, P2, P3, P4, P5, P6) as Alt<I, O, E>>⟧.chooses }
+    ensures { ChoosesFirst6 (P1.meaning E.form) (P2.meaning E.form) (P3.meaning E.form) (P4.meaning E.form) (P5.meaning E.form) (P6.meaning E.form) (⟦<(P1, P2, P3, P4, P5, P6) as Alt<I, O, E>>⟧.meaning E.form) }
 {}

@@ -1,15 +1,27 @@
 //! Closures as parsers.
 ghost use Rattle.std.specs.Prelude.{◌≡◌};
 ghost use Rattle.std.specs.Fn.{CalledAtMut};
-ghost use Rattle.winnow_core.specs.Func.{FuncRuns, LeavesEnds};
+ghost use Rattle.winnow_core.specs.Func.{FuncRuns, LeavesEndsFrom};
 
 use crate::parser::Parser;
 use stream_errors::parser_error::ParserError;
 use streams::stream::Stream;
 
-/// A parser that runs the caller's closure, which owes that it leaves an end of its input.
+/// A parser that runs the caller's closure, which owes that it leaves an end of its input: from the
+/// state that it is in, and from each that its calls lead to (`LeavesEndsFrom`). What a call owes
+/// beside that is the caller's own clause. `leaves_always` and `leaves_within` in `specs/Func.antt`
+/// show it for closures whose every state leaves ends, and for a set of states that calls keep.
+///
+/// A plain function owes one clause, over bytes, or over any stream where it is then used at one:
 ///
 /// ```text
+/// fn word(input: &mut &[u8]) -> ..
+///     ensures { IsEndOf bytes_reading (bytes_input input.new.now) (bytes_input input.old.now) }
+///
+/// fn word<I: Stream, E: ParserError<I>>(input: &mut I) -> ..
+///     ensures { IsEndOf I.reading (I.view input.new) (I.view input.old) }
+///
+/// Func(word), Func(word::<&[u8], EmptyError>)        are parsers of them
 /// Func(|input: &mut &[u8]| b'a'.parse_next(input))   is a parser of b'a'
 /// ```
 #[derive(Clone, Copy, Drop)]
@@ -17,11 +29,15 @@ pub struct Func<F>(pub F);
 
 impl<F: FnMut(&mut I) -> Result<O, E>, I: Stream, O, E: ParserError<I>> Parser<I, O, E>
     for Func<F> {
-    ghost can_parse = { λ s. F.IsAlwaysCallable s.0 × LeavesEnds I.reading I.view (CalledAtMut F.FnMut) };
+    ghost can_parse = { λ s. F.IsAlwaysCallable s.0 × LeavesEndsFrom I.reading I.view (CalledAtMut F.FnMut) s.0 };
 
-    ghost run = { λ s i answer t j. FuncRuns I.reading I.view E.kind (CalledAtMut F.FnMut) s.0 i answer t.0 j };
+    ghost State = { F };
 
-    ghost leaves_ends = { λ s i answer t j r. r.1 };
+    ghost state = { λ s. s.0 };
+
+    ghost meaning = { λ _. FuncRuns I.reading I.view E.kind (CalledAtMut F.FnMut) };
+
+    ghost leaves_ends = { λ form s i answer t j r. r.1 };
 
     #[inline(always)]
     fn parse_next(&mut self, input: &mut I) -> Result<O, E> {

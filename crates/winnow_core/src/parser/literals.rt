@@ -1,23 +1,31 @@
 //! Values that are parsers of themselves.
 ghost use Rattle.std.specs.Prelude.{◌≡◌};
+ghost use Rattle.winnow_core.specs.Agrees.{agrees_by};
 ghost use Rattle.winnow_core.specs.Literal.{LiteralRuns};
-ghost use Rattle.winnow_core.specs.RunEnds.{literal_ends};
+ghost use Rattle.winnow_core.specs.Literal.Laws.{literal_alike, literal_ends};
+ghost use Rattle.winnow_core.specs.Runs.{Keeps};
 
+use crate::agrees_with::AgreesWith;
+use crate::literal::take_literal;
 use crate::parser::Parser;
-use crate::token::take_literal;
 use stream_errors::parser_error::ParserError;
 use stream_sets::caseless::Caseless;
 use stream_sets::compare::Compare;
-use streams::stream::StreamIsPartial;
+use stream_sets::compare::like::ComparesLike;
+use streams::stream::{Stream, StreamIsPartial};
 
 /// A byte stands for itself, and is its own output.
 ///
 /// It fails, and consumes nothing, where the byte does not stand first; on a cut input with
 /// nothing left it is incomplete with an unknown need.
 impl<I: StreamIsPartial + Compare<u8>, E: ParserError<I>> Parser<I, u8, E> for u8 {
-    ghost run = { λ s i answer t j. LiteralRuns I.reading E.form (I.spells s) (λ _. s) i answer j × (t ≡ s) };
+    ghost State = { Self };
 
-    ghost leaves_ends = { λ s i answer t j r. literal_ends I.reading E.form (I.spells s) (λ _. s) i answer j r.0 };
+    ghost state = { λ s. s };
+
+    ghost meaning = { λ form. Keeps (λ s. LiteralRuns I.reading form (I.spells s) (λ _. s)) };
+
+    ghost leaves_ends = { λ form s i answer t j r. literal_ends I.reading form (I.spells s) (λ _. s) i answer j r.0 };
 
     #[inline(always)]
     fn parse_next(&mut self, input: &mut I) -> Result<u8, E> {
@@ -26,17 +34,46 @@ impl<I: StreamIsPartial + Compare<u8>, E: ParserError<I>> Parser<I, u8, E> for u
     }
 }
 
+impl<
+    I: StreamIsPartial + ComparesLike<u8, J>,
+    J: StreamIsPartial + Compare<u8> + Stream<Token = I::Token, Seen = I::Seen, Slice = I::Slice>,
+    E: ParserError<I>,
+    F: ParserError<J>,
+> AgreesWith<I, u8, E, u8, J, F> for u8 {
+    ghost like = { λ p q. p ≡ q };
+
+    ghost agrees = { agrees_by (λ p. p) (λ q. q) (literal_alike (λ s _. s) I.same_reading I.same_spells) };
+}
+
 /// Bytes stand for themselves; the output is the slice of the input.
 impl<'t, I: StreamIsPartial + Compare<&'t [u8]>, E: ParserError<I>> Parser<I, I::Slice, E>
     for &'t [u8] {
-    ghost run = { λ s i answer t j. LiteralRuns I.reading E.form (I.spells s) (λ slice. slice) i answer j × (t ≡ s) };
+    ghost State = { Self };
 
-    ghost leaves_ends = { λ s i answer t j r. literal_ends I.reading E.form (I.spells s) (λ slice. slice) i answer j r.0 };
+    ghost state = { λ s. s };
+
+    ghost meaning = { λ form. Keeps (λ s. LiteralRuns I.reading form (I.spells s) (λ slice. slice)) };
+
+    ghost leaves_ends = { λ form s i answer t j r. literal_ends I.reading form (I.spells s) (λ slice. slice) i answer j r.0 };
 
     #[inline(always)]
     fn parse_next(&mut self, input: &mut I) -> Result<I::Slice, E> {
         take_literal(input, *self)
     }
+}
+
+impl<
+    't,
+    I: StreamIsPartial + ComparesLike<&'t [u8], J>,
+    J: StreamIsPartial
+        + Compare<&'t [u8]>
+        + Stream<Token = I::Token, Seen = I::Seen, Slice = I::Slice>,
+    E: ParserError<I>,
+    F: ParserError<J>,
+> AgreesWith<I, I::Slice, E, &'t [u8], J, F> for &'t [u8] {
+    ghost like = { λ p q. p ≡ q };
+
+    ghost agrees = { agrees_by (λ p. p) (λ q. q) (literal_alike (λ _ slice. slice) I.same_reading I.same_spells) };
 }
 
 /// Bytes stand for themselves; the output is the slice of the input.
@@ -45,9 +82,13 @@ impl<'t, const N: usize, I: StreamIsPartial + Compare<&'t [u8; N]>, E: ParserErr
     I::Slice,
     E,
 > for &'t [u8; N] {
-    ghost run = { λ s i answer t j. LiteralRuns I.reading E.form (I.spells s) (λ slice. slice) i answer j × (t ≡ s) };
+    ghost State = { Self };
 
-    ghost leaves_ends = { λ s i answer t j r. literal_ends I.reading E.form (I.spells s) (λ slice. slice) i answer j r.0 };
+    ghost state = { λ s. s };
+
+    ghost meaning = { λ form. Keeps (λ s. LiteralRuns I.reading form (I.spells s) (λ slice. slice)) };
+
+    ghost leaves_ends = { λ form s i answer t j r. literal_ends I.reading form (I.spells s) (λ slice. slice) i answer j r.0 };
 
     #[inline(always)]
     fn parse_next(&mut self, input: &mut I) -> Result<I::Slice, E> {
@@ -55,14 +96,35 @@ impl<'t, const N: usize, I: StreamIsPartial + Compare<&'t [u8; N]>, E: ParserErr
     }
 }
 
+impl<
+    't,
+    const N: usize,
+    I: StreamIsPartial + ComparesLike<&'t [u8; N], J>,
+    J: StreamIsPartial
+        + Compare<&'t [u8; N]>
+        + Stream<Token = I::Token, Seen = I::Seen, Slice = I::Slice>,
+    E: ParserError<I>,
+    F: ParserError<J>,
+> AgreesWith<I, I::Slice, E, &'t [u8; N], J, F> for &'t [u8; N] {
+    ghost like = { λ p q. p ≡ q };
+
+    ghost agrees = { agrees_by (λ p. p) (λ q. q) (literal_alike (λ _ slice. slice) I.same_reading I.same_spells) };
+
+    fn agree() {}
+}
+
 /// A character stands for itself, and is its own output.
 ///
 /// It fails, and consumes nothing, where the character does not stand first; where a cut input is
 /// too short to tell it is incomplete with an unknown need.
 impl<I: StreamIsPartial + Compare<char>, E: ParserError<I>> Parser<I, char, E> for char {
-    ghost run = { λ s i answer t j. LiteralRuns I.reading E.form (I.spells s) (λ _. s) i answer j × (t ≡ s) };
+    ghost State = { Self };
 
-    ghost leaves_ends = { λ s i answer t j r. literal_ends I.reading E.form (I.spells s) (λ _. s) i answer j r.0 };
+    ghost state = { λ s. s };
+
+    ghost meaning = { λ form. Keeps (λ s. LiteralRuns I.reading form (I.spells s) (λ _. s)) };
+
+    ghost leaves_ends = { λ form s i answer t j r. literal_ends I.reading form (I.spells s) (λ _. s) i answer j r.0 };
 
     #[inline(always)]
     fn parse_next(&mut self, input: &mut I) -> Result<char, E> {
@@ -71,12 +133,27 @@ impl<I: StreamIsPartial + Compare<char>, E: ParserError<I>> Parser<I, char, E> f
     }
 }
 
+impl<
+    I: StreamIsPartial + ComparesLike<char, J>,
+    J: StreamIsPartial + Compare<char> + Stream<Token = I::Token, Seen = I::Seen, Slice = I::Slice>,
+    E: ParserError<I>,
+    F: ParserError<J>,
+> AgreesWith<I, char, E, char, J, F> for char {
+    ghost like = { λ p q. p ≡ q };
+
+    ghost agrees = { agrees_by (λ p. p) (λ q. q) (literal_alike (λ s _. s) I.same_reading I.same_spells) };
+}
+
 /// A text stands for itself; the output is the slice of the input.
 impl<'t, I: StreamIsPartial + Compare<&'t str>, E: ParserError<I>> Parser<I, I::Slice, E>
     for &'t str {
-    ghost run = { λ s i answer t j. LiteralRuns I.reading E.form (I.spells s) (λ slice. slice) i answer j × (t ≡ s) };
+    ghost State = { Self };
 
-    ghost leaves_ends = { λ s i answer t j r. literal_ends I.reading E.form (I.spells s) (λ slice. slice) i answer j r.0 };
+    ghost state = { λ s. s };
+
+    ghost meaning = { λ form. Keeps (λ s. LiteralRuns I.reading form (I.spells s) (λ slice. slice)) };
+
+    ghost leaves_ends = { λ form s i answer t j r. literal_ends I.reading form (I.spells s) (λ slice. slice) i answer j r.0 };
 
     #[inline(always)]
     fn parse_next(&mut self, input: &mut I) -> Result<I::Slice, E> {
@@ -84,17 +161,49 @@ impl<'t, I: StreamIsPartial + Compare<&'t str>, E: ParserError<I>> Parser<I, I::
     }
 }
 
+impl<
+    't,
+    I: StreamIsPartial + ComparesLike<&'t str, J>,
+    J: StreamIsPartial
+        + Compare<&'t str>
+        + Stream<Token = I::Token, Seen = I::Seen, Slice = I::Slice>,
+    E: ParserError<I>,
+    F: ParserError<J>,
+> AgreesWith<I, I::Slice, E, &'t str, J, F> for &'t str {
+    ghost like = { λ p q. p ≡ q };
+
+    ghost agrees = { agrees_by (λ p. p) (λ q. q) (literal_alike (λ _ slice. slice) I.same_reading I.same_spells) };
+}
+
 /// Bytes without regard to ASCII case stand for themselves; the output is the slice of the input.
 impl<'t, I: StreamIsPartial + Compare<Caseless<&'t [u8]>>, E: ParserError<I>> Parser<I, I::Slice, E>
     for Caseless<&'t [u8]> {
-    ghost run = { λ s i answer t j. LiteralRuns I.reading E.form (I.spells s) (λ slice. slice) i answer j × (t ≡ s) };
+    ghost State = { Self };
 
-    ghost leaves_ends = { λ s i answer t j r. literal_ends I.reading E.form (I.spells s) (λ slice. slice) i answer j r.0 };
+    ghost state = { λ s. s };
+
+    ghost meaning = { λ form. Keeps (λ s. LiteralRuns I.reading form (I.spells s) (λ slice. slice)) };
+
+    ghost leaves_ends = { λ form s i answer t j r. literal_ends I.reading form (I.spells s) (λ slice. slice) i answer j r.0 };
 
     #[inline(always)]
     fn parse_next(&mut self, input: &mut I) -> Result<I::Slice, E> {
         take_literal(input, *self)
     }
+}
+
+impl<
+    't,
+    I: StreamIsPartial + ComparesLike<Caseless<&'t [u8]>, J>,
+    J: StreamIsPartial
+        + Compare<Caseless<&'t [u8]>>
+        + Stream<Token = I::Token, Seen = I::Seen, Slice = I::Slice>,
+    E: ParserError<I>,
+    F: ParserError<J>,
+> AgreesWith<I, I::Slice, E, Caseless<&'t [u8]>, J, F> for Caseless<&'t [u8]> {
+    ghost like = { λ p q. p ≡ q };
+
+    ghost agrees = { agrees_by (λ p. p) (λ q. q) (literal_alike (λ _ slice. slice) I.same_reading I.same_spells) };
 }
 
 /// Bytes without regard to ASCII case stand for themselves; the output is the slice of the input.
@@ -104,9 +213,13 @@ impl<
     I: StreamIsPartial + Compare<Caseless<&'t [u8; N]>>,
     E: ParserError<I>,
 > Parser<I, I::Slice, E> for Caseless<&'t [u8; N]> {
-    ghost run = { λ s i answer t j. LiteralRuns I.reading E.form (I.spells s) (λ slice. slice) i answer j × (t ≡ s) };
+    ghost State = { Self };
 
-    ghost leaves_ends = { λ s i answer t j r. literal_ends I.reading E.form (I.spells s) (λ slice. slice) i answer j r.0 };
+    ghost state = { λ s. s };
+
+    ghost meaning = { λ form. Keeps (λ s. LiteralRuns I.reading form (I.spells s) (λ slice. slice)) };
+
+    ghost leaves_ends = { λ form s i answer t j r. literal_ends I.reading form (I.spells s) (λ slice. slice) i answer j r.0 };
 
     #[inline(always)]
     fn parse_next(&mut self, input: &mut I) -> Result<I::Slice, E> {
@@ -114,15 +227,50 @@ impl<
     }
 }
 
+impl<
+    't,
+    const N: usize,
+    I: StreamIsPartial + ComparesLike<Caseless<&'t [u8; N]>, J>,
+    J: StreamIsPartial
+        + Compare<Caseless<&'t [u8; N]>>
+        + Stream<Token = I::Token, Seen = I::Seen, Slice = I::Slice>,
+    E: ParserError<I>,
+    F: ParserError<J>,
+> AgreesWith<I, I::Slice, E, Caseless<&'t [u8; N]>, J, F> for Caseless<&'t [u8; N]> {
+    ghost like = { λ p q. p ≡ q };
+
+    ghost agrees = { agrees_by (λ p. p) (λ q. q) (literal_alike (λ _ slice. slice) I.same_reading I.same_spells) };
+
+    fn agree() {}
+}
+
 /// A text without regard to ASCII case stands for itself; the output is the slice of the input.
 impl<'t, I: StreamIsPartial + Compare<Caseless<&'t str>>, E: ParserError<I>> Parser<I, I::Slice, E>
     for Caseless<&'t str> {
-    ghost run = { λ s i answer t j. LiteralRuns I.reading E.form (I.spells s) (λ slice. slice) i answer j × (t ≡ s) };
+    ghost State = { Self };
 
-    ghost leaves_ends = { λ s i answer t j r. literal_ends I.reading E.form (I.spells s) (λ slice. slice) i answer j r.0 };
+    ghost state = { λ s. s };
+
+    ghost meaning = { λ form. Keeps (λ s. LiteralRuns I.reading form (I.spells s) (λ slice. slice)) };
+
+    ghost leaves_ends = { λ form s i answer t j r. literal_ends I.reading form (I.spells s) (λ slice. slice) i answer j r.0 };
 
     #[inline(always)]
     fn parse_next(&mut self, input: &mut I) -> Result<I::Slice, E> {
         take_literal(input, *self)
     }
+}
+
+impl<
+    't,
+    I: StreamIsPartial + ComparesLike<Caseless<&'t str>, J>,
+    J: StreamIsPartial
+        + Compare<Caseless<&'t str>>
+        + Stream<Token = I::Token, Seen = I::Seen, Slice = I::Slice>,
+    E: ParserError<I>,
+    F: ParserError<J>,
+> AgreesWith<I, I::Slice, E, Caseless<&'t str>, J, F> for Caseless<&'t str> {
+    ghost like = { λ p q. p ≡ q };
+
+    ghost agrees = { agrees_by (λ p. p) (λ q. q) (literal_alike (λ _ slice. slice) I.same_reading I.same_spells) };
 }

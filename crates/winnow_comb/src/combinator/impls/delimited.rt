@@ -1,10 +1,12 @@
-//! The parser of a child between two others.
+//! A child between two whose outputs are let go.
 ghost use Rattle.winnow_comb.specs.Delimited.{DelimitedRuns};
-ghost use Rattle.winnow_comb.specs.RunEnds.{three_ends};
+ghost use Rattle.winnow_comb.specs.InOrder.Laws.{three_ends};
+ghost use Rattle.winnow_core.specs.Agrees.Sizes.{agrees3};
 
 use std::marker::PhantomData;
 use stream_errors::parser_error::ParserError;
 use streams::stream::Stream;
+use winnow_core::agrees_with::AgreesWith;
 use winnow_core::parser::Parser;
 
 /// The parser that [`delimited`](crate::combinator::delimited) makes.
@@ -36,9 +38,13 @@ impl<
 > Parser<I, O2, E> for Delimited<P1, P2, P3, I, O1, O2, O3, E> {
     ghost can_parse = { λ s. P1.can_parse s.ignored1 × P2.can_parse s.parser × P3.can_parse s.ignored2 };
 
-    ghost run = { λ s i answer t j. DelimitedRuns P1.run P2.run P3.run (s.ignored1, s.parser, s.ignored2) i answer (t.ignored1, t.parser, t.ignored2) j };
+    ghost State = { P1.State × P2.State × P3.State };
 
-    ghost leaves_ends = { λ s i answer t j. three_ends I.reading (λ o1 o2 o3. o2) P1.run P2.run P3.run P1.leaves_ends P2.leaves_ends P3.leaves_ends (s.ignored1, s.parser, s.ignored2) i answer (t.ignored1, t.parser, t.ignored2) j };
+    ghost state = { λ s. (P1.state s.ignored1, P2.state s.parser, P3.state s.ignored2) };
+
+    ghost meaning = { λ form. DelimitedRuns (P1.meaning form) (P2.meaning form) (P3.meaning form) };
+
+    ghost leaves_ends = { λ form. three_ends I.reading (λ o1 o2 o3. o2) (P1.meaning form) (P2.meaning form) (P3.meaning form) (P1.leaves_ends form) (P2.leaves_ends form) (P3.leaves_ends form) };
 
     #[inline(always)]
     fn parse_next(&mut self, input: &mut I) -> Result<O2, E> {
@@ -47,4 +53,25 @@ impl<
         let _last = self.ignored2.parse_next(input)?;
         Ok(output)
     }
+}
+
+impl<
+    P1: AgreesWith<I, A1, E, Q1, J, F>,
+    Q1: Parser<J, A1, F>,
+    P2: AgreesWith<I, A2, E, Q2, J, F>,
+    Q2: Parser<J, A2, F>,
+    P3: AgreesWith<I, A3, E, Q3, J, F>,
+    Q3: Parser<J, A3, F>,
+    I: Stream,
+    J: Stream<Token = I::Token, Seen = I::Seen, Slice = I::Slice>,
+    A1: Drop,
+    A2: Drop,
+    A3: Drop,
+    E: ParserError<I>,
+    F: ParserError<J>,
+> AgreesWith<I, A2, E, Delimited<Q1, Q2, Q3, J, A1, A2, A3, F>, J, F>
+    for Delimited<P1, P2, P3, I, A1, A2, A3, E> {
+    ghost like = { λ p q. P1.like p.ignored1 q.ignored1 × P2.like p.parser q.parser × P3.like p.ignored2 q.ignored2 };
+
+    ghost agrees = { agrees3 (λ p. p.ignored1) (λ q. q.ignored1) (λ p. p.parser) (λ q. q.parser) (λ p. p.ignored2) (λ q. q.ignored2) (λ X1 X2 X3 m1 m2 m3 form. DelimitedRuns (m1 form) (m2 form) (m3 form)) P1.agrees P2.agrees P3.agrees };
 }

@@ -1,10 +1,12 @@
 //! Repetition.
-ghost use Rattle.std.specs.Prelude.{◌≡◌, ◌<◌, ℕ, Some, MatchBool};
-ghost use Rattle.streams.specs.Input.{IsEndOf};
+ghost use Rattle.std.specs.Prelude.{◌<◌, ◌≡◌, MatchBool, Some, ℕ};
 ghost use Rattle.stream_errors.specs.Form.{answer_by, asserted};
-ghost use Rattle.stream_sets.specs.Range.{greatest_of, IsWithin};
-ghost use Rattle.winnow_comb.specs.Repeat.{RepeatRuns, RepeatOneRuns, RepeatManyRuns, ItemsRun};
-ghost use Rattle.winnow_comb.specs.RunEnds.{repeat_ends};
+ghost use Rattle.stream_sets.specs.Range.{IsWithin};
+ghost use Rattle.stream_sets.specs.declared.range.Range.{Range};
+ghost use Rattle.streams.specs.Input.{IsEndOf};
+ghost use Rattle.winnow_comb.specs.Repeat.{ItemsRun, RangedRuns, RepeatManyRuns, RepeatOneRuns};
+ghost use Rattle.winnow_comb.specs.Repeat.Laws.{ranged_ends};
+ghost use Rattle.winnow_core.specs.Agrees.{agrees_with};
 
 use std::alloc::Allocator;
 use std::marker::PhantomData;
@@ -12,6 +14,7 @@ use stream_errors::parser_error::ParserError;
 use stream_sets::accumulate::Accumulate;
 use stream_sets::range::Range;
 use streams::stream::Stream;
+use winnow_core::agrees_with::AgreesWith;
 use winnow_core::parser::Parser;
 
 /// The parser that [`repeat`](crate::combinator::repeat) makes.
@@ -40,9 +43,13 @@ impl<
 > Parser<I, C, E> for Repeat<P, I, O, C, E, A> {
     ghost can_parse = { λ s. P.can_parse s.parser };
 
-    ghost run = { λ s i answer t j. RepeatRuns P.run (record { starts = C.starts; takes = C.takes; start_grows = C.start_grows; grows = C.grows }) (asserted E.form) s.occurrences.start_inclusive (greatest_of s.occurrences.start_inclusive s.occurrences.end_inclusive) s.parser i answer t.parser j × (t.occurrences ≡ s.occurrences) };
+    ghost State = { P.State × Range };
 
-    ghost leaves_ends = { λ s i answer t j r. repeat_ends I.reading P.run (record { starts = C.starts; takes = C.takes; start_grows = C.start_grows; grows = C.grows }) (asserted E.form) s.occurrences.start_inclusive (greatest_of s.occurrences.start_inclusive s.occurrences.end_inclusive) P.leaves_ends s.parser i answer t.parser j r.0 };
+    ghost state = { λ s. (P.state s.parser, s.occurrences) };
+
+    ghost meaning = { λ form. RangedRuns (P.meaning form) C.accumulator (asserted form) };
+
+    ghost leaves_ends = { λ form. ranged_ends I.reading (P.meaning form) C.accumulator (asserted form) (P.leaves_ends form) };
 
     fn parse_next(&mut self, input: &mut I) -> Result<C, E> {
         let least = self.occurrences.start_inclusive;
@@ -57,6 +64,22 @@ impl<
             Some(most) => repeat_many(self.alloc, least, Some(most), &mut self.parser, input),
         }
     }
+}
+
+impl<
+    P: AgreesWith<I, O, E, Q, J, F>,
+    Q: Parser<J, O, F>,
+    I: Stream,
+    J: Stream<Token = I::Token, Seen = I::Seen, Slice = I::Slice>,
+    O: Drop,
+    C: Accumulate<O, A>,
+    E: ParserError<I>,
+    F: ParserError<J>,
+    A: Allocator + Copy,
+> AgreesWith<I, C, E, Repeat<Q, J, O, C, F, A>, J, F> for Repeat<P, I, O, C, E, A> {
+    ghost like = { λ p q. P.like p.parser q.parser × (p.occurrences ≡ q.occurrences) };
+
+    ghost agrees = { agrees_with (λ p. p.parser) (λ q. q.parser) (λ p. p.occurrences) (λ q. q.occurrences) (λ X m form. RangedRuns (m form) C.accumulator (asserted form)) P.agrees };
 }
 
 /// Whether the greatest count is below the least.
@@ -80,13 +103,13 @@ fn repeat_many<
 >(alloc: A, least: usize, greatest: Option<usize>, parser: &mut P, input: &mut I) -> Result<C, E>
     requires { P.can_parse parser.old }
     ensures again { P.can_parse parser.new }
-    ensures ran { RepeatManyRuns P.run (record { starts = C.starts; takes = C.takes; start_grows = C.start_grows; grows = C.grows }) (asserted E.form) least greatest parser.old (I.view input.old) (answer_by E.kind result) parser.new (I.view input.new) }
+    ensures ran { RepeatManyRuns (P.meaning E.form) C.accumulator (asserted E.form) least greatest (P.state parser.old) (I.view input.old) (answer_by E.kind result) (P.state parser.new) (I.view input.new) }
     ensures ends { IsEndOf I.reading (I.view input.new) (I.view input.old) }
 {
     if is_descending(least, greatest) {
         return Err(E::assert(input, "the greatest count is below the least"));
     }
-    match C::initial(alloc, greatest) {
+    match C::initial(alloc, greatest.map(|_: usize| least)) {
         Ok(all) => repeat_items(all, least, greatest, parser, input),
         Err(_) => Err(E::no_memory(input)),
     }
@@ -103,7 +126,7 @@ fn repeat_one<
 >(alloc: A, parser: &mut P, input: &mut I) -> Result<C, E>
     requires { P.can_parse parser.old }
     ensures again { P.can_parse parser.new }
-    ensures ran { RepeatOneRuns P.run (record { starts = C.starts; takes = C.takes; start_grows = C.start_grows; grows = C.grows }) (asserted E.form) parser.old (I.view input.old) (answer_by E.kind result) parser.new (I.view input.new) }
+    ensures ran { RepeatOneRuns (P.meaning E.form) C.accumulator (asserted E.form) (P.state parser.old) (I.view input.old) (answer_by E.kind result) (P.state parser.new) (I.view input.new) }
     ensures ends { IsEndOf I.reading (I.view input.new) (I.view input.old) }
 {
     let first = parser.parse_next(input)?;
@@ -129,7 +152,7 @@ fn repeat_items<
     requires parser { P.can_parse parser.old }
     requires range { IsWithin room missing }
     ensures again { P.can_parse parser.new }
-    ensures ran { ItemsRun P.run (record { starts = C.starts; takes = C.takes; start_grows = C.start_grows; grows = C.grows }) (asserted E.form) missing room all parser.old (I.view input.old) (answer_by E.kind result) parser.new (I.view input.new) }
+    ensures ran { ItemsRun (P.meaning E.form) C.accumulator (asserted E.form) missing room all (P.state parser.old) (I.view input.old) (answer_by E.kind result) (P.state parser.new) (I.view input.new) }
     ensures ends { IsEndOf I.reading (I.view input.new) (I.view input.old) }
 {
     let mut all = all;

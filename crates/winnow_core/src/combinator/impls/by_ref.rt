@@ -1,6 +1,9 @@
-//! Parsers behind a reference.
+//! The parser behind a reference.
+ghost use Rattle.std.specs.Prelude.{◌≡◌, ℕ};
+ghost use Rattle.winnow_core.specs.Agrees.{agrees_with};
 ghost use Rattle.winnow_core.specs.ByRef.{ByRefRuns};
 
+use crate::agrees_with::AgreesWith;
 use crate::parser::Parser;
 use std::marker::PhantomData;
 use stream_errors::parser_error::ParserError;
@@ -23,12 +26,31 @@ impl<'p, P: Parser<I, O, E>, I: Stream, O, E: ParserError<I>> Parser<I, O, E>
     for ByRef<'p, P, I, O, E> {
     ghost can_parse = { λ s. P.can_parse s.parser.now };
 
-    ghost run = { λ s i answer t j. ByRefRuns P.run s i answer t j };
+    ghost State = { P.State × ℕ };
 
-    ghost leaves_ends = { λ s i answer t j r. P.leaves_ends s.parser.now i answer t.parser.now j r.0 };
+    ghost state = { λ s. (P.state s.parser.now, s.parser.ghost_name) };
+
+    ghost meaning = { λ form. ByRefRuns (P.meaning form) };
+
+    ghost leaves_ends = { λ form s i answer t j r. P.leaves_ends form s.0 i answer t.0 j r.0 };
 
     #[inline(always)]
     fn parse_next(&mut self, input: &mut I) -> Result<O, E> {
         self.parser.parse_next(input)
     }
+}
+
+impl<
+    'p,
+    P: AgreesWith<I, O, E, Q, J, F>,
+    Q: Parser<J, O, F>,
+    I: Stream,
+    J: Stream<Token = I::Token, Seen = I::Seen, Slice = I::Slice>,
+    O,
+    E: ParserError<I>,
+    F: ParserError<J>,
+> AgreesWith<I, O, E, ByRef<'p, Q, J, O, F>, J, F> for ByRef<'p, P, I, O, E> {
+    ghost like = { λ p q. P.like p.parser.now q.parser.now × (p.parser.ghost_name ≡ q.parser.ghost_name) };
+
+    ghost agrees = { agrees_with (λ p. p.parser.now) (λ q. q.parser.now) (λ p. p.parser.ghost_name) (λ q. q.parser.ghost_name) (λ X m form. ByRefRuns (m form)) P.agrees };
 }

@@ -1,9 +1,10 @@
-//! Outputs made of outputs by closures.
+//! Outputs made of outputs by a closure.
 ghost use Rattle.std.specs.Prelude.{◌≡◌};
+ghost use Rattle.winnow_core.specs.Agrees.{agrees_with};
 ghost use Rattle.winnow_core.specs.Map.{MapRuns};
-ghost use Rattle.winnow_core.specs.VerifyMap.{VerifyMapRuns};
-ghost use Rattle.winnow_core.specs.RunEnds.{map_ends, verify_map_ends};
+ghost use Rattle.winnow_core.specs.Map.Laws.{map_ends};
 
+use crate::agrees_with::AgreesWith;
 use crate::parser::Parser;
 use std::marker::PhantomData;
 use stream_errors::parser_error::ParserError;
@@ -28,9 +29,13 @@ impl<F: Parser<I, O, E>, G: FnMut(O) -> O2, I: Stream, O, O2, E: ParserError<I>>
     for Map<F, G, I, O, O2, E> {
     ghost can_parse = { λ s. F.can_parse s.parser × G.IsAlwaysCallable s.map };
 
-    ghost run = { λ s i answer t j. MapRuns F.run G.step s.parser s.map i answer t.parser t.map j };
+    ghost State = { F.State × G };
 
-    ghost leaves_ends = { λ s i answer t j. map_ends I.reading F.run G.step F.leaves_ends s.parser s.map i answer t.parser t.map j };
+    ghost state = { λ s. (F.state s.parser, s.map) };
+
+    ghost meaning = { λ form. MapRuns (F.meaning form) G.step };
+
+    ghost leaves_ends = { λ form. map_ends I.reading (F.meaning form) G.step (F.leaves_ends form) };
 
     #[inline(always)]
     fn parse_next(&mut self, input: &mut I) -> Result<O2, E> {
@@ -39,42 +44,20 @@ impl<F: Parser<I, O, E>, G: FnMut(O) -> O2, I: Stream, O, O2, E: ParserError<I>>
     }
 }
 
-/// The parser that [`Parser::verify_map`](crate::parser::Parser::verify_map) makes.
-///
-/// ```text
-/// digits.verify_map(|slice: &[u8]| slice.first().copied())   is a VerifyMap
-/// ```
-#[derive(Drop)]
-pub struct VerifyMap<F, G, I, O, O2, E> {
-    pub(crate) parser: F,
-    pub(crate) filter: G,
-    pub(crate) input: PhantomData<I>,
-    pub(crate) output: PhantomData<O>,
-    pub(crate) mapped: PhantomData<O2>,
-    pub(crate) error: PhantomData<E>,
-}
-
-impl<F: Parser<I, O, E>, G: FnMut(O) -> Option<O2>, I: Stream, O, O2, E: ParserError<I>> Parser<
-    I,
+impl<
+    P: AgreesWith<I, O, E, Q, J, F>,
+    Q: Parser<J, O, F>,
+    G: FnMut(O) -> O2,
+    I: Stream,
+    J: Stream<Token = I::Token, Seen = I::Seen, Slice = I::Slice>,
+    O,
     O2,
-    E,
-> for VerifyMap<F, G, I, O, O2, E> {
-    ghost can_parse = { λ s. F.can_parse s.parser × G.IsAlwaysCallable s.filter };
+    E: ParserError<I>,
+    F: ParserError<J>,
+> AgreesWith<I, O2, E, Map<Q, G, J, O, O2, F>, J, F> for Map<P, G, I, O, O2, E> {
+    ghost like = { λ p q. P.like p.parser q.parser × (p.map ≡ q.map) };
 
-    ghost run = { λ s i answer t j. VerifyMapRuns F.run G.step s.parser s.filter i answer t.parser t.filter j };
+    ghost agrees = { agrees_with (λ p. p.parser) (λ q. q.parser) (λ p. p.map) (λ q. q.map) (λ X m form. MapRuns (m form) G.step) P.agrees };
 
-    ghost leaves_ends = { λ s i answer t j. verify_map_ends I.reading F.run G.step F.leaves_ends s.parser s.filter i answer t.parser t.filter j };
-
-    #[inline]
-    fn parse_next(&mut self, input: &mut I) -> Result<O2, E> {
-        let start = input.checkpoint();
-        let output = self.parser.parse_next(input)?;
-        match (self.filter)(output) {
-            Some(output) => Ok(output),
-            None => {
-                input.reset(&start);
-                Err(E::from_input(input))
-            }
-        }
-    }
+    fn agree() {}
 }

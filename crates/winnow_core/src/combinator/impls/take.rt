@@ -1,41 +1,13 @@
-//! Outputs dropped, for nothing or for the slice that was read.
-ghost use Rattle.std.specs.Prelude.{◌≡◌};
+//! The slice that a parser read, in the place of its output.
 ghost use Rattle.winnow_core.specs.Take.{TakeRuns};
-ghost use Rattle.winnow_core.specs.Void.{VoidRuns};
-ghost use Rattle.winnow_core.specs.RunEnds.{take_ends, void_ends};
+ghost use Rattle.winnow_core.specs.Take.Laws.{take_agrees, take_ends};
 
+use crate::agrees_with::AgreesWith;
 use crate::parser::Parser;
 use std::marker::PhantomData;
 use stream_errors::parser_error::ParserError;
+use streams::reads_like::ReadsLike;
 use streams::stream::Stream;
-
-/// The parser that [`Parser::void`](crate::parser::Parser::void) makes.
-///
-/// ```text
-/// b"key".void()   is a Void
-/// ```
-#[derive(Drop)]
-pub struct Void<F, I, O, E> {
-    pub(crate) parser: F,
-    pub(crate) input: PhantomData<I>,
-    pub(crate) output: PhantomData<O>,
-    pub(crate) error: PhantomData<E>,
-}
-
-impl<F: Parser<I, O, E>, I: Stream, O: Drop, E: ParserError<I>> Parser<I, (), E>
-    for Void<F, I, O, E> {
-    ghost can_parse = { λ s. F.can_parse s.parser };
-
-    ghost run = { λ s i answer t j. VoidRuns F.run s.parser i answer t.parser j };
-
-    ghost leaves_ends = { λ s i answer t j. void_ends I.reading F.run F.leaves_ends s.parser i answer t.parser j };
-
-    #[inline(always)]
-    fn parse_next(&mut self, input: &mut I) -> Result<(), E> {
-        let _output = self.parser.parse_next(input)?;
-        Ok(())
-    }
-}
 
 /// The parser that [`Parser::take`](crate::parser::Parser::take) makes.
 ///
@@ -54,9 +26,13 @@ impl<F: Parser<I, O, E>, I: Stream, O: Drop, E: ParserError<I>> Parser<I, I::Sli
     for Take<F, I, O, E> {
     ghost can_parse = { λ s. F.can_parse s.parser };
 
-    ghost run = { λ s i answer t j. TakeRuns I.reading F.run s.parser i answer t.parser j };
+    ghost State = { F.State };
 
-    ghost leaves_ends = { λ s i answer t j. take_ends I.reading F.run F.leaves_ends s.parser i answer t.parser j };
+    ghost state = { λ s. F.state s.parser };
+
+    ghost meaning = { λ form. TakeRuns I.reading (F.meaning form) };
+
+    ghost leaves_ends = { λ form. take_ends I.reading (F.meaning form) (F.leaves_ends form) };
 
     #[inline]
     fn parse_next(&mut self, input: &mut I) -> Result<I::Slice, E> {
@@ -66,4 +42,18 @@ impl<F: Parser<I, O, E>, I: Stream, O: Drop, E: ParserError<I>> Parser<I, I::Sli
         input.reset(&start);
         Ok(input.next_slice(offset))
     }
+}
+
+impl<
+    P: AgreesWith<I, O, E, Q, J, F>,
+    Q: Parser<J, O, F>,
+    I: ReadsLike<J>,
+    J: Stream<Token = I::Token, Seen = I::Seen, Slice = I::Slice>,
+    O: Drop,
+    E: ParserError<I>,
+    F: ParserError<J>,
+> AgreesWith<I, I::Slice, E, Take<Q, J, O, F>, J, F> for Take<P, I, O, E> {
+    ghost like = { λ p q. P.like p.parser q.parser };
+
+    ghost agrees = { take_agrees (λ p. p.parser) (λ q. q.parser) I.same_reading P.agrees };
 }

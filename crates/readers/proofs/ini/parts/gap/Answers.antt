@@ -4,12 +4,13 @@ use Rattle.readers.proofs.PairRuns.{took, took_too_few, ok_is_err}
 use Rattle.readers.specs.Document.{white, comment, IsWhite}
 use Rattle.readers.proofs.PartRuns.{white_read, too_few_first, no_gap, take_backtracks, same_err, class_says, class_denies}
 use Rattle.readers.proofs.GapLemmas.{gap_read}
+use Rattle.readers.proofs.Repeated.{nothing_kept}
 use Rattle.readers.proofs.ini.parts.gap.Goals as goal
 
 pub returns : goal.returns
 returns g c = (
   c.parse_next.ensures.ends,
-  gap_read _ _ _ _ _ _ _ _ _ (c.repeat.ensures.occurrences ∙ c.from.ensures) (λ x. x) (λ x y. y) refl c.parse_next.ensures.ran.0 (record {
+  gap_read _ nothing_kept _ _ _ _ _ _ _ (c.repeat.ensures.occurrences ∙ c.from.ensures) (λ x. x) (λ x y. y) refl c.parse_next.ensures.ran.0 (record {
     takes = λ s i o t j whole ran. elim ran [
       | inl (r1, other, same) ↦ elim r1 [
         | inl (slice, r, e) ↦

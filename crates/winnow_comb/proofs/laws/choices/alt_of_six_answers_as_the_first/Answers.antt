@@ -1,6 +1,6 @@
--- Written by scripts/families.py.
+-- Written by scripts/families.py: do not edit.
 use Rattle.winnow_comb.proofs.ChoiceLaws.{chooses_first6}
 use Rattle.winnow_comb.proofs.laws.choices.alt_of_six_answers_as_the_first.Goals as goal
 
 pub returns : goal.returns
-returns g c = chooses_first6 g.P1.Parser.run g.P2.Parser.run g.P3.Parser.run g.P4.Parser.run g.P5.Parser.run g.P6.Parser.run
+returns g c = chooses_first6 (g.P1.Parser.meaning g.E.ParserError.form) (g.P2.Parser.meaning g.E.ParserError.form) (g.P3.Parser.meaning g.E.ParserError.form) (g.P4.Parser.meaning g.E.ParserError.form) (g.P5.Parser.meaning g.E.ParserError.form) (g.P6.Parser.meaning g.E.ParserError.form)

@@ -1,6 +1,6 @@
--- Written by scripts/families.py.
+-- Written by scripts/families.py: do not edit.
 use Rattle.winnow_comb.proofs.ChoiceLaws.{chooses_first3}
 use Rattle.winnow_comb.proofs.laws.choices.alt_of_three_answers_as_the_first.Goals as goal
 
 pub returns : goal.returns
-returns g c = chooses_first3 g.P1.Parser.run g.P2.Parser.run g.P3.Parser.run
+returns g c = chooses_first3 (g.P1.Parser.meaning g.E.ParserError.form) (g.P2.Parser.meaning g.E.ParserError.form) (g.P3.Parser.meaning g.E.ParserError.form)

@@ -1,5 +1,5 @@
-use Rattle.winnow_comb.proofs.RepeatLemmas.{runs_at_most_once_a_unit}
+use Rattle.winnow_comb.proofs.RepetitionLaw.{runs_at_most_once_a_unit}
 use Rattle.winnow_comb.proofs.laws.repetition.repeat_runs_at_most_once_a_unit.Goals as goal
 
 pub returns : goal.returns
-returns g c = runs_at_most_once_a_unit g.I.Stream.reading g.P.Parser.run
+returns g c = runs_at_most_once_a_unit g.I.Stream.reading (g.P.Parser.meaning g.E.ParserError.form) g.C.Accumulate.accumulator _

@@ -4,7 +4,7 @@ use Rattle.streams.specs.Bytes.{bytes_input}
 use Rattle.readers.specs.Sections.{pair_text}
 use Rattle.readers.proofs.PairRuns.{ok_is_err, same_ok}
 use Rattle.readers.proofs.PartRuns.{fails_as}
-use Rattle.readers.proofs.SectionLemmas.{name_gap_read, section_ok, name_fails, pairs_fail, same_text}
+use Rattle.readers.proofs.SectionLemmas.{name_gap_read, section_ok, name_begins, name_fails, pairs_fail, same_text}
 use Rattle.readers.proofs.ini.sections.SectionReaderParserRefSliceU8SectionErrModeInputErrorRefSliceU8.parse_next.Goals as goal
 
 pub returns-clause-ran : goal.returns-clause-ran
@@ -27,6 +27,8 @@ returns-clause-ran g c =
             | inr (inl (k1, r1, s2, f)) ↦
                 let fails = name_fails (bytes_input c.args.input.now.now) _ (bytes_input c.parse_next.new.input.now) (name_gap_read _ _ _ _ _ r1) in
                 (c.parse_next.ensures.ends, inr (inl (fails.0, fails_as e refl f fails.1)))
-            | inr (inr (o1, k2, a, r1, r2, f)) ↦ (c.parse_next.ensures.ends, inr (inr (fails_as e refl f (pairs_fail (λ all. map pair_text all.items) _ _ _ r2))))
+            | inr (inr (o1, k2, a, r1, r2, f)) ↦
+                let begins = name_begins (bytes_input c.args.input.now.now) o1 a (name_gap_read _ _ _ _ _ r1) in
+                (c.parse_next.ensures.ends, inr (inr (begins, fails_as e refl f (pairs_fail (λ all. map pair_text all.items) _ _ _ r2))))
           ]
     ]

@@ -1,4 +1,4 @@
--- Written by scripts/families.py.
+-- Written by scripts/families.py: do not edit.
 use Rattle.std.proofs.Common.{rules, refl, inl, inr}
 use Rattle.streams.specs.Input.{is_end_of_trans6}
 use Rattle.winnow_core.proofs.parser.tuples.Tuple6Parser.parse_next.Goals as goal

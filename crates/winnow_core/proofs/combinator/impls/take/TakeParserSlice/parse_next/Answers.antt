@@ -17,5 +17,5 @@ returns-clause-ran g c =
     let taken = c.next_slice.ensures.cuts front j.left.tokens (ap (λ x. x.left.tokens) back ∙ child.ends.ends.tokens) offset_is in
     let P : Input _ → Type 0 = λ x. Passes reading front x k in
     let same : k ≡ j = passed_again child.ends (subst P back taken.passed) in
-    let Q : Input _ → Type 0 = λ x. g.F.Parser.run c.args.self.now.parser i (Ok c.in_ok-_output._output) c.parse_next.new.self x in
+    let Q : Input _ → Type 0 = λ x. g.F.Parser.meaning g.E.ParserError.form (g.F.Parser.state c.args.self.now.parser) i (Ok c.in_ok-_output._output) (g.F.Parser.state c.parse_next.new.self) x in
     inl (c.in_ok-_output._output, front, c.next_slice.result, subst Q (sym same) child.ran, child.ends.ends.tokens ∙ ap (λ x. front ++ x.left.tokens) (sym same), taken.shown, refl)

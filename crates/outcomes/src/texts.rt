@@ -1,0 +1,160 @@
+//! Streams that are made of texts.
+use crate::{Ending, Kind, Outcome, ending_of, outcome_of};
+use std::fmt::Debug;
+use stream_errors::parser_error::ParserError;
+use streams::locating::LocatingSlice;
+use streams::partial::Partial;
+use streams::stream::{Stream, StreamIsPartial};
+use winnow_core::agrees_with::AgreesWith;
+use winnow_core::parser::Parser;
+
+/// A stream that the rows of a test run on.
+pub trait OfText: StreamIsPartial + PartialEq + Debug {
+    /// The stream of `text`, cut where the stream can be.
+    fn of_text(text: &'static str) -> Self;
+
+    /// The stream of the first tokens of `text`, so many; of all where there are no more.
+    fn of_beginning(text: &'static str, count: usize) -> Self;
+
+    /// The slice that is `text`.
+    fn slice_of_text(text: &'static str) -> Self::Slice;
+}
+
+impl OfText for &'static str {
+    fn of_text(text: &'static str) -> &'static str {
+        text
+    }
+
+    fn of_beginning(text: &'static str, count: usize) -> &'static str {
+        match text.char_indices().nth(count) {
+            Some((offset, _)) => text.get(..offset).unwrap_or(text),
+            None => text,
+        }
+    }
+
+    fn slice_of_text(text: &'static str) -> &'static str {
+        text
+    }
+}
+
+impl OfText for &'static [u8] {
+    fn of_text(text: &'static str) -> &'static [u8] {
+        text.as_bytes()
+    }
+
+    fn of_beginning(text: &'static str, count: usize) -> &'static [u8] {
+        let all = text.as_bytes();
+        all.get(..count).unwrap_or(all)
+    }
+
+    fn slice_of_text(text: &'static str) -> &'static [u8] {
+        text.as_bytes()
+    }
+}
+
+impl<I: OfText> OfText for Partial<I> {
+    fn of_text(text: &'static str) -> Partial<I> {
+        Partial::new(I::of_text(text))
+    }
+
+    fn of_beginning(text: &'static str, count: usize) -> Partial<I> {
+        Partial::new(I::of_beginning(text, count))
+    }
+
+    fn slice_of_text(text: &'static str) -> I::Slice {
+        I::slice_of_text(text)
+    }
+}
+
+impl<I: OfText> OfText for LocatingSlice<I> {
+    fn of_text(text: &'static str) -> LocatingSlice<I> {
+        LocatingSlice::new(I::of_text(text))
+    }
+
+    fn of_beginning(text: &'static str, count: usize) -> LocatingSlice<I> {
+        LocatingSlice::new(I::of_beginning(text, count))
+    }
+
+    fn slice_of_text(text: &'static str) -> I::Slice {
+        I::slice_of_text(text)
+    }
+}
+
+/// The stream, marked complete.
+pub fn completed<I: StreamIsPartial>(input: I) -> I {
+    let mut input = input;
+    let _state = input.complete();
+    input
+}
+
+/// The stream of `text`, whole.
+pub fn whole<I: OfText>(text: &'static str) -> I {
+    completed(I::of_text(text))
+}
+
+/// A run on a whole text that answers so, and leaves so much of it.
+pub fn outcome_in_text<I: OfText, O>(answer: Result<O, Kind>, rest: &'static str) -> Outcome<O, I> {
+    (answer, whole(rest))
+}
+
+/// One run of a parser on a whole text.
+pub fn outcome_at<I: OfText, O, E: ParserError<I>, P: Parser<I, O, E>>(
+    parser: &mut P,
+    text: &'static str,
+) -> Outcome<O, I>
+    requires { P.can_parse parser.old }
+    ensures { P.can_parse parser.new }
+{
+    outcome_of::<I, O, E, P>(parser, whole(text))
+}
+
+/// How a parser ends on a text, as the stream has it, and marked complete.
+pub fn endings_at<I: OfText, O: Drop, E: ParserError<I>, P: Parser<I, O, E>>(
+    parser: &mut P,
+    text: &'static str,
+) -> [Ending; 2]
+    requires { P.can_parse parser.old }
+    ensures { P.can_parse parser.new }
+{
+    [
+        ending_of::<I, O, E, P>(parser, I::of_text(text)),
+        ending_of::<I, O, E, P>(parser, whole(text)),
+    ]
+}
+
+/// What these are where the parser ends so on the whole text, and so on the cut one.
+pub fn endings_in_text<I: OfText>(as_whole: Ending, as_cut: Ending) -> [Ending; 2] {
+    if I::of_text("").is_partial() {
+        [as_cut, as_whole]
+    } else {
+        [as_whole, as_whole]
+    }
+}
+
+/// What a row says of a slice, at a stream.
+pub fn slice_in_text<I: OfText>(answer: Result<&'static str, Kind>) -> Result<I::Slice, Kind> {
+    match answer {
+        Ok(text) => Ok(I::slice_of_text(text)),
+        Err(kind) => Err(kind),
+    }
+}
+
+/// How a parser ends on a text, and how the like one does on the partial stream of it that is
+/// marked complete.
+pub fn endings_alike<I, O, E, P, Q>(parser: P, like: Q, text: &'static str) -> (Ending, Ending)
+where
+    I: OfText,
+    O: Drop,
+    E: ParserError<I> + ParserError<Partial<I>>,
+    P: AgreesWith<I, O, E, Q, Partial<I>, E> + Drop,
+    Q: Parser<Partial<I>, O, E> + Drop,
+    requires parser { P.can_parse parser }
+    requires like { Q.can_parse like }
+{
+    let mut parser = parser;
+    let mut like = like;
+    (
+        ending_of::<I, O, E, P>(&mut parser, I::of_text(text)),
+        ending_of::<Partial<I>, O, E, Q>(&mut like, whole(text)),
+    )
+}

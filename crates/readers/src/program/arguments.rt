@@ -1,0 +1,91 @@
+//! The program over the arguments that it was started with.
+ghost use Rattle.std.specs.Prelude.{◌≡◌, ◌≤◌, ◌+◌};
+ghost use Rattle.std.specs.Process.{exit_status};
+ghost use Rattle.readers.specs.Program.{ConsumesAtMost, most_bytes};
+
+use crate::program::{Stop, run, stopped};
+use std::alloc::{AllocError, Allocator};
+use std::env;
+use std::env::Env;
+use std::io::{Error, ErrorKind, Read, Write};
+use std::process::ExitCode;
+
+/// The program: [`run`] with the words behind its name, which the runtime gives, and its status as
+/// the exit code.
+///
+/// Words that are not text are no reader's name: they give the usage line. Where there is no memory
+/// for the words, `out of memory` is on `errors`. Both have the exit code 2, and nothing is read.
+///
+/// ```text
+/// serve(&rt, &mut rt.stdin(), &mut rt.stdout(), &mut rt.stderr())   is what `main` answers
+/// ```
+pub fn serve<A: Allocator + Copy, R: Env + Alloc<A = A>, I: Read, W: Write, E: Write>(
+    rt: &R,
+    input: &mut I,
+    output: &mut W,
+    errors: &mut E,
+) -> ExitCode
+    ensures status { exit_status result ≤ 2 }
+    ensures most { ConsumesAtMost (I.remaining input.old) (I.remaining input.new) (most_bytes + 1) }
+{
+    exit_code(status_over(rt, input, output, errors))
+}
+
+/// The exit code of a status.
+fn exit_code(status: u8) -> ExitCode
+    ensures { exit_status result ≡ status }
+{
+    ExitCode::from(status)
+}
+
+/// The status of a run over the words that the runtime gives.
+fn status_over<A: Allocator + Copy, R: Env + Alloc<A = A>, I: Read, W: Write, E: Write>(
+    rt: &R,
+    input: &mut I,
+    output: &mut W,
+    errors: &mut E,
+) -> u8
+    ensures status { result ≤ 2 }
+    ensures most { ConsumesAtMost (I.remaining input.old) (I.remaining input.new) (most_bytes + 1) }
+{
+    let words = match words(rt) {
+        Ok(words) => words,
+        Err(stop) => return stopped(stop, errors).status,
+    };
+    match texts(rt.alloc(), words.as_slice()) {
+        Ok(texts) => run(rt.alloc(), texts.as_slice(), input, output, errors),
+        Err(_) => stopped(Stop::NoMemory, errors).status,
+    }
+}
+
+/// The words behind the program's name, or why there are none.
+fn words<A: Allocator + Copy, R: Env + Alloc<A = A>>(rt: &R) -> Result<Vec<String<A>, A>, Stop> {
+    let mut words = Vec::new(rt.alloc());
+    for word in env::args(rt).map_err(stop_of)?.skip(1) {
+        if words.push(word).is_err() {
+            return Err(Stop::NoMemory);
+        }
+    }
+    Ok(words)
+}
+
+/// The words as text.
+fn texts<'w, A: Allocator + Copy>(
+    alloc: A,
+    words: &'w [String<A>],
+) -> Result<Vec<&'w str, A>, AllocError> {
+    let mut texts = Vec::new(alloc);
+    for word in words {
+        texts.push(word.as_str())?;
+    }
+    Ok(texts)
+}
+
+/// Why there are no words: one is not text, or there is no memory for them.
+fn stop_of(error: Error) -> Stop {
+    if error.kind() == ErrorKind::OutOfMemory {
+        Stop::NoMemory
+    } else {
+        Stop::Usage
+    }
+}

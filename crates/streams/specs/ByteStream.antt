@@ -1,0 +1,15 @@
+-- How a stream of bytes counts them.
+use Rattle.std.specs.Prelude.{◌≡◌, ℕ, List, length}
+use Rattle.std.proofs.Common.{refl}
+use Rattle.streams.specs.Located.{located_reading}
+use Rattle.streams.specs.Place.{Place}
+use Rattle.streams.specs.Reading.{Reading}
+
+-- Units are bytes, and they do not lead into a byte or out of one.
+pub record CountsBytes {S : Type 0} (reading : Reading ℕ S) : Type 0 where
+  pub units : (bytes : List ℕ) → reading.units bytes ≡ length bytes
+  pub between : (p : Place) (n : ℕ) → (reading.advance p n).bits_read ≡ p.bits_read
+
+-- those of a stream that keeps its place are counted as those of the stream inside
+pub located_counts : {S : Type 0} {reading : Reading ℕ S} → CountsBytes reading → CountsBytes (located_reading reading)
+located_counts counts = record { units = counts.units; between = counts.between }

@@ -1,0 +1,16 @@
+//! What contracts see of an error.
+ghost use Rattle.streams.specs.Kind.{Kind};
+
+/// An error that contracts see by its kind.
+///
+/// The traits that make and change errors stand on it, so that a bound on several of them speaks
+/// of one kind, and a stream that records errors shows their kinds. It has no functions: an error
+/// type says which kind each of its values has.
+///
+/// ```text
+/// ErrMode::Cut(error)   has the kind cut, or memory where `error` wants memory
+/// ```
+pub trait HasKind {
+    // The kind of an error.
+    ghost kind: { Self → Kind };
+}

@@ -1,0 +1,57 @@
+//! The longest beginning of ASCII letters, none too.
+//!
+//! Written by scripts/families.py: do not edit.
+ghost use Rattle.std.specs.Prelude.{⊤};
+ghost use Rattle.stream_sets.specs.AsChar.{IsAlpha};
+ghost use Rattle.winnow_ascii.specs.Class.{ClassRuns};
+ghost use Rattle.winnow_ascii.specs.Class.Laws.{class_alike, class_ends};
+ghost use Rattle.winnow_core.specs.Agrees.{agrees_plain};
+ghost use Rattle.winnow_core.specs.Runs.{Keeps};
+
+use crate::ascii::alpha0;
+use stream_errors::parser_error::ParserError;
+use stream_sets::as_char::AsChar;
+use streams::reads_like::ReadsLike;
+use streams::stream::{Stream, StreamIsPartial};
+use winnow_core::agrees_with::AgreesWith;
+use winnow_core::parser::Parser;
+
+/// The parser [`alpha0`](crate::ascii::alpha0).
+///
+/// ```text
+/// Alpha0.parse_next(&mut b"ab1".as_slice())   is Ok(b"ab"), and b"1" is left
+/// ```
+#[derive(Clone, Copy, Debug, PartialEq, Eq)]
+pub struct Alpha0;
+
+impl<I: StreamIsPartial, E: ParserError<I>> Parser<I, I::Slice, E> for Alpha0
+where
+    I::Token: AsChar,
+{
+    ghost State = { ⊤ };
+
+    ghost state = { λ _. tt };
+
+    ghost meaning = { λ form. Keeps (λ _. ClassRuns IsAlpha 0 I.Token.code I.seen_as I.reading form) };
+
+    ghost leaves_ends = { λ form x i answer y j r. class_ends IsAlpha 0 I.Token.code I.seen_as I.reading form i answer j r.0 };
+
+    #[inline(always)]
+    fn parse_next(&mut self, input: &mut I) -> Result<I::Slice, E> {
+        alpha0(input)
+    }
+}
+
+impl<
+    I: StreamIsPartial + ReadsLike<J>,
+    J: StreamIsPartial + Stream<Token = I::Token, Seen = I::Seen, Slice = I::Slice>,
+    E: ParserError<I>,
+    F: ParserError<J>,
+> AgreesWith<I, I::Slice, E, Alpha0, J, F> for Alpha0
+where
+    I::Token: AsChar,
+{
+    ghost like = { λ p q. ⊤ };
+
+    ghost agrees = { agrees_plain (class_alike IsAlpha 0 I.Token.code I.same_reading I.same_tokens) };
+}

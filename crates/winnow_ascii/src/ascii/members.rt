@@ -1,0 +1,39 @@
+//! Takes of the members of a class.
+ghost use Rattle.std.specs.Prelude.{None};
+ghost use Rattle.stream_errors.specs.Form.{answer_by};
+ghost use Rattle.streams.specs.Input.{IsEndOf};
+ghost use Rattle.streams.specs.Stream.{AnswersSeen};
+ghost use Rattle.winnow_token.specs.TakeWhile.{TakeWhileRuns};
+
+use stream_errors::parser_error::ParserError;
+use stream_sets::range::Range;
+use stream_sets::sets::ContainsToken;
+use streams::stream::StreamIsPartial;
+use winnow_core::parser::Parser;
+use winnow_token::token::take_while;
+
+/// The longest beginning of members of `set`, none too.
+#[inline(always)]
+pub(crate) fn any_of<S: ContainsToken<I::Token> + Drop, I: StreamIsPartial, E: ParserError<I>>(
+    input: &mut I,
+    set: S,
+) -> Result<I::Slice, E>
+    requires { S.can_test set }
+    ensures ran { TakeWhileRuns I.reading E.form (AnswersSeen I.seen_as (S.tells set)) 0 None (I.view input.old) (answer_by E.kind result) (I.view input.new) }
+    ensures ends { IsEndOf I.reading (I.view input.new) (I.view input.old) }
+{
+    take_while::<_, I, E>(Range::from(0..), set).parse_next(input)
+}
+
+/// The longest beginning of members of `set`, at least one.
+#[inline(always)]
+pub(crate) fn some_of<S: ContainsToken<I::Token> + Drop, I: StreamIsPartial, E: ParserError<I>>(
+    input: &mut I,
+    set: S,
+) -> Result<I::Slice, E>
+    requires { S.can_test set }
+    ensures ran { TakeWhileRuns I.reading E.form (AnswersSeen I.seen_as (S.tells set)) 1 None (I.view input.old) (answer_by E.kind result) (I.view input.new) }
+    ensures ends { IsEndOf I.reading (I.view input.new) (I.view input.old) }
+{
+    take_while::<_, I, E>(Range::from(1..), set).parse_next(input)
+}

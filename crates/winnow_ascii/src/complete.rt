@@ -1,2 +1,0 @@
-//! The parsers on a stream and on that stream as a partial one.
-mod classes;

@@ -1,0 +1,11 @@
+-- What holds of the runs of a child whose errors backtrack.
+use Rattle.std.specs.Prelude.{Ok, Err}
+use Rattle.std.proofs.Common.{inl, inr}
+use Rattle.streams.specs.Reading.{Reading}
+use Rattle.winnow_core.specs.Runs.{Runs, LeaveEnds}
+use Rattle.winnow_comb.specs.BacktrackErr.{BacktrackErrRuns}
+
+-- they leave an end, where those of the child do
+pub backtrack_err_ends : {S T L O : Type 0} (reading : Reading T L) (run : Runs S T O) → LeaveEnds reading run → LeaveEnds reading (BacktrackErrRuns run)
+backtrack_err_ends reading run ends s i answer t j (inl (o, r, e)) = ends s i (Ok o) t j r
+backtrack_err_ends reading run ends s i answer t j (inr (k, r, e)) = ends s i (Err k) t j r

@@ -1,0 +1,102 @@
+//! Choices: their branches, and their parser.
+ghost use Rattle.std.specs.Prelude.{⊤, ◌≡◌};
+ghost use Rattle.stream_errors.specs.Form.{ErrorForm, answer_by};
+ghost use Rattle.streams.specs.Input.{IsEndOf};
+ghost use Rattle.winnow_comb.specs.Attempt.{AttemptRuns};
+ghost use Rattle.winnow_core.specs.Runs.{LeaveEnds, Meaning};
+
+mod slices;
+mod tuples;
+
+use std::marker::PhantomData;
+use stream_errors::parser_error::ParserError;
+use streams::stream::Stream;
+use winnow_core::parser::Parser;
+
+/// Branches that [`alt`](crate::combinator::alt) meaning among, as winnow's documentation has it: a
+/// tuple of one to six parsers, or an array or a mutable slice of parsers of one type.
+///
+/// ```text
+/// (b'a', b'b').choice(&mut b"b".as_slice())   is Ok(b'b'), and nothing is left
+/// ```
+pub trait Alt<I: Stream, O, E: ParserError<I>> {
+    // The states in which the branches may be run: closures in them may be called.
+    ghost can_choose: { Self → Type 0 } = { λ _. ⊤ };
+
+    // The states of the branches.
+    ghost State: { Type 0 };
+
+    // The state that they are in.
+    ghost state: { Self → State };
+
+    // What the choice means: by the form of the errors, its runs.
+    ghost meaning: { Meaning State I.Seen O };
+
+    /// Runs the branches in order, each from the start, to the first answer that does not
+    /// backtrack.
+    fn choice(&mut self, input: &mut I) -> Result<O, E>
+        requires { can_choose self.old }
+        ensures again { can_choose self.new }
+        ensures ran { meaning E.form (state self.old) (I.view input.old) (answer_by E.kind result) (state self.new) (I.view input.new) }
+        ensures ends { IsEndOf I.reading (I.view input.new) (I.view input.old) };
+
+    // Each run leaves an end of its input.
+    ghost leaves_ends: { (form : ErrorForm) → LeaveEnds I.reading (meaning form) };
+}
+
+/// The parser that [`alt`](crate::combinator::alt) makes.
+///
+/// ```text
+/// alt((b'a', b'b'))   is an AltParser<(u8, u8), _, _, _>
+/// ```
+#[derive(Drop)]
+pub struct AltParser<A, I, O, E> {
+    pub(crate) alternatives: A,
+    pub(crate) input: PhantomData<I>,
+    pub(crate) output: PhantomData<O>,
+    pub(crate) error: PhantomData<E>,
+}
+
+impl<A: Alt<I, O, E>, I: Stream, O, E: ParserError<I>> Parser<I, O, E> for AltParser<A, I, O, E> {
+    ghost can_parse = { λ s. A.can_choose s.alternatives };
+
+    ghost State = { A.State };
+
+    ghost state = { λ s. A.state s.alternatives };
+
+    ghost meaning = { A.meaning };
+
+    ghost leaves_ends = { A.leaves_ends };
+
+    #[inline(always)]
+    fn parse_next(&mut self, input: &mut I) -> Result<O, E> {
+        self.alternatives.choice(input)
+    }
+}
+
+/// Runs a branch that is not the last one: its answer, or `None` where it backtracks, and then the
+/// input goes back to `start`, where it stands now.
+#[inline(always)]
+pub(crate) fn attempt<I: Stream, O, E: ParserError<I>, P: Parser<I, O, E>>(
+    branch: &mut P,
+    input: &mut I,
+    start: &I::Checkpoint,
+) -> Option<Result<O, E>>
+    requires callable { P.can_parse branch.old }
+    requires starts { I.seen start.now ≡ (I.view input.old).left }
+    ensures again { P.can_parse branch.new }
+    ensures ran { AttemptRuns E.kind (P.meaning E.form) (I.seen start.now) (P.state branch.old) (I.view input.old) result (P.state branch.new) (I.view input.new) }
+    ensures ends { IsEndOf I.reading (I.view input.new) (I.view input.old) }
+{
+    match branch.parse_next(input) {
+        Ok(output) => Some(Ok(output)),
+        Err(error) => {
+            if error.is_backtrack() {
+                input.reset(start);
+                None
+            } else {
+                Some(Err(error))
+            }
+        }
+    }
+}

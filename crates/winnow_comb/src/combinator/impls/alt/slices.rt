@@ -1,0 +1,106 @@
+//! Arrays and slices as branches.
+ghost use Rattle.std.specs.List.{All};
+ghost use Rattle.std.specs.Prelude.{◌≡◌, List, map, ℕ};
+ghost use Rattle.stream_errors.specs.Form.{answer_by, asserted};
+ghost use Rattle.streams.specs.Input.{IsEndOf};
+ghost use Rattle.winnow_comb.specs.Alt.Slice.{AltSliceRuns};
+ghost use Rattle.winnow_comb.specs.Alt.Slice.Laws.{alt_slice_ends, slice_agrees};
+ghost use Rattle.winnow_core.specs.Agrees.{AllAlike, agrees_list};
+ghost use Rattle.winnow_core.specs.ByRef.{ByRefRuns};
+ghost use Rattle.winnow_core.specs.ByRef.Laws.{by_ref_ends};
+
+use crate::combinator::impls::alt::{Alt, AltParser, attempt};
+use stream_errors::parser_error::ParserError;
+use streams::stream::Stream;
+use winnow_core::agrees_with::AgreesWith;
+use winnow_core::parser::Parser;
+
+impl<const N: usize, I: Stream, O, E: ParserError<I>, P: Parser<I, O, E>> Alt<I, O, E> for [P; N] {
+    ghost can_choose = { All P.can_parse };
+
+    ghost State = { List P.State };
+
+    ghost state = { λ s. map P.state s };
+
+    ghost meaning = { λ form. AltSliceRuns (P.meaning form) (asserted form) };
+
+    ghost leaves_ends = { λ form. alt_slice_ends I.reading (P.meaning form) (asserted form) (P.leaves_ends form) };
+
+    #[inline(always)]
+    fn choice(&mut self, input: &mut I) -> Result<O, E> {
+        choose(self, input)
+    }
+}
+
+impl<
+    const N: usize,
+    P: AgreesWith<I, O, E, Q, J, F>,
+    Q: Parser<J, O, F>,
+    I: Stream,
+    J: Stream<Token = I::Token, Seen = I::Seen, Slice = I::Slice>,
+    O,
+    E: ParserError<I>,
+    F: ParserError<J>,
+> AgreesWith<I, O, E, AltParser<[Q; N], J, O, F>, J, F> for AltParser<[P; N], I, O, E> {
+    ghost like = { λ p q. AllAlike P.like p.alternatives q.alternatives };
+
+    fn agree() {}
+
+    ghost agrees = { agrees_list (λ p. p.alternatives) (λ q. q.alternatives) (λ X m form. AltSliceRuns (m form) (asserted form)) P.agrees };
+}
+
+impl<'a, I: Stream, O, E: ParserError<I>, P: Parser<I, O, E>> Alt<I, O, E> for &'a mut [P] {
+    ghost can_choose = { λ s. All P.can_parse s.now };
+
+    ghost State = { List P.State × ℕ };
+
+    ghost state = { λ s. (map P.state s.now, s.ghost_name) };
+
+    ghost meaning = { λ form. ByRefRuns (AltSliceRuns (P.meaning form) (asserted form)) };
+
+    ghost leaves_ends = { λ form. by_ref_ends I.reading (AltSliceRuns (P.meaning form) (asserted form)) (alt_slice_ends I.reading (P.meaning form) (asserted form) (P.leaves_ends form)) };
+
+    #[inline(always)]
+    fn choice(&mut self, input: &mut I) -> Result<O, E> {
+        choose(self, input)
+    }
+}
+
+impl<
+    'a,
+    P: AgreesWith<I, O, E, Q, J, F>,
+    Q: Parser<J, O, F>,
+    I: Stream,
+    J: Stream<Token = I::Token, Seen = I::Seen, Slice = I::Slice>,
+    O,
+    E: ParserError<I>,
+    F: ParserError<J>,
+> AgreesWith<I, O, E, AltParser<&'a mut [Q], J, O, F>, J, F> for AltParser<&'a mut [P], I, O, E> {
+    ghost like = { λ p q. AllAlike P.like p.alternatives.now q.alternatives.now × (p.alternatives.ghost_name ≡ q.alternatives.ghost_name) };
+
+    ghost agrees = { slice_agrees (λ p. p.alternatives.now) (λ q. q.alternatives.now) (λ p. p.alternatives.ghost_name) (λ q. q.alternatives.ghost_name) asserted P.agrees };
+}
+
+/// Runs the branches of a slice in order, each from the start.
+#[inline(always)]
+fn choose<I: Stream, O, E: ParserError<I>, P: Parser<I, O, E>>(
+    branches: &mut [P],
+    input: &mut I,
+) -> Result<O, E>
+    requires { All P.can_parse branches.old }
+    ensures again { All P.can_parse branches.new }
+    ensures ran { AltSliceRuns (P.meaning E.form) (asserted E.form) (map P.state branches.old) (I.view input.old) (answer_by E.kind result) (map P.state branches.new) (I.view input.new) }
+    ensures ends { IsEndOf I.reading (I.view input.new) (I.view input.old) }
+{
+    if branches.is_empty() {
+        return Err(E::assert(input, "a choice needs at least one branch"));
+    }
+    let start = input.checkpoint();
+    let last = branches.len() - 1;
+    for k in 0..last {
+        if let Some(answer) = attempt(&mut branches[k], input, &start) {
+            return answer;
+        }
+    }
+    branches[last].parse_next(input)
+}

@@ -1,0 +1,59 @@
+//! A child whose errors backtrack.
+ghost use Rattle.winnow_comb.specs.BacktrackErr.{BacktrackErrRuns};
+ghost use Rattle.winnow_comb.specs.BacktrackErr.Laws.{backtrack_err_ends};
+ghost use Rattle.winnow_core.specs.Agrees.{agrees1};
+
+use std::marker::PhantomData;
+use stream_errors::modal::ModalError;
+use stream_errors::parser_error::ParserError;
+use streams::stream::Stream;
+use winnow_core::agrees_with::AgreesWith;
+use winnow_core::parser::Parser;
+
+/// The parser that [`backtrack_err`](crate::combinator::backtrack_err) makes.
+///
+/// ```text
+/// backtrack_err(b'a')   is a BacktrackErr<u8, _, _, _>
+/// ```
+#[derive(Drop)]
+pub struct BacktrackErr<P, I, O, E> {
+    pub(crate) parser: P,
+    pub(crate) input: PhantomData<I>,
+    pub(crate) output: PhantomData<O>,
+    pub(crate) error: PhantomData<E>,
+}
+
+impl<P: Parser<I, O, E>, I: Stream, O, E: ParserError<I> + ModalError> Parser<I, O, E>
+    for BacktrackErr<P, I, O, E> {
+    ghost can_parse = { λ s. P.can_parse s.parser };
+
+    ghost State = { P.State };
+
+    ghost state = { λ s. P.state s.parser };
+
+    ghost meaning = { λ form. BacktrackErrRuns (P.meaning form) };
+
+    ghost leaves_ends = { λ form. backtrack_err_ends I.reading (P.meaning form) (P.leaves_ends form) };
+
+    #[inline(always)]
+    fn parse_next(&mut self, input: &mut I) -> Result<O, E> {
+        match self.parser.parse_next(input) {
+            Ok(output) => Ok(output),
+            Err(error) => Err(error.backtrack()),
+        }
+    }
+}
+
+impl<
+    P: AgreesWith<I, O, E, Q, J, F>,
+    Q: Parser<J, O, F>,
+    I: Stream,
+    J: Stream<Token = I::Token, Seen = I::Seen, Slice = I::Slice>,
+    O,
+    E: ParserError<I> + ModalError,
+    F: ParserError<J> + ModalError,
+> AgreesWith<I, O, E, BacktrackErr<Q, J, O, F>, J, F> for BacktrackErr<P, I, O, E> {
+    ghost like = { λ p q. P.like p.parser q.parser };
+
+    ghost agrees = { agrees1 (λ p. p.parser) (λ q. q.parser) (λ X m form. BacktrackErrRuns (m form)) P.agrees };
+}

@@ -1,0 +1,62 @@
+//! A child that is run on a condition.
+ghost use Rattle.std.specs.Prelude.{◌≡◌, Bool};
+ghost use Rattle.winnow_comb.specs.Cond.{CondRuns};
+ghost use Rattle.winnow_comb.specs.Cond.Laws.{cond_ends};
+ghost use Rattle.winnow_core.specs.Agrees.{agrees_with};
+
+use std::marker::PhantomData;
+use stream_errors::parser_error::ParserError;
+use streams::stream::Stream;
+use winnow_core::agrees_with::AgreesWith;
+use winnow_core::parser::Parser;
+
+/// The parser that [`cond`](crate::combinator::cond) makes.
+///
+/// ```text
+/// cond(true, b'a')   is a Cond<u8, _, _, _>
+/// ```
+#[derive(Drop)]
+pub struct Cond<P, I, O, E> {
+    pub(crate) condition: bool,
+    pub(crate) parser: P,
+    pub(crate) input: PhantomData<I>,
+    pub(crate) output: PhantomData<O>,
+    pub(crate) error: PhantomData<E>,
+}
+
+impl<P: Parser<I, O, E>, I: Stream, O, E: ParserError<I>> Parser<I, Option<O>, E>
+    for Cond<P, I, O, E> {
+    ghost can_parse = { λ s. P.can_parse s.parser };
+
+    ghost State = { P.State × Bool };
+
+    ghost state = { λ s. (P.state s.parser, s.condition) };
+
+    ghost meaning = { λ form. CondRuns (P.meaning form) };
+
+    ghost leaves_ends = { λ form. cond_ends I.reading (P.meaning form) (P.leaves_ends form) };
+
+    #[inline(always)]
+    fn parse_next(&mut self, input: &mut I) -> Result<Option<O>, E> {
+        if self.condition {
+            let output = self.parser.parse_next(input)?;
+            Ok(Some(output))
+        } else {
+            Ok(None)
+        }
+    }
+}
+
+impl<
+    P: AgreesWith<I, O, E, Q, J, F>,
+    Q: Parser<J, O, F>,
+    I: Stream,
+    J: Stream<Token = I::Token, Seen = I::Seen, Slice = I::Slice>,
+    O,
+    E: ParserError<I>,
+    F: ParserError<J>,
+> AgreesWith<I, Option<O>, E, Cond<Q, J, O, F>, J, F> for Cond<P, I, O, E> {
+    ghost like = { λ p q. P.like p.parser q.parser × (p.condition ≡ q.condition) };
+
+    ghost agrees = { agrees_with (λ p. p.parser) (λ q. q.parser) (λ p. p.condition) (λ q. q.condition) (λ X m form. CondRuns (m form)) P.agrees };
+}

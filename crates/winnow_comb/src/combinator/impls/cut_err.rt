@@ -1,0 +1,59 @@
+//! A child whose errors cut.
+ghost use Rattle.winnow_comb.specs.CutErr.{CutErrRuns};
+ghost use Rattle.winnow_comb.specs.CutErr.Laws.{cut_err_ends};
+ghost use Rattle.winnow_core.specs.Agrees.{agrees1};
+
+use std::marker::PhantomData;
+use stream_errors::modal::ModalError;
+use stream_errors::parser_error::ParserError;
+use streams::stream::Stream;
+use winnow_core::agrees_with::AgreesWith;
+use winnow_core::parser::Parser;
+
+/// The parser that [`cut_err`](crate::combinator::cut_err) makes.
+///
+/// ```text
+/// cut_err(b'a')   is a CutErr<u8, _, _, _>
+/// ```
+#[derive(Drop)]
+pub struct CutErr<P, I, O, E> {
+    pub(crate) parser: P,
+    pub(crate) input: PhantomData<I>,
+    pub(crate) output: PhantomData<O>,
+    pub(crate) error: PhantomData<E>,
+}
+
+impl<P: Parser<I, O, E>, I: Stream, O, E: ParserError<I> + ModalError> Parser<I, O, E>
+    for CutErr<P, I, O, E> {
+    ghost can_parse = { λ s. P.can_parse s.parser };
+
+    ghost State = { P.State };
+
+    ghost state = { λ s. P.state s.parser };
+
+    ghost meaning = { λ form. CutErrRuns (P.meaning form) };
+
+    ghost leaves_ends = { λ form. cut_err_ends I.reading (P.meaning form) (P.leaves_ends form) };
+
+    #[inline(always)]
+    fn parse_next(&mut self, input: &mut I) -> Result<O, E> {
+        match self.parser.parse_next(input) {
+            Ok(output) => Ok(output),
+            Err(error) => Err(error.cut()),
+        }
+    }
+}
+
+impl<
+    P: AgreesWith<I, O, E, Q, J, F>,
+    Q: Parser<J, O, F>,
+    I: Stream,
+    J: Stream<Token = I::Token, Seen = I::Seen, Slice = I::Slice>,
+    O,
+    E: ParserError<I> + ModalError,
+    F: ParserError<J> + ModalError,
+> AgreesWith<I, O, E, CutErr<Q, J, O, F>, J, F> for CutErr<P, I, O, E> {
+    ghost like = { λ p q. P.like p.parser q.parser };
+
+    ghost agrees = { agrees1 (λ p. p.parser) (λ q. q.parser) (λ X m form. CutErrRuns (m form)) P.agrees };
+}

@@ -1,0 +1,47 @@
+//! The parser that takes nothing.
+ghost use Rattle.std.specs.Prelude.{⊤};
+ghost use Rattle.winnow_comb.specs.Empty.{EmptyRuns};
+ghost use Rattle.winnow_core.specs.Agrees.{agrees_plain};
+ghost use Rattle.winnow_core.specs.Ends.{same_ends};
+ghost use Rattle.winnow_core.specs.Runs.{Keeps};
+ghost use Rattle.winnow_core.specs.SameMeaning.{same_refl};
+
+use crate::combinator::basic::empty;
+use stream_errors::parser_error::ParserError;
+use streams::stream::Stream;
+use winnow_core::agrees_with::AgreesWith;
+use winnow_core::parser::Parser;
+
+/// The parser [`empty`](crate::combinator::empty).
+///
+/// ```text
+/// (b'a', Empty).parse_next(&mut b"a".as_slice())   is Ok((b'a', ()))
+/// ```
+#[derive(Clone, Copy, Debug, PartialEq, Eq)]
+pub struct Empty;
+
+impl<I: Stream, E: ParserError<I>> Parser<I, (), E> for Empty {
+    ghost State = { ⊤ };
+
+    ghost state = { λ _. tt };
+
+    ghost meaning = { λ _. Keeps (λ _. EmptyRuns) };
+
+    ghost leaves_ends = { λ form x i answer y j r. same_ends I.reading i j r.0.1 };
+
+    #[inline(always)]
+    fn parse_next(&mut self, input: &mut I) -> Result<(), E> {
+        empty(input)
+    }
+}
+
+impl<
+    I: Stream,
+    J: Stream<Token = I::Token, Seen = I::Seen, Slice = I::Slice>,
+    E: ParserError<I>,
+    F: ParserError<J>,
+> AgreesWith<I, (), E, Empty, J, F> for Empty {
+    ghost like = { λ p q. ⊤ };
+
+    ghost agrees = { agrees_plain (same_refl (λ _. Keeps (λ _. EmptyRuns))) };
+}

@@ -1,0 +1,48 @@
+//! The parser that fails.
+ghost use Rattle.std.specs.Prelude.{⊤};
+ghost use Rattle.winnow_comb.specs.Fail.{FailRuns};
+ghost use Rattle.winnow_core.specs.Agrees.{agrees_plain};
+ghost use Rattle.winnow_core.specs.Ends.{same_ends};
+ghost use Rattle.winnow_core.specs.Runs.{Keeps};
+ghost use Rattle.winnow_core.specs.SameMeaning.{same_refl};
+
+use crate::combinator::basic::fail;
+use stream_errors::parser_error::ParserError;
+use streams::stream::Stream;
+use winnow_core::agrees_with::AgreesWith;
+use winnow_core::parser::Parser;
+
+/// The parser [`fail`](crate::combinator::fail).
+///
+/// ```text
+/// opt((b'a', Fail)).parse_next(&mut b"a".as_slice())   is Ok(None)
+/// ```
+#[derive(Clone, Copy, Debug, PartialEq, Eq)]
+pub struct Fail;
+
+impl<I: Stream, O, E: ParserError<I>> Parser<I, O, E> for Fail {
+    ghost State = { ⊤ };
+
+    ghost state = { λ _. tt };
+
+    ghost meaning = { λ _. Keeps (λ _. FailRuns) };
+
+    ghost leaves_ends = { λ form x i answer y j r. same_ends I.reading i j r.0.1 };
+
+    #[inline(always)]
+    fn parse_next(&mut self, input: &mut I) -> Result<O, E> {
+        fail(input)
+    }
+}
+
+impl<
+    I: Stream,
+    J: Stream<Token = I::Token, Seen = I::Seen, Slice = I::Slice>,
+    O,
+    E: ParserError<I>,
+    F: ParserError<J>,
+> AgreesWith<I, O, E, Fail, J, F> for Fail {
+    ghost like = { λ p q. ⊤ };
+
+    ghost agrees = { agrees_plain (same_refl (λ _. Keeps (λ _. FailRuns))) };
+}

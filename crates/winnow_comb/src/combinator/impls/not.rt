@@ -1,0 +1,67 @@
+//! A child that is not to succeed.
+ghost use Rattle.winnow_comb.specs.Not.{NotRuns};
+ghost use Rattle.winnow_comb.specs.Not.Laws.{not_ends};
+ghost use Rattle.winnow_core.specs.Agrees.{agrees1};
+
+use std::marker::PhantomData;
+use stream_errors::parser_error::ParserError;
+use streams::stream::Stream;
+use winnow_core::agrees_with::AgreesWith;
+use winnow_core::parser::Parser;
+
+/// The parser that [`not`](crate::combinator::not) makes.
+///
+/// ```text
+/// not(b'a')   is a Not<u8, _, _, _>
+/// ```
+#[derive(Drop)]
+pub struct Not<P, I, O, E> {
+    pub(crate) parser: P,
+    pub(crate) input: PhantomData<I>,
+    pub(crate) output: PhantomData<O>,
+    pub(crate) error: PhantomData<E>,
+}
+
+impl<P: Parser<I, O, E>, I: Stream, O: Drop, E: ParserError<I>> Parser<I, (), E>
+    for Not<P, I, O, E> {
+    ghost can_parse = { λ s. P.can_parse s.parser };
+
+    ghost State = { P.State };
+
+    ghost state = { λ s. P.state s.parser };
+
+    ghost meaning = { λ form. NotRuns (P.meaning form) };
+
+    ghost leaves_ends = { λ form. not_ends I.reading (P.meaning form) (P.leaves_ends form) };
+
+    #[inline(always)]
+    fn parse_next(&mut self, input: &mut I) -> Result<(), E> {
+        let start = input.checkpoint();
+        let answer = self.parser.parse_next(input);
+        input.reset(&start);
+        match answer {
+            Ok(_output) => Err(E::from_input(input)),
+            Err(error) => {
+                if error.is_backtrack() {
+                    Ok(())
+                } else {
+                    Err(error)
+                }
+            }
+        }
+    }
+}
+
+impl<
+    P: AgreesWith<I, O, E, Q, J, F>,
+    Q: Parser<J, O, F>,
+    I: Stream,
+    J: Stream<Token = I::Token, Seen = I::Seen, Slice = I::Slice>,
+    O: Drop,
+    E: ParserError<I>,
+    F: ParserError<J>,
+> AgreesWith<I, (), E, Not<Q, J, O, F>, J, F> for Not<P, I, O, E> {
+    ghost like = { λ p q. P.like p.parser q.parser };
+
+    ghost agrees = { agrees1 (λ p. p.parser) (λ q. q.parser) (λ X m form. NotRuns (m form)) P.agrees };
+}

@@ -1,0 +1,66 @@
+//! A child that may be left out.
+ghost use Rattle.winnow_comb.specs.Opt.{OptRuns};
+ghost use Rattle.winnow_comb.specs.Opt.Laws.{opt_ends};
+ghost use Rattle.winnow_core.specs.Agrees.{agrees1};
+
+use std::marker::PhantomData;
+use stream_errors::parser_error::ParserError;
+use streams::stream::Stream;
+use winnow_core::agrees_with::AgreesWith;
+use winnow_core::parser::Parser;
+
+/// The parser that [`opt`](crate::combinator::opt) makes.
+///
+/// ```text
+/// opt(b'a')   is an Opt<u8, _, _, _>
+/// ```
+#[derive(Drop)]
+pub struct Opt<P, I, O, E> {
+    pub(crate) parser: P,
+    pub(crate) input: PhantomData<I>,
+    pub(crate) output: PhantomData<O>,
+    pub(crate) error: PhantomData<E>,
+}
+
+impl<P: Parser<I, O, E>, I: Stream, O, E: ParserError<I>> Parser<I, Option<O>, E>
+    for Opt<P, I, O, E> {
+    ghost can_parse = { λ s. P.can_parse s.parser };
+
+    ghost State = { P.State };
+
+    ghost state = { λ s. P.state s.parser };
+
+    ghost meaning = { λ form. OptRuns (P.meaning form) };
+
+    ghost leaves_ends = { λ form. opt_ends I.reading (P.meaning form) (P.leaves_ends form) };
+
+    #[inline(always)]
+    fn parse_next(&mut self, input: &mut I) -> Result<Option<O>, E> {
+        let start = input.checkpoint();
+        match self.parser.parse_next(input) {
+            Ok(output) => Ok(Some(output)),
+            Err(error) => {
+                if error.is_backtrack() {
+                    input.reset(&start);
+                    Ok(None)
+                } else {
+                    Err(error)
+                }
+            }
+        }
+    }
+}
+
+impl<
+    P: AgreesWith<I, O, E, Q, J, F>,
+    Q: Parser<J, O, F>,
+    I: Stream,
+    J: Stream<Token = I::Token, Seen = I::Seen, Slice = I::Slice>,
+    O,
+    E: ParserError<I>,
+    F: ParserError<J>,
+> AgreesWith<I, Option<O>, E, Opt<Q, J, O, F>, J, F> for Opt<P, I, O, E> {
+    ghost like = { λ p q. P.like p.parser q.parser };
+
+    ghost agrees = { agrees1 (λ p. p.parser) (λ q. q.parser) (λ X m form. OptRuns (m form)) P.agrees };
+}

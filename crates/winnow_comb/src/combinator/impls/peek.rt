@@ -1,0 +1,57 @@
+//! A child whose run consumes nothing.
+ghost use Rattle.winnow_comb.specs.Peek.{PeekRuns};
+ghost use Rattle.winnow_comb.specs.Peek.Laws.{peek_ends};
+ghost use Rattle.winnow_core.specs.Agrees.{agrees1};
+
+use std::marker::PhantomData;
+use stream_errors::parser_error::ParserError;
+use streams::stream::Stream;
+use winnow_core::agrees_with::AgreesWith;
+use winnow_core::parser::Parser;
+
+/// The parser that [`peek`](crate::combinator::peek) makes.
+///
+/// ```text
+/// peek(b'a')   is a Peek<u8, _, _, _>
+/// ```
+#[derive(Drop)]
+pub struct Peek<P, I, O, E> {
+    pub(crate) parser: P,
+    pub(crate) input: PhantomData<I>,
+    pub(crate) output: PhantomData<O>,
+    pub(crate) error: PhantomData<E>,
+}
+
+impl<P: Parser<I, O, E>, I: Stream, O, E: ParserError<I>> Parser<I, O, E> for Peek<P, I, O, E> {
+    ghost can_parse = { λ s. P.can_parse s.parser };
+
+    ghost State = { P.State };
+
+    ghost state = { λ s. P.state s.parser };
+
+    ghost meaning = { λ form. PeekRuns (P.meaning form) };
+
+    ghost leaves_ends = { λ form. peek_ends I.reading (P.meaning form) (P.leaves_ends form) };
+
+    #[inline(always)]
+    fn parse_next(&mut self, input: &mut I) -> Result<O, E> {
+        let start = input.checkpoint();
+        let seen = self.parser.parse_next(input);
+        input.reset(&start);
+        seen
+    }
+}
+
+impl<
+    P: AgreesWith<I, O, E, Q, J, F>,
+    Q: Parser<J, O, F>,
+    I: Stream,
+    J: Stream<Token = I::Token, Seen = I::Seen, Slice = I::Slice>,
+    O,
+    E: ParserError<I>,
+    F: ParserError<J>,
+> AgreesWith<I, O, E, Peek<Q, J, O, F>, J, F> for Peek<P, I, O, E> {
+    ghost like = { λ p q. P.like p.parser q.parser };
+
+    ghost agrees = { agrees1 (λ p. p.parser) (λ q. q.parser) (λ X m form. PeekRuns (m form)) P.agrees };
+}

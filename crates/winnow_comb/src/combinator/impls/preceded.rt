@@ -1,0 +1,64 @@
+//! A child behind one whose output is let go.
+ghost use Rattle.winnow_comb.specs.InOrder.Laws.{both_ends};
+ghost use Rattle.winnow_comb.specs.Preceded.{PrecededRuns};
+ghost use Rattle.winnow_core.specs.Agrees.Sizes.{agrees2};
+
+use std::marker::PhantomData;
+use stream_errors::parser_error::ParserError;
+use streams::stream::Stream;
+use winnow_core::agrees_with::AgreesWith;
+use winnow_core::parser::Parser;
+
+/// The parser that [`preceded`](crate::combinator::preceded) makes.
+///
+/// ```text
+/// preceded(b'(', b'a')   is a Preceded<u8, u8, _, _, _, _>
+/// ```
+#[derive(Drop)]
+pub struct Preceded<P1, P2, I, O1, O2, E> {
+    pub(crate) ignored: P1,
+    pub(crate) parser: P2,
+    pub(crate) input: PhantomData<I>,
+    pub(crate) output1: PhantomData<O1>,
+    pub(crate) output2: PhantomData<O2>,
+    pub(crate) error: PhantomData<E>,
+}
+
+impl<P1: Parser<I, O1, E>, P2: Parser<I, O2, E>, I: Stream, O1: Drop, O2, E: ParserError<I>> Parser<
+    I,
+    O2,
+    E,
+> for Preceded<P1, P2, I, O1, O2, E> {
+    ghost can_parse = { λ s. P1.can_parse s.ignored × P2.can_parse s.parser };
+
+    ghost State = { P1.State × P2.State };
+
+    ghost state = { λ s. (P1.state s.ignored, P2.state s.parser) };
+
+    ghost meaning = { λ form. PrecededRuns (P1.meaning form) (P2.meaning form) };
+
+    ghost leaves_ends = { λ form. both_ends I.reading (λ o1 o2. o2) (P1.meaning form) (P2.meaning form) (P1.leaves_ends form) (P2.leaves_ends form) };
+
+    #[inline(always)]
+    fn parse_next(&mut self, input: &mut I) -> Result<O2, E> {
+        let _before = self.ignored.parse_next(input)?;
+        self.parser.parse_next(input)
+    }
+}
+
+impl<
+    P1: AgreesWith<I, O1, E, Q1, J, F>,
+    Q1: Parser<J, O1, F>,
+    P2: AgreesWith<I, O2, E, Q2, J, F>,
+    Q2: Parser<J, O2, F>,
+    I: Stream,
+    J: Stream<Token = I::Token, Seen = I::Seen, Slice = I::Slice>,
+    O1: Drop,
+    O2,
+    E: ParserError<I>,
+    F: ParserError<J>,
+> AgreesWith<I, O2, E, Preceded<Q1, Q2, J, O1, O2, F>, J, F> for Preceded<P1, P2, I, O1, O2, E> {
+    ghost like = { λ p q. P1.like p.ignored q.ignored × P2.like p.parser q.parser };
+
+    ghost agrees = { agrees2 (λ p. p.ignored) (λ q. q.ignored) (λ p. p.parser) (λ q. q.parser) (λ X1 X2 m1 m2 form. PrecededRuns (m1 form) (m2 form)) P1.agrees P2.agrees };
+}

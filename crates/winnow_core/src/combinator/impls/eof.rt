@@ -1,0 +1,47 @@
+//! The end of the input.
+ghost use Rattle.std.specs.Prelude.{⊤};
+ghost use Rattle.winnow_core.specs.Agrees.{agrees_plain};
+ghost use Rattle.winnow_core.specs.Eof.{EofRuns};
+ghost use Rattle.winnow_core.specs.Eof.Laws.{eof_alike, eof_ends};
+ghost use Rattle.winnow_core.specs.Runs.{Keeps};
+
+use crate::agrees_with::AgreesWith;
+use crate::combinator::eof;
+use crate::parser::Parser;
+use stream_errors::parser_error::ParserError;
+use streams::reads_like::ReadsLike;
+use streams::stream::Stream;
+
+/// The parser [`eof`](crate::combinator::eof).
+///
+/// ```text
+/// (b'a', Eof).parse_next(&mut b"a".as_slice())   is Ok((b'a', b""))
+/// ```
+#[derive(Clone, Copy, Debug, PartialEq, Eq)]
+pub struct Eof;
+
+impl<I: Stream, E: ParserError<I>> Parser<I, I::Slice, E> for Eof {
+    ghost State = { ⊤ };
+
+    ghost state = { λ _. tt };
+
+    ghost meaning = { λ _. Keeps (λ _. EofRuns I.reading) };
+
+    ghost leaves_ends = { λ form x i answer y j r. eof_ends I.reading i answer j r.0 };
+
+    #[inline(always)]
+    fn parse_next(&mut self, input: &mut I) -> Result<I::Slice, E> {
+        eof(input)
+    }
+}
+
+impl<
+    I: ReadsLike<J>,
+    J: Stream<Token = I::Token, Seen = I::Seen, Slice = I::Slice>,
+    E: ParserError<I>,
+    F: ParserError<J>,
+> AgreesWith<I, I::Slice, E, Eof, J, F> for Eof {
+    ghost like = { λ p q. ⊤ };
+
+    ghost agrees = { agrees_plain (eof_alike I.same_reading) };
+}

@@ -1,0 +1,73 @@
+//! Outputs made of outputs by a closure that may refuse them.
+ghost use Rattle.std.specs.Prelude.{◌≡◌};
+ghost use Rattle.winnow_core.specs.Agrees.{agrees_with};
+ghost use Rattle.winnow_core.specs.VerifyMap.{VerifyMapRuns};
+ghost use Rattle.winnow_core.specs.VerifyMap.Laws.{verify_map_ends};
+
+use crate::agrees_with::AgreesWith;
+use crate::parser::Parser;
+use std::marker::PhantomData;
+use stream_errors::parser_error::ParserError;
+use streams::stream::Stream;
+
+/// The parser that [`Parser::verify_map`](crate::parser::Parser::verify_map) makes.
+///
+/// ```text
+/// digits.verify_map(|slice: &[u8]| slice.first().copied())   is a VerifyMap
+/// ```
+#[derive(Drop)]
+pub struct VerifyMap<F, G, I, O, O2, E> {
+    pub(crate) parser: F,
+    pub(crate) filter: G,
+    pub(crate) input: PhantomData<I>,
+    pub(crate) output: PhantomData<O>,
+    pub(crate) mapped: PhantomData<O2>,
+    pub(crate) error: PhantomData<E>,
+}
+
+impl<F: Parser<I, O, E>, G: FnMut(O) -> Option<O2>, I: Stream, O, O2, E: ParserError<I>> Parser<
+    I,
+    O2,
+    E,
+> for VerifyMap<F, G, I, O, O2, E> {
+    ghost can_parse = { λ s. F.can_parse s.parser × G.IsAlwaysCallable s.filter };
+
+    ghost State = { F.State × G };
+
+    ghost state = { λ s. (F.state s.parser, s.filter) };
+
+    ghost meaning = { λ form. VerifyMapRuns (F.meaning form) G.step };
+
+    ghost leaves_ends = { λ form. verify_map_ends I.reading (F.meaning form) G.step (F.leaves_ends form) };
+
+    #[inline]
+    fn parse_next(&mut self, input: &mut I) -> Result<O2, E> {
+        let start = input.checkpoint();
+        let output = self.parser.parse_next(input)?;
+        match (self.filter)(output) {
+            Some(output) => Ok(output),
+            None => {
+                input.reset(&start);
+                Err(E::from_input(input))
+            }
+        }
+    }
+}
+
+impl<
+    P: AgreesWith<I, O, E, Q, J, F>,
+    Q: Parser<J, O, F>,
+    G: FnMut(O) -> Option<O2>,
+    I: Stream,
+    J: Stream<Token = I::Token, Seen = I::Seen, Slice = I::Slice>,
+    O,
+    O2,
+    E: ParserError<I>,
+    F: ParserError<J>,
+> AgreesWith<I, O2, E, VerifyMap<Q, G, J, O, O2, F>, J, F> for VerifyMap<P, G, I, O, O2, E> {
+    ghost like = { λ p q. P.like p.parser q.parser × (p.filter ≡ q.filter) };
+
+    ghost agrees = { agrees_with (λ p. p.parser) (λ q. q.parser) (λ p. p.filter) (λ q. q.filter) (λ X m form. VerifyMapRuns (m form) G.step) P.agrees };
+
+    fn agree() {}
+}

@@ -1,0 +1,56 @@
+//! Outputs that are dropped.
+ghost use Rattle.winnow_core.specs.Agrees.{agrees1};
+ghost use Rattle.winnow_core.specs.Void.{VoidRuns};
+ghost use Rattle.winnow_core.specs.Void.Laws.{void_ends};
+
+use crate::agrees_with::AgreesWith;
+use crate::parser::Parser;
+use std::marker::PhantomData;
+use stream_errors::parser_error::ParserError;
+use streams::stream::Stream;
+
+/// The parser that [`Parser::void`](crate::parser::Parser::void) makes.
+///
+/// ```text
+/// b"key".void()   is a Void
+/// ```
+#[derive(Drop)]
+pub struct Void<F, I, O, E> {
+    pub(crate) parser: F,
+    pub(crate) input: PhantomData<I>,
+    pub(crate) output: PhantomData<O>,
+    pub(crate) error: PhantomData<E>,
+}
+
+impl<F: Parser<I, O, E>, I: Stream, O: Drop, E: ParserError<I>> Parser<I, (), E>
+    for Void<F, I, O, E> {
+    ghost can_parse = { λ s. F.can_parse s.parser };
+
+    ghost State = { F.State };
+
+    ghost state = { λ s. F.state s.parser };
+
+    ghost meaning = { λ form. VoidRuns (F.meaning form) };
+
+    ghost leaves_ends = { λ form. void_ends I.reading (F.meaning form) (F.leaves_ends form) };
+
+    #[inline(always)]
+    fn parse_next(&mut self, input: &mut I) -> Result<(), E> {
+        let _output = self.parser.parse_next(input)?;
+        Ok(())
+    }
+}
+
+impl<
+    P: AgreesWith<I, O, E, Q, J, F>,
+    Q: Parser<J, O, F>,
+    I: Stream,
+    J: Stream<Token = I::Token, Seen = I::Seen, Slice = I::Slice>,
+    O: Drop,
+    E: ParserError<I>,
+    F: ParserError<J>,
+> AgreesWith<I, (), E, Void<Q, J, O, F>, J, F> for Void<P, I, O, E> {
+    ghost like = { λ p q. P.like p.parser q.parser };
+
+    ghost agrees = { agrees1 (λ p. p.parser) (λ q. q.parser) (λ X m form. VoidRuns (m form)) P.agrees };
+}

@@ -1,0 +1,11 @@
+pub mod Literal
+pub mod Any
+pub mod OneOf
+pub mod NoneOf
+pub mod Take
+pub mod TakeWhile
+pub mod Members
+pub mod TakeTill
+pub mod TakeUntil
+pub mod Before
+pub mod Rest

@@ -1,0 +1,261 @@
+//! Parsers that take tokens, as winnow's documentation has them.
+#![tactic(auto, using(streams::specs::Ends::ends_follow))]
+
+ghost use Rattle.std.specs.Prelude.{◌≡◌};
+ghost use Rattle.stream_errors.specs.Form.{answer_by};
+ghost use Rattle.streams.specs.Input.{IsEndOf};
+ghost use Rattle.winnow_token.specs.Any.{AnyRuns};
+ghost use Rattle.winnow_token.specs.Literal.{literal_value};
+ghost use Rattle.winnow_token.specs.NoneOf.{none_of_set};
+ghost use Rattle.winnow_token.specs.OneOf.{one_of_set};
+ghost use Rattle.winnow_token.specs.Rest.{RestLenRuns, RestRuns};
+ghost use Rattle.winnow_token.specs.Take.{take_count};
+ghost use Rattle.winnow_token.specs.TakeTill.{take_till_occurrences, take_till_set};
+ghost use Rattle.winnow_token.specs.TakeUntil.{take_until_literal, take_until_occurrences};
+ghost use Rattle.winnow_token.specs.TakeWhile.{take_while_occurrences, take_while_set};
+
+pub mod impls;
+mod members;
+mod one;
+mod until;
+
+use crate::token::impls::{Literal, NoneOf, OneOf, Take, TakeTill, TakeUntil, TakeWhile};
+use std::marker::PhantomData;
+use stream_errors::parser_error::ParserError;
+use stream_sets::compare::Compare;
+use stream_sets::find::FindSlice;
+use stream_sets::numbers::ToUsize;
+use stream_sets::range::Range;
+use stream_sets::sets::ContainsToken;
+use streams::needed::Needed;
+use streams::stream::{Stream, StreamIsPartial};
+use winnow_core::short::short;
+
+/// A parser of `literal`; the output is the slice of the input. Known as `tag` too.
+///
+/// It fails, and consumes nothing, where the literal does not stand first. Where a cut input is a
+/// proper beginning of it, it is incomplete with an unknown need.
+///
+/// ```text
+/// literal(b"ab").parse_next(&mut b"abc".as_slice())   is Ok(b"ab"), and b"c" is left
+/// ```
+#[inline(always)]
+pub fn literal<T, Input, Error>(literal: T) -> Literal<T, Input, Error>
+where
+    T: Copy,
+    Input: StreamIsPartial + Compare<T>,
+    Error: ParserError<Input>,
+    ensures { literal_value result ≡ literal }
+{
+    Literal {
+        literal,
+        input: PhantomData,
+        error: PhantomData,
+    }
+}
+
+/// the output is the slice of the input.
+///
+/// It fails, and consumes nothing, where there are too few. On a cut input it is incomplete where
+/// all that is left are members and more could be taken: the need is what is missing to the least
+/// count, and at least 1, in units. A greatest count below the least is an assert error.
+///
+/// ```text
+/// take_while(Range::from(1..), Pred(|b: u8| b.is_ascii_digit())).parse_next(&mut b"12;".as_slice())
+///     is Ok(b"12"), and b";" is left
+/// ```
+#[inline(always)]
+pub fn take_while<Set, Input, Error>(occurrences: Range, set: Set) -> TakeWhile<Set, Input, Error>
+where
+    Input: StreamIsPartial,
+    Set: ContainsToken<Input::Token>,
+    Error: ParserError<Input>,
+    ensures occurrences { take_while_occurrences result ≡ occurrences }
+    ensures set { take_while_set result ≡ set }
+{
+    TakeWhile {
+        occurrences,
+        set,
+        input: PhantomData,
+        error: PhantomData,
+    }
+}
+
+/// A parser of the longest beginning of tokens that are not in `set`, of as many tokens as
+/// `occurrences` says; the output is the slice of the input.
+///
+/// It is [`take_while`](crate::token::take_while) over the tokens outside the set, and fails and is
+/// incomplete as that is.
+///
+/// ```text
+/// take_till(Range::from(0..), b';').parse_next(&mut b"ab;c".as_slice())
+///     is Ok(b"ab"), and b";c" is left
+/// ```
+#[inline(always)]
+pub fn take_till<Set, Input, Error>(occurrences: Range, set: Set) -> TakeTill<Set, Input, Error>
+where
+    Input: StreamIsPartial,
+    Set: ContainsToken<Input::Token>,
+    Error: ParserError<Input>,
+    ensures occurrences { take_till_occurrences result ≡ occurrences }
+    ensures set { take_till_set result ≡ set }
+{
+    TakeTill {
+        occurrences,
+        set,
+        input: PhantomData,
+        error: PhantomData,
+    }
+}
+
+/// One token.
+///
+/// Where none is left it fails, and on a cut input it is incomplete with a need of 1 unit.
+///
+/// ```text
+/// any(&mut b"ab".as_slice())   is Ok(b'a'), and b"b" is left
+/// ```
+#[inline(always)]
+pub fn any<Input: StreamIsPartial, Error: ParserError<Input>>(
+    input: &mut Input,
+) -> Result<Input::Token, Error>
+    ensures ran { AnyRuns Input.seen_as Input.reading Error.form (Input.view input.old) (answer_by Error.kind result) (Input.view input.new) }
+    ensures ends { IsEndOf Input.reading (Input.view input.new) (Input.view input.old) }
+{
+    match input.next_token() {
+        Some(token) => Ok(token),
+        None => Err(short(input, Needed::new(1))),
+    }
+}
+
+/// A parser of one token that is in `set`.
+///
+/// It fails, and consumes nothing, on another token and where none is left; on a cut input with
+/// nothing left it is incomplete with a need of 1 unit.
+///
+/// ```text
+/// one_of((b'+', b'-')).parse_next(&mut b"-1".as_slice())   is Ok(b'-'), and b"1" is left
+/// ```
+#[inline(always)]
+pub fn one_of<Set, Input, Error>(set: Set) -> OneOf<Set, Input, Error>
+where
+    Input: StreamIsPartial,
+    Input::Token: Copy,
+    Set: ContainsToken<Input::Token>,
+    Error: ParserError<Input>,
+    ensures { one_of_set result ≡ set }
+{
+    OneOf {
+        set,
+        input: PhantomData,
+        error: PhantomData,
+    }
+}
+
+/// A parser of one token that is not in `set`.
+///
+/// It fails, and consumes nothing, on a token of the set and where none is left; on a cut input
+/// with nothing left it is incomplete with a need of 1 unit.
+///
+/// ```text
+/// none_of(b';').parse_next(&mut b"a;".as_slice())   is Ok(b'a'), and b";" is left
+/// ```
+#[inline(always)]
+pub fn none_of<Set, Input, Error>(set: Set) -> NoneOf<Set, Input, Error>
+where
+    Input: StreamIsPartial,
+    Input::Token: Copy,
+    Set: ContainsToken<Input::Token>,
+    Error: ParserError<Input>,
+    ensures { none_of_set result ≡ set }
+{
+    NoneOf {
+        set,
+        input: PhantomData,
+        error: PhantomData,
+    }
+}
+
+/// A parser of `token_count` tokens; the output is the slice of the input.
+///
+/// Where there are fewer it fails, and consumes nothing; on a cut input it is incomplete: the need
+/// is how many units are missing, and unknown over text, where a character takes one to four.
+///
+/// ```text
+/// take(2u8).parse_next(&mut b"abc".as_slice())   is Ok(b"ab"), and b"c" is left
+/// ```
+#[inline(always)]
+pub fn take<UsizeLike, Input, Error>(token_count: UsizeLike) -> Take<Input, Error>
+where
+    UsizeLike: ToUsize + Drop,
+    Input: StreamIsPartial,
+    Error: ParserError<Input>,
+    ensures { take_count result ≡ UsizeLike.number token_count }
+{
+    Take {
+        count: token_count.to_usize(),
+        input: PhantomData,
+        error: PhantomData,
+    }
+}
+
+/// A parser of what stands before the first match of `literal`, which stays unread, of as many
+/// tokens as `occurrences` says; the output is the slice of the input.
+///
+/// A tuple of one to three bytes or characters is matched by each of them. Where nothing matches
+/// it fails, and on a cut input it is incomplete with an unknown need. With a greatest count, a
+/// match behind fewer tokens than the least is the same, and one behind more than the greatest
+/// fails; without one, in the form `1..`, a match at the start fails. Nothing is then consumed. A
+/// greatest count below the least is an assert error.
+///
+/// ```text
+/// take_until(Range::from(0..), b"-->".as_slice()).parse_next(&mut b"ab-->c".as_slice())
+///     is Ok(b"ab"), and b"-->c" is left
+/// ```
+#[inline(always)]
+pub fn take_until<Literal, Input, Error>(
+    occurrences: Range,
+    literal: Literal,
+) -> TakeUntil<Literal, Input, Error>
+where
+    Literal: Copy,
+    Input: StreamIsPartial + FindSlice<Literal>,
+    Error: ParserError<Input>,
+    ensures occurrences { take_until_occurrences result ≡ occurrences }
+    ensures literal { take_until_literal result ≡ literal }
+{
+    TakeUntil {
+        occurrences,
+        literal,
+        input: PhantomData,
+        error: PhantomData,
+    }
+}
+
+/// All that is left, also of a cut input: it never asks whether more may come, and never fails.
+///
+/// ```text
+/// rest(&mut b"ab".as_slice())   is Ok(b"ab"), and nothing is left
+/// ```
+#[inline(always)]
+pub fn rest<Input: Stream, Error: ParserError<Input>>(
+    input: &mut Input,
+) -> Result<Input::Slice, Error>
+    ensures ran { RestRuns Input.reading (Input.view input.old) (answer_by Error.kind result) (Input.view input.new) }
+    ensures ends { IsEndOf Input.reading (Input.view input.new) (Input.view input.old) }
+{
+    Ok(input.finish())
+}
+
+/// How many units are left, also of a cut input: nothing is consumed, and it never fails.
+///
+/// ```text
+/// rest_len(&mut b"ab".as_slice())   is Ok(2), and b"ab" is left
+/// ```
+#[inline(always)]
+pub fn rest_len<Input: Stream, Error: ParserError<Input>>(input: &mut Input) -> Result<usize, Error>
+    ensures ran { RestLenRuns Input.reading (Input.view input.old) (answer_by Error.kind result) (Input.view input.new) }
+    ensures ends { IsEndOf Input.reading (Input.view input.new) (Input.view input.old) }
+{
+    Ok(input.eof_offset())
+}

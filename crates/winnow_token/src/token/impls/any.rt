@@ -1,0 +1,47 @@
+//! One token.
+ghost use Rattle.std.specs.Prelude.{⊤};
+ghost use Rattle.winnow_core.specs.Agrees.{agrees_plain};
+ghost use Rattle.winnow_core.specs.Runs.{Keeps};
+ghost use Rattle.winnow_token.specs.Any.{AnyRuns};
+ghost use Rattle.winnow_token.specs.Any.Laws.{any_alike, any_ends};
+
+use crate::token::any;
+use stream_errors::parser_error::ParserError;
+use streams::reads_like::ReadsLike;
+use streams::stream::{Stream, StreamIsPartial};
+use winnow_core::agrees_with::AgreesWith;
+use winnow_core::parser::Parser;
+
+/// The parser [`any`](crate::token::any).
+///
+/// ```text
+/// (Any, b'b').parse_next(&mut b"ab".as_slice())   is Ok((b'a', b'b'))
+/// ```
+#[derive(Clone, Copy, Debug, PartialEq, Eq)]
+pub struct Any;
+
+impl<I: StreamIsPartial, E: ParserError<I>> Parser<I, I::Token, E> for Any {
+    ghost State = { ⊤ };
+
+    ghost state = { λ _. tt };
+
+    ghost meaning = { λ form. Keeps (λ _. AnyRuns I.seen_as I.reading form) };
+
+    ghost leaves_ends = { λ form x i answer y j r. any_ends I.seen_as I.reading form i answer j r.0 };
+
+    #[inline(always)]
+    fn parse_next(&mut self, input: &mut I) -> Result<I::Token, E> {
+        any(input)
+    }
+}
+
+impl<
+    I: StreamIsPartial + ReadsLike<J>,
+    J: StreamIsPartial + Stream<Token = I::Token, Seen = I::Seen, Slice = I::Slice>,
+    E: ParserError<I>,
+    F: ParserError<J>,
+> AgreesWith<I, I::Token, E, Any, J, F> for Any {
+    ghost like = { λ p q. ⊤ };
+
+    ghost agrees = { agrees_plain (any_alike I.same_reading I.same_tokens) };
+}

@@ -1,0 +1,55 @@
+//! A literal.
+ghost use Rattle.std.specs.Prelude.{◌≡◌};
+ghost use Rattle.winnow_core.specs.Agrees.{agrees_by};
+ghost use Rattle.winnow_core.specs.Literal.{LiteralRuns};
+ghost use Rattle.winnow_core.specs.Literal.Laws.{literal_alike, literal_ends};
+ghost use Rattle.winnow_core.specs.Runs.{Keeps};
+
+use std::marker::PhantomData;
+use stream_errors::parser_error::ParserError;
+use stream_sets::compare::Compare;
+use stream_sets::compare::like::ComparesLike;
+use streams::stream::{Stream, StreamIsPartial};
+use winnow_core::agrees_with::AgreesWith;
+use winnow_core::literal::take_literal;
+use winnow_core::parser::Parser;
+
+/// The parser that [`literal`](crate::token::literal) makes.
+///
+/// ```text
+/// literal(b'a')   is a Literal<u8, _, _>
+/// ```
+#[derive(Drop)]
+pub struct Literal<T, I, E> {
+    pub(crate) literal: T,
+    pub(crate) input: PhantomData<I>,
+    pub(crate) error: PhantomData<E>,
+}
+
+impl<T: Copy, I: StreamIsPartial + Compare<T>, E: ParserError<I>> Parser<I, I::Slice, E>
+    for Literal<T, I, E> {
+    ghost State = { T };
+
+    ghost state = { λ s. s.literal };
+
+    ghost meaning = { λ form. Keeps (λ x. LiteralRuns I.reading form (I.spells x) (λ slice. slice)) };
+
+    ghost leaves_ends = { λ form x i answer y j r. literal_ends I.reading form (I.spells x) (λ slice. slice) i answer j r.0 };
+
+    #[inline(always)]
+    fn parse_next(&mut self, input: &mut I) -> Result<I::Slice, E> {
+        take_literal(input, self.literal)
+    }
+}
+
+impl<
+    T: Copy,
+    I: StreamIsPartial + ComparesLike<T, J>,
+    J: StreamIsPartial + Compare<T> + Stream<Token = I::Token, Seen = I::Seen, Slice = I::Slice>,
+    E: ParserError<I>,
+    F: ParserError<J>,
+> AgreesWith<I, I::Slice, E, Literal<T, J, F>, J, F> for Literal<T, I, E> {
+    ghost like = { λ p q. p.literal ≡ q.literal };
+
+    ghost agrees = { agrees_by (λ p. p.literal) (λ q. q.literal) (literal_alike (λ _ slice. slice) I.same_reading I.same_spells) };
+}

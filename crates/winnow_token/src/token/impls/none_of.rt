@@ -1,0 +1,64 @@
+//! One token outside a set.
+ghost use Rattle.std.specs.Prelude.{◌≡◌, not};
+ghost use Rattle.winnow_core.specs.Agrees.{agrees_by};
+ghost use Rattle.winnow_core.specs.Runs.{Keeps};
+ghost use Rattle.winnow_token.specs.OneOf.{OneOfRuns};
+ghost use Rattle.winnow_token.specs.OneOf.Laws.{one_of_alike, one_of_ends};
+
+use crate::token::members::Others;
+use crate::token::one::take_member;
+use std::marker::PhantomData;
+use stream_errors::parser_error::ParserError;
+use stream_sets::sets::ContainsToken;
+use streams::reads_like::ReadsLike;
+use streams::stream::{Stream, StreamIsPartial};
+use winnow_core::agrees_with::AgreesWith;
+use winnow_core::parser::Parser;
+
+/// The parser that [`none_of`](crate::token::none_of) makes.
+///
+/// ```text
+/// none_of(b'a')   is a NoneOf<u8, _, _>
+/// ```
+#[derive(Drop)]
+pub struct NoneOf<S, I, E> {
+    pub(crate) set: S,
+    pub(crate) input: PhantomData<I>,
+    pub(crate) error: PhantomData<E>,
+}
+
+impl<S: ContainsToken<I::Token>, I: StreamIsPartial, E: ParserError<I>> Parser<I, I::Token, E>
+    for NoneOf<S, I, E>
+where
+    I::Token: Copy,
+{
+    ghost can_parse = { λ s. S.can_test s.set };
+
+    ghost State = { S };
+
+    ghost state = { λ s. s.set };
+
+    ghost meaning = { λ form. Keeps (λ x. OneOfRuns I.seen_as I.reading form (λ k b. S.tells x k (not b))) };
+
+    ghost leaves_ends = { λ form x i answer y j r. one_of_ends I.seen_as I.reading form (λ k b. S.tells x k (not b)) i answer j r.0 };
+
+    #[inline(always)]
+    fn parse_next(&mut self, input: &mut I) -> Result<I::Token, E> {
+        take_member(input, &Others(&self.set))
+    }
+}
+
+impl<
+    S: ContainsToken<I::Token>,
+    I: StreamIsPartial + ReadsLike<J>,
+    J: StreamIsPartial + Stream<Token = I::Token, Seen = I::Seen, Slice = I::Slice>,
+    E: ParserError<I>,
+    F: ParserError<J>,
+> AgreesWith<I, I::Token, E, NoneOf<S, J, F>, J, F> for NoneOf<S, I, E>
+where
+    I::Token: Copy,
+{
+    ghost like = { λ p q. p.set ≡ q.set };
+
+    ghost agrees = { agrees_by (λ p. p.set) (λ q. q.set) (one_of_alike (λ x k b. S.tells x k (not b)) I.same_reading I.same_tokens) };
+}

@@ -1,0 +1,47 @@
+//! All that is left.
+ghost use Rattle.std.specs.Prelude.{⊤};
+ghost use Rattle.winnow_core.specs.Agrees.{agrees_plain};
+ghost use Rattle.winnow_core.specs.Runs.{Keeps};
+ghost use Rattle.winnow_token.specs.Rest.{RestRuns};
+ghost use Rattle.winnow_token.specs.Rest.Laws.{rest_alike, rest_ends};
+
+use crate::token::rest;
+use stream_errors::parser_error::ParserError;
+use streams::reads_like::ReadsLike;
+use streams::stream::Stream;
+use winnow_core::agrees_with::AgreesWith;
+use winnow_core::parser::Parser;
+
+/// The parser [`rest`](crate::token::rest).
+///
+/// ```text
+/// (b'a', Rest).parse_next(&mut b"abc".as_slice())   is Ok((b'a', b"bc"))
+/// ```
+#[derive(Clone, Copy, Debug, PartialEq, Eq)]
+pub struct Rest;
+
+impl<I: Stream, E: ParserError<I>> Parser<I, I::Slice, E> for Rest {
+    ghost State = { ⊤ };
+
+    ghost state = { λ _. tt };
+
+    ghost meaning = { λ _. Keeps (λ _. RestRuns I.reading) };
+
+    ghost leaves_ends = { λ form x i answer y j r. rest_ends I.reading i answer j r.0 };
+
+    #[inline(always)]
+    fn parse_next(&mut self, input: &mut I) -> Result<I::Slice, E> {
+        rest(input)
+    }
+}
+
+impl<
+    I: ReadsLike<J>,
+    J: Stream<Token = I::Token, Seen = I::Seen, Slice = I::Slice>,
+    E: ParserError<I>,
+    F: ParserError<J>,
+> AgreesWith<I, I::Slice, E, Rest, J, F> for Rest {
+    ghost like = { λ p q. ⊤ };
+
+    ghost agrees = { agrees_plain (rest_alike I.same_reading) };
+}

@@ -1,0 +1,55 @@
+//! So many tokens.
+ghost use Rattle.std.specs.Prelude.{◌≡◌, ℕ};
+ghost use Rattle.winnow_core.specs.Agrees.{agrees_by};
+ghost use Rattle.winnow_core.specs.Runs.{Keeps};
+ghost use Rattle.winnow_token.specs.Take.{TakeRuns};
+ghost use Rattle.winnow_token.specs.Take.Laws.{take_alike, take_ends};
+
+use std::marker::PhantomData;
+use stream_errors::parser_error::ParserError;
+use streams::reads_like::ReadsLike;
+use streams::stream::{Stream, StreamIsPartial};
+use winnow_core::agrees_with::AgreesWith;
+use winnow_core::parser::Parser;
+use winnow_core::short::short;
+
+/// The parser that [`take`](crate::token::take) makes.
+///
+/// ```text
+/// take(3u8)   is a Take<_, _>
+/// ```
+#[derive(Drop)]
+pub struct Take<I, E> {
+    pub(crate) count: usize,
+    pub(crate) input: PhantomData<I>,
+    pub(crate) error: PhantomData<E>,
+}
+
+impl<I: StreamIsPartial, E: ParserError<I>> Parser<I, I::Slice, E> for Take<I, E> {
+    ghost State = { ℕ };
+
+    ghost state = { λ s. s.count };
+
+    ghost meaning = { λ form. Keeps (λ x. TakeRuns I.reading form I.counts_missing x) };
+
+    ghost leaves_ends = { λ form x i answer y j r. take_ends I.reading form I.counts_missing x i answer j r.0 };
+
+    #[inline(always)]
+    fn parse_next(&mut self, input: &mut I) -> Result<I::Slice, E> {
+        match input.offset_at(self.count) {
+            Ok(offset) => Ok(input.next_slice(offset)),
+            Err(needed) => Err(short(input, needed)),
+        }
+    }
+}
+
+impl<
+    I: StreamIsPartial + ReadsLike<J>,
+    J: StreamIsPartial + Stream<Token = I::Token, Seen = I::Seen, Slice = I::Slice>,
+    E: ParserError<I>,
+    F: ParserError<J>,
+> AgreesWith<I, I::Slice, E, Take<J, F>, J, F> for Take<I, E> {
+    ghost like = { λ p q. p.count ≡ q.count };
+
+    ghost agrees = { agrees_by (λ p. p.count) (λ q. q.count) (take_alike I.same_reading I.same_missing) };
+}

@@ -1,0 +1,59 @@
+//! Takes of what stands before a literal.
+ghost use Rattle.std.specs.Prelude.{◌≡◌};
+ghost use Rattle.stream_sets.specs.Range.{greatest_of};
+ghost use Rattle.stream_sets.specs.declared.range.Range.{Range};
+ghost use Rattle.winnow_core.specs.Agrees.{agrees_by_parts};
+ghost use Rattle.winnow_core.specs.Runs.{Keeps};
+ghost use Rattle.winnow_token.specs.TakeUntil.{TakeUntilRuns};
+ghost use Rattle.winnow_token.specs.TakeUntil.Laws.{take_until_alike, take_until_ends};
+
+use crate::token::until::take_before;
+use std::marker::PhantomData;
+use stream_errors::parser_error::ParserError;
+use stream_sets::find::FindSlice;
+use stream_sets::find::like::FindsLike;
+use stream_sets::range::Range;
+use streams::stream::{Stream, StreamIsPartial};
+use winnow_core::agrees_with::AgreesWith;
+use winnow_core::parser::Parser;
+
+/// The parser that [`take_until`](crate::token::take_until) makes.
+///
+/// ```text
+/// take_until(Range::from(0..), b';')   is a TakeUntil<u8, _, _>
+/// ```
+#[derive(Drop)]
+pub struct TakeUntil<T, I, E> {
+    pub(crate) occurrences: Range,
+    pub(crate) literal: T,
+    pub(crate) input: PhantomData<I>,
+    pub(crate) error: PhantomData<E>,
+}
+
+impl<T: Copy, I: StreamIsPartial + FindSlice<T>, E: ParserError<I>> Parser<I, I::Slice, E>
+    for TakeUntil<T, I, E> {
+    ghost State = { Range × T };
+
+    ghost state = { λ s. (s.occurrences, s.literal) };
+
+    ghost meaning = { λ form. Keeps (λ x. TakeUntilRuns I.reading form (I.sought x.1) x.0.start_inclusive (greatest_of x.0.start_inclusive x.0.end_inclusive)) };
+
+    ghost leaves_ends = { λ form x i answer y j r. take_until_ends I.reading form (I.sought x.1) x.0.start_inclusive (greatest_of x.0.start_inclusive x.0.end_inclusive) i answer j r.0 };
+
+    #[inline(always)]
+    fn parse_next(&mut self, input: &mut I) -> Result<I::Slice, E> {
+        take_before(input, self.occurrences, self.literal)
+    }
+}
+
+impl<
+    T: Copy,
+    I: StreamIsPartial + FindsLike<T, J>,
+    J: StreamIsPartial + FindSlice<T> + Stream<Token = I::Token, Seen = I::Seen, Slice = I::Slice>,
+    E: ParserError<I>,
+    F: ParserError<J>,
+> AgreesWith<I, I::Slice, E, TakeUntil<T, J, F>, J, F> for TakeUntil<T, I, E> {
+    ghost like = { λ p q. (p.occurrences ≡ q.occurrences) × (p.literal ≡ q.literal) };
+
+    ghost agrees = { agrees_by_parts (λ p. p.occurrences) (λ p. p.literal) (λ q. q.occurrences) (λ q. q.literal) (take_until_alike I.same_reading I.same_sought) };
+}

@@ -1,0 +1,104 @@
+//! Takes up to a literal.
+ghost use Rattle.std.specs.Prelude.{◌≤◌, None, Some};
+ghost use Rattle.stream_errors.specs.Form.{answer_by};
+ghost use Rattle.stream_sets.specs.Range.{greatest_of};
+ghost use Rattle.streams.specs.Input.{IsEndOf};
+ghost use Rattle.winnow_token.specs.Before.{SaysAtLeast, SaysAtMost};
+ghost use Rattle.winnow_token.specs.TakeUntil.{TakeUntilRuns};
+
+use stream_errors::parser_error::ParserError;
+use stream_sets::find::FindSlice;
+use stream_sets::range::Range;
+use streams::needed::Needed;
+use streams::stream::{Stream, StreamIsPartial};
+use winnow_core::short::short;
+
+/// Takes what stands before the first match of `literal`.
+#[inline(always)]
+pub(crate) fn take_before<T: Copy, I: StreamIsPartial + FindSlice<T>, E: ParserError<I>>(
+    input: &mut I,
+    occurrences: Range,
+    literal: T,
+) -> Result<I::Slice, E>
+    ensures ran { TakeUntilRuns I.reading E.form (I.sought literal) occurrences.start_inclusive (greatest_of occurrences.start_inclusive occurrences.end_inclusive) (I.view input.old) (answer_by E.kind result) (I.view input.new) }
+    ensures ends { IsEndOf I.reading (I.view input.new) (I.view input.old) }
+{
+    let least = occurrences.start_inclusive;
+    match occurrences.greatest() {
+        None => take_before_unbounded(input, least, literal),
+        Some(greatest) => take_before_bounded(input, least, greatest, literal),
+    }
+}
+
+/// Takes what stands before the first match, of none or more tokens, or of one or more.
+#[inline(always)]
+fn take_before_unbounded<T: Copy, I: StreamIsPartial + FindSlice<T>, E: ParserError<I>>(
+    input: &mut I,
+    least: usize,
+    literal: T,
+) -> Result<I::Slice, E>
+    requires { least ≤ 1 }
+    ensures ran { TakeUntilRuns I.reading E.form (I.sought literal) least None (I.view input.old) (answer_by E.kind result) (I.view input.new) }
+    ensures ends { IsEndOf I.reading (I.view input.new) (I.view input.old) }
+{
+    match input.find_slice(literal) {
+        None => Err(short(input, Needed::Unknown)),
+        Some(range) => {
+            if least > 0 && range.start == 0 {
+                Err(E::from_input(input))
+            } else {
+                Ok(input.next_slice(range.start))
+            }
+        }
+    }
+}
+
+/// Takes what stands before the first match, of `least` to `greatest` tokens.
+#[inline(always)]
+fn take_before_bounded<T: Copy, I: StreamIsPartial + FindSlice<T>, E: ParserError<I>>(
+    input: &mut I,
+    least: usize,
+    greatest: usize,
+    literal: T,
+) -> Result<I::Slice, E>
+    ensures ran { TakeUntilRuns I.reading E.form (I.sought literal) least (Some greatest) (I.view input.old) (answer_by E.kind result) (I.view input.new) }
+    ensures ends { IsEndOf I.reading (I.view input.new) (I.view input.old) }
+{
+    if greatest < least {
+        return Err(E::assert(input, "the greatest count is below the least"));
+    }
+    match input.find_slice(literal) {
+        None => Err(short(input, Needed::Unknown)),
+        Some(range) => {
+            if !is_at_least(input, least, range.start) {
+                Err(short(input, Needed::Unknown))
+            } else if !is_at_most(input, greatest, range.start) {
+                Err(E::from_input(input))
+            } else {
+                Ok(input.next_slice(range.start))
+            }
+        }
+    }
+}
+
+/// Whether at least `count` tokens stand before `offset`, in units.
+#[inline(always)]
+fn is_at_least<I: Stream>(input: &I, count: usize, offset: usize) -> bool
+    ensures { SaysAtLeast I.reading.units (I.view input.now).left.tokens count offset result }
+{
+    match input.offset_at(count) {
+        Ok(end) => end <= offset,
+        Err(_) => false,
+    }
+}
+
+/// Whether at most `count` tokens stand before `offset`, in units.
+#[inline(always)]
+fn is_at_most<I: Stream>(input: &I, count: usize, offset: usize) -> bool
+    ensures { SaysAtMost I.reading.units (I.view input.now).left.tokens count offset result }
+{
+    match input.offset_at(count) {
+        Ok(end) => offset <= end,
+        Err(_) => true,
+    }
+}

@@ -1,0 +1,70 @@
+#!/usr/bin/env python3
+"""Checks that each public parser has what its readers look for by its name.
+
+Run it at the top of the repository:
+
+    python3 scripts/by_name.py
+
+A public parser is a struct in a file of its own under `src/*/impls/` of a library crate, and its
+name is that of the file. It has a row in `docs/PARSERS.md`, which links its definition, a file of
+`specs/`; a test, a function of a crate of rows whose name begins with the parser's, or a row that is
+labelled with it; and an edit that the prover must refuse, `must-fail/NAME_*.edit`. It fails where
+one lacks any of these.
+"""
+import pathlib
+import re
+import sys
+
+TOP = pathlib.Path(__file__).resolve().parent.parent
+CRATES = TOP / "crates"
+
+
+def parsers():
+    """The public parsers, each with the crate that has it."""
+    for path in sorted(CRATES.glob("*/src/*/impls/*.rt")):
+        yield path.relative_to(CRATES).parts[0], path.stem
+
+
+def rows():
+    """The definitions that the rows of the table link, by the names in their first cells."""
+    found = {}
+    for line in (TOP / "docs/PARSERS.md").read_text(encoding="utf-8").splitlines():
+        cells = [cell.strip() for cell in line.strip("|").split("|")]
+        if not line.startswith("| `") or len(cells) < 2:
+            continue
+        links = re.findall(r"\]\(\.\./([^)]+)\)", cells[1])
+        for name in re.findall(r"`(\w+)`", cells[0]):
+            found[name] = links
+    return found
+
+
+def tests():
+    """The names of the functions and the labels of the rows in the crates of rows."""
+    names = set()
+    for path in CRATES.glob("*_rows/src/**/*.rt"):
+        names.update(re.findall(r"\bfn (\w+)|\"(\w+)\"", path.read_text(encoding="utf-8")))
+    return {name for pair in names for name in pair if name}
+
+
+def lacks(crate, name, table, names):
+    """What the parser lacks, in words."""
+    if name not in table:
+        yield "a row in docs/PARSERS.md"
+    elif not table[name] or not all((TOP / link).is_file() for link in table[name]):
+        yield "a definition that its row links"
+    if not any(test == name or test.startswith(name + "_") for test in names):
+        yield "a test in a crate of rows"
+    if not list(CRATES.glob("*/must-fail/%s_*.edit" % name)):
+        yield "an edit that must fail"
+
+
+def main():
+    table, names = rows(), tests()
+    missing = [(crate, name, what) for crate, name in parsers() for what in lacks(crate, name, table, names)]
+    for crate, name, what in missing:
+        print("%s: %s lacks %s" % (crate, name, what))
+    return 1 if missing else 0
+
+
+if __name__ == "__main__":
+    sys.exit(main())

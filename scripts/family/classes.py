@@ -1,0 +1,158 @@
+"""The parsers of classes of ASCII characters, in the crate `winnow_ascii`."""
+from family.common import camel, documented, write
+
+CLASSES = [
+    ("alpha", "ASCII letters", "letter", "Letters", "IsAlpha", "ab", "1"),
+    ("digit", "ASCII digits", "digit", "DecimalDigits", "IsDecDigit", "12", ";"),
+    ("hex_digit", "hexadecimal digits, in either case", "such digit", "HexadecimalDigits", "IsHexDigit", "1fA", "g"),
+    ("oct_digit", "octal digits", "such digit", "OctalDigits", "IsOctDigit", "17", "8"),
+    ("alphanumeric", "ASCII letters and digits", "letter or digit", "Alphanumerics", "IsAlphanum", "a1", ";"),
+    ("space", "spaces and tabs", "such character", "Spaces", "IsSpace", " \\t", "a"),
+    ("multispace", "spaces, tabs, carriage returns and line feeds", "such character", "Multispaces", "IsMultispace", " \\n", "a"),
+]
+
+
+def class_parsers():
+    """Each class with its least number of members."""
+    return [(*row, least) for row in CLASSES for least in (0, 1)]
+
+
+
+
+def class_function(name, members, one, chars, is_member, front, rest, least):
+    call = "%s%d" % (name, least)
+    if least:
+        fails = "It backtracks, and consumes nothing, where no %s stands first. On a cut input it is incomplete" % one
+        other = "backtracks"
+    else:
+        fails = "It never backtracks on a whole input. On a cut input it is incomplete"
+        other = 'is Ok(b"")'
+    fails += ", and consumes nothing, where nothing is left or all that is left is taken: the need is 1 unit."
+    first = '%s(&mut b"%s%s".as_slice())' % (call, front, rest)
+    second = '%s(&mut b"%s".as_slice())' % (call, rest)
+    return "\n".join(
+        [
+            documented("The longest beginning of %s, %s; the output is the slice of the input." % (members, "at least one" if least else "none too")),
+            "///",
+            documented(fails),
+            "///",
+            "/// ```text",
+            '/// %s   is Ok(b"%s"), and b"%s" is left' % (first, front, rest),
+            "/// %s%s   %s, and b\"%s\" is left" % (second, " " * (len(first) - len(second)), other, rest),
+            "/// ```",
+            "#[inline(always)]",
+            "pub fn %s<Input, Error>(input: &mut Input) -> Result<Input::Slice, Error>" % call,
+            "where",
+            "    Input: StreamIsPartial,",
+            "    Input::Token: AsChar,",
+            "    Error: ParserError<Input>,",
+            "    ensures ran { ClassRuns %s %d Input.Token.code Input.seen_as Input.reading Error.form (Input.view input.old) (answer_by Error.kind result) (Input.view input.new) }" % (is_member, least),
+            "    ensures ends { IsEndOf Input.reading (Input.view input.new) (Input.view input.old) }",
+            "{",
+            "    %s(input, %s)" % ("some_of" if least else "any_of", chars),
+            "}",
+        ]
+    )
+
+
+CLASS_FUNCTIONS = """//! Parsers of ASCII's classes of characters.
+//!
+//! {head}
+ghost use Rattle.stream_errors.specs.Form.{{answer_by}};
+ghost use Rattle.stream_sets.specs.AsChar.{{{members}}};
+ghost use Rattle.streams.specs.Input.{{IsEndOf}};
+ghost use Rattle.winnow_ascii.specs.Class.{{ClassRuns}};
+
+use crate::ascii::members::{{any_of, some_of}};
+use stream_errors::parser_error::ParserError;
+use stream_sets::as_char::AsChar;
+use stream_sets::classes::{{{sets}}};
+use streams::stream::StreamIsPartial;
+
+{family}
+"""
+
+
+CLASS_STRUCT = """//! {about}
+//!
+//! {head}
+ghost use Rattle.std.specs.Prelude.{{⊤}};
+ghost use Rattle.stream_sets.specs.AsChar.{{{member}}};
+ghost use Rattle.winnow_ascii.specs.Class.{{ClassRuns}};
+ghost use Rattle.winnow_ascii.specs.Class.Laws.{{class_alike, class_ends}};
+ghost use Rattle.winnow_core.specs.Agrees.{{agrees_plain}};
+ghost use Rattle.winnow_core.specs.Runs.{{Keeps}};
+
+use crate::ascii::{call};
+use stream_errors::parser_error::ParserError;
+use stream_sets::as_char::AsChar;
+use streams::reads_like::ReadsLike;
+use streams::stream::{{Stream, StreamIsPartial}};
+use winnow_core::agrees_with::AgreesWith;
+use winnow_core::parser::Parser;
+
+/// The parser [`{call}`](crate::ascii::{call}).
+///
+/// ```text
+/// {kind}.parse_next(&mut b"{front}{rest}".as_slice())   is Ok(b"{front}"), and b"{rest}" is left
+/// ```
+#[derive(Clone, Copy, Debug, PartialEq, Eq)]
+pub struct {kind};
+
+impl<I: StreamIsPartial, E: ParserError<I>> Parser<I, I::Slice, E> for {kind}
+where
+    I::Token: AsChar,
+{{
+    ghost State = {{ ⊤ }};
+
+    ghost state = {{ λ _. tt }};
+
+    ghost meaning = {{ λ form. Keeps (λ _. ClassRuns {member} {least} I.Token.code I.seen_as I.reading form) }};
+
+    ghost leaves_ends = {{ λ form x i answer y j r. class_ends {member} {least} I.Token.code I.seen_as I.reading form i answer j r.0 }};
+
+    #[inline(always)]
+    fn parse_next(&mut self, input: &mut I) -> Result<I::Slice, E> {{
+        {call}(input)
+    }}
+}}
+
+impl<I: StreamIsPartial + ReadsLike<J>, J: StreamIsPartial + Stream<Token = I::Token, Seen = I::Seen, Slice = I::Slice>, E: ParserError<I>, F: ParserError<J>> AgreesWith<I, I::Slice, E, {kind}, J, F> for {kind}
+where
+    I::Token: AsChar,
+{{
+    ghost like = {{ λ p q. ⊤ }};
+
+    ghost agrees = {{ agrees_plain (class_alike {member} {least} I.Token.code I.same_reading I.same_tokens) }};
+}}
+"""
+
+CLASS_IMPLS = """//! The parsers of the module above, as structs.
+//!
+//! {head}
+{modules}
+
+{kinds}
+"""
+
+
+def write_classes():
+    ascii_crate = "crates/winnow_ascii/"
+    rows = class_parsers()
+    parts = {
+        "members": ", ".join(row[4] for row in CLASSES),
+        "sets": ", ".join(row[3] for row in CLASSES),
+    }
+    functions = "\n\n".join(class_function(*row) for row in rows)
+    write(ascii_crate + "src/ascii/classes.rt", CLASS_FUNCTIONS, family=functions, **parts)
+    calls = sorted("%s%d" % (row[0], row[-1]) for row in rows)
+    write(
+        ascii_crate + "src/ascii/impls.rt",
+        CLASS_IMPLS,
+        modules="\n".join("mod %s;" % call for call in calls),
+        kinds="\n".join("pub use crate::ascii::impls::%s::%s;" % (call, camel(call)) for call in calls),
+    )
+    for name, members, one, chars, is_member, front, rest, least in rows:
+        call = "%s%d" % (name, least)
+        about = "The longest beginning of %s, %s." % (members, "at least one" if least else "none too")
+        write(ascii_crate + "src/ascii/impls/%s.rt" % call, CLASS_STRUCT, about=about, call=call, kind=camel(call), member=is_member, least=least, front=front, rest=rest)

@@ -1,0 +1,71 @@
+"""What the writers of the families share."""
+import pathlib
+import textwrap
+
+TOP = pathlib.Path(__file__).resolve().parent.parent.parent
+HEAD = "Written by scripts/families.py: do not edit."
+MOST = 6
+NUMBER = ["no", "one", "two", "three", "four", "five", "six"]
+ORDINAL = ["", "first", "second", "third", "fourth", "fifth", "sixth"]
+BETWEEN = "abcde"
+LIKE = "J: Stream<Token = I::Token, Seen = I::Seen, Slice = I::Slice>"
+
+
+def upto(n):
+    return range(1, n + 1)
+
+
+def tuple_type(parts):
+    """The type of a tuple in a specification."""
+    return "record { 0 : %s }" % parts[0] if len(parts) == 1 else " × ".join(parts)
+
+
+def tuple_value(parts):
+    """A tuple in a specification."""
+    return "record { 0 = %s }" % parts[0] if len(parts) == 1 else "(%s)" % ", ".join(parts)
+
+
+def rust_tuple(parts):
+    """A tuple in code, as a type or a value."""
+    return "(%s,)" % parts[0] if len(parts) == 1 else "(%s)" % ", ".join(parts)
+
+
+def conjunction(parts):
+    return " × ".join(parts)
+
+
+def disjunction(cases):
+    """Cases as a nested disjunction, each a line under its comment."""
+    lines = []
+    for k, (comment, case) in enumerate(cases):
+        last = k == len(cases) - 1
+        opening = "⊎ " if k > 0 else ""
+        if len(cases) > 1:
+            case = "(%s)" % case
+            if k > 0 and not last:
+                case = "(" + case
+        closing = ")" * (len(cases) - 2) if last else ""
+        lines.append("    -- %s" % comment)
+        lines.append("    %s%s%s" % (opening, case, closing))
+    return "\n".join(lines)
+
+
+def write(path, text, **parts):
+    path = TOP / path
+    path.parent.mkdir(parents=True, exist_ok=True)
+    path.write_text(text.format(head=HEAD, **parts), encoding="utf-8")
+
+
+def camel(name):
+    return "".join(part.capitalize() for part in name.split("_"))
+
+
+def block(parameters, trait, kind, where, members):
+    """An impl block, each parameter on a line."""
+    lines = ["impl<"] + ["    %s," % parameter for parameter in parameters]
+    lines += ["> %s for %s" % (trait, kind) + (where or " {")]
+    return "\n".join(lines + [members, "}"])
+
+
+def documented(text):
+    return "\n".join("/// " + line for line in textwrap.wrap(text, 96))

@@ -1,0 +1,373 @@
+"""Sequences: tuples of one to six parsers, in the crate `winnow_core`."""
+from family.common import (
+    BETWEEN,
+    LIKE,
+    MOST,
+    NUMBER,
+    ORDINAL,
+    block,
+    conjunction,
+    disjunction,
+    rust_tuple,
+    tuple_type,
+    tuple_value,
+    upto,
+    write,
+)
+
+
+def sequence_case(n, failing):
+    """All of n children succeed, or all before the failing one do."""
+    ran = failing or n
+    succeeding = ran - 1 if failing else n
+    parts = ["(o%d : O%d)" % (k, k) for k in upto(succeeding)]
+    if failing:
+        parts.append("(k : Kind)")
+    parts += ["(%s : Input T)" % BETWEEN[k - 1] for k in upto(ran - 1)]
+    for k in upto(ran):
+        before = "i" if k == 1 else BETWEEN[k - 2]
+        after = "j" if k == ran else BETWEEN[k - 1]
+        answer = "(Err k)" if k == failing else "(Ok o%d)" % k
+        parts.append("run%d s.%d %s %s t.%d %s" % (k, k - 1, before, answer, k - 1, after))
+    parts += ["(t.%d ≡ s.%d)" % (k - 1, k - 1) for k in range(ran + 1, n + 1)]
+    output = tuple_value(["o%d" % k for k in upto(n)])
+    parts.append("(answer ≡ Err k)" if failing else "(answer ≡ Ok %s)" % (output if n > 1 else "(%s)" % output))
+    return conjunction(parts)
+
+
+def sequence_spec(n):
+    states = ["S%d" % k for k in upto(n)]
+    outputs = ["O%d" % k for k in upto(n)]
+    names = states + ["T"] + outputs
+    runs = " → ".join("Runs S%d T O%d" % (k, k) for k in upto(n))
+    kinds = "Runs (%s) T (%s)" % (tuple_type(states), tuple_type(outputs))
+    success = {1: "it succeeds", 2: "both succeed"}.get(n, "all succeed")
+    cases = [(success, sequence_case(n, 0))]
+    cases += [("it fails" if n == 1 else "the %s fails" % ORDINAL[k], sequence_case(n, k)) for k in upto(n)]
+    return "\n".join(
+        [
+            "-- %s" % ("one child" if n == 1 else "%s children" % NUMBER[n]),
+            "abbrev pub SequenceRuns%d : {%s : Type 0} → %s → %s" % (n, " ".join(names), runs, kinds),
+            "SequenceRuns%d %s %s s i answer t j =" % (n, " ".join("{%s}" % x for x in names), " ".join("run%d" % k for k in upto(n))),
+            disjunction(cases),
+        ]
+    )
+
+
+SEQUENCE_SPECS = """-- Sequences: one run of each child in order, each where the one before it ended, to the first that fails.
+-- {head}
+use Rattle.std.specs.Prelude.{{◌≡◌, ⊤, Ok, Err, ◌⊎◌}}
+use Rattle.streams.specs.Input.{{Input}}
+use Rattle.streams.specs.Kind.{{Kind}}
+use Rattle.winnow_core.specs.Runs.{{Runs}}
+
+pub mod Laws
+
+-- no children: nothing is taken
+abbrev pub SequenceRuns0 : {{T : Type 0}} → Runs ⊤ T ⊤
+SequenceRuns0 s i answer t j = (answer ≡ Ok tt) × (j ≡ i)
+
+{family}
+"""
+
+
+def end_chain(steps):
+    """That the end of these steps, the last one first, is an end of their start."""
+    if len(steps) == 1:
+        return steps[0]
+    return "is_end_of_trans%s %s" % ("" if len(steps) == 2 else len(steps), " ".join("(%s)" % step for step in steps))
+
+
+def sequence_end_case(n, failing):
+    """That a run of n children that all succeed, or of which one fails, leaves an end."""
+    ran = failing or n
+    succeeding = ran - 1 if failing else n
+    names = ["o%d" % k for k in upto(succeeding)] + (["k"] if failing else [])
+    names += [BETWEEN[k - 1] for k in upto(ran - 1)] + ["r%d" % k for k in upto(ran)]
+    names += ["same%d" % k for k in range(ran + 1, n + 1)] + ["is"]
+    steps = []
+    for k in range(ran, 0, -1):
+        before = "i" if k == 1 else BETWEEN[k - 2]
+        after = "j" if k == ran else BETWEEN[k - 1]
+        answer = "(Err k)" if k == failing else "(Ok o%d)" % k
+        steps.append("ends%d s.%d %s %s t.%d %s r%d" % (k, k - 1, before, answer, k - 1, after, k))
+    return injected(failing, n + 1, "(%s)" % ", ".join(names) if failing == n else ", ".join(names)), end_chain(steps)
+
+
+def sequence_ends_law(n):
+    """The law that a sequence of n children leaves an end where they do."""
+    types = ["S%d" % k for k in upto(n)] + ["T", "L"] + ["O%d" % k for k in upto(n)]
+    runs = " ".join("(run%d : Runs S%d T O%d)" % (k, k, k) for k in upto(n))
+    laws = " → ".join("LeaveEnds reading run%d" % k for k in upto(n))
+    arguments = " ".join("run%d" % k for k in upto(n))
+    whole = "λ s i answer t j. SequenceRuns%d %s s i answer t j" % (n, arguments)
+    name = "sequence%d_ends" % n
+    lines = ["pub %s : {%s : Type 0} (reading : Reading T L) %s → %s → LeaveEnds reading (%s)" % (name, " ".join(types), runs, laws, whole)]
+    for failing in range(n + 1):
+        case, term = sequence_end_case(n, failing)
+        lines.append("%s reading %s %s s i answer t j (%s) = %s" % (name, arguments, " ".join("ends%d" % k for k in upto(n)), case, term))
+    return "\n".join(lines)
+
+
+SEQUENCE_ENDS = """-- What holds of the runs of sequences: they leave an end of their input, where those of their children do.
+-- {head}
+use Rattle.std.specs.Prelude.{{Ok, Err}}
+use Rattle.std.proofs.Common.{{inl, inr}}
+use Rattle.streams.specs.Input.{{is_end_of_trans, is_end_of_trans3, is_end_of_trans4, is_end_of_trans5, is_end_of_trans6}}
+use Rattle.streams.specs.Reading.{{Reading}}
+use Rattle.winnow_core.specs.Runs.{{Runs, LeaveEnds}}
+use Rattle.winnow_core.specs.Sequence.{{{names}}}
+
+{family}
+"""
+
+
+def bounds(n, output):
+    return ", ".join("P%d: Parser<I, %s, E>" % (k, output(k)) for k in upto(n))
+
+
+def sequence_impl(n):
+    outputs = rust_tuple(["O%d" % k for k in upto(n)])
+    parsers = rust_tuple(["P%d" % k for k in upto(n)])
+    meanings = " ".join("(P%d.meaning form)" % k for k in upto(n))
+    dropped = ", ".join("O%d: Drop" % k if k < n else "O%d" % k for k in upto(n))
+    lines = [
+        "impl<I: Stream, %s, E: ParserError<I>, %s> Parser<I, %s, E> for %s {" % (dropped, bounds(n, lambda k: "O%d" % k), outputs, parsers),
+        "    ghost can_parse = { λ s. %s };" % conjunction(["P%d.can_parse s.%d" % (k, k - 1) for k in upto(n)]),
+        "",
+        "    ghost State = { %s };" % tuple_type(["P%d.State" % k for k in upto(n)]),
+        "",
+        "    ghost state = { λ s. %s };" % tuple_value(["P%d.state s.%d" % (k, k - 1) for k in upto(n)]),
+        "",
+        "    ghost meaning = { λ form. SequenceRuns%d %s };" % (n, meanings),
+        "",
+        "    ghost leaves_ends = { λ form. sequence%d_ends I.reading %s %s };" % (n, meanings, " ".join("(P%d.leaves_ends form)" % k for k in upto(n))),
+        "",
+        "    #[inline(always)]",
+        "    fn parse_next(&mut self, input: &mut I) -> Result<%s, E> {" % outputs,
+    ]
+    lines += ["        let %s = self.%d.parse_next(input)?;" % (ORDINAL[k], k - 1) for k in upto(n)]
+    lines += ["        Ok(%s)" % rust_tuple([ORDINAL[k] for k in upto(n)]), "    }", "}"]
+    return "\n".join(lines)
+
+
+def sequence_agrees(n):
+    """That tuples of n parsers agree, where their members do."""
+    tuples = {x: rust_tuple(["%s%d" % (x, k) for k in upto(n)]) for x in "OPQ"}
+    parameters = ["I: Stream", LIKE] + ["O%d: Drop" % k if k < n else "O%d" % k for k in upto(n)]
+    parameters += ["E: ParserError<I>", "F: ParserError<J>"]
+    for k in upto(n):
+        parameters += ["P%d: AgreesWith<I, O%d, E, Q%d, J, F>" % (k, k, k), "Q%d: Parser<J, O%d, F>" % (k, k)]
+    names = upto(n) if n > 1 else [""]
+    states = " ".join("X%s" % k for k in names)
+    children = " ".join("m%s" % k for k in names)
+    made = "λ %s %s form. SequenceRuns%d %s" % (states, children, n, " ".join("(m%s form)" % k for k in names))
+    parts = " ".join("(λ p. p.%d) (λ q. q.%d)" % (k - 1, k - 1) for k in upto(n))
+    law = "agrees_one" if n == 1 else "agrees%d" % n
+    members = [
+        "    ghost like = { λ p q. %s };" % conjunction(["P%d.like p.%d q.%d" % (k, k - 1, k - 1) for k in upto(n)]),
+        "",
+        "    ghost agrees = { %s %s (%s) %s };" % (law, parts, made, " ".join("P%d.agrees" % k for k in upto(n))),
+    ]
+    trait = "AgreesWith<I, %s, E, %s, J, F>" % (tuples["O"], tuples["Q"])
+    return block(parameters, trait, tuples["P"], "", "\n".join(members))
+
+
+SEQUENCE_IMPLS = """//! Tuples: their members run in order, and the first failure is handed on.
+//!
+//! {head}
+ghost use Rattle.std.specs.Prelude.{{⊤}};
+ghost use Rattle.winnow_core.specs.Agrees.{{agrees_plain}};
+ghost use Rattle.winnow_core.specs.Agrees.Sizes.{{{agreements}}};
+ghost use Rattle.winnow_core.specs.Ends.{{same_ends}};
+ghost use Rattle.winnow_core.specs.SameMeaning.{{same_refl}};
+ghost use Rattle.winnow_core.specs.Sequence.{{{names}}};
+ghost use Rattle.winnow_core.specs.Sequence.Laws.{{{laws}}};
+
+use crate::agrees_with::AgreesWith;
+use crate::parser::Parser;
+use stream_errors::parser_error::ParserError;
+use streams::stream::Stream;
+
+/// Nothing is run, and nothing taken.
+impl<I: Stream, E: ParserError<I>> Parser<I, (), E> for () {{
+    ghost State = {{ ⊤ }};
+
+    ghost state = {{ λ _. tt }};
+
+    ghost meaning = {{ λ _. SequenceRuns0 }};
+
+    ghost leaves_ends = {{ λ form s i answer t j r. same_ends I.reading i j r.1 }};
+
+    #[inline(always)]
+    fn parse_next(&mut self, _input: &mut I) -> Result<(), E> {{
+        Ok(())
+    }}
+}}
+
+{nothing}
+
+{family}
+"""
+
+
+def injected(case, cases, term):
+    """The term as the case of so many nested cases."""
+    term = "inl (%s)" % term if case < cases - 1 else term
+    for _ in range(case):
+        term = "inr (%s)" % term
+    return term
+
+
+def sequence_ran(n, failing):
+    """What answers the clause `ran` at a return of n children."""
+    ran = failing or n
+    succeeding = ran - 1 if failing else n
+    parts = ["_"] * succeeding
+    if failing:
+        parts.append("g.E.HasKind.kind c.in_err-%s.field-0.0" % ORDINAL[failing])
+    parts += ["_"] * (ran - 1)
+    parts += ["c.in_ok-%s.ensures.ran" % ORDINAL[k] for k in upto(succeeding)]
+    if failing:
+        parts.append("c.in_err-%s.ensures.ran" % ORDINAL[failing])
+    parts += ["refl"] * (n - ran)
+    parts.append("search rules" if failing else "refl")
+    goal = "returns-in_err-%s-clause-ran" % ORDINAL[failing] if failing else "returns-clause-ran"
+    return "pub {0} : goal.{0}\n{0} g c = {1}".format(goal, injected(failing, n + 1, ", ".join(parts)))
+
+
+def sequence_ends(n, failing):
+    """What answers the clause `ends` at a return of n children, the last of which fails or not."""
+    last = "c.in_%s-%s.ensures.ends" % ("err" if failing else "ok", ORDINAL[n])
+    steps = [last] + ["c.in_ok-%s.ensures.ends" % ORDINAL[k] for k in range(n - 1, 0, -1)]
+    goal = "returns-in_err-%s-clause-ends" % ORDINAL[n] if failing else "returns-clause-ends"
+    return "pub {0} : goal.{0}\n{0} g c = is_end_of_trans{1} {2}".format(goal, n, " ".join(steps))
+
+
+def sequence_answers(n):
+    """The answers of the goals that the check leaves: at many children, the late returns."""
+    failing = [sequence_ran(n, k) for k in range(4, n + 1)]
+    if n < MOST:
+        return failing
+    return failing + [sequence_ran(n, 0), sequence_ends(n, True), sequence_ends(n, False)]
+
+
+SEQUENCE_ANSWERS = """-- {head}
+use Rattle.std.proofs.Common.{{rules, refl, inl, inr}}{ends}
+use Rattle.winnow_core.proofs.parser.tuples.Tuple{n}Parser.parse_next.Goals as goal
+
+{answers}
+"""
+
+
+# Choices.
+
+
+def agreement(n):
+    """What is made of n children that agree agrees."""
+    every = upto(n)
+
+    def each(text, joined=" "):
+        return joined.join(text.replace("#", str(k)).replace("@", str(k - 1)) for k in every)
+
+    def lifted(k):
+        """The child k in the place of its like one, where those before it were put already."""
+        states = ["U%d" % x if x < k else "X" if x == k else "S%d" % x for x in every]
+        meanings = ["n%d" % x if x < k else "m" if x == k else "m%d" % x for x in every]
+        mapped = ", ".join("f s.%d" % (x - 1) if x == k else "s.%d" % (x - 1) for x in every)
+        make = "λ X m. make %s %s" % (" ".join(states), " ".join(meanings))
+        return "lift (λ X. %s) (λ X Y f s. (%s)) (%s) (λ X. refl) one%d.along one%d.same" % (" × ".join(states), mapped, make, k, k)
+
+    def led(k):
+        """The state of the child k leads to that of its like one."""
+        parts = ["other%d (other_part%d q)" % (x, x) if x < k else "x" if x == k else "one%d.along (state%d (part%d p))" % (x, x, x) for x in every]
+        return "ap (λ x. (%s)) (one%d.leads (part%d p) (other_part%d q) is.%d)" % (", ".join(parts), k, k, k, k - 1)
+
+    same = lifted(n)
+    for k in range(n - 1, 0, -1):
+        same = "same_trans (%s) (%s)" % (lifted(k), same)
+    kind = "{P Q T O : Type 0} {%s : Type 0} %s (make : (%s : Type 0) → %s → Meaning (%s) T O) %s → %s → Agrees (λ p. (%s)) (λ q. (%s)) (λ p q. %s) (make %s %s) (make %s %s)" % (
+        each("P# Q# S# U# T# O#"),
+        each("(part# : P → P#) (other_part# : Q → Q#)"),
+        each("X#"),
+        each("Meaning X# T# O#", " → "),
+        each("X#", " × "),
+        each("{state# : P# → S#} {other# : Q# → U#} {like# : P# → Q# → Type 0} {m# : Meaning S# T# O#} {n# : Meaning U# T# O#}"),
+        each("Agrees state# other# like# m# n#", " → "),
+        each("state# (part# p)", ", "),
+        each("other# (other_part# q)", ", "),
+        each("like# (part# p) (other_part# q)", " × "),
+        each("S#"),
+        each("m#"),
+        each("U#"),
+        each("n#"),
+    )
+    named = "%s %s make %s %s" % (
+        each("{S# = S#} {U# = U#}"),
+        each("part# other_part#"),
+        each("{state# = state#} {other# = other#} {m# = m#} {n# = n#}"),
+        each("one#"),
+    )
+    return "\n".join(
+        [
+            "-- ... of %s children" % NUMBER[n],
+            "pub agrees%d : %s" % (n, kind),
+            "agrees%d %s = record {" % (n, named),
+            "  along = λ s. (%s);" % each("one#.along s.@", ", "),
+            "  same = %s;" % same,
+            "  leads = λ p q is. %s;" % " ∙ ".join(led(k) for k in every),
+            "  only = λ p q e. (%s);" % each("one#.only (part# p) (other_part# q) (ap (λ x. x.@) e)", ", "),
+            "}",
+        ]
+    )
+
+
+AGREEMENTS = """-- What is made of one to six children that agree agrees.
+-- {head}
+use Rattle.std.specs.Prelude.{{◌≡◌}}
+use Rattle.std.proofs.Common.{{refl, ap, ◌∙◌}}
+use Rattle.winnow_core.specs.Agrees.{{Agrees}}
+use Rattle.winnow_core.specs.Runs.{{Meaning}}
+use Rattle.winnow_core.specs.SameMeaning.{{lift, same_trans}}
+
+-- ... of one child, in a tuple
+pub agrees_one : {{P P' Q Q' S U T O T' O' : Type 0}} (part : P' → P) (other_part : Q' → Q) (make : (X : Type 0) → Meaning X T O → Meaning (record {{ 0 : X }}) T' O') {{state : P → S}} {{other : Q → U}} {{like : P → Q → Type 0}} {{m : Meaning S T O}} {{n : Meaning U T O}} → Agrees state other like m n → Agrees (λ p. record {{ 0 = state (part p) }}) (λ q. record {{ 0 = other (other_part q) }}) (λ p q. like (part p) (other_part q)) (make S m) (make U n)
+agrees_one part other_part make child = record {{
+  along = λ s. record {{ 0 = child.along s.0 }};
+  same = lift (λ X. record {{ 0 : X }}) (λ X Y f s. record {{ 0 = f s.0 }}) make (λ X. refl) child.along child.same;
+  leads = λ p q is. ap (λ x. record {{ 0 = x }}) (child.leads (part p) (other_part q) is);
+  only = λ p q e. child.only (part p) (other_part q) (ap (λ x. x.0) e);
+}}
+
+{family}
+"""
+
+NOTHING = [
+    "    ghost like = { λ p q. ⊤ };",
+    "",
+    "    ghost agrees = { agrees_plain (same_refl (λ _. SequenceRuns0)) };",
+]
+
+
+def write_sequences():
+    core = "crates/winnow_core/"
+    every = upto(MOST)
+    write(core + "specs/Sequence.antt", SEQUENCE_SPECS, family="\n\n".join(sequence_spec(n) for n in every))
+    names = ", ".join("SequenceRuns%d" % n for n in range(MOST + 1))
+    some = ", ".join("SequenceRuns%d" % n for n in every)
+    write(core + "specs/Sequence/Laws.antt", SEQUENCE_ENDS, names=some, family="\n\n".join(sequence_ends_law(n) for n in every))
+    nothing = block(["I: Stream", LIKE, "E: ParserError<I>", "F: ParserError<J>"], "AgreesWith<I, (), E, (), J, F>", "()", "", "\n".join(NOTHING))
+    write(
+        core + "src/parser/tuples.rt",
+        SEQUENCE_IMPLS,
+        names=names,
+        laws=", ".join("sequence%d_ends" % n for n in every),
+        agreements=", ".join(["agrees%d" % n for n in every if n > 1] + ["agrees_one"]),
+        nothing=nothing,
+        family="\n\n".join("%s\n\n%s" % (sequence_impl(n), sequence_agrees(n)) for n in every),
+    )
+    write(core + "specs/Agrees/Sizes.antt", AGREEMENTS, family="\n\n".join(agreement(n) for n in every if n > 1))
+    for n in (5, 6):
+        ends = "\nuse Rattle.streams.specs.Input.{is_end_of_trans6}" if n == MOST else ""
+        path = core + "proofs/parser/tuples/Tuple%dParser/parse_next/Answers.antt" % n
+        write(path, SEQUENCE_ANSWERS, n=n, ends=ends, answers="\n\n".join(sequence_answers(n)))
