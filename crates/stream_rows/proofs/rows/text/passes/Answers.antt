@@ -9,6 +9,3 @@ offset_from-requires g c = remains_behind c.next_token.ensures.ends.ends c.loop-
 
 pub loop-token-preserved : goal.loop-token-preserved
 loop-token-preserved g c = remains_behind c.next_token.ensures.ends.ends c.loop-token.invariant
-
-pub reset-requires : goal.reset-requires
-reset-requires g c = remains_behind c.next_token-2.ensures.ends.ends c.loop-token.invariant
