@@ -2,6 +2,8 @@
 import pathlib
 import textwrap
 
+import wrap
+
 TOP = pathlib.Path(__file__).resolve().parent.parent.parent
 HEAD = "Written by scripts/families.py: do not edit."
 MOST = 6
@@ -53,7 +55,8 @@ def disjunction(cases):
 def write(path, text, **parts):
     path = TOP / path
     path.parent.mkdir(parents=True, exist_ok=True)
-    path.write_text(text.format(head=HEAD, **parts), encoding="utf-8")
+    text = wrap.wrapped(text.format(head=HEAD, **parts), path.suffix == ".antt")
+    path.write_text(text, encoding="utf-8")
 
 
 def camel(name):

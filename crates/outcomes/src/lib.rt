@@ -4,6 +4,10 @@
 //! many units it takes, as an [`Ending`]. It says so in texts, of which each stream makes its own
 //! by [`OfText`](crate::texts::OfText).
 #![tactic(auto)]
+ghost use Rattle.std.specs.Prelude.{◌≡◌, ◌-◌};
+ghost use Rattle.streams.specs.Input.{Input};
+ghost use Rattle.stream_errors.specs.Form.{Answer, answer_by};
+ghost use Rattle.outcomes.specs.Shown.{ShowsEnding, answer_shown, kind_shown};
 
 pub mod texts;
 
@@ -22,7 +26,9 @@ pub enum Kind {
 }
 
 /// The kind of an error.
-pub fn kind_of<I: Stream, E: ParserError<I>>(error: &E) -> Kind {
+pub fn kind_of<I: Stream, E: ParserError<I>>(error: &E) -> Kind
+    ensures { kind_shown result ≡ E.kind error.now }
+{
     if error.is_backtrack() {
         return Kind::Backtrack;
     }
@@ -42,7 +48,10 @@ pub type Outcome<O, I> = (Result<O, Kind>, I);
 pub fn outcome_with<I: Stream, O, E: ParserError<I>>(
     answer: Result<O, E>,
     rest: I,
-) -> Outcome<O, I> {
+) -> Outcome<O, I>
+    ensures answer { answer_shown result.0 ≡ answer_by E.kind answer }
+    ensures rest { result.1 ≡ rest }
+{
     match answer {
         Ok(output) => (Ok(output), rest),
         Err(error) => (Err(kind_of::<I, E>(&error)), rest),
@@ -55,7 +64,9 @@ pub fn outcome_of<I: Stream, O, E: ParserError<I>, P: Parser<I, O, E>>(
     input: I,
 ) -> Outcome<O, I>
     requires { P.can_parse parser.old }
-    ensures { P.can_parse parser.new }
+    ensures ran { P.meaning E.form (P.state parser.old) (I.view input) (answer_shown result.0)
+        (P.state parser.new) (I.view result.1) }
+    ensures again { P.can_parse parser.new }
 {
     let mut input = input;
     let answer = parser.parse_next(&mut input);
@@ -94,7 +105,9 @@ impl Ending {
 }
 
 /// How a run with this answer ended.
-fn ending_with<O: Drop>(answer: Result<O, Kind>, taken: usize) -> Ending {
+fn ending_with<O: Drop>(answer: Result<O, Kind>, taken: usize) -> Ending
+    ensures { ShowsEnding result (answer_shown answer) taken }
+{
     match answer {
         Ok(_) => Ending::Takes(taken),
         Err(kind) => Ending::Fails(kind, taken),
@@ -107,7 +120,11 @@ pub fn ending_of<I: Stream, O: Drop, E: ParserError<I>, P: Parser<I, O, E>>(
     input: I,
 ) -> Ending
     requires { P.can_parse parser.old }
-    ensures { P.can_parse parser.new }
+    ensures ran { (answer : Answer O) × (rest : Input I.Seen)
+        × P.meaning E.form (P.state parser.old) (I.view input) answer (P.state parser.new) rest
+        × ShowsEnding result answer
+            (I.reading.units (I.view input).left.tokens - I.reading.units rest.left.tokens) }
+    ensures again { P.can_parse parser.new }
 {
     let before = input.eof_offset();
     let (answer, rest) = outcome_of::<I, O, E, P>(parser, input);
@@ -120,7 +137,10 @@ pub fn ending_by_place<I: Location, O: Drop, E: ParserError<I>, P: Parser<I, O, 
     input: I,
 ) -> Ending
     requires { P.can_parse parser.old }
-    ensures { P.can_parse parser.new }
+    ensures ran { (answer : Answer O) × (rest : Input I.Seen)
+        × P.meaning E.form (P.state parser.old) (I.view input) answer (P.state parser.new) rest
+        × ShowsEnding result answer (rest.left.place.passed - (I.view input).left.place.passed) }
+    ensures again { P.can_parse parser.new }
 {
     let before = input.current_token_start();
     let (answer, rest) = outcome_of::<I, O, E, P>(parser, input);

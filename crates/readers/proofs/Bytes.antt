@@ -1,5 +1,6 @@
 -- What readers and writers do to the bytes that they tell.
-use Rattle.std.proofs.Common.{◌≡◌, ℕ, ◌-◌, List, [], ◌++◌, length, take, drop, sym, ap, ◌∙◌, append_assoc, take-append-drop, arith}
+use Rattle.std.proofs.Common.{◌≡◌, ℕ, ◌-◌, List, [], ◌++◌, length, take, drop, sym, ap, ◌∙◌}
+use Rattle.std.proofs.Common.{append_assoc, take-append-drop, arith}
 use Rattle.std.proofs.lemmas.List.{take_rest}
 use Rattle.std.specs.Prelude.{Option}
 use Rattle.std.specs.Io.KnownBytes.{Appends, Keeps, Consumes}
@@ -7,11 +8,15 @@ use Rattle.std.proofs.KnownBytes.{Appends-trans, Appends-nil, Keeps-refl, Consum
 use Rattle.readers.specs.Program.{ConsumesAtMost}
 
 -- n bytes more are gone from the rest
-pub moves_front : (all done rest : List ℕ) (n : ℕ) → all ≡ done ++ rest → all ≡ (done ++ take n rest) ++ take (length rest - n) (drop n rest)
+pub moves_front : (all done rest : List ℕ) (n : ℕ) → all ≡ done ++ rest
+    → all ≡ (done ++ take n rest) ++ take (length rest - n) (drop n rest)
 moves_front all done rest n e =
-    e ∙ ap (λ l. done ++ l) (sym (take-append-drop n rest)) ∙ sym (append_assoc done (take n rest) (drop n rest)) ∙ ap (λ l. (done ++ take n rest) ++ l) (sym (take_rest rest n))
+    e ∙ ap (λ l. done ++ l) (sym (take-append-drop n rest))
+    ∙ sym (append_assoc done (take n rest) (drop n rest))
+    ∙ ap (λ l. (done ++ take n rest) ++ l) (sym (take_rest rest n))
 
-pub appends_trans : (a b c : Option (List ℕ)) (bs cs : List ℕ) → Appends a b bs → Appends b c cs → Appends a c (bs ++ cs)
+pub appends_trans : (a b c : Option (List ℕ)) (bs cs : List ℕ) → Appends a b bs → Appends b c cs
+    → Appends a c (bs ++ cs)
 appends_trans = Appends-trans
 
 pub appends_nil : (a : Option (List ℕ)) → Appends a a []

@@ -1,5 +1,6 @@
 -- A written answer is what a run owes.
-use Rattle.std.proofs.Common.{◌≡◌, ◌≤◌, ◌∙◌, Bool, ℕ, List, [], ◌∷◌, length, Option, Some, None, inl, inr, refl, sym, ap, subst, arith}
+use Rattle.std.proofs.Common.{◌≡◌, ◌≤◌, ◌∙◌, Bool, ℕ, List, [], ◌∷◌, length, Option, Some, None}
+use Rattle.std.proofs.Common.{inl, inr, refl, sym, ap, subst, arith}
 use Rattle.std.specs.Borrow.{Bor}
 use Rattle.std.specs.Prelude.{IfSome, ◌↔◌}
 use Rattle.readers.specs.declared.program.Stop.TheVariants.{Unwritable}
@@ -7,20 +8,43 @@ use Rattle.readers.specs.declared.program.Verdict.{Verdict}
 use Rattle.readers.specs.declared.program.Verdict.TheVariants.{Accepted, Refused}
 use Rattle.readers.specs.declared.program.Format.{Format}
 use Rattle.readers.specs.declared.program.Format.TheVariants.{Pair, Ini}
-use Rattle.readers.specs.Program.{IsAnswerText, WritesAnswer, RunOwes, IsWord, format_word, most_bytes}
+use Rattle.readers.specs.Program.{IsAnswerText, WritesAnswer, RunOwes, IsWord, format_word}
+use Rattle.readers.specs.Program.{most_bytes}
 
-pub written_is_owed : (format : Format) (known : Option (List ℕ)) (verdict : Verdict) (text : List ℕ) (status : ℕ) (told : Bool) (out_old out_new err_old err_new : Option (List ℕ)) → IfSome known (λ bytes. (length bytes ≤ most_bytes) × IsAnswerText format bytes verdict text) → WritesAnswer verdict text status told out_old out_new err_old err_new → IfSome known (λ bytes. RunOwes format bytes status told out_old out_new err_old err_new)
+pub written_is_owed : (format : Format) (known : Option (List ℕ)) (verdict : Verdict)
+    (text : List ℕ) (status : ℕ) (told : Bool)
+    (out_old out_new err_old err_new : Option (List ℕ))
+    → IfSome known (λ bytes. (length bytes ≤ most_bytes)
+    × IsAnswerText format bytes verdict text)
+    → WritesAnswer verdict text status told out_old out_new err_old err_new
+    → IfSome known (λ bytes. RunOwes format bytes status told out_old out_new err_old err_new)
 unfolding IsAnswerText
 written_is_owed format None verdict text status told out_old out_new err_old err_new is wrote = tt
-written_is_owed format (Some bytes) Accepted text status told out_old out_new err_old err_new (le, is_text) (inl (zero, nothing, all, kept)) = inl (zero, nothing, le, (text, is_text, all), kept)
-written_is_owed format (Some bytes) Accepted text status told out_old out_new err_old err_new (le, is_text) (inr (two, some, why)) = inr (inr (two, (Unwritable, (le, (text, is_text, some)), why)))
-written_is_owed format (Some bytes) Refused text status told out_old out_new err_old err_new (le, is_text) (one, kept, line) = inr (inl (one, le, kept, (text, is_text, line)))
+written_is_owed format (Some bytes) Accepted text status told out_old out_new err_old err_new
+    (le, is_text) (inl (zero, nothing, all, kept)) =
+    inl (zero, nothing, le, (text, is_text, all), kept)
+written_is_owed format (Some bytes) Accepted text status told out_old out_new err_old err_new
+    (le, is_text) (inr (two, some, why)) =
+    inr (inr (two, (Unwritable, (le, (text, is_text, some)), why)))
+written_is_owed format (Some bytes) Refused text status told out_old out_new err_old err_new
+    (le, is_text) (one, kept, line) = inr (inl (one, le, kept, (text, is_text, line)))
 
 -- the same by the word that asked for the format
-pub owed_by_word : (format other : Format) (known : Option (List ℕ)) (verdict : Verdict) (text : List ℕ) (status : ℕ) (told : Bool) (out_old out_new err_old err_new : Option (List ℕ)) → other ≡ format → IfSome known (λ bytes. (length bytes ≤ most_bytes) × IsAnswerText format bytes verdict text) → WritesAnswer verdict text status told out_old out_new err_old err_new → IfSome known (λ bytes. RunOwes other bytes status told out_old out_new err_old err_new)
-owed_by_word format other known verdict text status told out_old out_new err_old err_new same is wrote =
-    let P : Format → Type 0 = λ f. IfSome known (λ bytes. RunOwes f bytes status told out_old out_new err_old err_new) in
-    subst P (sym same) (written_is_owed format known verdict text status told out_old out_new err_old err_new is wrote)
+pub owed_by_word : (format other : Format) (known : Option (List ℕ)) (verdict : Verdict)
+    (text : List ℕ) (status : ℕ) (told : Bool)
+    (out_old out_new err_old err_new : Option (List ℕ)) → other ≡ format
+    → IfSome known (λ bytes. (length bytes ≤ most_bytes)
+    × IsAnswerText format bytes verdict text)
+    → WritesAnswer verdict text status told out_old out_new err_old err_new
+    → IfSome known (λ bytes. RunOwes other bytes status told out_old out_new err_old err_new)
+owed_by_word format other known verdict text status told out_old out_new err_old err_new same is
+    wrote =
+    let P : Format → Type 0 =
+    λ f. IfSome known (λ bytes. RunOwes f bytes status told out_old out_new err_old err_new)
+    in
+    subst P (sym same)
+    (written_is_owed format known verdict text status told out_old out_new err_old err_new
+    is wrote)
 
 -- the words are one word
 one_word : (words : List (Bor (List ℕ))) (v w : List ℕ) → IsWord words v → IsWord words w → v ≡ w
@@ -28,8 +52,15 @@ one_word [] v w h k = absurd (omega (arith, h.0))
 one_word (x ∷ xs) v w h k = sym (h.1 x) ∙ k.1 x
 
 -- words that ask for a format ask for no other
-pub asks_for_one : (words : List (Bor (List ℕ))) (format : Format) → IsWord words (format_word format) → (other : Format) → IsWord words (format_word other) ↔ (other ≡ format)
-asks_for_one words format is other = ((λ h. same_format other format (one_word words (format_word other) (format_word format) h is)), λ e. let P : Format → Type 0 = λ f. IsWord words (format_word f) in subst P (sym e) is)
+pub asks_for_one : (words : List (Bor (List ℕ))) (format : Format)
+    → IsWord words (format_word format) → (other : Format)
+    → IsWord words (format_word other) ↔ (other ≡ format)
+asks_for_one words format is other = (
+  (λ h. same_format other format
+      (one_word words (format_word other) (format_word format) h is)),
+  λ e. let P : Format
+      → Type 0 = λ f. IsWord words (format_word f) in subst P (sym e) is,
+)
   where
     same_format : (f g : Format) → format_word f ≡ format_word g → f ≡ g
     same_format Pair Pair e = refl

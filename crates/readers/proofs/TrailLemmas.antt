@@ -1,5 +1,7 @@
 -- A value without what trails behind it.
-use Rattle.std.proofs.Common.{◌≡◌, ◌≢◌, ◌≤◌, ◌<◌, ◌+◌, ◌∙◌, ℕ, List, [], ◌∷◌, ◌++◌, length, take, drop, get_or, Option, Some, None, sym, ap, subst, arith, inl, inr, length-append, length-drop, take-append-drop}
+use Rattle.std.proofs.Common.{◌≡◌, ◌≢◌, ◌≤◌, ◌<◌, ◌+◌, ◌∙◌, ℕ, List, [], ◌∷◌, ◌++◌, length, take}
+use Rattle.std.proofs.Common.{drop, get_or, Option, Some, None, sym, ap, subst, arith, inl, inr}
+use Rattle.std.proofs.Common.{length-append, length-drop, take-append-drop}
 use Rattle.std.specs.Prelude.{MatchOption}
 use Rattle.std.specs.List.{All}
 use Rattle.std.specs.Borrow.{Bor}
@@ -16,29 +18,50 @@ use Rattle.readers.proofs.DocumentLemmas.{same_end}
 -- the last bytes of two lists that are the same are the same
 same_last : (xs ys : List ℕ) (x y : ℕ) → xs ++ (x ∷ []) ≡ ys ++ (y ∷ []) → x ≡ y
 same_last [] [] x y e = same_first e
-same_last [] (b ∷ ys) x y e = absurd (omega (arith, ap (λ l. length l) e, length-append ys (y ∷ [])))
-same_last (a ∷ xs) [] x y e = absurd (omega (arith, ap (λ l. length l) e, length-append xs (x ∷ [])))
+same_last [] (b ∷ ys) x y e =
+    absurd (omega (arith, ap (λ l. length l) e, length-append ys (y ∷ [])))
+same_last (a ∷ xs) [] x y e =
+    absurd (omega (arith, ap (λ l. length l) e, length-append xs (x ∷ [])))
 same_last (a ∷ xs) (b ∷ ys) x y e = same_last xs ys x y (same_others e)
 
 -- what is said of each read from i on is said of all that is dropped there
-All-drop_from_reads : (P : ℕ → Type 0) (xs : List ℕ) (i : ℕ) → ((k : ℕ) → i ≤ k → k < length xs → P (get_or xs k 0)) → All P (drop i xs)
+All-drop_from_reads : (P : ℕ → Type 0) (xs : List ℕ) (i : ℕ)
+    → ((k : ℕ) → i ≤ k → k < length xs → P (get_or xs k 0)) → All P (drop i xs)
 All-drop_from_reads P xs i reads =
-    All-from_get_or P (drop i xs) 0 (λ k inside. subst P (sym (get_or-drop i xs k 0)) (reads (i + k) (omega arith) (omega (arith, length-drop i xs))))
+    All-from_get_or P (drop i xs) 0
+    (λ k inside. subst P (sym (get_or-drop i xs k 0))
+    (reads (i + k) (omega arith) (omega (arith, length-drop i xs))))
 
 -- the front up to a byte that does not trail is the value, where those behind it do
-pub trailing_from : (xs : List ℕ) (i : ℕ) → i < length xs → (IsTrailing (get_or xs i 0) → ⊥) → ((k : ℕ) → i + 1 ≤ k → k < length xs → IsTrailing (get_or xs k 0)) → IsWithoutTrailing xs (take (i + 1) xs)
+pub trailing_from : (xs : List ℕ) (i : ℕ) → i < length xs → (IsTrailing (get_or xs i 0) → ⊥)
+    → ((k : ℕ) → i + 1 ≤ k → k < length xs → IsTrailing (get_or xs k 0))
+    → IsWithoutTrailing xs (take (i + 1) xs)
 trailing_from xs i inside here behind =
     let ys = take i xs in
     let zs = drop (i + 1) xs in
     let b = get_or xs i 0 in
-    let split : xs ≡ ys ++ (b ∷ zs) = sym (take-append-drop i xs) ∙ ap (λ l. ys ++ l) (drop_more xs i 0 inside) in
+    let split : xs ≡ ys ++ (b ∷ zs) =
+    sym (take-append-drop i xs) ∙ ap (λ l. ys ++ l) (drop_more xs i 0 inside) in
     let kept : take (i + 1) xs ≡ ys ++ (b ∷ []) =
-    ap (λ l. take (i + 1) l) split ∙ ap (λ n. take (n + 1) (ys ++ (b ∷ zs))) (sym (length-take-le i xs (omega (arith, inside)))) ∙ take-append-add ys (b ∷ zs) 1 in
-    (zs, sym (take-append-drop (i + 1) xs), All-drop_from_reads IsTrailing xs (i + 1) behind, λ front c e h. here (subst IsTrailing (sym (same_last ys front b c (sym kept ∙ e))) h))
+    ap (λ l. take (i + 1) l) split
+    ∙ ap (λ n. take (n + 1) (ys ++ (b ∷ zs)))
+    (sym (length-take-le i xs (omega (arith, inside)))) ∙ take-append-add ys (b ∷ zs) 1 in (
+      zs,
+      sym (take-append-drop (i + 1) xs),
+      All-drop_from_reads IsTrailing xs (i + 1) behind,
+      λ front c e h. here
+          (subst IsTrailing (sym (same_last ys front b c (sym kept ∙ e))) h),
+    )
 
 -- what is said of one value without its trail is said of each
-pub value_told : (bytes v : List ℕ) (r : Option (Bor (List ℕ))) → IsWithoutTrailing bytes v → MatchOption r (IsUtf8 v → ⊥) (λ s. (s.now ≡ v) × IsUtf8 v) → MatchOption r ((value : List ℕ) → IsWithoutTrailing bytes value → IsUtf8 value → ⊥) (λ s. IsWithoutTrailing bytes s.now × IsUtf8 s.now)
-value_told bytes v None (trail, e, all, last) refuses = λ value h utf8. refuses (subst IsUtf8 (sym ((same_end IsTrailing v value trail h.0 all h.2 last h.3 (sym e ∙ h.1)).0)) utf8)
+pub value_told : (bytes v : List ℕ) (r : Option (Bor (List ℕ))) → IsWithoutTrailing bytes v
+    → MatchOption r (IsUtf8 v → ⊥) (λ s. (s.now ≡ v) × IsUtf8 v)
+    → MatchOption r ((value : List ℕ) → IsWithoutTrailing bytes value → IsUtf8 value → ⊥)
+    (λ s. IsWithoutTrailing bytes s.now × IsUtf8 s.now)
+value_told bytes v None (trail, e, all, last) refuses =
+    λ value h utf8. refuses
+    (subst IsUtf8 (sym ((same_end IsTrailing v value trail h.0 all h.2 last h.3
+    (sym e ∙ h.1)).0)) utf8)
 value_told bytes v (Some s) h told =
     let P : List ℕ → Type 0 = λ l. IsWithoutTrailing bytes l × IsUtf8 l in
     subst P (sym told.0) (h, told.1)

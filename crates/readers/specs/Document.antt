@@ -112,10 +112,12 @@ FitsBefore (pair p) behind = IsPairBefore p behind
 abbrev pub Begins : Part → List ℕ → List ℕ → Type 0
 Begins part input behind = (input ≡ bytes_of part ++ behind) × FitsBefore part behind
 
--- The input begins with these parts, in order, and the rest follows them. What follows a part is judged in the whole input.
+-- The input begins with these parts, in order, and the rest follows them. What follows a part is
+-- judged in the whole input.
 abbrev pub BeginsWith : List Part → List ℕ → List ℕ → Type 0
 BeginsWith [] input rest = input ≡ rest
-BeginsWith (part ∷ parts) input rest = (behind : List ℕ) × Begins part input behind × BeginsWith parts behind rest
+BeginsWith (part ∷ parts) input rest =
+    (behind : List ℕ) × Begins part input behind × BeginsWith parts behind rest
 
 -- No pair stands before the first section.
 abbrev pub NoPairBeforeSections : List Part → Type 0
@@ -155,9 +157,11 @@ sections_of (pair p ∷ parts) = sections_of parts
 
 -- The input is a document with these sections.
 abbrev pub HasSections : List ℕ → List SectionText → Type 0
-HasSections input sections = (parts : List Part) × IsDocument input parts × (sections ≡ sections_of parts)
+HasSections input sections =
+    (parts : List Part) × IsDocument input parts × (sections ≡ sections_of parts)
 
--- The input is no document, and n is the length of its longest beginning that is made of parts as a document is.
+-- The input is no document, and n is the length of its longest beginning that is made of parts as a
+-- document is.
 pub record IsRefusedDocument (input : List ℕ) (n : ℕ) : Type 0 where
   -- no parts are the whole input
   pub no_document : (parts : List Part) → IsDocument input parts → ⊥
@@ -167,17 +171,22 @@ pub record IsRefusedDocument (input : List ℕ) (n : ℕ) : Type 0 where
   pub begins : BeginsDocument parts input rest
   pub at : n + length rest ≡ length input
   -- and none are more
-  pub longest : (others : List Part) (left : List ℕ) → BeginsDocument others input left → length input ≤ n + length left
+  pub longest : (others : List Part) (left : List ℕ) → BeginsDocument others input left
+      → length input ≤ n + length left
 
 -- The input begins with a section.
 abbrev pub SectionBegins : List ℕ → Type 0
 SectionBegins input = (name : List ℕ) × (behind : List ℕ) × Begins (section name) input behind
 
--- What the input begins with as a document does has a section: there is an entry for the list of sections.
+-- What the input begins with as a document does has a section: there is an entry for the list of
+-- sections.
 abbrev pub ReachesSection : List ℕ → Type 0
-ReachesSection input = (parts : List Part) × (rest : List ℕ) × BeginsDocument parts input rest × (0 < length (sections_of parts))
+ReachesSection input =
+    (parts : List Part) × (rest : List ℕ) × BeginsDocument parts input rest
+    × (0 < length (sections_of parts))
 
--- A fault of the reader of documents: the input is refused at a place, or a request for memory was, and no list has to grow without a section.
+-- A fault of the reader of documents: the input is refused at a place, or a request for memory was,
+-- and no list has to grow without a section.
 abbrev pub IsDocumentFault : List ℕ → Fault → Type 0
 IsDocumentFault input (Refused n) = IsRefusedDocument input n
 IsDocumentFault input NoMemory = ReachesSection input

@@ -8,11 +8,17 @@ use Rattle.streams.specs.Bytes.{bytes_reading}
 use Rattle.stream_errors.specs.Form.{Answer}
 use Rattle.std.specs.Str.{IsUtf8}
 use Rattle.readers.specs.Pair.{IsKeyByte}
-use Rattle.readers.specs.Document.{IsBlank, IsValueByte, IsTrailing, NotFirst, NotLast, Part, PairBytes, white, comment, section, pair, Begins, BeginsWith, BeginsDocument, NoPairBeforeSections, SectionText, pairs_of, sections_of, NoSectionBegins, NoPairBegins, SectionBegins, ReachesSection}
+use Rattle.readers.specs.Document.{IsBlank, IsValueByte, IsTrailing, NotFirst, NotLast, Part}
+use Rattle.readers.specs.Document.{PairBytes, white, comment, section, pair, Begins, BeginsWith}
+use Rattle.readers.specs.Document.{BeginsDocument, NoPairBeforeSections, SectionText, pairs_of}
+use Rattle.readers.specs.Document.{sections_of, NoSectionBegins, NoPairBegins, SectionBegins}
+use Rattle.readers.specs.Document.{ReachesSection}
 
 -- The value is these bytes without trailing spaces, tabs and carriage returns.
 abbrev pub IsWithoutTrailing : List ℕ → List ℕ → Type 0
-IsWithoutTrailing bytes value = (trail : List ℕ) × (bytes ≡ value ++ trail) × All IsTrailing trail × NotLast IsTrailing value
+IsWithoutTrailing bytes value =
+    (trail : List ℕ) × (bytes ≡ value ++ trail) × All IsTrailing trail
+    × NotLast IsTrailing value
 
 -- The front is the longest beginning of bytes of P, and the rest follows.
 abbrev pub IsFront : (ℕ → Type 0) → List ℕ → List ℕ → List ℕ → Type 0
@@ -22,7 +28,8 @@ IsFront P input front rest = (input ≡ front ++ rest) × All P front × NotFirs
 abbrev pub KeyRuns : Input ℕ → Answer (Bor (List ℕ)) → Input ℕ → Type 0
 KeyRuns i answer j = IsEndOf bytes_reading j i × (
     -- letters and digits, as many as there are
-    ((key : Bor (List ℕ)) × (0 < length key.now) × IsFront IsKeyByte i.left.tokens key.now j.left.tokens × (answer ≡ Ok key))
+    ((key : Bor (List ℕ)) × (0 < length key.now)
+    × IsFront IsKeyByte i.left.tokens key.now j.left.tokens × (answer ≡ Ok key))
     -- there are none
     ⊎ (NotFirst IsKeyByte i.left.tokens × (answer ≡ Err backtrack)))
 
@@ -30,17 +37,24 @@ KeyRuns i answer j = IsEndOf bytes_reading j i × (
 abbrev pub MarkRuns : Input ℕ → Answer ⊤ → Input ℕ → Type 0
 MarkRuns i answer j = IsEndOf bytes_reading j i × (
     -- spaces and tabs, `=`, spaces and tabs, as many as there are
-    ((before : List ℕ) × (lead : List ℕ) × (rest : List ℕ) × IsFront IsBlank i.left.tokens before (61 ∷ rest) × IsFront IsBlank rest lead j.left.tokens × (answer ≡ Ok tt))
+    ((before : List ℕ) × (lead : List ℕ) × (rest : List ℕ)
+    × IsFront IsBlank i.left.tokens before (61 ∷ rest)
+    × IsFront IsBlank rest lead j.left.tokens × (answer ≡ Ok tt))
     -- no `=` behind the first ones
-    ⊎ ((before : List ℕ) × (rest : List ℕ) × IsFront IsBlank i.left.tokens before rest × NotFirst (λ b. b ≡ 61) rest × (answer ≡ Err backtrack)))
+    ⊎ ((before : List ℕ) × (rest : List ℕ) × IsFront IsBlank i.left.tokens before rest
+    × NotFirst (λ b. b ≡ 61) rest × (answer ≡ Err backtrack)))
 
 -- A run of the reader of a value.
 abbrev pub ValueRuns : Input ℕ → Answer (Bor (List ℕ)) → Input ℕ → Type 0
-ValueRuns i answer j = IsEndOf bytes_reading j i × ((body : List ℕ) × (rest : List ℕ) × IsFront IsValueByte i.left.tokens body rest × (
+ValueRuns i answer j =
+    IsEndOf bytes_reading j i
+    × ((body : List ℕ) × (rest : List ℕ) × IsFront IsValueByte i.left.tokens body rest × (
     -- the bytes before `;` and the end of the line, without what trails, are text
-    ((value : Bor (List ℕ)) × (rest ≡ j.left.tokens) × IsWithoutTrailing body value.now × IsUtf8 value.now × (answer ≡ Ok value))
+    ((value : Bor (List ℕ)) × (rest ≡ j.left.tokens) × IsWithoutTrailing body value.now
+    × IsUtf8 value.now × (answer ≡ Ok value))
     -- they are none
-    ⊎ (((value : List ℕ) → IsWithoutTrailing body value → IsUtf8 value → ⊥) × (answer ≡ Err backtrack))))
+    ⊎ (((value : List ℕ) → IsWithoutTrailing body value → IsUtf8 value → ⊥)
+    × (answer ≡ Err backtrack))))
 
 -- A run of the reader of a comment.
 abbrev pub CommentRuns : Input ℕ → Answer ⊤ → Input ℕ → Type 0
@@ -54,7 +68,8 @@ CommentRuns i answer j = IsEndOf bytes_reading j i × (
 abbrev pub CategoryRuns : Input ℕ → Answer (Bor (List ℕ)) → Input ℕ → Type 0
 CategoryRuns i answer j = IsEndOf bytes_reading j i × (
     -- a section begins the input, and is taken
-    ((name : Bor (List ℕ)) × Begins (section name.now) i.left.tokens j.left.tokens × (answer ≡ Ok name))
+    ((name : Bor (List ℕ)) × Begins (section name.now) i.left.tokens j.left.tokens
+    × (answer ≡ Ok name))
     -- none does, and the input is as it was
     ⊎ (NoSectionBegins i.left.tokens × (j ≡ i) × (answer ≡ Err backtrack)))
 
@@ -62,7 +77,9 @@ CategoryRuns i answer j = IsEndOf bytes_reading j i × (
 abbrev pub KeyValueRuns : Input ℕ → Answer (Bor (List ℕ) × Bor (List ℕ)) → Input ℕ → Type 0
 KeyValueRuns i answer j = IsEndOf bytes_reading j i × (
     -- a pair begins the input, and is taken
-    ((p : PairBytes) × (key : Bor (List ℕ)) × (value : Bor (List ℕ)) × Begins (pair p) i.left.tokens j.left.tokens × (key.now ≡ p.key) × (value.now ≡ p.value) × (answer ≡ Ok (key, value)))
+    ((p : PairBytes) × (key : Bor (List ℕ)) × (value : Bor (List ℕ))
+    × Begins (pair p) i.left.tokens j.left.tokens × (key.now ≡ p.key)
+    × (value.now ≡ p.value) × (answer ≡ Ok (key, value)))
     -- none does, and the input is as it was
     ⊎ (NoPairBegins i.left.tokens × (j ≡ i) × (answer ≡ Err backtrack)))
 
@@ -77,10 +94,13 @@ IsGapPart (pair p) = ⊥
 abbrev pub NoGapBegins : List ℕ → Type 0
 NoGapBegins input = (part : Part) (behind : List ℕ) → IsGapPart part → Begins part input behind → ⊥
 
--- A run of the reader of a gap: it takes all the white space and the comments that the input begins with.
+-- A run of the reader of a gap: it takes all the white space and the comments that the input begins
+-- with.
 abbrev pub GapRuns : Input ℕ → Answer ⊤ → Input ℕ → Type 0
 GapRuns i answer j = IsEndOf bytes_reading j i ×
-    ((parts : List Part) × AllByRecursion IsGapPart parts × BeginsWith parts i.left.tokens j.left.tokens × NoGapBegins j.left.tokens × (answer ≡ Ok tt))
+    ((parts : List Part) × AllByRecursion IsGapPart parts
+    × BeginsWith parts i.left.tokens j.left.tokens × NoGapBegins j.left.tokens
+    × (answer ≡ Ok tt))
 
 -- No part is a section.
 abbrev pub HasNoSection : List Part → Type 0
@@ -90,11 +110,15 @@ HasNoSection (comment text ∷ parts) = HasNoSection parts
 HasNoSection (section name ∷ parts) = ⊥
 HasNoSection (pair p ∷ parts) = HasNoSection parts
 
--- A run of the reader of pairs, each with the gap behind it, where `told` is what a list of them says.
-abbrev pub PairsRuns : {C : Type 0} → (C → List (List ℕ × List ℕ)) → Input ℕ → Answer C → Input ℕ → Type 0
+-- A run of the reader of pairs, each with the gap behind it, where `told` is what a list of them
+-- says.
+abbrev pub PairsRuns : {C : Type 0} → (C → List (List ℕ × List ℕ)) → Input ℕ → Answer C
+    → Input ℕ → Type 0
 PairsRuns {C} told i answer j = IsEndOf bytes_reading j i × (
     -- all the pairs that there are
-    ((all : C) × (parts : List Part) × BeginsWith parts i.left.tokens j.left.tokens × HasNoSection parts × (told all ≡ pairs_of parts) × NoPairBegins j.left.tokens × (NoGapBegins i.left.tokens → NoGapBegins j.left.tokens) × (answer ≡ Ok all))
+    ((all : C) × (parts : List Part) × BeginsWith parts i.left.tokens j.left.tokens
+    × HasNoSection parts × (told all ≡ pairs_of parts) × NoPairBegins j.left.tokens
+    × (NoGapBegins i.left.tokens → NoGapBegins j.left.tokens) × (answer ≡ Ok all))
     -- there is no memory for them
     ⊎ (answer ≡ Err memory))
 
@@ -102,7 +126,10 @@ PairsRuns {C} told i answer j = IsEndOf bytes_reading j i × (
 abbrev pub SectionRuns : {S : Type 0} → (S → SectionText) → Input ℕ → Answer S → Input ℕ → Type 0
 SectionRuns {S} told i answer j = IsEndOf bytes_reading j i × (
     -- a section begins the input, and is taken with all the parts behind it that are no section
-    ((s : S) × (name : List ℕ) × (parts : List Part) × BeginsWith (section name ∷ parts) i.left.tokens j.left.tokens × HasNoSection parts × NoGapBegins j.left.tokens × NoPairBegins j.left.tokens × (told s ≡ (name, pairs_of parts)) × (answer ≡ Ok s))
+    ((s : S) × (name : List ℕ) × (parts : List Part)
+    × BeginsWith (section name ∷ parts) i.left.tokens j.left.tokens × HasNoSection parts
+    × NoGapBegins j.left.tokens × NoPairBegins j.left.tokens
+    × (told s ≡ (name, pairs_of parts)) × (answer ≡ Ok s))
     -- none does
     ⊎ ((NoSectionBegins i.left.tokens × (answer ≡ Err backtrack))
     -- one does, and there is no memory for its pairs
@@ -117,17 +144,26 @@ BeginsAtSection (section name ∷ parts) = ⊤
 BeginsAtSection (pair p ∷ parts) = ⊥
 
 -- A run of the reader of all sections, where `told` is what a list of them says.
-abbrev pub SectionsRuns : {C : Type 0} → (C → List SectionText) → Input ℕ → Answer C → Input ℕ → Type 0
+abbrev pub SectionsRuns : {C : Type 0} → (C → List SectionText) → Input ℕ → Answer C → Input ℕ
+    → Type 0
 SectionsRuns {C} told i answer j = IsEndOf bytes_reading j i × (
     -- all the sections that there are, with all that stands behind them
-    ((all : C) × (parts : List Part) × BeginsWith parts i.left.tokens j.left.tokens × BeginsAtSection parts × (told all ≡ sections_of parts) × NoSectionBegins j.left.tokens × (NoGapBegins i.left.tokens → NoGapBegins j.left.tokens) × ((parts ≡ [] → ⊥) → NoPairBegins j.left.tokens) × (answer ≡ Ok all))
+    ((all : C) × (parts : List Part) × BeginsWith parts i.left.tokens j.left.tokens
+    × BeginsAtSection parts × (told all ≡ sections_of parts)
+    × NoSectionBegins j.left.tokens
+    × (NoGapBegins i.left.tokens → NoGapBegins j.left.tokens)
+    × ((parts ≡ [] → ⊥) → NoPairBegins j.left.tokens) × (answer ≡ Ok all))
     -- one begins the input, and there is no memory for them
     ⊎ (SectionBegins i.left.tokens × (answer ≡ Err memory)))
 
 -- A run of the reader of a document, where `told` is what a list of sections says.
-abbrev pub DocumentRuns : {C : Type 0} → (C → List SectionText) → Input ℕ → Answer C → Input ℕ → Type 0
+abbrev pub DocumentRuns : {C : Type 0} → (C → List SectionText) → Input ℕ → Answer C → Input ℕ
+    → Type 0
 DocumentRuns {C} told i answer j = IsEndOf bytes_reading j i × (
     -- all that the input begins with as a document does, up to what is no part, or no part there
-    ((all : C) × (parts : List Part) × BeginsDocument parts i.left.tokens j.left.tokens × (told all ≡ sections_of parts) × ((part : Part) (behind : List ℕ) → Begins part j.left.tokens behind → NoPairBeforeSections (parts ++ (part ∷ [])) → ⊥) × (answer ≡ Ok all))
+    ((all : C) × (parts : List Part) × BeginsDocument parts i.left.tokens j.left.tokens
+    × (told all ≡ sections_of parts)
+    × ((part : Part) (behind : List ℕ) → Begins part j.left.tokens behind
+    → NoPairBeforeSections (parts ++ (part ∷ [])) → ⊥) × (answer ≡ Ok all))
     -- there are sections, and no memory for them
     ⊎ (ReachesSection i.left.tokens × (answer ≡ Err memory)))

@@ -11,14 +11,18 @@ IsKeyByte b = ((48 ≤ b) × (b ≤ 57)) ⊎ (((65 ≤ b) × (b ≤ 90)) ⊎ ((9
 abbrev pub IsLineEnd : List ℕ → Type 0
 IsLineEnd end = (end ≡ []) ⊎ (end ≡ 10 ∷ [])
 
--- A key of one or more letters and digits, `=`, a value of bytes that are no line feed, and at most one line feed.
+-- A key of one or more letters and digits, `=`, a value of bytes that are no line feed, and at most
+-- one line feed.
 abbrev pub IsPairLine : List ℕ → List ℕ → List ℕ → Type 0
 IsPairLine line key value =
-    (end : List ℕ) × (0 < length key) × All IsKeyByte key × All (λ b. b ≢ 10) value × IsLineEnd end × (line ≡ key ++ (61 ∷ (value ++ end)))
+    (end : List ℕ) × (0 < length key) × All IsKeyByte key × All (λ b. b ≢ 10) value
+    × IsLineEnd end × (line ≡ key ++ (61 ∷ (value ++ end)))
 
 -- Some line of a pair begins with these bytes.
 abbrev pub BeginsPairLine : List ℕ → Type 0
-BeginsPairLine front = (more : List ℕ) × (key : List ℕ) × (value : List ℕ) × All (λ b. b < 256) more × IsPairLine (front ++ more) key value
+BeginsPairLine front =
+    (more : List ℕ) × (key : List ℕ) × (value : List ℕ) × All (λ b. b < 256) more
+    × IsPairLine (front ++ more) key value
 
 -- The input is no line of a pair, and n is the length of its longest beginning that begins one.
 pub record IsRefusedPair (input : List ℕ) (n : ℕ) : Type 0 where
@@ -28,7 +32,8 @@ pub record IsRefusedPair (input : List ℕ) (n : ℕ) : Type 0 where
   pub splits : input ≡ front ++ rest
   pub begins : BeginsPairLine front
   pub at : n ≡ length front
-  pub longest : (other more : List ℕ) → input ≡ other ++ more → BeginsPairLine other → length other ≤ n
+  pub longest : (other more : List ℕ) → input ≡ other ++ more → BeginsPairLine other
+      → length other ≤ n
 
 -- A fault of the reader of a pair: it takes no memory.
 abbrev pub IsPairFault : List ℕ → Fault → Type 0

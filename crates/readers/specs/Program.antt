@@ -1,10 +1,12 @@
 -- What the program answers and writes.
-use Rattle.std.specs.Prelude.{◌≡◌, Bool, true, IsTrue, ℕ, ◌<◌, ◌≤◌, List, [], ◌∷◌, ◌++◌, length, ◌⊎◌, codes, Option, slice_index_or}
+use Rattle.std.specs.Prelude.{◌≡◌, Bool, true, IsTrue, ℕ, ◌<◌, ◌≤◌, List, [], ◌∷◌, ◌++◌, length}
+use Rattle.std.specs.Prelude.{◌⊎◌, codes, Option, slice_index_or}
 use Rattle.std.specs.Borrow.{Bor}
 use Rattle.std.specs.Fmt.{decimal}
 use Rattle.std.specs.Io.KnownBytes.{Consumes, Keeps, Appends}
 use Rattle.readers.specs.declared.program.Stop.{Stop}
-use Rattle.readers.specs.declared.program.Stop.TheVariants.{Usage, Unreadable, Unwritable, TooLong, NoMemory}
+use Rattle.readers.specs.declared.program.Stop.TheVariants.{Usage, Unreadable, Unwritable, TooLong}
+use Rattle.readers.specs.declared.program.Stop.TheVariants.{NoMemory}
 use Rattle.readers.specs.declared.program.Verdict.{Verdict}
 use Rattle.readers.specs.declared.program.Verdict.TheVariants.{Accepted, Refused}
 use Rattle.readers.specs.declared.program.Format.{Format}
@@ -18,9 +20,11 @@ ConsumesAtMost old new n = (bytes : List ℕ) × Consumes old new bytes × (leng
 
 -- the known bytes grew by a beginning of these
 abbrev pub AppendsSome : Option (List ℕ) → Option (List ℕ) → List ℕ → Type 0
-AppendsSome old new bytes = (front : List ℕ) × (rest : List ℕ) × (bytes ≡ front ++ rest) × Appends old new front
+AppendsSome old new bytes =
+    (front : List ℕ) × (rest : List ℕ) × (bytes ≡ front ++ rest) × Appends old new front
 
--- What became of a text: it was appended whole where it is said to be told, and else a beginning of it was.
+-- What became of a text: it was appended whole where it is said to be told, and else a beginning of
+-- it was.
 abbrev pub Tells : Bool → Option (List ℕ) → Option (List ℕ) → List ℕ → Type 0
 Tells told old new text = (IsTrue told → Appends old new text) × AppendsSome old new text
 
@@ -57,15 +61,20 @@ format_word Ini = codes "ini"
 
 -- the words are the one word
 abbrev pub IsWord : List (Bor (List ℕ)) → List ℕ → Type 0
-IsWord words word = (length words ≡ 1) × ((d : Bor (List ℕ)) → (slice_index_or words 0 d).now ≡ word)
+IsWord words word = (length words ≡ 1)
+    × ((d : Bor (List ℕ)) → (slice_index_or words 0 d).now ≡ word)
 
 -- The bytes are the line of a pair, and the text is its line.
 abbrev pub IsPairText : List ℕ → List ℕ → Type 0
-IsPairText bytes text = (key : List ℕ) × (value : List ℕ) × IsPairLine bytes key value × (text ≡ pair_line key value)
+IsPairText bytes text =
+    (key : List ℕ) × (value : List ℕ) × IsPairLine bytes key value
+    × (text ≡ pair_line key value)
 
 -- The bytes are a document, and the text is the lines of its sections.
 abbrev pub IsDocumentText : List ℕ → List ℕ → Type 0
-IsDocumentText bytes text = (sections : List SectionText) × HasSections bytes sections × (text ≡ document_lines sections)
+IsDocumentText bytes text =
+    (sections : List SectionText) × HasSections bytes sections
+    × (text ≡ document_lines sections)
 
 -- The bytes are in the format, and the text is their lines.
 abbrev pub IsLinesText : Format → List ℕ → List ℕ → Type 0
@@ -102,28 +111,41 @@ StopsAnswer bytes Unwritable = ⊥
 StopsAnswer bytes TooLong = most_bytes < length bytes
 StopsAnswer bytes NoMemory = Unit {0}
 
--- What a stop says of the bytes, and of what standard output held and holds: nothing was written, or a beginning of the answer's lines.
+-- What a stop says of the bytes, and of what standard output held and holds: nothing was written,
+-- or a beginning of the answer's lines.
 abbrev pub StopLeaves : Format → List ℕ → Stop → Option (List ℕ) → Option (List ℕ) → Type 0
 StopLeaves format bytes Usage old new = ⊥
 StopLeaves format bytes Unreadable old new = Keeps old new
-StopLeaves format bytes Unwritable old new = (length bytes ≤ most_bytes) × ((text : List ℕ) × IsLinesText format bytes text × AppendsSome old new text)
+StopLeaves format bytes Unwritable old new =
+    (length bytes ≤ most_bytes)
+    × ((text : List ℕ) × IsLinesText format bytes text × AppendsSome old new text)
 StopLeaves format bytes TooLong old new = (most_bytes < length bytes) × Keeps old new
 StopLeaves format bytes NoMemory old new = Keeps old new
 
--- What a run owes for these bytes, by its status and by whether its text stands whole on standard error: to standard output, and to standard error, whose own faults are passed over.
-abbrev pub RunOwes : Format → List ℕ → ℕ → Bool → Option (List ℕ) → Option (List ℕ) → Option (List ℕ) → Option (List ℕ) → Type 0
+-- What a run owes for these bytes, by its status and by whether its text stands whole on standard
+-- error: to standard output, and to standard error, whose own faults are passed over.
+abbrev pub RunOwes : Format → List ℕ → ℕ → Bool → Option (List ℕ) → Option (List ℕ)
+    → Option (List ℕ) → Option (List ℕ) → Type 0
 RunOwes format bytes status told out_old out_new err_old err_new =
     -- the lines of the answer, and nothing to tell
-    ((status ≡ 0) × (told ≡ true) × (length bytes ≤ most_bytes) × ((text : List ℕ) × IsLinesText format bytes text × Appends out_old out_new text) × Keeps err_old err_new)
+    ((status ≡ 0) × (told ≡ true) × (length bytes ≤ most_bytes)
+    × ((text : List ℕ) × IsLinesText format bytes text × Appends out_old out_new text)
+    × Keeps err_old err_new)
     -- where the bytes are refused
-    ⊎ (((status ≡ 1) × (length bytes ≤ most_bytes) × Keeps out_old out_new × ((text : List ℕ) × IsRefusedText format bytes text × Tells told err_old err_new text))
+    ⊎ (((status ≡ 1) × (length bytes ≤ most_bytes) × Keeps out_old out_new
+    × ((text : List ℕ) × IsRefusedText format bytes text
+    × Tells told err_old err_new text))
     -- why there is no answer
-    ⊎ ((status ≡ 2) × ((stop : Stop) × StopLeaves format bytes stop out_old out_new × Tells told err_old err_new (stop_text stop))))
+    ⊎ ((status ≡ 2) × ((stop : Stop) × StopLeaves format bytes stop out_old out_new
+    × Tells told err_old err_new (stop_text stop))))
 
--- What writing an answer leaves, by its verdict, with the status that is answered for it, and whether the text stands whole on standard error.
-abbrev pub WritesAnswer : Verdict → List ℕ → ℕ → Bool → Option (List ℕ) → Option (List ℕ) → Option (List ℕ) → Option (List ℕ) → Type 0
+-- What writing an answer leaves, by its verdict, with the status that is answered for it, and
+-- whether the text stands whole on standard error.
+abbrev pub WritesAnswer : Verdict → List ℕ → ℕ → Bool → Option (List ℕ) → Option (List ℕ)
+    → Option (List ℕ) → Option (List ℕ) → Type 0
 WritesAnswer Accepted text status told out_old out_new err_old err_new =
     ((status ≡ 0) × (told ≡ true) × Appends out_old out_new text × Keeps err_old err_new)
-    ⊎ ((status ≡ 2) × AppendsSome out_old out_new text × Tells told err_old err_new (stop_text Unwritable))
+    ⊎ ((status ≡ 2) × AppendsSome out_old out_new text
+    × Tells told err_old err_new (stop_text Unwritable))
 WritesAnswer Refused text status told out_old out_new err_old err_new =
     (status ≡ 1) × Keeps out_old out_new × Tells told err_old err_new text

@@ -1,9 +1,12 @@
 //! The program over any reader and two writers.
 #![tactic(auto, using(crate::proofs::Bytes::known_bytes))]
 
-ghost use Rattle.std.specs.Prelude.{◌≡◌, Bool, ◌≤◌, ◌↔◌, IsTrue, List, ℕ, length, IfOk, IfSome, MatchOption, MatchResult, ◌+◌};
+ghost use Rattle.std.specs.Prelude.{◌≡◌, Bool, ◌≤◌, ◌↔◌, IsTrue, List, ℕ, length, IfOk, IfSome};
+ghost use Rattle.std.specs.Prelude.{MatchOption, MatchResult, ◌+◌};
 ghost use Rattle.std.specs.Io.KnownBytes.{Keeps, Appends};
-ghost use Rattle.readers.specs.Program.{ConsumesAtMost, AppendsSome, Tells, IsAnswerText, StopsAnswer, WritesAnswer, RunOwes, stop_text, refused_line, format_word, IsWord, most_bytes};
+ghost use Rattle.readers.specs.Program.{ConsumesAtMost, AppendsSome, Tells, IsAnswerText};
+ghost use Rattle.readers.specs.Program.{StopsAnswer, WritesAnswer, RunOwes, stop_text};
+ghost use Rattle.readers.specs.Program.{refused_line, format_word, IsWord, most_bytes};
 
 mod arguments;
 mod bytes_io;
@@ -130,8 +133,10 @@ pub fn run<A: Allocator + Copy, R: Read, W: Write, E: Write>(
         × Keeps (R.remaining input.old) (R.remaining input.new)
         × Keeps (W.contents output.old) (W.contents output.new)
         × AppendsSome (E.contents errors.old) (E.contents errors.new) (stop_text Stop.Usage) }
-    ensures answered { (format : Format) → IsWord words.now (format_word format) → (told : Bool) × IfSome (R.remaining input.old) (λ bytes.
-        RunOwes format bytes result told (W.contents output.old) (W.contents output.new) (E.contents errors.old) (E.contents errors.new)) }
+    ensures answered { (format : Format) → IsWord words.now (format_word format) → (told : Bool)
+        × IfSome (R.remaining input.old) (λ bytes. RunOwes format bytes result told
+        (W.contents output.old) (W.contents output.new)
+        (E.contents errors.old) (E.contents errors.new)) }
 {
     run_and_tell(alloc, words, input, output, errors).status
 }
@@ -152,12 +157,16 @@ pub fn run_and_tell<A: Allocator + Copy, R: Read, W: Write, E: Write>(
 ) -> Outcome
     ensures status { result.status ≤ 2 }
     ensures most { ConsumesAtMost (R.remaining input.old) (R.remaining input.new) (most_bytes + 1) }
-    ensures usage { ((format : Format) → IsWord words.now (format_word format) → ⊥) → (result.status ≡ 2)
+    ensures usage { ((format : Format) → IsWord words.now (format_word format) → ⊥)
+        → (result.status ≡ 2)
         × Keeps (R.remaining input.old) (R.remaining input.new)
         × Keeps (W.contents output.old) (W.contents output.new)
-        × Tells result.is_told (E.contents errors.old) (E.contents errors.new) (stop_text Stop.Usage) }
-    ensures answered { (format : Format) → IsWord words.now (format_word format) → IfSome (R.remaining input.old) (λ bytes.
-        RunOwes format bytes result.status result.is_told (W.contents output.old) (W.contents output.new) (E.contents errors.old) (E.contents errors.new)) }
+        × Tells result.is_told (E.contents errors.old) (E.contents errors.new)
+        (stop_text Stop.Usage) }
+    ensures answered { (format : Format) → IsWord words.now (format_word format)
+        → IfSome (R.remaining input.old) (λ bytes. RunOwes format bytes result.status result.is_told
+        (W.contents output.old) (W.contents output.new)
+        (E.contents errors.old) (E.contents errors.new)) }
 {
     let Some(format) = format_of(words) else {
         return stopped(Stop::Usage, errors);
@@ -171,7 +180,8 @@ pub fn run_and_tell<A: Allocator + Copy, R: Read, W: Write, E: Write>(
 /// Says why there is no answer.
 fn stopped<E: Write>(stop: Stop, errors: &mut E) -> Outcome
     ensures status { result.status ≡ 2 }
-    ensures told { Tells result.is_told (E.contents errors.old) (E.contents errors.new) (stop_text stop) }
+    ensures told { Tells result.is_told (E.contents errors.old) (E.contents errors.new)
+        (stop_text stop) }
 {
     let is_told = put(errors, stop.text());
     Outcome { status: 2, is_told }
@@ -179,7 +189,9 @@ fn stopped<E: Write>(stop: Stop, errors: &mut E) -> Outcome
 
 /// The format whose word the words are.
 fn format_of(words: &[&str]) -> Option<Format>
-    ensures { MatchOption result ((format : Format) → IsWord words.now (format_word format) → ⊥) (λ format. (other : Format) → IsWord words.now (format_word other) ↔ (other ≡ format)) }
+    ensures { MatchOption result ((format : Format) → IsWord words.now (format_word format) → ⊥)
+        (λ format. (other : Format)
+        → IsWord words.now (format_word other) ↔ (other ≡ format)) }
 {
     if is_word(words, "pair") {
         Some(Format::Pair)
@@ -290,7 +302,9 @@ fn write_answer<A: Allocator, W: Write, E: Write>(
     output: &mut W,
     errors: &mut E,
 ) -> Outcome
-    ensures { WritesAnswer answer.now.verdict answer.now.text.items result.status result.is_told (W.contents output.old) (W.contents output.new) (E.contents errors.old) (E.contents errors.new) }
+    ensures { WritesAnswer answer.now.verdict answer.now.text.items result.status result.is_told
+        (W.contents output.old) (W.contents output.new) (E.contents errors.old)
+        (E.contents errors.new) }
 {
     match answer.verdict {
         Verdict::Accepted => {

@@ -1,4 +1,5 @@
--- Which requests a plan refuses. Requests are numbered from 0, and how many there were so far is in a cell, so the last two
+-- Which requests a plan refuses. Requests are numbered from 0, and how many there were so far is in
+-- a cell, so the last two
 -- definitions only say that there is such a number.
 use Rattle.std.specs.Prelude.{◌≡◌, ℕ, ◌^◌, ◌<◌, ◌≤◌, ◌↔◌, Bool, IsTrue}
 use Rattle.refusing.specs.declared.requests.Plan.{Plan}
@@ -19,4 +20,5 @@ TellsOfNext plan answer = (number : ℕ) × (number < 2 ^ 64) × (IsTrue answer 
 
 -- the answer says whether one of the requests so far was refused, however many they are
 abbrev pub TellsOfPast : Plan → Bool → Type 0
-TellsOfPast plan answer = (asked : ℕ) × (asked < 2 ^ 64) × (IsTrue answer ↔ RefusesBefore plan asked)
+TellsOfPast plan answer =
+    (asked : ℕ) × (asked < 2 ^ 64) × (IsTrue answer ↔ RefusesBefore plan asked)

@@ -1,10 +1,14 @@
 //! An allocator for tests of refused memory.
 //!
-//! Code that allocates has to answer an error where there is no memory, and to leave its values as its contract says. No clause can
-//! make memory run out, so that takes tests, and a [`Refusing`] is what they run on: it refuses a chosen request, or each one from
-//! a chosen request on, and tells whether it did. It is support for tests, and no product crate stands on it.
+//! Code that allocates has to answer an error where there is no memory, and to leave its values as
+//! its contract says. No clause can
+//! make memory run out, so that takes tests, and a [`Refusing`] is what they run on: it refuses a
+//! chosen request, or each one from
+//! a chosen request on, and tells whether it did. It is support for tests, and no product crate
+//! stands on it.
 //!
-//! Requests are numbered from 0. A test counts up from there until a run meets no refusal, and so tries each request that the code
+//! Requests are numbered from 0. A test counts up from there until a run meets no refusal, and so
+//! tries each request that the code
 //! makes:
 //!
 //! ```
@@ -30,12 +34,16 @@ ghost use Rattle.std.specs.Prelude.{◌≡◌, ℕ, ◌≤◌, ◌↔◌};
 use requests::{Plan, Requests};
 use std::alloc::{AllocError, Allocator};
 
-/// An allocator that refuses some requests, and passes the others on to the one that it was made with.
+/// An allocator that refuses some requests, and passes the others on to the one that it was made
+/// with.
 ///
-/// A request is a call of `allocate`, and each growing or shrinking of a block makes one. A refused request gets the allocation
-/// error, and goes no further. Blocks go back to the allocator that they are from, and giving one back is no request.
+/// A request is a call of `allocate`, and each growing or shrinking of a block makes one. A refused
+/// request gets the allocation
+/// error, and goes no further. Blocks go back to the allocator that they are from, and giving one
+/// back is no request.
 ///
-/// Lend it to the code under test: `&heap` is an `Allocator + Copy`, and `heap.met()` can be asked afterwards.
+/// Lend it to the code under test: `&heap` is an `Allocator + Copy`, and `heap.met()` can be asked
+/// afterwards.
 #[derive(Drop)]
 pub struct Refusing<B: Allocator> {
     inner: B,
@@ -45,7 +53,8 @@ pub struct Refusing<B: Allocator> {
 impl<B: Allocator> Refusing<B> {
     ghost use Rattle.refusing.specs.Refusing.{inner_of, RefusesRequest, TellsWhetherMet};
 
-    /// Refuses the request with number `n` and no other. Requests are numbered from 0, so `n` of them are granted before it.
+    /// Refuses the request with number `n` and no other. Requests are numbered from 0, so `n` of
+    /// them are granted before it.
     ///
     /// ```
     /// let heap = Refusing::once(rt.alloc(), 1);
@@ -63,7 +72,8 @@ impl<B: Allocator> Refusing<B> {
         }
     }
 
-    /// Refuses the request with number `n` and each one after it. Requests are numbered from 0, so `n` of them are granted in all.
+    /// Refuses the request with number `n` and each one after it. Requests are numbered from 0, so
+    /// `n` of them are granted in all.
     ///
     /// ```
     /// let heap = Refusing::always_from(rt.alloc(), 1);
@@ -81,7 +91,8 @@ impl<B: Allocator> Refusing<B> {
         }
     }
 
-    /// Whether a request was refused so far. Its clause leaves open how many requests there were, since a cell holds that number.
+    /// Whether a request was refused so far. Its clause leaves open how many requests there were,
+    /// since a cell holds that number.
     ///
     /// ```
     /// let heap = Refusing::once(rt.alloc(), 0);
@@ -96,7 +107,8 @@ impl<B: Allocator> Refusing<B> {
     }
 }
 
-// By its `dealloc_token` a block that is handed out is one of `inner`'s. That a granted request reaches `inner`, once, is tested.
+// By its `dealloc_token` a block that is handed out is one of `inner`'s. That a granted request
+// reaches `inner`, once, is tested.
 unsafe impl<B: Allocator> Allocator for Refusing<B> {
     ghost dealloc_token = { λ heap ty ptr. B.dealloc_token heap.inner ty ptr };
 

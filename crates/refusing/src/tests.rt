@@ -1,4 +1,5 @@
-//! What no clause says: which requests are refused one after the other, what a refused run keeps, and that blocks are given back.
+//! What no clause says: which requests are refused one after the other, what a refused run keeps,
+//! and that blocks are given back.
 
 use super::*;
 use std::alloc::{AllocFailed, Global};

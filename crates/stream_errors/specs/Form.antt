@@ -9,14 +9,14 @@ pub data ErrorForm : Type 0 where
   modal : ErrorForm
 
 -- the kind of an assert error: a parser that was made or called wrongly
-abbrev pub asserted : ErrorForm → Kind
-asserted plain = backtrack
-asserted modal = cut
+abbrev pub assert_kind : ErrorForm → Kind
+assert_kind plain = backtrack
+assert_kind modal = cut
 
 -- the kind of an error for want of so many units
-abbrev pub incompleted : ErrorForm → Option ℕ → Kind
-incompleted plain need = backtrack
-incompleted modal need = incomplete need
+abbrev pub incomplete_kind : ErrorForm → Option ℕ → Kind
+incomplete_kind plain need = backtrack
+incomplete_kind modal need = incomplete need
 
 -- the kind of a plain error by its mark: whether a request for memory was refused
 abbrev pub marked_kind : Bool → Kind
@@ -46,7 +46,8 @@ abbrev pub answer_by : {O E : Type 0} → (E → Kind) → Result O E → Answer
 answer_by kind (Ok o) = Ok o
 answer_by kind (Err e) = Err (kind e)
 
-pub inner_kind_of-marked_kind : (mark : Bool) → inner_kind_of (marked_kind mark) ≡ Some (marked_kind mark)
+pub inner_kind_of-marked_kind : (mark : Bool)
+    → inner_kind_of (marked_kind mark) ≡ Some (marked_kind mark)
 inner_kind_of-marked_kind true = refl
 inner_kind_of-marked_kind false = refl
 

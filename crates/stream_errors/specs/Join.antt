@@ -5,18 +5,19 @@ use Rattle.streams.specs.declared.needed.Needed.{Needed}
 use Rattle.stream_errors.specs.declared.mode.ErrMode.{ErrMode}
 use Rattle.stream_errors.specs.declared.mode.ErrMode.TheVariants.{Backtrack, Cut, Incomplete}
 
--- Want of memory stays; else an error is incomplete where one was, as the first of two; else it cuts where one did.
-abbrev pub joined : Kind → Kind → Kind
-joined memory other = memory
-joined backtrack other = other
-joined cut memory = memory
-joined cut backtrack = cut
-joined cut cut = cut
-joined cut (incomplete need) = incomplete need
-joined (incomplete need) memory = memory
-joined (incomplete need) backtrack = incomplete need
-joined (incomplete need) cut = incomplete need
-joined (incomplete need) (incomplete other) = incomplete need
+-- Want of memory stays; else an error is incomplete where one was, as the first of two; else it
+-- cuts where one did.
+abbrev pub joint_kind : Kind → Kind → Kind
+joint_kind memory other = memory
+joint_kind backtrack other = other
+joint_kind cut memory = memory
+joint_kind cut backtrack = cut
+joint_kind cut cut = cut
+joint_kind cut (incomplete need) = incomplete need
+joint_kind (incomplete need) memory = memory
+joint_kind (incomplete need) backtrack = incomplete need
+joint_kind (incomplete need) cut = incomplete need
+joint_kind (incomplete need) (incomplete other) = incomplete need
 
 -- The kind is the one that is promised; or it is memory, and a request for it could be refused.
 abbrev pub IsOrMemory : Kind → Type 0 → Kind → Type 0
@@ -29,7 +30,8 @@ inner_grows grows (Cut e) = grows e
 inner_grows grows (Incomplete needed) = ⊥
 
 -- two errors with a mode ask for memory where both backtrack and their inner errors do
-abbrev pub inner_join_grows : {E : Type 0} → (E → E → Type 0) → ErrMode E Needed → ErrMode E Needed → Type 0
+abbrev pub inner_join_grows : {E : Type 0} → (E → E → Type 0) → ErrMode E Needed
+    → ErrMode E Needed → Type 0
 inner_join_grows grows (Backtrack first) (Backtrack second) = grows first second
 inner_join_grows grows (Backtrack first) (Cut second) = ⊥
 inner_join_grows grows (Backtrack first) (Incomplete needed) = ⊥

@@ -44,7 +44,8 @@ MapsMode {E} {F} {N} step (Backtrack e) new = (f : F) × step e f × (new ≡ Ba
 MapsMode {E} {F} {N} step (Cut e) new = (f : F) × step e f × (new ≡ Cut f)
 MapsMode {E} {F} {N} step (Incomplete n) new = new ≡ Incomplete n
 
-pub inner_kind_of-mode_round_backtrack : (k : Kind) → inner_kind_of (mode_round backtrack k) ≡ Some (as_inner k)
+pub inner_kind_of-mode_round_backtrack : (k : Kind)
+    → inner_kind_of (mode_round backtrack k) ≡ Some (as_inner k)
 inner_kind_of-mode_round_backtrack memory = refl
 inner_kind_of-mode_round_backtrack backtrack = refl
 inner_kind_of-mode_round_backtrack cut = refl
@@ -68,16 +69,23 @@ cut_of-mode_round_cut backtrack = refl
 cut_of-mode_round_cut cut = refl
 cut_of-mode_round_cut (incomplete need) = refl
 
-pub backtrack_of-mode_round_backtrack : (k : Kind) → backtrack_of (mode_round backtrack k) ≡ mode_round backtrack k
+pub backtrack_of-mode_round_backtrack : (k : Kind)
+    → backtrack_of (mode_round backtrack k) ≡ mode_round backtrack k
 backtrack_of-mode_round_backtrack memory = refl
 backtrack_of-mode_round_backtrack backtrack = refl
 backtrack_of-mode_round_backtrack cut = refl
 backtrack_of-mode_round_backtrack (incomplete need) = refl
 
-pub backtrack_of-mode_round_cut : (k : Kind) → backtrack_of (mode_round cut k) ≡ mode_round backtrack k
+pub backtrack_of-mode_round_cut : (k : Kind)
+    → backtrack_of (mode_round cut k) ≡ mode_round backtrack k
 backtrack_of-mode_round_cut memory = refl
 backtrack_of-mode_round_cut backtrack = refl
 backtrack_of-mode_round_cut cut = refl
 backtrack_of-mode_round_cut (incomplete need) = refl
 
-pub ruleset modes_change = (cut_of-mode_round_backtrack, cut_of-mode_round_cut, backtrack_of-mode_round_backtrack, backtrack_of-mode_round_cut)
+pub ruleset modes_change = (
+  cut_of-mode_round_backtrack,
+  cut_of-mode_round_cut,
+  backtrack_of-mode_round_backtrack,
+  backtrack_of-mode_round_cut,
+)

@@ -1,7 +1,8 @@
 //! An error that says nothing.
 ghost use Rattle.std.specs.Prelude.{◌≡◌, if◌then◌else◌};
 ghost use Rattle.streams.specs.Kind.{Kind};
-ghost use Rattle.stream_errors.specs.Form.{marked_kind, plain, inner_kind_of-marked_kind, marked_kind-cases};
+ghost use Rattle.stream_errors.specs.Form.{marked_kind, plain, inner_kind_of-marked_kind};
+ghost use Rattle.stream_errors.specs.Form.{marked_kind-cases};
 
 use crate::has_kind::HasKind;
 use crate::parser_error::ParserError;

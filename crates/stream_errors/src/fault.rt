@@ -27,7 +27,8 @@ impl<I, E> ParseError<I, E> {
         I: Stream,
         requires { Remains (I.view input).left (I.seen start) }
         ensures input { I.view (refused_input result) ≡ back_at (I.seen start) (I.view input) }
-        ensures offset { refused_offset result + I.reading.units (I.view input).left.tokens ≡ I.reading.units (I.seen start).tokens }
+        ensures offset { refused_offset result + I.reading.units (I.view input).left.tokens
+            ≡ I.reading.units (I.seen start).tokens }
         ensures inner { refused_inner result ≡ inner }
     {
         let mut input = input;

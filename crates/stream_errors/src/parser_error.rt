@@ -1,9 +1,11 @@
 //! The traits of errors.
-ghost use Rattle.std.specs.Prelude.{◌≡◌, ◌↔◌, IsTrue, IsSome, ℕ, Option, None, Some, ◌⊎◌, MatchResult, option_map};
+ghost use Rattle.std.specs.Prelude.{◌≡◌, ◌↔◌, IsTrue, IsSome, ℕ, Option, None, Some, ◌⊎◌};
+ghost use Rattle.std.specs.Prelude.{MatchResult, option_map};
 ghost use Rattle.streams.specs.Kind.{Kind, backtrack, cut, incomplete, memory};
 ghost use Rattle.streams.specs.Needed.{need_of};
-ghost use Rattle.stream_errors.specs.Join.{IsOrMemory, joined};
-ghost use Rattle.stream_errors.specs.Form.{ErrorForm, plain, asserted, incompleted, inner_kind_of, need_of_kind};
+ghost use Rattle.stream_errors.specs.Join.{IsOrMemory, joint_kind};
+ghost use Rattle.stream_errors.specs.Form.{ErrorForm, plain, assert_kind, incomplete_kind};
+ghost use Rattle.stream_errors.specs.Form.{inner_kind_of, need_of_kind};
 
 use crate::has_kind::HasKind;
 use streams::needed::Needed;
@@ -42,11 +44,11 @@ pub trait ParserError<I: Stream>: HasKind + Drop {
     /// The error for a parser that was made or called wrongly: it cuts, or backtracks for a plain
     /// type. It never ends the process.
     fn assert(input: &I, message: &'static str) -> Self
-        ensures { Self.kind result ≡ asserted form };
+        ensures { Self.kind result ≡ assert_kind form };
 
     /// The error for a need of more input: it is incomplete, or backtracks for a plain type.
     fn incomplete(input: &I, needed: Needed) -> Self
-        ensures { Self.kind result ≡ incompleted form (need_of needed) };
+        ensures { Self.kind result ≡ incomplete_kind form (need_of needed) };
 
     /// The error for want of memory.
     fn no_memory(input: &I) -> Self
@@ -56,7 +58,8 @@ pub trait ParserError<I: Stream>: HasKind + Drop {
     /// either side stays; else the error is incomplete where one was, as the first of two; else it
     /// cuts where one did. Only where joining asks for memory can it also be want of memory.
     fn or(self, other: Self) -> Self
-        ensures { IsOrMemory (joined (Self.kind self) (Self.kind other)) (or_grows self other) (Self.kind result) };
+        ensures { IsOrMemory (joint_kind (Self.kind self) (Self.kind other))
+            (or_grows self other) (Self.kind result) };
 
     /// Adds the place of an enclosing parser. The kind stays; only where that asks for memory can
     /// it be want of memory instead.
@@ -81,8 +84,11 @@ pub trait ParserError<I: Stream>: HasKind + Drop {
 
     /// The error without its mode; an incomplete one has none inside and is given back.
     fn into_inner(self) -> Result<Self::Inner, Self>
-        ensures { MatchResult result (λ inner. inner_kind_of (Self.kind self) ≡ Some (inner_kind inner)) (λ e. (inner_kind_of (Self.kind self) ≡ None) × (e ≡ self)) };
+        ensures { MatchResult result
+            (λ inner. inner_kind_of (Self.kind self) ≡ Some (inner_kind inner))
+            (λ e. (inner_kind_of (Self.kind self) ≡ None) × (e ≡ self)) };
 
     // An error of a plain type backtracks or wants memory.
-    ghost plain_kinds: { form ≡ plain → (e : Self) → (Self.kind e ≡ backtrack) ⊎ (Self.kind e ≡ memory) };
+    ghost plain_kinds: { form ≡ plain → (e : Self)
+        → (Self.kind e ≡ backtrack) ⊎ (Self.kind e ≡ memory) };
 }

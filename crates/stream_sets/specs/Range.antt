@@ -1,8 +1,10 @@
 -- How many times something may stand.
-use Rattle.std.specs.Prelude.{◌≡◌, ◌<◌, ◌≤◌, ◌-◌, ◌^◌, ℕ, nat_le, if◌then◌else◌, Option, Some, None, ⊤, MatchOption}
+use Rattle.std.specs.Prelude.{◌≡◌, ◌<◌, ◌≤◌, ◌-◌, ◌^◌, ℕ, nat_le, if◌then◌else◌, Option, Some, None}
+use Rattle.std.specs.Prelude.{⊤, MatchOption}
 use Rattle.std.proofs.lemmas.Bool.{le-leb, lt-leb}
 
--- The greatest count by the least and the written greatest one. The forms `0..` and `1..` have none; another range with no greatest count has the greatest number of its type.
+-- The greatest count by the least and the written greatest one. The forms `0..` and `1..` have
+-- none; another range with no greatest count has the greatest number of its type.
 abbrev pub greatest_of : ℕ → Option ℕ → Option ℕ
 greatest_of least (Some n) = Some n
 greatest_of least None = if nat_le least 1 then None else Some (2 ^ 64 - 1)

@@ -19,11 +19,13 @@ pub trait Accumulate<O, A>: Drop {
     fn initial(alloc: A, capacity: Option<usize>) -> Result<Self, AllocError>
     where
         Self: Sized,
-        ensures { MatchResult result (accumulator.starts capacity) (λ _. accumulator.start_grows capacity) };
+        ensures { MatchResult result (accumulator.starts capacity)
+            (λ _. accumulator.start_grows capacity) };
 
     /// Takes one output more. It fails only where a request for memory was refused.
     fn accumulate(&mut self, output: O) -> Result<(), AllocError>
-        ensures { MatchResult result (λ _. accumulator.takes self.old output self.new) (λ _. accumulator.grows self.old) };
+        ensures { MatchResult result (λ _. accumulator.takes self.old output self.new)
+            (λ _. accumulator.grows self.old) };
 }
 
 /// Nothing is kept, and no memory is taken.

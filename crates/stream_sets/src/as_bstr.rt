@@ -58,13 +58,16 @@ where
     ghost bytes_of: { List Self.Seen → List ℕ };
 
     // A slice has the bytes of the tokens that it shows.
-    ghost has_bytes: { (slice : Self.Slice) (tokens : List Self.Seen) → Self.reading.shows slice tokens → Self.Slice.bytes slice ≡ bytes_of tokens };
+    ghost has_bytes: { (slice : Self.Slice) (tokens : List Self.Seen)
+        → Self.reading.shows slice tokens → Self.Slice.bytes slice ≡ bytes_of tokens };
 
     // Bytes of a list are those of its parts.
-    ghost bytes_add: { (xs ys : List Self.Seen) → bytes_of (xs ++ ys) ≡ bytes_of xs ++ bytes_of ys };
+    ghost bytes_add: { (xs ys : List Self.Seen)
+        → bytes_of (xs ++ ys) ≡ bytes_of xs ++ bytes_of ys };
 
     // An ASCII character is the byte of its number.
-    ghost ascii_byte: { (token : Self.Token) → Self.Token.code token < 128 → bytes_of (Self.seen_as token ∷ []) ≡ Self.Token.code token ∷ [] };
+    ghost ascii_byte: { (token : Self.Token) → Self.Token.code token < 128
+        → bytes_of (Self.seen_as token ∷ []) ≡ Self.Token.code token ∷ [] };
 }
 
 impl<'a> SlicesAsBytes for &'a [u8] {

@@ -1,6 +1,7 @@
 //! Tokens that are characters.
 ghost use Rattle.std.specs.Prelude.{◌≡◌, ◌↔◌, ℕ, IsTrue};
-ghost use Rattle.stream_sets.specs.AsChar.{IsAlpha, IsAlphanum, IsDecDigit, IsHexDigit, IsOctDigit, IsSpace, IsNewline};
+ghost use Rattle.stream_sets.specs.AsChar.{IsAlpha, IsAlphanum, IsDecDigit, IsHexDigit, IsOctDigit};
+ghost use Rattle.stream_sets.specs.AsChar.{IsSpace, IsNewline};
 
 /// A token that is seen as a character, as winnow's documentation has it. The classes are those
 /// of ASCII: no character from 128 on is in any.

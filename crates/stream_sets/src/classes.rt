@@ -1,6 +1,7 @@
 //! Sets of characters, by the classes of ASCII.
 ghost use Rattle.std.specs.Prelude.{◌↔◌, IsTrue};
-ghost use Rattle.stream_sets.specs.AsChar.{IsAlpha, IsAlphanum, IsDecDigit, IsHexDigit, IsOctDigit, IsSpace, IsMultispace};
+ghost use Rattle.stream_sets.specs.AsChar.{IsAlpha, IsAlphanum, IsDecDigit, IsHexDigit, IsOctDigit};
+ghost use Rattle.stream_sets.specs.AsChar.{IsSpace, IsMultispace};
 
 use crate::as_char::AsChar;
 use crate::sets::ContainsToken;

@@ -38,10 +38,12 @@ pub trait Compare<T>: Stream {
 
     /// Compares the first tokens with `literal`. Nothing is consumed.
     fn compare(&self, literal: T) -> CompareResult
-        ensures { ComparesAs Self.reading.units (spells literal) (Self.view self.now).left.tokens result };
+        ensures { ComparesAs Self.reading.units (spells literal)
+            (Self.view self.now).left.tokens result };
 
     // All lists that a literal stands for take the same units.
-    ghost same_units: { (t : T) (xs ys : List Self.Seen) → spells t xs → spells t ys → Self.reading.units xs ≡ Self.reading.units ys };
+    ghost same_units: { (t : T) (xs ys : List Self.Seen) → spells t xs → spells t ys
+        → Self.reading.units xs ≡ Self.reading.units ys };
 }
 
 /// Compares bytes with bytes; each is looked at once.

@@ -29,7 +29,8 @@ pub trait FindSlice<T>: Stream {
 
     /// The first range, in units, at which `substr` stands. Nothing is consumed.
     fn find_slice(&self, substr: T) -> Option<ops::Range<usize>>
-        ensures { FindsSlice Self.reading.units (sought substr) (Self.view self.now).left.tokens result };
+        ensures { FindsSlice Self.reading.units (sought substr) (Self.view self.now).left.tokens
+            result };
 
     // The first match stays the first one, whatever tokens come behind.
     ghost stays_first: { (substr : T) → StaysFirst Self.reading.units (sought substr) };

@@ -88,7 +88,8 @@ impl From<ops::RangeFrom<usize>> for Range {
 }
 
 impl From<ops::RangeTo<usize>> for Range {
-    ghost from_gives = { λ x r. r ≡ record { start_inclusive = 0; end_inclusive = Some (x.end - 1) } };
+    ghost from_gives = { λ x r. r
+        ≡ record { start_inclusive = 0; end_inclusive = Some (x.end - 1) } };
 
     #[inline(always)]
     fn from(range: ops::RangeTo<usize>) -> Range {
@@ -112,7 +113,8 @@ impl From<ops::RangeToInclusive<usize>> for Range {
 }
 
 impl From<ops::Range<usize>> for Range {
-    ghost from_gives = { λ x r. r ≡ record { start_inclusive = x.start; end_inclusive = Some (x.end - 1) } };
+    ghost from_gives = { λ x r. r
+        ≡ record { start_inclusive = x.start; end_inclusive = Some (x.end - 1) } };
 
     #[inline(always)]
     fn from(range: ops::Range<usize>) -> Range {
@@ -124,7 +126,11 @@ impl From<ops::Range<usize>> for Range {
 }
 
 impl From<ops::RangeInclusive<usize>> for Range {
-    ghost from_gives = { λ x r. r ≡ record { start_inclusive = range_inclusive_start x; end_inclusive = Some (range_inclusive_end x) } };
+    ghost from_gives = { λ x r. r
+        ≡ record {
+          start_inclusive = range_inclusive_start x;
+          end_inclusive = Some (range_inclusive_end x);
+        } };
 
     #[inline(always)]
     fn from(range: ops::RangeInclusive<usize>) -> Range {

@@ -66,7 +66,9 @@ impl<T: AsChar, C: AsChar + Copy> ContainsToken<T> for ops::Range<C> {
 
 /// The characters from one to another, with that.
 impl<T: AsChar, C: AsChar + Copy> ContainsToken<T> for ops::RangeInclusive<C> {
-    ghost tells = { λ s t b. IsTrue b ↔ ((C.code (range_inclusive_start s) ≤ T.code t) × (T.code t ≤ C.code (range_inclusive_end s))) };
+    ghost tells = { λ s t b. IsTrue b
+        ↔ ((C.code (range_inclusive_start s) ≤ T.code t)
+        × (T.code t ≤ C.code (range_inclusive_end s))) };
 
     #[inline(always)]
     fn contains_token(&self, token: T) -> bool {

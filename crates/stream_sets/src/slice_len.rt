@@ -101,7 +101,9 @@ where
     Self::Slice: SliceLen,
 {
     // A slice takes the units of the tokens that it shows.
-    ghost has_units: { (slice : Self.Slice) (tokens : List Self.Seen) → Self.reading.shows slice tokens → Self.Slice.units_of slice ≡ Self.reading.units tokens };
+    ghost has_units: { (slice : Self.Slice) (tokens : List Self.Seen)
+        → Self.reading.shows slice tokens
+        → Self.Slice.units_of slice ≡ Self.reading.units tokens };
 }
 
 impl<'a> SlicesWithLength for &'a [u8] {

@@ -11,5 +11,6 @@ pub record CountsBytes {S : Type 0} (reading : Reading ℕ S) : Type 0 where
   pub between : (p : Place) (n : ℕ) → (reading.advance p n).bits_read ≡ p.bits_read
 
 -- those of a stream that keeps its place are counted as those of the stream inside
-pub located_counts : {S : Type 0} {reading : Reading ℕ S} → CountsBytes reading → CountsBytes (located_reading reading)
+pub located_counts : {S : Type 0} {reading : Reading ℕ S} → CountsBytes reading
+    → CountsBytes (located_reading reading)
 located_counts counts = record { units = counts.units; between = counts.between }

@@ -20,12 +20,22 @@ bytes_reading = counted_reading
 
 -- any bytes may come behind bytes, as long as a number of 64 bits counts their bits
 abbrev pub bytes_follow : Following ℕ
-bytes_follow = record { can_follow = FitsBehind (All (λ b. b < 256)) length most_bytes; kept = λ dropped later more f. fits_behind bytes_reading (All (λ b. b < 256)) most_bytes dropped later more f }
+bytes_follow = record {
+  can_follow = FitsBehind (All (λ b. b < 256)) length most_bytes;
+  kept = λ dropped later more f. fits_behind bytes_reading (All (λ b. b < 256)) most_bytes
+      dropped later more f;
+}
 
 -- what is left of a slice of which a part is left
-pub slice_ends : (n : ℕ) (xs : List ℕ) → IsEndOf bytes_reading (bytes_input (take (length xs - n) (drop n xs))) (bytes_input xs)
+pub slice_ends : (n : ℕ) (xs : List ℕ)
+    → IsEndOf bytes_reading (bytes_input (take (length xs - n) (drop n xs))) (bytes_input xs)
 slice_ends n xs = record {
-  ends = record { dropped = take n xs; tokens = sym (ap (λ ys. take n xs ++ ys) (take_rest xs n) ∙ take-append-drop n xs); place = refl; possible = refl };
+  ends = record {
+    dropped = take n xs;
+    tokens = sym (ap (λ ys. take n xs ++ ys) (take_rest xs n) ∙ take-append-drop n xs);
+    place = refl;
+    possible = refl;
+  };
   cut = refl;
 }
 

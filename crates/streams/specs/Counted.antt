@@ -3,7 +3,7 @@ use Rattle.std.specs.Prelude.{◌≡◌, ℕ, ◌<◌, ◌≤◌, List, ◌∷�
 use Rattle.std.specs.Borrow.{Bor}
 use Rattle.std.proofs.Common.{refl, sym, ap, ◌∙◌, arith}
 use Rattle.std.proofs.lemmas.List.{take-append-drop, length-take-le, length-append}
-use Rattle.streams.specs.Input.{Input, at_start, no_side}
+use Rattle.streams.specs.Input.{Input, at_start, no_status}
 use Rattle.streams.specs.Reading.{Reading}
 use Rattle.streams.specs.Stream.{IsBoundary}
 
@@ -12,7 +12,7 @@ length-positive x xs = omega arith
 
 -- What is seen of a list of tokens: the tokens, with no place kept, whole.
 abbrev pub counted_input : {T : Type 0} → List T → Input T
-counted_input tokens = record { left = at_start tokens; side = no_side }
+counted_input tokens = record { left = at_start tokens; status = no_status }
 
 -- Each token is one unit, and a slice shows its own.
 abbrev pub counted_reading : {T : Type 0} → Reading T (Bor (List T))
@@ -29,5 +29,11 @@ counted_reading = record {
 }
 
 -- each place up to the end is between two tokens, or at an end
-pub counted_boundary : {T : Type 0} (n : ℕ) (tokens : List T) → n ≤ length tokens → IsBoundary length tokens n
-counted_boundary n tokens h = (take n tokens, drop n tokens, sym (take-append-drop n tokens), sym (length-take-le n tokens h))
+pub counted_boundary : {T : Type 0} (n : ℕ) (tokens : List T) → n ≤ length tokens
+    → IsBoundary length tokens n
+counted_boundary n tokens h = (
+  take n tokens,
+  drop n tokens,
+  sym (take-append-drop n tokens),
+  sym (length-take-le n tokens h),
+)

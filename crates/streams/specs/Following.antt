@@ -1,7 +1,7 @@
 -- What may come behind the tokens that are left.
 use Rattle.std.specs.Prelude.{◌≡◌, ◌+◌, ◌-◌, ◌/◌, ◌^◌, ◌≤◌, ◌<◌, ℕ, true, List, [], ◌++◌}
 use Rattle.std.proofs.Common.{refl, sym, subst, ◌∙◌, arith}
-use Rattle.streams.specs.Input.{Input, Left, Ends, IsEndOf}
+use Rattle.streams.specs.Input.{Input, Remaining, Ends, IsEndOf}
 use Rattle.streams.specs.Reading.{Reading}
 
 -- Which tokens more input may add behind those that are left.
@@ -9,10 +9,13 @@ pub record Following (T : Type 0) : Type 1 where
   -- the second list may come behind the first
   pub can_follow : List T → List T → Type 0
   -- what may come behind a list may come behind what is left of it
-  pub kept : (dropped later more : List T) → can_follow (dropped ++ later) more → can_follow later more
+  pub kept : (dropped later more : List T) → can_follow (dropped ++ later) more
+      → can_follow later more
 
--- More input may add these tokens to what is left: it can be read at all, and they may come behind its tokens.
-pub record Follows {T : Type 0} (following : Following T) (left : Left T) (more : List T) : Type 0 where
+-- More input may add these tokens to what is left: it can be read at all, and they may come behind
+-- its tokens.
+pub record Follows {T : Type 0} (following : Following T) (left : Remaining T)
+    (more : List T) : Type 0 where
   pub possible : left.possible ≡ true
   pub tokens : following.can_follow left.tokens more
 
@@ -25,18 +28,29 @@ abbrev pub most_bytes : ℕ
 most_bytes = (2 ^ 64 - 1) / 8
 
 -- The tokens are of a kind, and with those left they take at most so many units.
-pub record FitsBehind {T : Type 0} (kind : List T → Type 0) (units : List T → ℕ) (most : ℕ) (left more : List T) : Type 0 where
+pub record FitsBehind {T : Type 0} (kind : List T → Type 0) (units : List T → ℕ) (most : ℕ)
+    (left more : List T) : Type 0 where
   pub known : kind more
   pub fits : units left + units more ≤ most
 
-pub fits_behind : {T S : Type 0} (reading : Reading T S) (kind : List T → Type 0) (most : ℕ) (dropped later more : List T) → FitsBehind kind reading.units most (dropped ++ later) more → FitsBehind kind reading.units most later more
-fits_behind reading kind most dropped later more f = record { known = f.known; fits = omega (arith, f.fits, reading.units_add dropped later) }
+pub fits_behind : {T S : Type 0} (reading : Reading T S) (kind : List T → Type 0) (most : ℕ)
+    (dropped later more : List T) → FitsBehind kind reading.units most (dropped ++ later) more
+    → FitsBehind kind reading.units most later more
+fits_behind reading kind most dropped later more f =
+    record { known = f.known; fits = omega (arith, f.fits, reading.units_add dropped later) }
 
 -- what may follow an input may follow each end of it
-pub follows_ends : {T S : Type 0} {reading : Reading T S} (following : Following T) {later earlier : Left T} (more : List T) → Ends reading later earlier → Follows following earlier more → Follows following later more
+pub follows_ends : {T S : Type 0} {reading : Reading T S} (following : Following T)
+    {later earlier : Remaining T} (more : List T) → Ends reading later earlier
+    → Follows following earlier more → Follows following later more
 follows_ends following {later = later} more e f =
     let P : List _ → Type 0 = λ tokens. following.can_follow tokens more in
-    record { possible = e.possible ∙ f.possible; tokens = following.kept e.dropped later.tokens more (subst P e.tokens f.tokens) }
+    record {
+      possible = e.possible ∙ f.possible;
+      tokens = following.kept e.dropped later.tokens more (subst P e.tokens f.tokens);
+    }
 
-pub follows_end : {T S : Type 0} {reading : Reading T S} (following : Following T) {later earlier : Input T} (more : List T) → IsEndOf reading later earlier → Follows following earlier.left more → Follows following later.left more
+pub follows_end : {T S : Type 0} {reading : Reading T S} (following : Following T)
+    {later earlier : Input T} (more : List T) → IsEndOf reading later earlier
+    → Follows following earlier.left more → Follows following later.left more
 follows_end following more e f = follows_ends following more e.ends f

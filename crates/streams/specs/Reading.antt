@@ -29,6 +29,7 @@ pub units-nil : {T S : Type 0} (reading : Reading T S) → reading.units [] ≡ 
 units-nil reading = omega (arith, reading.units_add [] [])
 
 -- no units are taken by no tokens alone
-pub units-zero : {T S : Type 0} (reading : Reading T S) (xs : List T) → reading.units xs ≡ 0 → xs ≡ []
+pub units-zero : {T S : Type 0} (reading : Reading T S) (xs : List T) → reading.units xs ≡ 0
+    → xs ≡ []
 units-zero reading [] e = refl
 units-zero reading (x ∷ xs) e = absurd (omega (arith, e, reading.units_positive x xs))

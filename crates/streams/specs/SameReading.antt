@@ -28,7 +28,8 @@ pub facts_path : {A T : Type 0} {p q : A → List T → Type 0} → SameFacts p 
 facts_path {p} {q} same = λ k a xs. V k (p a xs) (q a xs) (iso_to_equiv (same a xs))
 
 -- the laws of a reading, over its parts
-record Laws {T S : Type 0} (units : List T → ℕ) (advance : Place → ℕ → Place) (shows : S → List T → Type 0) : Type 0 where
+record Laws {T S : Type 0} (units : List T → ℕ) (advance : Place → ℕ → Place)
+    (shows : S → List T → Type 0) : Type 0 where
   units_add : (xs ys : List T) → units (xs ++ ys) ≡ units xs + units ys
   units_positive : (x : T) (xs : List T) → 0 < units (x ∷ xs)
   advance_none : (p : Place) → advance p 0 ≡ p
@@ -36,7 +37,8 @@ record Laws {T S : Type 0} (units : List T → ℕ) (advance : Place → ℕ →
   advance_further : (p : Place) (n k : ℕ) → advance (further p n) k ≡ further (advance p k) n
   one_length : (s : S) (xs ys : List T) → shows s xs → shows s ys → units xs ≡ units ys
 
-laws_prop : {T S : Type 0} (units : List T → ℕ) (advance : Place → ℕ → Place) (shows : S → List T → Type 0) → IsProp (Laws units advance shows)
+laws_prop : {T S : Type 0} (units : List T → ℕ) (advance : Place → ℕ → Place)
+    (shows : S → List T → Type 0) → IsProp (Laws units advance shows)
 laws_prop units advance shows = hlevel props
 
 laws_of : {T S : Type 0} (r : Reading T S) → Laws r.units r.advance r.shows
@@ -49,7 +51,8 @@ laws_of r = record {
   one_length = r.one_length;
 }
 
-with_laws : {T S : Type 0} (units : List T → ℕ) (advance : Place → ℕ → Place) (shows : S → List T → Type 0) → Laws units advance shows → Reading T S
+with_laws : {T S : Type 0} (units : List T → ℕ) (advance : Place → ℕ → Place)
+    (shows : S → List T → Type 0) → Laws units advance shows → Reading T S
 with_laws units advance shows laws = record {
   units = units;
   advance = advance;
@@ -66,14 +69,18 @@ with_laws units advance shows laws = record {
 pub reading_path : {T S : Type 0} {a b : Reading T S} → SameReading a b → a ≡ b
 unfolding laws_of with_laws
 reading_path {a} {b} same =
-    let U : _ → Type 1 = λ u. (l : Laws u a.advance a.shows) → a ≡ with_laws u a.advance a.shows l in
+    let U : _ → Type 1 =
+    λ u. (l : Laws u a.advance a.shows) → a ≡ with_laws u a.advance a.shows l in
     let A : _ → Type 1 = λ v. (l : Laws b.units v a.shows) → a ≡ with_laws b.units v a.shows l in
-    let S : _ → Type 1 = λ w. (l : Laws b.units b.advance w) → a ≡ with_laws b.units b.advance w l in
-    let here : U a.units = λ l. ap (with_laws a.units a.advance a.shows) (laws_prop _ _ _ (laws_of a) l) in
+    let S : _ → Type 1 =
+    λ w. (l : Laws b.units b.advance w) → a ≡ with_laws b.units b.advance w l in
+    let here : U a.units =
+    λ l. ap (with_laws a.units a.advance a.shows) (laws_prop _ _ _ (laws_of a) l) in
     subst S (facts_path same.shows) (subst A same.advance (subst U same.units here)) (laws_of b)
 
 -- with a count of units kept beside, they are alike again
-pub located_alike : {T S : Type 0} {a b : Reading T S} → SameReading a b → SameReading (located_reading a) (located_reading b)
+pub located_alike : {T S : Type 0} {a b : Reading T S} → SameReading a b
+    → SameReading (located_reading a) (located_reading b)
 located_alike {a} {b} same =
     let P : Reading _ _ → Type 0 = λ r. SameReading (located_reading a) (located_reading r) in
     subst P (reading_path same) (same_reading_refl (located_reading a))

@@ -1,5 +1,7 @@
 -- The words of the contract of Stream.
-use Rattle.std.specs.Prelude.{◌≡◌, ℕ, ◌+◌, ◌-◌, ◌≤◌, ◌<◌, Bool, true, false, List, [], ◌∷◌, ◌++◌, Option, Some, None, Result, MatchOption, MatchResult, length, take, if◌then◌else◌}
+use Rattle.std.specs.Prelude.{◌≡◌, ℕ, ◌+◌, ◌-◌, ◌≤◌, ◌<◌, Bool, true, false, List, [], ◌∷◌, ◌++◌}
+use Rattle.std.specs.Prelude.{Option, Some, None, Result, MatchOption, MatchResult, length, take}
+use Rattle.std.specs.Prelude.{if◌then◌else◌}
 use Rattle.std.specs.List.{All}
 use Rattle.std.proofs.Common.{refl, sym, ap, suc, ◌∙◌}
 use Rattle.streams.specs.Input.{Input, Takes}
@@ -8,14 +10,16 @@ use Rattle.streams.specs.Reading.{Reading}
 
 -- the offset is behind some first tokens
 abbrev pub IsBoundary : {T : Type 0} → (List T → ℕ) → List T → ℕ → Type 0
-IsBoundary {T} units tokens offset = (front : List T) × (rest : List T) × (tokens ≡ front ++ rest) × (offset ≡ units front)
+IsBoundary {T} units tokens offset =
+    (front : List T) × (rest : List T) × (tokens ≡ front ++ rest) × (offset ≡ units front)
 
 -- a question on a token answers b for a token that is seen as x
 abbrev pub AnswersSeen : {K T : Type 0} → (K → T) → (K → Bool → Type 0) → T → Bool → Type 0
 AnswersSeen {K} seen answers x b = (t : K) × (seen t ≡ x) × answers t b
 
 -- the offset of the first token that is answered true, or none where all are answered false
-abbrev pub FindsFirst : {T : Type 0} → (T → Bool → Type 0) → (List T → ℕ) → List T → Option ℕ → Type 0
+abbrev pub FindsFirst : {T : Type 0} → (T → Bool → Type 0) → (List T → ℕ) → List T → Option ℕ
+    → Type 0
 FindsFirst {T} answers units tokens found = MatchOption found
     (All (λ t. answers t false) tokens)
     (λ offset. (front : List T) × (t : T) × (rest : List T) × (tokens ≡ front ++ t ∷ rest)
@@ -27,7 +31,8 @@ with_offsets units start [] = []
 with_offsets units start (t ∷ ts) = (start, t) ∷ with_offsets units (start + units (t ∷ [])) ts
 
 -- the offset behind n tokens; or how many are missing, where the stream counts them
-abbrev pub FindsOffset : {T : Type 0} → Bool → (List T → ℕ) → List T → ℕ → Result ℕ (Option ℕ) → Type 0
+abbrev pub FindsOffset : {T : Type 0} → Bool → (List T → ℕ) → List T → ℕ → Result ℕ (Option ℕ)
+    → Type 0
 FindsOffset counts units tokens n answer =
     MatchResult answer
     (λ offset. (n ≤ length tokens) × (offset ≡ units (take n tokens)))
@@ -40,23 +45,37 @@ GivesNext before item after = MatchOption item (before ≡ []) (λ x. before ≡
 -- whatever tokens end at the offset, the slice shows them, and they are passed
 abbrev pub Cuts : {T S : Type 0} → Reading T S → ℕ → Input T → S → Input T → Type 0
 Cuts {T} reading offset earlier slice later =
-    (front rest : List T) → earlier.left.tokens ≡ front ++ rest → offset ≡ reading.units front → Takes reading front earlier slice later
+    (front rest : List T) → earlier.left.tokens ≡ front ++ rest → offset ≡ reading.units front
+    → Takes reading front earlier slice later
 
--- Now stands in the place of before: what is left is what the slice shows. Where its units lead from a place to where before begins, now begins at that place.
-pub record IsUpdate {T S : Type 0} (reading : Reading T S) (before : Input T) (slice : S) (now : Input T) : Type 0 where
+-- Now stands in the place of before: what is left is what the slice shows. Where its units lead
+-- from a place to where before begins, now begins at that place.
+pub record IsUpdate {T S : Type 0} (reading : Reading T S) (before : Input T) (slice : S)
+    (now : Input T) : Type 0 where
   pub shown : reading.shows slice now.left.tokens
-  pub bits : (p : Place) → (reading.advance p (reading.units now.left.tokens)).bits_read ≡ before.left.place.bits_read → now.left.place.bits_read ≡ p.bits_read
-  pub passed : (p : Place) → reading.advance p (reading.units now.left.tokens) ≡ before.left.place → now.left.place.passed ≡ p.passed
+  pub bits : (p : Place)
+      → (reading.advance p (reading.units now.left.tokens)).bits_read
+      ≡ before.left.place.bits_read → now.left.place.bits_read ≡ p.bits_read
+  pub passed : (p : Place)
+      → reading.advance p (reading.units now.left.tokens) ≡ before.left.place
+      → now.left.place.passed ≡ p.passed
   pub possible : now.left.possible ≡ before.left.possible
-  pub side : now.side ≡ before.side
+  pub status : now.status ≡ before.status
 
 -- it begins where the tokens of the slice were taken
-pub update_begins : {T S : Type 0} {reading : Reading T S} {front : List T} {earlier before now : Input T} {slice : S} → Takes reading front earlier slice before → IsUpdate reading before slice now → now.left.place ≡ earlier.left.place
-update_begins {reading = reading} {front = front} {earlier = earlier} {now = now} {slice = slice} t u =
+pub update_begins : {T S : Type 0} {reading : Reading T S} {front : List T}
+    {earlier before now : Input T} {slice : S} → Takes reading front earlier slice before
+    → IsUpdate reading before slice now → now.left.place ≡ earlier.left.place
+update_begins {reading = reading} {front = front} {earlier = earlier} {now = now}
+    {slice = slice} t u =
     let from = earlier.left.place in
-    let leads = ap (λ n. reading.advance from n) (reading.one_length slice now.left.tokens front u.shown t.shown) ∙ sym t.passed.place in
+    let leads = ap (λ n. reading.advance from n)
+    (reading.one_length slice now.left.tokens front u.shown t.shown)
+    ∙ sym t.passed.place in
     same_place now.left.place from (u.passed from leads) (u.bits from (ap (λ p. p.bits_read) leads))
 
-pub length-with_offsets : {T : Type 0} (units : List T → ℕ) (start : ℕ) (tokens : List T) → length (with_offsets units start tokens) ≡ length tokens
+pub length-with_offsets : {T : Type 0} (units : List T → ℕ) (start : ℕ) (tokens : List T)
+    → length (with_offsets units start tokens) ≡ length tokens
 length-with_offsets units start [] = refl
-length-with_offsets units start (t ∷ ts) = ap suc (length-with_offsets units (start + units (t ∷ [])) ts)
+length-with_offsets units start (t ∷ ts) =
+    ap suc (length-with_offsets units (start + units (t ∷ [])) ts)

@@ -19,9 +19,13 @@ abbrev pub tokens_left : {T : Type 0} → Enumerate (Iter T) → List (ℕ × T)
 tokens_left s = with_offsets length (enumerate_count s) (iter_rest (enumerate_source s))
 
 -- A step of the iterator gives the first of the tokens still to come.
-pub tokens_left_step : {T : Type 0} (s : Enumerate (Iter T)) (r : Option (ℕ × Bor T)) (t : Enumerate (Iter T)) → enumerate_steps iter_steps s r t → MatchOption r (tokens_left s ≡ []) (λ x. tokens_left s ≡ (x.0, x.1.now) ∷ tokens_left t)
-tokens_left_step s None t (none, _) = ap (λ tokens. with_offsets length (enumerate_count s) tokens) (nil_from_length _ none.0)
+pub tokens_left_step : {T : Type 0} (s : Enumerate (Iter T)) (r : Option (ℕ × Bor T))
+    (t : Enumerate (Iter T)) → enumerate_steps iter_steps s r t
+    → MatchOption r (tokens_left s ≡ []) (λ x. tokens_left s ≡ (x.0, x.1.now) ∷ tokens_left t)
+tokens_left_step s None t (none, _) =
+    ap (λ tokens. with_offsets length (enumerate_count s) tokens) (nil_from_length _ none.0)
 tokens_left_step s (Some x) t (first, at, passed, _) =
     ap (λ tokens. with_offsets length (enumerate_count s) tokens) first
-    ∙ ap (λ n. (n, x.1.now) ∷ with_offsets length (enumerate_count s + 1) (iter_rest (enumerate_source t))) (sym at)
+    ∙ ap (λ n. (n, x.1.now) ∷ with_offsets length (enumerate_count s + 1)
+    (iter_rest (enumerate_source t))) (sym at)
     ∙ ap (λ n. (x.0, x.1.now) ∷ with_offsets length n (iter_rest (enumerate_source t))) (sym passed)

@@ -1,5 +1,6 @@
 //! Bytes as a stream.
-ghost use Rattle.std.specs.Prelude.{◌≡◌, ◌==◌, ℕ, ◌+◌, ◌<◌, ◌^◌, ◌≤◌, List, [], ◌∷◌, ◌++◌, length, true, false, drop, refl};
+ghost use Rattle.std.specs.Prelude.{◌≡◌, ◌==◌, ℕ, ◌+◌, ◌<◌, ◌^◌, ◌≤◌, List, [], ◌∷◌, ◌++◌, length};
+ghost use Rattle.std.specs.Prelude.{true, false, drop, refl};
 ghost use Rattle.std.specs.Iterator.{at_most};
 ghost use Rattle.std.specs.List.{All};
 ghost use Rattle.streams.specs.Input.{at_start};
@@ -25,7 +26,8 @@ pub struct ByteOffsets<'a> {
 impl<'a> Iterator for ByteOffsets<'a> {
     type Item = (usize, u8);
 
-    ghost next_gives = { λ s r t. GivesNext (with_offsets length s.offset s.rest.now) r (with_offsets length t.offset t.rest.now) };
+    ghost next_gives = { λ s r t. GivesNext (with_offsets length s.offset s.rest.now) r
+        (with_offsets length t.offset t.rest.now) };
 
     ghost remaining = { λ s. at_most (length s.rest.now) };
 

@@ -1,7 +1,7 @@
 //! Streams: the input of a parser, and what a parser sees of it.
 //!
 //! A parser sees an input as `specs/Input.antt` has it: the tokens left, the place where they
-//! begin, and a side that is never moved back. Each stream says by its ghost members how it is
+//! begin, and a status that is never moved back. Each stream says by its ghost members how it is
 //! seen, and each call of [`Stream`](crate::stream::Stream) is exact over that.
 #![tactic(auto)]
 

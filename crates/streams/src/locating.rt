@@ -43,14 +43,17 @@ impl<I: Stream> LocatingSlice<I> {
     /// The stream inside.
     #[inline(always)]
     pub fn as_inner(&self) -> &I
-        ensures { located_input (I.view result.now) (⟦<LocatingSlice<I> as Stream>⟧.view self.now).left.place.passed ≡ ⟦<LocatingSlice<I> as Stream>⟧.view self.now }
+        ensures { located_input (I.view result.now)
+            (⟦<LocatingSlice<I> as Stream>⟧.view self.now).left.place.passed
+            ≡ ⟦<LocatingSlice<I> as Stream>⟧.view self.now }
     {
         &self.input
     }
 }
 
 impl<I: Stream + Copy> Clone for LocatingSlice<I> {
-    ghost is_clone = { λ x y. located_input (I.view y.input) y.passed ≡ located_input (I.view x.input) x.passed };
+    ghost is_clone = { λ x y. located_input (I.view y.input) y.passed
+        ≡ located_input (I.view x.input) x.passed };
 
     ghost is_infallible = { λ _. ⊤ };
 

@@ -1,7 +1,7 @@
 //! Streams that may get more.
 ghost use Rattle.std.specs.Prelude.{◌≡◌, true};
 ghost use Rattle.streams.specs.Equal.{true_is_false};
-ghost use Rattle.streams.specs.Partial.{flagged};
+ghost use Rattle.streams.specs.Partial.{with_flag};
 
 use crate::needed::Needed;
 use crate::stream::{Location, Stream, StreamIsPartial, UpdateSlice};
@@ -27,7 +27,7 @@ impl<I: Stream> Partial<I> {
     /// The stream, with more to come.
     #[inline(always)]
     pub fn new(input: I) -> Partial<I>
-        ensures { ⟦<Partial<I> as Stream>⟧.view result ≡ flagged (I.view input) true }
+        ensures { ⟦<Partial<I> as Stream>⟧.view result ≡ with_flag (I.view input) true }
     {
         Partial {
             input,
@@ -38,7 +38,9 @@ impl<I: Stream> Partial<I> {
     /// The stream inside, with the flag that it has itself.
     #[inline(always)]
     pub fn as_inner(&self) -> &I
-        ensures { flagged (I.view result.now) (⟦<Partial<I> as Stream>⟧.view self.now).side.cut ≡ ⟦<Partial<I> as Stream>⟧.view self.now }
+        ensures { with_flag (I.view result.now)
+            (⟦<Partial<I> as Stream>⟧.view self.now).status.cut
+            ≡ ⟦<Partial<I> as Stream>⟧.view self.now }
     {
         &self.input
     }
@@ -46,7 +48,8 @@ impl<I: Stream> Partial<I> {
     /// The stream inside, with the flag that it has itself.
     #[inline(always)]
     pub fn into_inner(self) -> I
-        ensures { flagged (I.view result) (⟦<Partial<I> as Stream>⟧.view self).side.cut ≡ ⟦<Partial<I> as Stream>⟧.view self }
+        ensures { with_flag (I.view result) (⟦<Partial<I> as Stream>⟧.view self).status.cut
+            ≡ ⟦<Partial<I> as Stream>⟧.view self }
     {
         self.input
     }
@@ -63,7 +66,7 @@ impl<I: Stream> Stream for Partial<I> {
 
     type Checkpoint = I::Checkpoint;
 
-    ghost view = { λ s. flagged (I.view s.input) s.partial };
+    ghost view = { λ s. with_flag (I.view s.input) s.partial };
 
     ghost seen = { I.seen };
 

@@ -1,10 +1,11 @@
 //! The traits of streams.
 ghost use Rattle.std.specs.Prelude.{◌≡◌, ℕ, ◌+◌, List, [], ◌∷◌, Bool, false, Option, MatchOption};
 ghost use Rattle.std.specs.Iterator.{IsFinite};
-ghost use Rattle.streams.specs.Input.{Input, Left, IsEndOf, Remains, Passes, Takes, back_at};
+ghost use Rattle.streams.specs.Input.{Input, Remaining, IsEndOf, Remains, Passes, Takes, back_at};
 ghost use Rattle.streams.specs.Following.{Following};
 ghost use Rattle.streams.specs.Reading.{Reading};
-ghost use Rattle.streams.specs.Stream.{IsBoundary, AnswersSeen, Cuts, FindsFirst, FindsOffset, IsUpdate, with_offsets};
+ghost use Rattle.streams.specs.Stream.{IsBoundary, AnswersSeen, Cuts, FindsFirst, FindsOffset};
+ghost use Rattle.streams.specs.Stream.{IsUpdate, with_offsets};
 ghost use Rattle.streams.specs.Needed.{by_need};
 
 use crate::needed::Needed;
@@ -39,7 +40,7 @@ pub trait Stream: Drop {
     ghost view: { Self → Input Self.Seen };
 
     // What was left at a checkpoint.
-    ghost seen: { Self.Checkpoint → Left Self.Seen };
+    ghost seen: { Self.Checkpoint → Remaining Self.Seen };
 
     // How tokens are counted and handed out.
     ghost reading: { Reading Self.Seen Self.Slice };
@@ -60,7 +61,8 @@ pub trait Stream: Drop {
     fn iter_offsets(&self) -> Self::IterOffsets
         ensures can { Self.IterOffsets.can_next result }
         ensures finite { IsFinite (Self.IterOffsets.remaining result) }
-        ensures items { offsets_left result ≡ with_offsets reading.units 0 (view self.now).left.tokens };
+        ensures items { offsets_left result
+            ≡ with_offsets reading.units 0 (view self.now).left.tokens };
 
     /// How many units are left.
     fn eof_offset(&self) -> usize
@@ -69,17 +71,21 @@ pub trait Stream: Drop {
     /// The first token, which is consumed; `None` at the end.
     fn next_token(&mut self) -> Option<Self::Token>
         ensures ends { IsEndOf reading (view self.new) (view self.old) }
-        ensures passes { MatchOption result (((view self.old).left.tokens ≡ []) × (view self.new ≡ view self.old)) (λ t. Passes reading (seen_as t ∷ []) (view self.old) (view self.new)) };
+        ensures passes { MatchOption result
+            (((view self.old).left.tokens ≡ []) × (view self.new ≡ view self.old))
+            (λ t. Passes reading (seen_as t ∷ []) (view self.old) (view self.new)) };
 
     /// The offset, in units, of the first token for which `predicate` holds, if there is one.
     fn offset_for<P: TokenTest<Self::Token> + Drop>(&self, predicate: P) -> Option<usize>
         requires { P.can_test predicate }
-        ensures { FindsFirst (AnswersSeen seen_as (P.answers predicate)) reading.units (view self.now).left.tokens result };
+        ensures { FindsFirst (AnswersSeen seen_as (P.answers predicate)) reading.units
+            (view self.now).left.tokens result };
 
     /// The offset, in units, behind the first `tokens` tokens. Where there are fewer, the need is
     /// how many are missing, or unknown over text.
     fn offset_at(&self, tokens: usize) -> Result<usize, Needed>
-        ensures { FindsOffset counts_missing reading.units (view self.now).left.tokens tokens (by_need result) };
+        ensures { FindsOffset counts_missing reading.units (view self.now).left.tokens tokens
+            (by_need result) };
 
     /// The tokens before `offset`, in units, which are consumed. The caller owes an offset of this
     /// stream between two tokens or at an end.
@@ -91,7 +97,8 @@ pub trait Stream: Drop {
     /// All that is left, which is consumed.
     fn finish(&mut self) -> Self::Slice
         ensures ends { IsEndOf reading (view self.new) (view self.old) }
-        ensures takes { Takes reading (view self.old).left.tokens (view self.old) result (view self.new) }
+        ensures takes { Takes reading (view self.old).left.tokens (view self.old) result
+            (view self.new) }
         ensures nothing { (view self.new).left.tokens ≡ [] };
 
     /// The present place.
@@ -106,10 +113,14 @@ pub trait Stream: Drop {
     /// this stream.
     fn offset_from(&self, start: &Self::Checkpoint) -> usize
         requires { Remains (view self.now).left (seen start.now) }
-        ensures { result + reading.units (view self.now).left.tokens ≡ reading.units (seen start.now).tokens };
+        ensures { result + reading.units (view self.now).left.tokens
+            ≡ reading.units (seen start.now).tokens };
 
     // A step of the iterator gives the first of the tokens still to come.
-    ghost offsets_step: { (s : Self.IterOffsets) (r : Option (ℕ × Self.Token)) (t : Self.IterOffsets) → Self.IterOffsets.next_gives s r t → MatchOption r (offsets_left s ≡ []) (λ x. offsets_left s ≡ (x.0, seen_as x.1) ∷ offsets_left t) };
+    ghost offsets_step: { (s : Self.IterOffsets) (r : Option (ℕ × Self.Token))
+        (t : Self.IterOffsets) → Self.IterOffsets.next_gives s r t
+        → MatchOption r (offsets_left s ≡ [])
+        (λ x. offsets_left s ≡ (x.0, seen_as x.1) ∷ offsets_left t) };
 }
 
 /// A stream that says whether more input may come, as winnow's documentation has it.
@@ -131,12 +142,16 @@ pub trait StreamIsPartial: Stream {
 
     /// Marks the input as complete, and answers the old state.
     fn complete(&mut self) -> Self::PartialState
-        ensures state { flag result ≡ (Self.view self.old).side.cut }
-        ensures complete { Self.view self.new ≡ record (Self.view self.old) { side = record (Self.view self.old).side { cut = false } } };
+        ensures state { flag result ≡ (Self.view self.old).status.cut }
+        ensures complete { Self.view self.new
+            ≡ record (Self.view self.old)
+            { status = record (Self.view self.old).status { cut = false } } };
 
     /// Puts an old state back.
     fn restore_partial(&mut self, state: Self::PartialState)
-        ensures { Self.view self.new ≡ record (Self.view self.old) { side = record (Self.view self.old).side { cut = flag state } } };
+        ensures { Self.view self.new
+            ≡ record (Self.view self.old)
+            { status = record (Self.view self.old).status { cut = flag state } } };
 
     /// Whether the type can be partial at all.
     fn is_partial_supported() -> bool
@@ -144,10 +159,10 @@ pub trait StreamIsPartial: Stream {
 
     /// Whether more input may come.
     fn is_partial(&self) -> bool
-        ensures { result ≡ (Self.view self.now).side.cut };
+        ensures { result ≡ (Self.view self.now).status.cut };
 
     // A type with no flag is always whole.
-    ghost whole: { supports_partial ≡ false → (s : Self) → (Self.view s).side.cut ≡ false };
+    ghost whole: { supports_partial ≡ false → (s : Self) → (Self.view s).status.cut ≡ false };
 
     // ... and so is each of its states.
     ghost whole_state: { supports_partial ≡ false → (s : Self.PartialState) → flag s ≡ false };

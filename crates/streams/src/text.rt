@@ -14,7 +14,8 @@
 ghost use Rattle.std.specs.Prelude.{◌≡◌, false, refl};
 ghost use Rattle.std.specs.Str.{chars};
 ghost use Rattle.streams.specs.Input.{at_start};
-ghost use Rattle.streams.specs.Text.{text_follows, text_input, text_reading, chars_left, chars_left_step};
+ghost use Rattle.streams.specs.Text.{text_follows, text_input, text_reading, chars_left};
+ghost use Rattle.streams.specs.Text.{chars_left_step};
 
 use crate::needed::Needed;
 use crate::stream::{Stream, StreamIsPartial, UpdateSlice};

@@ -3,7 +3,7 @@
 
 ghost use Rattle.std.specs.Prelude.{map};
 ghost use Rattle.std.specs.List.{All};
-ghost use Rattle.stream_errors.specs.Form.{answer_by, asserted};
+ghost use Rattle.stream_errors.specs.Form.{answer_by, assert_kind};
 ghost use Rattle.winnow_comb.specs.Alt.Slice.{AltSliceRuns};
 
 use stream_errors::parser_error::ParserError;
@@ -17,7 +17,9 @@ pub fn choose_among<P: Parser<I, O, E>, I: Stream, O, E: ParserError<I>>(
     input: &mut I,
 ) -> Result<O, E>
     requires { All P.can_parse branches.old }
-    ensures { AltSliceRuns (P.meaning E.form) (asserted E.form) (map P.state branches.old) (I.view input.old) (answer_by E.kind result) (map P.state branches.new) (I.view input.new) }
+    ensures { AltSliceRuns (P.meaning E.form) (assert_kind E.form) (map P.state branches.old)
+        (I.view input.old) (answer_by E.kind result) (map P.state branches.new)
+        (I.view input.new) }
 {
     alt(&mut *branches).parse_next(input)
 }

@@ -24,7 +24,9 @@ pub fn parse_as_plain<
     requires callable { Q.can_parse parser.old }
     requires alike { P.like plain.now parser.old }
     requires forms { E.form ≡ F.form }
-    ensures { (t : P.State) × P.meaning E.form (P.state plain.now) (⟦<Partial<I> as Stream>⟧.view input.old) (answer_by F.kind result) t (⟦<Partial<I> as Stream>⟧.view input.new) }
+    ensures { (t : P.State)
+        × P.meaning E.form (P.state plain.now) (⟦<Partial<I> as Stream>⟧.view input.old)
+        (answer_by F.kind result) t (⟦<Partial<I> as Stream>⟧.view input.new) }
 {
     a_complete_stream_is_answered_as_the_plain_one::<P, Q, I, Partial<I>, O, E, F>();
     parser.parse_next(input)

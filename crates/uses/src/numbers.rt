@@ -41,9 +41,14 @@ where
     F: ParserError<Partial<I>>,
     A: Allocator + Copy,
     requires range { repeat_occurrences plain.now ≡ repeat_occurrences numbers.old }
-    requires separator { terminated_ignored (repeat_parser plain.now) ≡ terminated_ignored (repeat_parser numbers.old) }
+    requires separator { terminated_ignored (repeat_parser plain.now)
+        ≡ terminated_ignored (repeat_parser numbers.old) }
     requires forms { E.form ≡ F.form }
-    ensures { (t : ⟦<Numbers<I, E, A> as Parser<I, (), E>>⟧.State) × ⟦<Numbers<I, E, A> as Parser<I, (), E>>⟧.meaning E.form (⟦<Numbers<I, E, A> as Parser<I, (), E>>⟧.state plain.now) (⟦<Partial<I> as Stream>⟧.view input.old) (answer_by F.kind result) t (⟦<Partial<I> as Stream>⟧.view input.new) }
+    ensures { (t : ⟦<Numbers<I, E, A> as Parser<I, (), E>>⟧.State)
+        × ⟦<Numbers<I, E, A> as Parser<I, (), E>>⟧.meaning E.form
+        (⟦<Numbers<I, E, A> as Parser<I, (), E>>⟧.state plain.now)
+        (⟦<Partial<I> as Stream>⟧.view input.old) (answer_by F.kind result)
+        t (⟦<Partial<I> as Stream>⟧.view input.new) }
 {
     parse_as_plain(plain, numbers, input)
 }

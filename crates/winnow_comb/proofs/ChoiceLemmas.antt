@@ -1,17 +1,20 @@
 -- The branches of a slice, one by one.
-use Rattle.std.proofs.Common.{◌≡◌, ℕ, ◌+◌, ◌<◌, List, [], ◌∷◌, ◌++◌, length, get_or, refl, sym, ap, ◌∙◌, subst, append_assoc, arith, inl, inr, Err, length-append}
+use Rattle.std.proofs.Common.{◌≡◌, ℕ, ◌+◌, ◌<◌, List, [], ◌∷◌, ◌++◌, length, get_or, refl, sym, ap}
+use Rattle.std.proofs.Common.{◌∙◌, subst, append_assoc, arith, inl, inr, Err, length-append}
 use Rattle.std.specs.Prelude.{slice_set, map}
 use mathlib.Core.List.{map-append}
 use Rattle.std.proofs.lemmas.List.{get_or_at, length_push}
 use Rattle.std.proofs.Math.Seq.{set-append_seam}
-use Rattle.streams.specs.Input.{Input, Left, back_at}
+use Rattle.streams.specs.Input.{Input, Remaining, back_at}
 use Rattle.streams.specs.Kind.{Kind, backtrack}
 use Rattle.stream_errors.specs.Form.{Answer}
 use Rattle.winnow_core.specs.Runs.{Runs, By}
 use Rattle.winnow_comb.specs.Alt.Slice.{Backtracked, AltSliceRuns}
 
--- The first k branches backtracked, and the others are as they were: `m` is where the next one starts.
-pub record Earlier {S T O : Type 0} (run : Runs S T O) (orig now : List S) (i m : Input T) (k : ℕ) : Type 0 where
+-- The first k branches backtracked, and the others are as they were: `m` is where the next one
+-- starts.
+pub record Earlier {S T O : Type 0} (run : Runs S T O) (orig now : List S) (i m : Input T)
+    (k : ℕ) : Type 0 where
   pub before : List S
   pub ran : List S
   pub rest : List S
@@ -20,33 +23,54 @@ pub record Earlier {S T O : Type 0} (run : Runs S T O) (orig now : List S) (i m 
   pub new : now ≡ ran ++ rest
   pub backtracked : Backtracked run i.left before i ran m
 
-pub earlier_none : {S T O : Type 0} (run : Runs S T O) (s : List S) (i : Input T) → Earlier run s s i i 0
-earlier_none run s i = record { before = []; ran = []; rest = s; count = refl; old = refl; new = refl; backtracked = refl }
+pub earlier_none : {S T O : Type 0} (run : Runs S T O) (s : List S) (i : Input T)
+    → Earlier run s s i i 0
+earlier_none run s i =
+    record {
+      before = [];
+      ran = [];
+      rest = s;
+      count = refl;
+      old = refl;
+      new = refl;
+      backtracked = refl;
+    }
 
-backtracked_more : {S T O : Type 0} (run : Runs S T O) (start : Left T) (before : List S) (i : Input T) (ran : List S) (m : Input T) (x y : S) (a : Input T)
-    → Backtracked run start before i ran m → run x m (Err backtrack) y a → Backtracked run start (before ++ x ∷ []) i (ran ++ y ∷ []) (back_at start a)
-backtracked_more run start [] i [] m x y a e r = (a, subst (λ z. run x z (Err backtrack) y a) e r, refl)
+backtracked_more : {S T O : Type 0} (run : Runs S T O) (start : Remaining T) (before : List S)
+    (i : Input T) (ran : List S) (m : Input T) (x y : S) (a : Input T)
+    → Backtracked run start before i ran m → run x m (Err backtrack) y a
+    → Backtracked run start (before ++ x ∷ []) i (ran ++ y ∷ []) (back_at start a)
+backtracked_more run start [] i [] m x y a e r =
+    (a, subst (λ z. run x z (Err backtrack) y a) e r, refl)
 backtracked_more run start [] i (t ∷ ts) m x y a h r = absurd h
 backtracked_more run start (s ∷ ss) i [] m x y a h r = absurd h
-backtracked_more run start (s ∷ ss) i (t ∷ ts) m x y a (n, q, h) r = (n, q, backtracked_more run start ss (back_at start n) ts m x y a h r)
+backtracked_more run start (s ∷ ss) i (t ∷ ts) m x y a (n, q, h) r =
+    (n, q, backtracked_more run start ss (back_at start n) ts m x y a h r)
 
 -- the branch k begins the rest
-rest_of : {S : Type 0} (ran rest now : List S) (k : ℕ) (item d : S) → length ran ≡ k → now ≡ ran ++ rest → k < length now → item ≡ get_or now k d → (tail : List S) × (rest ≡ item ∷ tail)
-rest_of ran [] now k item d count e within is = absurd (omega (arith, ap (λ l. length l) e, length-append ran []))
+rest_of : {S : Type 0} (ran rest now : List S) (k : ℕ) (item d : S) → length ran ≡ k
+    → now ≡ ran ++ rest → k < length now → item ≡ get_or now k d
+    → (tail : List S) × (rest ≡ item ∷ tail)
+rest_of ran [] now k item d count e within is =
+    absurd (omega (arith, ap (λ l. length l) e, length-append ran []))
 rest_of ran (x ∷ tail) now k item d count e within is =
     let same : x ≡ item = sym (is ∙ ap (λ l. get_or l k d) e ∙ get_or_at ran x tail d k count) in
     (tail, ap (λ z. z ∷ tail) same)
 
 -- a write at the branch k
-set_at : {S : Type 0} (ran tail now : List S) (k : ℕ) (item new : S) → length ran ≡ k → now ≡ ran ++ item ∷ tail → slice_set now k new ≡ ran ++ new ∷ tail
+set_at : {S : Type 0} (ran tail now : List S) (k : ℕ) (item new : S) → length ran ≡ k
+    → now ≡ ran ++ item ∷ tail → slice_set now k new ≡ ran ++ new ∷ tail
 set_at ran tail now k item new count e =
-    ap (λ l. slice_set l k new) e ∙ ap (λ n. slice_set (ran ++ item ∷ tail) n new) (sym count) ∙ set-append_seam ran item tail new
+    ap (λ l. slice_set l k new) e ∙ ap (λ n. slice_set (ran ++ item ∷ tail) n new) (sym count)
+    ∙ set-append_seam ran item tail new
 
 length-zero : {S : Type 0} (xs : List S) → length xs ≡ 0 → xs ≡ []
 length-zero [] e = refl
 length-zero (x ∷ xs) e = absurd (omega (arith, e))
 
-module _ {S T O : Type 0} (run : Runs S T O) (orig now : List S) (i m : Input T) (k : ℕ) (item d new : S) (p : Earlier run orig now i m k) (within : k < length now) (is : item ≡ get_or now k d) where
+module _ {S T O : Type 0} (run : Runs S T O) (orig now : List S) (i m : Input T) (k : ℕ)
+    (item d new : S) (p : Earlier run orig now i m k) (within : k < length now)
+    (is : item ≡ get_or now k d) where
   tail : (tail : List S) × (p.rest ≡ item ∷ tail)
   tail = rest_of p.ran p.rest now k item d p.count p.new within is
 
@@ -59,7 +83,9 @@ module _ {S T O : Type 0} (run : Runs S T O) (orig now : List S) (i m : Input T)
   new_split : slice_set now k new ≡ p.ran ++ new ∷ tail.0
   new_split = set_at p.ran tail.0 now k item new p.count now_split
 
-  pub earlier_more : (start : Left T) (a j : Input T) → start ≡ i.left → run item m (Err backtrack) new a → j ≡ back_at start a → Earlier run orig (slice_set now k new) i j (k + 1)
+  pub earlier_more : (start : Remaining T) (a j : Input T) → start ≡ i.left
+      → run item m (Err backtrack) new a → j ≡ back_at start a
+      → Earlier run orig (slice_set now k new) i j (k + 1)
   earlier_more start a j from r back = record {
     before = p.before ++ item ∷ [];
     ran = p.ran ++ new ∷ [];
@@ -68,12 +94,15 @@ module _ {S T O : Type 0} (run : Runs S T O) (orig now : List S) (i m : Input T)
     old = old_split ∙ sym (append_assoc p.before (item ∷ []) tail.0);
     new = new_split ∙ sym (append_assoc p.ran (new ∷ []) tail.0);
     backtracked =
-        subst (λ z. Backtracked run i.left (p.before ++ item ∷ []) i (p.ran ++ new ∷ []) z) (ap (λ x. back_at x a) (sym from) ∙ sym back)
+        subst (λ z. Backtracked run i.left (p.before ++ item ∷ []) i (p.ran ++ new ∷ []) z)
+        (ap (λ x. back_at x a) (sym from) ∙ sym back)
         (backtracked_more run i.left p.before i p.ran m item new a p.backtracked r);
   }
 
-  pub answered : (asserted : Kind) (answer : Answer O) (j : Input T) → run item m answer new j → (answer ≡ Err backtrack → k + 1 ≡ length now) → AltSliceRuns run asserted orig i answer (slice_set now k new) j
-  answered asserted answer j r last =
+  pub answered : (assert_kind : Kind) (answer : Answer O) (j : Input T)
+      → run item m answer new j → (answer ≡ Err backtrack → k + 1 ≡ length now)
+      → AltSliceRuns run assert_kind orig i answer (slice_set now k new) j
+  answered assert_kind answer j r last =
       inr (
         p.before,
         item,
@@ -85,17 +114,45 @@ module _ {S T O : Type 0} (run : Runs S T O) (orig now : List S) (i m : Input T)
         new_split,
         p.backtracked,
         r,
-        (λ e. length-zero tail.0 (omega (arith, last e, ap (λ l. length l) now_split, length-append p.ran (item ∷ tail.0), p.count))),
+        (λ e. length-zero tail.0
+            (omega (
+              arith,
+              last e,
+              ap (λ l. length l) now_split,
+              length-append p.ran (item ∷ tail.0),
+              p.count,
+            ))),
       )
 
-backtracked_held : {P S T O : Type 0} (state : P → S) (run : Runs S T O) (start : Left T) (ps : List P) (i : Input T) (qs : List P) (j : Input T) → Backtracked (By state run) start ps i qs j → Backtracked run start (map state ps) i (map state qs) j
+backtracked_held : {P S T O : Type 0} (state : P → S) (run : Runs S T O) (start : Remaining T)
+    (ps : List P) (i : Input T) (qs : List P) (j : Input T)
+    → Backtracked (By state run) start ps i qs j
+    → Backtracked run start (map state ps) i (map state qs) j
 backtracked_held state run start [] i [] j e = e
 backtracked_held state run start [] i (q ∷ qs) j h = absurd h
 backtracked_held state run start (p ∷ ps) i [] j h = absurd h
-backtracked_held state run start (p ∷ ps) i (q ∷ qs) j (m, r, h) = (m, r, backtracked_held state run start ps (back_at start m) qs j h)
+backtracked_held state run start (p ∷ ps) i (q ∷ qs) j (m, r, h) =
+    (m, r, backtracked_held state run start ps (back_at start m) qs j h)
 
 -- a choice among branches is one among what their states mean
-pub choice_held : {P S T O : Type 0} (state : P → S) (run : Runs S T O) (asserted : Kind) (ps : List P) (i : Input T) (answer : Answer O) (qs : List P) (j : Input T) → AltSliceRuns (By state run) asserted ps i answer qs j → AltSliceRuns run asserted (map state ps) i answer (map state qs) j
-choice_held state run asserted ps i answer qs j (inl (none, kept, e, same)) = inl (ap (λ l. map state l) none, ap (λ l. map state l) kept, e, same)
-choice_held state run asserted ps i answer qs j (inr (before, x, rest, ran, y, m, old, new, backtracked, r, last)) =
-    inr (map state before, state x, map state rest, map state ran, state y, m, ap (λ l. map state l) old ∙ map-append state before (x ∷ rest), ap (λ l. map state l) new ∙ map-append state ran (y ∷ rest), backtracked_held state run i.left before i ran m backtracked, r, λ e. ap (λ l. map state l) (last e))
+pub choice_held : {P S T O : Type 0} (state : P → S) (run : Runs S T O) (assert_kind : Kind)
+    (ps : List P) (i : Input T) (answer : Answer O) (qs : List P) (j : Input T)
+    → AltSliceRuns (By state run) assert_kind ps i answer qs j
+    → AltSliceRuns run assert_kind (map state ps) i answer (map state qs) j
+choice_held state run assert_kind ps i answer qs j (inl (none, kept, e, same)) =
+    inl (ap (λ l. map state l) none, ap (λ l. map state l) kept, e, same)
+choice_held state run assert_kind ps i answer qs j
+    (inr (before, x, rest, ran, y, m, old, new, backtracked, r, last)) =
+    inr (
+      map state before,
+      state x,
+      map state rest,
+      map state ran,
+      state y,
+      m,
+      ap (λ l. map state l) old ∙ map-append state before (x ∷ rest),
+      ap (λ l. map state l) new ∙ map-append state ran (y ∷ rest),
+      backtracked_held state run i.left before i ran m backtracked,
+      r,
+      λ e. ap (λ l. map state l) (last e),
+    )

@@ -11,7 +11,8 @@ pub mod Slice
 abbrev pub alt_alternatives : {A I O E : Type 0} → AltParser A I O E → A
 alt_alternatives s = s.alternatives
 
--- A run of a branch, or of the others from the same start, with the side as the branch left it. A choice among more than two is nested to the right, and its last branch is only run.
+-- A run of a branch, or of the others from the same start, with the status as the branch left it. A
+-- choice among more than two is nested to the right, and its last branch is only run.
 abbrev pub OrElse : {S1 S2 T O : Type 0} → Runs S1 T O → Runs S2 T O → Runs (S1 × S2) T O
 OrElse {S1} {S2} {T} {O} run others s i answer t j =
     -- the branch does not backtrack: it answers

@@ -12,5 +12,6 @@ abbrev pub preceded_parser : {P1 P2 I O1 O2 E : Type 0} → Preceded P1 P2 I O1 
 preceded_parser s = s.parser
 
 -- A run of two children, with the output of the second.
-abbrev pub PrecededRuns : {S1 S2 T O1 O2 : Type 0} → Runs S1 T O1 → Runs S2 T O2 → Runs (S1 × S2) T O2
+abbrev pub PrecededRuns : {S1 S2 T O1 O2 : Type 0} → Runs S1 T O1 → Runs S2 T O2
+    → Runs (S1 × S2) T O2
 PrecededRuns run1 run2 = BothRuns (λ o1 o2. o2) run1 run2

@@ -19,34 +19,53 @@ repeat_occurrences s = s.occurrences
 abbrev pub repeat_parser : {P I O C E A : Type 0} → Repeat P I O C E A → P
 repeat_parser s = s.parser
 
--- What ends a repetition of at least `least` items and at most the greatest number, behind the items of a chain.
-abbrev pub RepeatEnds : {S T O C : Type 0} → Runs S T O → Accumulator C O → Kind → ℕ → Option ℕ → C → List O → S → Input T → Answer C → S → Input T → Type 0
-RepeatEnds {S} {T} {O} {C} run into asserted least greatest before outputs u m answer t j =
+-- What ends a repetition of at least `least` items and at most the greatest number, behind the
+-- items of a chain.
+abbrev pub RepeatEnds : {S T O C : Type 0} → Runs S T O → Accumulator C O → Kind → ℕ → Option ℕ
+    → C → List O → S → Input T → Answer C → S → Input T → Type 0
+RepeatEnds {S} {T} {O} {C} run into assert_kind least greatest before outputs u m answer t j =
     -- the greatest number is reached
-    ((all : C) × (greatest ≡ Some (length outputs)) × Accumulates into.takes before outputs all × (answer ≡ Ok all) × (t ≡ u) × (j ≡ m))
+    ((all : C) × (greatest ≡ Some (length outputs)) × Accumulates into.takes before outputs all
+    × (answer ≡ Ok all) × (t ≡ u) × (j ≡ m))
     -- an item backtracks and there are enough: back before it
-    ⊎ (((all : C) × (x : Input T) × IsBelow greatest (length outputs) × (least ≤ length outputs) × run u m (Err backtrack) t x × Accumulates into.takes before outputs all × (answer ≡ Ok all) × (j ≡ back_at m.left x))
+    ⊎ (((all : C) × (x : Input T) × IsBelow greatest (length outputs) × (least ≤ length outputs)
+    × run u m (Err backtrack) t x × Accumulates into.takes before outputs all
+    × (answer ≡ Ok all) × (j ≡ back_at m.left x))
     -- an item fails: by another kind, or too early
-    ⊎ (((k : Kind) × (some : C) × IsBelow greatest (length outputs) × run u m (Err k) t j × (k ≡ backtrack → length outputs < least) × Accumulates into.takes before outputs some × (answer ≡ Err k))
+    ⊎ (((k : Kind) × (some : C) × IsBelow greatest (length outputs) × run u m (Err k) t j
+    × (k ≡ backtrack → length outputs < least)
+    × Accumulates into.takes before outputs some × (answer ≡ Err k))
     -- an item consumes nothing
-    ⊎ (((o : O) × (some : C) × IsBelow greatest (length outputs) × run u m (Ok o) t j × (j.left.tokens ≡ m.left.tokens) × Accumulates into.takes before outputs some × (answer ≡ Err asserted))
+    ⊎ (((o : O) × (some : C) × IsBelow greatest (length outputs) × run u m (Ok o) t j
+    × (j.left.tokens ≡ m.left.tokens) × Accumulates into.takes before outputs some
+    × (answer ≡ Err assert_kind))
     -- an item consumes, and is one too many for the memory
-    ⊎ ((o : O) × (some : C) × IsBelow greatest (length outputs) × run u m (Ok o) t j × (length j.left.tokens < length m.left.tokens) × Accumulates into.takes before outputs some × into.grows some × (answer ≡ Err memory)))))
+    ⊎ ((o : O) × (some : C) × IsBelow greatest (length outputs) × run u m (Ok o) t j
+    × (length j.left.tokens < length m.left.tokens)
+    × Accumulates into.takes before outputs some × into.grows some
+    × (answer ≡ Err memory)))))
 
 -- A chain of items, and what ended it.
-abbrev pub ItemsRun : {S T O C : Type 0} → Runs S T O → Accumulator C O → Kind → ℕ → Option ℕ → C → S → Input T → Answer C → S → Input T → Type 0
-ItemsRun {S} {T} {O} {C} run into asserted least greatest before s i answer t j =
-    (outputs : List O) × (u : S) × (m : Input T) × Chain run s i outputs u m × RepeatEnds run into asserted least greatest before outputs u m answer t j
+abbrev pub ItemsRun : {S T O C : Type 0} → Runs S T O → Accumulator C O → Kind → ℕ → Option ℕ
+    → C → S → Input T → Answer C → S → Input T → Type 0
+ItemsRun {S} {T} {O} {C} run into assert_kind least greatest before s i answer t j =
+    (outputs : List O) × (u : S) × (m : Input T) × Chain run s i outputs u m
+    × RepeatEnds run into assert_kind least greatest before outputs u m answer t j
 
 -- One item or more: the first may consume nothing, and the accumulator is made behind it.
-abbrev pub RepeatOneRuns : {S T O C : Type 0} → Runs S T O → Accumulator C O → Kind → S → Input T → Answer C → S → Input T → Type 0
-RepeatOneRuns {S} {T} {O} {C} run into asserted s i answer t j =
+abbrev pub RepeatOneRuns : {S T O C : Type 0} → Runs S T O → Accumulator C O → Kind → S
+    → Input T → Answer C → S → Input T → Type 0
+RepeatOneRuns {S} {T} {O} {C} run into assert_kind s i answer t j =
     -- the first item fails
     ((k : Kind) × run s i (Err k) t j × (answer ≡ Err k))
     -- it is followed by others
-    ⊎ (((o : O) × (v : S) × (n : Input T) × (empty : C) × (one : C) × run s i (Ok o) v n × into.starts None empty × into.takes empty o one × ItemsRun run into asserted 0 None one v n answer t j)
+    ⊎ (((o : O) × (v : S) × (n : Input T) × (empty : C) × (one : C) × run s i (Ok o) v n
+    × into.starts None empty × into.takes empty o one
+    × ItemsRun run into assert_kind 0 None one v n answer t j)
     -- there is no memory for an accumulator, or for the first item in it
-    ⊎ ((o : O) × run s i (Ok o) t j × (into.start_grows None ⊎ ((empty : C) × into.starts None empty × into.grows empty)) × (answer ≡ Err memory)))
+    ⊎ ((o : O) × run s i (Ok o) t j
+    × (into.start_grows None ⊎ ((empty : C) × into.starts None empty × into.grows empty))
+    × (answer ≡ Err memory)))
 
 -- how many items an accumulator is made for: the least number, in a repetition with a greatest one
 abbrev pub capacity_of : ℕ → Option ℕ → Option ℕ
@@ -54,23 +73,31 @@ capacity_of least None = None
 capacity_of least (Some most) = Some least
 
 -- At least `least` items and at most the greatest number.
-abbrev pub RepeatManyRuns : {S T O C : Type 0} → Runs S T O → Accumulator C O → Kind → ℕ → Option ℕ → S → Input T → Answer C → S → Input T → Type 0
-RepeatManyRuns {S} {T} {O} {C} run into asserted least greatest s i answer t j =
+abbrev pub RepeatManyRuns : {S T O C : Type 0} → Runs S T O → Accumulator C O → Kind → ℕ
+    → Option ℕ → S → Input T → Answer C → S → Input T → Type 0
+RepeatManyRuns {S} {T} {O} {C} run into assert_kind least greatest s i answer t j =
     -- the greatest number is below the least
-    ((most : ℕ) × (greatest ≡ Some most) × (most < least) × (answer ≡ Err asserted) × (t ≡ s) × (j ≡ i))
+    ((most : ℕ) × (greatest ≡ Some most) × (most < least) × (answer ≡ Err assert_kind) × (t ≡ s)
+    × (j ≡ i))
     -- there is no memory for an accumulator
-    ⊎ ((IsWithin greatest least × into.start_grows (capacity_of least greatest) × (answer ≡ Err memory) × (t ≡ s) × (j ≡ i))
+    ⊎ ((IsWithin greatest least × into.start_grows (capacity_of least greatest)
+    × (answer ≡ Err memory) × (t ≡ s) × (j ≡ i))
     -- the items
-    ⊎ ((empty : C) × IsWithin greatest least × into.starts (capacity_of least greatest) empty × ItemsRun run into asserted least greatest empty s i answer t j))
+    ⊎ ((empty : C) × IsWithin greatest least × into.starts (capacity_of least greatest) empty
+    × ItemsRun run into assert_kind least greatest empty s i answer t j))
 
 -- A repetition: the form `1..` has its own rule for the first item.
-abbrev pub RepeatRuns : {S T O C : Type 0} → Runs S T O → Accumulator C O → Kind → ℕ → Option ℕ → S → Input T → Answer C → S → Input T → Type 0
-RepeatRuns {S} {T} {O} {C} run into asserted least greatest s i answer t j =
-    ((least ≡ 1) × (greatest ≡ None) × RepeatOneRuns run into asserted s i answer t j)
-    ⊎ (((least ≡ 1) × (greatest ≡ None) → ⊥) × RepeatManyRuns run into asserted least greatest s i answer t j)
+abbrev pub RepeatRuns : {S T O C : Type 0} → Runs S T O → Accumulator C O → Kind → ℕ → Option ℕ
+    → S → Input T → Answer C → S → Input T → Type 0
+RepeatRuns {S} {T} {O} {C} run into assert_kind least greatest s i answer t j =
+    ((least ≡ 1) × (greatest ≡ None) × RepeatOneRuns run into assert_kind s i answer t j)
+    ⊎ (((least ≡ 1) × (greatest ≡ None) → ⊥)
+    × RepeatManyRuns run into assert_kind least greatest s i answer t j)
 
 -- A repetition as often as a range says, which stays as it is.
-abbrev pub RangedRuns : {S T O C : Type 0} → Runs S T O → Accumulator C O → Kind → Runs (S × Range) T C
-RangedRuns run into asserted s i answer t j =
-    RepeatRuns run into asserted s.1.start_inclusive (greatest_of s.1.start_inclusive s.1.end_inclusive) s.0 i answer t.0 j
+abbrev pub RangedRuns : {S T O C : Type 0} → Runs S T O → Accumulator C O → Kind
+    → Runs (S × Range) T C
+RangedRuns run into assert_kind s i answer t j =
+    RepeatRuns run into assert_kind s.1.start_inclusive
+    (greatest_of s.1.start_inclusive s.1.end_inclusive) s.0 i answer t.0 j
     × (t.1 ≡ s.1)

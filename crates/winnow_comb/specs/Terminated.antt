@@ -12,5 +12,6 @@ abbrev pub terminated_ignored : {P1 P2 I O1 O2 E : Type 0} → Terminated P1 P2 
 terminated_ignored s = s.ignored
 
 -- A run of two children, with the output of the first.
-abbrev pub TerminatedRuns : {S1 S2 T O1 O2 : Type 0} → Runs S1 T O1 → Runs S2 T O2 → Runs (S1 × S2) T O1
+abbrev pub TerminatedRuns : {S1 S2 T O1 O2 : Type 0} → Runs S1 T O1 → Runs S2 T O2
+    → Runs (S1 × S2) T O1
 TerminatedRuns run1 run2 = BothRuns (λ o1 o2. o1) run1 run2

@@ -6,8 +6,13 @@ use Rattle.streams.specs.Reading.{Reading}
 
 -- an input that is the same is an end
 pub same_ends : {T L : Type 0} (reading : Reading T L) (i j : Input T) → j ≡ i → IsEndOf reading j i
-same_ends reading i j same = let P : Input _ → Type 0 = λ x. IsEndOf reading x i in subst P (sym same) (is_end_of_refl reading i)
+same_ends reading i j same =
+    let P : Input _ → Type 0 = λ x. IsEndOf reading x i
+    in subst P (sym same) (is_end_of_refl reading i)
 
 -- back at the start behind a run that left an end
-pub back_ends : {T L : Type 0} (reading : Reading T L) (i a j : Input T) → j ≡ back_at i.left a → IsEndOf reading a i → IsEndOf reading j i
-back_ends reading i a j same ends = let P : Input _ → Type 0 = λ x. IsEndOf reading x i in subst P (sym same) (is_end_of_back refl ends)
+pub back_ends : {T L : Type 0} (reading : Reading T L) (i a j : Input T) → j ≡ back_at i.left a
+    → IsEndOf reading a i → IsEndOf reading j i
+back_ends reading i a j same ends =
+    let P : Input _ → Type 0 = λ x. IsEndOf reading x i
+    in subst P (sym same) (is_end_of_back refl ends)

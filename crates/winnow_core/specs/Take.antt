@@ -16,6 +16,8 @@ take_parser s = s.parser
 abbrev pub TakeRuns : {S T L O : Type 0} → Reading T L → Runs S T O → Runs S T L
 TakeRuns {S} {T} {L} {O} reading run s i answer t j =
     -- the child succeeds
-    ((o : O) × (front : List T) × (slice : L) × run s i (Ok o) t j × (i.left.tokens ≡ front ++ j.left.tokens) × reading.shows slice front × (answer ≡ Ok slice))
+    ((o : O) × (front : List T) × (slice : L) × run s i (Ok o) t j
+    × (i.left.tokens ≡ front ++ j.left.tokens) × reading.shows slice front
+    × (answer ≡ Ok slice))
     -- the child fails
     ⊎ ((k : Kind) × run s i (Err k) t j × (answer ≡ Err k))

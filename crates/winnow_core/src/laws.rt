@@ -26,7 +26,8 @@ pub fn verify_map_goes_back<
     O2,
     E: ParserError<I>,
 >()
-    ensures { GoesBackOnRefusal (P.meaning E.form) (⟦<VerifyMap<P, G, I, O, O2, E> as Parser<I, O2, E>>⟧.meaning E.form) }
+    ensures { GoesBackOnRefusal (P.meaning E.form)
+        (⟦<VerifyMap<P, G, I, O, O2, E> as Parser<I, O2, E>>⟧.meaning E.form) }
 {}
 
 /// A parser over a stream has, on each input, the runs of the like parser over a stream that is
@@ -41,7 +42,8 @@ pub fn a_complete_stream_is_answered_as_the_plain_one<
     E: ParserError<I>,
     F: ParserError<J>,
 >()
-    ensures { E.form ≡ F.form → AnswersAlike P.state Q.state P.like (P.meaning E.form) (Q.meaning F.form) }
+    ensures { E.form ≡ F.form
+        → AnswersAlike P.state Q.state P.like (P.meaning E.form) (Q.meaning F.form) }
 {}
 
 /// Over bytes, the slice that [`take`](crate::parser::Parser::take) answers and then the rest are
@@ -52,7 +54,8 @@ pub fn taken_bytes_and_the_rest_are_the_input<
     O: Drop,
     E: ParserError<&'a [u8]>,
 >()
-    ensures { TakesFromTheFront (λ slice. slice.now) (⟦<Take<P, &'a [u8], O, E> as Parser<&'a [u8], &'a [u8], E>>⟧.meaning E.form) }
+    ensures { TakesFromTheFront (λ slice. slice.now)
+        (⟦<Take<P, &'a [u8], O, E> as Parser<&'a [u8], &'a [u8], E>>⟧.meaning E.form) }
 {}
 
 /// Over text, the slice that [`take`](crate::parser::Parser::take) answers and then the rest are
@@ -63,7 +66,8 @@ pub fn taken_text_and_the_rest_are_the_input<
     O: Drop,
     E: ParserError<&'a str>,
 >()
-    ensures { TakesFromTheFront (λ slice. chars slice.now) (⟦<Take<P, &'a str, O, E> as Parser<&'a str, &'a str, E>>⟧.meaning E.form) }
+    ensures { TakesFromTheFront (λ slice. chars slice.now)
+        (⟦<Take<P, &'a str, O, E> as Parser<&'a str, &'a str, E>>⟧.meaning E.form) }
 {}
 
 /// Over a list of tokens, the slice that [`take`](crate::parser::Parser::take) answers and then the
@@ -75,5 +79,7 @@ pub fn taken_tokens_and_the_rest_are_the_input<
     O: Drop,
     E: ParserError<TokenSlice<'t, T>>,
 >()
-    ensures { TakesFromTheFront (λ slice. slice.now) (⟦<Take<P, TokenSlice<'t, T>, O, E> as Parser<TokenSlice<'t, T>, &'t [T], E>>⟧.meaning E.form) }
+    ensures { TakesFromTheFront (λ slice. slice.now)
+        (⟦<Take<P, TokenSlice<'t, T>, O, E> as Parser<TokenSlice<'t, T>, &'t [T], E>>⟧.meaning
+        E.form) }
 {}

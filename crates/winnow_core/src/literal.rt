@@ -17,7 +17,8 @@ pub fn take_literal<T, I: StreamIsPartial + Compare<T>, E: ParserError<I>>(
     input: &mut I,
     literal: T,
 ) -> Result<I::Slice, E>
-    ensures ran { LiteralRuns I.reading E.form (I.spells literal) (λ slice. slice) (I.view input.old) (answer_by E.kind result) (I.view input.new) }
+    ensures ran { LiteralRuns I.reading E.form (I.spells literal) (λ slice. slice)
+        (I.view input.old) (answer_by E.kind result) (I.view input.new) }
     ensures ends { IsEndOf I.reading (I.view input.new) (I.view input.old) }
 {
     match input.compare(literal) {

@@ -54,7 +54,8 @@ pub trait Parser<I: Stream, O, E: ParserError<I>> {
     fn parse_next(&mut self, input: &mut I) -> Result<O, E>
         requires { can_parse self.old }
         ensures again { can_parse self.new }
-        ensures ran { meaning E.form (state self.old) (I.view input.old) (answer_by E.kind result) (state self.new) (I.view input.new) }
+        ensures ran { meaning E.form (state self.old) (I.view input.old)
+            (answer_by E.kind result) (state self.new) (I.view input.new) }
         ensures ends { IsEndOf I.reading (I.view input.new) (I.view input.old) };
 
     /// Parses all of `input`: the parser is run, and then nothing may be left.
@@ -74,7 +75,9 @@ pub trait Parser<I: Stream, O, E: ParserError<I>> {
         requires callable { can_parse self.old }
         requires whole { I.supports_partial ≡ false }
         ensures again { can_parse self.new }
-        ensures ran { ParsesWhole I.view I.reading.units E.inner_kind (I.view input).left (λ answer j. meaning E.form (state self.old) (I.view input) answer (state self.new) j) result }
+        ensures ran { ParsesWhole I.view I.reading.units E.inner_kind (I.view input).left
+            (λ answer j. meaning E.form (state self.old) (I.view input) answer
+            (state self.new) j) result }
     {
         let mut input = input;
         let start = input.checkpoint();
@@ -102,7 +105,9 @@ pub trait Parser<I: Stream, O, E: ParserError<I>> {
         Self: Sized,
         requires { can_parse self.old }
         ensures again { can_parse self.new }
-        ensures ran { PeekAnswers I.view E.kind (λ answer j. meaning E.form (state self.old) (I.view input) answer (state self.new) j) result }
+        ensures ran { PeekAnswers I.view E.kind
+            (λ answer j. meaning E.form (state self.old) (I.view input) answer
+            (state self.new) j) result }
     {
         let mut input = input;
         match self.parse_next(&mut input) {
@@ -230,7 +235,8 @@ fn fault_at<I: Stream, E: ParserError<I>>(
     error: E,
 ) -> ParseFault<I, E::Inner>
     requires { Remains (I.view input).left (I.seen start) }
-    ensures { IsFaultAt I.view I.reading.units E.inner_kind (I.seen start) (I.view input) (E.kind error) result }
+    ensures { IsFaultAt I.view I.reading.units E.inner_kind (I.seen start) (I.view input)
+        (E.kind error) result }
 {
     match error.into_inner() {
         Ok(inner) => ParseFault::Refused(ParseError::new(input, start, inner)),

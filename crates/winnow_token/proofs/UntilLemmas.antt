@@ -1,5 +1,6 @@
 -- Offsets of beginnings of the same tokens.
-use Rattle.std.proofs.Common.{◌≡◌, ◌≤◌, ◌<◌, ◌+◌, ◌-◌, ℕ, false, List, [], ◌∷◌, ◌++◌, length, take, drop, sym, ap, ◌∙◌, arith, inl, inr, length-append}
+use Rattle.std.proofs.Common.{◌≡◌, ◌≤◌, ◌<◌, ◌+◌, ◌-◌, ℕ, false, List, [], ◌∷◌, ◌++◌, length, take}
+use Rattle.std.proofs.Common.{drop, sym, ap, ◌∙◌, arith, inl, inr, length-append}
 use Rattle.std.proofs.lemmas.Bool.{cases_lt, false≢true, leb-true, le-leb}
 use Rattle.std.proofs.Math.Dec.{leb}
 use Rattle.std.proofs.lemmas.List.{take-append-drop, take-append-le, length-take-le}
@@ -8,12 +9,15 @@ use Rattle.streams.specs.Reading.{Reading, units-nil, units-zero}
 use Rattle.winnow_token.specs.Before.{SaysAtLeast, SaysAtMost}
 
 -- some more tokens take some more units
-more_units : {T S : Type 0} (reading : Reading T S) (xs ys : List T) → 0 < length ys → reading.units xs < reading.units (xs ++ ys)
+more_units : {T S : Type 0} (reading : Reading T S) (xs ys : List T) → 0 < length ys
+    → reading.units xs < reading.units (xs ++ ys)
 more_units reading xs [] h = absurd (omega arith)
-more_units reading xs (y ∷ ys) h = omega (arith, reading.units_add xs (y ∷ ys), reading.units_positive y ys)
+more_units reading xs (y ∷ ys) h =
+    omega (arith, reading.units_add xs (y ∷ ys), reading.units_positive y ys)
 
 -- fewer tokens take no more units
-pub fewer_take_less : {T S : Type 0} (reading : Reading T S) (front rest : List T) (n : ℕ) → n ≤ length front → reading.units (take n (front ++ rest)) ≤ reading.units front
+pub fewer_take_less : {T S : Type 0} (reading : Reading T S) (front rest : List T) (n : ℕ)
+    → n ≤ length front → reading.units (take n (front ++ rest)) ≤ reading.units front
 fewer_take_less reading front rest n le =
     omega (
       arith,
@@ -23,9 +27,16 @@ fewer_take_less reading front rest n le =
     )
 
 -- and fewer than all take less
-pub fewer_take_fewer : {T S : Type 0} (reading : Reading T S) (front rest : List T) (n : ℕ) → n < length front → reading.units (take n (front ++ rest)) < reading.units front
+pub fewer_take_fewer : {T S : Type 0} (reading : Reading T S) (front rest : List T) (n : ℕ)
+    → n < length front → reading.units (take n (front ++ rest)) < reading.units front
 fewer_take_fewer reading front rest n lt =
-    let some : 0 < length (drop n front) = omega (arith, ap (λ l. length l) (take-append-drop n front), length-append (take n front) (drop n front), length-take-le n front (omega (arith, lt))) in
+    let some : 0 < length (drop n front) =
+    omega (
+      arith,
+      ap (λ l. length l) (take-append-drop n front),
+      length-append (take n front) (drop n front),
+      length-take-le n front (omega (arith, lt)),
+    ) in
     omega (
       arith,
       ap reading.units (take-append-le n front rest (omega (arith, lt))),
@@ -34,57 +45,90 @@ fewer_take_fewer reading front rest n lt =
     )
 
 -- tokens beyond a beginning take more than it
-pub more_take_more : {T S : Type 0} (reading : Reading T S) (front rest : List T) (n : ℕ) → n ≤ length (front ++ rest) → length front < n → reading.units front < reading.units (take n (front ++ rest))
+pub more_take_more : {T S : Type 0} (reading : Reading T S) (front rest : List T) (n : ℕ)
+    → n ≤ length (front ++ rest) → length front < n
+    → reading.units front < reading.units (take n (front ++ rest))
 more_take_more reading front rest n le lt =
     let k = n - length front in
     let is : n ≡ length front + k = omega (arith, lt) in
-    let taken : take n (front ++ rest) ≡ front ++ take k rest = ap (λ m. take m (front ++ rest)) is ∙ take-append-add front rest k in
-    let some : 0 < length (take k rest) = omega (arith, lt, length-take-le k rest (omega (arith, le, length-append front rest, is))) in
+    let taken : take n (front ++ rest) ≡ front ++ take k rest =
+    ap (λ m. take m (front ++ rest)) is ∙ take-append-add front rest k in
+    let some : 0 < length (take k rest) =
+    omega (
+      arith,
+      lt,
+      length-take-le k rest
+          (omega (arith, le, length-append front rest, is)),
+    ) in
     omega (arith, ap reading.units taken, more_units reading front (take k rest) some)
 
 -- as many tokens take as many units
-pub same_take_same : {T S : Type 0} (reading : Reading T S) (front rest : List T) (n : ℕ) → n ≤ length (front ++ rest) → length front ≤ n → reading.units front ≤ reading.units (take n (front ++ rest))
+pub same_take_same : {T S : Type 0} (reading : Reading T S) (front rest : List T) (n : ℕ)
+    → n ≤ length (front ++ rest) → length front ≤ n
+    → reading.units front ≤ reading.units (take n (front ++ rest))
 same_take_same reading front rest n le ge = elim (cases_lt (length front) n) [
   | inl lt ↦ (let more = more_take_more reading front rest n le lt in omega (arith, more))
   | inr same ↦ (let k : n ≡ length front + 0 = omega (arith, ge, same) in
-      let taken : take n (front ++ rest) ≡ front ++ take 0 rest = ap (λ m. take m (front ++ rest)) k ∙ take-append-add front rest 0 in
+      let taken : take n (front ++ rest) ≡ front ++ take 0 rest =
+      ap (λ m. take m (front ++ rest)) k ∙ take-append-add front rest 0 in
       omega (arith, ap reading.units taken, reading.units_add front (take 0 rest)))
 ]
 
 -- The offset behind n tokens says whether at least n stand before another offset.
-pub says_at_least : {T S : Type 0} (reading : Reading T S) (tokens : List T) (n end offset : ℕ) → n ≤ length tokens → end ≡ reading.units (take n tokens) → SaysAtLeast reading.units tokens n offset (leb end offset)
+pub says_at_least : {T S : Type 0} (reading : Reading T S) (tokens : List T) (n end offset : ℕ)
+    → n ≤ length tokens → end ≡ reading.units (take n tokens)
+    → SaysAtLeast reading.units tokens n offset (leb end offset)
 says_at_least reading tokens n end offset le e front rest split at =
-    let there : end ≡ reading.units (take n (front ++ rest)) = e ∙ ap (λ l. reading.units (take n l)) split in
+    let there : end ≡ reading.units (take n (front ++ rest)) =
+    e ∙ ap (λ l. reading.units (take n l)) split in
     let within : n ≤ length (front ++ rest) = omega (arith, le, ap (λ l. length l) split) in (
       λ t. elim (cases_lt (length front) n) [
-        | inl lt ↦ absurd (let more = more_take_more reading front rest n within lt in let before = leb-true end offset t in omega (arith, more, before, there, at))
+        | inl lt ↦ absurd
+            (let more = more_take_more reading front rest n within lt
+            in let before = leb-true end offset t in omega (arith, more, before, there, at))
         | inr ge ↦ ge
       ],
-      λ few. le-leb end offset (let less = fewer_take_less reading front rest n few in omega (arith, less, there, at)),
+      λ few. le-leb end offset
+          (let less = fewer_take_less reading front rest n few
+          in omega (arith, less, there, at)),
     )
 
 -- There are fewer tokens than n.
-pub says_fewer : {T S : Type 0} (reading : Reading T S) (tokens : List T) (n offset : ℕ) → length tokens < n → SaysAtLeast reading.units tokens n offset false
-says_fewer reading tokens n offset lt front rest split at =
-    ((λ t. absurd (false≢true t)), (λ few. absurd (omega (arith, lt, few, ap (λ l. length l) split, length-append front rest))))
+pub says_fewer : {T S : Type 0} (reading : Reading T S) (tokens : List T) (n offset : ℕ)
+    → length tokens < n → SaysAtLeast reading.units tokens n offset false
+says_fewer reading tokens n offset lt front rest split at = (
+  (λ t. absurd (false≢true t)),
+  (λ few. absurd (omega
+      (arith, lt, few, ap (λ l. length l) split, length-append front rest))),
+)
 
 -- The offset behind n tokens says whether at most n stand before another offset.
-pub says_at_most : {T S : Type 0} (reading : Reading T S) (tokens : List T) (n end offset : ℕ) → n ≤ length tokens → end ≡ reading.units (take n tokens) → SaysAtMost reading.units tokens n offset (leb offset end)
+pub says_at_most : {T S : Type 0} (reading : Reading T S) (tokens : List T) (n end offset : ℕ)
+    → n ≤ length tokens → end ≡ reading.units (take n tokens)
+    → SaysAtMost reading.units tokens n offset (leb offset end)
 says_at_most reading tokens n end offset le e front rest split at =
-    let there : end ≡ reading.units (take n (front ++ rest)) = e ∙ ap (λ l. reading.units (take n l)) split in
+    let there : end ≡ reading.units (take n (front ++ rest)) =
+    e ∙ ap (λ l. reading.units (take n l)) split in
     let within : n ≤ length (front ++ rest) = omega (arith, le, ap (λ l. length l) split) in (
       λ t. elim (cases_lt n (length front)) [
-        | inl lt ↦ absurd (let fewer = fewer_take_fewer reading front rest n lt in let before = leb-true offset end t in omega (arith, fewer, before, there, at))
+        | inl lt ↦ absurd
+            (let fewer = fewer_take_fewer reading front rest n lt
+            in let before = leb-true offset end t in omega (arith, fewer, before, there, at))
         | inr ge ↦ ge
       ],
-      λ few. le-leb offset end (let more = same_take_same reading front rest n within few in omega (arith, more, there, at)),
+      λ few. le-leb offset end
+          (let more = same_take_same reading front rest n within few
+          in omega (arith, more, there, at)),
     )
 
 -- no tokens stand before the start
-pub none_before : {T S : Type 0} (reading : Reading T S) (front : List T) (start : ℕ) → start ≡ reading.units front → start ≡ 0 → length front ≡ 0
-none_before reading front start at zero = ap (λ l. length l) (units-zero reading front (sym at ∙ zero))
+pub none_before : {T S : Type 0} (reading : Reading T S) (front : List T) (start : ℕ)
+    → start ≡ reading.units front → start ≡ 0 → length front ≡ 0
+none_before reading front start at zero =
+    ap (λ l. length l) (units-zero reading front (sym at ∙ zero))
 
 -- some tokens stand before another place
-pub some_before : {T S : Type 0} (reading : Reading T S) (front : List T) (start : ℕ) → start ≡ reading.units front → (start ≡ 0 → ⊥) → 0 < length front
+pub some_before : {T S : Type 0} (reading : Reading T S) (front : List T) (start : ℕ)
+    → start ≡ reading.units front → (start ≡ 0 → ⊥) → 0 < length front
 some_before reading [] start at other = absurd (other (at ∙ units-nil reading))
 some_before reading (x ∷ xs) start at other = omega arith

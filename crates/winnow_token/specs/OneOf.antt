@@ -13,11 +13,13 @@ abbrev pub one_of_set : {S I E : Type 0} → OneOf S I E → S
 one_of_set s = s.set
 
 -- A run of the parser of one token that is a member.
-abbrev pub OneOfRuns : {K T S : Type 0} → (K → T) → Reading T S → ErrorForm → (K → Bool → Type 0) → Input T → Answer K → Input T → Type 0
+abbrev pub OneOfRuns : {K T S : Type 0} → (K → T) → Reading T S → ErrorForm
+    → (K → Bool → Type 0) → Input T → Answer K → Input T → Type 0
 OneOfRuns {K} {T} {S} seen reading form member i answer j =
     -- the first token is a member, and is taken
     ((x : K) × Passes reading (seen x ∷ []) i j × member x true × (answer ≡ Ok x))
     -- it is none
-    ⊎ (((x : K) × (rest : List T) × (i.left.tokens ≡ seen x ∷ rest) × member x false × (answer ≡ Err backtrack) × (j ≡ i))
+    ⊎ (((x : K) × (rest : List T) × (i.left.tokens ≡ seen x ∷ rest) × member x false
+    × (answer ≡ Err backtrack) × (j ≡ i))
     -- none is left
     ⊎ NoTokenRuns form i answer j)

@@ -7,7 +7,9 @@ pub mod Laws
 
 -- A run that takes all that is left, whether more may come or not.
 abbrev pub RestRuns : {T S : Type 0} → Reading T S → Input T → Answer S → Input T → Type 0
-RestRuns {T} {S} reading i answer j = (slice : S) × Takes reading i.left.tokens i slice j × (j.left.tokens ≡ []) × (answer ≡ Ok slice)
+RestRuns {T} {S} reading i answer j =
+    (slice : S) × Takes reading i.left.tokens i slice j × (j.left.tokens ≡ [])
+    × (answer ≡ Ok slice)
 
 -- A run that answers how many units are left, and takes none.
 abbrev pub RestLenRuns : {T S : Type 0} → Reading T S → Input T → Answer ℕ → Input T → Type 0

@@ -1,5 +1,6 @@
 -- Takes by count.
-use Rattle.std.specs.Prelude.{◌≡◌, ◌<◌, ◌-◌, ℕ, Bool, List, length, Some, None, Ok, Err, ◌⊎◌, if◌then◌else◌}
+use Rattle.std.specs.Prelude.{◌≡◌, ◌<◌, ◌-◌, ℕ, Bool, List, length, Some, None, Ok, Err, ◌⊎◌}
+use Rattle.std.specs.Prelude.{if◌then◌else◌}
 use Rattle.streams.specs.Input.{Input, Takes}
 use Rattle.streams.specs.Kind.{Kind}
 use Rattle.streams.specs.Reading.{Reading}
@@ -13,9 +14,13 @@ abbrev pub take_count : {I E : Type 0} → Take I E → ℕ
 take_count s = s.count
 
 -- A run of a take of n tokens. Where `counts` holds, a cut input says how many units are missing.
-abbrev pub TakeRuns : {T S : Type 0} → Reading T S → ErrorForm → Bool → ℕ → Input T → Answer S → Input T → Type 0
+abbrev pub TakeRuns : {T S : Type 0} → Reading T S → ErrorForm → Bool → ℕ → Input T → Answer S
+    → Input T → Type 0
 TakeRuns {T} {S} reading form counts n i answer j =
     -- there are as many, and they are taken
-    ((front : List T) × (slice : S) × (length front ≡ n) × Takes reading front i slice j × (answer ≡ Ok slice))
+    ((front : List T) × (slice : S) × (length front ≡ n) × Takes reading front i slice j
+    × (answer ≡ Ok slice))
     -- there are too few
-    ⊎ ((k : Kind) × (length i.left.tokens < n) × ShortKind form (if counts then Some (n - length i.left.tokens) else None) i k × (answer ≡ Err k) × (j ≡ i))
+    ⊎ ((k : Kind) × (length i.left.tokens < n)
+    × ShortKind form (if counts then Some (n - length i.left.tokens) else None) i k
+    × (answer ≡ Err k) × (j ≡ i))

@@ -1,4 +1,5 @@
--- Takes of the tokens outside a set: their runs are those of a take of the members of the set of the others.
+-- Takes of the tokens outside a set: their runs are those of a take of the members of the set of
+-- the others.
 use Rattle.stream_sets.specs.declared.range.Range.{Range}
 use Rattle.winnow_token.specs.declared.token.impls.take_till.TakeTill.{TakeTill}
 

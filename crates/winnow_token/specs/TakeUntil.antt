@@ -5,7 +5,7 @@ use Rattle.streams.specs.Kind.{Kind, backtrack}
 use Rattle.streams.specs.Reading.{Reading}
 use Rattle.stream_sets.specs.FindSlice.{Stands, IsFirstMatch}
 use Rattle.stream_sets.specs.Range.{IsWithin}
-use Rattle.stream_errors.specs.Form.{ErrorForm, Answer, asserted}
+use Rattle.stream_errors.specs.Form.{ErrorForm, Answer, assert_kind}
 use Rattle.winnow_core.specs.Short.{ShortKind}
 use Rattle.stream_sets.specs.declared.range.Range.{Range}
 use Rattle.winnow_token.specs.declared.token.impls.take_until.TakeUntil.{TakeUntil}
@@ -19,16 +19,31 @@ take_until_occurrences s = s.occurrences
 abbrev pub take_until_literal : {T I E : Type 0} → TakeUntil T I E → T
 take_until_literal s = s.literal
 
--- A run of a take of what stands before the first match, of at least `least` tokens and at most the greatest number. The forms `0..` and `1..` have no greatest number.
-abbrev pub TakeUntilRuns : {T S : Type 0} → Reading T S → ErrorForm → (List T → Type 0) → ℕ → Option ℕ → Input T → Answer S → Input T → Type 0
+-- A run of a take of what stands before the first match, of at least `least` tokens and at most the
+-- greatest number. The forms `0..` and `1..` have no greatest number.
+abbrev pub TakeUntilRuns : {T S : Type 0} → Reading T S → ErrorForm → (List T → Type 0) → ℕ
+    → Option ℕ → Input T → Answer S → Input T → Type 0
 TakeUntilRuns {T} {S} reading form sought least greatest i answer j =
     -- the greatest number is below the least
-    ((most : ℕ) × (greatest ≡ Some most) × (most < least) × (answer ≡ Err (asserted form)) × (j ≡ i))
+    ((most : ℕ) × (greatest ≡ Some most) × (most < least) × (answer ≡ Err (assert_kind form))
+    × (j ≡ i))
     -- nothing that is sought stands anywhere
-    ⊎ (((k : Kind) × IsWithin greatest least × ((front hit rest : List T) → Stands sought i.left.tokens front hit rest → ⊥) × ShortKind form None i k × (answer ≡ Err k) × (j ≡ i))
+    ⊎ (((k : Kind) × IsWithin greatest least
+    × ((front hit rest : List T) → Stands sought i.left.tokens front hit rest → ⊥)
+    × ShortKind form None i k × (answer ≡ Err k) × (j ≡ i))
     -- what stands before the first match is taken
-    ⊎ (((start : ℕ) × (end : ℕ) × (m : IsFirstMatch reading.units sought i.left.tokens start end) × (slice : S) × (least ≤ length m.front) × IsWithin greatest (length m.front) × Takes reading m.front i slice j × (answer ≡ Ok slice))
+    ⊎ (((start : ℕ) × (end : ℕ)
+    × (m : IsFirstMatch reading.units sought i.left.tokens start end) × (slice : S)
+    × (least ≤ length m.front) × IsWithin greatest (length m.front)
+    × Takes reading m.front i slice j × (answer ≡ Ok slice))
     -- it has too few tokens: with no greatest number it fails, else a later match could have enough
-    ⊎ (((start : ℕ) × (end : ℕ) × (m : IsFirstMatch reading.units sought i.left.tokens start end) × (k : Kind) × IsWithin greatest least × (length m.front < least) × (((greatest ≡ None) × (k ≡ backtrack)) ⊎ ((most : ℕ) × (greatest ≡ Some most) × ShortKind form None i k)) × (answer ≡ Err k) × (j ≡ i))
+    ⊎ (((start : ℕ) × (end : ℕ)
+    × (m : IsFirstMatch reading.units sought i.left.tokens start end) × (k : Kind)
+    × IsWithin greatest least × (length m.front < least)
+    × (((greatest ≡ None) × (k ≡ backtrack))
+    ⊎ ((most : ℕ) × (greatest ≡ Some most) × ShortKind form None i k))
+    × (answer ≡ Err k) × (j ≡ i))
     -- it has too many
-    ⊎ ((start : ℕ) × (end : ℕ) × (m : IsFirstMatch reading.units sought i.left.tokens start end) × (most : ℕ) × (greatest ≡ Some most) × (least ≤ most) × (most < length m.front) × (answer ≡ Err backtrack) × (j ≡ i)))))
+    ⊎ ((start : ℕ) × (end : ℕ) × (m : IsFirstMatch reading.units sought i.left.tokens start end)
+    × (most : ℕ) × (greatest ≡ Some most) × (least ≤ most) × (most < length m.front)
+    × (answer ≡ Err backtrack) × (j ≡ i)))))

@@ -1,11 +1,12 @@
 -- Takes by set.
-use Rattle.std.specs.Prelude.{◌≡◌, ◌<◌, ◌≤◌, ◌-◌, ℕ, max, Bool, true, false, List, ◌∷◌, ◌++◌, length, Option, Some, Ok, Err, ◌⊎◌}
+use Rattle.std.specs.Prelude.{◌≡◌, ◌<◌, ◌≤◌, ◌-◌, ℕ, max, Bool, true, false, List, ◌∷◌, ◌++◌}
+use Rattle.std.specs.Prelude.{length, Option, Some, Ok, Err, ◌⊎◌}
 use Rattle.std.specs.List.{All}
 use Rattle.streams.specs.Input.{Input, Takes}
 use Rattle.streams.specs.Kind.{backtrack}
 use Rattle.streams.specs.Reading.{Reading}
 use Rattle.stream_sets.specs.Range.{IsWithin, IsBelow}
-use Rattle.stream_errors.specs.Form.{ErrorForm, Answer, incompleted, asserted}
+use Rattle.stream_errors.specs.Form.{ErrorForm, Answer, incomplete_kind, assert_kind}
 use Rattle.stream_sets.specs.declared.range.Range.{Range}
 use Rattle.winnow_token.specs.declared.token.impls.take_while.TakeWhile.{TakeWhile}
 pub mod Laws
@@ -19,16 +20,20 @@ abbrev pub take_while_set : {S I E : Type 0} → TakeWhile S I E → S
 take_while_set s = s.set
 
 -- The tokens' longest beginning of members, of at most the greatest number.
-pub record IsLongest {T : Type 0} (member : T → Bool → Type 0) (greatest : Option ℕ) (tokens front rest : List T) : Type 0 where
+pub record IsLongest {T : Type 0} (member : T → Bool → Type 0) (greatest : Option ℕ)
+    (tokens front rest : List T) : Type 0 where
   pub splits : tokens ≡ front ++ rest
   pub members : All (λ t. member t true) front
   pub within : IsWithin greatest (length front)
-  pub stops : (x : T) (more : List T) → rest ≡ x ∷ more → member x false ⊎ (greatest ≡ Some (length front))
+  pub stops : (x : T) (more : List T) → rest ≡ x ∷ more
+      → member x false ⊎ (greatest ≡ Some (length front))
 
--- Whatever more input comes, that beginning ends there: before a token that is no member, or at the greatest number.
+-- Whatever more input comes, that beginning ends there: before a token that is no member, or at the
+-- greatest number.
 abbrev pub IsEnded : {T : Type 0} → (T → Bool → Type 0) → Option ℕ → List T → List T → Type 0
 IsEnded {T} member greatest front rest =
-    ((x : T) × (more : List T) × (rest ≡ x ∷ more) × member x false) ⊎ (greatest ≡ Some (length front))
+    ((x : T) × (more : List T) × (rest ≡ x ∷ more) × member x false)
+    ⊎ (greatest ≡ Some (length front))
 
 -- All tokens are members, and fewer than the greatest number.
 abbrev pub IsOpen : {T : Type 0} → (T → Bool → Type 0) → Option ℕ → List T → Type 0
@@ -39,13 +44,23 @@ abbrev pub missing_of : ℕ → ℕ → ℕ
 missing_of least left = max (least - left) 1
 
 -- A run of a take of members, of at least `least` tokens and at most the greatest number.
-abbrev pub TakeWhileRuns : {T S : Type 0} → Reading T S → ErrorForm → (T → Bool → Type 0) → ℕ → Option ℕ → Input T → Answer S → Input T → Type 0
+abbrev pub TakeWhileRuns : {T S : Type 0} → Reading T S → ErrorForm → (T → Bool → Type 0) → ℕ
+    → Option ℕ → Input T → Answer S → Input T → Type 0
 TakeWhileRuns {T} {S} reading form member least greatest i answer j =
     -- the greatest number is below the least
-    ((most : ℕ) × (greatest ≡ Some most) × (most < least) × (answer ≡ Err (asserted form)) × (j ≡ i))
+    ((most : ℕ) × (greatest ≡ Some most) × (most < least) × (answer ≡ Err (assert_kind form))
+    × (j ≡ i))
     -- a cut input is open
-    ⊎ ((IsWithin greatest least × IsOpen member greatest i.left.tokens × (i.side.cut ≡ true) × (answer ≡ Err (incompleted form (Some (missing_of least (reading.units i.left.tokens))))) × (j ≡ i))
+    ⊎ ((IsWithin greatest least × IsOpen member greatest i.left.tokens × (i.status.cut ≡ true)
+    × (answer ≡ Err (incomplete_kind form
+    (Some (missing_of least (reading.units i.left.tokens))))) × (j ≡ i))
     -- the longest beginning is taken
-    ⊎ (((front : List T) × (rest : List T) × (slice : S) × IsWithin greatest least × IsLongest member greatest i.left.tokens front rest × (IsEnded member greatest front rest ⊎ (i.side.cut ≡ false)) × (least ≤ length front) × Takes reading front i slice j × (answer ≡ Ok slice))
+    ⊎ (((front : List T) × (rest : List T) × (slice : S) × IsWithin greatest least
+    × IsLongest member greatest i.left.tokens front rest
+    × (IsEnded member greatest front rest ⊎ (i.status.cut ≡ false))
+    × (least ≤ length front) × Takes reading front i slice j × (answer ≡ Ok slice))
     -- it has too few tokens
-    ⊎ ((front : List T) × (rest : List T) × IsWithin greatest least × IsLongest member greatest i.left.tokens front rest × (IsEnded member greatest front rest ⊎ (i.side.cut ≡ false)) × (length front < least) × (answer ≡ Err backtrack) × (j ≡ i))))
+    ⊎ ((front : List T) × (rest : List T) × IsWithin greatest least
+    × IsLongest member greatest i.left.tokens front rest
+    × (IsEnded member greatest front rest ⊎ (i.status.cut ≡ false))
+    × (length front < least) × (answer ≡ Err backtrack) × (j ≡ i))))

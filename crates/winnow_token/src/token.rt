@@ -61,7 +61,8 @@ where
 /// count, and at least 1, in units. A greatest count below the least is an assert error.
 ///
 /// ```text
-/// take_while(Range::from(1..), Pred(|b: u8| b.is_ascii_digit())).parse_next(&mut b"12;".as_slice())
+/// let digit = Pred(|b: u8| b.is_ascii_digit());
+/// take_while(Range::from(1..), digit).parse_next(&mut b"12;".as_slice())
 ///     is Ok(b"12"), and b";" is left
 /// ```
 #[inline(always)]
@@ -119,7 +120,8 @@ where
 pub fn any<Input: StreamIsPartial, Error: ParserError<Input>>(
     input: &mut Input,
 ) -> Result<Input::Token, Error>
-    ensures ran { AnyRuns Input.seen_as Input.reading Error.form (Input.view input.old) (answer_by Error.kind result) (Input.view input.new) }
+    ensures ran { AnyRuns Input.seen_as Input.reading Error.form (Input.view input.old)
+        (answer_by Error.kind result) (Input.view input.new) }
     ensures ends { IsEndOf Input.reading (Input.view input.new) (Input.view input.old) }
 {
     match input.next_token() {
@@ -241,7 +243,8 @@ where
 pub fn rest<Input: Stream, Error: ParserError<Input>>(
     input: &mut Input,
 ) -> Result<Input::Slice, Error>
-    ensures ran { RestRuns Input.reading (Input.view input.old) (answer_by Error.kind result) (Input.view input.new) }
+    ensures ran { RestRuns Input.reading (Input.view input.old) (answer_by Error.kind result)
+        (Input.view input.new) }
     ensures ends { IsEndOf Input.reading (Input.view input.new) (Input.view input.old) }
 {
     Ok(input.finish())
@@ -254,7 +257,8 @@ pub fn rest<Input: Stream, Error: ParserError<Input>>(
 /// ```
 #[inline(always)]
 pub fn rest_len<Input: Stream, Error: ParserError<Input>>(input: &mut Input) -> Result<usize, Error>
-    ensures ran { RestLenRuns Input.reading (Input.view input.old) (answer_by Error.kind result) (Input.view input.new) }
+    ensures ran { RestLenRuns Input.reading (Input.view input.old) (answer_by Error.kind result)
+        (Input.view input.new) }
     ensures ends { IsEndOf Input.reading (Input.view input.new) (Input.view input.old) }
 {
     Ok(input.eof_offset())

@@ -1,6 +1,7 @@
 //! The parsers of a document's parts, as structs.
 ghost use Rattle.std.specs.Prelude.{⊤, ◌≡◌};
-ghost use Rattle.readers.specs.DocumentRuns.{CategoryRuns, CommentRuns, GapRuns, KeyRuns, KeyValueRuns, MarkRuns, ValueRuns};
+ghost use Rattle.readers.specs.DocumentRuns.{CategoryRuns, CommentRuns, GapRuns, KeyRuns};
+ghost use Rattle.readers.specs.DocumentRuns.{KeyValueRuns, MarkRuns, ValueRuns};
 
 use crate::ini::parts::{category, comment, gap, key, key_value, mark, value};
 use std::alloc::Allocator;

@@ -3,7 +3,8 @@ ghost use Rattle.std.specs.Prelude.{◌≡◌, MatchOption, List, ℕ};
 ghost use Rattle.std.specs.Str.{IsUtf8};
 ghost use Rattle.streams.specs.Bytes.{bytes_input};
 ghost use Rattle.stream_errors.specs.Form.{answer_by};
-ghost use Rattle.readers.specs.DocumentRuns.{CategoryRuns, CommentRuns, GapRuns, KeyRuns, KeyValueRuns, MarkRuns, ValueRuns, IsWithoutTrailing};
+ghost use Rattle.readers.specs.DocumentRuns.{CategoryRuns, CommentRuns, GapRuns, KeyRuns};
+ghost use Rattle.readers.specs.DocumentRuns.{KeyValueRuns, MarkRuns, ValueRuns, IsWithoutTrailing};
 
 use crate::ini::impls::{Comment, Key, Mark, Value};
 use std::alloc::Allocator;
@@ -20,7 +21,8 @@ use winnow_token::token::take_while;
 
 /// The bytes as text, where they are UTF-8.
 fn text(bytes: &[u8]) -> Option<&str>
-    ensures { MatchOption result (IsUtf8 bytes.now → ⊥) (λ s. (s.now ≡ bytes.now) × IsUtf8 bytes.now) }
+    ensures { MatchOption result (IsUtf8 bytes.now → ⊥)
+        (λ s. (s.now ≡ bytes.now) × IsUtf8 bytes.now) }
 {
     str::from_utf8(bytes).ok()
 }
@@ -40,7 +42,9 @@ fn without_trailing(bytes: &[u8]) -> &[u8]
 
 /// The value of these bytes, where it is UTF-8.
 fn value_text(bytes: &[u8]) -> Option<&str>
-    ensures { MatchOption result ((value : List ℕ) → IsWithoutTrailing bytes.now value → IsUtf8 value → ⊥) (λ s. IsWithoutTrailing bytes.now s.now × IsUtf8 s.now) }
+    ensures { MatchOption result
+        ((value : List ℕ) → IsWithoutTrailing bytes.now value → IsUtf8 value → ⊥)
+        (λ s. IsWithoutTrailing bytes.now s.now × IsUtf8 s.now) }
 {
     text(without_trailing(bytes))
 }
@@ -58,7 +62,9 @@ fn value_text(bytes: &[u8]) -> Option<&str>
 /// ini::category(&mut b"[a".as_slice())     backtracks, and b"[a" is left
 /// ```
 pub fn category<'i>(input: &mut &'i [u8]) -> Result<&'i str, ErrMode<InputError<&'i [u8]>>>
-    ensures { CategoryRuns (bytes_input input.old.now) (answer_by ⟦<ErrMode<InputError<&'i [u8]>> as HasKind>⟧.kind result) (bytes_input input.new.now) }
+    ensures { CategoryRuns (bytes_input input.old.now)
+        (answer_by ⟦<ErrMode<InputError<&'i [u8]>> as HasKind>⟧.kind result)
+        (bytes_input input.new.now) }
 {
     let at_name = *input;
     let mut name = delimited(
@@ -78,21 +84,27 @@ pub fn category<'i>(input: &mut &'i [u8]) -> Result<&'i str, ErrMode<InputError<
 
 /// The key of a pair: ASCII letters and digits.
 pub(super) fn key<'i>(input: &mut &'i [u8]) -> Result<&'i str, ErrMode<InputError<&'i [u8]>>>
-    ensures { KeyRuns (bytes_input input.old.now) (answer_by ⟦<ErrMode<InputError<&'i [u8]>> as HasKind>⟧.kind result) (bytes_input input.new.now) }
+    ensures { KeyRuns (bytes_input input.old.now)
+        (answer_by ⟦<ErrMode<InputError<&'i [u8]>> as HasKind>⟧.kind result)
+        (bytes_input input.new.now) }
 {
     Alphanumeric1.verify_map(text).parse_next(input)
 }
 
 /// `=`, with spaces and tabs round it.
 pub(super) fn mark<'i>(input: &mut &'i [u8]) -> Result<(), ErrMode<InputError<&'i [u8]>>>
-    ensures { MarkRuns (bytes_input input.old.now) (answer_by ⟦<ErrMode<InputError<&'i [u8]>> as HasKind>⟧.kind result) (bytes_input input.new.now) }
+    ensures { MarkRuns (bytes_input input.old.now)
+        (answer_by ⟦<ErrMode<InputError<&'i [u8]>> as HasKind>⟧.kind result)
+        (bytes_input input.new.now) }
 {
     (Space0, b'=', Space0).void().parse_next(input)
 }
 
 /// The value of a pair: the bytes before `;` and the end of the line, without what trails.
 pub(super) fn value<'i>(input: &mut &'i [u8]) -> Result<&'i str, ErrMode<InputError<&'i [u8]>>>
-    ensures { ValueRuns (bytes_input input.old.now) (answer_by ⟦<ErrMode<InputError<&'i [u8]>> as HasKind>⟧.kind result) (bytes_input input.new.now) }
+    ensures { ValueRuns (bytes_input input.old.now)
+        (answer_by ⟦<ErrMode<InputError<&'i [u8]>> as HasKind>⟧.kind result)
+        (bytes_input input.new.now) }
 {
     take_while(Range::from(0..), Pred(|b: u8| b != b';' && b != b'\n'))
         .verify_map(value_text)
@@ -116,7 +128,9 @@ pub(super) fn value<'i>(input: &mut &'i [u8]) -> Result<&'i str, ErrMode<InputEr
 pub fn key_value<'i>(
     input: &mut &'i [u8],
 ) -> Result<(&'i str, &'i str), ErrMode<InputError<&'i [u8]>>>
-    ensures { KeyValueRuns (bytes_input input.old.now) (answer_by ⟦<ErrMode<InputError<&'i [u8]>> as HasKind>⟧.kind result) (bytes_input input.new.now) }
+    ensures { KeyValueRuns (bytes_input input.old.now)
+        (answer_by ⟦<ErrMode<InputError<&'i [u8]>> as HasKind>⟧.kind result)
+        (bytes_input input.new.now) }
 {
     let at_key = *input;
     match terminated(separated_pair(Key, Mark, Value), opt(Comment)).parse_next(input) {
@@ -130,20 +144,25 @@ pub fn key_value<'i>(
 
 /// A comment: `;` and the bytes before the next line feed, which need not be text.
 pub(super) fn comment<'i>(input: &mut &'i [u8]) -> Result<(), ErrMode<InputError<&'i [u8]>>>
-    ensures { CommentRuns (bytes_input input.old.now) (answer_by ⟦<ErrMode<InputError<&'i [u8]>> as HasKind>⟧.kind result) (bytes_input input.new.now) }
+    ensures { CommentRuns (bytes_input input.old.now)
+        (answer_by ⟦<ErrMode<InputError<&'i [u8]>> as HasKind>⟧.kind result)
+        (bytes_input input.new.now) }
 {
     (b';', take_while(Range::from(0..), Pred(|b: u8| b != b'\n')))
         .void()
         .parse_next(input)
 }
 
-/// What stands between sections and pairs: any number of white space and comments, to the first byte
+/// What stands between sections and pairs: any number of white space and comments, to the first
+/// byte
 /// that begins neither. It never fails, and takes no memory.
 pub(super) fn gap<'i, A: Allocator + Copy>(
     alloc: A,
     input: &mut &'i [u8],
 ) -> Result<(), ErrMode<InputError<&'i [u8]>>>
-    ensures { GapRuns (bytes_input input.old.now) (answer_by ⟦<ErrMode<InputError<&'i [u8]>> as HasKind>⟧.kind result) (bytes_input input.new.now) }
+    ensures { GapRuns (bytes_input input.old.now)
+        (answer_by ⟦<ErrMode<InputError<&'i [u8]>> as HasKind>⟧.kind result)
+        (bytes_input input.new.now) }
 {
     repeat(alloc, Range::from(0..), alt((Multispace1.void(), Comment))).parse_next(input)
 }

@@ -19,7 +19,8 @@ use winnow_core::parser::Parser;
 /// the allocator of the list.
 ///
 /// ```text
-/// ini::document(alloc, b"[a]\nx=1")   is Ok of one Section with the name "a" and the pair ("x", "1")
+/// ini::document(alloc, b"[a]\nx=1")
+///     is Ok of one Section with the name "a" and the pair ("x", "1")
 /// ```
 #[derive(Debug, PartialEq, Drop)]
 pub struct Section<'i, A: Allocator> {
@@ -102,7 +103,8 @@ impl<'i, A: Allocator + Copy> Parser<
 
     ghost state = { λ _. tt };
 
-    ghost meaning = { λ _ _ i answer _ j. SectionsRuns (λ all. map section_text all.items) i answer j };
+    ghost meaning = { λ _ _ i answer _ j. SectionsRuns (λ all. map section_text all.items) i
+        answer j };
 
     ghost leaves_ends = { λ form s i answer t j r. r.0 };
 
@@ -115,7 +117,8 @@ impl<'i, A: Allocator + Copy> Parser<
     }
 }
 
-/// The parser of a document: a gap, and all sections. It is a struct of its own for the same reason.
+/// The parser of a document: a gap, and all sections. It is a struct of its own for the same
+/// reason.
 #[derive(Clone, Copy, Drop)]
 struct DocumentReader<A> {
     alloc: A,
@@ -130,7 +133,8 @@ impl<'i, A: Allocator + Copy> Parser<
 
     ghost state = { λ _. tt };
 
-    ghost meaning = { λ _ _ i answer _ j. DocumentRuns (λ all. map section_text all.items) i answer j };
+    ghost meaning = { λ _ _ i answer _ j. DocumentRuns (λ all. map section_text all.items) i
+        answer j };
 
     ghost leaves_ends = { λ form s i answer t j r. r.0 };
 
@@ -148,7 +152,8 @@ impl<'i, A: Allocator + Copy> Parser<
 /// [`key_value`](crate::ini::key_value) reads them, with white space and comments before, between
 /// and behind them. No pair stands before the first section.
 ///
-/// The answer is the sections in order, each with its pairs in order, repeats kept, as slices of the
+/// The answer is the sections in order, each with its pairs in order, repeats kept, as slices of
+/// the
 /// input. Other bytes are [`Fault::Refused`] at the place, in bytes from the start, where the first
 /// part begins that is no section, pair, white space or comment. Memory is taken for the lists
 /// alone, so for none where no section is read, and [`Fault::NoMemory`] is answered where a request
@@ -162,7 +167,9 @@ pub fn document<'i, A: Allocator + Copy>(
     alloc: A,
     input: &'i [u8],
 ) -> Result<Vec<Section<'i, A>, A>, Fault>
-    ensures { MatchResult result (λ sections. HasSections input.now (map section_text sections.items)) (λ fault. IsDocumentFault input.now fault) }
+    ensures { MatchResult result
+        (λ sections. HasSections input.now (map section_text sections.items))
+        (λ fault. IsDocumentFault input.now fault) }
 {
     match (DocumentReader { alloc }).parse(input) {
         Ok(sections) => Ok(sections),

@@ -1,5 +1,6 @@
 //! Whole reads and writes.
-ghost use Rattle.std.specs.Prelude.{◌≡◌, ◌+◌, ◌≤◌, ◌<◌, ◌^◌, ◌++◌, [], List, ℕ, true, length, IfOk, OnOk, IsTrue};
+ghost use Rattle.std.specs.Prelude.{◌≡◌, ◌+◌, ◌≤◌, ◌<◌, ◌^◌, ◌++◌, [], List, ℕ, true, length, IfOk};
+ghost use Rattle.std.specs.Prelude.{OnOk, IsTrue};
 ghost use Rattle.std.specs.Io.KnownBytes.{Consumes, Appends, IsAtEnd};
 ghost use Rattle.readers.specs.Program.{AppendsSome};
 
@@ -24,7 +25,8 @@ fn read_some<A: Allocator, R: Read>(
 ) -> Result<bool, ReadFault>
     requires positive { 0 < most }
     requires small { most ≤ CHUNK }
-    ensures bytes { (read : List ℕ) × (bytes.new.items ≡ bytes.old.items ++ read) × (length read ≤ most)
+    ensures bytes { (read : List ℕ) × (bytes.new.items ≡ bytes.old.items ++ read)
+        × (length read ≤ most)
         × Consumes (R.remaining input.old) (R.remaining input.new) read }
     ensures end { IfOk result (λ done. done ≡ true → IsAtEnd (R.remaining input.new)) }
 {
@@ -69,7 +71,8 @@ pub(super) fn read_up_to<A: Allocator, R: Read>(
 
 /// Writes all of `bytes`, and answers whether it could.
 pub(super) fn put<W: Write>(output: &mut W, bytes: &[u8]) -> bool
-    ensures all { IsTrue result → Appends (W.contents output.old) (W.contents output.new) bytes.now }
+    ensures all { IsTrue result
+        → Appends (W.contents output.old) (W.contents output.new) bytes.now }
     ensures some { AppendsSome (W.contents output.old) (W.contents output.new) bytes.now }
 {
     let mut rest = bytes;

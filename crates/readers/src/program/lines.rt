@@ -46,7 +46,8 @@ fn push_section<A: Allocator + Copy>(
     lines: &mut Vec<u8, A>,
     section: &Section<'_, A>,
 ) -> Result<(), AllocError>
-    ensures { OnOk result (lines.new.items ≡ lines.old.items ++ section_lines (section_text section.now)) }
+    ensures { OnOk result
+        (lines.new.items ≡ lines.old.items ++ section_lines (section_text section.now)) }
 {
     lines.extend_from_slice(b"section ")?;
     lines.extend_from_slice(section.name.as_bytes())?;

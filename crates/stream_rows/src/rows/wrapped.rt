@@ -8,7 +8,7 @@ use streams::partial::Partial;
 use streams::stream::{Location, Stream, StreamIsPartial, UpdateSlice};
 
 /// The flag is set, cleared, put back and cleared again, and no reset changes it.
-#[tactic(auto, using(streams::specs::Input::remains_of_start, streams::specs::Input::is_end_of_refl, streams::specs::Input::is_end_of_trans))]
+#[tactic(auto, using(streams::specs::Ends::ends_follow))]
 fn flagged<I: StreamIsPartial>(rt: &impl Abort, mut input: I) {
     same(rt, "is_partial_supported", I::is_partial_supported(), true);
     let start = input.checkpoint();
@@ -78,7 +78,7 @@ fn nested(rt: HostRuntime) {
 }
 
 /// The place behind a token, back at the start, and behind it again.
-#[tactic(auto, using(streams::specs::Input::remains_of_start, streams::specs::Input::is_end_of_refl, streams::specs::Input::is_end_of_trans))]
+#[tactic(auto, using(streams::specs::Ends::ends_follow))]
 fn goes_back<I: Location>(rt: &impl Abort, mut input: I) {
     let start = input.checkpoint();
     let _first = input.next_token();

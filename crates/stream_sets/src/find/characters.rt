@@ -3,7 +3,8 @@ ghost use Rattle.std.specs.Prelude.{◌≡◌, [], ◌∷◌, ◌⊎◌, length}
 ghost use Rattle.std.specs.Char.{encode_utf8};
 ghost use Rattle.std.specs.Str.{IsUtf8};
 ghost use Rattle.stream_sets.specs.FindSlice.{FindsSlice};
-ghost use Rattle.stream_sets.specs.FirstMatch.{literal_stays, two_stay, three_stay, two_characters_stay, three_characters_stay};
+ghost use Rattle.stream_sets.specs.FirstMatch.{literal_stays, two_stay, three_stay};
+ghost use Rattle.stream_sets.specs.FirstMatch.{two_characters_stay, three_characters_stay};
 ghost use Rattle.stream_sets.specs.Three.{IsOneOfThree};
 ghost use Rattle.streams.specs.Bytes.{bytes_reading};
 ghost use Rattle.streams.specs.Text.{text_reading};
@@ -15,8 +16,11 @@ use std::ops;
 /// Searches bytes for the UTF-8 of one of three characters.
 #[inline(always)]
 fn find_characters(all: &[u8], first: char, second: char, third: char) -> Option<ops::Range<usize>>
-    ensures utf8 { IsUtf8 (encode_utf8 first) × IsUtf8 (encode_utf8 second) × IsUtf8 (encode_utf8 third) }
-    ensures finds { FindsSlice length (IsOneOfThree (encode_utf8 first) (encode_utf8 second) (encode_utf8 third)) all.now result }
+    ensures utf8 { IsUtf8 (encode_utf8 first) × IsUtf8 (encode_utf8 second)
+        × IsUtf8 (encode_utf8 third) }
+    ensures finds { FindsSlice length
+        (IsOneOfThree (encode_utf8 first) (encode_utf8 second) (encode_utf8 third)) all.now
+        result }
 {
     find_several(
         all,
@@ -52,7 +56,8 @@ impl<'a> FindSlice<(char, char)> for &'a [u8] {
 
 /// A character stands for the bytes of its UTF-8.
 impl<'a> FindSlice<(char, char, char)> for &'a [u8] {
-    ghost sought = { λ t xs. IsOneOfThree (encode_utf8 t.0) (encode_utf8 t.1) (encode_utf8 t.2) xs };
+    ghost sought = { λ t xs. IsOneOfThree (encode_utf8 t.0) (encode_utf8 t.1) (encode_utf8 t.2)
+        xs };
 
     #[inline(always)]
     fn find_slice(&self, substr: (char, char, char)) -> Option<ops::Range<usize>> {

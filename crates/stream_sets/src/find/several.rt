@@ -11,7 +11,11 @@ use std::ops;
 /// How many bytes one of three texts takes that stands first, if one does.
 #[inline(always)]
 fn first_length(all: &[u8], first: &[u8], second: &[u8], third: &[u8]) -> Option<usize>
-    ensures { MatchOption result (StandsFirst (IsOneOfThree first.now second.now third.now) all.now → ⊥) (λ n. (front : List ℕ) × (rest : List ℕ) × IsOneOfThree first.now second.now third.now front × (all.now ≡ front ++ rest) × (n ≡ length front)) }
+    ensures { MatchOption result
+        (StandsFirst (IsOneOfThree first.now second.now third.now) all.now → ⊥)
+        (λ n. (front : List ℕ) × (rest : List ℕ)
+        × IsOneOfThree first.now second.now third.now front × (all.now ≡ front ++ rest)
+        × (n ≡ length front)) }
 {
     if let CompareResult::Ok(length) = compare_bytes(all, first) {
         return Some(length);

@@ -2,7 +2,8 @@
 //!
 //! Written by scripts/families.py: do not edit.
 ghost use Rattle.stream_errors.specs.Form.{answer_by};
-ghost use Rattle.stream_sets.specs.AsChar.{IsAlpha, IsDecDigit, IsHexDigit, IsOctDigit, IsAlphanum, IsSpace, IsMultispace};
+ghost use Rattle.stream_sets.specs.AsChar.{IsAlpha, IsDecDigit, IsHexDigit, IsOctDigit, IsAlphanum};
+ghost use Rattle.stream_sets.specs.AsChar.{IsSpace, IsMultispace};
 ghost use Rattle.streams.specs.Input.{IsEndOf};
 ghost use Rattle.winnow_ascii.specs.Class.{ClassRuns};
 
@@ -29,7 +30,8 @@ where
     Input: StreamIsPartial,
     Input::Token: AsChar,
     Error: ParserError<Input>,
-    ensures ran { ClassRuns IsAlpha 0 Input.Token.code Input.seen_as Input.reading Error.form (Input.view input.old) (answer_by Error.kind result) (Input.view input.new) }
+    ensures ran { ClassRuns IsAlpha 0 Input.Token.code Input.seen_as Input.reading Error.form
+        (Input.view input.old) (answer_by Error.kind result) (Input.view input.new) }
     ensures ends { IsEndOf Input.reading (Input.view input.new) (Input.view input.old) }
 {
     any_of(input, Letters)
@@ -51,7 +53,8 @@ where
     Input: StreamIsPartial,
     Input::Token: AsChar,
     Error: ParserError<Input>,
-    ensures ran { ClassRuns IsAlpha 1 Input.Token.code Input.seen_as Input.reading Error.form (Input.view input.old) (answer_by Error.kind result) (Input.view input.new) }
+    ensures ran { ClassRuns IsAlpha 1 Input.Token.code Input.seen_as Input.reading Error.form
+        (Input.view input.old) (answer_by Error.kind result) (Input.view input.new) }
     ensures ends { IsEndOf Input.reading (Input.view input.new) (Input.view input.old) }
 {
     some_of(input, Letters)
@@ -72,7 +75,8 @@ where
     Input: StreamIsPartial,
     Input::Token: AsChar,
     Error: ParserError<Input>,
-    ensures ran { ClassRuns IsDecDigit 0 Input.Token.code Input.seen_as Input.reading Error.form (Input.view input.old) (answer_by Error.kind result) (Input.view input.new) }
+    ensures ran { ClassRuns IsDecDigit 0 Input.Token.code Input.seen_as Input.reading Error.form
+        (Input.view input.old) (answer_by Error.kind result) (Input.view input.new) }
     ensures ends { IsEndOf Input.reading (Input.view input.new) (Input.view input.old) }
 {
     any_of(input, DecimalDigits)
@@ -94,7 +98,8 @@ where
     Input: StreamIsPartial,
     Input::Token: AsChar,
     Error: ParserError<Input>,
-    ensures ran { ClassRuns IsDecDigit 1 Input.Token.code Input.seen_as Input.reading Error.form (Input.view input.old) (answer_by Error.kind result) (Input.view input.new) }
+    ensures ran { ClassRuns IsDecDigit 1 Input.Token.code Input.seen_as Input.reading Error.form
+        (Input.view input.old) (answer_by Error.kind result) (Input.view input.new) }
     ensures ends { IsEndOf Input.reading (Input.view input.new) (Input.view input.old) }
 {
     some_of(input, DecimalDigits)
@@ -116,7 +121,8 @@ where
     Input: StreamIsPartial,
     Input::Token: AsChar,
     Error: ParserError<Input>,
-    ensures ran { ClassRuns IsHexDigit 0 Input.Token.code Input.seen_as Input.reading Error.form (Input.view input.old) (answer_by Error.kind result) (Input.view input.new) }
+    ensures ran { ClassRuns IsHexDigit 0 Input.Token.code Input.seen_as Input.reading Error.form
+        (Input.view input.old) (answer_by Error.kind result) (Input.view input.new) }
     ensures ends { IsEndOf Input.reading (Input.view input.new) (Input.view input.old) }
 {
     any_of(input, HexadecimalDigits)
@@ -139,7 +145,8 @@ where
     Input: StreamIsPartial,
     Input::Token: AsChar,
     Error: ParserError<Input>,
-    ensures ran { ClassRuns IsHexDigit 1 Input.Token.code Input.seen_as Input.reading Error.form (Input.view input.old) (answer_by Error.kind result) (Input.view input.new) }
+    ensures ran { ClassRuns IsHexDigit 1 Input.Token.code Input.seen_as Input.reading Error.form
+        (Input.view input.old) (answer_by Error.kind result) (Input.view input.new) }
     ensures ends { IsEndOf Input.reading (Input.view input.new) (Input.view input.old) }
 {
     some_of(input, HexadecimalDigits)
@@ -160,7 +167,8 @@ where
     Input: StreamIsPartial,
     Input::Token: AsChar,
     Error: ParserError<Input>,
-    ensures ran { ClassRuns IsOctDigit 0 Input.Token.code Input.seen_as Input.reading Error.form (Input.view input.old) (answer_by Error.kind result) (Input.view input.new) }
+    ensures ran { ClassRuns IsOctDigit 0 Input.Token.code Input.seen_as Input.reading Error.form
+        (Input.view input.old) (answer_by Error.kind result) (Input.view input.new) }
     ensures ends { IsEndOf Input.reading (Input.view input.new) (Input.view input.old) }
 {
     any_of(input, OctalDigits)
@@ -182,7 +190,8 @@ where
     Input: StreamIsPartial,
     Input::Token: AsChar,
     Error: ParserError<Input>,
-    ensures ran { ClassRuns IsOctDigit 1 Input.Token.code Input.seen_as Input.reading Error.form (Input.view input.old) (answer_by Error.kind result) (Input.view input.new) }
+    ensures ran { ClassRuns IsOctDigit 1 Input.Token.code Input.seen_as Input.reading Error.form
+        (Input.view input.old) (answer_by Error.kind result) (Input.view input.new) }
     ensures ends { IsEndOf Input.reading (Input.view input.new) (Input.view input.old) }
 {
     some_of(input, OctalDigits)
@@ -204,7 +213,8 @@ where
     Input: StreamIsPartial,
     Input::Token: AsChar,
     Error: ParserError<Input>,
-    ensures ran { ClassRuns IsAlphanum 0 Input.Token.code Input.seen_as Input.reading Error.form (Input.view input.old) (answer_by Error.kind result) (Input.view input.new) }
+    ensures ran { ClassRuns IsAlphanum 0 Input.Token.code Input.seen_as Input.reading Error.form
+        (Input.view input.old) (answer_by Error.kind result) (Input.view input.new) }
     ensures ends { IsEndOf Input.reading (Input.view input.new) (Input.view input.old) }
 {
     any_of(input, Alphanumerics)
@@ -227,7 +237,8 @@ where
     Input: StreamIsPartial,
     Input::Token: AsChar,
     Error: ParserError<Input>,
-    ensures ran { ClassRuns IsAlphanum 1 Input.Token.code Input.seen_as Input.reading Error.form (Input.view input.old) (answer_by Error.kind result) (Input.view input.new) }
+    ensures ran { ClassRuns IsAlphanum 1 Input.Token.code Input.seen_as Input.reading Error.form
+        (Input.view input.old) (answer_by Error.kind result) (Input.view input.new) }
     ensures ends { IsEndOf Input.reading (Input.view input.new) (Input.view input.old) }
 {
     some_of(input, Alphanumerics)
@@ -248,7 +259,8 @@ where
     Input: StreamIsPartial,
     Input::Token: AsChar,
     Error: ParserError<Input>,
-    ensures ran { ClassRuns IsSpace 0 Input.Token.code Input.seen_as Input.reading Error.form (Input.view input.old) (answer_by Error.kind result) (Input.view input.new) }
+    ensures ran { ClassRuns IsSpace 0 Input.Token.code Input.seen_as Input.reading Error.form
+        (Input.view input.old) (answer_by Error.kind result) (Input.view input.new) }
     ensures ends { IsEndOf Input.reading (Input.view input.new) (Input.view input.old) }
 {
     any_of(input, Spaces)
@@ -270,7 +282,8 @@ where
     Input: StreamIsPartial,
     Input::Token: AsChar,
     Error: ParserError<Input>,
-    ensures ran { ClassRuns IsSpace 1 Input.Token.code Input.seen_as Input.reading Error.form (Input.view input.old) (answer_by Error.kind result) (Input.view input.new) }
+    ensures ran { ClassRuns IsSpace 1 Input.Token.code Input.seen_as Input.reading Error.form
+        (Input.view input.old) (answer_by Error.kind result) (Input.view input.new) }
     ensures ends { IsEndOf Input.reading (Input.view input.new) (Input.view input.old) }
 {
     some_of(input, Spaces)
@@ -292,7 +305,9 @@ where
     Input: StreamIsPartial,
     Input::Token: AsChar,
     Error: ParserError<Input>,
-    ensures ran { ClassRuns IsMultispace 0 Input.Token.code Input.seen_as Input.reading Error.form (Input.view input.old) (answer_by Error.kind result) (Input.view input.new) }
+    ensures ran { ClassRuns IsMultispace 0 Input.Token.code Input.seen_as Input.reading
+        Error.form (Input.view input.old) (answer_by Error.kind result)
+        (Input.view input.new) }
     ensures ends { IsEndOf Input.reading (Input.view input.new) (Input.view input.old) }
 {
     any_of(input, Multispaces)
@@ -315,7 +330,9 @@ where
     Input: StreamIsPartial,
     Input::Token: AsChar,
     Error: ParserError<Input>,
-    ensures ran { ClassRuns IsMultispace 1 Input.Token.code Input.seen_as Input.reading Error.form (Input.view input.old) (answer_by Error.kind result) (Input.view input.new) }
+    ensures ran { ClassRuns IsMultispace 1 Input.Token.code Input.seen_as Input.reading
+        Error.form (Input.view input.old) (answer_by Error.kind result)
+        (Input.view input.new) }
     ensures ends { IsEndOf Input.reading (Input.view input.new) (Input.view input.old) }
 {
     some_of(input, Multispaces)

@@ -19,7 +19,8 @@ pub(crate) fn any_of<S: ContainsToken<I::Token> + Drop, I: StreamIsPartial, E: P
     set: S,
 ) -> Result<I::Slice, E>
     requires { S.can_test set }
-    ensures ran { TakeWhileRuns I.reading E.form (AnswersSeen I.seen_as (S.tells set)) 0 None (I.view input.old) (answer_by E.kind result) (I.view input.new) }
+    ensures ran { TakeWhileRuns I.reading E.form (AnswersSeen I.seen_as (S.tells set)) 0 None
+        (I.view input.old) (answer_by E.kind result) (I.view input.new) }
     ensures ends { IsEndOf I.reading (I.view input.new) (I.view input.old) }
 {
     take_while::<_, I, E>(Range::from(0..), set).parse_next(input)
@@ -32,7 +33,8 @@ pub(crate) fn some_of<S: ContainsToken<I::Token> + Drop, I: StreamIsPartial, E: 
     set: S,
 ) -> Result<I::Slice, E>
     requires { S.can_test set }
-    ensures ran { TakeWhileRuns I.reading E.form (AnswersSeen I.seen_as (S.tells set)) 1 None (I.view input.old) (answer_by E.kind result) (I.view input.new) }
+    ensures ran { TakeWhileRuns I.reading E.form (AnswersSeen I.seen_as (S.tells set)) 1 None
+        (I.view input.old) (answer_by E.kind result) (I.view input.new) }
     ensures ends { IsEndOf I.reading (I.view input.new) (I.view input.old) }
 {
     take_while::<_, I, E>(Range::from(1..), set).parse_next(input)

@@ -6,6 +6,7 @@ use Rattle.winnow_core.specs.Runs.{Runs, LeaveEnds}
 use Rattle.winnow_comb.specs.BacktrackErr.{BacktrackErrRuns}
 
 -- they leave an end, where those of the child do
-pub backtrack_err_ends : {S T L O : Type 0} (reading : Reading T L) (run : Runs S T O) → LeaveEnds reading run → LeaveEnds reading (BacktrackErrRuns run)
+pub backtrack_err_ends : {S T L O : Type 0} (reading : Reading T L) (run : Runs S T O)
+    → LeaveEnds reading run → LeaveEnds reading (BacktrackErrRuns run)
 backtrack_err_ends reading run ends s i answer t j (inl (o, r, e)) = ends s i (Ok o) t j r
 backtrack_err_ends reading run ends s i answer t j (inr (k, r, e)) = ends s i (Err k) t j r

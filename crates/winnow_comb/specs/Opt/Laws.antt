@@ -8,7 +8,9 @@ use Rattle.winnow_core.specs.Runs.{Runs, LeaveEnds}
 use Rattle.winnow_comb.specs.Opt.{OptRuns}
 
 -- they leave an end, where those of the child do
-pub opt_ends : {S T L O : Type 0} (reading : Reading T L) (run : Runs S T O) → LeaveEnds reading run → LeaveEnds reading (OptRuns run)
+pub opt_ends : {S T L O : Type 0} (reading : Reading T L) (run : Runs S T O)
+    → LeaveEnds reading run → LeaveEnds reading (OptRuns run)
 opt_ends reading run ends s i answer t j (inl (o, r, e)) = ends s i (Ok o) t j r
-opt_ends reading run ends s i answer t j (inr (inl (m, r, e, same))) = back_ends reading i m j same (ends s i (Err backtrack) t m r)
+opt_ends reading run ends s i answer t j (inr (inl (m, r, e, same))) =
+    back_ends reading i m j same (ends s i (Err backtrack) t m r)
 opt_ends reading run ends s i answer t j (inr (inr (k, r, other, e))) = ends s i (Err k) t j r

@@ -192,7 +192,8 @@ where
 /// ```
 #[inline(always)]
 pub fn empty<Input: Stream, Error: ParserError<Input>>(_input: &mut Input) -> Result<(), Error>
-    ensures ran { EmptyRuns (Input.view _input.old) (answer_by Error.kind result) (Input.view _input.new) }
+    ensures ran { EmptyRuns (Input.view _input.old) (answer_by Error.kind result)
+        (Input.view _input.new) }
     ensures ends { IsEndOf Input.reading (Input.view _input.new) (Input.view _input.old) }
 {
     Ok(())
@@ -207,7 +208,8 @@ pub fn empty<Input: Stream, Error: ParserError<Input>>(_input: &mut Input) -> Re
 pub fn fail<Input: Stream, Output, Error: ParserError<Input>>(
     input: &mut Input,
 ) -> Result<Output, Error>
-    ensures ran { FailRuns (Input.view input.old) (answer_by Error.kind result) (Input.view input.new) }
+    ensures ran { FailRuns (Input.view input.old) (answer_by Error.kind result)
+        (Input.view input.new) }
     ensures ends { IsEndOf Input.reading (Input.view input.new) (Input.view input.old) }
 {
     Err(Error::from_input(input))

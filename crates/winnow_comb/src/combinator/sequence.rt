@@ -1,8 +1,10 @@
 //! Combinators of children in order.
 ghost use Rattle.std.specs.Prelude.{◌≡◌};
-ghost use Rattle.winnow_comb.specs.Delimited.{delimited_ignored1, delimited_ignored2, delimited_parser};
+ghost use Rattle.winnow_comb.specs.Delimited.{delimited_ignored1, delimited_ignored2};
+ghost use Rattle.winnow_comb.specs.Delimited.{delimited_parser};
 ghost use Rattle.winnow_comb.specs.Preceded.{preceded_ignored, preceded_parser};
-ghost use Rattle.winnow_comb.specs.SeparatedPair.{separated_pair_first, separated_pair_second, separated_pair_separator};
+ghost use Rattle.winnow_comb.specs.SeparatedPair.{separated_pair_first, separated_pair_second};
+ghost use Rattle.winnow_comb.specs.SeparatedPair.{separated_pair_separator};
 ghost use Rattle.winnow_comb.specs.Terminated.{terminated_ignored, terminated_parser};
 
 use crate::combinator::impls::{Delimited, Preceded, SeparatedPair, Terminated};

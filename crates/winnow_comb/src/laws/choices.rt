@@ -1,7 +1,8 @@
 //! Laws of choices among the members of a tuple.
 //!
 //! Written by scripts/families.py: do not edit.
-ghost use Rattle.winnow_comb.specs.ChoiceLaws.{ChoosesFirst2, ChoosesFirst3, ChoosesFirst4, ChoosesFirst5, ChoosesFirst6};
+ghost use Rattle.winnow_comb.specs.ChoiceLaws.{ChoosesFirst2, ChoosesFirst3, ChoosesFirst4};
+ghost use Rattle.winnow_comb.specs.ChoiceLaws.{ChoosesFirst5, ChoosesFirst6};
 
 use crate::combinator::impls::Alt;
 use stream_errors::parser_error::ParserError;
@@ -17,7 +18,8 @@ pub fn alt_of_two_answers_as_the_first<
     O,
     E: ParserError<I>,
 >()
-    ensures { ChoosesFirst2 (P1.meaning E.form) (P2.meaning E.form) (⟦<(P1, P2) as Alt<I, O, E>>⟧.meaning E.form) }
+    ensures { ChoosesFirst2 (P1.meaning E.form) (P2.meaning E.form)
+        (⟦<(P1, P2) as Alt<I, O, E>>⟧.meaning E.form) }
 {}
 
 /// A choice of three answers as the first branch that does not backtrack, or as the last one, and
@@ -30,7 +32,8 @@ pub fn alt_of_three_answers_as_the_first<
     O,
     E: ParserError<I>,
 >()
-    ensures { ChoosesFirst3 (P1.meaning E.form) (P2.meaning E.form) (P3.meaning E.form) (⟦<(P1, P2, P3) as Alt<I, O, E>>⟧.meaning E.form) }
+    ensures { ChoosesFirst3 (P1.meaning E.form) (P2.meaning E.form) (P3.meaning E.form)
+        (⟦<(P1, P2, P3) as Alt<I, O, E>>⟧.meaning E.form) }
 {}
 
 /// A choice of four answers as the first branch that does not backtrack, or as the last one, and
@@ -44,7 +47,8 @@ pub fn alt_of_four_answers_as_the_first<
     O,
     E: ParserError<I>,
 >()
-    ensures { ChoosesFirst4 (P1.meaning E.form) (P2.meaning E.form) (P3.meaning E.form) (P4.meaning E.form) (⟦<(P1, P2, P3, P4) as Alt<I, O, E>>⟧.meaning E.form) }
+    ensures { ChoosesFirst4 (P1.meaning E.form) (P2.meaning E.form) (P3.meaning E.form)
+        (P4.meaning E.form) (⟦<(P1, P2, P3, P4) as Alt<I, O, E>>⟧.meaning E.form) }
 {}
 
 /// A choice of five answers as the first branch that does not backtrack, or as the last one, and
@@ -59,7 +63,9 @@ pub fn alt_of_five_answers_as_the_first<
     O,
     E: ParserError<I>,
 >()
-    ensures { ChoosesFirst5 (P1.meaning E.form) (P2.meaning E.form) (P3.meaning E.form) (P4.meaning E.form) (P5.meaning E.form) (⟦<(P1, P2, P3, P4, P5) as Alt<I, O, E>>⟧.meaning E.form) }
+    ensures { ChoosesFirst5 (P1.meaning E.form) (P2.meaning E.form) (P3.meaning E.form)
+        (P4.meaning E.form) (P5.meaning E.form)
+        (⟦<(P1, P2, P3, P4, P5) as Alt<I, O, E>>⟧.meaning E.form) }
 {}
 
 /// A choice of six answers as the first branch that does not backtrack, or as the last one, and
@@ -75,5 +81,7 @@ pub fn alt_of_six_answers_as_the_first<
     O,
     E: ParserError<I>,
 >()
-    ensures { ChoosesFirst6 (P1.meaning E.form) (P2.meaning E.form) (P3.meaning E.form) (P4.meaning E.form) (P5.meaning E.form) (P6.meaning E.form) (⟦<(P1, P2, P3, P4, P5, P6) as Alt<I, O, E>>⟧.meaning E.form) }
+    ensures { ChoosesFirst6 (P1.meaning E.form) (P2.meaning E.form) (P3.meaning E.form)
+        (P4.meaning E.form) (P5.meaning E.form) (P6.meaning E.form)
+        (⟦<(P1, P2, P3, P4, P5, P6) as Alt<I, O, E>>⟧.meaning E.form) }
 {}

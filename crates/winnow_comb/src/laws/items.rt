@@ -1,5 +1,5 @@
 //! Laws of choices among the items of an array or a slice.
-ghost use Rattle.stream_errors.specs.Form.{asserted};
+ghost use Rattle.stream_errors.specs.Form.{assert_kind};
 ghost use Rattle.winnow_comb.specs.Laws.{ChoosesFirstItem};
 ghost use Rattle.winnow_core.specs.ByRef.{WithoutName};
 
@@ -17,7 +17,8 @@ pub fn alt_of_an_array_answers_as_the_first<
     O,
     E: ParserError<I>,
 >()
-    ensures { ChoosesFirstItem (P.meaning E.form) (asserted E.form) (⟦<[P; N] as Alt<I, O, E>>⟧.meaning E.form) }
+    ensures { ChoosesFirstItem (P.meaning E.form) (assert_kind E.form)
+        (⟦<[P; N] as Alt<I, O, E>>⟧.meaning E.form) }
 {}
 
 /// A choice among the items of a slice answers as the first that does not backtrack, or as the last
@@ -29,5 +30,6 @@ pub fn alt_of_a_slice_answers_as_the_first<
     O,
     E: ParserError<I>,
 >()
-    ensures { ChoosesFirstItem (P.meaning E.form) (asserted E.form) (WithoutName (⟦<&'a mut [P] as Alt<I, O, E>>⟧.meaning E.form)) }
+    ensures { ChoosesFirstItem (P.meaning E.form) (assert_kind E.form)
+        (WithoutName (⟦<&'a mut [P] as Alt<I, O, E>>⟧.meaning E.form)) }
 {}

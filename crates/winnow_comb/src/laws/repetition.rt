@@ -18,5 +18,6 @@ pub fn repeat_runs_at_most_once_a_unit<
     E: ParserError<I>,
     A: Allocator + Copy,
 >()
-    ensures { RunsAtMostOnceAUnit I.reading.units (P.meaning E.form) C.accumulator (⟦<Repeat<P, I, O, C, E, A> as Parser<I, C, E>>⟧.meaning E.form) }
+    ensures { RunsAtMostOnceAUnit I.reading.units (P.meaning E.form) C.accumulator
+        (⟦<Repeat<P, I, O, C, E, A> as Parser<I, C, E>>⟧.meaning E.form) }
 {}

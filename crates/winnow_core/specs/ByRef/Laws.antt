@@ -4,5 +4,6 @@ use Rattle.winnow_core.specs.ByRef.{ByRefRuns}
 use Rattle.winnow_core.specs.Runs.{Runs, LeaveEnds}
 
 -- they leave an end, where those of the parser do
-pub by_ref_ends : {S T L O : Type 0} (reading : Reading T L) (run : Runs S T O) → LeaveEnds reading run → LeaveEnds reading (ByRefRuns run)
+pub by_ref_ends : {S T L O : Type 0} (reading : Reading T L) (run : Runs S T O)
+    → LeaveEnds reading run → LeaveEnds reading (ByRefRuns run)
 by_ref_ends reading run child s i answer t j (r, kept) = child s.0 i answer t.0 j r

@@ -11,10 +11,12 @@ use Rattle.winnow_core.specs.Runs.{Keeps}
 use Rattle.winnow_core.specs.SameMeaning.{SameMeaning, same_by}
 
 -- it leaves an end
-pub eof_ends : {T L : Type 0} (reading : Reading T L) (i : Input T) (answer : Answer L) (j : Input T) → EofRuns reading i answer j → IsEndOf reading j i
+pub eof_ends : {T L : Type 0} (reading : Reading T L) (i : Input T) (answer : Answer L)
+    (j : Input T) → EofRuns reading i answer j → IsEndOf reading j i
 eof_ends reading i answer j (inl (slice, nothing, takes, e)) = takes_end takes
 eof_ends reading i answer j (inr (some, e, same)) = same_ends reading i j same
 
 -- over streams that are read alike it means the same
-pub eof_alike : {T L : Type 0} {a b : Reading T L} → SameReading a b → SameMeaning (λ (s : ⊤). s) (λ _. Keeps (λ _. EofRuns a)) (λ _. Keeps (λ _. EofRuns b))
+pub eof_alike : {T L : Type 0} {a b : Reading T L} → SameReading a b
+    → SameMeaning (λ (s : ⊤). s) (λ _. Keeps (λ _. EofRuns a)) (λ _. Keeps (λ _. EofRuns b))
 eof_alike same = same_by (λ r form. Keeps (λ _. EofRuns r)) (reading_path same)

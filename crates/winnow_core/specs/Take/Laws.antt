@@ -10,19 +10,34 @@ use Rattle.winnow_core.specs.Runs.{Runs, LeaveEnds, Meaning}
 use Rattle.std.proofs.Common.{subst}
 
 -- they leave an end, where those of the child do
-pub take_ends : {S T L O : Type 0} (reading : Reading T L) (run : Runs S T O) → LeaveEnds reading run → LeaveEnds reading (TakeRuns reading run)
-take_ends reading run child s i answer t j (inl (o, front, slice, r, splits, shown, e)) = child s i (Ok o) t j r
+pub take_ends : {S T L O : Type 0} (reading : Reading T L) (run : Runs S T O)
+    → LeaveEnds reading run → LeaveEnds reading (TakeRuns reading run)
+take_ends reading run child s i answer t j (inl (o, front, slice, r, splits, shown, e)) =
+    child s i (Ok o) t j r
 take_ends reading run child s i answer t j (inr (k, r, e)) = child s i (Err k) t j r
 
 -- over streams that are read alike it agrees, where the child does
-pub take_agrees : {P P' Q Q' S U T L O : Type 0} (part : P' → P) (other_part : Q' → Q) {a b : Reading T L} {state : P → S} {other : Q → U} {like : P → Q → Type 0} {m : Meaning S T O} {n : Meaning U T O} → SameReading a b → Agrees state other like m n → Agrees (λ p. state (part p)) (λ q. other (other_part q)) (λ p q. like (part p) (other_part q)) (λ form. TakeRuns a (m form)) (λ form. TakeRuns b (n form))
+pub take_agrees : {P P' Q Q' S U T L O : Type 0} (part : P' → P) (other_part : Q' → Q)
+    {a b : Reading T L} {state : P → S} {other : Q → U} {like : P → Q → Type 0}
+    {m : Meaning S T O} {n : Meaning U T O} → SameReading a b → Agrees state other like m n
+    → Agrees (λ p. state (part p)) (λ q. other (other_part q))
+    (λ p q. like (part p) (other_part q)) (λ form. TakeRuns a (m form))
+    (λ form. TakeRuns b (n form))
 take_agrees part other_part {a} {b} {state} {other} {like} {m} {n} same child =
-    let P : Reading _ _ → Type 0 = λ r. Agrees (λ p. state (part p)) (λ q. other (other_part q)) (λ p q. like (part p) (other_part q)) (λ form. TakeRuns a (m form)) (λ form. TakeRuns r (n form)) in
+    let P : Reading _ _ → Type 0 =
+    λ r. Agrees (λ p. state (part p)) (λ q. other (other_part q))
+    (λ p q. like (part p) (other_part q)) (λ form. TakeRuns a (m form))
+    (λ form. TakeRuns r (n form)) in
     subst P (reading_path same) (agrees1 part other_part (λ X x form. TakeRuns a (x form)) child)
 
--- where a slice shows one list of tokens, those of the slice that it answers and then the rest are the input before
-pub taken_from_the_front : {S T L O : Type 0} (reading : Reading T L) (run : Runs S T O) (tokens_of : L → List T) → ((l : L) (xs : List T) → reading.shows l xs → tokens_of l ≡ xs) → TakesFromTheFront tokens_of (TakeRuns reading run)
-taken_from_the_front reading run tokens_of told s i slice t j (inl (o, front, x, r, split, shown, e)) =
+-- where a slice shows one list of tokens, those of the slice that it answers and then the rest are
+-- the input before
+pub taken_from_the_front : {S T L O : Type 0} (reading : Reading T L) (run : Runs S T O)
+    (tokens_of : L → List T) → ((l : L) (xs : List T) → reading.shows l xs → tokens_of l ≡ xs)
+    → TakesFromTheFront tokens_of (TakeRuns reading run)
+taken_from_the_front reading run tokens_of told s i slice t j
+    (inl (o, front, x, r, split, shown, e)) =
     let same : slice ≡ x = cc in
-    split ∙ ap (λ l. l ++ j.left.tokens) (sym (told x front shown)) ∙ ap (λ y. tokens_of y ++ j.left.tokens) (sym same)
+    split ∙ ap (λ l. l ++ j.left.tokens) (sym (told x front shown))
+    ∙ ap (λ y. tokens_of y ++ j.left.tokens) (sym same)
 taken_from_the_front reading run tokens_of told s i slice t j (inr (k, r, e)) = cc

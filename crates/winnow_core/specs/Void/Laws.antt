@@ -6,6 +6,7 @@ use Rattle.winnow_core.specs.Void.{VoidRuns}
 use Rattle.winnow_core.specs.Runs.{Runs, LeaveEnds}
 
 -- they leave an end, where those of the child do
-pub void_ends : {S T L O : Type 0} (reading : Reading T L) (run : Runs S T O) → LeaveEnds reading run → LeaveEnds reading (VoidRuns run)
+pub void_ends : {S T L O : Type 0} (reading : Reading T L) (run : Runs S T O)
+    → LeaveEnds reading run → LeaveEnds reading (VoidRuns run)
 void_ends reading run child s i answer t j (inl (o, r, e)) = child s i (Ok o) t j r
 void_ends reading run child s i answer t j (inr (k, r, e)) = child s i (Err k) t j r

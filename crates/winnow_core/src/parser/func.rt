@@ -29,7 +29,8 @@ pub struct Func<F>(pub F);
 
 impl<F: FnMut(&mut I) -> Result<O, E>, I: Stream, O, E: ParserError<I>> Parser<I, O, E>
     for Func<F> {
-    ghost can_parse = { λ s. F.IsAlwaysCallable s.0 × LeavesEndsFrom I.reading I.view (CalledAtMut F.FnMut) s.0 };
+    ghost can_parse = { λ s. F.IsAlwaysCallable s.0
+        × LeavesEndsFrom I.reading I.view (CalledAtMut F.FnMut) s.0 };
 
     ghost State = { F };
 

@@ -25,7 +25,8 @@ impl<I: StreamIsPartial + Compare<u8>, E: ParserError<I>> Parser<I, u8, E> for u
 
     ghost meaning = { λ form. Keeps (λ s. LiteralRuns I.reading form (I.spells s) (λ _. s)) };
 
-    ghost leaves_ends = { λ form s i answer t j r. literal_ends I.reading form (I.spells s) (λ _. s) i answer j r.0 };
+    ghost leaves_ends = { λ form s i answer t j r. literal_ends I.reading form (I.spells s)
+        (λ _. s) i answer j r.0 };
 
     #[inline(always)]
     fn parse_next(&mut self, input: &mut I) -> Result<u8, E> {
@@ -42,7 +43,8 @@ impl<
 > AgreesWith<I, u8, E, u8, J, F> for u8 {
     ghost like = { λ p q. p ≡ q };
 
-    ghost agrees = { agrees_by (λ p. p) (λ q. q) (literal_alike (λ s _. s) I.same_reading I.same_spells) };
+    ghost agrees = { agrees_by (λ p. p) (λ q. q)
+        (literal_alike (λ s _. s) I.same_reading I.same_spells) };
 }
 
 /// Bytes stand for themselves; the output is the slice of the input.
@@ -52,9 +54,11 @@ impl<'t, I: StreamIsPartial + Compare<&'t [u8]>, E: ParserError<I>> Parser<I, I:
 
     ghost state = { λ s. s };
 
-    ghost meaning = { λ form. Keeps (λ s. LiteralRuns I.reading form (I.spells s) (λ slice. slice)) };
+    ghost meaning = { λ form. Keeps
+        (λ s. LiteralRuns I.reading form (I.spells s) (λ slice. slice)) };
 
-    ghost leaves_ends = { λ form s i answer t j r. literal_ends I.reading form (I.spells s) (λ slice. slice) i answer j r.0 };
+    ghost leaves_ends = { λ form s i answer t j r. literal_ends I.reading form (I.spells s)
+        (λ slice. slice) i answer j r.0 };
 
     #[inline(always)]
     fn parse_next(&mut self, input: &mut I) -> Result<I::Slice, E> {
@@ -73,7 +77,8 @@ impl<
 > AgreesWith<I, I::Slice, E, &'t [u8], J, F> for &'t [u8] {
     ghost like = { λ p q. p ≡ q };
 
-    ghost agrees = { agrees_by (λ p. p) (λ q. q) (literal_alike (λ _ slice. slice) I.same_reading I.same_spells) };
+    ghost agrees = { agrees_by (λ p. p) (λ q. q)
+        (literal_alike (λ _ slice. slice) I.same_reading I.same_spells) };
 }
 
 /// Bytes stand for themselves; the output is the slice of the input.
@@ -86,9 +91,11 @@ impl<'t, const N: usize, I: StreamIsPartial + Compare<&'t [u8; N]>, E: ParserErr
 
     ghost state = { λ s. s };
 
-    ghost meaning = { λ form. Keeps (λ s. LiteralRuns I.reading form (I.spells s) (λ slice. slice)) };
+    ghost meaning = { λ form. Keeps
+        (λ s. LiteralRuns I.reading form (I.spells s) (λ slice. slice)) };
 
-    ghost leaves_ends = { λ form s i answer t j r. literal_ends I.reading form (I.spells s) (λ slice. slice) i answer j r.0 };
+    ghost leaves_ends = { λ form s i answer t j r. literal_ends I.reading form (I.spells s)
+        (λ slice. slice) i answer j r.0 };
 
     #[inline(always)]
     fn parse_next(&mut self, input: &mut I) -> Result<I::Slice, E> {
@@ -108,7 +115,8 @@ impl<
 > AgreesWith<I, I::Slice, E, &'t [u8; N], J, F> for &'t [u8; N] {
     ghost like = { λ p q. p ≡ q };
 
-    ghost agrees = { agrees_by (λ p. p) (λ q. q) (literal_alike (λ _ slice. slice) I.same_reading I.same_spells) };
+    ghost agrees = { agrees_by (λ p. p) (λ q. q)
+        (literal_alike (λ _ slice. slice) I.same_reading I.same_spells) };
 
     fn agree() {}
 }
@@ -124,7 +132,8 @@ impl<I: StreamIsPartial + Compare<char>, E: ParserError<I>> Parser<I, char, E> f
 
     ghost meaning = { λ form. Keeps (λ s. LiteralRuns I.reading form (I.spells s) (λ _. s)) };
 
-    ghost leaves_ends = { λ form s i answer t j r. literal_ends I.reading form (I.spells s) (λ _. s) i answer j r.0 };
+    ghost leaves_ends = { λ form s i answer t j r. literal_ends I.reading form (I.spells s)
+        (λ _. s) i answer j r.0 };
 
     #[inline(always)]
     fn parse_next(&mut self, input: &mut I) -> Result<char, E> {
@@ -141,7 +150,8 @@ impl<
 > AgreesWith<I, char, E, char, J, F> for char {
     ghost like = { λ p q. p ≡ q };
 
-    ghost agrees = { agrees_by (λ p. p) (λ q. q) (literal_alike (λ s _. s) I.same_reading I.same_spells) };
+    ghost agrees = { agrees_by (λ p. p) (λ q. q)
+        (literal_alike (λ s _. s) I.same_reading I.same_spells) };
 }
 
 /// A text stands for itself; the output is the slice of the input.
@@ -151,9 +161,11 @@ impl<'t, I: StreamIsPartial + Compare<&'t str>, E: ParserError<I>> Parser<I, I::
 
     ghost state = { λ s. s };
 
-    ghost meaning = { λ form. Keeps (λ s. LiteralRuns I.reading form (I.spells s) (λ slice. slice)) };
+    ghost meaning = { λ form. Keeps
+        (λ s. LiteralRuns I.reading form (I.spells s) (λ slice. slice)) };
 
-    ghost leaves_ends = { λ form s i answer t j r. literal_ends I.reading form (I.spells s) (λ slice. slice) i answer j r.0 };
+    ghost leaves_ends = { λ form s i answer t j r. literal_ends I.reading form (I.spells s)
+        (λ slice. slice) i answer j r.0 };
 
     #[inline(always)]
     fn parse_next(&mut self, input: &mut I) -> Result<I::Slice, E> {
@@ -172,7 +184,8 @@ impl<
 > AgreesWith<I, I::Slice, E, &'t str, J, F> for &'t str {
     ghost like = { λ p q. p ≡ q };
 
-    ghost agrees = { agrees_by (λ p. p) (λ q. q) (literal_alike (λ _ slice. slice) I.same_reading I.same_spells) };
+    ghost agrees = { agrees_by (λ p. p) (λ q. q)
+        (literal_alike (λ _ slice. slice) I.same_reading I.same_spells) };
 }
 
 /// Bytes without regard to ASCII case stand for themselves; the output is the slice of the input.
@@ -182,9 +195,11 @@ impl<'t, I: StreamIsPartial + Compare<Caseless<&'t [u8]>>, E: ParserError<I>> Pa
 
     ghost state = { λ s. s };
 
-    ghost meaning = { λ form. Keeps (λ s. LiteralRuns I.reading form (I.spells s) (λ slice. slice)) };
+    ghost meaning = { λ form. Keeps
+        (λ s. LiteralRuns I.reading form (I.spells s) (λ slice. slice)) };
 
-    ghost leaves_ends = { λ form s i answer t j r. literal_ends I.reading form (I.spells s) (λ slice. slice) i answer j r.0 };
+    ghost leaves_ends = { λ form s i answer t j r. literal_ends I.reading form (I.spells s)
+        (λ slice. slice) i answer j r.0 };
 
     #[inline(always)]
     fn parse_next(&mut self, input: &mut I) -> Result<I::Slice, E> {
@@ -203,7 +218,8 @@ impl<
 > AgreesWith<I, I::Slice, E, Caseless<&'t [u8]>, J, F> for Caseless<&'t [u8]> {
     ghost like = { λ p q. p ≡ q };
 
-    ghost agrees = { agrees_by (λ p. p) (λ q. q) (literal_alike (λ _ slice. slice) I.same_reading I.same_spells) };
+    ghost agrees = { agrees_by (λ p. p) (λ q. q)
+        (literal_alike (λ _ slice. slice) I.same_reading I.same_spells) };
 }
 
 /// Bytes without regard to ASCII case stand for themselves; the output is the slice of the input.
@@ -217,9 +233,11 @@ impl<
 
     ghost state = { λ s. s };
 
-    ghost meaning = { λ form. Keeps (λ s. LiteralRuns I.reading form (I.spells s) (λ slice. slice)) };
+    ghost meaning = { λ form. Keeps
+        (λ s. LiteralRuns I.reading form (I.spells s) (λ slice. slice)) };
 
-    ghost leaves_ends = { λ form s i answer t j r. literal_ends I.reading form (I.spells s) (λ slice. slice) i answer j r.0 };
+    ghost leaves_ends = { λ form s i answer t j r. literal_ends I.reading form (I.spells s)
+        (λ slice. slice) i answer j r.0 };
 
     #[inline(always)]
     fn parse_next(&mut self, input: &mut I) -> Result<I::Slice, E> {
@@ -239,7 +257,8 @@ impl<
 > AgreesWith<I, I::Slice, E, Caseless<&'t [u8; N]>, J, F> for Caseless<&'t [u8; N]> {
     ghost like = { λ p q. p ≡ q };
 
-    ghost agrees = { agrees_by (λ p. p) (λ q. q) (literal_alike (λ _ slice. slice) I.same_reading I.same_spells) };
+    ghost agrees = { agrees_by (λ p. p) (λ q. q)
+        (literal_alike (λ _ slice. slice) I.same_reading I.same_spells) };
 
     fn agree() {}
 }
@@ -251,9 +270,11 @@ impl<'t, I: StreamIsPartial + Compare<Caseless<&'t str>>, E: ParserError<I>> Par
 
     ghost state = { λ s. s };
 
-    ghost meaning = { λ form. Keeps (λ s. LiteralRuns I.reading form (I.spells s) (λ slice. slice)) };
+    ghost meaning = { λ form. Keeps
+        (λ s. LiteralRuns I.reading form (I.spells s) (λ slice. slice)) };
 
-    ghost leaves_ends = { λ form s i answer t j r. literal_ends I.reading form (I.spells s) (λ slice. slice) i answer j r.0 };
+    ghost leaves_ends = { λ form s i answer t j r. literal_ends I.reading form (I.spells s)
+        (λ slice. slice) i answer j r.0 };
 
     #[inline(always)]
     fn parse_next(&mut self, input: &mut I) -> Result<I::Slice, E> {
@@ -272,5 +293,6 @@ impl<
 > AgreesWith<I, I::Slice, E, Caseless<&'t str>, J, F> for Caseless<&'t str> {
     ghost like = { λ p q. p ≡ q };
 
-    ghost agrees = { agrees_by (λ p. p) (λ q. q) (literal_alike (λ _ slice. slice) I.same_reading I.same_spells) };
+    ghost agrees = { agrees_by (λ p. p) (λ q. q)
+        (literal_alike (λ _ slice. slice) I.same_reading I.same_spells) };
 }

@@ -11,12 +11,16 @@ use Rattle.winnow_core.specs.SameMeaning.{SameMeaning, same_by, same_trans}
 use Rattle.winnow_token.specs.Any.{AnyRuns}
 
 -- it leaves an end
-pub any_ends : {K T L : Type 0} (seen : K → T) (reading : Reading T L) (form : ErrorForm) (i : Input T) (answer : Answer K) (j : Input T) → AnyRuns seen reading form i answer j → IsEndOf reading j i
+pub any_ends : {K T L : Type 0} (seen : K → T) (reading : Reading T L) (form : ErrorForm)
+    (i : Input T) (answer : Answer K) (j : Input T) → AnyRuns seen reading form i answer j
+    → IsEndOf reading j i
 any_ends seen reading form i answer j (inl (x, passes, e)) = passes_end passes
 any_ends seen reading form i answer j (inr (k, none, kind, e, same)) = same_ends reading i j same
 
 -- over streams that are read alike it means the same
-pub any_alike : {K T L : Type 0} {seen others : K → T} {a b : Reading T L} → SameReading a b → seen ≡ others → SameMeaning (λ (s : ⊤). s) (λ form. Keeps (λ _. AnyRuns seen a form)) (λ form. Keeps (λ _. AnyRuns others b form))
+pub any_alike : {K T L : Type 0} {seen others : K → T} {a b : Reading T L} → SameReading a b
+    → seen ≡ others → SameMeaning (λ (s : ⊤). s) (λ form. Keeps (λ _. AnyRuns seen a form))
+    (λ form. Keeps (λ _. AnyRuns others b form))
 any_alike {seen = seen} {others} {a} {b} reading tokens =
     same_trans
     (same_by (λ r form. Keeps (λ _. AnyRuns seen r form)) (reading_path reading))

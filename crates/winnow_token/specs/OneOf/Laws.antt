@@ -11,13 +11,20 @@ use Rattle.winnow_core.specs.SameMeaning.{SameMeaning, same_by, same_trans}
 use Rattle.winnow_token.specs.OneOf.{OneOfRuns}
 
 -- it leaves an end
-pub one_of_ends : {K T L : Type 0} (seen : K → T) (reading : Reading T L) (form : ErrorForm) (member : K → Bool → Type 0) (i : Input T) (answer : Answer K) (j : Input T) → OneOfRuns seen reading form member i answer j → IsEndOf reading j i
+pub one_of_ends : {K T L : Type 0} (seen : K → T) (reading : Reading T L) (form : ErrorForm)
+    (member : K → Bool → Type 0) (i : Input T) (answer : Answer K) (j : Input T)
+    → OneOfRuns seen reading form member i answer j → IsEndOf reading j i
 one_of_ends seen reading form member i answer j (inl (x, passes, is, e)) = passes_end passes
-one_of_ends seen reading form member i answer j (inr (inl (x, rest, split, stranger, e, same))) = same_ends reading i j same
-one_of_ends seen reading form member i answer j (inr (inr (k, none, kind, e, same))) = same_ends reading i j same
+one_of_ends seen reading form member i answer j
+    (inr (inl (x, rest, split, stranger, e, same))) = same_ends reading i j same
+one_of_ends seen reading form member i answer j (inr (inr (k, none, kind, e, same))) =
+    same_ends reading i j same
 
 -- over streams that are read alike it means the same
-pub one_of_alike : {X K T L : Type 0} (member : X → K → Bool → Type 0) {seen others : K → T} {a b : Reading T L} → SameReading a b → seen ≡ others → SameMeaning (λ (s : X). s) (λ form. Keeps (λ x. OneOfRuns seen a form (member x))) (λ form. Keeps (λ x. OneOfRuns others b form (member x)))
+pub one_of_alike : {X K T L : Type 0} (member : X → K → Bool → Type 0) {seen others : K → T}
+    {a b : Reading T L} → SameReading a b → seen ≡ others
+    → SameMeaning (λ (s : X). s) (λ form. Keeps (λ x. OneOfRuns seen a form (member x)))
+    (λ form. Keeps (λ x. OneOfRuns others b form (member x)))
 one_of_alike member {seen} {others} {a} {b} reading tokens =
     same_trans
     (same_by (λ r form. Keeps (λ x. OneOfRuns seen r form (member x))) (reading_path reading))

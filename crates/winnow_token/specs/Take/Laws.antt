@@ -11,12 +11,18 @@ use Rattle.winnow_core.specs.SameMeaning.{SameMeaning, same_by, same_trans}
 use Rattle.winnow_token.specs.Take.{TakeRuns}
 
 -- they leave an end
-pub take_ends : {T L : Type 0} (reading : Reading T L) (form : ErrorForm) (counts : Bool) (n : ℕ) (i : Input T) (answer : Answer L) (j : Input T) → TakeRuns reading form counts n i answer j → IsEndOf reading j i
+pub take_ends : {T L : Type 0} (reading : Reading T L) (form : ErrorForm) (counts : Bool)
+    (n : ℕ) (i : Input T) (answer : Answer L) (j : Input T)
+    → TakeRuns reading form counts n i answer j → IsEndOf reading j i
 take_ends reading form counts n i answer j (inl (front, slice, count, takes, e)) = takes_end takes
-take_ends reading form counts n i answer j (inr (k, few, kind, e, same)) = same_ends reading i j same
+take_ends reading form counts n i answer j (inr (k, few, kind, e, same)) =
+    same_ends reading i j same
 
 -- over streams that are read alike they mean the same
-pub take_alike : {T L : Type 0} {a b : Reading T L} {counts others : Bool} → SameReading a b → counts ≡ others → SameMeaning (λ (s : ℕ). s) (λ form. Keeps (λ n. TakeRuns a form counts n)) (λ form. Keeps (λ n. TakeRuns b form others n))
+pub take_alike : {T L : Type 0} {a b : Reading T L} {counts others : Bool} → SameReading a b
+    → counts ≡ others → SameMeaning (λ (s : ℕ). s)
+    (λ form. Keeps (λ n. TakeRuns a form counts n))
+    (λ form. Keeps (λ n. TakeRuns b form others n))
 take_alike {a = a} {b} {counts} {others} reading missing =
     same_trans
     (same_by (λ r form. Keeps (λ n. TakeRuns r form counts n)) (reading_path reading))

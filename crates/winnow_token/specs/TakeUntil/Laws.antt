@@ -13,16 +13,36 @@ use Rattle.winnow_core.specs.SameMeaning.{SameMeaning, same_by, same_trans}
 use Rattle.winnow_token.specs.TakeUntil.{TakeUntilRuns}
 
 -- they leave an end
-pub take_until_ends : {T L : Type 0} (reading : Reading T L) (form : ErrorForm) (sought : List T → Type 0) (least : ℕ) (greatest : Option ℕ) (i : Input T) (answer : Answer L) (j : Input T) → TakeUntilRuns reading form sought least greatest i answer j → IsEndOf reading j i
-take_until_ends reading form sought least greatest i answer j (inl (most, is, below, e, same)) = same_ends reading i j same
-take_until_ends reading form sought least greatest i answer j (inr (inl (k, within, nowhere, kind, e, same))) = same_ends reading i j same
-take_until_ends reading form sought least greatest i answer j (inr (inr (inl (start, end, m, slice, enough, within, takes, e)))) = takes_end takes
-take_until_ends reading form sought least greatest i answer j (inr (inr (inr (inl (start, end, m, k, within, few, kind, e, same))))) = same_ends reading i j same
-take_until_ends reading form sought least greatest i answer j (inr (inr (inr (inr (start, end, m, most, is, le, many, e, same))))) = same_ends reading i j same
+pub take_until_ends : {T L : Type 0} (reading : Reading T L) (form : ErrorForm)
+    (sought : List T → Type 0) (least : ℕ) (greatest : Option ℕ) (i : Input T)
+    (answer : Answer L) (j : Input T)
+    → TakeUntilRuns reading form sought least greatest i answer j → IsEndOf reading j i
+take_until_ends reading form sought least greatest i answer j (inl (most, is, below, e, same)) =
+    same_ends reading i j same
+take_until_ends reading form sought least greatest i answer j
+    (inr (inl (k, within, nowhere, kind, e, same))) = same_ends reading i j same
+take_until_ends reading form sought least greatest i answer j
+    (inr (inr (inl (start, end, m, slice, enough, within, takes, e)))) = takes_end takes
+take_until_ends reading form sought least greatest i answer j
+    (inr (inr (inr (inl (start, end, m, k, within, few, kind, e, same))))) =
+    same_ends reading i j same
+take_until_ends reading form sought least greatest i answer j
+    (inr (inr (inr (inr (start, end, m, most, is, le, many, e, same))))) =
+    same_ends reading i j same
 
 -- over streams that are read and searched alike they mean the same
-pub take_until_alike : {X T L : Type 0} {sought others : X → List T → Type 0} {a b : Reading T L} → SameReading a b → SameFacts sought others → SameMeaning (λ (s : Range × X). s) (λ form. Keeps (λ x. TakeUntilRuns a form (sought x.1) x.0.start_inclusive (greatest_of x.0.start_inclusive x.0.end_inclusive))) (λ form. Keeps (λ x. TakeUntilRuns b form (others x.1) x.0.start_inclusive (greatest_of x.0.start_inclusive x.0.end_inclusive)))
+pub take_until_alike : {X T L : Type 0} {sought others : X → List T → Type 0}
+    {a b : Reading T L} → SameReading a b → SameFacts sought others
+    → SameMeaning (λ (s : Range × X). s)
+    (λ form. Keeps (λ x. TakeUntilRuns a form (sought x.1) x.0.start_inclusive
+    (greatest_of x.0.start_inclusive x.0.end_inclusive)))
+    (λ form. Keeps (λ x. TakeUntilRuns b form (others x.1) x.0.start_inclusive
+    (greatest_of x.0.start_inclusive x.0.end_inclusive)))
 take_until_alike {X} {sought = sought} {others} {a} {b} reading same =
     same_trans
-    (same_by (λ r form. Keeps (λ (x : Range × X). TakeUntilRuns r form (sought x.1) x.0.start_inclusive (greatest_of x.0.start_inclusive x.0.end_inclusive))) (reading_path reading))
-    (same_by (λ f form. Keeps (λ (x : Range × X). TakeUntilRuns b form (f x.1) x.0.start_inclusive (greatest_of x.0.start_inclusive x.0.end_inclusive))) (facts_path same))
+    (same_by (λ r form. Keeps
+    (λ (x : Range × X). TakeUntilRuns r form (sought x.1) x.0.start_inclusive
+    (greatest_of x.0.start_inclusive x.0.end_inclusive))) (reading_path reading))
+    (same_by (λ f form. Keeps
+    (λ (x : Range × X). TakeUntilRuns b form (f x.1) x.0.start_inclusive
+    (greatest_of x.0.start_inclusive x.0.end_inclusive))) (facts_path same))

@@ -14,15 +14,36 @@ use Rattle.winnow_core.specs.SameMeaning.{SameMeaning, same_by, same_trans}
 use Rattle.winnow_token.specs.TakeWhile.{TakeWhileRuns}
 
 -- they leave an end
-pub take_while_ends : {T L : Type 0} (reading : Reading T L) (form : ErrorForm) (member : T → Bool → Type 0) (least : ℕ) (greatest : Option ℕ) (i : Input T) (answer : Answer L) (j : Input T) → TakeWhileRuns reading form member least greatest i answer j → IsEndOf reading j i
-take_while_ends reading form member least greatest i answer j (inl (most, is, below, e, same)) = same_ends reading i j same
-take_while_ends reading form member least greatest i answer j (inr (inl (within, still_open, is_cut, e, same))) = same_ends reading i j same
-take_while_ends reading form member least greatest i answer j (inr (inr (inl (front, rest, slice, within, longest, ended, enough, takes, e)))) = takes_end takes
-take_while_ends reading form member least greatest i answer j (inr (inr (inr (front, rest, within, longest, ended, few, e, same)))) = same_ends reading i j same
+pub take_while_ends : {T L : Type 0} (reading : Reading T L) (form : ErrorForm)
+    (member : T → Bool → Type 0) (least : ℕ) (greatest : Option ℕ) (i : Input T)
+    (answer : Answer L) (j : Input T)
+    → TakeWhileRuns reading form member least greatest i answer j → IsEndOf reading j i
+take_while_ends reading form member least greatest i answer j (inl (most, is, below, e, same)) =
+    same_ends reading i j same
+take_while_ends reading form member least greatest i answer j
+    (inr (inl (within, still_open, is_cut, e, same))) = same_ends reading i j same
+take_while_ends reading form member least greatest i answer j
+    (inr (inr (inl (front, rest, slice, within, longest, ended, enough, takes, e)))) =
+    takes_end takes
+take_while_ends reading form member least greatest i answer j
+    (inr (inr (inr (front, rest, within, longest, ended, few, e, same)))) =
+    same_ends reading i j same
 
 -- over streams that are read alike they mean the same
-pub take_while_alike : {X K T L : Type 0} (member : X → K → Bool → Type 0) {seen others : K → T} {a b : Reading T L} → SameReading a b → seen ≡ others → SameMeaning (λ (s : Range × X). s) (λ form. Keeps (λ x. TakeWhileRuns a form (AnswersSeen seen (member x.1)) x.0.start_inclusive (greatest_of x.0.start_inclusive x.0.end_inclusive))) (λ form. Keeps (λ x. TakeWhileRuns b form (AnswersSeen others (member x.1)) x.0.start_inclusive (greatest_of x.0.start_inclusive x.0.end_inclusive)))
+pub take_while_alike : {X K T L : Type 0} (member : X → K → Bool → Type 0) {seen others : K → T}
+    {a b : Reading T L} → SameReading a b → seen ≡ others
+    → SameMeaning (λ (s : Range × X). s)
+    (λ form. Keeps (λ x. TakeWhileRuns a form (AnswersSeen seen (member x.1))
+    x.0.start_inclusive (greatest_of x.0.start_inclusive x.0.end_inclusive)))
+    (λ form. Keeps (λ x. TakeWhileRuns b form (AnswersSeen others (member x.1))
+    x.0.start_inclusive (greatest_of x.0.start_inclusive x.0.end_inclusive)))
 take_while_alike {X} member {seen} {others} {a} {b} reading tokens =
     same_trans
-    (same_by (λ r form. Keeps (λ (x : Range × X). TakeWhileRuns r form (AnswersSeen seen (member x.1)) x.0.start_inclusive (greatest_of x.0.start_inclusive x.0.end_inclusive))) (reading_path reading))
-    (same_by (λ f form. Keeps (λ (x : Range × X). TakeWhileRuns b form (AnswersSeen f (member x.1)) x.0.start_inclusive (greatest_of x.0.start_inclusive x.0.end_inclusive))) tokens)
+    (same_by (λ r form. Keeps
+    (λ (x : Range × X). TakeWhileRuns r form (AnswersSeen seen (member x.1))
+    x.0.start_inclusive (greatest_of x.0.start_inclusive x.0.end_inclusive)))
+    (reading_path reading))
+    (same_by (λ f form. Keeps
+    (λ (x : Range × X). TakeWhileRuns b form (AnswersSeen f (member x.1))
+    x.0.start_inclusive (greatest_of x.0.start_inclusive x.0.end_inclusive)))
+    tokens)

@@ -70,7 +70,10 @@ pub(crate) fn take_members<S: ContainsToken<I::Token>, I: StreamIsPartial, E: Pa
     set: &S,
 ) -> Result<I::Slice, E>
     requires { S.can_test set.now }
-    ensures ran { TakeWhileRuns I.reading E.form (AnswersSeen I.seen_as (S.tells set.now)) occurrences.start_inclusive (greatest_of occurrences.start_inclusive occurrences.end_inclusive) (I.view input.old) (answer_by E.kind result) (I.view input.new) }
+    ensures ran { TakeWhileRuns I.reading E.form (AnswersSeen I.seen_as (S.tells set.now))
+        occurrences.start_inclusive
+        (greatest_of occurrences.start_inclusive occurrences.end_inclusive) (I.view input.old)
+        (answer_by E.kind result) (I.view input.new) }
     ensures ends { IsEndOf I.reading (I.view input.new) (I.view input.old) }
 {
     let least = occurrences.start_inclusive;
@@ -89,7 +92,8 @@ fn take_unbounded<S: ContainsToken<I::Token>, I: StreamIsPartial, E: ParserError
 ) -> Result<I::Slice, E>
     requires set { S.can_test set.now }
     requires form { least ≤ 1 }
-    ensures ran { TakeWhileRuns I.reading E.form (AnswersSeen I.seen_as (S.tells set.now)) least None (I.view input.old) (answer_by E.kind result) (I.view input.new) }
+    ensures ran { TakeWhileRuns I.reading E.form (AnswersSeen I.seen_as (S.tells set.now)) least
+        None (I.view input.old) (answer_by E.kind result) (I.view input.new) }
     ensures ends { IsEndOf I.reading (I.view input.new) (I.view input.old) }
 {
     let end = input.offset_for(Outside(set));
@@ -106,7 +110,8 @@ fn take_bounded<S: ContainsToken<I::Token>, I: StreamIsPartial, E: ParserError<I
     set: &S,
 ) -> Result<I::Slice, E>
     requires { S.can_test set.now }
-    ensures ran { TakeWhileRuns I.reading E.form (AnswersSeen I.seen_as (S.tells set.now)) least (Some greatest) (I.view input.old) (answer_by E.kind result) (I.view input.new) }
+    ensures ran { TakeWhileRuns I.reading E.form (AnswersSeen I.seen_as (S.tells set.now)) least
+        (Some greatest) (I.view input.old) (answer_by E.kind result) (I.view input.new) }
     ensures ends { IsEndOf I.reading (I.view input.new) (I.view input.old) }
 {
     if greatest < least {
@@ -124,8 +129,10 @@ fn take_found<I: StreamIsPartial, E: ParserError<I>>(
     is_enough: bool,
     least: usize,
 ) -> Result<I::Slice, E>
-    requires { IfSome end (λ offset. IsBoundary I.reading.units (I.view input.old).left.tokens offset) }
-    ensures ran { FoundRuns I.reading E.form end is_enough least (I.view input.old) (answer_by E.kind result) (I.view input.new) }
+    requires { IfSome end
+        (λ offset. IsBoundary I.reading.units (I.view input.old).left.tokens offset) }
+    ensures ran { FoundRuns I.reading E.form end is_enough least (I.view input.old)
+        (answer_by E.kind result) (I.view input.new) }
     ensures ends { IsEndOf I.reading (I.view input.new) (I.view input.old) }
 {
     match end {
@@ -147,7 +154,8 @@ fn count_members<S: ContainsToken<I::Token>, I: Stream>(
     set: &S,
 ) -> Members
     requires { S.can_test set.now }
-    ensures { CountsMembers (AnswersSeen I.seen_as (S.tells set.now)) (Some greatest) I.reading.units (I.view input.now).left.tokens result.count result.end }
+    ensures { CountsMembers (AnswersSeen I.seen_as (S.tells set.now)) (Some greatest)
+        I.reading.units (I.view input.now).left.tokens result.count result.end }
 {
     let mut count = 0;
     for (offset, token) in input.iter_offsets() {

@@ -18,7 +18,8 @@ pub(crate) fn take_member<S: ContainsToken<I::Token>, I: StreamIsPartial, E: Par
 where
     I::Token: Copy,
     requires { S.can_test set.now }
-    ensures ran { OneOfRuns I.seen_as I.reading E.form (S.tells set.now) (I.view input.old) (answer_by E.kind result) (I.view input.new) }
+    ensures ran { OneOfRuns I.seen_as I.reading E.form (S.tells set.now) (I.view input.old)
+        (answer_by E.kind result) (I.view input.new) }
     ensures ends { IsEndOf I.reading (I.view input.new) (I.view input.old) }
 {
     let start = input.checkpoint();

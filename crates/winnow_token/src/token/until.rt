@@ -20,7 +20,9 @@ pub(crate) fn take_before<T: Copy, I: StreamIsPartial + FindSlice<T>, E: ParserE
     occurrences: Range,
     literal: T,
 ) -> Result<I::Slice, E>
-    ensures ran { TakeUntilRuns I.reading E.form (I.sought literal) occurrences.start_inclusive (greatest_of occurrences.start_inclusive occurrences.end_inclusive) (I.view input.old) (answer_by E.kind result) (I.view input.new) }
+    ensures ran { TakeUntilRuns I.reading E.form (I.sought literal) occurrences.start_inclusive
+        (greatest_of occurrences.start_inclusive occurrences.end_inclusive) (I.view input.old)
+        (answer_by E.kind result) (I.view input.new) }
     ensures ends { IsEndOf I.reading (I.view input.new) (I.view input.old) }
 {
     let least = occurrences.start_inclusive;
@@ -38,7 +40,8 @@ fn take_before_unbounded<T: Copy, I: StreamIsPartial + FindSlice<T>, E: ParserEr
     literal: T,
 ) -> Result<I::Slice, E>
     requires { least ≤ 1 }
-    ensures ran { TakeUntilRuns I.reading E.form (I.sought literal) least None (I.view input.old) (answer_by E.kind result) (I.view input.new) }
+    ensures ran { TakeUntilRuns I.reading E.form (I.sought literal) least None
+        (I.view input.old) (answer_by E.kind result) (I.view input.new) }
     ensures ends { IsEndOf I.reading (I.view input.new) (I.view input.old) }
 {
     match input.find_slice(literal) {
@@ -61,7 +64,8 @@ fn take_before_bounded<T: Copy, I: StreamIsPartial + FindSlice<T>, E: ParserErro
     greatest: usize,
     literal: T,
 ) -> Result<I::Slice, E>
-    ensures ran { TakeUntilRuns I.reading E.form (I.sought literal) least (Some greatest) (I.view input.old) (answer_by E.kind result) (I.view input.new) }
+    ensures ran { TakeUntilRuns I.reading E.form (I.sought literal) least (Some greatest)
+        (I.view input.old) (answer_by E.kind result) (I.view input.new) }
     ensures ends { IsEndOf I.reading (I.view input.new) (I.view input.old) }
 {
     if greatest < least {

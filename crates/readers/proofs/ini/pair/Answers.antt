@@ -1,7 +1,8 @@
 use Rattle.std.proofs.Common.{rules, ap, ◌+◌, ◌∙◌, sym, refl, subst, inl, inr, lit≤, length}
 use Rattle.stream_errors.specs.Form.{plain}
 use Rattle.readers.specs.Pair.{IsPairLine}
-use Rattle.readers.proofs.PairRuns.{took_by, took_too_few_by, matched, not_matched, line_read, line_left, no_key, no_mark, never_too_few, ok_is_err, same_ok}
+use Rattle.readers.proofs.PairRuns.{took_by, took_too_few_by, matched, not_matched, line_read}
+use Rattle.readers.proofs.PairRuns.{line_left, no_key, no_mark, never_too_few, ok_is_err, same_ok}
 use Rattle.std.proofs.lemmas.Grind.{common_steps}
 use Rattle.std.proofs.lemmas.Bool.Decides.{nat_tests}
 use Rattle.std.proofs.Common.{arith}
@@ -50,7 +51,8 @@ returns-in-Err-Refused-clause-refused c =
             | inr (inr (inl (o1, k2, a, r1, r2, s3, s4, e))) ↦
                 let keys = took_by plain _ _ _ _ _ _ _ r1_range refl r1.0 in
                 let stands = not_matched plain _ _ _ _ _ keys.whole r2.0 in
-                no_mark _ _ _ _ _ _ keys stands at (λ x h. let p = h.2 in search rules) (λ x h. let p = h.2 in search rules)
+                no_mark _ _ _ _ _ _ keys stands at (λ x h. let p = h.2 in search rules)
+                (λ x h. let p = h.2 in search rules)
             | inr (inr (inr (inl (o1, o2, k3, a, b, r1, r2, r3, s4, e)))) ↦
                 let keys = took_by plain _ _ _ _ _ _ _ r1_range refl r1.0 in
                 let mark = matched plain _ _ _ _ _ keys.whole r2.0 in
@@ -59,7 +61,8 @@ returns-in-Err-Refused-clause-refused c =
                 let keys = took_by plain _ _ _ _ _ _ _ r1_range refl r1.0 in
                 let mark = matched plain _ _ _ _ _ keys.whole r2.0 in
                 let values = took_by plain _ _ _ _ _ _ _ r3_range mark.1 r3.0 in
-                never_too_few _ _ _ _ (took_too_few_by plain _ _ _ _ _ _ _ r4_range values.whole (lit≤ tt) r4.0)
+                never_too_few _ _ _ _
+                (took_too_few_by plain _ _ _ _ _ _ _ r4_range values.whole (lit≤ tt) r4.0)
           ]
       | inr (o, j, seq, something, fault) ↦
           let at = ap (λ m. m + length j.left.tokens) c.offset.ensures ∙ (rw refused at fault).0 in

@@ -3,7 +3,8 @@ use Rattle.stream_sets.proofs.FindLemmas.{needle_stands}
 use Rattle.stream_sets.proofs.find.find_bytes.Goals as goal
 
 pub returns-in-Some : goal.returns-in-Some
-returns-in-Some c = needle_stands c.args.all.now c.args.literal.now (Some c.in-Some.start) c.in-Some.ensures
+returns-in-Some c = needle_stands c.args.all.now c.args.literal.now (Some c.in-Some.start)
+    c.in-Some.ensures
 
 pub returns-in-None : goal.returns-in-None
 returns-in-None c = needle_stands c.args.all.now c.args.literal.now None c.in-None.ensures

@@ -32,9 +32,11 @@ where
 
     ghost state = { λ _. tt };
 
-    ghost meaning = { λ form. Keeps (λ _. ClassRuns IsHexDigit 1 I.Token.code I.seen_as I.reading form) };
+    ghost meaning = { λ form. Keeps
+        (λ _. ClassRuns IsHexDigit 1 I.Token.code I.seen_as I.reading form) };
 
-    ghost leaves_ends = { λ form x i answer y j r. class_ends IsHexDigit 1 I.Token.code I.seen_as I.reading form i answer j r.0 };
+    ghost leaves_ends = { λ form x i answer y j r. class_ends IsHexDigit 1 I.Token.code
+        I.seen_as I.reading form i answer j r.0 };
 
     #[inline(always)]
     fn parse_next(&mut self, input: &mut I) -> Result<I::Slice, E> {
@@ -53,5 +55,6 @@ where
 {
     ghost like = { λ p q. ⊤ };
 
-    ghost agrees = { agrees_plain (class_alike IsHexDigit 1 I.Token.code I.same_reading I.same_tokens) };
+    ghost agrees = { agrees_plain
+        (class_alike IsHexDigit 1 I.Token.code I.same_reading I.same_tokens) };
 }

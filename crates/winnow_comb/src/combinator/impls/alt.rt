@@ -37,7 +37,8 @@ pub trait Alt<I: Stream, O, E: ParserError<I>> {
     fn choice(&mut self, input: &mut I) -> Result<O, E>
         requires { can_choose self.old }
         ensures again { can_choose self.new }
-        ensures ran { meaning E.form (state self.old) (I.view input.old) (answer_by E.kind result) (state self.new) (I.view input.new) }
+        ensures ran { meaning E.form (state self.old) (I.view input.old)
+            (answer_by E.kind result) (state self.new) (I.view input.new) }
         ensures ends { IsEndOf I.reading (I.view input.new) (I.view input.old) };
 
     // Each run leaves an end of its input.
@@ -85,7 +86,8 @@ pub(crate) fn attempt<I: Stream, O, E: ParserError<I>, P: Parser<I, O, E>>(
     requires callable { P.can_parse branch.old }
     requires starts { I.seen start.now ≡ (I.view input.old).left }
     ensures again { P.can_parse branch.new }
-    ensures ran { AttemptRuns E.kind (P.meaning E.form) (I.seen start.now) (P.state branch.old) (I.view input.old) result (P.state branch.new) (I.view input.new) }
+    ensures ran { AttemptRuns E.kind (P.meaning E.form) (I.seen start.now) (P.state branch.old)
+        (I.view input.old) result (P.state branch.new) (I.view input.new) }
     ensures ends { IsEndOf I.reading (I.view input.new) (I.view input.old) }
 {
     match branch.parse_next(input) {

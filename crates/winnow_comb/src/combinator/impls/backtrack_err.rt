@@ -33,7 +33,8 @@ impl<P: Parser<I, O, E>, I: Stream, O, E: ParserError<I> + ModalError> Parser<I,
 
     ghost meaning = { λ form. BacktrackErrRuns (P.meaning form) };
 
-    ghost leaves_ends = { λ form. backtrack_err_ends I.reading (P.meaning form) (P.leaves_ends form) };
+    ghost leaves_ends = { λ form. backtrack_err_ends I.reading (P.meaning form)
+        (P.leaves_ends form) };
 
     #[inline(always)]
     fn parse_next(&mut self, input: &mut I) -> Result<O, E> {
@@ -55,5 +56,6 @@ impl<
 > AgreesWith<I, O, E, BacktrackErr<Q, J, O, F>, J, F> for BacktrackErr<P, I, O, E> {
     ghost like = { λ p q. P.like p.parser q.parser };
 
-    ghost agrees = { agrees1 (λ p. p.parser) (λ q. q.parser) (λ X m form. BacktrackErrRuns (m form)) P.agrees };
+    ghost agrees = { agrees1 (λ p. p.parser) (λ q. q.parser)
+        (λ X m form. BacktrackErrRuns (m form)) P.agrees };
 }

@@ -58,5 +58,6 @@ impl<
 > AgreesWith<I, Option<O>, E, Cond<Q, J, O, F>, J, F> for Cond<P, I, O, E> {
     ghost like = { λ p q. P.like p.parser q.parser × (p.condition ≡ q.condition) };
 
-    ghost agrees = { agrees_with (λ p. p.parser) (λ q. q.parser) (λ p. p.condition) (λ q. q.condition) (λ X m form. CondRuns (m form)) P.agrees };
+    ghost agrees = { agrees_with (λ p. p.parser) (λ q. q.parser) (λ p. p.condition)
+        (λ q. q.condition) (λ X m form. CondRuns (m form)) P.agrees };
 }

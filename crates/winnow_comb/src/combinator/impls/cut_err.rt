@@ -55,5 +55,6 @@ impl<
 > AgreesWith<I, O, E, CutErr<Q, J, O, F>, J, F> for CutErr<P, I, O, E> {
     ghost like = { λ p q. P.like p.parser q.parser };
 
-    ghost agrees = { agrees1 (λ p. p.parser) (λ q. q.parser) (λ X m form. CutErrRuns (m form)) P.agrees };
+    ghost agrees = { agrees1 (λ p. p.parser) (λ q. q.parser) (λ X m form. CutErrRuns (m form))
+        P.agrees };
 }

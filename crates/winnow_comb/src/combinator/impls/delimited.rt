@@ -36,7 +36,8 @@ impl<
     O3: Drop,
     E: ParserError<I>,
 > Parser<I, O2, E> for Delimited<P1, P2, P3, I, O1, O2, O3, E> {
-    ghost can_parse = { λ s. P1.can_parse s.ignored1 × P2.can_parse s.parser × P3.can_parse s.ignored2 };
+    ghost can_parse = { λ s. P1.can_parse s.ignored1 × P2.can_parse s.parser
+        × P3.can_parse s.ignored2 };
 
     ghost State = { P1.State × P2.State × P3.State };
 
@@ -44,7 +45,9 @@ impl<
 
     ghost meaning = { λ form. DelimitedRuns (P1.meaning form) (P2.meaning form) (P3.meaning form) };
 
-    ghost leaves_ends = { λ form. three_ends I.reading (λ o1 o2 o3. o2) (P1.meaning form) (P2.meaning form) (P3.meaning form) (P1.leaves_ends form) (P2.leaves_ends form) (P3.leaves_ends form) };
+    ghost leaves_ends = { λ form. three_ends I.reading (λ o1 o2 o3. o2) (P1.meaning form)
+        (P2.meaning form) (P3.meaning form) (P1.leaves_ends form) (P2.leaves_ends form)
+        (P3.leaves_ends form) };
 
     #[inline(always)]
     fn parse_next(&mut self, input: &mut I) -> Result<O2, E> {
@@ -71,7 +74,11 @@ impl<
     F: ParserError<J>,
 > AgreesWith<I, A2, E, Delimited<Q1, Q2, Q3, J, A1, A2, A3, F>, J, F>
     for Delimited<P1, P2, P3, I, A1, A2, A3, E> {
-    ghost like = { λ p q. P1.like p.ignored1 q.ignored1 × P2.like p.parser q.parser × P3.like p.ignored2 q.ignored2 };
+    ghost like = { λ p q. P1.like p.ignored1 q.ignored1 × P2.like p.parser q.parser
+        × P3.like p.ignored2 q.ignored2 };
 
-    ghost agrees = { agrees3 (λ p. p.ignored1) (λ q. q.ignored1) (λ p. p.parser) (λ q. q.parser) (λ p. p.ignored2) (λ q. q.ignored2) (λ X1 X2 X3 m1 m2 m3 form. DelimitedRuns (m1 form) (m2 form) (m3 form)) P1.agrees P2.agrees P3.agrees };
+    ghost agrees = { agrees3 (λ p. p.ignored1) (λ q. q.ignored1) (λ p. p.parser) (λ q. q.parser)
+        (λ p. p.ignored2) (λ q. q.ignored2)
+        (λ X1 X2 X3 m1 m2 m3 form. DelimitedRuns (m1 form) (m2 form) (m3 form)) P1.agrees
+        P2.agrees P3.agrees };
 }

@@ -63,5 +63,6 @@ impl<
 > AgreesWith<I, (), E, Not<Q, J, O, F>, J, F> for Not<P, I, O, E> {
     ghost like = { λ p q. P.like p.parser q.parser };
 
-    ghost agrees = { agrees1 (λ p. p.parser) (λ q. q.parser) (λ X m form. NotRuns (m form)) P.agrees };
+    ghost agrees = { agrees1 (λ p. p.parser) (λ q. q.parser) (λ X m form. NotRuns (m form))
+        P.agrees };
 }

@@ -62,5 +62,6 @@ impl<
 > AgreesWith<I, Option<O>, E, Opt<Q, J, O, F>, J, F> for Opt<P, I, O, E> {
     ghost like = { λ p q. P.like p.parser q.parser };
 
-    ghost agrees = { agrees1 (λ p. p.parser) (λ q. q.parser) (λ X m form. OptRuns (m form)) P.agrees };
+    ghost agrees = { agrees1 (λ p. p.parser) (λ q. q.parser) (λ X m form. OptRuns (m form))
+        P.agrees };
 }

@@ -53,5 +53,6 @@ impl<
 > AgreesWith<I, O, E, Peek<Q, J, O, F>, J, F> for Peek<P, I, O, E> {
     ghost like = { λ p q. P.like p.parser q.parser };
 
-    ghost agrees = { agrees1 (λ p. p.parser) (λ q. q.parser) (λ X m form. PeekRuns (m form)) P.agrees };
+    ghost agrees = { agrees1 (λ p. p.parser) (λ q. q.parser) (λ X m form. PeekRuns (m form))
+        P.agrees };
 }

@@ -37,7 +37,8 @@ impl<P1: Parser<I, O1, E>, P2: Parser<I, O2, E>, I: Stream, O1: Drop, O2, E: Par
 
     ghost meaning = { λ form. PrecededRuns (P1.meaning form) (P2.meaning form) };
 
-    ghost leaves_ends = { λ form. both_ends I.reading (λ o1 o2. o2) (P1.meaning form) (P2.meaning form) (P1.leaves_ends form) (P2.leaves_ends form) };
+    ghost leaves_ends = { λ form. both_ends I.reading (λ o1 o2. o2) (P1.meaning form)
+        (P2.meaning form) (P1.leaves_ends form) (P2.leaves_ends form) };
 
     #[inline(always)]
     fn parse_next(&mut self, input: &mut I) -> Result<O2, E> {
@@ -60,5 +61,6 @@ impl<
 > AgreesWith<I, O2, E, Preceded<Q1, Q2, J, O1, O2, F>, J, F> for Preceded<P1, P2, I, O1, O2, E> {
     ghost like = { λ p q. P1.like p.ignored q.ignored × P2.like p.parser q.parser };
 
-    ghost agrees = { agrees2 (λ p. p.ignored) (λ q. q.ignored) (λ p. p.parser) (λ q. q.parser) (λ X1 X2 m1 m2 form. PrecededRuns (m1 form) (m2 form)) P1.agrees P2.agrees };
+    ghost agrees = { agrees2 (λ p. p.ignored) (λ q. q.ignored) (λ p. p.parser) (λ q. q.parser)
+        (λ X1 X2 m1 m2 form. PrecededRuns (m1 form) (m2 form)) P1.agrees P2.agrees };
 }

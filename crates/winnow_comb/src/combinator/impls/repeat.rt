@@ -1,6 +1,6 @@
 //! Repetition.
 ghost use Rattle.std.specs.Prelude.{◌<◌, ◌≡◌, MatchBool, Some, ℕ};
-ghost use Rattle.stream_errors.specs.Form.{answer_by, asserted};
+ghost use Rattle.stream_errors.specs.Form.{answer_by, assert_kind};
 ghost use Rattle.stream_sets.specs.Range.{IsWithin};
 ghost use Rattle.stream_sets.specs.declared.range.Range.{Range};
 ghost use Rattle.streams.specs.Input.{IsEndOf};
@@ -47,9 +47,10 @@ impl<
 
     ghost state = { λ s. (P.state s.parser, s.occurrences) };
 
-    ghost meaning = { λ form. RangedRuns (P.meaning form) C.accumulator (asserted form) };
+    ghost meaning = { λ form. RangedRuns (P.meaning form) C.accumulator (assert_kind form) };
 
-    ghost leaves_ends = { λ form. ranged_ends I.reading (P.meaning form) C.accumulator (asserted form) (P.leaves_ends form) };
+    ghost leaves_ends = { λ form. ranged_ends I.reading (P.meaning form) C.accumulator
+        (assert_kind form) (P.leaves_ends form) };
 
     fn parse_next(&mut self, input: &mut I) -> Result<C, E> {
         let least = self.occurrences.start_inclusive;
@@ -79,12 +80,15 @@ impl<
 > AgreesWith<I, C, E, Repeat<Q, J, O, C, F, A>, J, F> for Repeat<P, I, O, C, E, A> {
     ghost like = { λ p q. P.like p.parser q.parser × (p.occurrences ≡ q.occurrences) };
 
-    ghost agrees = { agrees_with (λ p. p.parser) (λ q. q.parser) (λ p. p.occurrences) (λ q. q.occurrences) (λ X m form. RangedRuns (m form) C.accumulator (asserted form)) P.agrees };
+    ghost agrees = { agrees_with (λ p. p.parser) (λ q. q.parser) (λ p. p.occurrences)
+        (λ q. q.occurrences)
+        (λ X m form. RangedRuns (m form) C.accumulator (assert_kind form)) P.agrees };
 }
 
 /// Whether the greatest count is below the least.
 fn is_descending(least: usize, greatest: Option<usize>) -> bool
-    ensures { MatchBool result ((most : ℕ) × (greatest ≡ Some most) × (most < least)) (IsWithin greatest least) }
+    ensures { MatchBool result ((most : ℕ) × (greatest ≡ Some most) × (most < least))
+        (IsWithin greatest least) }
 {
     match greatest {
         Some(most) => most < least,
@@ -103,7 +107,9 @@ fn repeat_many<
 >(alloc: A, least: usize, greatest: Option<usize>, parser: &mut P, input: &mut I) -> Result<C, E>
     requires { P.can_parse parser.old }
     ensures again { P.can_parse parser.new }
-    ensures ran { RepeatManyRuns (P.meaning E.form) C.accumulator (asserted E.form) least greatest (P.state parser.old) (I.view input.old) (answer_by E.kind result) (P.state parser.new) (I.view input.new) }
+    ensures ran { RepeatManyRuns (P.meaning E.form) C.accumulator (assert_kind E.form) least
+        greatest (P.state parser.old) (I.view input.old) (answer_by E.kind result)
+        (P.state parser.new) (I.view input.new) }
     ensures ends { IsEndOf I.reading (I.view input.new) (I.view input.old) }
 {
     if is_descending(least, greatest) {
@@ -126,7 +132,9 @@ fn repeat_one<
 >(alloc: A, parser: &mut P, input: &mut I) -> Result<C, E>
     requires { P.can_parse parser.old }
     ensures again { P.can_parse parser.new }
-    ensures ran { RepeatOneRuns (P.meaning E.form) C.accumulator (asserted E.form) (P.state parser.old) (I.view input.old) (answer_by E.kind result) (P.state parser.new) (I.view input.new) }
+    ensures ran { RepeatOneRuns (P.meaning E.form) C.accumulator (assert_kind E.form)
+        (P.state parser.old) (I.view input.old) (answer_by E.kind result) (P.state parser.new)
+        (I.view input.new) }
     ensures ends { IsEndOf I.reading (I.view input.new) (I.view input.old) }
 {
     let first = parser.parse_next(input)?;
@@ -152,7 +160,9 @@ fn repeat_items<
     requires parser { P.can_parse parser.old }
     requires range { IsWithin room missing }
     ensures again { P.can_parse parser.new }
-    ensures ran { ItemsRun (P.meaning E.form) C.accumulator (asserted E.form) missing room all (P.state parser.old) (I.view input.old) (answer_by E.kind result) (P.state parser.new) (I.view input.new) }
+    ensures ran { ItemsRun (P.meaning E.form) C.accumulator (assert_kind E.form) missing room
+        all (P.state parser.old) (I.view input.old) (answer_by E.kind result)
+        (P.state parser.new) (I.view input.new) }
     ensures ends { IsEndOf I.reading (I.view input.new) (I.view input.old) }
 {
     let mut all = all;

@@ -36,15 +36,19 @@ impl<
     O3,
     E: ParserError<I>,
 > Parser<I, (O1, O3), E> for SeparatedPair<P1, P2, P3, I, O1, O2, O3, E> {
-    ghost can_parse = { λ s. P1.can_parse s.first × P2.can_parse s.separator × P3.can_parse s.second };
+    ghost can_parse = { λ s. P1.can_parse s.first × P2.can_parse s.separator
+        × P3.can_parse s.second };
 
     ghost State = { P1.State × P2.State × P3.State };
 
     ghost state = { λ s. (P1.state s.first, P2.state s.separator, P3.state s.second) };
 
-    ghost meaning = { λ form. SeparatedPairRuns (P1.meaning form) (P2.meaning form) (P3.meaning form) };
+    ghost meaning = { λ form. SeparatedPairRuns (P1.meaning form) (P2.meaning form)
+        (P3.meaning form) };
 
-    ghost leaves_ends = { λ form. three_ends I.reading (λ o1 o2 o3. (o1, o3)) (P1.meaning form) (P2.meaning form) (P3.meaning form) (P1.leaves_ends form) (P2.leaves_ends form) (P3.leaves_ends form) };
+    ghost leaves_ends = { λ form. three_ends I.reading (λ o1 o2 o3. (o1, o3)) (P1.meaning form)
+        (P2.meaning form) (P3.meaning form) (P1.leaves_ends form) (P2.leaves_ends form)
+        (P3.leaves_ends form) };
 
     #[inline(always)]
     fn parse_next(&mut self, input: &mut I) -> Result<(O1, O3), E> {
@@ -71,7 +75,11 @@ impl<
     F: ParserError<J>,
 > AgreesWith<I, (O1, O3), E, SeparatedPair<Q1, Q2, Q3, J, O1, O2, O3, F>, J, F>
     for SeparatedPair<P1, P2, P3, I, O1, O2, O3, E> {
-    ghost like = { λ p q. P1.like p.first q.first × P2.like p.separator q.separator × P3.like p.second q.second };
+    ghost like = { λ p q. P1.like p.first q.first × P2.like p.separator q.separator
+        × P3.like p.second q.second };
 
-    ghost agrees = { agrees3 (λ p. p.first) (λ q. q.first) (λ p. p.separator) (λ q. q.separator) (λ p. p.second) (λ q. q.second) (λ X1 X2 X3 m1 m2 m3 form. SeparatedPairRuns (m1 form) (m2 form) (m3 form)) P1.agrees P2.agrees P3.agrees };
+    ghost agrees = { agrees3 (λ p. p.first) (λ q. q.first) (λ p. p.separator) (λ q. q.separator)
+        (λ p. p.second) (λ q. q.second)
+        (λ X1 X2 X3 m1 m2 m3 form. SeparatedPairRuns (m1 form) (m2 form) (m3 form)) P1.agrees
+        P2.agrees P3.agrees };
 }

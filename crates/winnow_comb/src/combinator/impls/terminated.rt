@@ -40,7 +40,8 @@ impl<
 
     ghost meaning = { λ form. TerminatedRuns (P1.meaning form) (P2.meaning form) };
 
-    ghost leaves_ends = { λ form. both_ends I.reading (λ o1 o2. o1) (P1.meaning form) (P2.meaning form) (P1.leaves_ends form) (P2.leaves_ends form) };
+    ghost leaves_ends = { λ form. both_ends I.reading (λ o1 o2. o1) (P1.meaning form)
+        (P2.meaning form) (P1.leaves_ends form) (P2.leaves_ends form) };
 
     #[inline(always)]
     fn parse_next(&mut self, input: &mut I) -> Result<O1, E> {
@@ -65,5 +66,6 @@ impl<
     for Terminated<P1, P2, I, O1, O2, E> {
     ghost like = { λ p q. P1.like p.parser q.parser × P2.like p.ignored q.ignored };
 
-    ghost agrees = { agrees2 (λ p. p.parser) (λ q. q.parser) (λ p. p.ignored) (λ q. q.ignored) (λ X1 X2 m1 m2 form. TerminatedRuns (m1 form) (m2 form)) P1.agrees P2.agrees };
+    ghost agrees = { agrees2 (λ p. p.parser) (λ q. q.parser) (λ p. p.ignored) (λ q. q.ignored)
+        (λ X1 X2 m1 m2 form. TerminatedRuns (m1 form) (m2 form)) P1.agrees P2.agrees };
 }

@@ -50,7 +50,10 @@ impl<
     E: ParserError<I>,
     F: ParserError<J>,
 > AgreesWith<I, O, E, ByRef<'p, Q, J, O, F>, J, F> for ByRef<'p, P, I, O, E> {
-    ghost like = { λ p q. P.like p.parser.now q.parser.now × (p.parser.ghost_name ≡ q.parser.ghost_name) };
+    ghost like = { λ p q. P.like p.parser.now q.parser.now
+        × (p.parser.ghost_name ≡ q.parser.ghost_name) };
 
-    ghost agrees = { agrees_with (λ p. p.parser.now) (λ q. q.parser.now) (λ p. p.parser.ghost_name) (λ q. q.parser.ghost_name) (λ X m form. ByRefRuns (m form)) P.agrees };
+    ghost agrees = { agrees_with (λ p. p.parser.now) (λ q. q.parser.now)
+        (λ p. p.parser.ghost_name) (λ q. q.parser.ghost_name) (λ X m form. ByRefRuns (m form))
+        P.agrees };
 }

@@ -57,7 +57,8 @@ impl<
 > AgreesWith<I, O2, E, Map<Q, G, J, O, O2, F>, J, F> for Map<P, G, I, O, O2, E> {
     ghost like = { λ p q. P.like p.parser q.parser × (p.map ≡ q.map) };
 
-    ghost agrees = { agrees_with (λ p. p.parser) (λ q. q.parser) (λ p. p.map) (λ q. q.map) (λ X m form. MapRuns (m form) G.step) P.agrees };
+    ghost agrees = { agrees_with (λ p. p.parser) (λ q. q.parser) (λ p. p.map) (λ q. q.map)
+        (λ X m form. MapRuns (m form) G.step) P.agrees };
 
     fn agree() {}
 }

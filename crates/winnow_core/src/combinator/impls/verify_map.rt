@@ -38,7 +38,8 @@ impl<F: Parser<I, O, E>, G: FnMut(O) -> Option<O2>, I: Stream, O, O2, E: ParserE
 
     ghost meaning = { λ form. VerifyMapRuns (F.meaning form) G.step };
 
-    ghost leaves_ends = { λ form. verify_map_ends I.reading (F.meaning form) G.step (F.leaves_ends form) };
+    ghost leaves_ends = { λ form. verify_map_ends I.reading (F.meaning form) G.step
+        (F.leaves_ends form) };
 
     #[inline]
     fn parse_next(&mut self, input: &mut I) -> Result<O2, E> {
@@ -67,7 +68,8 @@ impl<
 > AgreesWith<I, O2, E, VerifyMap<Q, G, J, O, O2, F>, J, F> for VerifyMap<P, G, I, O, O2, E> {
     ghost like = { λ p q. P.like p.parser q.parser × (p.filter ≡ q.filter) };
 
-    ghost agrees = { agrees_with (λ p. p.parser) (λ q. q.parser) (λ p. p.filter) (λ q. q.filter) (λ X m form. VerifyMapRuns (m form) G.step) P.agrees };
+    ghost agrees = { agrees_with (λ p. p.parser) (λ q. q.parser) (λ p. p.filter) (λ q. q.filter)
+        (λ X m form. VerifyMapRuns (m form) G.step) P.agrees };
 
     fn agree() {}
 }

@@ -52,5 +52,6 @@ impl<
 > AgreesWith<I, (), E, Void<Q, J, O, F>, J, F> for Void<P, I, O, E> {
     ghost like = { λ p q. P.like p.parser q.parser };
 
-    ghost agrees = { agrees1 (λ p. p.parser) (λ q. q.parser) (λ X m form. VoidRuns (m form)) P.agrees };
+    ghost agrees = { agrees1 (λ p. p.parser) (λ q. q.parser) (λ X m form. VoidRuns (m form))
+        P.agrees };
 }

@@ -27,7 +27,8 @@ impl<I: StreamIsPartial, E: ParserError<I>> Parser<I, I::Token, E> for Any {
 
     ghost meaning = { λ form. Keeps (λ _. AnyRuns I.seen_as I.reading form) };
 
-    ghost leaves_ends = { λ form x i answer y j r. any_ends I.seen_as I.reading form i answer j r.0 };
+    ghost leaves_ends = { λ form x i answer y j r. any_ends I.seen_as I.reading form i answer j
+        r.0 };
 
     #[inline(always)]
     fn parse_next(&mut self, input: &mut I) -> Result<I::Token, E> {

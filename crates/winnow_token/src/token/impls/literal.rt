@@ -32,9 +32,11 @@ impl<T: Copy, I: StreamIsPartial + Compare<T>, E: ParserError<I>> Parser<I, I::S
 
     ghost state = { λ s. s.literal };
 
-    ghost meaning = { λ form. Keeps (λ x. LiteralRuns I.reading form (I.spells x) (λ slice. slice)) };
+    ghost meaning = { λ form. Keeps
+        (λ x. LiteralRuns I.reading form (I.spells x) (λ slice. slice)) };
 
-    ghost leaves_ends = { λ form x i answer y j r. literal_ends I.reading form (I.spells x) (λ slice. slice) i answer j r.0 };
+    ghost leaves_ends = { λ form x i answer y j r. literal_ends I.reading form (I.spells x)
+        (λ slice. slice) i answer j r.0 };
 
     #[inline(always)]
     fn parse_next(&mut self, input: &mut I) -> Result<I::Slice, E> {
@@ -51,5 +53,6 @@ impl<
 > AgreesWith<I, I::Slice, E, Literal<T, J, F>, J, F> for Literal<T, I, E> {
     ghost like = { λ p q. p.literal ≡ q.literal };
 
-    ghost agrees = { agrees_by (λ p. p.literal) (λ q. q.literal) (literal_alike (λ _ slice. slice) I.same_reading I.same_spells) };
+    ghost agrees = { agrees_by (λ p. p.literal) (λ q. q.literal)
+        (literal_alike (λ _ slice. slice) I.same_reading I.same_spells) };
 }

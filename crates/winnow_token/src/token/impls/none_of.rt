@@ -38,9 +38,11 @@ where
 
     ghost state = { λ s. s.set };
 
-    ghost meaning = { λ form. Keeps (λ x. OneOfRuns I.seen_as I.reading form (λ k b. S.tells x k (not b))) };
+    ghost meaning = { λ form. Keeps
+        (λ x. OneOfRuns I.seen_as I.reading form (λ k b. S.tells x k (not b))) };
 
-    ghost leaves_ends = { λ form x i answer y j r. one_of_ends I.seen_as I.reading form (λ k b. S.tells x k (not b)) i answer j r.0 };
+    ghost leaves_ends = { λ form x i answer y j r. one_of_ends I.seen_as I.reading form
+        (λ k b. S.tells x k (not b)) i answer j r.0 };
 
     #[inline(always)]
     fn parse_next(&mut self, input: &mut I) -> Result<I::Token, E> {
@@ -60,5 +62,6 @@ where
 {
     ghost like = { λ p q. p.set ≡ q.set };
 
-    ghost agrees = { agrees_by (λ p. p.set) (λ q. q.set) (one_of_alike (λ x k b. S.tells x k (not b)) I.same_reading I.same_tokens) };
+    ghost agrees = { agrees_by (λ p. p.set) (λ q. q.set)
+        (one_of_alike (λ x k b. S.tells x k (not b)) I.same_reading I.same_tokens) };
 }

@@ -39,7 +39,8 @@ where
 
     ghost meaning = { λ form. Keeps (λ x. OneOfRuns I.seen_as I.reading form (S.tells x)) };
 
-    ghost leaves_ends = { λ form x i answer y j r. one_of_ends I.seen_as I.reading form (S.tells x) i answer j r.0 };
+    ghost leaves_ends = { λ form x i answer y j r. one_of_ends I.seen_as I.reading form
+        (S.tells x) i answer j r.0 };
 
     #[inline(always)]
     fn parse_next(&mut self, input: &mut I) -> Result<I::Token, E> {
@@ -59,5 +60,6 @@ where
 {
     ghost like = { λ p q. p.set ≡ q.set };
 
-    ghost agrees = { agrees_by (λ p. p.set) (λ q. q.set) (one_of_alike S.tells I.same_reading I.same_tokens) };
+    ghost agrees = { agrees_by (λ p. p.set) (λ q. q.set)
+        (one_of_alike S.tells I.same_reading I.same_tokens) };
 }

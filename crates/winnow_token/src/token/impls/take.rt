@@ -32,7 +32,8 @@ impl<I: StreamIsPartial, E: ParserError<I>> Parser<I, I::Slice, E> for Take<I, E
 
     ghost meaning = { λ form. Keeps (λ x. TakeRuns I.reading form I.counts_missing x) };
 
-    ghost leaves_ends = { λ form x i answer y j r. take_ends I.reading form I.counts_missing x i answer j r.0 };
+    ghost leaves_ends = { λ form x i answer y j r. take_ends I.reading form I.counts_missing x i
+        answer j r.0 };
 
     #[inline(always)]
     fn parse_next(&mut self, input: &mut I) -> Result<I::Slice, E> {
@@ -51,5 +52,6 @@ impl<
 > AgreesWith<I, I::Slice, E, Take<J, F>, J, F> for Take<I, E> {
     ghost like = { λ p q. p.count ≡ q.count };
 
-    ghost agrees = { agrees_by (λ p. p.count) (λ q. q.count) (take_alike I.same_reading I.same_missing) };
+    ghost agrees = { agrees_by (λ p. p.count) (λ q. q.count)
+        (take_alike I.same_reading I.same_missing) };
 }

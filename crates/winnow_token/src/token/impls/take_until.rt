@@ -36,9 +36,13 @@ impl<T: Copy, I: StreamIsPartial + FindSlice<T>, E: ParserError<I>> Parser<I, I:
 
     ghost state = { λ s. (s.occurrences, s.literal) };
 
-    ghost meaning = { λ form. Keeps (λ x. TakeUntilRuns I.reading form (I.sought x.1) x.0.start_inclusive (greatest_of x.0.start_inclusive x.0.end_inclusive)) };
+    ghost meaning = { λ form. Keeps
+        (λ x. TakeUntilRuns I.reading form (I.sought x.1) x.0.start_inclusive
+        (greatest_of x.0.start_inclusive x.0.end_inclusive)) };
 
-    ghost leaves_ends = { λ form x i answer y j r. take_until_ends I.reading form (I.sought x.1) x.0.start_inclusive (greatest_of x.0.start_inclusive x.0.end_inclusive) i answer j r.0 };
+    ghost leaves_ends = { λ form x i answer y j r. take_until_ends I.reading form (I.sought x.1)
+        x.0.start_inclusive (greatest_of x.0.start_inclusive x.0.end_inclusive) i answer j
+        r.0 };
 
     #[inline(always)]
     fn parse_next(&mut self, input: &mut I) -> Result<I::Slice, E> {
@@ -55,5 +59,6 @@ impl<
 > AgreesWith<I, I::Slice, E, TakeUntil<T, J, F>, J, F> for TakeUntil<T, I, E> {
     ghost like = { λ p q. (p.occurrences ≡ q.occurrences) × (p.literal ≡ q.literal) };
 
-    ghost agrees = { agrees_by_parts (λ p. p.occurrences) (λ p. p.literal) (λ q. q.occurrences) (λ q. q.literal) (take_until_alike I.same_reading I.same_sought) };
+    ghost agrees = { agrees_by_parts (λ p. p.occurrences) (λ p. p.literal) (λ q. q.occurrences)
+        (λ q. q.literal) (take_until_alike I.same_reading I.same_sought) };
 }

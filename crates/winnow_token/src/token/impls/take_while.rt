@@ -39,9 +39,13 @@ impl<S: ContainsToken<I::Token>, I: StreamIsPartial, E: ParserError<I>> Parser<I
 
     ghost state = { λ s. (s.occurrences, s.set) };
 
-    ghost meaning = { λ form. Keeps (λ x. TakeWhileRuns I.reading form (AnswersSeen I.seen_as (S.tells x.1)) x.0.start_inclusive (greatest_of x.0.start_inclusive x.0.end_inclusive)) };
+    ghost meaning = { λ form. Keeps
+        (λ x. TakeWhileRuns I.reading form (AnswersSeen I.seen_as (S.tells x.1))
+        x.0.start_inclusive (greatest_of x.0.start_inclusive x.0.end_inclusive)) };
 
-    ghost leaves_ends = { λ form x i answer y j r. take_while_ends I.reading form (AnswersSeen I.seen_as (S.tells x.1)) x.0.start_inclusive (greatest_of x.0.start_inclusive x.0.end_inclusive) i answer j r.0 };
+    ghost leaves_ends = { λ form x i answer y j r. take_while_ends I.reading form
+        (AnswersSeen I.seen_as (S.tells x.1)) x.0.start_inclusive
+        (greatest_of x.0.start_inclusive x.0.end_inclusive) i answer j r.0 };
 
     #[inline(always)]
     fn parse_next(&mut self, input: &mut I) -> Result<I::Slice, E> {
@@ -58,5 +62,6 @@ impl<
 > AgreesWith<I, I::Slice, E, TakeWhile<S, J, F>, J, F> for TakeWhile<S, I, E> {
     ghost like = { λ p q. (p.occurrences ≡ q.occurrences) × (p.set ≡ q.set) };
 
-    ghost agrees = { agrees_by_parts (λ p. p.occurrences) (λ p. p.set) (λ q. q.occurrences) (λ q. q.set) (take_while_alike S.tells I.same_reading I.same_tokens) };
+    ghost agrees = { agrees_by_parts (λ p. p.occurrences) (λ p. p.set) (λ q. q.occurrences)
+        (λ q. q.set) (take_while_alike S.tells I.same_reading I.same_tokens) };
 }

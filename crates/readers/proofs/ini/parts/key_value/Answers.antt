@@ -11,7 +11,8 @@ returns-in-Ok c =
       | inl (o1, o2, a, r1, r2, e) ↦ elim (front_read _ _ _ _ _ r1) [
         | inl (key, value, before, lead, body, laid, some, trail, text, is) ↦
             let (remark, is_remark, rest, ends) = remark_read _ _ _ _ _ laid.body_ends r2 in
-            let (p, begins, keys, values) = pair_read _ _ _ _ _ _ _ _ _ laid some trail text is_remark rest ends in
+            let (p, begins, keys, values) =
+            pair_read _ _ _ _ _ _ _ _ _ laid some trail text is_remark rest ends in
             (c.in-Ok.ensures.ends, inl (p, key, value, begins, keys, values, e ∙ is))
         | inr (none, is) ↦ ok_is_err refl is
       ]

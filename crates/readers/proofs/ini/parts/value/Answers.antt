@@ -11,7 +11,8 @@ use Rattle.readers.proofs.ini.parts.value.Goals as goal
 
 pub returns : goal.returns
 returns c =
-    let range = ap (λ p. p.occurrences) c.verify_map.ensures.parser ∙ c.take_while.ensures.occurrences ∙ c.from.ensures in
+    let range = ap (λ p. p.occurrences) c.verify_map.ensures.parser
+    ∙ c.take_while.ensures.occurrences ∙ c.from.ensures in
     elim c.parse_next.ensures.ran [
       | inl (o, u, r, step, e) ↦
           let told : IsWithoutTrailing o.now u.now × IsUtf8 u.now = search rules in
@@ -20,20 +21,26 @@ returns c =
             (
               o.now,
               c.parse_next.new.input.now,
-              took_front IsValueByte _ _ _ _ _ taken (λ x h. let p = h.2 in search rules) (λ x h is. let p = h.2 in let seen = h.1 in let no_mark = is.0 in let no_feed = is.1 in grind (arith, common_steps, nat_tests)),
+              took_front IsValueByte _ _ _ _ _ taken (λ x h. let p = h.2 in search rules)
+                  (λ x h is. let p = h.2 in let seen = h.1 in let no_mark = is.0
+                  in let no_feed = is.1 in grind (arith, common_steps, nat_tests)),
               inl (u, refl, told.0, told.1, e),
             ),
           )
       | inr (inl (o, b, r, step, e, back)) ↦
-          let told : (value : List ℕ) → IsWithoutTrailing o.now value → IsUtf8 value → ⊥ = search rules in
+          let told : (value : List ℕ) → IsWithoutTrailing o.now value → IsUtf8 value → ⊥ =
+          search rules in
           let taken = took_by modal _ _ _ _ _ _ _ range refl r.0 in (
             c.parse_next.ensures.ends,
             (
               o.now,
               b.left.tokens,
-              took_front IsValueByte _ _ _ _ _ taken (λ x h. let p = h.2 in search rules) (λ x h is. let p = h.2 in let seen = h.1 in let no_mark = is.0 in let no_feed = is.1 in grind (arith, common_steps, nat_tests)),
+              took_front IsValueByte _ _ _ _ _ taken (λ x h. let p = h.2 in search rules)
+                  (λ x h is. let p = h.2 in let seen = h.1 in let no_mark = is.0
+                  in let no_feed = is.1 in grind (arith, common_steps, nat_tests)),
               inr (told, e),
             ),
           )
-      | inr (inr (k, r, same, e)) ↦ never_too_few _ _ _ _ (took_too_few_by modal _ _ _ _ _ _ _ range refl tt r.0)
+      | inr (inr (k, r, same, e))
+          ↦ never_too_few _ _ _ _ (took_too_few_by modal _ _ _ _ _ _ _ range refl tt r.0)
     ]

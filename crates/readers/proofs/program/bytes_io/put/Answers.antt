@@ -7,5 +7,8 @@ pub loop-preserved-in-Ok : goal.loop-preserved-in-Ok
 loop-preserved-in-Ok g c =
     let (done, split, appended) = c.loop.invariant in
     let rest = c.loop.rest.now in
-    let n = c.in-Ok.n in
-    (done ++ take n rest, moves_front _ done rest n split, Appends-trans _ _ _ _ _ appended c.in-Ok.ensures.bytes)
+    let n = c.in-Ok.n in (
+      done ++ take n rest,
+      moves_front _ done rest n split,
+      Appends-trans _ _ _ _ _ appended c.in-Ok.ensures.bytes,
+    )

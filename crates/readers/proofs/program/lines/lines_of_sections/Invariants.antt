@@ -6,4 +6,6 @@ use Rattle.readers.specs.Sections.{section_text}
 use Rattle.readers.proofs.program.lines.lines_of_sections.Given as goal
 
 abbrev pub invariant-loop-section : goal.invariant-loop-section
-invariant-loop-section g l = l.lines.items ++ document_lines (map section_text (drop l.section-index l.sections)) ≡ document_lines (map section_text l.sections)
+invariant-loop-section g l =
+    l.lines.items ++ document_lines (map section_text (drop l.section-index l.sections))
+    ≡ document_lines (map section_text l.sections)

@@ -4,4 +4,5 @@ use Rattle.streams.specs.Stream.{AnswersSeen}
 use Rattle.streams.proofs.bytes.RefSliceU8Stream.offset_for.Given as goal
 
 abbrev pub invariant-loop-i : goal.invariant-loop-i
-invariant-loop-i g l = All (λ x. AnswersSeen (λ t. t) (g.P.TokenTest.answers l.predicate) x false) (take l.i l.all)
+invariant-loop-i g l =
+    All (λ x. AnswersSeen (λ t. t) (g.P.TokenTest.answers l.predicate) x false) (take l.i l.all)

@@ -8,7 +8,12 @@ returns g c =
     record {
       shown = made.shown;
       bits = made.bits;
-      passed = λ p leads. omega (arith, ap (λ x. x.passed) leads, c.eof_offset-units.ensures, c.saturating_sub.ensures);
+      passed = λ p leads. omega (
+        arith,
+        ap (λ x. x.passed) leads,
+        c.eof_offset-units.ensures,
+        c.saturating_sub.ensures,
+      );
       possible = made.possible;
-      side = made.side;
+      status = made.status;
     }

@@ -9,10 +9,17 @@ pub returns-clause-takes : goal.returns-clause-takes
 returns-clause-takes c =
     let text = c.args.self.now.now in
     let utf8 = rw c.as_bytes-bytes.ensures.value at c.as_bytes-bytes.ensures.utf8 in
-    record { shown = sym (encodes-chars text utf8); passed = passes_all text c.range_from.result.now (c.range_from.ensures.value ∙ drop_all (length text) text (omega arith)) }
+    record {
+      shown = sym (encodes-chars text utf8);
+      passed = passes_all text c.range_from.result.now
+          (c.range_from.ensures.value ∙ drop_all (length text) text (omega arith));
+    }
 
 pub returns-clause-ends : goal.returns-clause-ends
 returns-clause-ends c = takes_end (returns-clause-takes c)
 
 pub returns-clause-nothing : goal.returns-clause-nothing
-returns-clause-nothing c = let text = c.args.self.now.now in ap chars (c.range_from.ensures.value ∙ drop_all (length text) text (omega arith)) ∙ chars-nil
+returns-clause-nothing c =
+    let text = c.args.self.now.now
+    in ap chars (c.range_from.ensures.value ∙ drop_all (length text) text (omega arith))
+    ∙ chars-nil

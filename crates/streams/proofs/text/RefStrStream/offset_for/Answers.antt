@@ -24,8 +24,11 @@ loop-offset-preserved g c =
     let refused = AnswersSeen (λ t. t) (g.P.TokenTest.answers c.args.predicate) in (
       grind (arith, common_steps),
       grind (arith, common_steps),
-      passed_more _ _ _ _ _ (c.in-Some.offset, c.in-Some.c) c.in-Some.ensures.steps (λ front known. All-push (λ x. refused x false) front c.in-Some.c known (c.in-Some.c, refl, search rules)) c.loop-offset.invariant.2,
+      passed_more _ _ _ _ _ (c.in-Some.offset, c.in-Some.c) c.in-Some.ensures.steps
+          (λ front known. All-push (λ x. refused x false) front c.in-Some.c known
+          (c.in-Some.c, refl, search rules)) c.loop-offset.invariant.2,
     )
 
 pub returns : goal.returns
-returns g c = known_at_end _ _ _ None c.next.new.self refl c.in-None.ensures.steps c.loop-offset.invariant.2
+returns g c = known_at_end _ _ _ None c.next.new.self refl c.in-None.ensures.steps
+    c.loop-offset.invariant.2

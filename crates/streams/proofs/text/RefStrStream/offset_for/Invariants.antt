@@ -8,4 +8,5 @@ abbrev pub invariant-loop-offset : goal.invariant-loop-offset
 invariant-loop-offset g l =
     (goal.iterator-loop-offset g).can_next l.offset-iterator
     × (goal.iterator-loop-offset g).is_finite l.offset-iterator
-    × Passed (All (λ c. AnswersSeen (λ t. t) (g.P.TokenTest.answers l.predicate) c false)) l.self.now l.offset-iterator
+    × Passed (All (λ c. AnswersSeen (λ t. t) (g.P.TokenTest.answers l.predicate) c false))
+    l.self.now l.offset-iterator

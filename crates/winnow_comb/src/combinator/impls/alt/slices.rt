@@ -1,7 +1,7 @@
 //! Arrays and slices as branches.
 ghost use Rattle.std.specs.List.{All};
 ghost use Rattle.std.specs.Prelude.{◌≡◌, List, map, ℕ};
-ghost use Rattle.stream_errors.specs.Form.{answer_by, asserted};
+ghost use Rattle.stream_errors.specs.Form.{answer_by, assert_kind};
 ghost use Rattle.streams.specs.Input.{IsEndOf};
 ghost use Rattle.winnow_comb.specs.Alt.Slice.{AltSliceRuns};
 ghost use Rattle.winnow_comb.specs.Alt.Slice.Laws.{alt_slice_ends, slice_agrees};
@@ -22,9 +22,10 @@ impl<const N: usize, I: Stream, O, E: ParserError<I>, P: Parser<I, O, E>> Alt<I,
 
     ghost state = { λ s. map P.state s };
 
-    ghost meaning = { λ form. AltSliceRuns (P.meaning form) (asserted form) };
+    ghost meaning = { λ form. AltSliceRuns (P.meaning form) (assert_kind form) };
 
-    ghost leaves_ends = { λ form. alt_slice_ends I.reading (P.meaning form) (asserted form) (P.leaves_ends form) };
+    ghost leaves_ends = { λ form. alt_slice_ends I.reading (P.meaning form) (assert_kind form)
+        (P.leaves_ends form) };
 
     #[inline(always)]
     fn choice(&mut self, input: &mut I) -> Result<O, E> {
@@ -46,7 +47,8 @@ impl<
 
     fn agree() {}
 
-    ghost agrees = { agrees_list (λ p. p.alternatives) (λ q. q.alternatives) (λ X m form. AltSliceRuns (m form) (asserted form)) P.agrees };
+    ghost agrees = { agrees_list (λ p. p.alternatives) (λ q. q.alternatives)
+        (λ X m form. AltSliceRuns (m form) (assert_kind form)) P.agrees };
 }
 
 impl<'a, I: Stream, O, E: ParserError<I>, P: Parser<I, O, E>> Alt<I, O, E> for &'a mut [P] {
@@ -56,9 +58,11 @@ impl<'a, I: Stream, O, E: ParserError<I>, P: Parser<I, O, E>> Alt<I, O, E> for &
 
     ghost state = { λ s. (map P.state s.now, s.ghost_name) };
 
-    ghost meaning = { λ form. ByRefRuns (AltSliceRuns (P.meaning form) (asserted form)) };
+    ghost meaning = { λ form. ByRefRuns (AltSliceRuns (P.meaning form) (assert_kind form)) };
 
-    ghost leaves_ends = { λ form. by_ref_ends I.reading (AltSliceRuns (P.meaning form) (asserted form)) (alt_slice_ends I.reading (P.meaning form) (asserted form) (P.leaves_ends form)) };
+    ghost leaves_ends = { λ form. by_ref_ends I.reading
+        (AltSliceRuns (P.meaning form) (assert_kind form))
+        (alt_slice_ends I.reading (P.meaning form) (assert_kind form) (P.leaves_ends form)) };
 
     #[inline(always)]
     fn choice(&mut self, input: &mut I) -> Result<O, E> {
@@ -76,9 +80,12 @@ impl<
     E: ParserError<I>,
     F: ParserError<J>,
 > AgreesWith<I, O, E, AltParser<&'a mut [Q], J, O, F>, J, F> for AltParser<&'a mut [P], I, O, E> {
-    ghost like = { λ p q. AllAlike P.like p.alternatives.now q.alternatives.now × (p.alternatives.ghost_name ≡ q.alternatives.ghost_name) };
+    ghost like = { λ p q. AllAlike P.like p.alternatives.now q.alternatives.now
+        × (p.alternatives.ghost_name ≡ q.alternatives.ghost_name) };
 
-    ghost agrees = { slice_agrees (λ p. p.alternatives.now) (λ q. q.alternatives.now) (λ p. p.alternatives.ghost_name) (λ q. q.alternatives.ghost_name) asserted P.agrees };
+    ghost agrees = { slice_agrees (λ p. p.alternatives.now) (λ q. q.alternatives.now)
+        (λ p. p.alternatives.ghost_name) (λ q. q.alternatives.ghost_name) assert_kind
+        P.agrees };
 }
 
 /// Runs the branches of a slice in order, each from the start.
@@ -89,7 +96,9 @@ fn choose<I: Stream, O, E: ParserError<I>, P: Parser<I, O, E>>(
 ) -> Result<O, E>
     requires { All P.can_parse branches.old }
     ensures again { All P.can_parse branches.new }
-    ensures ran { AltSliceRuns (P.meaning E.form) (asserted E.form) (map P.state branches.old) (I.view input.old) (answer_by E.kind result) (map P.state branches.new) (I.view input.new) }
+    ensures ran { AltSliceRuns (P.meaning E.form) (assert_kind E.form)
+        (map P.state branches.old) (I.view input.old) (answer_by E.kind result)
+        (map P.state branches.new) (I.view input.new) }
     ensures ends { IsEndOf I.reading (I.view input.new) (I.view input.old) }
 {
     if branches.is_empty() {

@@ -52,7 +52,8 @@ impl<I: Stream, O, E: ParserError<I>, P1: Parser<I, O, E>, P2: Parser<I, O, E>> 
 
     ghost meaning = { λ form. OrElse (P1.meaning form) (P2.meaning form) };
 
-    ghost leaves_ends = { λ form. or_else_ends I.reading (P1.meaning form) (P2.meaning form) (P1.leaves_ends form) (P2.leaves_ends form) };
+    ghost leaves_ends = { λ form. or_else_ends I.reading (P1.meaning form) (P2.meaning form)
+        (P1.leaves_ends form) (P2.leaves_ends form) };
 
     #[inline(always)]
     fn choice(&mut self, input: &mut I) -> Result<O, E> {
@@ -75,9 +76,11 @@ impl<
     P2: AgreesWith<I, O, E, Q2, J, F>,
     Q2: Parser<J, O, F>,
 > AgreesWith<I, O, E, AltParser<(Q1, Q2), J, O, F>, J, F> for AltParser<(P1, P2), I, O, E> {
-    ghost like = { λ p q. P1.like p.alternatives.0 q.alternatives.0 × P2.like p.alternatives.1 q.alternatives.1 };
+    ghost like = { λ p q. P1.like p.alternatives.0 q.alternatives.0
+        × P2.like p.alternatives.1 q.alternatives.1 };
 
-    ghost agrees = { or_else_agrees (λ p. p.alternatives.0) (λ q. q.alternatives.0) (λ p. p.alternatives.1) (λ q. q.alternatives.1) P1.agrees P2.agrees };
+    ghost agrees = { or_else_agrees (λ p. p.alternatives.0) (λ q. q.alternatives.0)
+        (λ p. p.alternatives.1) (λ q. q.alternatives.1) P1.agrees P2.agrees };
 }
 
 impl<
@@ -94,9 +97,13 @@ impl<
 
     ghost state = { λ s. (P1.state s.0, (P2.state s.1, P3.state s.2)) };
 
-    ghost meaning = { λ form. OrElse (P1.meaning form) (OrElse (P2.meaning form) (P3.meaning form)) };
+    ghost meaning = { λ form. OrElse (P1.meaning form)
+        (OrElse (P2.meaning form) (P3.meaning form)) };
 
-    ghost leaves_ends = { λ form. or_else_ends I.reading (P1.meaning form) (OrElse (P2.meaning form) (P3.meaning form)) (P1.leaves_ends form) (or_else_ends I.reading (P2.meaning form) (P3.meaning form) (P2.leaves_ends form) (P3.leaves_ends form)) };
+    ghost leaves_ends = { λ form. or_else_ends I.reading (P1.meaning form)
+        (OrElse (P2.meaning form) (P3.meaning form)) (P1.leaves_ends form)
+        (or_else_ends I.reading (P2.meaning form) (P3.meaning form) (P2.leaves_ends form)
+        (P3.leaves_ends form)) };
 
     #[inline(always)]
     fn choice(&mut self, input: &mut I) -> Result<O, E> {
@@ -124,9 +131,14 @@ impl<
     P3: AgreesWith<I, O, E, Q3, J, F>,
     Q3: Parser<J, O, F>,
 > AgreesWith<I, O, E, AltParser<(Q1, Q2, Q3), J, O, F>, J, F> for AltParser<(P1, P2, P3), I, O, E> {
-    ghost like = { λ p q. P1.like p.alternatives.0 q.alternatives.0 × (P2.like p.alternatives.1 q.alternatives.1 × P3.like p.alternatives.2 q.alternatives.2) };
+    ghost like = { λ p q. P1.like p.alternatives.0 q.alternatives.0
+        × (P2.like p.alternatives.1 q.alternatives.1
+        × P3.like p.alternatives.2 q.alternatives.2) };
 
-    ghost agrees = { or_else_agrees (λ p. p.alternatives.0) (λ q. q.alternatives.0) (λ p. p) (λ q. q) P1.agrees (or_else_agrees (λ p. p.alternatives.1) (λ q. q.alternatives.1) (λ p. p.alternatives.2) (λ q. q.alternatives.2) P2.agrees P3.agrees) };
+    ghost agrees = { or_else_agrees (λ p. p.alternatives.0) (λ q. q.alternatives.0) (λ p. p)
+        (λ q. q) P1.agrees
+        (or_else_agrees (λ p. p.alternatives.1) (λ q. q.alternatives.1)
+        (λ p. p.alternatives.2) (λ q. q.alternatives.2) P2.agrees P3.agrees) };
 }
 
 impl<
@@ -138,15 +150,23 @@ impl<
     P3: Parser<I, O, E>,
     P4: Parser<I, O, E>,
 > Alt<I, O, E> for (P1, P2, P3, P4) {
-    ghost can_choose = { λ s. P1.can_parse s.0 × P2.can_parse s.1 × P3.can_parse s.2 × P4.can_parse s.3 };
+    ghost can_choose = { λ s. P1.can_parse s.0 × P2.can_parse s.1 × P3.can_parse s.2
+        × P4.can_parse s.3 };
 
     ghost State = { P1.State × (P2.State × (P3.State × P4.State)) };
 
     ghost state = { λ s. (P1.state s.0, (P2.state s.1, (P3.state s.2, P4.state s.3))) };
 
-    ghost meaning = { λ form. OrElse (P1.meaning form) (OrElse (P2.meaning form) (OrElse (P3.meaning form) (P4.meaning form))) };
+    ghost meaning = { λ form. OrElse (P1.meaning form)
+        (OrElse (P2.meaning form) (OrElse (P3.meaning form) (P4.meaning form))) };
 
-    ghost leaves_ends = { λ form. or_else_ends I.reading (P1.meaning form) (OrElse (P2.meaning form) (OrElse (P3.meaning form) (P4.meaning form))) (P1.leaves_ends form) (or_else_ends I.reading (P2.meaning form) (OrElse (P3.meaning form) (P4.meaning form)) (P2.leaves_ends form) (or_else_ends I.reading (P3.meaning form) (P4.meaning form) (P3.leaves_ends form) (P4.leaves_ends form))) };
+    ghost leaves_ends = { λ form. or_else_ends I.reading (P1.meaning form)
+        (OrElse (P2.meaning form) (OrElse (P3.meaning form) (P4.meaning form)))
+        (P1.leaves_ends form)
+        (or_else_ends I.reading (P2.meaning form) (OrElse (P3.meaning form) (P4.meaning form))
+        (P2.leaves_ends form)
+        (or_else_ends I.reading (P3.meaning form) (P4.meaning form) (P3.leaves_ends form)
+        (P4.leaves_ends form))) };
 
     #[inline(always)]
     fn choice(&mut self, input: &mut I) -> Result<O, E> {
@@ -180,9 +200,16 @@ impl<
     Q4: Parser<J, O, F>,
 > AgreesWith<I, O, E, AltParser<(Q1, Q2, Q3, Q4), J, O, F>, J, F>
     for AltParser<(P1, P2, P3, P4), I, O, E> {
-    ghost like = { λ p q. P1.like p.alternatives.0 q.alternatives.0 × (P2.like p.alternatives.1 q.alternatives.1 × (P3.like p.alternatives.2 q.alternatives.2 × P4.like p.alternatives.3 q.alternatives.3)) };
+    ghost like = { λ p q. P1.like p.alternatives.0 q.alternatives.0
+        × (P2.like p.alternatives.1 q.alternatives.1
+        × (P3.like p.alternatives.2 q.alternatives.2
+        × P4.like p.alternatives.3 q.alternatives.3)) };
 
-    ghost agrees = { or_else_agrees (λ p. p.alternatives.0) (λ q. q.alternatives.0) (λ p. p) (λ q. q) P1.agrees (or_else_agrees (λ p. p.alternatives.1) (λ q. q.alternatives.1) (λ p. p) (λ q. q) P2.agrees (or_else_agrees (λ p. p.alternatives.2) (λ q. q.alternatives.2) (λ p. p.alternatives.3) (λ q. q.alternatives.3) P3.agrees P4.agrees)) };
+    ghost agrees = { or_else_agrees (λ p. p.alternatives.0) (λ q. q.alternatives.0) (λ p. p)
+        (λ q. q) P1.agrees
+        (or_else_agrees (λ p. p.alternatives.1) (λ q. q.alternatives.1) (λ p. p) (λ q. q)
+        P2.agrees (or_else_agrees (λ p. p.alternatives.2) (λ q. q.alternatives.2)
+        (λ p. p.alternatives.3) (λ q. q.alternatives.3) P3.agrees P4.agrees)) };
 }
 
 impl<
@@ -195,15 +222,29 @@ impl<
     P4: Parser<I, O, E>,
     P5: Parser<I, O, E>,
 > Alt<I, O, E> for (P1, P2, P3, P4, P5) {
-    ghost can_choose = { λ s. P1.can_parse s.0 × P2.can_parse s.1 × P3.can_parse s.2 × P4.can_parse s.3 × P5.can_parse s.4 };
+    ghost can_choose = { λ s. P1.can_parse s.0 × P2.can_parse s.1 × P3.can_parse s.2
+        × P4.can_parse s.3 × P5.can_parse s.4 };
 
     ghost State = { P1.State × (P2.State × (P3.State × (P4.State × P5.State))) };
 
-    ghost state = { λ s. (P1.state s.0, (P2.state s.1, (P3.state s.2, (P4.state s.3, P5.state s.4)))) };
+    ghost state = { λ s.
+        (P1.state s.0, (P2.state s.1, (P3.state s.2, (P4.state s.3, P5.state s.4)))) };
 
-    ghost meaning = { λ form. OrElse (P1.meaning form) (OrElse (P2.meaning form) (OrElse (P3.meaning form) (OrElse (P4.meaning form) (P5.meaning form)))) };
+    ghost meaning = { λ form. OrElse (P1.meaning form)
+        (OrElse (P2.meaning form)
+        (OrElse (P3.meaning form) (OrElse (P4.meaning form) (P5.meaning form)))) };
 
-    ghost leaves_ends = { λ form. or_else_ends I.reading (P1.meaning form) (OrElse (P2.meaning form) (OrElse (P3.meaning form) (OrElse (P4.meaning form) (P5.meaning form)))) (P1.leaves_ends form) (or_else_ends I.reading (P2.meaning form) (OrElse (P3.meaning form) (OrElse (P4.meaning form) (P5.meaning form))) (P2.leaves_ends form) (or_else_ends I.reading (P3.meaning form) (OrElse (P4.meaning form) (P5.meaning form)) (P3.leaves_ends form) (or_else_ends I.reading (P4.meaning form) (P5.meaning form) (P4.leaves_ends form) (P5.leaves_ends form)))) };
+    ghost leaves_ends = { λ form. or_else_ends I.reading (P1.meaning form)
+        (OrElse (P2.meaning form)
+        (OrElse (P3.meaning form) (OrElse (P4.meaning form) (P5.meaning form))))
+        (P1.leaves_ends form)
+        (or_else_ends I.reading (P2.meaning form)
+        (OrElse (P3.meaning form) (OrElse (P4.meaning form) (P5.meaning form)))
+        (P2.leaves_ends form)
+        (or_else_ends I.reading (P3.meaning form)
+        (OrElse (P4.meaning form) (P5.meaning form)) (P3.leaves_ends form)
+        (or_else_ends I.reading (P4.meaning form) (P5.meaning form) (P4.leaves_ends form)
+        (P5.leaves_ends form)))) };
 
     #[inline(always)]
     fn choice(&mut self, input: &mut I) -> Result<O, E> {
@@ -242,9 +283,19 @@ impl<
     Q5: Parser<J, O, F>,
 > AgreesWith<I, O, E, AltParser<(Q1, Q2, Q3, Q4, Q5), J, O, F>, J, F>
     for AltParser<(P1, P2, P3, P4, P5), I, O, E> {
-    ghost like = { λ p q. P1.like p.alternatives.0 q.alternatives.0 × (P2.like p.alternatives.1 q.alternatives.1 × (P3.like p.alternatives.2 q.alternatives.2 × (P4.like p.alternatives.3 q.alternatives.3 × P5.like p.alternatives.4 q.alternatives.4))) };
+    ghost like = { λ p q. P1.like p.alternatives.0 q.alternatives.0
+        × (P2.like p.alternatives.1 q.alternatives.1
+        × (P3.like p.alternatives.2 q.alternatives.2
+        × (P4.like p.alternatives.3 q.alternatives.3
+        × P5.like p.alternatives.4 q.alternatives.4))) };
 
-    ghost agrees = { or_else_agrees (λ p. p.alternatives.0) (λ q. q.alternatives.0) (λ p. p) (λ q. q) P1.agrees (or_else_agrees (λ p. p.alternatives.1) (λ q. q.alternatives.1) (λ p. p) (λ q. q) P2.agrees (or_else_agrees (λ p. p.alternatives.2) (λ q. q.alternatives.2) (λ p. p) (λ q. q) P3.agrees (or_else_agrees (λ p. p.alternatives.3) (λ q. q.alternatives.3) (λ p. p.alternatives.4) (λ q. q.alternatives.4) P4.agrees P5.agrees))) };
+    ghost agrees = { or_else_agrees (λ p. p.alternatives.0) (λ q. q.alternatives.0) (λ p. p)
+        (λ q. q) P1.agrees
+        (or_else_agrees (λ p. p.alternatives.1) (λ q. q.alternatives.1) (λ p. p) (λ q. q)
+        P2.agrees (or_else_agrees (λ p. p.alternatives.2) (λ q. q.alternatives.2) (λ p. p)
+        (λ q. q) P3.agrees
+        (or_else_agrees (λ p. p.alternatives.3) (λ q. q.alternatives.3)
+        (λ p. p.alternatives.4) (λ q. q.alternatives.4) P4.agrees P5.agrees))) };
 }
 
 impl<
@@ -258,15 +309,40 @@ impl<
     P5: Parser<I, O, E>,
     P6: Parser<I, O, E>,
 > Alt<I, O, E> for (P1, P2, P3, P4, P5, P6) {
-    ghost can_choose = { λ s. P1.can_parse s.0 × P2.can_parse s.1 × P3.can_parse s.2 × P4.can_parse s.3 × P5.can_parse s.4 × P6.can_parse s.5 };
+    ghost can_choose = { λ s. P1.can_parse s.0 × P2.can_parse s.1 × P3.can_parse s.2
+        × P4.can_parse s.3 × P5.can_parse s.4 × P6.can_parse s.5 };
 
     ghost State = { P1.State × (P2.State × (P3.State × (P4.State × (P5.State × P6.State)))) };
 
-    ghost state = { λ s. (P1.state s.0, (P2.state s.1, (P3.state s.2, (P4.state s.3, (P5.state s.4, P6.state s.5))))) };
+    ghost state = { λ s. (
+      P1.state s.0,
+      (
+        P2.state s.1,
+        (P3.state s.2, (P4.state s.3, (P5.state s.4, P6.state s.5))),
+      ),
+    ) };
 
-    ghost meaning = { λ form. OrElse (P1.meaning form) (OrElse (P2.meaning form) (OrElse (P3.meaning form) (OrElse (P4.meaning form) (OrElse (P5.meaning form) (P6.meaning form))))) };
+    ghost meaning = { λ form. OrElse (P1.meaning form)
+        (OrElse (P2.meaning form)
+        (OrElse (P3.meaning form)
+        (OrElse (P4.meaning form) (OrElse (P5.meaning form) (P6.meaning form))))) };
 
-    ghost leaves_ends = { λ form. or_else_ends I.reading (P1.meaning form) (OrElse (P2.meaning form) (OrElse (P3.meaning form) (OrElse (P4.meaning form) (OrElse (P5.meaning form) (P6.meaning form))))) (P1.leaves_ends form) (or_else_ends I.reading (P2.meaning form) (OrElse (P3.meaning form) (OrElse (P4.meaning form) (OrElse (P5.meaning form) (P6.meaning form)))) (P2.leaves_ends form) (or_else_ends I.reading (P3.meaning form) (OrElse (P4.meaning form) (OrElse (P5.meaning form) (P6.meaning form))) (P3.leaves_ends form) (or_else_ends I.reading (P4.meaning form) (OrElse (P5.meaning form) (P6.meaning form)) (P4.leaves_ends form) (or_else_ends I.reading (P5.meaning form) (P6.meaning form) (P5.leaves_ends form) (P6.leaves_ends form))))) };
+    ghost leaves_ends = { λ form. or_else_ends I.reading (P1.meaning form)
+        (OrElse (P2.meaning form)
+        (OrElse (P3.meaning form)
+        (OrElse (P4.meaning form) (OrElse (P5.meaning form) (P6.meaning form)))))
+        (P1.leaves_ends form)
+        (or_else_ends I.reading (P2.meaning form)
+        (OrElse (P3.meaning form)
+        (OrElse (P4.meaning form) (OrElse (P5.meaning form) (P6.meaning form))))
+        (P2.leaves_ends form)
+        (or_else_ends I.reading (P3.meaning form)
+        (OrElse (P4.meaning form) (OrElse (P5.meaning form) (P6.meaning form)))
+        (P3.leaves_ends form)
+        (or_else_ends I.reading (P4.meaning form)
+        (OrElse (P5.meaning form) (P6.meaning form)) (P4.leaves_ends form)
+        (or_else_ends I.reading (P5.meaning form) (P6.meaning form)
+        (P5.leaves_ends form) (P6.leaves_ends form))))) };
 
     #[inline(always)]
     fn choice(&mut self, input: &mut I) -> Result<O, E> {
@@ -310,7 +386,19 @@ impl<
     Q6: Parser<J, O, F>,
 > AgreesWith<I, O, E, AltParser<(Q1, Q2, Q3, Q4, Q5, Q6), J, O, F>, J, F>
     for AltParser<(P1, P2, P3, P4, P5, P6), I, O, E> {
-    ghost like = { λ p q. P1.like p.alternatives.0 q.alternatives.0 × (P2.like p.alternatives.1 q.alternatives.1 × (P3.like p.alternatives.2 q.alternatives.2 × (P4.like p.alternatives.3 q.alternatives.3 × (P5.like p.alternatives.4 q.alternatives.4 × P6.like p.alternatives.5 q.alternatives.5)))) };
+    ghost like = { λ p q. P1.like p.alternatives.0 q.alternatives.0
+        × (P2.like p.alternatives.1 q.alternatives.1
+        × (P3.like p.alternatives.2 q.alternatives.2
+        × (P4.like p.alternatives.3 q.alternatives.3
+        × (P5.like p.alternatives.4 q.alternatives.4
+        × P6.like p.alternatives.5 q.alternatives.5)))) };
 
-    ghost agrees = { or_else_agrees (λ p. p.alternatives.0) (λ q. q.alternatives.0) (λ p. p) (λ q. q) P1.agrees (or_else_agrees (λ p. p.alternatives.1) (λ q. q.alternatives.1) (λ p. p) (λ q. q) P2.agrees (or_else_agrees (λ p. p.alternatives.2) (λ q. q.alternatives.2) (λ p. p) (λ q. q) P3.agrees (or_else_agrees (λ p. p.alternatives.3) (λ q. q.alternatives.3) (λ p. p) (λ q. q) P4.agrees (or_else_agrees (λ p. p.alternatives.4) (λ q. q.alternatives.4) (λ p. p.alternatives.5) (λ q. q.alternatives.5) P5.agrees P6.agrees)))) };
+    ghost agrees = { or_else_agrees (λ p. p.alternatives.0) (λ q. q.alternatives.0) (λ p. p)
+        (λ q. q) P1.agrees
+        (or_else_agrees (λ p. p.alternatives.1) (λ q. q.alternatives.1) (λ p. p) (λ q. q)
+        P2.agrees (or_else_agrees (λ p. p.alternatives.2) (λ q. q.alternatives.2) (λ p. p)
+        (λ q. q) P3.agrees
+        (or_else_agrees (λ p. p.alternatives.3) (λ q. q.alternatives.3) (λ p. p) (λ q. q)
+        P4.agrees (or_else_agrees (λ p. p.alternatives.4) (λ q. q.alternatives.4)
+        (λ p. p.alternatives.5) (λ q. q.alternatives.5) P5.agrees P6.agrees)))) };
 }

@@ -2,7 +2,11 @@ use Rattle.winnow_token.proofs.UntilLemmas.{says_at_least, says_fewer}
 use Rattle.winnow_token.proofs.token.until.is_at_least.Goals as goal
 
 pub returns-in-Ok : goal.returns-in-Ok
-returns-in-Ok g c = says_at_least g.I.Stream.reading (g.I.Stream.view c.args.input.now).left.tokens c.args.count c.in-Ok.end c.args.offset c.in-Ok.ensures.0 c.in-Ok.ensures.1
+returns-in-Ok g c = says_at_least g.I.Stream.reading
+    (g.I.Stream.view c.args.input.now).left.tokens c.args.count c.in-Ok.end c.args.offset
+    c.in-Ok.ensures.0 c.in-Ok.ensures.1
 
 pub returns-in-Err : goal.returns-in-Err
-returns-in-Err g c = says_fewer g.I.Stream.reading (g.I.Stream.view c.args.input.now).left.tokens c.args.count c.args.offset c.in-Err.ensures.0
+returns-in-Err g c =
+    says_fewer g.I.Stream.reading (g.I.Stream.view c.args.input.now).left.tokens c.args.count
+    c.args.offset c.in-Err.ensures.0

@@ -11,7 +11,17 @@ returns-then-not-is_at_least-clause-ran g c =
       | inl lt ↦ lt
       | inr ge ↦ absurd (false≢true (sym c.if-not-is_at_least.true ∙ says.1 ge))
     ] in
-    inr (inr (inr (inl (range.start, range.end, m, _, c.if-greatest-least.false, few, inr (c.args.greatest, refl, c.short-then-not-is_at_least.ensures), refl, refl))))
+    inr (inr (inr (inl (
+      range.start,
+      range.end,
+      m,
+      _,
+      c.if-greatest-least.false,
+      few,
+      inr (c.args.greatest, refl, c.short-then-not-is_at_least.ensures),
+      refl,
+      refl,
+    ))))
 
 pub returns-then-not-is_at_most-clause-ran : goal.returns-then-not-is_at_most-clause-ran
 returns-then-not-is_at_most-clause-ran g c =
@@ -22,12 +32,33 @@ returns-then-not-is_at_most-clause-ran g c =
       | inl lt ↦ lt
       | inr ge ↦ absurd (false≢true (sym c.if-not-is_at_most.true ∙ says.1 ge))
     ] in
-    inr (inr (inr (inr (range.start, range.end, m, c.args.greatest, refl, c.if-greatest-least.false, many, ap Err c.from_input.ensures, refl))))
+    inr (inr (inr (inr (
+      range.start,
+      range.end,
+      m,
+      c.args.greatest,
+      refl,
+      c.if-greatest-least.false,
+      many,
+      ap Err c.from_input.ensures,
+      refl,
+    ))))
 
 pub returns-else-not-is_at_most-clause-ran : goal.returns-else-not-is_at_most-clause-ran
 returns-else-not-is_at_most-clause-ran g c =
     let range = c.in-Some.range in
     let m = c.in-Some.ensures in
-    let enough = (c.is_at_least.ensures m.front (m.found ++ m.rest) m.stands.splits m.starts).0 c.if-not-is_at_least.false in
-    let within = (c.is_at_most.ensures m.front (m.found ++ m.rest) m.stands.splits m.starts).0 c.if-not-is_at_most.false in
-    inr (inr (inl (range.start, range.end, m, c.next_slice.result, enough, within, c.next_slice.ensures.cuts m.front (m.found ++ m.rest) m.stands.splits m.starts, refl)))
+    let enough = (c.is_at_least.ensures m.front (m.found ++ m.rest) m.stands.splits m.starts).0
+    c.if-not-is_at_least.false in
+    let within = (c.is_at_most.ensures m.front (m.found ++ m.rest) m.stands.splits m.starts).0
+    c.if-not-is_at_most.false in
+    inr (inr (inl (
+      range.start,
+      range.end,
+      m,
+      c.next_slice.result,
+      enough,
+      within,
+      c.next_slice.ensures.cuts m.front (m.found ++ m.rest) m.stands.splits m.starts,
+      refl,
+    )))

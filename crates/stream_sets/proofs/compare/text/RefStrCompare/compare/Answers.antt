@@ -9,7 +9,13 @@ pub returns : goal.returns
 returns c =
     let all = c.as_bytes in
     let literal = c.as_bytes-2 in
-    let P : List ℕ → Type 0 = λ l. ComparesAs width (IsList (chars literal.result.now)) (chars l) c.compare_bytes.result in
-    let Q : List ℕ → Type 0 = λ l. ComparesAs width (IsList (chars l)) (chars c.args.self.now.now) c.compare_bytes.result in
+    let P : List ℕ → Type 0 =
+    λ l. ComparesAs width (IsList (chars literal.result.now)) (chars l)
+    c.compare_bytes.result in
+    let Q : List ℕ → Type 0 =
+    λ l. ComparesAs width (IsList (chars l)) (chars c.args.self.now.now)
+    c.compare_bytes.result in
     subst Q literal.ensures.value
-    (subst P all.ensures.value (text_compares all.result.now literal.result.now all.ensures.utf8 literal.ensures.utf8 c.compare_bytes.result c.compare_bytes.ensures))
+    (subst P all.ensures.value
+    (text_compares all.result.now literal.result.now all.ensures.utf8
+    literal.ensures.utf8 c.compare_bytes.result c.compare_bytes.ensures))

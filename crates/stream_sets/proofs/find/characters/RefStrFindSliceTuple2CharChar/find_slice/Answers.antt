@@ -9,5 +9,9 @@ pub returns : goal.returns
 returns c =
     let all = c.as_bytes in
     let utf8 = c.find_characters.ensures.utf8 in
-    let P : List ℕ → Type 0 = λ l. FindsSlice width (λ xs. (xs ≡ c.args.substr.0 ∷ []) ⊎ (xs ≡ c.args.substr.1 ∷ [])) (chars l) c.find_characters.result in
-    subst P all.ensures.value (two_characters all.result.now c.args.substr.0 c.args.substr.1 all.ensures.utf8 utf8.0 utf8.1 c.find_characters.result c.find_characters.ensures.finds)
+    let P : List ℕ → Type 0 =
+    λ l. FindsSlice width (λ xs. (xs ≡ c.args.substr.0 ∷ []) ⊎ (xs ≡ c.args.substr.1 ∷ []))
+    (chars l) c.find_characters.result in
+    subst P all.ensures.value
+    (two_characters all.result.now c.args.substr.0 c.args.substr.1 all.ensures.utf8 utf8.0
+    utf8.1 c.find_characters.result c.find_characters.ensures.finds)

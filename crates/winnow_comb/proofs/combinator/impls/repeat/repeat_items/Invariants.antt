@@ -7,7 +7,9 @@ use Rattle.winnow_comb.proofs.combinator.impls.repeat.repeat_items.Given as goal
 abbrev pub invariant-items : goal.invariant-items
 invariant-items g l =
     (outputs : List _)
-    × Chain (g.P.Parser.meaning g.E.ParserError.form) (g.P.Parser.state l.fn.parser) (g.I.Stream.view l.fn.input) outputs (g.P.Parser.state l.parser) (g.I.Stream.view l.input)
+    × Chain (g.P.Parser.meaning g.E.ParserError.form) (g.P.Parser.state l.fn.parser)
+    (g.I.Stream.view l.fn.input) outputs (g.P.Parser.state l.parser)
+    (g.I.Stream.view l.input)
     × Accumulates g.C.Accumulate.accumulator.takes l.fn.all outputs l.all
     × Bounds l.fn.missing l.fn.room l.missing l.room (length outputs)
     × IsEndOf g.I.Stream.reading (g.I.Stream.view l.input) (g.I.Stream.view l.fn.input)

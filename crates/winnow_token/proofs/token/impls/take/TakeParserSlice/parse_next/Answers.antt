@@ -12,5 +12,14 @@ pub returns-in-Ok-clause-ran : goal.returns-in-Ok-clause-ran
 returns-in-Ok-clause-ran g c =
     let tokens = (g.I.Stream.view c.args.input.now).left.tokens in
     let n = c.args.self.now.count in
-    let taken = c.next_slice.ensures.cuts (take n tokens) (drop n tokens) (sym (take-append-drop n tokens)) c.in-Ok.ensures.1 in
-    (inl (take n tokens, c.next_slice.result, length-take-le n tokens c.in-Ok.ensures.0, taken, refl), refl)
+    let taken = c.next_slice.ensures.cuts (take n tokens) (drop n tokens)
+    (sym (take-append-drop n tokens)) c.in-Ok.ensures.1 in (
+      inl (
+        take n tokens,
+        c.next_slice.result,
+        length-take-le n tokens c.in-Ok.ensures.0,
+        taken,
+        refl,
+      ),
+      refl,
+    )

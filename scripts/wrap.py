@@ -1,0 +1,163 @@
+"""Breaks the long lines of specs, proofs and clauses, as `rt fmt` does not.
+
+python3 scripts/wrap.py            says which lines are longer than 100 columns
+python3 scripts/wrap.py FILE ..    breaks those of these files
+
+A line is broken where it is nested least, before an operator if it can be.
+"""
+import os
+import re
+import sys
+
+WIDTH = 100
+# What a broken line is made to fit, since `rt fmt` moves some parts in.
+FIT = 96
+OPEN, CLOSE = "([{⟨", ")]}⟩"
+# Where a line is broken before the word, the loosest first.
+ARGUMENT = 14
+OPERATORS = ["→", "↔", "⊎", "×", "≡", "∙", "$", "↦", "in", "++"]
+
+
+def breaks_of(text):
+    """The places where a line may be broken: place, depth and how loose the break is."""
+    places, depth, at = [], 0, 0
+    while at < len(text):
+        char = text[at]
+        if char in OPEN:
+            depth += 1
+        elif char in CLOSE:
+            depth -= 1
+        elif char == " " and at + 1 < len(text):
+            word = re.match(r"\S+", text[at + 1 :])
+            word = word[0] if word else ""
+            before = text[:at].rsplit(" ", 1)[-1]
+            if word in ("=", ":", ":=") or word[:1] in CLOSE or before in OPERATORS or before in ("|", "λ"):
+                pass
+            elif word in OPERATORS:
+                places.append((at, depth, OPERATORS.index(word)))
+            elif before == "record" and word.startswith("{"):
+                pass
+            elif before == "=" and depth == 0 and " = " not in text[: at - 2]:
+                places.append((at, depth, -1))
+            elif before.endswith((",", ";")) or word.startswith("|"):
+                places.append((at, depth, 1))
+            elif re.search(r"λ [^.λ]*\.$", text[:at]):
+                places.append((at, depth, 16))
+            elif in_binder(text, at):
+                places.append((at, depth + 3, 20))
+            elif re.match(r"[({][^(){}:]* :", text[at + 1 :]):
+                places.append((at, depth, 3))
+            else:
+                places.append((at, depth, ARGUMENT))
+        at += 1
+    return places
+
+
+def in_binder(text, at):
+    """Whether a place stands between the names that a λ or a bracket binds."""
+    return bool(re.search(r"λ [^.]*$", text[:at]) or re.search(r"[({][^(){}:]*$", text[:at]) and re.match(r"[^(){}]* :", text[at:]))
+
+
+def broken(line, indent, braces=0):
+    """The lines that a line becomes, each further in than the first, by how deep it is nested
+    inside the braces of a clause."""
+    places = [it for it in breaks_of(line) if it[1] >= braces]
+    lines, start, now = [], 0, 0
+    while len(line) - start + now > FIT:
+        room = FIT - now
+        near = [it for it in places if start + indent < it[0] <= start + room]
+        far = [it for it in near if it[0] > start + room // 5]
+        near = far or near
+        if not near:
+            break
+        least = min(it[1] for it in near)
+        loosest = min(it[2] for it in near if it[1] == least)
+        at, depth, _ = max(it for it in near if it[1:] == (least, loosest))
+        lines.append(" " * now + line[start:at])
+        start, now = at + 1, indent + 4 + 2 * max(0, min(depth - braces + (loosest >= ARGUMENT), 4))
+    return [*lines, " " * now + line[start:]]
+
+
+def wrapped_comment(line, mark):
+    indent = len(line) - len(line.lstrip())
+    head = " " * indent + mark + " "
+    words, lines, now = line[indent + len(mark) :].split(), [], head.rstrip()
+    for word in words:
+        if len(now) + 1 + len(word) > WIDTH and now.strip() != mark:
+            lines.append(now)
+            now = head.rstrip()
+        now += " " + word
+    return [*lines, now]
+
+
+def imports(line):
+    """An import of many names as several, since `rt fmt` gives each name of a broken one a line."""
+    found = re.fullmatch(r"(.*\{)(.*)(\};?)", line)
+    lines, now = [], []
+    for name in found[2].split(", "):
+        if now and len(found[1] + ", ".join([*now, name]) + found[3]) > WIDTH:
+            lines.append(found[1] + ", ".join(now) + found[3])
+            now = []
+        now.append(name)
+    return [*lines, found[1] + ", ".join(now) + found[3]]
+
+
+def is_fixed(line):
+    """Whether a line names one module of the checker's, whose name is as long as it is."""
+    return line.startswith("use ") and "{" not in line
+
+
+def wrapped(text, is_antt):
+    lines, is_fenced = [], False
+    for line in text.split("\n"):
+        stripped = line.lstrip()
+        indent = len(line) - len(stripped)
+        if stripped.startswith(("/// ```", "//! ```")):
+            is_fenced = not is_fenced
+        if len(line) <= WIDTH:
+            lines.append(line)
+        elif is_fixed(stripped):
+            lines.append(line)
+        elif re.fullmatch(r"(pub |ghost )*use [^{}]*\{[^{}]*\};?", stripped):
+            lines += imports(line)
+        elif is_antt and stripped.startswith("-- "):
+            lines += wrapped_comment(line, "--")
+        elif is_antt:
+            lines += broken(line, indent)
+        elif stripped.startswith(("/// ", "//! ", "// ")):
+            mark = stripped.split(" ")[0]
+            is_table = stripped.startswith((f"{mark} |", f"{mark} -")) or is_fenced
+            lines += [line] if is_table else wrapped_comment(line, mark)
+        elif stripped.startswith(("ghost ", "ensures ", "requires ", "pub ghost ", "invariant ")):
+            lines += broken(line, indent, 1)
+        else:
+            lines.append(line)
+    return "\n".join(lines)
+
+
+def files_below(root):
+    for at, folders, names in os.walk(root):
+        folders[:] = sorted(it for it in folders if it != "out")
+        for name in sorted(names):
+            if name.endswith((".rt", ".antt")):
+                yield os.path.join(at, name)
+
+
+def main(names):
+    long = 0
+    for name in names or files_below("crates"):
+        with open(name, encoding="utf-8") as it:
+            text = it.read()
+        if names:
+            text = wrapped(text, name.endswith(".antt"))
+            with open(name, "w", encoding="utf-8") as it:
+                it.write(text)
+        for number, line in enumerate(text.split("\n"), 1):
+            if len(line) > WIDTH and not is_fixed(line):
+                long += 1
+                print(f"{name}:{number}: {len(line)} columns")
+    return 1 if long else 0
+
+
+if __name__ == "__main__":
+    sys.exit(main(sys.argv[1:]))
