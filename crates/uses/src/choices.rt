@@ -3,13 +3,13 @@
 
 ghost use Rattle.std.specs.Prelude.{map};
 ghost use Rattle.std.specs.List.{All};
-ghost use Rattle.stream_errors.specs.Form.{answer_by, assert_kind};
-ghost use Rattle.winnow_comb.specs.Alt.Slice.{AltSliceRuns};
+ghost use Rattle.winnow.specs.Form.{answer_by, assert_kind};
+ghost use Rattle.winnow.specs.Alt.Slice.{AltSliceRuns};
 
-use stream_errors::parser_error::ParserError;
-use streams::stream::Stream;
-use winnow_comb::combinator::alt;
-use winnow_core::parser::Parser;
+use winnow::Parser;
+use winnow::combinator::alt;
+use winnow::error::ParserError;
+use winnow::stream::Stream;
 
 /// Chooses among branches that stay with their owner, who learns the new state of each.
 pub fn choose_among<P: Parser<I, O, E>, I: Stream, O, E: ParserError<I>>(

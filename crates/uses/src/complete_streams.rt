@@ -1,15 +1,13 @@
 //! Complete streams in use: what a parser over a partial stream answers, said of the plain one.
-#![tactic(auto, using(winnow_core::specs::Laws::run_of_like))]
+#![tactic(auto, using(winnow::specs::Rules::run_of_like))]
 
 ghost use Rattle.std.specs.Prelude.{◌≡◌};
-ghost use Rattle.stream_errors.specs.Form.{answer_by};
+ghost use Rattle.winnow.specs.Form.{answer_by};
 
-use stream_errors::parser_error::ParserError;
-use streams::partial::Partial;
-use streams::stream::Stream;
-use winnow_core::agrees_with::AgreesWith;
-use winnow_core::laws::a_complete_stream_is_answered_as_the_plain_one;
-use winnow_core::parser::Parser;
+use winnow::error::ParserError;
+use winnow::laws::a_complete_stream_is_answered_as_the_plain_one;
+use winnow::stream::{Partial, Stream};
+use winnow::{AgreesWith, Parser};
 
 /// Runs a parser over a partial stream: what it answers and leaves is a run of the plain parser
 /// that it is like.

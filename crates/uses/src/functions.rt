@@ -1,15 +1,13 @@
 //! Functions in use: plain functions as parsers.
 #![tactic(auto)]
 
-ghost use Rattle.streams.specs.Bytes.{bytes_input, bytes_reading};
-ghost use Rattle.streams.specs.Input.{IsEndOf};
+ghost use Rattle.winnow.specs.Bytes.{bytes_input, bytes_reading};
+ghost use Rattle.winnow.specs.Input.{IsEndOf};
 
-use stream_errors::empty::EmptyError;
-use stream_errors::parser_error::ParserError;
-use stream_sets::as_char::AsChar;
-use streams::stream::StreamIsPartial;
-use winnow_ascii::ascii::alpha1;
-use winnow_core::parser::{Func, Parser};
+use winnow::ascii::alpha1;
+use winnow::error::{EmptyError, ParserError};
+use winnow::stream::{AsChar, StreamIsPartial};
+use winnow::{Func, Parser};
 
 /// A word, over bytes.
 fn word<'i>(input: &mut &'i [u8]) -> Result<&'i [u8], EmptyError>

@@ -2,20 +2,17 @@
 #![tactic(auto)]
 
 ghost use Rattle.std.specs.Prelude.{◌≡◌};
-ghost use Rattle.stream_errors.specs.Form.{answer_by};
-ghost use Rattle.winnow_comb.specs.Repeat.{repeat_occurrences, repeat_parser};
-ghost use Rattle.winnow_comb.specs.Terminated.{terminated_ignored};
+ghost use Rattle.winnow.specs.Form.{answer_by};
+ghost use Rattle.winnow.specs.Repeat.{repeat_occurrences, repeat_parser};
+ghost use Rattle.winnow.specs.Terminated.{terminated_ignored};
 
 use crate::complete_streams::parse_as_plain;
 use std::alloc::Allocator;
-use stream_errors::parser_error::ParserError;
-use stream_sets::as_char::AsChar;
-use stream_sets::compare::Compare;
-use streams::partial::Partial;
-use streams::stream::{Stream, StreamIsPartial};
-use winnow_ascii::ascii::impls::Digit1;
-use winnow_comb::combinator::impls::{Repeat, Terminated};
-use winnow_core::parser::Parser;
+use winnow::Parser;
+use winnow::ascii::impls::Digit1;
+use winnow::combinator::impls::{Repeat, Terminated};
+use winnow::error::ParserError;
+use winnow::stream::{AsChar, Compare, Partial, Stream, StreamIsPartial};
 
 /// Numbers, each with a separator of one byte behind it.
 pub type Numbers<I, E, A> = Repeat<

@@ -1,0 +1,105 @@
+-- What the clauses of public functions cite, and the lemmas that stand beside it: the modules of the
+-- crates that have the definitions, under their own names; and the types of Rust that clauses name.
+-- Streams: what a parser sees of its input, and how a stream counts it.
+pub use Rattle.streams.specs.Kind
+pub use Rattle.streams.specs.Place
+pub use Rattle.streams.specs.Reading
+pub use Rattle.streams.specs.Input
+pub use Rattle.streams.specs.Following
+pub use Rattle.streams.specs.Ends
+pub use Rattle.streams.specs.Equal
+pub use Rattle.streams.specs.Stream
+pub use Rattle.streams.specs.Counted
+pub use Rattle.streams.specs.Bytes
+pub use Rattle.streams.specs.Utf8
+pub use Rattle.streams.specs.Text
+pub use Rattle.streams.specs.TokenSlice
+pub use Rattle.streams.specs.Partial
+pub use Rattle.streams.specs.Located
+pub use Rattle.streams.specs.Needed
+pub use Rattle.streams.specs.ByteStream
+pub use Rattle.streams.specs.SameReading
+pub use Rattle.streams.specs.declared.needed.Needed.{Needed}
+pub use Rattle.streams.specs.declared.needed.Needed.TheVariants as NeededCases
+pub use Rattle.streams.specs.declared.token_slice.TokenSlice.{TokenSlice}
+-- Sets, comparisons, searches, numbers of occurrences and accumulators.
+pub use Rattle.stream_sets.specs.Range
+pub use Rattle.stream_sets.specs.Sets
+pub use Rattle.stream_sets.specs.Three
+pub use Rattle.stream_sets.specs.AsChar
+pub use Rattle.stream_sets.specs.AsBStr
+pub use Rattle.stream_sets.specs.Compare
+pub use Rattle.stream_sets.specs.TextCompare
+pub use Rattle.stream_sets.specs.TokenCompare
+pub use Rattle.stream_sets.specs.Caseless
+pub use Rattle.stream_sets.specs.FindSlice
+pub use Rattle.stream_sets.specs.FirstMatch
+pub use Rattle.stream_sets.specs.Accumulator
+pub use Rattle.stream_sets.specs.declared.range.Range.{Range}
+pub use Rattle.stream_sets.specs.declared.compare.CompareResult.{CompareResult}
+pub use Rattle.stream_sets.specs.declared.compare.CompareResult.TheVariants as CompareResultCases
+-- Errors: their kinds and forms.
+pub use Rattle.stream_errors.specs.Form
+pub use Rattle.stream_errors.specs.Mode
+pub use Rattle.stream_errors.specs.Join
+pub use Rattle.stream_errors.specs.Fault
+pub use Rattle.stream_errors.specs.declared.fault.ParseError.{ParseError}
+pub use Rattle.stream_errors.specs.declared.fault.ParseFault.{ParseFault}
+pub use Rattle.stream_errors.specs.declared.fault.ParseFault.TheVariants as ParseFaultCases
+pub use Rattle.stream_errors.specs.declared.mode.ErrMode.{ErrMode}
+pub use Rattle.stream_errors.specs.declared.mode.ErrMode.TheVariants as ErrModeCases
+-- Parsers: their meanings, adapters and sequences, and the laws of two meanings.
+pub use Rattle.winnow_core.specs.Runs
+pub use Rattle.winnow_core.specs.SameMeaning
+pub use Rattle.winnow_core.specs.Agrees
+pub use Rattle.winnow_core.specs.Short
+pub use Rattle.winnow_core.specs.Literal
+pub use Rattle.winnow_core.specs.Sequence
+pub use Rattle.winnow_core.specs.Eof
+pub use Rattle.winnow_core.specs.ByRef
+pub use Rattle.winnow_core.specs.Map
+pub use Rattle.winnow_core.specs.VerifyMap
+pub use Rattle.winnow_core.specs.Void
+pub use Rattle.winnow_core.specs.Func
+pub use Rattle.winnow_core.specs.Parse
+pub use Rattle.winnow_core.specs.ParsePeek
+pub use Rattle.winnow_core.specs.Ends as EndsOfRuns
+pub use Rattle.winnow_core.specs.Take as TakeAdapter
+pub use Rattle.winnow_core.specs.Laws as ParserLaws
+-- Parsers of tokens.
+pub use Rattle.winnow_token.specs.Any
+pub use Rattle.winnow_token.specs.OneOf
+pub use Rattle.winnow_token.specs.NoneOf
+pub use Rattle.winnow_token.specs.Take
+pub use Rattle.winnow_token.specs.TakeWhile
+pub use Rattle.winnow_token.specs.Members
+pub use Rattle.winnow_token.specs.TakeTill
+pub use Rattle.winnow_token.specs.TakeUntil
+pub use Rattle.winnow_token.specs.Before
+pub use Rattle.winnow_token.specs.Rest
+pub use Rattle.winnow_token.specs.Literal as LiteralParser
+-- Classes of ASCII characters.
+pub use Rattle.winnow_ascii.specs.Class
+-- Choice, options, sequence and repetition.
+pub use Rattle.winnow_comb.specs.Opt
+pub use Rattle.winnow_comb.specs.Cond
+pub use Rattle.winnow_comb.specs.Peek
+pub use Rattle.winnow_comb.specs.Not
+pub use Rattle.winnow_comb.specs.CutErr
+pub use Rattle.winnow_comb.specs.BacktrackErr
+pub use Rattle.winnow_comb.specs.Empty
+pub use Rattle.winnow_comb.specs.Fail
+pub use Rattle.winnow_comb.specs.InOrder
+pub use Rattle.winnow_comb.specs.Preceded
+pub use Rattle.winnow_comb.specs.Terminated
+pub use Rattle.winnow_comb.specs.SeparatedPair
+pub use Rattle.winnow_comb.specs.Delimited
+pub use Rattle.winnow_comb.specs.Attempt
+pub use Rattle.winnow_comb.specs.Alt
+pub use Rattle.winnow_comb.specs.Chain
+pub use Rattle.winnow_comb.specs.Repeat
+pub use Rattle.winnow_comb.specs.ChoiceLaws
+pub use Rattle.winnow_comb.specs.RepeatLaws
+pub use Rattle.winnow_comb.specs.Laws as CombinatorLaws
+-- What callers name in `using(..)`, which takes the files of this crate alone.
+pub mod Rules

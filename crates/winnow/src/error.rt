@@ -1,0 +1,9 @@
+//! What parsers answer where they have no output.
+pub use stream_errors::empty::EmptyError;
+pub use stream_errors::fault::{ParseError, ParseFault};
+pub use stream_errors::has_kind::HasKind;
+pub use stream_errors::input_error::InputError;
+pub use stream_errors::modal::ModalError;
+pub use stream_errors::mode::ErrMode;
+pub use stream_errors::parser_error::ParserError;
+pub use streams::needed::Needed;
