@@ -1,7 +1,7 @@
 -- What a caller knows of one run of a choice that answered: of two branches, and by the nesting of
 -- more.
 use Rattle.std.specs.Prelude.{◌≡◌, Ok, Err, ◌⊎◌}
-use Rattle.std.proofs.Common.{refl, ap, inl, inr}
+use Rattle.std.proofs.Common.{ap, inl, inr}
 use Rattle.streams.specs.Input.{Input, back_at}
 use Rattle.streams.specs.Kind.{Kind, backtrack}
 use Rattle.winnow_core.specs.Runs.{Runs}

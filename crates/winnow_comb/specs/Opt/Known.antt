@@ -1,5 +1,5 @@
 -- What a caller knows of one run of a child that may be left out, where it answered.
-use Rattle.std.specs.Prelude.{◌≡◌, Option, Some, None, Ok, Err, MatchOption}
+use Rattle.std.specs.Prelude.{◌≡◌, Option, Ok, Err, MatchOption}
 use Rattle.std.proofs.Common.{refl, sym, subst, inl, inr}
 use Rattle.streams.specs.Input.{Input, back_at}
 use Rattle.streams.specs.Kind.{Kind, backtrack}

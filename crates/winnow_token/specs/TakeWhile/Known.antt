@@ -125,34 +125,27 @@ pub took_all : {T : Type 0} (P : T → Type 0) (member : T → Bool → Type 0) 
 took_all P member least greatest i taken j is all =
     All-weaker (λ x. member x true) P is taken all.longest.members
 
--- behind a take with no greatest number none of P stands first, where the others are not of P
-pub took_stops : {T : Type 0} (P : T → Type 0) (member : T → Bool → Type 0) (least : ℕ)
-    (i : Input T) (taken : List T) (j : Input T) → ((x : T) → member x false → P x → ⊥)
+-- behind a take with no greatest number nothing stands, or what is of Q, where the others are
+pub took_stops : {T : Type 0} (Q : T → Type 0) (member : T → Bool → Type 0) (least : ℕ)
+    (i : Input T) (taken : List T) (j : Input T) → ((x : T) → member x false → Q x)
     → Took member least None i taken j
-    → (x : T) (more : List T) → j.left.tokens ≡ x ∷ more → P x → ⊥
-took_stops P member least i taken j other all x more e is =
-    elim (all.longest.stops x more e) [
-      | inl stranger ↦ other x stranger is
-      | inr full ↦ none_is_some full
-    ]
+    → (x : T) (more : List T) → j.left.tokens ≡ x ∷ more → Q x
+took_stops Q member least i taken j other all x more e =
+    elim (all.longest.stops x more e)
+    [ inl stranger ↦ other x stranger | inr full ↦ none_is_some full ]
 
--- where not one was there, none of P stands first
-pub none_first : {T : Type 0} (P : T → Type 0) (member : T → Bool → Type 0) (i : Input T)
-    (k : Kind) (j : Input T) → ((x : T) → member x false → P x → ⊥)
-    → TooFew member 1 None i k j
-    → (x : T) (more : List T) → i.left.tokens ≡ x ∷ more → P x → ⊥
-none_first {T} P member i k j other none x more e is =
-    at_first none.front none.few none.longest.splits none.longest.stops
+-- where not one member was there, nothing stands first, or what is of Q, where the others are
+pub none_first : {T : Type 0} (Q : T → Type 0) (member : T → Bool → Type 0) (i : Input T)
+    (k : Kind) (j : Input T) → ((x : T) → member x false → Q x) → TooFew member 1 None i k j
+    → (x : T) (more : List T) → i.left.tokens ≡ x ∷ more → Q x
+none_first {T} Q member i k j other none x more e =
+    at_first none.front none.few none.longest.splits
   where
-    at_first : (front : List T) → length front < 1 → i.left.tokens ≡ front ++ none.rest
-        → ((y : T) (others : List T) → none.rest ≡ y ∷ others
-        → member y false ⊎ (None ≡ Some (length none.front))) → ⊥
-    at_first [] short splits stops =
-        elim (stops x more (sym splits ∙ e)) [
-          | inl stranger ↦ other x stranger is
-          | inr full ↦ none_is_some full
-        ]
-    at_first (y ∷ ys) short splits stops = absurd (omega (arith, short))
+    at_first : (front : List T) → length front < 1 → i.left.tokens ≡ front ++ none.rest → Q x
+    at_first [] short splits =
+        elim (none.longest.stops x more (sym splits ∙ e))
+        [ inl stranger ↦ other x stranger | inr full ↦ none_is_some full ]
+    at_first (y ∷ ys) short splits = absurd (omega (arith, short))
 
 pub ruleset known_takes = (
   took,
