@@ -1,6 +1,6 @@
 -- What a caller knows of one answer: an output is no error, and there is one output or one kind.
 use Rattle.std.specs.Prelude.{◌≡◌, Result, Ok, Err, IfOk, IfErr}
-use Rattle.std.proofs.Common.{ap, ◌∙◌, refl}
+use Rattle.std.proofs.Common.{ap, ◌∙◌, refl, subst, sym}
 use Rattle.streams.specs.Kind.{Kind}
 use Rattle.stream_errors.specs.Form.{Answer, answer_by}
 
@@ -24,7 +24,17 @@ same_output e = cc
 pub same_kind : {O : Type 0} {k l : Kind} → ◌≡◌ {A = Answer O} (Err k) (Err l) → k ≡ l
 same_kind e = cc
 
--- what a child answers that fails as its parent does
+-- what holds of the output that is answered
+pub at_output : {O : Type 0} {o p : O} (P : O → Type 0) → ◌≡◌ {A = Answer O} (Ok o) (Ok p) → P p
+    → P o
+at_output P e told = subst P (sym (same_output e)) told
+
+-- what holds of the kind that is answered
+pub at_kind : {O : Type 0} {k l : Kind} (P : Kind → Type 0) → ◌≡◌ {A = Answer O} (Err k) (Err l)
+    → P l → P k
+at_kind P e told = subst P (sym (same_kind e)) told
+
+-- what a parser answers that fails as its child does
 pub fails_as : {O P : Type 0} {answer : Answer O} {inner : Answer P} {k l m : Kind}
     → answer ≡ Err k → inner ≡ Err k → inner ≡ Err l → l ≡ m → answer ≡ Err m
 fails_as e f g is = e ∙ ap Err (same_err f g ∙ is)

@@ -15,6 +15,6 @@ pub delimited_ok : {S1 S2 S3 T O1 O2 O3 : Type 0} (run1 : Runs S1 T O1) (run2 : 
     × run2 s.1 a (Ok o) t.1 b × run3 s.2 b (Ok o3) t.2 j
 delimited_ok {O2 = O2} run1 run2 run3 s i o t j ran =
     let (o1, o2, o3, a, b, r1, r2, r3, is) =
-    three_ok (λ x y z. y) run1 run2 run3 s i o t j ran in
+    three_ok o ran in
     let P : O2 → Type 0 = λ x. run2 s.1 a (Ok x) t.1 b in
     (o1, o3, a, b, r1, subst P (sym is) r2, r3)

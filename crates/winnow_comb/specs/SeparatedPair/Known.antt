@@ -15,7 +15,7 @@ pub separated_pair_ok : {S1 S2 S3 T O1 O2 O3 : Type 0} (run1 : Runs S1 T O1)
     × run2 s.1 a (Ok o2) t.1 b × run3 s.2 b (Ok o.1) t.2 j
 separated_pair_ok {O1 = O1} {O3 = O3} run1 run2 run3 s i o t j ran =
     let (o1, o2, o3, a, b, r1, r2, r3, is) =
-    three_ok (λ x y z. (x, z)) run1 run2 run3 s i o t j ran in
+    three_ok o ran in
     let P : O1 × O3 → Type 0 = λ p. run1 s.0 i (Ok p.0) t.0 a × run3 s.2 b (Ok p.1) t.2 j in
     let both = subst P (sym is) (r1, r3) in
     (o2, a, b, both.0, r2, both.1)
