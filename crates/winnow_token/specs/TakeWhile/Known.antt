@@ -99,7 +99,7 @@ too_few reading form member least greatest i k j whole within
       few = lt;
     }
 
--- the runs of a take by a range that is known
+-- the runs of a take by a range that is known, and what it took, or lacks
 pub by_range : {T S : Type 0} (reading : Reading T S) (form : ErrorForm)
     (member : T → Bool → Type 0) (range : Range) (least : ℕ) (last : Option ℕ) (i : Input T)
     (answer : Answer S) (j : Input T)
@@ -112,6 +112,27 @@ by_range reading form member range least last i answer j e ran =
     λ r. TakeWhileRuns reading form member r.start_inclusive
     (greatest_of r.start_inclusive r.end_inclusive) i answer j in
     subst P e ran
+
+pub took_by : {T : Type 0} (form : ErrorForm) (member : T → Bool → Type 0) (range : Range)
+    (least : ℕ) (last : Option ℕ) (i : Input T) (slice : Bor (List T)) (j : Input T)
+    → range ≡ record { start_inclusive = least; end_inclusive = last }
+    → TakeWhileRuns counted_reading form member range.start_inclusive
+    (greatest_of range.start_inclusive range.end_inclusive) i (Ok slice) j
+    → Took member least (greatest_of least last) i slice.now j
+took_by form member range least last i slice j e ran =
+    took_counted form member least (greatest_of least last) i slice j
+    (by_range counted_reading form member range least last i (Ok slice) j e ran)
+
+pub too_few_by : {T S : Type 0} (reading : Reading T S) (form : ErrorForm)
+    (member : T → Bool → Type 0) (range : Range) (least : ℕ) (last : Option ℕ) (i : Input T)
+    (k : Kind) (j : Input T) → range ≡ record { start_inclusive = least; end_inclusive = last }
+    → i.status.cut ≡ false → IsWithin (greatest_of least last) least
+    → TakeWhileRuns reading form member range.start_inclusive
+    (greatest_of range.start_inclusive range.end_inclusive) i (Err k) j
+    → TooFew member least (greatest_of least last) i k j
+too_few_by reading form member range least last i k j e whole within ran =
+    too_few reading form member least (greatest_of least last) i k j whole within
+    (by_range reading form member range least last i (Err k) j e ran)
 
 -- a take of none or more of a whole input never fails
 pub never_too_few : {T P : Type 0} (member : T → Bool → Type 0) (greatest : Option ℕ)
@@ -152,6 +173,8 @@ pub ruleset known_takes = (
   took_counted,
   too_few,
   by_range,
+  took_by,
+  too_few_by,
   took_all,
   took_stops,
   none_first,

@@ -5,7 +5,7 @@ use Rattle.streams.specs.Bytes.{bytes_reading}
 use Rattle.stream_errors.specs.Form.{plain}
 use Rattle.winnow_core.specs.Literal.Known.{token_missing, token_taken, token_whole}
 use Rattle.winnow_core.specs.Sequence.Known.{sequence4_err, sequence4_ok}
-use Rattle.winnow_token.specs.TakeWhile.Known.{by_range, never_too_few, too_few, took_counted}
+use Rattle.winnow_token.specs.TakeWhile.Known.{never_too_few, too_few_by, took_by}
 use Rattle.readers.proofs.PairRuns.{line_taken, line_read, line_left, no_key, no_mark}
 use Rattle.readers.proofs.ini.pair.Goals as goal
 
@@ -14,13 +14,13 @@ returns-in-Ok-clause-parts c =
     let ran = c.in-Ok.ensures.ran in
     let feed = c.take_while-3.ensures.set in
     let (a, b, d, r1, r2, r3, r4) = sequence4_ok _ ran.1 in
-    let keys = took_counted plain _ _ _ _ _ _ (by_range _ plain _ _ _ _ _ _ _
-    (c.take_while.ensures.occurrences ∙ c.from.ensures) r1.0) in
+    let keys = took_by plain _ _ _ _ _ _ _ (c.take_while.ensures.occurrences ∙ c.from.ensures)
+          r1.0 in
     let mark = token_taken bytes_reading plain _ _ _ _ _ r2.0 in
-    let values = took_counted plain _ _ _ _ _ _ (by_range _ plain _ _ _ _ _ _ _
-    (c.take_while-2.ensures.occurrences ∙ c.from-2.ensures) r3.0) in
-    let feeds = took_counted plain _ _ _ _ _ _ (by_range _ plain _ _ _ _ _ _ _
-    (c.take_while-3.ensures.occurrences ∙ c.from-3.ensures) r4.0) in
+    let values = took_by plain _ _ _ _ _ _ _
+          (c.take_while-2.ensures.occurrences ∙ c.from-2.ensures) r3.0 in
+    let feeds = took_by plain _ _ _ _ _ _ _
+          (c.take_while-3.ensures.occurrences ∙ c.from-3.ensures) r4.0 in
     line_read _ _ _ _ _ (line_taken _ _ _ _ _ _ _ _ _ _ _ keys mark values feeds
     (λ x h. let p = h.2 in search rules)
     (λ x h. let p = h.2 in search rules)
@@ -40,42 +40,34 @@ returns-in-Err-Refused-clause-refused c =
           let at = ap (λ m. m + length j.left.tokens) c.offset.ensures ∙ (rw refused at fault).0 in
           elim (sequence4_err _ seq) [
             | inl (r1, s2, s3, s4) ↦
-                let few = too_few _ plain _ _ _ _ _ _ refl tt
-                (by_range _ plain _ _ _ _ _ _ _ r1_range r1.0) in
+                let few = too_few_by _ plain _ _ _ _ _ _ _ r1_range refl tt r1.0 in
                 no_key _ _ _ _ _ few at (λ x h. let p = h.2 in search rules)
             | inr (inl (o1, a, r1, r2, s3, s4)) ↦
-                let keys = took_counted plain _ _ _ _ _ _
-                (by_range _ plain _ _ _ _ _ _ _ r1_range r1.0) in
+                let keys = took_by plain _ _ _ _ _ _ _ r1_range r1.0 in
                 let missing = token_missing bytes_reading plain _ _ _ _ _ (keys.whole refl) r2.0 in
                 no_mark _ _ _ _ _ _ _ keys missing at (λ x h. let p = h.2 in search rules)
                 (λ x h. let p = h.2 in search rules)
             | inr (inr (inl (o1, o2, a, b, r1, r2, r3, s4))) ↦
-                let keys = took_counted plain _ _ _ _ _ _
-                (by_range _ plain _ _ _ _ _ _ _ r1_range r1.0) in
+                let keys = took_by plain _ _ _ _ _ _ _ r1_range r1.0 in
                 let mark = token_taken bytes_reading plain _ _ _ _ _ r2.0 in
-                never_too_few _ _ _ _ _ (too_few _ plain _ _ _ _ _ _
-                (token_whole mark (keys.whole refl)) tt
-                (by_range _ plain _ _ _ _ _ _ _ r3_range r3.0))
+                never_too_few _ _ _ _ _
+                      (too_few_by _ plain _ _ _ _ _ _ _ r3_range
+                        (token_whole mark (keys.whole refl)) tt r3.0)
             | inr (inr (inr (o1, o2, o3, a, b, d, r1, r2, r3, r4))) ↦
-                let keys = took_counted plain _ _ _ _ _ _
-                (by_range _ plain _ _ _ _ _ _ _ r1_range r1.0) in
+                let keys = took_by plain _ _ _ _ _ _ _ r1_range r1.0 in
                 let mark = token_taken bytes_reading plain _ _ _ _ _ r2.0 in
-                let values = took_counted plain _ _ _ _ _ _
-                (by_range _ plain _ _ _ _ _ _ _ r3_range r3.0) in
-                never_too_few _ _ _ _ _ (too_few _ plain _ _ _ _ _ _
-                (values.whole (token_whole mark (keys.whole refl))) (lit≤ tt)
-                (by_range _ plain _ _ _ _ _ _ _ r4_range r4.0))
+                let values = took_by plain _ _ _ _ _ _ _ r3_range r3.0 in
+                never_too_few _ _ _ _ _
+                      (too_few_by _ plain _ _ _ _ _ _ _ r4_range
+                        (values.whole (token_whole mark (keys.whole refl))) (lit≤ tt) r4.0)
           ]
       | inr (o, j, seq, something, fault) ↦
           let at = ap (λ m. m + length j.left.tokens) c.offset.ensures ∙ (rw refused at fault).0 in
           let (a, b, d, r1, r2, r3, r4) = sequence4_ok _ seq in
-          let keys = took_counted plain _ _ _ _ _ _
-          (by_range _ plain _ _ _ _ _ _ _ r1_range r1.0) in
+          let keys = took_by plain _ _ _ _ _ _ _ r1_range r1.0 in
           let mark = token_taken bytes_reading plain _ _ _ _ _ r2.0 in
-          let values = took_counted plain _ _ _ _ _ _
-          (by_range _ plain _ _ _ _ _ _ _ r3_range r3.0) in
-          let feeds = took_counted plain _ _ _ _ _ _
-          (by_range _ plain _ _ _ _ _ _ _ r4_range r4.0) in
+          let values = took_by plain _ _ _ _ _ _ _ r3_range r3.0 in
+          let feeds = took_by plain _ _ _ _ _ _ _ r4_range r4.0 in
           line_left _ _ _ _ _ _ (line_taken _ _ _ _ _ _ _ _ _ _ _ keys mark values feeds
           (λ x h. let p = h.2 in search rules)
           (λ x h. let p = h.2 in search rules)
