@@ -12,12 +12,14 @@ the crate `winnow_ascii`. It prints the crates whose files it writes.
 """
 from family.choices import write_choices
 from family.classes import write_classes
+from family.known import write_known
 from family.sequences import write_sequences
 from family.sets import write_sets
 
 if __name__ == "__main__":
     write_sets()
     write_sequences()
+    write_known()
     write_choices()
     write_classes()
     print("stream_sets winnow_core winnow_comb winnow_ascii")

@@ -2,14 +2,14 @@
 use Rattle.std.proofs.Common.{◌≡◌, ◌≢◌, ◌≤◌, ◌<◌, ◌∙◌, ℕ, List, [], ◌∷◌, ◌++◌, length, refl, sym}
 use Rattle.std.proofs.Common.{ap, subst, arith, inl, inr, append_assoc, lit<}
 use Rattle.std.specs.List.{All}
-use Rattle.std.proofs.lemmas.List.Elements.{All-cons, All-tail}
+use Rattle.std.proofs.lemmas.List.Elements.{All-append, All-head, All-tail, All-weaker}
 use Rattle.streams.specs.Equal.{same_first, same_others}
 use Rattle.readers.specs.Pair.{IsKeyByte}
 use Rattle.readers.specs.Document.{IsBlank, IsWhite, IsTrailing, IsCommentByte, IsNameByte}
 use Rattle.readers.specs.Document.{IsValueByte, NotFirst, NotLast, EndsLine, PairBytes, Part, white}
 use Rattle.readers.specs.Document.{comment, section, pair, bytes_of, IsRemark, Begins, BeginsWith}
 use Rattle.readers.specs.Document.{IsDocument}
-use Rattle.readers.proofs.PairLemmas.{All-head, All-middle, not_none, mark_is_no_key}
+use Rattle.readers.proofs.PairLemmas.{All-middle, not_none, mark_is_no_key}
 
 -- the longest front of bytes of P is one
 pub same_front : (P : ℕ → Type 0) (xs ys xs' ys' : List ℕ) → All P xs → All P ys
@@ -176,14 +176,6 @@ trailing_in_value b (inl (inl e)) = (λ f. omega (arith, e, f), λ f. omega (ari
 trailing_in_value b (inl (inr e)) = (λ f. omega (arith, e, f), λ f. omega (arith, e, f))
 trailing_in_value b (inr e) = (λ f. omega (arith, e, f), λ f. omega (arith, e, f))
 
-pub All-append : (P : ℕ → Type 0) (xs ys : List ℕ) → All P xs → All P ys → All P (xs ++ ys)
-All-append P [] ys a b = b
-All-append P (x ∷ xs) ys a b =
-    All-cons P x (xs ++ ys) (All-head P x xs a) (All-append P xs ys (All-tail P x xs a) b)
-
-pub All-as : {P Q : ℕ → Type 0} (xs : List ℕ) → ((b : ℕ) → P b → Q b) → All P xs → All Q xs
-All-as xs implies all k d h = implies _ (all k d h)
-
 -- a key ends before a space, a tab or the mark
 pub key_ends : (before more : List ℕ) → All IsBlank before
     → NotFirst IsKeyByte (before ++ (61 ∷ more))
@@ -283,7 +275,7 @@ laid_of_pair p input behind (e, h) = record {
   lead_ends = lead_stops (p.value ++ p.trail) (p.remark ++ behind) h.lead_ends
       (tail_no_blank p.remark behind h.remark h.ends);
   is_body = All-append IsValueByte p.value p.trail h.value
-      (All-as p.trail trailing_in_value h.trail);
+      (All-weaker IsTrailing IsValueByte trailing_in_value p.trail h.trail);
   body_ends = tail_no_value p.remark behind h.remark h.ends;
 }
 

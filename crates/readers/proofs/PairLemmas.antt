@@ -3,13 +3,10 @@ use Rattle.std.proofs.Common.{◌≡◌, ◌≢◌, ◌<◌, ◌∙◌, ◌⊎�
 use Rattle.std.proofs.Common.{ap, subst, arith, inl, inr, append_assoc, lit<, lit≤}
 use Rattle.std.specs.List.{All}
 use Rattle.std.proofs.lemmas.List.{append-nil}
-use Rattle.std.proofs.lemmas.List.Elements.{All-nil, All-cons, All-tail}
+use Rattle.std.proofs.lemmas.List.Elements.{All-nil, All-cons, All-head, All-tail}
 use Rattle.std.proofs.lemmas.Bool.{cases_lt}
 use Rattle.streams.specs.Equal.{same_first, same_others}
 use Rattle.readers.specs.Pair.{IsKeyByte, IsLineEnd, IsPairLine, BeginsPairLine, IsRefusedPair}
-
-pub All-head : {X : Type 0} (P : X → Type 0) (x : X) (xs : List X) → All P (x ∷ xs) → P x
-All-head P x xs all = all 0 x (omega arith)
 
 pub not_none : {X : Type 0} {x : X} {xs : List X} → x ∷ xs ≡ [] → ⊥
 not_none e = cc

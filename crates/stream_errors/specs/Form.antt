@@ -2,6 +2,7 @@
 use Rattle.std.specs.Prelude.{◌≡◌, ℕ, Bool, true, false, Option, Some, None, Result, Ok, Err}
 use Rattle.std.proofs.Common.{refl, ◌⊎◌, inl, inr}
 use Rattle.streams.specs.Kind.{Kind, backtrack, cut, incomplete, memory}
+pub mod Known
 
 -- A plain error type has the kinds backtrack and memory; a modal one, as ErrMode, all four.
 pub data ErrorForm : Type 0 where

@@ -1,6 +1,6 @@
 //! What repetition puts its outputs into.
-ghost use Rattle.std.specs.Prelude.{◌≡◌, ◌≤◌, [], ◌∷◌, ◌++◌, MatchResult, ⊤, vec_len, vec_capacity};
-ghost use Rattle.stream_sets.specs.Accumulator.{Accumulator};
+ghost use Rattle.std.specs.Prelude.{◌≡◌, [], MatchResult, ⊤};
+ghost use Rattle.stream_sets.specs.Accumulator.{Accumulator, list_kept, nothing_kept};
 
 use std::alloc::{AllocError, Allocator};
 
@@ -30,12 +30,7 @@ pub trait Accumulate<O, A>: Drop {
 
 /// Nothing is kept, and no memory is taken.
 impl<O: Drop, A: Drop> Accumulate<O, A> for () {
-    ghost accumulator = { record {
-      starts = λ _ _. ⊤;
-      takes = λ _ _ _. ⊤;
-      start_grows = λ _. ⊥;
-      grows = λ _. ⊥;
-    } };
+    ghost accumulator = { nothing_kept };
 
     #[inline(always)]
     fn initial(_alloc: A, _capacity: Option<usize>) -> Result<(), AllocError>
@@ -52,12 +47,7 @@ impl<O: Drop, A: Drop> Accumulate<O, A> for () {
 
 /// A list to whose end the outputs are put. An empty one takes no memory.
 impl<O: Drop, A: Allocator> Accumulate<O, A> for Vec<O, A> {
-    ghost accumulator = { record {
-      starts = λ _ list. list.items ≡ [];
-      takes = λ list output more. more.items ≡ list.items ++ output ∷ [];
-      start_grows = λ _. ⊥;
-      grows = λ list. vec_capacity list ≤ vec_len list;
-    } };
+    ghost accumulator = { list_kept };
 
     #[inline(always)]
     fn initial(alloc: A, _capacity: Option<usize>) -> Result<Vec<O, A>, AllocError>

@@ -9,6 +9,7 @@ use Rattle.stream_sets.specs.Range.{IsWithin, IsBelow, greatest_of}
 use Rattle.winnow_comb.specs.Chain.{Chain, Accumulates}
 use Rattle.stream_sets.specs.Accumulator.{Accumulator}
 use Rattle.winnow_comb.specs.declared.combinator.impls.repeat.Repeat.{Repeat}
+pub mod Known
 pub mod Laws
 
 -- how often the parser is run

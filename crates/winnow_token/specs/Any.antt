@@ -5,6 +5,7 @@ use Rattle.streams.specs.Kind.{Kind, backtrack}
 use Rattle.streams.specs.Reading.{Reading}
 use Rattle.stream_errors.specs.Form.{ErrorForm, Answer}
 use Rattle.winnow_core.specs.Short.{ShortKind}
+pub mod Known
 pub mod Laws
 
 -- A run where no token is left: a cut input lacks one unit.

@@ -9,6 +9,7 @@ use Rattle.stream_sets.specs.Range.{IsWithin, IsBelow}
 use Rattle.stream_errors.specs.Form.{ErrorForm, Answer, incomplete_kind, assert_kind}
 use Rattle.stream_sets.specs.declared.range.Range.{Range}
 use Rattle.winnow_token.specs.declared.token.impls.take_while.TakeWhile.{TakeWhile}
+pub mod Known
 pub mod Laws
 
 -- how many tokens are taken

@@ -1,9 +1,13 @@
-use Rattle.std.proofs.Common.{rules, ap, ◌∙◌, ◌∷◌, sym, refl, inl, inr, arith}
+use Rattle.std.proofs.Common.{rules, ap, ◌∙◌, ◌∷◌, sym, inl, inr, refl, arith, Err}
 use Rattle.std.proofs.lemmas.Grind.{common_steps}
 use Rattle.std.proofs.lemmas.Bool.Decides.{nat_tests}
+use Rattle.streams.specs.Bytes.{bytes_reading}
 use Rattle.stream_errors.specs.Form.{modal}
-use Rattle.readers.proofs.PairRuns.{took_by, took_too_few_by, matched, never_too_few, ok_is_err}
-use Rattle.readers.proofs.PartRuns.{comment_read, not_first, literal_fails, fails_as}
+use Rattle.winnow_core.specs.Literal.Known.{token_missing, token_taken, token_whole}
+use Rattle.winnow_core.specs.Sequence.Known.{sequence2_err, sequence2_ok}
+use Rattle.winnow_token.specs.TakeWhile.Known.{never_too_few, too_few_by, took_by}
+use Rattle.readers.specs.Document.{IsCommentByte}
+use Rattle.readers.proofs.PartRuns.{comment_read, other_first, took_front}
 use Rattle.readers.proofs.ini.parts.comment.Goals as goal
 
 pub returns : goal.returns
@@ -14,37 +18,33 @@ returns c =
     let mark_is = ap (λ p. p.0) parts in
     elim c.parse_next.ensures.ran [
       | inl (o, seq, e) ↦
-          elim seq [
-            | inl (o1, o2, a, r1, r2, f) ↦
-                let mark = matched modal _ _ _ _ _ refl r1.0 in
-                let text = took_by modal _ _ _ _ _ _ _ range mark.1 r2.0 in (
-                  c.parse_next.ensures.ends,
-                  inl (
-                    _,
-                    comment_read _ _ _ _ _ (mark.0 ∙ ap (λ b. b ∷ a.left.tokens) mark_is) text
-                        (λ x h. let p = h.2 in search rules)
-                        (λ x h. let p = h.2 in let seen = h.1
-                        in grind (arith, common_steps, nat_tests)),
-                    e,
-                  ),
-                )
-            | inr (inl (k, r1, s2, f)) ↦ ok_is_err refl f
-            | inr (inr (o1, k, a, r1, r2, f)) ↦ ok_is_err refl f
-          ]
+          let (a, r1, r2) = sequence2_ok _ seq in
+          let mark = token_taken bytes_reading modal _ _ _ _ _ r1.0 in
+          let text = took_by modal _ _ _ _ _ _ _ range r2.0 in (
+            c.parse_next.ensures.ends,
+            inl (
+              _,
+              comment_read _ _ _ _ (mark.splits ∙ ap (λ b. b ∷ a.left.tokens) mark_is)
+                  (took_front IsCommentByte _ _ _ _ _ text (λ x h. let p = h.2 in search rules)
+                  (λ x h other. let p = h.2 in let seen = h.1
+                  in grind (arith, common_steps, nat_tests))),
+              e,
+            ),
+          )
       | inr (k, seq, e) ↦
-          elim seq [
-            | inl (o1, o2, a, r1, r2, f) ↦ ok_is_err f refl
-            | inr (inl (k1, r1, s2, f)) ↦
-                let fails = literal_fails modal _ _ _ _ _ refl r1.0 in (
+          elim (sequence2_err _ seq) [
+            | inl (r1, s2) ↦
+                let missing = token_missing bytes_reading modal _ _ _ _ _ refl r1.0 in (
                   c.parse_next.ensures.ends,
                   inr (
-                    not_first 59 _
-                        (λ rest is. fails.1 rest (is ∙ ap (λ b. b ∷ rest) (sym mark_is))),
-                    fails_as e refl f fails.0,
+                    other_first 59 _ (λ rest is. missing.other rest
+                        (is ∙ ap (λ b. b ∷ rest) (sym mark_is))),
+                    e ∙ ap Err missing.kind,
                   ),
                 )
-            | inr (inr (o1, k2, a, r1, r2, f)) ↦
-                let mark = matched modal _ _ _ _ _ refl r1.0 in
-                never_too_few _ _ _ _ (took_too_few_by modal _ _ _ _ _ _ _ range mark.1 tt r2.0)
+            | inr (o1, a, r1, r2) ↦
+                let mark = token_taken bytes_reading modal _ _ _ _ _ r1.0 in
+                never_too_few _ _ _ _ _
+                (too_few_by _ modal _ _ _ _ _ _ _ range (token_whole mark refl) tt r2.0)
           ]
     ]

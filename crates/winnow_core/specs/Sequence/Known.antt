@@ -1,0 +1,399 @@
+-- What a caller knows of one run of a sequence that answered: where it succeeded all children did,
+-- each where the one before it stopped; where it failed one did, by that kind, and those before it
+-- succeeded.
+-- Written by scripts/families.py: do not edit.
+use Rattle.std.specs.Prelude.{◌≡◌, Ok, Err, ◌⊎◌}
+use Rattle.std.proofs.Common.{refl, inl, inr}
+use Rattle.streams.specs.Input.{Input}
+use Rattle.streams.specs.Kind.{Kind}
+use Rattle.stream_errors.specs.Form.{Answer}
+use Rattle.stream_errors.specs.Form.Known.{at_kind, at_output, ok_is_err}
+
+-- A run is given by what it relates, an output or a kind and the inputs between the children, so
+-- that antt finds it at a caller's parsers. That the children which did not run keep their states
+-- is Kept.
+
+-- two children: the runs of SequenceRuns2, by what they relate
+abbrev pub SequenceCases2 : {T O1 O2 : Type 0} → (O1 → Input T → Type 0)
+    → (O2 → Input T → Type 0) → (Kind → Type 0) → (Kind → Input T → Type 0) → Type 0
+    → Answer (O1 × O2) → Type 0
+SequenceCases2 {T} {O1} {O2} Ran1 Ran2 Failed1 Failed2 Kept2 answer =
+    ((o1 : O1) × (o2 : O2) × (a : Input T) × Ran1 o1 a × Ran2 o2 a × (answer ≡ Ok (o1, o2)))
+    ⊎ (((l : Kind) × Failed1 l × Kept2 × (answer ≡ Err l))
+    ⊎ ((o1 : O1) × (l : Kind) × (a : Input T) × Ran1 o1 a × Failed2 l a × (answer ≡ Err l)))
+
+pub sequence2_ok : {T O1 O2 : Type 0} {Ran1 : O1 → Input T → Type 0}
+    {Ran2 : O2 → Input T → Type 0} {Failed1 : Kind → Type 0} {Failed2 : Kind → Input T → Type 0}
+    {Kept2 : Type 0} (o : O1 × O2) → SequenceCases2 Ran1 Ran2 Failed1 Failed2 Kept2 (Ok o)
+    → (a : Input T) × Ran1 o.0 a × Ran2 o.1 a
+sequence2_ok {O1 = O1} {O2 = O2} {Ran1 = Ran1} {Ran2 = Ran2} o (inl (o1, o2, a, h0, h1, is)) =
+    let rs = at_output (λ (p : O1 × O2). Ran1 p.0 a × Ran2 p.1 a) is (h0, h1)
+    in (a, rs.0, rs.1)
+sequence2_ok o (inr (inl (l, h0, h1, is))) = ok_is_err refl is
+sequence2_ok o (inr (inr (o1, l, a, h0, h1, is))) = ok_is_err refl is
+
+pub sequence2_err : {T O1 O2 : Type 0} {Ran1 : O1 → Input T → Type 0}
+    {Ran2 : O2 → Input T → Type 0} {Failed1 : Kind → Type 0} {Failed2 : Kind → Input T → Type 0}
+    {Kept2 : Type 0} (k : Kind) → SequenceCases2 Ran1 Ran2 Failed1 Failed2 Kept2 (Err k)
+    → (Failed1 k × Kept2) ⊎ ((o1 : O1) × (a : Input T) × Ran1 o1 a × Failed2 k a)
+sequence2_err k (inl (o1, o2, a, h0, h1, is)) = ok_is_err is refl
+sequence2_err {Failed1 = Failed1} k (inr (inl (l, h0, h1, is))) = inl (at_kind Failed1 is h0, h1)
+sequence2_err {Failed2 = Failed2} k (inr (inr (o1, l, a, h0, h1, is))) = inr
+    (o1, a, h0, at_kind (λ x. Failed2 x a) is h1)
+
+-- three children: the runs of SequenceRuns3, by what they relate
+abbrev pub SequenceCases3 : {T O1 O2 O3 : Type 0} → (O1 → Input T → Type 0)
+    → (O2 → Input T → Input T → Type 0) → (O3 → Input T → Type 0) → (Kind → Type 0)
+    → (Kind → Input T → Type 0) → (Kind → Input T → Type 0) → Type 0 → Type 0
+    → Answer (O1 × O2 × O3) → Type 0
+SequenceCases3 {T} {O1} {O2} {O3} Ran1 Ran2 Ran3 Failed1 Failed2 Failed3 Kept2 Kept3 answer =
+    ((o1 : O1) × (o2 : O2) × (o3 : O3) × (a : Input T) × (b : Input T) × Ran1 o1 a × Ran2 o2 a b
+    × Ran3 o3 b × (answer ≡ Ok (o1, o2, o3)))
+    ⊎ (((l : Kind) × Failed1 l × Kept2 × Kept3 × (answer ≡ Err l))
+    ⊎ (((o1 : O1) × (l : Kind) × (a : Input T) × Ran1 o1 a × Failed2 l a × Kept3
+    × (answer ≡ Err l))
+    ⊎ ((o1 : O1) × (o2 : O2) × (l : Kind) × (a : Input T) × (b : Input T) × Ran1 o1 a
+    × Ran2 o2 a b × Failed3 l b × (answer ≡ Err l))))
+
+pub sequence3_ok : {T O1 O2 O3 : Type 0} {Ran1 : O1 → Input T → Type 0}
+    {Ran2 : O2 → Input T → Input T → Type 0} {Ran3 : O3 → Input T → Type 0}
+    {Failed1 : Kind → Type 0} {Failed2 Failed3 : Kind → Input T → Type 0} {Kept2 Kept3 : Type 0}
+    (o : O1 × O2 × O3) → SequenceCases3 Ran1 Ran2 Ran3 Failed1 Failed2 Failed3 Kept2 Kept3
+    (Ok o) → (a : Input T) × (b : Input T) × Ran1 o.0 a × Ran2 o.1 a b × Ran3 o.2 b
+sequence3_ok {O1 = O1} {O2 = O2} {O3 = O3} {Ran1 = Ran1} {Ran2 = Ran2} {Ran3 = Ran3} o
+    (inl (o1, o2, o3, a, b, h0, h1, h2, is)) = let rs = at_output
+    (λ (p : O1 × O2 × O3). Ran1 p.0 a × Ran2 p.1 a b × Ran3 p.2 b) is (h0, h1, h2)
+    in (a, b, rs.0, rs.1, rs.2)
+sequence3_ok o (inr (inl (l, h0, h1, h2, is))) = ok_is_err refl is
+sequence3_ok o (inr (inr (inl (o1, l, a, h0, h1, h2, is)))) = ok_is_err refl is
+sequence3_ok o (inr (inr (inr (o1, o2, l, a, b, h0, h1, h2, is)))) = ok_is_err refl is
+
+pub sequence3_err : {T O1 O2 O3 : Type 0} {Ran1 : O1 → Input T → Type 0}
+    {Ran2 : O2 → Input T → Input T → Type 0} {Ran3 : O3 → Input T → Type 0}
+    {Failed1 : Kind → Type 0} {Failed2 Failed3 : Kind → Input T → Type 0} {Kept2 Kept3 : Type 0}
+    (k : Kind) → SequenceCases3 Ran1 Ran2 Ran3 Failed1 Failed2 Failed3 Kept2 Kept3 (Err k)
+    → (Failed1 k × Kept2 × Kept3)
+    ⊎ (((o1 : O1) × (a : Input T) × Ran1 o1 a × Failed2 k a × Kept3)
+    ⊎ ((o1 : O1) × (o2 : O2) × (a : Input T) × (b : Input T) × Ran1 o1 a × Ran2 o2 a b
+    × Failed3 k b))
+sequence3_err k (inl (o1, o2, o3, a, b, h0, h1, h2, is)) = ok_is_err is refl
+sequence3_err {Failed1 = Failed1} k (inr (inl (l, h0, h1, h2, is))) = inl
+    (at_kind Failed1 is h0, h1, h2)
+sequence3_err {Failed2 = Failed2} k (inr (inr (inl (o1, l, a, h0, h1, h2, is)))) = inr
+    (inl (o1, a, h0, at_kind (λ x. Failed2 x a) is h1, h2))
+sequence3_err {Failed3 = Failed3} k (inr (inr (inr (o1, o2, l, a, b, h0, h1, h2, is)))) = inr
+    (inr (o1, o2, a, b, h0, h1, at_kind (λ x. Failed3 x b) is h2))
+
+-- four children: the runs of SequenceRuns4, by what they relate
+abbrev pub SequenceCases4 : {T O1 O2 O3 O4 : Type 0} → (O1 → Input T → Type 0)
+    → (O2 → Input T → Input T → Type 0) → (O3 → Input T → Input T → Type 0)
+    → (O4 → Input T → Type 0) → (Kind → Type 0) → (Kind → Input T → Type 0)
+    → (Kind → Input T → Type 0) → (Kind → Input T → Type 0) → Type 0 → Type 0 → Type 0
+    → Answer (O1 × O2 × O3 × O4) → Type 0
+SequenceCases4 {T} {O1} {O2} {O3} {O4} Ran1 Ran2 Ran3 Ran4 Failed1 Failed2 Failed3 Failed4 Kept2
+    Kept3 Kept4 answer =
+    ((o1 : O1) × (o2 : O2) × (o3 : O3) × (o4 : O4) × (a : Input T) × (b : Input T)
+    × (c : Input T) × Ran1 o1 a × Ran2 o2 a b × Ran3 o3 b c × Ran4 o4 c
+    × (answer ≡ Ok (o1, o2, o3, o4)))
+    ⊎ (((l : Kind) × Failed1 l × Kept2 × Kept3 × Kept4 × (answer ≡ Err l))
+    ⊎ (((o1 : O1) × (l : Kind) × (a : Input T) × Ran1 o1 a × Failed2 l a × Kept3 × Kept4
+    × (answer ≡ Err l))
+    ⊎ (((o1 : O1) × (o2 : O2) × (l : Kind) × (a : Input T) × (b : Input T) × Ran1 o1 a
+    × Ran2 o2 a b × Failed3 l b × Kept4 × (answer ≡ Err l))
+    ⊎ ((o1 : O1) × (o2 : O2) × (o3 : O3) × (l : Kind) × (a : Input T) × (b : Input T)
+    × (c : Input T) × Ran1 o1 a × Ran2 o2 a b × Ran3 o3 b c × Failed4 l c
+    × (answer ≡ Err l)))))
+
+pub sequence4_ok : {T O1 O2 O3 O4 : Type 0} {Ran1 : O1 → Input T → Type 0}
+    {Ran2 : O2 → Input T → Input T → Type 0} {Ran3 : O3 → Input T → Input T → Type 0}
+    {Ran4 : O4 → Input T → Type 0} {Failed1 : Kind → Type 0}
+    {Failed2 Failed3 Failed4 : Kind → Input T → Type 0} {Kept2 Kept3 Kept4 : Type 0}
+    (o : O1 × O2 × O3 × O4)
+    → SequenceCases4 Ran1 Ran2 Ran3 Ran4 Failed1 Failed2 Failed3 Failed4 Kept2 Kept3 Kept4
+    (Ok o) → (a : Input T) × (b : Input T) × (c : Input T) × Ran1 o.0 a × Ran2 o.1 a b
+    × Ran3 o.2 b c × Ran4 o.3 c
+sequence4_ok {O1 = O1} {O2 = O2} {O3 = O3} {O4 = O4} {Ran1 = Ran1} {Ran2 = Ran2} {Ran3 = Ran3}
+    {Ran4 = Ran4} o (inl (o1, o2, o3, o4, a, b, c, h0, h1, h2, h3, is)) = let rs = at_output
+    (λ (p : O1 × O2 × O3 × O4). Ran1 p.0 a × Ran2 p.1 a b × Ran3 p.2 b c × Ran4 p.3 c) is
+    (h0, h1, h2, h3) in (a, b, c, rs.0, rs.1, rs.2, rs.3)
+sequence4_ok o (inr (inl (l, h0, h1, h2, h3, is))) = ok_is_err refl is
+sequence4_ok o (inr (inr (inl (o1, l, a, h0, h1, h2, h3, is)))) = ok_is_err refl is
+sequence4_ok o (inr (inr (inr (inl (o1, o2, l, a, b, h0, h1, h2, h3, is))))) = ok_is_err refl is
+sequence4_ok o (inr (inr (inr (inr (o1, o2, o3, l, a, b, c, h0, h1, h2, h3, is))))) =
+    ok_is_err refl is
+
+pub sequence4_err : {T O1 O2 O3 O4 : Type 0} {Ran1 : O1 → Input T → Type 0}
+    {Ran2 : O2 → Input T → Input T → Type 0} {Ran3 : O3 → Input T → Input T → Type 0}
+    {Ran4 : O4 → Input T → Type 0} {Failed1 : Kind → Type 0}
+    {Failed2 Failed3 Failed4 : Kind → Input T → Type 0} {Kept2 Kept3 Kept4 : Type 0} (k : Kind)
+    → SequenceCases4 Ran1 Ran2 Ran3 Ran4 Failed1 Failed2 Failed3 Failed4 Kept2 Kept3 Kept4
+    (Err k) → (Failed1 k × Kept2 × Kept3 × Kept4)
+    ⊎ (((o1 : O1) × (a : Input T) × Ran1 o1 a × Failed2 k a × Kept3 × Kept4)
+    ⊎ (((o1 : O1) × (o2 : O2) × (a : Input T) × (b : Input T) × Ran1 o1 a × Ran2 o2 a b
+    × Failed3 k b × Kept4)
+    ⊎ ((o1 : O1) × (o2 : O2) × (o3 : O3) × (a : Input T) × (b : Input T) × (c : Input T)
+    × Ran1 o1 a × Ran2 o2 a b × Ran3 o3 b c × Failed4 k c)))
+sequence4_err k (inl (o1, o2, o3, o4, a, b, c, h0, h1, h2, h3, is)) = ok_is_err is refl
+sequence4_err {Failed1 = Failed1} k (inr (inl (l, h0, h1, h2, h3, is))) = inl
+    (at_kind Failed1 is h0, h1, h2, h3)
+sequence4_err {Failed2 = Failed2} k (inr (inr (inl (o1, l, a, h0, h1, h2, h3, is)))) = inr
+    (inl (o1, a, h0, at_kind (λ x. Failed2 x a) is h1, h2, h3))
+sequence4_err {Failed3 = Failed3} k
+    (inr (inr (inr (inl (o1, o2, l, a, b, h0, h1, h2, h3, is))))) = inr
+    (inr (inl (o1, o2, a, b, h0, h1, at_kind (λ x. Failed3 x b) is h2, h3)))
+sequence4_err {Failed4 = Failed4} k
+    (inr (inr (inr (inr (o1, o2, o3, l, a, b, c, h0, h1, h2, h3, is))))) = inr
+    (inr (inr (o1, o2, o3, a, b, c, h0, h1, h2, at_kind (λ x. Failed4 x c) is h3)))
+
+-- five children: the runs of SequenceRuns5, by what they relate
+abbrev pub SequenceCases5 : {T O1 O2 O3 O4 O5 : Type 0} → (O1 → Input T → Type 0)
+    → (O2 → Input T → Input T → Type 0) → (O3 → Input T → Input T → Type 0)
+    → (O4 → Input T → Input T → Type 0) → (O5 → Input T → Type 0) → (Kind → Type 0)
+    → (Kind → Input T → Type 0) → (Kind → Input T → Type 0) → (Kind → Input T → Type 0)
+    → (Kind → Input T → Type 0) → Type 0 → Type 0 → Type 0 → Type 0
+    → Answer (O1 × O2 × O3 × O4 × O5) → Type 0
+SequenceCases5 {T} {O1} {O2} {O3} {O4} {O5} Ran1 Ran2 Ran3 Ran4 Ran5 Failed1 Failed2 Failed3
+    Failed4 Failed5 Kept2 Kept3 Kept4 Kept5 answer =
+    ((o1 : O1) × (o2 : O2) × (o3 : O3) × (o4 : O4) × (o5 : O5) × (a : Input T) × (b : Input T)
+    × (c : Input T) × (d : Input T) × Ran1 o1 a × Ran2 o2 a b × Ran3 o3 b c × Ran4 o4 c d
+    × Ran5 o5 d × (answer ≡ Ok (o1, o2, o3, o4, o5)))
+    ⊎ (((l : Kind) × Failed1 l × Kept2 × Kept3 × Kept4 × Kept5 × (answer ≡ Err l))
+    ⊎ (((o1 : O1) × (l : Kind) × (a : Input T) × Ran1 o1 a × Failed2 l a × Kept3 × Kept4
+    × Kept5 × (answer ≡ Err l))
+    ⊎ (((o1 : O1) × (o2 : O2) × (l : Kind) × (a : Input T) × (b : Input T) × Ran1 o1 a
+    × Ran2 o2 a b × Failed3 l b × Kept4 × Kept5 × (answer ≡ Err l))
+    ⊎ (((o1 : O1) × (o2 : O2) × (o3 : O3) × (l : Kind) × (a : Input T) × (b : Input T)
+    × (c : Input T) × Ran1 o1 a × Ran2 o2 a b × Ran3 o3 b c × Failed4 l c × Kept5
+    × (answer ≡ Err l))
+    ⊎ ((o1 : O1) × (o2 : O2) × (o3 : O3) × (o4 : O4) × (l : Kind) × (a : Input T)
+    × (b : Input T) × (c : Input T) × (d : Input T) × Ran1 o1 a × Ran2 o2 a b
+    × Ran3 o3 b c × Ran4 o4 c d × Failed5 l d × (answer ≡ Err l))))))
+
+pub sequence5_ok : {T O1 O2 O3 O4 O5 : Type 0} {Ran1 : O1 → Input T → Type 0}
+    {Ran2 : O2 → Input T → Input T → Type 0} {Ran3 : O3 → Input T → Input T → Type 0}
+    {Ran4 : O4 → Input T → Input T → Type 0} {Ran5 : O5 → Input T → Type 0}
+    {Failed1 : Kind → Type 0} {Failed2 Failed3 Failed4 Failed5 : Kind → Input T → Type 0}
+    {Kept2 Kept3 Kept4 Kept5 : Type 0} (o : O1 × O2 × O3 × O4 × O5)
+    → SequenceCases5 Ran1 Ran2 Ran3 Ran4 Ran5 Failed1 Failed2 Failed3 Failed4 Failed5 Kept2
+    Kept3 Kept4 Kept5 (Ok o)
+    → (a : Input T) × (b : Input T) × (c : Input T) × (d : Input T) × Ran1 o.0 a × Ran2 o.1 a b
+    × Ran3 o.2 b c × Ran4 o.3 c d × Ran5 o.4 d
+sequence5_ok {O1 = O1} {O2 = O2} {O3 = O3} {O4 = O4} {O5 = O5} {Ran1 = Ran1} {Ran2 = Ran2}
+    {Ran3 = Ran3} {Ran4 = Ran4} {Ran5 = Ran5} o
+    (inl (o1, o2, o3, o4, o5, a, b, c, d, h0, h1, h2, h3, h4, is)) = let rs = at_output
+    (λ (p : O1 × O2 × O3 × O4 × O5). Ran1 p.0 a × Ran2 p.1 a b × Ran3 p.2 b c × Ran4 p.3 c d
+    × Ran5 p.4 d) is (h0, h1, h2, h3, h4) in (a, b, c, d, rs.0, rs.1, rs.2, rs.3, rs.4)
+sequence5_ok o (inr (inl (l, h0, h1, h2, h3, h4, is))) = ok_is_err refl is
+sequence5_ok o (inr (inr (inl (o1, l, a, h0, h1, h2, h3, h4, is)))) = ok_is_err refl is
+sequence5_ok o (inr (inr (inr (inl (o1, o2, l, a, b, h0, h1, h2, h3, h4, is))))) = ok_is_err refl is
+sequence5_ok o (inr (inr (inr (inr (inl (o1, o2, o3, l, a, b, c, h0, h1, h2, h3, h4, is)))))) =
+    ok_is_err refl is
+sequence5_ok o (inr (inr
+    (inr (inr (inr (o1, o2, o3, o4, l, a, b, c, d, h0, h1, h2, h3, h4, is)))))) =
+    ok_is_err refl is
+
+pub sequence5_err : {T O1 O2 O3 O4 O5 : Type 0} {Ran1 : O1 → Input T → Type 0}
+    {Ran2 : O2 → Input T → Input T → Type 0} {Ran3 : O3 → Input T → Input T → Type 0}
+    {Ran4 : O4 → Input T → Input T → Type 0} {Ran5 : O5 → Input T → Type 0}
+    {Failed1 : Kind → Type 0} {Failed2 Failed3 Failed4 Failed5 : Kind → Input T → Type 0}
+    {Kept2 Kept3 Kept4 Kept5 : Type 0} (k : Kind)
+    → SequenceCases5 Ran1 Ran2 Ran3 Ran4 Ran5 Failed1 Failed2 Failed3 Failed4 Failed5 Kept2
+    Kept3 Kept4 Kept5 (Err k)
+    → (Failed1 k × Kept2 × Kept3 × Kept4 × Kept5)
+    ⊎ (((o1 : O1) × (a : Input T) × Ran1 o1 a × Failed2 k a × Kept3 × Kept4 × Kept5)
+    ⊎ (((o1 : O1) × (o2 : O2) × (a : Input T) × (b : Input T) × Ran1 o1 a × Ran2 o2 a b
+    × Failed3 k b × Kept4 × Kept5)
+    ⊎ (((o1 : O1) × (o2 : O2) × (o3 : O3) × (a : Input T) × (b : Input T) × (c : Input T)
+    × Ran1 o1 a × Ran2 o2 a b × Ran3 o3 b c × Failed4 k c × Kept5)
+    ⊎ ((o1 : O1) × (o2 : O2) × (o3 : O3) × (o4 : O4) × (a : Input T) × (b : Input T)
+    × (c : Input T) × (d : Input T) × Ran1 o1 a × Ran2 o2 a b × Ran3 o3 b c
+    × Ran4 o4 c d × Failed5 k d))))
+sequence5_err k (inl (o1, o2, o3, o4, o5, a, b, c, d, h0, h1, h2, h3, h4, is)) = ok_is_err is refl
+sequence5_err {Failed1 = Failed1} k (inr (inl (l, h0, h1, h2, h3, h4, is))) = inl
+    (at_kind Failed1 is h0, h1, h2, h3, h4)
+sequence5_err {Failed2 = Failed2} k (inr (inr (inl (o1, l, a, h0, h1, h2, h3, h4, is)))) = inr
+    (inl (o1, a, h0, at_kind (λ x. Failed2 x a) is h1, h2, h3, h4))
+sequence5_err {Failed3 = Failed3} k
+    (inr (inr (inr (inl (o1, o2, l, a, b, h0, h1, h2, h3, h4, is))))) = inr
+    (inr (inl (o1, o2, a, b, h0, h1, at_kind (λ x. Failed3 x b) is h2, h3, h4)))
+sequence5_err {Failed4 = Failed4} k
+    (inr (inr (inr (inr (inl (o1, o2, o3, l, a, b, c, h0, h1, h2, h3, h4, is)))))) = inr
+    (inr (inr (inl (o1, o2, o3, a, b, c, h0, h1, h2, at_kind (λ x. Failed4 x c) is h3, h4))))
+sequence5_err {Failed5 = Failed5} k
+    (inr (inr (inr (inr (inr (o1, o2, o3, o4, l, a, b, c, d, h0, h1, h2, h3, h4, is)))))) =
+    inr (inr (inr (inr (
+      o1,
+      o2,
+      o3,
+      o4,
+      a,
+      b,
+      c,
+      d,
+      h0,
+      h1,
+      h2,
+      h3,
+      at_kind (λ x. Failed5 x d) is h4,
+    ))))
+
+-- six children: the runs of SequenceRuns6, by what they relate
+abbrev pub SequenceCases6 : {T O1 O2 O3 O4 O5 O6 : Type 0} → (O1 → Input T → Type 0)
+    → (O2 → Input T → Input T → Type 0) → (O3 → Input T → Input T → Type 0)
+    → (O4 → Input T → Input T → Type 0) → (O5 → Input T → Input T → Type 0)
+    → (O6 → Input T → Type 0) → (Kind → Type 0) → (Kind → Input T → Type 0)
+    → (Kind → Input T → Type 0) → (Kind → Input T → Type 0) → (Kind → Input T → Type 0)
+    → (Kind → Input T → Type 0) → Type 0 → Type 0 → Type 0 → Type 0 → Type 0
+    → Answer (O1 × O2 × O3 × O4 × O5 × O6) → Type 0
+SequenceCases6 {T} {O1} {O2} {O3} {O4} {O5} {O6} Ran1 Ran2 Ran3 Ran4 Ran5 Ran6 Failed1 Failed2
+    Failed3 Failed4 Failed5 Failed6 Kept2 Kept3 Kept4 Kept5 Kept6 answer =
+    ((o1 : O1) × (o2 : O2) × (o3 : O3) × (o4 : O4) × (o5 : O5) × (o6 : O6) × (a : Input T)
+    × (b : Input T) × (c : Input T) × (d : Input T) × (e : Input T) × Ran1 o1 a × Ran2 o2 a b
+    × Ran3 o3 b c × Ran4 o4 c d × Ran5 o5 d e × Ran6 o6 e
+    × (answer ≡ Ok (o1, o2, o3, o4, o5, o6)))
+    ⊎ (((l : Kind) × Failed1 l × Kept2 × Kept3 × Kept4 × Kept5 × Kept6 × (answer ≡ Err l))
+    ⊎ (((o1 : O1) × (l : Kind) × (a : Input T) × Ran1 o1 a × Failed2 l a × Kept3 × Kept4
+    × Kept5 × Kept6 × (answer ≡ Err l))
+    ⊎ (((o1 : O1) × (o2 : O2) × (l : Kind) × (a : Input T) × (b : Input T) × Ran1 o1 a
+    × Ran2 o2 a b × Failed3 l b × Kept4 × Kept5 × Kept6 × (answer ≡ Err l))
+    ⊎ (((o1 : O1) × (o2 : O2) × (o3 : O3) × (l : Kind) × (a : Input T) × (b : Input T)
+    × (c : Input T) × Ran1 o1 a × Ran2 o2 a b × Ran3 o3 b c × Failed4 l c × Kept5
+    × Kept6 × (answer ≡ Err l))
+    ⊎ (((o1 : O1) × (o2 : O2) × (o3 : O3) × (o4 : O4) × (l : Kind) × (a : Input T)
+    × (b : Input T) × (c : Input T) × (d : Input T) × Ran1 o1 a × Ran2 o2 a b
+    × Ran3 o3 b c × Ran4 o4 c d × Failed5 l d × Kept6 × (answer ≡ Err l))
+    ⊎ ((o1 : O1) × (o2 : O2) × (o3 : O3) × (o4 : O4) × (o5 : O5) × (l : Kind)
+    × (a : Input T) × (b : Input T) × (c : Input T) × (d : Input T) × (e : Input T)
+    × Ran1 o1 a × Ran2 o2 a b × Ran3 o3 b c × Ran4 o4 c d × Ran5 o5 d e × Failed6 l e
+    × (answer ≡ Err l)))))))
+
+pub sequence6_ok : {T O1 O2 O3 O4 O5 O6 : Type 0} {Ran1 : O1 → Input T → Type 0}
+    {Ran2 : O2 → Input T → Input T → Type 0} {Ran3 : O3 → Input T → Input T → Type 0}
+    {Ran4 : O4 → Input T → Input T → Type 0} {Ran5 : O5 → Input T → Input T → Type 0}
+    {Ran6 : O6 → Input T → Type 0} {Failed1 : Kind → Type 0}
+    {Failed2 Failed3 Failed4 Failed5 Failed6 : Kind → Input T → Type 0}
+    {Kept2 Kept3 Kept4 Kept5 Kept6 : Type 0} (o : O1 × O2 × O3 × O4 × O5 × O6)
+    → SequenceCases6 Ran1 Ran2 Ran3 Ran4 Ran5 Ran6 Failed1 Failed2 Failed3 Failed4 Failed5
+    Failed6 Kept2 Kept3 Kept4 Kept5 Kept6 (Ok o)
+    → (a : Input T) × (b : Input T) × (c : Input T) × (d : Input T) × (e : Input T) × Ran1 o.0 a
+    × Ran2 o.1 a b × Ran3 o.2 b c × Ran4 o.3 c d × Ran5 o.4 d e × Ran6 o.5 e
+sequence6_ok {O1 = O1} {O2 = O2} {O3 = O3} {O4 = O4} {O5 = O5} {O6 = O6} {Ran1 = Ran1}
+    {Ran2 = Ran2} {Ran3 = Ran3} {Ran4 = Ran4} {Ran5 = Ran5} {Ran6 = Ran6} o
+    (inl (o1, o2, o3, o4, o5, o6, a, b, c, d, e, h0, h1, h2, h3, h4, h5, is)) = let rs =
+    at_output (λ (p : O1 × O2 × O3 × O4 × O5 × O6). Ran1 p.0 a × Ran2 p.1 a b × Ran3 p.2 b c
+    × Ran4 p.3 c d × Ran5 p.4 d e × Ran6 p.5 e) is (h0, h1, h2, h3, h4, h5)
+    in (a, b, c, d, e, rs.0, rs.1, rs.2, rs.3, rs.4, rs.5)
+sequence6_ok o (inr (inl (l, h0, h1, h2, h3, h4, h5, is))) = ok_is_err refl is
+sequence6_ok o (inr (inr (inl (o1, l, a, h0, h1, h2, h3, h4, h5, is)))) = ok_is_err refl is
+sequence6_ok o (inr (inr (inr (inl (o1, o2, l, a, b, h0, h1, h2, h3, h4, h5, is))))) =
+    ok_is_err refl is
+sequence6_ok o (inr (inr
+    (inr (inr (inl (o1, o2, o3, l, a, b, c, h0, h1, h2, h3, h4, h5, is)))))) =
+    ok_is_err refl is
+sequence6_ok o (inr (inr
+    (inr (inr (inr (inl
+    (o1, o2, o3, o4, l, a, b, c, d, h0, h1, h2, h3, h4, h5, is))))))) =
+    ok_is_err refl is
+sequence6_ok o (inr (inr
+    (inr (inr (inr (inr
+    (o1, o2, o3, o4, o5, l, a, b, c, d, e, h0, h1, h2, h3, h4, h5, is))))))) =
+    ok_is_err refl is
+
+pub sequence6_err : {T O1 O2 O3 O4 O5 O6 : Type 0} {Ran1 : O1 → Input T → Type 0}
+    {Ran2 : O2 → Input T → Input T → Type 0} {Ran3 : O3 → Input T → Input T → Type 0}
+    {Ran4 : O4 → Input T → Input T → Type 0} {Ran5 : O5 → Input T → Input T → Type 0}
+    {Ran6 : O6 → Input T → Type 0} {Failed1 : Kind → Type 0}
+    {Failed2 Failed3 Failed4 Failed5 Failed6 : Kind → Input T → Type 0}
+    {Kept2 Kept3 Kept4 Kept5 Kept6 : Type 0} (k : Kind)
+    → SequenceCases6 Ran1 Ran2 Ran3 Ran4 Ran5 Ran6 Failed1 Failed2 Failed3 Failed4 Failed5
+    Failed6 Kept2 Kept3 Kept4 Kept5 Kept6 (Err k)
+    → (Failed1 k × Kept2 × Kept3 × Kept4 × Kept5 × Kept6)
+    ⊎ (((o1 : O1) × (a : Input T) × Ran1 o1 a × Failed2 k a × Kept3 × Kept4 × Kept5 × Kept6)
+    ⊎ (((o1 : O1) × (o2 : O2) × (a : Input T) × (b : Input T) × Ran1 o1 a × Ran2 o2 a b
+    × Failed3 k b × Kept4 × Kept5 × Kept6)
+    ⊎ (((o1 : O1) × (o2 : O2) × (o3 : O3) × (a : Input T) × (b : Input T) × (c : Input T)
+    × Ran1 o1 a × Ran2 o2 a b × Ran3 o3 b c × Failed4 k c × Kept5 × Kept6)
+    ⊎ (((o1 : O1) × (o2 : O2) × (o3 : O3) × (o4 : O4) × (a : Input T) × (b : Input T)
+    × (c : Input T) × (d : Input T) × Ran1 o1 a × Ran2 o2 a b × Ran3 o3 b c
+    × Ran4 o4 c d × Failed5 k d × Kept6)
+    ⊎ ((o1 : O1) × (o2 : O2) × (o3 : O3) × (o4 : O4) × (o5 : O5) × (a : Input T)
+    × (b : Input T) × (c : Input T) × (d : Input T) × (e : Input T) × Ran1 o1 a
+    × Ran2 o2 a b × Ran3 o3 b c × Ran4 o4 c d × Ran5 o5 d e × Failed6 k e)))))
+sequence6_err k (inl (o1, o2, o3, o4, o5, o6, a, b, c, d, e, h0, h1, h2, h3, h4, h5, is)) =
+    ok_is_err is refl
+sequence6_err {Failed1 = Failed1} k (inr (inl (l, h0, h1, h2, h3, h4, h5, is))) = inl
+    (at_kind Failed1 is h0, h1, h2, h3, h4, h5)
+sequence6_err {Failed2 = Failed2} k (inr (inr (inl (o1, l, a, h0, h1, h2, h3, h4, h5, is)))) =
+    inr (inl (o1, a, h0, at_kind (λ x. Failed2 x a) is h1, h2, h3, h4, h5))
+sequence6_err {Failed3 = Failed3} k
+    (inr (inr (inr (inl (o1, o2, l, a, b, h0, h1, h2, h3, h4, h5, is))))) = inr
+    (inr (inl (o1, o2, a, b, h0, h1, at_kind (λ x. Failed3 x b) is h2, h3, h4, h5)))
+sequence6_err {Failed4 = Failed4} k
+    (inr (inr (inr (inr (inl (o1, o2, o3, l, a, b, c, h0, h1, h2, h3, h4, h5, is)))))) = inr
+    (inr (inr (inl (
+      o1,
+      o2,
+      o3,
+      a,
+      b,
+      c,
+      h0,
+      h1,
+      h2,
+      at_kind (λ x. Failed4 x c) is h3,
+      h4,
+      h5,
+    ))))
+sequence6_err {Failed5 = Failed5} k
+    (inr (inr (inr (inr
+    (inr (inl (o1, o2, o3, o4, l, a, b, c, d, h0, h1, h2, h3, h4, h5, is))))))) = inr
+    (inr (inr (inr (inl (
+      o1,
+      o2,
+      o3,
+      o4,
+      a,
+      b,
+      c,
+      d,
+      h0,
+      h1,
+      h2,
+      h3,
+      at_kind (λ x. Failed5 x d) is h4,
+      h5,
+    )))))
+sequence6_err {Failed6 = Failed6} k
+    (inr (inr (inr (inr
+    (inr (inr (o1, o2, o3, o4, o5, l, a, b, c, d, e, h0, h1, h2, h3, h4, h5, is))))))) =
+    inr (inr (inr (inr (inr (
+      o1,
+      o2,
+      o3,
+      o4,
+      o5,
+      a,
+      b,
+      c,
+      d,
+      e,
+      h0,
+      h1,
+      h2,
+      h3,
+      h4,
+      at_kind (λ x. Failed6 x e) is h5,
+    )))))
+
+pub ruleset known_sequences = (
+  sequence2_ok,
+  sequence2_err,
+  sequence3_ok,
+  sequence3_err,
+  sequence4_ok,
+  sequence4_err,
+  sequence5_ok,
+  sequence5_err,
+  sequence6_ok,
+  sequence6_err,
+)

@@ -1,0 +1,40 @@
+-- What a caller knows of one run of the parser of one token that answered.
+use Rattle.std.specs.Prelude.{◌≡◌, false, [], ◌∷◌, Ok, Err}
+use Rattle.std.proofs.Common.{refl, sym, subst, ◌∙◌, inl, inr}
+use Rattle.streams.specs.Equal.{true_is_false}
+use Rattle.streams.specs.Input.{Input, Passes}
+use Rattle.streams.specs.Kind.{Kind, backtrack}
+use Rattle.streams.specs.Reading.{Reading}
+use Rattle.stream_errors.specs.Form.{ErrorForm}
+use Rattle.stream_errors.specs.Form.Known.{ok_is_err, same_err, same_ok}
+use Rattle.winnow_token.specs.Any.{AnyRuns, NoTokenRuns}
+
+-- A whole input of which nothing is left: it stays.
+pub record NoToken {T : Type 0} (i : Input T) (k : Kind) (j : Input T) : Type 0 where
+  pub stays : j ≡ i
+  pub kind : k ≡ backtrack
+  pub nothing : i.left.tokens ≡ []
+
+pub no_token : {T O : Type 0} (form : ErrorForm) (i : Input T) (k : Kind) (j : Input T)
+    → i.status.cut ≡ false → NoTokenRuns {O = O} form i (Err k) j → NoToken i k j
+no_token form i k j whole (l, nothing, inl (cut, kind), e, same) = true_is_false (sym cut ∙ whole)
+no_token form i k j whole (l, nothing, inr (not_cut, kind), e, same) =
+    record { stays = same; kind = same_err refl e ∙ kind; nothing = nothing }
+
+-- an output: the first token
+pub any_ok : {K T S : Type 0} (seen : K → T) (reading : Reading T S) (form : ErrorForm)
+    (i : Input T) (x : K) (j : Input T) → AnyRuns seen reading form i (Ok x) j
+    → Passes reading (seen x ∷ []) i j
+any_ok seen reading form i x j (inl (y, passes, e)) =
+    let P : _ → Type 0 = λ z. Passes reading (seen z ∷ []) i j in
+    subst P (sym (same_ok refl e)) passes
+any_ok seen reading form i x j (inr (k, nothing, kind, e, same)) = ok_is_err refl e
+
+-- an error: nothing is left
+pub any_err : {K T S : Type 0} (seen : K → T) (reading : Reading T S) (form : ErrorForm)
+    (i : Input T) (k : Kind) (j : Input T) → i.status.cut ≡ false
+    → AnyRuns seen reading form i (Err k) j → NoToken i k j
+any_err seen reading form i k j whole (inl (y, passes, e)) = ok_is_err e refl
+any_err {K} seen reading form i k j whole (inr none) = no_token {O = K} form i k j whole none
+
+pub ruleset known_tokens = (any_ok, any_err, no_token)

@@ -1,0 +1,181 @@
+-- What a caller knows of one run of a take of members that answered.
+use Rattle.std.specs.Prelude.{◌≡◌, ◌<◌, ◌≤◌, ℕ, Bool, true, false, List, [], ◌∷◌, ◌++◌, length}
+use Rattle.std.specs.Prelude.{Option, Some, None, Ok, Err, ◌⊎◌}
+use Rattle.std.specs.Borrow.{Bor}
+use Rattle.std.specs.List.{All}
+use Rattle.std.proofs.Common.{refl, sym, ap, subst, ◌∙◌, inl, inr, arith}
+use Rattle.std.proofs.lemmas.List.Elements.{All-weaker}
+use Rattle.streams.specs.Counted.{counted_reading}
+use Rattle.streams.specs.Equal.{none_is_some, same_rest, true_is_false}
+use Rattle.streams.specs.Input.{Input, Takes}
+use Rattle.streams.specs.Kind.{Kind, backtrack}
+use Rattle.streams.specs.Reading.{Reading}
+use Rattle.stream_sets.specs.Range.{IsWithin, greatest_of}
+use Rattle.stream_sets.specs.declared.range.Range.{Range}
+use Rattle.stream_errors.specs.Form.{Answer, ErrorForm}
+use Rattle.stream_errors.specs.Form.Known.{ok_is_err, same_err, same_ok}
+use Rattle.winnow_token.specs.TakeWhile.{IsEnded, IsLongest, TakeWhileRuns}
+
+-- Tokens that were taken: the longest beginning of members, enough of them, and what is left.
+pub record Took {T : Type 0} (member : T → Bool → Type 0) (least : ℕ) (greatest : Option ℕ)
+    (i : Input T) (taken : List T) (j : Input T) : Type 0 where
+  pub longest : IsLongest member greatest i.left.tokens taken j.left.tokens
+  -- whatever more input comes, or no more does
+  pub ended : IsEnded member greatest taken j.left.tokens ⊎ (i.status.cut ≡ false)
+  pub enough : least ≤ length taken
+  -- an input that was whole is whole
+  pub whole : i.status.cut ≡ false → j.status.cut ≡ false
+
+-- the slice of a take, and the tokens that it shows
+pub took : {T S : Type 0} (reading : Reading T S) (form : ErrorForm)
+    (member : T → Bool → Type 0) (least : ℕ) (greatest : Option ℕ) (i : Input T) (slice : S)
+    (j : Input T) → TakeWhileRuns reading form member least greatest i (Ok slice) j
+    → (taken : List T) × Takes reading taken i slice j × Took member least greatest i taken j
+took reading form member least greatest i slice j (inl (most, e, lt, a, same)) = ok_is_err refl a
+took reading form member least greatest i slice j (inr (inl (within, open_too, cut, a, same))) =
+    ok_is_err refl a
+took {T} reading form member least greatest i slice j
+    (inr (inr (inl (front, rest, s, within, longest, ended, le, takes, a)))) =
+    let left : rest ≡ j.left.tokens =
+    same_rest front rest j.left.tokens (sym longest.splits ∙ takes.passed.tokens) in
+    let P : List T → Type 0 =
+    λ l. IsLongest member greatest i.left.tokens front l
+    × (IsEnded member greatest front l ⊎ (i.status.cut ≡ false)) in
+    let Q : _ → Type 0 = λ x. Takes reading front i x j in
+    let there = subst P left (longest, ended) in (
+      front,
+      subst Q (sym (same_ok refl a)) takes,
+      record {
+        longest = there.0;
+        ended = there.1;
+        enough = le;
+        whole = λ was. ap (λ x. x.cut) takes.passed.status ∙ was;
+      },
+    )
+took reading form member least greatest i slice j
+    (inr (inr (inr (front, rest, within, longest, ended, lt, a, same)))) = ok_is_err refl a
+
+-- over bytes and token lists, those of the slice
+pub took_counted : {T : Type 0} (form : ErrorForm) (member : T → Bool → Type 0) (least : ℕ)
+    (greatest : Option ℕ) (i : Input T) (slice : Bor (List T)) (j : Input T)
+    → TakeWhileRuns counted_reading form member least greatest i (Ok slice) j
+    → Took member least greatest i slice.now j
+took_counted {T} form member least greatest i slice j ran =
+    let (taken, takes, all) = took counted_reading form member least greatest i slice j ran in
+    let P : List T → Type 0 = λ l. Took member least greatest i l j in
+    subst P (sym takes.shown) all
+
+-- A take of a whole input that failed: it stays, and too few members stand first.
+pub record TooFew {T : Type 0} (member : T → Bool → Type 0) (least : ℕ) (greatest : Option ℕ)
+    (i : Input T) (k : Kind) (j : Input T) : Type 0 where
+  pub stays : j ≡ i
+  pub kind : k ≡ backtrack
+  pub front : List T
+  pub rest : List T
+  pub longest : IsLongest member greatest i.left.tokens front rest
+  pub few : length front < least
+
+pub too_few : {T S : Type 0} (reading : Reading T S) (form : ErrorForm)
+    (member : T → Bool → Type 0) (least : ℕ) (greatest : Option ℕ) (i : Input T) (k : Kind)
+    (j : Input T) → i.status.cut ≡ false → IsWithin greatest least
+    → TakeWhileRuns reading form member least greatest i (Err k) j
+    → TooFew member least greatest i k j
+too_few reading form member least greatest i k j whole within (inl (most, e, lt, a, same)) =
+    let P : Option ℕ → Type 0 = λ g. IsWithin g least in
+    let le : least ≤ most = subst P e within in
+    absurd (omega (arith, le, lt))
+too_few reading form member least greatest i k j whole within
+    (inr (inl (w, open_too, cut, a, same))) = true_is_false (sym cut ∙ whole)
+too_few reading form member least greatest i k j whole within
+    (inr (inr (inl (front, rest, s, w, longest, ended, le, takes, a)))) = ok_is_err a refl
+too_few reading form member least greatest i k j whole within
+    (inr (inr (inr (front, rest, w, longest, ended, lt, a, same)))) =
+    record {
+      stays = same;
+      kind = same_err refl a;
+      front = front;
+      rest = rest;
+      longest = longest;
+      few = lt;
+    }
+
+-- the runs of a take by a range that is known, and what it took, or lacks
+pub by_range : {T S : Type 0} (reading : Reading T S) (form : ErrorForm)
+    (member : T → Bool → Type 0) (range : Range) (least : ℕ) (last : Option ℕ) (i : Input T)
+    (answer : Answer S) (j : Input T)
+    → range ≡ record { start_inclusive = least; end_inclusive = last }
+    → TakeWhileRuns reading form member range.start_inclusive
+    (greatest_of range.start_inclusive range.end_inclusive) i answer j
+    → TakeWhileRuns reading form member least (greatest_of least last) i answer j
+by_range reading form member range least last i answer j e ran =
+    let P : Range → Type 0 =
+    λ r. TakeWhileRuns reading form member r.start_inclusive
+    (greatest_of r.start_inclusive r.end_inclusive) i answer j in
+    subst P e ran
+
+pub took_by : {T : Type 0} (form : ErrorForm) (member : T → Bool → Type 0) (range : Range)
+    (least : ℕ) (last : Option ℕ) (i : Input T) (slice : Bor (List T)) (j : Input T)
+    → range ≡ record { start_inclusive = least; end_inclusive = last }
+    → TakeWhileRuns counted_reading form member range.start_inclusive
+    (greatest_of range.start_inclusive range.end_inclusive) i (Ok slice) j
+    → Took member least (greatest_of least last) i slice.now j
+took_by form member range least last i slice j e ran =
+    took_counted form member least (greatest_of least last) i slice j
+    (by_range counted_reading form member range least last i (Ok slice) j e ran)
+
+pub too_few_by : {T S : Type 0} (reading : Reading T S) (form : ErrorForm)
+    (member : T → Bool → Type 0) (range : Range) (least : ℕ) (last : Option ℕ) (i : Input T)
+    (k : Kind) (j : Input T) → range ≡ record { start_inclusive = least; end_inclusive = last }
+    → i.status.cut ≡ false → IsWithin (greatest_of least last) least
+    → TakeWhileRuns reading form member range.start_inclusive
+    (greatest_of range.start_inclusive range.end_inclusive) i (Err k) j
+    → TooFew member least (greatest_of least last) i k j
+too_few_by reading form member range least last i k j e whole within ran =
+    too_few reading form member least (greatest_of least last) i k j whole within
+    (by_range reading form member range least last i (Err k) j e ran)
+
+-- a take of none or more of a whole input never fails
+pub never_too_few : {T P : Type 0} (member : T → Bool → Type 0) (greatest : Option ℕ)
+    (i : Input T) (k : Kind) (j : Input T) → TooFew member 0 greatest i k j → P
+never_too_few member greatest i k j none = let h = none.few in absurd (omega (arith, h))
+
+-- all that was taken is of P, where the members are
+pub took_all : {T : Type 0} (P : T → Type 0) (member : T → Bool → Type 0) (least : ℕ)
+    (greatest : Option ℕ) (i : Input T) (taken : List T) (j : Input T)
+    → ((x : T) → member x true → P x) → Took member least greatest i taken j → All P taken
+took_all P member least greatest i taken j is all =
+    All-weaker (λ x. member x true) P is taken all.longest.members
+
+-- behind a take with no greatest number nothing stands, or what is of Q, where the others are
+pub took_stops : {T : Type 0} (Q : T → Type 0) (member : T → Bool → Type 0) (least : ℕ)
+    (i : Input T) (taken : List T) (j : Input T) → ((x : T) → member x false → Q x)
+    → Took member least None i taken j
+    → (x : T) (more : List T) → j.left.tokens ≡ x ∷ more → Q x
+took_stops Q member least i taken j other all x more e =
+    elim (all.longest.stops x more e)
+    [ inl stranger ↦ other x stranger | inr full ↦ none_is_some full ]
+
+-- where not one member was there, nothing stands first, or what is of Q, where the others are
+pub none_first : {T : Type 0} (Q : T → Type 0) (member : T → Bool → Type 0) (i : Input T)
+    (k : Kind) (j : Input T) → ((x : T) → member x false → Q x) → TooFew member 1 None i k j
+    → (x : T) (more : List T) → i.left.tokens ≡ x ∷ more → Q x
+none_first {T} Q member i k j other none x more e =
+    at_first none.front none.few none.longest.splits
+  where
+    at_first : (front : List T) → length front < 1 → i.left.tokens ≡ front ++ none.rest → Q x
+    at_first [] short splits =
+        elim (none.longest.stops x more (sym splits ∙ e))
+        [ inl stranger ↦ other x stranger | inr full ↦ none_is_some full ]
+    at_first (y ∷ ys) short splits = absurd (omega (arith, short))
+
+pub ruleset known_takes = (
+  took,
+  took_counted,
+  too_few,
+  by_range,
+  took_by,
+  too_few_by,
+  took_all,
+  took_stops,
+  none_first,
+)

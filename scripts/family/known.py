@@ -1,0 +1,154 @@
+"""What a caller knows of one run of a sequence that answered, in the crate `winnow_core`."""
+from family.common import BETWEEN, MOST, NUMBER, conjunction, tuple_type, upto, write
+
+
+def inputs_of(k, n):
+    """The inputs before and behind the child k of n that ran, but for those of the sequence."""
+    return ([BETWEEN[k - 2]] if k > 1 else []) + ([BETWEEN[k - 1]] if k < n else [])
+
+
+def relations(n):
+    """What the runs of n children relate: an output or a kind, and the inputs between them."""
+    groups = []
+    for k in upto(n):
+        groups.append((["Ran%d" % k], " → ".join(["O%d" % k] + ["Input T"] * len(inputs_of(k, n)) + ["Type 0"])))
+    groups.append((["Failed1"], "Kind → Type 0"))
+    groups.append((["Failed%d" % k for k in range(2, n + 1)], "Kind → Input T → Type 0"))
+    groups.append((["Kept%d" % k for k in range(2, n + 1)], "Type 0"))
+    return groups
+
+
+def names(n):
+    return ["Ran%d" % k for k in upto(n)] + ["Failed%d" % k for k in upto(n)] + ["Kept%d" % k for k in range(2, n + 1)]
+
+
+def case(n, failing, kind="l"):
+    """The parts of the case in which one of n children fails, or none: bound, and what holds."""
+    last = failing or n
+    bound = ["(o%d : O%d)" % (k, k) for k in upto(last - 1 if failing else n)]
+    bound += ["(%s : Kind)" % kind] if failing and kind == "l" else []
+    bound += ["(%s : Input T)" % BETWEEN[k - 1] for k in upto(last - 1)]
+    holds = ["Ran%d %s" % (k, " ".join(["o%d" % k] + inputs_of(k, n))) for k in upto(last - 1 if failing else n)]
+    if failing:
+        holds.append("Failed%d %s" % (failing, " ".join([kind] + inputs_of(failing, failing))))
+    return bound, holds + ["Kept%d" % k for k in range(failing + 1, n + 1) if failing]
+
+
+def choice(cases):
+    """Some cases, nested to the right."""
+    if len(cases) == 1:
+        return "(%s)" % cases[0]
+    return "(%s) ⊎ (%s)" % (cases[0], choice(cases[1:])) if len(cases) > 2 else "(%s) ⊎ (%s)" % (cases[0], cases[1])
+
+
+def injected(k, n, text):
+    """The case k of the cases 0 to n."""
+    text = "(%s)" % text
+    if k < n:
+        text = "(inl %s)" % text
+    for _ in range(k):
+        text = "(inr %s)" % text
+    return text
+
+
+def pattern(n, failing):
+    """A run of the case in which a child fails, or none."""
+    bound, holds = case(n, failing)
+    parts = [part[1:].split(" ")[0] for part in bound] + ["h%d" % k for k in range(len(holds))] + ["is"]
+    return injected(failing, n, ", ".join(parts))
+
+
+def known_cases(n):
+    outputs = ["O%d" % k for k in upto(n)]
+    cases = []
+    for failing in range(n + 1):
+        bound, holds = case(n, failing)
+        told = "(answer ≡ Err l)" if failing else "(answer ≡ Ok (%s))" % ", ".join("o%d" % k for k in upto(n))
+        cases.append(conjunction(bound + holds + [told]))
+    lines = ["-- %s children: the runs of SequenceRuns%d, by what they relate" % (NUMBER[n], n)]
+    head = " → ".join(kind if kind == "Type 0" else "(%s)" % kind for group, kind in relations(n) for _ in group)
+    lines.append("abbrev pub SequenceCases%d : {T %s : Type 0} → %s → Answer (%s) → Type 0" % (n, " ".join(outputs), head, tuple_type(outputs)))
+    lines.append("SequenceCases%d {T} %s %s answer = %s" % (n, " ".join("{%s}" % o for o in outputs), " ".join(names(n)), choice(cases)))
+    return "\n".join(lines)
+
+
+def known_lemma(n, way, variable, result):
+    outputs = ["O%d" % k for k in upto(n)]
+    shared = " ".join("{%s : %s}" % (" ".join(group), relation) for group, relation in relations(n))
+    kind = tuple_type(outputs) if variable == "o" else "Kind"
+    answer = "(Ok o)" if variable == "o" else "(Err k)"
+    return "pub sequence%d_%s : {T %s : Type 0} %s (%s : %s) → SequenceCases%d %s %s → %s" % (
+        n, way, " ".join(outputs), shared, variable, kind, n, " ".join(names(n)), answer, result,
+    )
+
+
+def known_ok(n):
+    """Where a sequence succeeds, all of its children do."""
+    inputs = BETWEEN[: n - 1]
+    outputs = tuple_type(["O%d" % k for k in upto(n)])
+
+    def runs(whole):
+        return ["Ran%d %s" % (k, " ".join(["%s.%d" % (whole, k - 1)] + inputs_of(k, n))) for k in upto(n)]
+
+    result = conjunction(["(%s : Input T)" % x for x in inputs] + runs("o"))
+    lines = [known_lemma(n, "ok", "o", result)]
+    for failing in range(n + 1):
+        told = "ok_is_err refl is"
+        arguments = ""
+        if not failing:
+            named = ["O%d" % k for k in upto(n)] + ["Ran%d" % k for k in upto(n)]
+            arguments = "".join(" {%s = %s}" % (x, x) for x in named)
+            told = "let rs = at_output (λ (p : %s). %s) is (%s) in (%s)" % (
+                outputs, conjunction(runs("p")), ", ".join("h%d" % k for k in range(n)),
+                ", ".join(list(inputs) + ["rs.%d" % k for k in range(n)]),
+            )
+        lines.append("sequence%d_ok%s o %s = %s" % (n, arguments, pattern(n, failing), told))
+    return "\n".join(lines)
+
+
+def known_err(n):
+    """Where a sequence fails, one child does, and those before it succeeded."""
+    cases = []
+    for failing in upto(n):
+        bound, holds = case(n, failing, "k")
+        cases.append(conjunction(bound + holds))
+    lines = [known_lemma(n, "err", "k", choice(cases))]
+    for failing in range(n + 1):
+        told, arguments = "ok_is_err is refl", ""
+        if failing:
+            bound, holds = case(n, failing)
+            parts = [part[1:].split(" ")[0] for part in bound if not part.startswith("(l ")]
+            motive = "Failed%d" % failing if failing == 1 else "(λ x. %s)" % holds[failing - 1].replace(" l", " x", 1)
+            parts += ["h%d" % k for k in range(len(holds))]
+            parts[len(bound) - 1 + failing - 1] = "at_kind %s is h%d" % (motive, failing - 1)
+            arguments = " {Failed%d = Failed%d}" % (failing, failing)
+            told = injected(failing - 1, n - 1, ", ".join(parts))[1:-1]
+        lines.append("sequence%d_err%s k %s = %s" % (n, arguments, pattern(n, failing), told))
+    return "\n".join(lines)
+
+
+SEQUENCE_KNOWN = """-- What a caller knows of one run of a sequence that answered: where it succeeded all children did, each where the one before it stopped; where it failed one did, by that kind, and those before it succeeded.
+-- {head}
+use Rattle.std.specs.Prelude.{{◌≡◌, Ok, Err, ◌⊎◌}}
+use Rattle.std.proofs.Common.{{refl, inl, inr}}
+use Rattle.streams.specs.Input.{{Input}}
+use Rattle.streams.specs.Kind.{{Kind}}
+use Rattle.stream_errors.specs.Form.{{Answer}}
+use Rattle.stream_errors.specs.Form.Known.{{at_kind, at_output, ok_is_err}}
+
+-- A run is given by what it relates, an output or a kind and the inputs between the children, so that antt finds it at a caller's parsers. That the children which did not run keep their states is Kept.
+
+{family}
+
+pub ruleset known_sequences = ({lemmas})
+"""
+
+
+def write_known():
+    some = range(2, MOST + 1)
+    write(
+        "crates/winnow_core/specs/Sequence/Known.antt",
+        SEQUENCE_KNOWN,
+        family="\n\n".join("%s\n\n%s\n\n%s" % (known_cases(n), known_ok(n), known_err(n)) for n in some),
+        lemmas=", ".join("sequence%d_%s" % (n, way) for n in some for way in ("ok", "err")),
+    )
