@@ -8,6 +8,7 @@ use Rattle.stream_sets.specs.Compare.{ComparesAs, StandsFirst}
 use Rattle.stream_sets.specs.declared.compare.CompareResult.{CompareResult}
 use Rattle.stream_sets.specs.declared.compare.CompareResult.TheVariants.{Ok, Incomplete, Error}
 use Rattle.winnow_core.specs.Literal.{LiteralRuns}
+use Rattle.winnow_ascii.specs.Crlf.{CrlfRuns}
 use Rattle.winnow_ascii.specs.LineEnding.{LineEndingRuns}
 
 -- a literal that fails consumes nothing
@@ -21,19 +22,17 @@ literal_stays reading form spelled output i k j (inr (inr (other, whole, e, same
 -- "\n" backtracked, and "\r\n" answers
 pub second_line_end : {T S : Type 0} (spells : Bor (List ℕ) → List T → Type 0)
     (reading : Reading T S) (form : ErrorForm) (i : Input T) (answer : Answer S) (j m : Input T)
-    (k : Kind) (text other : Bor (List ℕ)) → text.now ≡ 10 ∷ [] → other.now ≡ 13 ∷ 10 ∷ []
-    → k ≡ backtrack → LiteralRuns reading form (spells text) (λ slice. slice) i (Err k) m
-    → LiteralRuns reading form (spells other) (λ slice. slice) m answer j
-    → LineEndingRuns spells reading form i answer j
-second_line_end spells reading form i answer j m k text other is are kind first second =
+    (k : Kind) (text : Bor (List ℕ)) → text.now ≡ 10 ∷ [] → k ≡ backtrack
+    → LiteralRuns reading form (spells text) (λ slice. slice) i (Err k) m
+    → CrlfRuns spells reading form m answer j → LineEndingRuns spells reading form i answer j
+second_line_end spells reading form i answer j m k text is kind first second =
     let same = literal_stays reading form (spells text) (λ slice. slice) i k m first in
     let P : Kind → Type 0 =
     λ x. LiteralRuns reading form (spells text) (λ slice. slice) i (Err x) i in
     let Q : Input _ → Type 0 =
     λ x. LiteralRuns reading form (spells text) (λ slice. slice) i (Err k) x in
-    let R : Input _ → Type 0 =
-    λ x. LiteralRuns reading form (spells other) (λ slice. slice) x answer j in
-    inr (text, other, is, are, subst P kind (subst Q same first), subst R same second)
+    let R : Input _ → Type 0 = λ x. CrlfRuns spells reading form x answer j in
+    inr (text, is, subst P kind (subst Q same first), subst R same second)
 
 -- what is short or another does not stand first
 pub not_first : {T : Type 0} (units : List T → ℕ) (spelled : List T → Type 0) (tokens : List T)

@@ -6,6 +6,7 @@ use Rattle.streams.specs.Kind.{backtrack}
 use Rattle.streams.specs.Reading.{Reading}
 use Rattle.stream_errors.specs.Form.{ErrorForm, Answer}
 use Rattle.winnow_core.specs.Literal.{LiteralRuns}
+use Rattle.winnow_ascii.specs.Crlf.{CrlfRuns}
 pub mod Laws
 
 -- A run of the literal "\n", or, where that backtracks, of the literal "\r\n". A text stands for
@@ -18,7 +19,6 @@ LineEndingRuns {T} {S} spells reading form i answer j =
     × LiteralRuns reading form (spells text) (λ slice. slice) i answer j
     × (answer ≡ Err backtrack → ⊥))
     -- it backtracks: "\r\n" answers
-    ⊎ ((text : Bor (List ℕ)) × (other : Bor (List ℕ)) × (text.now ≡ 10 ∷ [])
-    × (other.now ≡ 13 ∷ 10 ∷ [])
+    ⊎ ((text : Bor (List ℕ)) × (text.now ≡ 10 ∷ [])
     × LiteralRuns reading form (spells text) (λ slice. slice) i (Err backtrack) i
-    × LiteralRuns reading form (spells other) (λ slice. slice) i answer j)
+    × CrlfRuns spells reading form i answer j)

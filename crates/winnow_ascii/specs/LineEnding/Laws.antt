@@ -9,6 +9,7 @@ use Rattle.stream_errors.specs.Form.{Answer, ErrorForm}
 use Rattle.winnow_core.specs.Literal.Laws.{literal_ends}
 use Rattle.winnow_core.specs.Runs.{Keeps}
 use Rattle.winnow_core.specs.SameMeaning.{SameMeaning, same_by, same_trans}
+use Rattle.winnow_ascii.specs.Crlf.Laws.{crlf_ends}
 use Rattle.winnow_ascii.specs.LineEnding.{LineEndingRuns}
 
 -- they leave an end
@@ -17,8 +18,8 @@ pub line_ending_ends : {T L : Type 0} (spells : Bor (List ℕ) → List T → Ty
     → LineEndingRuns spells reading form i answer j → IsEndOf reading j i
 line_ending_ends spells reading form i answer j (inl (text, is, r, stays)) =
     literal_ends reading form (spells text) (λ slice. slice) i answer j r
-line_ending_ends spells reading form i answer j (inr (text, other, is, other_is, first, r)) =
-    literal_ends reading form (spells other) (λ slice. slice) i answer j r
+line_ending_ends spells reading form i answer j (inr (text, is, first, r)) =
+    crlf_ends spells reading form i answer j r
 
 -- over streams that are read and compared alike they mean the same
 pub line_ending_alike : {T L : Type 0} {a b : Reading T L}

@@ -104,7 +104,7 @@ where
         Ok(slice) => Ok(slice),
         Err(error) => {
             if error.is_backtrack() {
-                take_literal(input, "\r\n")
+                crlf(input)
             } else {
                 Err(error)
             }
