@@ -11,6 +11,9 @@ CLASSES = [
     ("multispace", "spaces, tabs, carriage returns and line feeds", "such character", "Multispaces", "IsMultispace", " \\n", "a"),
 ]
 
+# The other parsers of the module, which are written by hand.
+OTHERS = ["crlf", "line_ending", "newline", "tab", "till_line_ending"]
+
 
 def class_parsers():
     """Each class with its least number of members."""
@@ -145,7 +148,7 @@ def write_classes():
     }
     functions = "\n\n".join(class_function(*row) for row in rows)
     write(ascii_crate + "src/ascii/classes.rt", CLASS_FUNCTIONS, family=functions, **parts)
-    calls = sorted("%s%d" % (row[0], row[-1]) for row in rows)
+    calls = sorted(["%s%d" % (row[0], row[-1]) for row in rows] + OTHERS)
     write(
         ascii_crate + "src/ascii/impls.rt",
         CLASS_IMPLS,

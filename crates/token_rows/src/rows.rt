@@ -177,7 +177,8 @@ fn at_bytes<
         + Compare<char>
         + Compare<&'static str>
         + Compare<&'static [u8]>
-        + Compare<&'static [u8; 2]>,
+        + Compare<&'static [u8; 2]>
+        + FindSlice<(char, char)>,
     E: ParserError<I>,
 >(rt: &impl Abort, asserted: Kind)
 where
@@ -221,6 +222,7 @@ fn bytes_under_plain_errors(rt: HostRuntime) {
 #[test]
 fn cut_text_under_plain_errors(rt: HostRuntime) {
     token::at_plain_errors::<Partial<&str>, EmptyError>(&rt);
+    ascii::line_ends::at_plain_errors::<Partial<&str>, EmptyError>(&rt);
 }
 
 #[test]

@@ -78,8 +78,13 @@ pub use Rattle.winnow_token.specs.TakeUntil
 pub use Rattle.winnow_token.specs.Before
 pub use Rattle.winnow_token.specs.Rest
 pub use Rattle.winnow_token.specs.Literal as LiteralParser
--- Classes of ASCII characters.
+-- Classes of ASCII characters, and line ends.
 pub use Rattle.winnow_ascii.specs.Class
+pub use Rattle.winnow_ascii.specs.Crlf
+pub use Rattle.winnow_ascii.specs.LineEnding
+pub use Rattle.winnow_ascii.specs.Newline
+pub use Rattle.winnow_ascii.specs.Tab
+pub use Rattle.winnow_ascii.specs.TillLineEnding
 -- Choice, options, sequence and repetition.
 pub use Rattle.winnow_comb.specs.Opt
 pub use Rattle.winnow_comb.specs.Cond

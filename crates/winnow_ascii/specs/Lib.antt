@@ -1,1 +1,6 @@
 pub mod Class
+pub mod Crlf
+pub mod LineEnding
+pub mod Newline
+pub mod Tab
+pub mod TillLineEnding

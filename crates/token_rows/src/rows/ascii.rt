@@ -1,5 +1,6 @@
-//! Parsers of ASCII's classes of characters.
+//! Parsers of ASCII's classes of characters, and of line ends.
 mod classes;
+pub(crate) mod line_ends;
 
 use crate::rows::{Modal, answers_each, ends_each, same};
 use outcomes::Ending::Takes;
@@ -10,6 +11,8 @@ use std::fmt::Debug;
 use std::process::Abort;
 use stream_errors::parser_error::ParserError;
 use stream_sets::as_char::AsChar;
+use stream_sets::compare::Compare;
+use stream_sets::find::FindSlice;
 use streams::locating::LocatingSlice;
 use winnow_ascii::ascii;
 use winnow_ascii::ascii::impls::{Alphanumeric1, Digit1, Multispace1, Space0};
@@ -24,7 +27,10 @@ where
 }
 
 /// The rows at a stream.
-pub(crate) fn at_stream<I: OfText, E: ParserError<I>>(rt: &impl Abort)
+pub(crate) fn at_stream<
+    I: OfText + Compare<char> + Compare<&'static str> + FindSlice<(char, char)>,
+    E: ParserError<I>,
+>(rt: &impl Abort)
 where
     I::Token: AsChar,
     I::Slice: PartialEq + Debug,
@@ -38,6 +44,7 @@ where
     multispace1::<I, E>(rt);
     multispace1_on_cut_input::<I, E>(rt);
     classes::classes::<I, E>(rt);
+    line_ends::at_stream::<I, E>(rt);
 }
 
 /// The function that is a parser answers and leaves so on the whole text.

@@ -1,0 +1,64 @@
+-- What stands before a line end.
+use Rattle.std.specs.Prelude.{◌≡◌, ℕ, List, [], ◌∷◌, None, Ok, Err, ◌⊎◌}
+use Rattle.std.specs.Borrow.{Bor}
+use Rattle.streams.specs.Input.{Input, Takes}
+use Rattle.streams.specs.Kind.{Kind, backtrack}
+use Rattle.streams.specs.Reading.{Reading}
+use Rattle.stream_errors.specs.Form.{ErrorForm, Answer}
+use Rattle.stream_sets.specs.Compare.{IsShort, StandsFirst}
+use Rattle.stream_sets.specs.FindSlice.{Stands, IsFirstMatch}
+use Rattle.winnow_core.specs.Short.{ShortKind}
+pub mod Laws
+
+-- Neither a carriage return nor a line feed stands anywhere, where `sought` says for which lists a
+-- pair of characters is searched.
+abbrev pub HasNoLineEnd : {T : Type 0} → (ℕ × ℕ → List T → Type 0) → List T → Type 0
+HasNoLineEnd {T} sought tokens =
+    (front hit rest : List T) → Stands (sought (13, 10)) tokens front hit rest → ⊥
+
+-- A line is taken: what stands before the first carriage return or line feed; or all that is left,
+-- where there is neither and an error for want of more input backtracks.
+abbrev pub LineRuns : {T S : Type 0} → (ℕ × ℕ → List T → Type 0) → Reading T S → ErrorForm
+    → Input T → S → Input T → Type 0
+LineRuns sought reading form i slice j =
+    ((start : ℕ) × (end : ℕ)
+    × (m : IsFirstMatch reading.units (sought (13, 10)) i.left.tokens start end)
+    × Takes reading m.front i slice j)
+    ⊎ (HasNoLineEnd sought i.left.tokens × ShortKind form None i backtrack
+    × Takes reading i.left.tokens i slice j × (j.left.tokens ≡ []))
+
+-- No line is taken: there is neither, and the error for want of more input does not backtrack.
+abbrev pub LacksLineEnd : {T : Type 0} → (ℕ × ℕ → List T → Type 0) → ErrorForm → Input T → Kind
+    → Input T → Type 0
+LacksLineEnd sought form i k j =
+    HasNoLineEnd sought i.left.tokens × ShortKind form None i k × (k ≡ backtrack → ⊥) × (j ≡ i)
+
+-- A run of the parser of what stands before a line end. A text stands for the lists that `spells`
+-- says.
+abbrev pub TillLineEndingRuns : {T S : Type 0} → (Bor (List ℕ) → List T → Type 0)
+    → (ℕ × ℕ → List T → Type 0) → Reading T S → ErrorForm → Input T → Answer S → Input T → Type 0
+TillLineEndingRuns {T} {S} spells sought reading form i answer j =
+    -- a line is taken, and no "\r" follows
+    ((slice : S) × (return : Bor (List ℕ)) × (return.now ≡ 13 ∷ [])
+    × LineRuns sought reading form i slice j
+    × (StandsFirst (spells return) j.left.tokens → ⊥) × (answer ≡ Ok slice))
+    -- a line is taken, and "\r\n" follows
+    ⊎ (((slice : S) × (both : Bor (List ℕ)) × (both.now ≡ 13 ∷ 10 ∷ [])
+    × LineRuns sought reading form i slice j
+    × StandsFirst (spells both) j.left.tokens × (answer ≡ Ok slice))
+    -- "\r" follows, and the input ends before a line feed could stand behind it
+    ⊎ (((slice : S) × (return : Bor (List ℕ)) × (both : Bor (List ℕ)) × (k : Kind)
+    × (return.now ≡ 13 ∷ []) × (both.now ≡ 13 ∷ 10 ∷ [])
+    × LineRuns sought reading form i slice j
+    × StandsFirst (spells return) j.left.tokens × IsShort (spells both) j.left.tokens
+    × (StandsFirst (spells both) j.left.tokens → ⊥) × ShortKind form None j k
+    × (answer ≡ Err k))
+    -- "\r" follows, and no line feed behind it
+    ⊎ (((slice : S) × (return : Bor (List ℕ)) × (both : Bor (List ℕ))
+    × (return.now ≡ 13 ∷ []) × (both.now ≡ 13 ∷ 10 ∷ [])
+    × LineRuns sought reading form i slice j
+    × StandsFirst (spells return) j.left.tokens
+    × (IsShort (spells both) j.left.tokens → ⊥)
+    × (StandsFirst (spells both) j.left.tokens → ⊥) × (answer ≡ Err backtrack))
+    -- no line is taken
+    ⊎ ((k : Kind) × LacksLineEnd sought form i k j × (answer ≡ Err k)))))

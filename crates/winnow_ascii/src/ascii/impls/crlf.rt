@@ -1,0 +1,51 @@
+//! A carriage return and a line feed.
+ghost use Rattle.std.specs.Prelude.{⊤};
+ghost use Rattle.winnow_ascii.specs.Crlf.{CrlfRuns};
+ghost use Rattle.winnow_ascii.specs.Crlf.Laws.{crlf_alike, crlf_ends};
+ghost use Rattle.winnow_core.specs.Agrees.{agrees_plain};
+ghost use Rattle.winnow_core.specs.Runs.{Keeps};
+
+use crate::ascii::crlf;
+use stream_errors::parser_error::ParserError;
+use stream_sets::compare::Compare;
+use stream_sets::compare::like::ComparesLike;
+use streams::stream::{Stream, StreamIsPartial};
+use winnow_core::agrees_with::AgreesWith;
+use winnow_core::parser::Parser;
+
+/// The parser [`crlf`](crate::ascii::crlf).
+///
+/// ```text
+/// Crlf.parse_next(&mut b"\r\na".as_slice())   is Ok(b"\r\n"), and b"a" is left
+/// ```
+#[derive(Clone, Copy, Debug, PartialEq, Eq)]
+pub struct Crlf;
+
+impl<I: StreamIsPartial + Compare<&'static str>, E: ParserError<I>> Parser<I, I::Slice, E>
+    for Crlf {
+    ghost State = { ⊤ };
+
+    ghost state = { λ _. tt };
+
+    ghost meaning = { λ form. Keeps (λ _. CrlfRuns I.spells I.reading form) };
+
+    ghost leaves_ends = { λ form x i answer y j r. crlf_ends I.spells I.reading form i answer j r.0 };
+
+    #[inline(always)]
+    fn parse_next(&mut self, input: &mut I) -> Result<I::Slice, E> {
+        crlf(input)
+    }
+}
+
+impl<
+    I: StreamIsPartial + ComparesLike<&'static str, J>,
+    J: StreamIsPartial
+        + Compare<&'static str>
+        + Stream<Token = I::Token, Seen = I::Seen, Slice = I::Slice>,
+    E: ParserError<I>,
+    F: ParserError<J>,
+> AgreesWith<I, I::Slice, E, Crlf, J, F> for Crlf {
+    ghost like = { λ p q. ⊤ };
+
+    ghost agrees = { agrees_plain (crlf_alike I.same_reading I.same_spells) };
+}

@@ -1,0 +1,48 @@
+//! A line feed.
+ghost use Rattle.std.specs.Prelude.{⊤};
+ghost use Rattle.winnow_ascii.specs.Newline.{NewlineRuns};
+ghost use Rattle.winnow_ascii.specs.Newline.Laws.{newline_alike, newline_ends};
+ghost use Rattle.winnow_core.specs.Agrees.{agrees_plain};
+ghost use Rattle.winnow_core.specs.Runs.{Keeps};
+
+use crate::ascii::newline;
+use stream_errors::parser_error::ParserError;
+use stream_sets::compare::Compare;
+use stream_sets::compare::like::ComparesLike;
+use streams::stream::{Stream, StreamIsPartial};
+use winnow_core::agrees_with::AgreesWith;
+use winnow_core::parser::Parser;
+
+/// The parser [`newline`](crate::ascii::newline).
+///
+/// ```text
+/// Newline.parse_next(&mut b"\na".as_slice())   is Ok('\n'), and b"a" is left
+/// ```
+#[derive(Clone, Copy, Debug, PartialEq, Eq)]
+pub struct Newline;
+
+impl<I: StreamIsPartial + Compare<char>, E: ParserError<I>> Parser<I, char, E> for Newline {
+    ghost State = { ⊤ };
+
+    ghost state = { λ _. tt };
+
+    ghost meaning = { λ form. Keeps (λ _. NewlineRuns I.spells I.reading form) };
+
+    ghost leaves_ends = { λ form x i answer y j r. newline_ends I.spells I.reading form i answer j r.0 };
+
+    #[inline(always)]
+    fn parse_next(&mut self, input: &mut I) -> Result<char, E> {
+        newline(input)
+    }
+}
+
+impl<
+    I: StreamIsPartial + ComparesLike<char, J>,
+    J: StreamIsPartial + Compare<char> + Stream<Token = I::Token, Seen = I::Seen, Slice = I::Slice>,
+    E: ParserError<I>,
+    F: ParserError<J>,
+> AgreesWith<I, char, E, Newline, J, F> for Newline {
+    ghost like = { λ p q. ⊤ };
+
+    ghost agrees = { agrees_plain (newline_alike I.same_reading I.same_spells) };
+}

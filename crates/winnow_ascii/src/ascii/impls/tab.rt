@@ -1,0 +1,48 @@
+//! A tab.
+ghost use Rattle.std.specs.Prelude.{⊤};
+ghost use Rattle.winnow_ascii.specs.Tab.{TabRuns};
+ghost use Rattle.winnow_ascii.specs.Tab.Laws.{tab_alike, tab_ends};
+ghost use Rattle.winnow_core.specs.Agrees.{agrees_plain};
+ghost use Rattle.winnow_core.specs.Runs.{Keeps};
+
+use crate::ascii::tab;
+use stream_errors::parser_error::ParserError;
+use stream_sets::compare::Compare;
+use stream_sets::compare::like::ComparesLike;
+use streams::stream::{Stream, StreamIsPartial};
+use winnow_core::agrees_with::AgreesWith;
+use winnow_core::parser::Parser;
+
+/// The parser [`tab`](crate::ascii::tab).
+///
+/// ```text
+/// Tab.parse_next(&mut b"\ta".as_slice())   is Ok('\t'), and b"a" is left
+/// ```
+#[derive(Clone, Copy, Debug, PartialEq, Eq)]
+pub struct Tab;
+
+impl<I: StreamIsPartial + Compare<char>, E: ParserError<I>> Parser<I, char, E> for Tab {
+    ghost State = { ⊤ };
+
+    ghost state = { λ _. tt };
+
+    ghost meaning = { λ form. Keeps (λ _. TabRuns I.spells I.reading form) };
+
+    ghost leaves_ends = { λ form x i answer y j r. tab_ends I.spells I.reading form i answer j r.0 };
+
+    #[inline(always)]
+    fn parse_next(&mut self, input: &mut I) -> Result<char, E> {
+        tab(input)
+    }
+}
+
+impl<
+    I: StreamIsPartial + ComparesLike<char, J>,
+    J: StreamIsPartial + Compare<char> + Stream<Token = I::Token, Seen = I::Seen, Slice = I::Slice>,
+    E: ParserError<I>,
+    F: ParserError<J>,
+> AgreesWith<I, char, E, Tab, J, F> for Tab {
+    ghost like = { λ p q. ⊤ };
+
+    ghost agrees = { agrees_plain (tab_alike I.same_reading I.same_spells) };
+}

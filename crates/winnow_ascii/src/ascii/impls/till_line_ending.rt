@@ -1,0 +1,56 @@
+//! What stands before a line end.
+ghost use Rattle.std.specs.Prelude.{⊤};
+ghost use Rattle.winnow_ascii.specs.TillLineEnding.{TillLineEndingRuns};
+ghost use Rattle.winnow_ascii.specs.TillLineEnding.Laws.{till_line_ending_alike, till_line_ending_ends};
+ghost use Rattle.winnow_core.specs.Agrees.{agrees_plain};
+ghost use Rattle.winnow_core.specs.Runs.{Keeps};
+
+use crate::ascii::till_line_ending;
+use stream_errors::parser_error::ParserError;
+use stream_sets::compare::Compare;
+use stream_sets::compare::like::ComparesLike;
+use stream_sets::find::FindSlice;
+use stream_sets::find::like::FindsLike;
+use streams::stream::{Stream, StreamIsPartial};
+use winnow_core::agrees_with::AgreesWith;
+use winnow_core::parser::Parser;
+
+/// The parser [`till_line_ending`](crate::ascii::till_line_ending).
+///
+/// ```text
+/// TillLineEnding.parse_next(&mut b"ab\n".as_slice())   is Ok(b"ab"), and b"\n" is left
+/// ```
+#[derive(Clone, Copy, Debug, PartialEq, Eq)]
+pub struct TillLineEnding;
+
+impl<
+    I: StreamIsPartial + Compare<&'static str> + FindSlice<(char, char)>,
+    E: ParserError<I>,
+> Parser<I, I::Slice, E> for TillLineEnding {
+    ghost State = { ⊤ };
+
+    ghost state = { λ _. tt };
+
+    ghost meaning = { λ form. Keeps (λ _. TillLineEndingRuns I.spells I.sought I.reading form) };
+
+    ghost leaves_ends = { λ form x i answer y j r. till_line_ending_ends I.spells I.sought I.reading form i answer j r.0 };
+
+    #[inline(always)]
+    fn parse_next(&mut self, input: &mut I) -> Result<I::Slice, E> {
+        till_line_ending(input)
+    }
+}
+
+impl<
+    I: StreamIsPartial + ComparesLike<&'static str, J> + FindsLike<(char, char), J>,
+    J: StreamIsPartial
+        + Compare<&'static str>
+        + FindSlice<(char, char)>
+        + Stream<Token = I::Token, Seen = I::Seen, Slice = I::Slice>,
+    E: ParserError<I>,
+    F: ParserError<J>,
+> AgreesWith<I, I::Slice, E, TillLineEnding, J, F> for TillLineEnding {
+    ghost like = { λ p q. ⊤ };
+
+    ghost agrees = { agrees_plain (till_line_ending_alike I.same_reading I.same_spells I.same_sought) };
+}
