@@ -1,15 +1,17 @@
 -- What a caller knows of one run of a take of members that answered.
 use Rattle.std.specs.Prelude.{◌≡◌, ◌<◌, ◌≤◌, ℕ, Bool, true, false, List, [], ◌∷◌, ◌++◌, length}
-use Rattle.std.specs.Prelude.{Option, Some, None, Ok, Err, ◌⊎◌}
+use Rattle.std.specs.Prelude.{Option, Some, None, Ok, Err, ◌⊎◌, ◌↔◌, IsTrue}
 use Rattle.std.specs.Borrow.{Bor}
 use Rattle.std.specs.List.{All}
 use Rattle.std.proofs.Common.{refl, sym, ap, subst, ◌∙◌, inl, inr, arith}
-use Rattle.std.proofs.lemmas.List.Elements.{All-weaker}
+use Rattle.std.proofs.lemmas.List.Elements.{All-head, All-tail, All-weaker}
 use Rattle.streams.specs.Counted.{counted_reading}
-use Rattle.streams.specs.Equal.{none_is_some, same_rest, true_is_false}
+use Rattle.streams.specs.Equal.{none_is_some, same_first, same_others, same_rest}
+use Rattle.streams.specs.Equal.{true_is_false}
 use Rattle.streams.specs.Input.{Input, Takes}
 use Rattle.streams.specs.Kind.{Kind, backtrack}
 use Rattle.streams.specs.Reading.{Reading}
+use Rattle.streams.specs.Stream.{AnswersSeen}
 use Rattle.stream_sets.specs.Range.{IsWithin, greatest_of}
 use Rattle.stream_sets.specs.declared.range.Range.{Range}
 use Rattle.stream_errors.specs.Form.{Answer, ErrorForm}
@@ -179,3 +181,94 @@ pub ruleset known_takes = (
   took_stops,
   none_first,
 )
+
+-- ---- what a run must answer, where it is known how the input begins
+
+-- A set by its members: what is told true is of P, and what is told false is not.
+pub record Tells {T : Type 0} (member : T → Bool → Type 0) (P : T → Type 0) : Type 0 where
+  pub yes : (t : T) → member t true → P t
+  pub no : (t : T) → member t false → P t → ⊥
+
+-- the set of the tokens for which P holds, as a stream whose tokens are seen as they are sees them
+pub tells_of : {T : Type 0} (P : T → Type 0)
+    → Tells (AnswersSeen (λ t. t) (λ t answer. IsTrue answer ↔ P t)) P
+tells_of P = record {
+  yes = λ x h. subst P h.1 (h.2.0 refl);
+  no = λ x h p. true_is_false (sym (h.2.1 (subst P (sym h.1) p)));
+}
+
+-- where a stranger to P follows xs, the longest beginning of P is xs
+same_front : {X : Type 0} (P : X → Type 0) (xs ys : List X) (x : X) (more rest : List X)
+    → All P xs → (P x → ⊥) → All P ys
+    → ((y : X) (others : List X) → rest ≡ y ∷ others → P y → ⊥)
+    → xs ++ x ∷ more ≡ ys ++ rest → xs ≡ ys
+same_front P [] [] x more rest a not_p b stops e = refl
+same_front P [] (y ∷ ys) x more rest a not_p b stops e =
+    absurd (not_p (subst P (sym (same_first e)) (All-head P y ys b)))
+same_front P (z ∷ xs) [] x more rest a not_p b stops e =
+    absurd (stops z (xs ++ x ∷ more) (sym e) (All-head P z xs a))
+same_front P (z ∷ xs) (y ∷ ys) x more rest a not_p b stops e =
+    ap (λ w. w ∷ xs) (same_first e)
+    ∙ ap (λ l. y ∷ l) (same_front P xs ys x more rest (All-tail P z xs a) not_p (All-tail P y ys b)
+    stops (same_others e))
+
+in_middle : {X : Type 0} (P : X → Type 0) (xs : List X) (y : X) (ys : List X)
+    → All P (xs ++ y ∷ ys) → P y
+in_middle P [] y ys all = All-head P y ys all
+in_middle P (x ∷ xs) y ys all = in_middle P xs y ys (All-tail P x (xs ++ y ∷ ys) all)
+
+-- the longest beginning of members is the front behind which a stranger stands
+same_taken : {T : Type 0} (member : T → Bool → Type 0) (P : T → Type 0) (front : List T) (x : T)
+    (rest tokens taken left : List T) → Tells member P → tokens ≡ front ++ x ∷ rest
+    → All P front → (P x → ⊥) → IsLongest member None tokens taken left → front ≡ taken
+same_taken member P front x rest tokens taken left set begins all not_p longest =
+    same_front P front taken x rest left all not_p (All-weaker (λ t. member t true) P set.yes taken longest.members)
+    (λ y others is p. elim (longest.stops y others is) [
+      | inl stranger ↦ set.no y stranger p
+      | inr full ↦ none_is_some full
+    ]) (sym begins ∙ longest.splits)
+
+-- where a stranger follows enough members, these are taken
+pub take_must : {T S : Type 0} (reading : Reading T S) (form : ErrorForm)
+    (member : T → Bool → Type 0) (P : T → Type 0) (least : ℕ) (front : List T) (x : T)
+    (rest : List T) (i : Input T) (answer : Answer S) (j : Input T) → Tells member P
+    → i.left.tokens ≡ front ++ x ∷ rest → All P front → (P x → ⊥) → least ≤ length front
+    → TakeWhileRuns reading form member least None i answer j
+    → (slice : S) × (answer ≡ Ok slice) × Takes reading front i slice j
+take_must reading form member P least front x rest i answer j set begins all not_p enough
+    (inl (most, e, lt, a, same)) = none_is_some e
+take_must reading form member P least front x rest i answer j set begins all not_p enough
+    (inr (inl (within, (members, below), cut, a, same))) =
+    let Q : List _ → Type 0 = λ l. All P l in
+    absurd (not_p (in_middle P front x rest (subst Q begins (All-weaker (λ t. member t true) P set.yes _ members))))
+take_must reading form member P least front x rest i answer j set begins all not_p enough
+    (inr (inr (inl (taken, left, slice, within, longest, ended, le, takes, a)))) =
+    let Q : List _ → Type 0 = λ l. Takes reading l i slice j in
+    let same = same_taken member P front x rest _ taken left set begins all not_p longest in
+    (slice, a, subst Q (sym same) takes)
+take_must reading form member P least front x rest i answer j set begins all not_p enough
+    (inr (inr (inr (taken, left, within, longest, ended, few, a, stays)))) =
+    let same = same_taken member P front x rest _ taken left set begins all not_p longest in
+    absurd (omega (arith, few, enough, ap (λ l. length l) same))
+
+-- ... so the stranger and what follows are left
+pub take_must_leave : {T S : Type 0} (reading : Reading T S) (form : ErrorForm)
+    (member : T → Bool → Type 0) (P : T → Type 0) (least : ℕ) (front : List T) (x : T)
+    (rest : List T) (i : Input T) (slice : S) (j : Input T) → Tells member P
+    → i.left.tokens ≡ front ++ x ∷ rest → All P front → (P x → ⊥) → least ≤ length front
+    → TakeWhileRuns reading form member least None i (Ok slice) j → j.left.tokens ≡ x ∷ rest
+take_must_leave reading form member P least front x rest i slice j set begins all not_p enough ran =
+    let it = take_must reading form member P least front x rest i _ j set begins all not_p enough
+    ran in
+    same_rest front _ _ (sym it.2.passed.tokens ∙ begins)
+
+-- ... and it does not fail
+pub take_must_answer : {T S X : Type 0} {k : Kind} (reading : Reading T S) (form : ErrorForm)
+    (member : T → Bool → Type 0) (P : T → Type 0) (least : ℕ) (front : List T) (x : T)
+    (rest : List T) (i j : Input T) → Tells member P → i.left.tokens ≡ front ++ x ∷ rest
+    → All P front → (P x → ⊥) → least ≤ length front
+    → TakeWhileRuns reading form member least None i (Err k) j → X
+take_must_answer reading form member P least front x rest i j set begins all not_p enough ran =
+    let it = take_must reading form member P least front x rest i _ j set begins all not_p enough
+    ran in
+    ok_is_err it.1 refl
