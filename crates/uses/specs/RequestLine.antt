@@ -1,6 +1,7 @@
 -- The request line of HTTP/1.1 (RFC 9112, section 3).
-use Rattle.std.specs.Prelude.{◌≡◌, ◌<◌, ◌≤◌, ◌⊎◌, ℕ, List, [], ◌∷◌, ◌++◌, length}
+use Rattle.std.specs.Prelude.{◌≡◌, ◌<◌, ◌≤◌, ◌⊎◌, ℕ, List, [], ◌∷◌, ◌++◌, length, None}
 use Rattle.std.specs.List.{All}
+use Rattle.winnow.specs.{Range}
 
 -- A visible byte.
 abbrev pub IsVisible : ℕ → Type 0
@@ -22,6 +23,10 @@ IsTokenByte b =
 -- a space, the version, a carriage return and a line feed
 abbrev pub version : List ℕ
 version = 32 ∷ 72 ∷ 84 ∷ 84 ∷ 80 ∷ 47 ∷ 49 ∷ 46 ∷ 49 ∷ 13 ∷ 10 ∷ []
+
+-- one or more
+abbrev pub some_bytes : Range
+some_bytes = record { start_inclusive = 1; end_inclusive = None }
 
 -- The bytes are a request line with this method and this target, and then the rest.
 pub record IsRequestLine (method target bytes rest : List ℕ) : Type 0 where

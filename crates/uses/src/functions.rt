@@ -1,6 +1,7 @@
 //! Functions in use: plain functions as parsers.
 #![tactic(auto)]
 
+ghost use Rattle.std.specs.Prelude.{◌≡◌, ◌∷◌, ◌++◌, List, IfOk};
 ghost use Rattle.winnow.specs.Bytes.{bytes_input, bytes_reading};
 ghost use Rattle.winnow.specs.Input.{IsEndOf};
 
@@ -9,34 +10,39 @@ use winnow::error::{EmptyError, ParserError};
 use winnow::stream::{AsChar, StreamIsPartial};
 use winnow::{Func, Parser};
 
-/// A word, over bytes.
+/// A word, over bytes: the word and then what is left are the input.
 fn word<'i>(input: &mut &'i [u8]) -> Result<&'i [u8], EmptyError>
-    ensures { IsEndOf bytes_reading (bytes_input input.new.now) (bytes_input input.old.now) }
+    ensures splits { IfOk result (λ word. input.old.now ≡ word.now ++ input.new.now) }
+    ensures ends { IsEndOf bytes_reading (bytes_input input.new.now) (bytes_input input.old.now) }
 {
     alpha1(input)
 }
 
-/// Two words with a space between them.
+/// Two words with a space between them: these, and then what is left, are the input.
 pub fn two_words<'i>(input: &mut &'i [u8]) -> Result<(&'i [u8], u8, &'i [u8]), EmptyError>
-    ensures { IsEndOf bytes_reading (bytes_input input.new.now) (bytes_input input.old.now) }
+    ensures { IfOk result (λ words.
+        input.old.now ≡ words.0.now ++ words.1 ∷ (words.2.now ++ input.new.now)) }
 {
     (Func(word), b' ', Func(word)).parse_next(input)
 }
 
-/// A word, over any stream.
+/// A word, over any stream: the tokens of the word and then what is left are the input.
 fn any_word<I, E>(input: &mut I) -> Result<I::Slice, E>
 where
     I: StreamIsPartial,
     I::Token: AsChar,
     E: ParserError<I>,
-    ensures { IsEndOf I.reading (I.view input.new) (I.view input.old) }
+    ensures splits { IfOk result (λ word. (tokens : List I.Seen) × I.reading.shows word tokens
+        × ((I.view input.old).left.tokens ≡ tokens ++ (I.view input.new).left.tokens)) }
+    ensures ends { IsEndOf I.reading (I.view input.new) (I.view input.old) }
 {
     alpha1(input)
 }
 
-/// A word, and behind it a space, over bytes: the function of any stream at a stream.
+/// A word, and behind it a space, over bytes: the function of any stream at a stream. These, and
+/// then what is left, are the input.
 pub fn word_and_space<'i>(input: &mut &'i [u8]) -> Result<(&'i [u8], u8), EmptyError>
-    ensures { IsEndOf bytes_reading (bytes_input input.new.now) (bytes_input input.old.now) }
+    ensures { IfOk result (λ parts. input.old.now ≡ parts.0.now ++ parts.1 ∷ input.new.now) }
 {
     (Func(any_word::<&'i [u8], EmptyError>), b' ').parse_next(input)
 }
