@@ -1,1 +1,2 @@
+pub mod CsvLines
 pub mod RequestLines

@@ -3,6 +3,7 @@
 
 pub mod choices;
 pub mod complete_streams;
+pub mod csv;
 pub mod functions;
 pub mod numbers;
 pub mod request_line;
