@@ -4,6 +4,7 @@
 //! many units it takes, as an [`Ending`]. It says so in texts, of which each stream makes its own
 //! by [`OfText`](crate::texts::OfText).
 #![tactic(auto)]
+
 ghost use Rattle.std.specs.Prelude.{◌≡◌, ◌-◌};
 ghost use Rattle.streams.specs.Input.{Input};
 ghost use Rattle.stream_errors.specs.Form.{Answer, answer_by};
@@ -45,10 +46,7 @@ pub fn kind_of<I: Stream, E: ParserError<I>>(error: &E) -> Kind
 pub type Outcome<O, I> = (Result<O, Kind>, I);
 
 /// A run that answered so and left so much.
-pub fn outcome_with<I: Stream, O, E: ParserError<I>>(
-    answer: Result<O, E>,
-    rest: I,
-) -> Outcome<O, I>
+pub fn outcome_with<I: Stream, O, E: ParserError<I>>(answer: Result<O, E>, rest: I) -> Outcome<O, I>
     ensures answer { answer_shown result.0 ≡ answer_by E.kind answer }
     ensures rest { result.1 ≡ rest }
 {
@@ -123,7 +121,7 @@ pub fn ending_of<I: Stream, O: Drop, E: ParserError<I>, P: Parser<I, O, E>>(
     ensures ran { (answer : Answer O) × (rest : Input I.Seen)
         × P.meaning E.form (P.state parser.old) (I.view input) answer (P.state parser.new) rest
         × ShowsEnding result answer
-            (I.reading.units (I.view input).left.tokens - I.reading.units rest.left.tokens) }
+        (I.reading.units (I.view input).left.tokens - I.reading.units rest.left.tokens) }
     ensures again { P.can_parse parser.new }
 {
     let before = input.eof_offset();

@@ -83,7 +83,8 @@ others_read s i others t j comma any all_any ran =
     let told = repeat_any_ok ItemMeans list_kept (assert_kind modal) s.0 i others t.0 j
     (repeated_by ItemMeans list_kept (assert_kind modal) s.1 0 None s.0 i (Ok others) t.0 j all_any
     ran.0) in
-    let read = chain_from_end ItemMeans Reads (λ q k c d. (refl, λ n b h. absurd (omega (arith, h))))
+    let read = chain_from_end ItemMeans Reads
+    (λ q k c d. (refl, λ n b h. absurd (omega (arith, h))))
     (λ q k f u m fs v w ran less rest. item_more q k f u m fs v w ran rest) told.outputs s.0 i
     told.state told.input told.chain comma any in
     let left : told.input.left.tokens ≡ j.left.tokens = ap (λ k. k.left.tokens) (sym told.back) in

@@ -1,4 +1,5 @@
--- What the clauses of public functions cite, and the lemmas that stand beside it: the modules of the
+-- What the clauses of public functions cite, and the lemmas that stand beside it: the modules of
+-- the
 -- crates that have the definitions, under their own names; and the types of Rust that clauses name.
 -- Streams: what a parser sees of its input, and how a stream counts it.
 pub use Rattle.streams.specs.Kind

@@ -1,6 +1,7 @@
 //! The parser library winnow under its own module names.
 //!
-//! A user names this crate alone. Each item stands in the module where winnow has it, and is defined
+//! A user names this crate alone. Each item stands in the module where winnow has it, and is
+//! defined
 //! and proved in the crate that its documentation names; what the clauses of public functions cite
 //! stands in `Rattle.winnow.specs`.
 //!

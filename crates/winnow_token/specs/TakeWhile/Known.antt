@@ -222,7 +222,8 @@ same_taken : {T : Type 0} (member : T → Bool → Type 0) (P : T → Type 0) (f
     (rest tokens taken left : List T) → Tells member P → tokens ≡ front ++ x ∷ rest
     → All P front → (P x → ⊥) → IsLongest member None tokens taken left → front ≡ taken
 same_taken member P front x rest tokens taken left set begins all not_p longest =
-    same_front P front taken x rest left all not_p (All-weaker (λ t. member t true) P set.yes taken longest.members)
+    same_front P front taken x rest left all not_p
+    (All-weaker (λ t. member t true) P set.yes taken longest.members)
     (λ y others is p. elim (longest.stops y others is) [
       | inl stranger ↦ set.no y stranger p
       | inr full ↦ none_is_some full
@@ -240,7 +241,8 @@ take_must reading form member P least front x rest i answer j set begins all not
 take_must reading form member P least front x rest i answer j set begins all not_p enough
     (inr (inl (within, (members, below), cut, a, same))) =
     let Q : List _ → Type 0 = λ l. All P l in
-    absurd (not_p (in_middle P front x rest (subst Q begins (All-weaker (λ t. member t true) P set.yes _ members))))
+    absurd (not_p (in_middle P front x rest
+    (subst Q begins (All-weaker (λ t. member t true) P set.yes _ members))))
 take_must reading form member P least front x rest i answer j set begins all not_p enough
     (inr (inr (inl (taken, left, slice, within, longest, ended, le, takes, a)))) =
     let Q : List _ → Type 0 = λ l. Takes reading l i slice j in
