@@ -140,7 +140,7 @@ pub front_read : {S2 S3 : Type 0} (s : Unit {0} × S2 × S3) (i : Input ℕ)
     (λ s i answer t j. MarkRuns i answer j) (λ s i answer t j. ValueRuns i answer j) s i
     answer t j → FrontRead i answer j
 front_read s i (Ok o) t j ran =
-    let (between, a, b, r1, r2, r3) = separated_pair_ok _ _ _ s i o t j ran in
+    let (between, a, b, r1, r2, r3) = separated_pair_ok o ran in
     let (some, keys) = key_ok i o.0 a r1 in
     let (before, lead, rest, blanks, leads) = mark_ok a between b r2 in
     let (body, values, trail, text) = value_ok b o.1 j r3 in
@@ -191,7 +191,7 @@ pub remark_read : (s : Unit {0}) (i : Input ℕ) (o : Option (Unit {0})) (t : Un
     → OptRuns (λ s i answer t j. CommentRuns i answer j) s i (Ok o) t j
     → (remark : List ℕ) × IsRemark remark × (i.left.tokens ≡ remark ++ j.left.tokens)
     × EndsLine j.left.tokens
-remark_read s i o t j stops ran = by_output o (opt_ok _ s i o t j ran)
+remark_read s i o t j stops ran = by_output o (opt_ok o ran)
   where
     by_output : (o : Option (Unit {0}))
         → MatchOption o ((m : Input ℕ) × CommentRuns i (Err backtrack) m × (j ≡ back_at i.left m))
@@ -211,7 +211,7 @@ remark_read s i o t j stops ran = by_output o (opt_ok _ s i o t j ran)
 -- it never fails
 pub remark_never_fails : {P : Type 0} (s : Unit {0}) (i : Input ℕ) (k : Kind) (t : Unit {0})
     (j : Input ℕ) → OptRuns (λ s i answer t j. CommentRuns i answer j) s i (Err k) t j → P
-remark_never_fails {P} s i k t j ran = of_child (opt_err _ s i k t j ran)
+remark_never_fails {P} s i k t j ran = of_child (opt_err k ran)
   where
     of_child : CommentRuns i (Err k) j × (k ≡ backtrack → ⊥) → P
     of_child ((ends, inl (text, begins, is)), other) = ok_is_err is refl
