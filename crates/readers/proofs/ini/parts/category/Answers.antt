@@ -60,7 +60,6 @@ returns-in-Err c =
     ∙ c.from.ensures in
     let front_is = ap (λ p. p.ignored1) parts ∙ c.delimited.ensures.ignored1 in
     let end_is = ap (λ p. p.ignored2) parts ∙ c.delimited.ensures.ignored2 in
-    let stays = is_end_of_refl bytes_reading _ in
     elim c.in-Err.ensures.ran [
       | inl (o, u, seq, step, e) ↦ ok_is_err e refl
       | inr (inl (o, b', seq, step, e, back)) ↦
@@ -68,7 +67,7 @@ returns-in-Err c =
           let (o1, o2, o3, a, b, r1, r2, r3, same) = three_ok _ seq in
           let front_mark = token_taken bytes_reading modal _ _ _ _ _ r1.0 in
           let P : List ℕ → Type 0 = λ l. IsUtf8 l in (
-            stays,
+            is_end_of_refl bytes_reading _,
             inr (
               no_text _ _ _ _ (front_mark.splits ∙ ap (λ x. x ∷ a.left.tokens) front_is)
                   (took_front IsNameByte _ _ _ _ _ (took_by modal _ _ _ _ _ _ _ range r2.0)
@@ -84,7 +83,7 @@ returns-in-Err c =
           elim (three_err _ seq) [
             | inl (r1, s2, s3) ↦
                 let missing = token_missing bytes_reading modal _ _ _ _ _ refl r1.0 in (
-                  stays,
+                  is_end_of_refl bytes_reading _,
                   inr (
                     no_open _ (λ rest is. missing.other rest
                         (is ∙ ap (λ b. b ∷ rest) (sym front_is))),
@@ -102,7 +101,7 @@ returns-in-Err c =
                 let missing =
                 token_missing bytes_reading modal _ _ _ _ _
                 (name.whole (token_whole front_mark refl)) r3.0 in (
-                  stays,
+                  is_end_of_refl bytes_reading _,
                   inr (
                     no_close _ _ _ _ (front_mark.splits ∙ ap (λ b. b ∷ a.left.tokens) front_is)
                         (took_front IsNameByte _ _ _ _ _ name
