@@ -107,9 +107,10 @@ no_key key_set input k j n few at not_key =
     let zero_at : 0 ≡ n = omega (arith, at, ap (λ i. length i.left.tokens) few.stays) in
     let P : ℕ → Type 0 = λ m. IsRefusedPair input m in
     subst P zero_at (refused_after_key input [] input refl (λ k d h. absurd (omega arith))
-    (λ y more e.
-    (none_first (λ b. IsKeyByte b → ⊥) key_set (bytes_input input) k j not_key few y more e,
-    inl refl)))
+    (λ y more e. (
+      none_first (λ b. IsKeyByte b → ⊥) key_set (bytes_input input) k j not_key few y more e,
+      inl refl,
+    )))
 
 -- no mark follows the key
 pub no_mark : (key_set : ℕ → Bool → Type 0) (input k : List ℕ) (kind : Kind) (a j : Input ℕ)
@@ -128,6 +129,7 @@ no_mark key_set input k kind a j n keys missing at is_key not_key =
     let P : ℕ → Type 0 = λ m. IsRefusedPair input m in
     subst P n_is (refused_after_key input k a.left.tokens keys.longest.splits
     (took_all IsKeyByte key_set 1 None (bytes_input input) k a is_key keys)
-    (λ y more e.
-    (took_stops (λ b. IsKeyByte b → ⊥) key_set 1 (bytes_input input) k a not_key keys y more e,
-    inr (λ is_mark. missing.other more (e ∙ ap (λ z. z ∷ more) is_mark)))))
+    (λ y more e. (
+      took_stops (λ b. IsKeyByte b → ⊥) key_set 1 (bytes_input input) k a not_key keys y more e,
+      inr (λ is_mark. missing.other more (e ∙ ap (λ z. z ∷ more) is_mark)),
+    )))

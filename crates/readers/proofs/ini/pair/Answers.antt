@@ -15,12 +15,12 @@ returns-in-Ok-clause-parts c =
     let feed = c.take_while-3.ensures.set in
     let (a, b, d, r1, r2, r3, r4) = sequence4_ok _ ran.1 in
     let keys = took_by plain _ _ _ _ _ _ _ (c.take_while.ensures.occurrences ∙ c.from.ensures)
-          r1.0 in
+    r1.0 in
     let mark = token_taken bytes_reading plain _ _ _ _ _ r2.0 in
     let values = took_by plain _ _ _ _ _ _ _
-          (c.take_while-2.ensures.occurrences ∙ c.from-2.ensures) r3.0 in
+    (c.take_while-2.ensures.occurrences ∙ c.from-2.ensures) r3.0 in
     let feeds = took_by plain _ _ _ _ _ _ _
-          (c.take_while-3.ensures.occurrences ∙ c.from-3.ensures) r4.0 in
+    (c.take_while-3.ensures.occurrences ∙ c.from-3.ensures) r4.0 in
     line_read _ _ _ _ _ (line_taken _ _ _ _ _ _ _ _ _ _ _ keys mark values feeds
     (λ x h. let p = h.2 in search rules)
     (λ x h. let p = h.2 in search rules)
@@ -51,15 +51,15 @@ returns-in-Err-Refused-clause-refused c =
                 let keys = took_by plain _ _ _ _ _ _ _ r1_range r1.0 in
                 let mark = token_taken bytes_reading plain _ _ _ _ _ r2.0 in
                 never_too_few _ _ _ _ _
-                      (too_few_by _ plain _ _ _ _ _ _ _ r3_range
-                        (token_whole mark (keys.whole refl)) tt r3.0)
+                (too_few_by _ plain _ _ _ _ _ _ _ r3_range
+                (token_whole mark (keys.whole refl)) tt r3.0)
             | inr (inr (inr (o1, o2, o3, a, b, d, r1, r2, r3, r4))) ↦
                 let keys = took_by plain _ _ _ _ _ _ _ r1_range r1.0 in
                 let mark = token_taken bytes_reading plain _ _ _ _ _ r2.0 in
                 let values = took_by plain _ _ _ _ _ _ _ r3_range r3.0 in
                 never_too_few _ _ _ _ _
-                      (too_few_by _ plain _ _ _ _ _ _ _ r4_range
-                        (values.whole (token_whole mark (keys.whole refl))) (lit≤ tt) r4.0)
+                (too_few_by _ plain _ _ _ _ _ _ _ r4_range
+                (values.whole (token_whole mark (keys.whole refl))) (lit≤ tt) r4.0)
           ]
       | inr (o, j, seq, something, fault) ↦
           let at = ap (λ m. m + length j.left.tokens) c.offset.ensures ∙ (rw refused at fault).0 in
