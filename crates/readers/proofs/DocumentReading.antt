@@ -61,13 +61,10 @@ no_pair_behind : (ps : List Part) (a b : List ℕ) → NoPairBegins a → Begins
 no_pair_behind [] a b none e last = let P : List ℕ → Type 0 = λ l. NoPairBegins l in subst P e none
 no_pair_behind (p ∷ ps) a b none with last = last (λ e. not_none e)
 
-same_item : {a c : SectionText} {b d : List SectionText} → a ≡ c → b ≡ d
-    → ◌≡◌ {A = List SectionText} (a ∷ b) (c ∷ d)
-same_item e f = cc
-
-same_name : {name : List ℕ} {b d : List (List ℕ × List ℕ)} → b ≡ d
-    → ◌≡◌ {A = SectionText} (name, b) (name, d)
-same_name f = cc
+same_item : {name : List ℕ} {a : SectionText} {ps qs : List (List ℕ × List ℕ)}
+    {b d : List SectionText} → a ≡ (name, ps) → ps ≡ qs → b ≡ d
+    → ◌≡◌ {A = List SectionText} (a ∷ b) ((name, qs) ∷ d)
+same_item e f g = cc
 
 -- what a section that was read has
 section_told : {X : Type 0} (told : X → SectionText) (i : Input ℕ) (o : X) (j : Input ℕ)
@@ -129,7 +126,7 @@ sections_read told run reads (o ∷ os) s i u m (q, item, rest) =
       begins_append (section name ∷ ps) parts i.left.tokens q.1.left.tokens m.left.tokens
           begins with,
       tt,
-      same_item (text ∙ sym (same_name (pairs_upto ps parts at)))
+      same_item text (sym (pairs_upto ps parts at))
           (texts ∙ sym (sections_behind ps parts no_section)),
       (λ none. last no_gap),
       λ some. no_pair_behind parts q.1.left.tokens m.left.tokens no_pair with last_pair,

@@ -6,8 +6,8 @@ use Rattle.streams.specs.Kind.{Kind, backtrack}
 use Rattle.stream_errors.specs.Form.{Answer}
 use Rattle.stream_errors.specs.Form.Known.{at_kind, at_output, ok_is_err, same_kind}
 
--- the runs of VerifyMapRuns, by what the child's and the closure's relate; Back is that the input is
--- back at the start
+-- the runs of VerifyMapRuns, by what the child's and the closure's relate; Back is that the input
+-- is back at the start
 abbrev pub VerifyMapCases : {T O U : Type 0} → (O → Type 0) → (O → U → Type 0)
     → (O → Input T → Type 0) → (O → Type 0) → (Input T → Type 0) → (Kind → Type 0) → Type 0
     → Answer U → Type 0

@@ -1,7 +1,7 @@
 use Rattle.std.proofs.Common.{ap, ◌∙◌, refl, inl, inr, None}
 use Rattle.streams.specs.Bytes.{bytes_reading}
 use Rattle.stream_errors.specs.Form.{modal}
-use Rattle.stream_errors.specs.Form.Known.{at_kind, ok_is_err, same_err}
+use Rattle.stream_errors.specs.Form.Known.{ok_is_err, same_err}
 use Rattle.winnow_comb.specs.Alt.Known.{or_else_err, or_else_ok}
 use Rattle.winnow_core.specs.Void.Known.{void_err, void_ok}
 use Rattle.winnow_token.specs.TakeWhile.Known.{too_few, took_counted}
