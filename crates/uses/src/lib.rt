@@ -5,3 +5,4 @@ pub mod choices;
 pub mod complete_streams;
 pub mod functions;
 pub mod numbers;
+pub mod words;
