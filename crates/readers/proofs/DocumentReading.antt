@@ -2,20 +2,25 @@
 use Rattle.std.proofs.Common.{◌≡◌, ◌≤◌, ◌+◌, ◌∙◌, ◌⊎◌, ℕ, List, [], ◌∷◌, ◌++◌, length, Bool, true}
 use Rattle.std.proofs.Common.{false, Some, None, Ok, Err, refl, sym, ap, subst, arith, inl, inr}
 use Rattle.std.specs.Prelude.{map}
-use Rattle.std.specs.List.{FoldsTo, AllByRecursion}
-use Rattle.streams.specs.Input.{Input}
+use Rattle.std.specs.List.{AllByRecursion}
+use Rattle.std.specs.declared.vec.Vec.{Vec}
+use Rattle.streams.specs.Bytes.{bytes_input, bytes_reading}
+use Rattle.streams.specs.Equal.{same_some}
+use Rattle.streams.specs.Input.{Input, IsEndOf}
 use Rattle.streams.specs.Kind.{Kind, backtrack, memory}
-use Rattle.streams.specs.Bytes.{bytes_input}
-use Rattle.stream_errors.specs.Form.{inner_kind_of, marked_kind}
+use Rattle.stream_errors.specs.Form.{Answer, inner_kind_of, marked_kind}
+use Rattle.stream_errors.specs.Form.Known.{at_output, ok_is_err, same_kind}
 use Rattle.stream_errors.specs.Mode.{as_inner}
-use Rattle.stream_errors.specs.Form.{Answer}
+use Rattle.stream_sets.specs.Accumulator.{list_kept}
 use Rattle.stream_sets.specs.Range.{greatest_of}
 use Rattle.stream_sets.specs.declared.range.Range.{Range}
 use Rattle.winnow_core.specs.Runs.{Runs}
-use Rattle.winnow_comb.specs.Chain.{IsItem}
-use Rattle.winnow_comb.specs.InOrder.{BothRuns}
-use Rattle.stream_sets.specs.Accumulator.{Accumulator}
+use Rattle.winnow_comb.specs.InOrder.Known.{both_err}
+use Rattle.winnow_comb.specs.Preceded.{PrecededRuns}
+use Rattle.winnow_comb.specs.Preceded.Known.{preceded_ok}
 use Rattle.winnow_comb.specs.Repeat.{RepeatRuns}
+use Rattle.winnow_comb.specs.Repeat.Known.{Items, repeat_any_err, repeat_any_ok, repeated_by}
+use Rattle.winnow_comb.specs.Repeat.Known.{repeated_list}
 use Rattle.readers.specs.Document.{SectionText, PairBytes, Part, white, comment, section, pair}
 use Rattle.readers.specs.Document.{Begins, BeginsWith, BeginsDocument, IsRefusedDocument}
 use Rattle.readers.specs.Document.{NoPairBegins, NoSectionBegins, SectionBegins, ReachesSection}
@@ -23,12 +28,9 @@ use Rattle.readers.specs.Document.{pairs_of, sections_of, NoPairBeforeSections}
 use Rattle.readers.specs.DocumentRuns.{IsGapPart, NoGapBegins, HasNoSection, BeginsAtSection}
 use Rattle.readers.specs.DocumentRuns.{GapRuns, SectionRuns, SectionsRuns, DocumentRuns}
 use Rattle.readers.proofs.PairLemmas.{not_none}
-use Rattle.readers.proofs.PairRuns.{ok_is_err, same_ok}
-use Rattle.readers.proofs.PartRuns.{part_shortens, fails_as, same_err}
+use Rattle.readers.proofs.PartRuns.{part_shortens}
 use Rattle.readers.proofs.DocumentLemmas.{only_part}
-use Rattle.readers.proofs.Repeated.{RepeatStops, repeated_by}
 use Rattle.readers.proofs.SectionLemmas.{begins_append, begins_length, gap_no_sections, gap_before}
-use Rattle.readers.proofs.SectionLemmas.{collected}
 
 -- the pairs of a section end where the next section begins
 no_pairs_at : (qs : List Part) → BeginsAtSection qs → pairs_of qs ≡ []
@@ -59,22 +61,51 @@ no_pair_behind : (ps : List Part) (a b : List ℕ) → NoPairBegins a → Begins
 no_pair_behind [] a b none e last = let P : List ℕ → Type 0 = λ l. NoPairBegins l in subst P e none
 no_pair_behind (p ∷ ps) a b none with last = last (λ e. not_none e)
 
-same_item : {a c : SectionText} {b d : List SectionText} → a ≡ c → b ≡ d
-    → ◌≡◌ {A = List SectionText} (a ∷ b) (c ∷ d)
-same_item e f = cc
+same_item : {name : List ℕ} {a : SectionText} {ps qs : List (List ℕ × List ℕ)}
+    {b d : List SectionText} → a ≡ (name, ps) → ps ≡ qs → b ≡ d
+    → ◌≡◌ {A = List SectionText} (a ∷ b) ((name, qs) ∷ d)
+same_item e f g = cc
 
-same_name : {name : List ℕ} {b d : List (List ℕ × List ℕ)} → b ≡ d
-    → ◌≡◌ {A = SectionText} (name, b) (name, d)
-same_name f = cc
+-- what a section that was read has
+section_told : {X : Type 0} (told : X → SectionText) (i : Input ℕ) (o : X) (j : Input ℕ)
+    → SectionRuns told i (Ok o) j
+    → (name : List ℕ) × (parts : List Part)
+    × BeginsWith (section name ∷ parts) i.left.tokens j.left.tokens × HasNoSection parts
+    × NoGapBegins j.left.tokens × NoPairBegins j.left.tokens
+    × (told o ≡ (name, pairs_of parts))
+section_told told i o j
+    (ends, inl (x, name, parts, begins, no_section, no_gap, no_pair, text, is)) = (
+      name,
+      parts,
+      begins,
+      no_section,
+      no_gap,
+      no_pair,
+      at_output (λ y. told y ≡ (name, pairs_of parts)) is text,
+    )
+section_told told i o j (ends, inr (inl (none, is))) = ok_is_err refl is
+section_told told i o j (ends, inr (inr (some, is))) = ok_is_err refl is
+
+-- where a section fails by backtracking there is none; it fails otherwise for want of memory, and
+-- there is one
+section_fails : {X : Type 0} (told : X → SectionText) (i : Input ℕ) (k : Kind) (j : Input ℕ)
+    → SectionRuns told i (Err k) j
+    → (NoSectionBegins i.left.tokens × (k ≡ backtrack))
+    ⊎ (SectionBegins i.left.tokens × (k ≡ memory))
+section_fails told i k j
+    (ends, inl (x, name, parts, begins, no_section, no_gap, no_pair, text, is)) =
+    ok_is_err is refl
+section_fails told i k j (ends, inr (inl (none, is))) = inl (none, same_kind is)
+section_fails told i k j (ends, inr (inr (some, is))) = inr (some, same_kind is)
 
 -- the parts of some sections
 sections_read : {S X : Type 0} (told : X → SectionText) (run : Runs S ℕ X)
     → ((s : S) (i : Input ℕ) (answer : Answer X) (t : S) (j : Input ℕ) → run s i answer t j
     → SectionRuns told i answer j)
     → (outputs : List X) (s : S) (i : Input ℕ) (u : S) (m : Input ℕ)
-    → FoldsTo (λ p o q. IsItem run p o q) (s, i) outputs (u, m)
+    → Items run s i outputs u m
     → (parts : List Part) × BeginsWith parts i.left.tokens m.left.tokens × BeginsAtSection parts
-    × (sections_of parts ≡ map told outputs)
+    × (map told outputs ≡ sections_of parts)
     × (NoGapBegins i.left.tokens → NoGapBegins m.left.tokens)
     × ((parts ≡ [] → ⊥) → NoPairBegins m.left.tokens)
 sections_read told run reads [] s i u m e =
@@ -86,66 +117,20 @@ sections_read told run reads [] s i u m e =
       (λ none. subst P (ap (λ p. p.1.left.tokens) e) none),
       λ some. absurd (some refl),
     )
-sections_read {S} {X} told run reads (o ∷ os) s i u m (q, item, rest) =
+sections_read told run reads (o ∷ os) s i u m (q, item, rest) =
     let (parts, with, at, texts, last, last_pair) =
     sections_read told run reads os q.0 q.1 u m rest in
-    more parts with at texts last last_pair (reads s i (Ok o) q.0 q.1 item.0)
-  where
-    more : (parts : List Part) → BeginsWith parts q.1.left.tokens m.left.tokens
-        → BeginsAtSection parts → sections_of parts ≡ map told os
-        → (NoGapBegins q.1.left.tokens → NoGapBegins m.left.tokens)
-        → ((parts ≡ [] → ⊥) → NoPairBegins m.left.tokens) → SectionRuns told i (Ok o) q.1
-        → (parts : List Part) × BeginsWith parts i.left.tokens m.left.tokens
-        × BeginsAtSection parts × (sections_of parts ≡ map told (o ∷ os))
-        × (NoGapBegins i.left.tokens → NoGapBegins m.left.tokens)
-        × ((parts ≡ [] → ⊥) → NoPairBegins m.left.tokens)
-    more parts with at texts last last_pair
-        (ends, inl (x, name, ps, begins, no_section, no_gap, no_pair, text, is)) =
-        let P : X → Type 0 = λ y. told y ≡ (name, pairs_of ps) in (
-          section name ∷ (ps ++ parts),
-          begins_append (section name ∷ ps) parts i.left.tokens q.1.left.tokens m.left.tokens
-              begins with,
-          tt,
-          same_item (same_name (pairs_upto ps parts at)
-              ∙ sym (subst P (sym (same_ok refl is)) text))
-              (sections_behind ps parts no_section ∙ texts),
-          (λ none. last no_gap),
-          λ some. no_pair_behind parts q.1.left.tokens m.left.tokens no_pair with last_pair,
-        )
-    more parts with at texts last last_pair (ends, inr (inl (none, is))) = ok_is_err refl is
-    more parts with at texts last last_pair (ends, inr (inr (some, is))) = ok_is_err refl is
-
--- What a run of the reader of sections says, but for the end of the input.
-abbrev pub SectionsRead : {C : Type 0} → (C → List SectionText) → Input ℕ → Answer C → Input ℕ
-    → Type 0
-SectionsRead {C} told i answer j =
-    ((all : C) × (parts : List Part) × BeginsWith parts i.left.tokens j.left.tokens
-    × BeginsAtSection parts × (told all ≡ sections_of parts)
-    × NoSectionBegins j.left.tokens
-    × (NoGapBegins i.left.tokens → NoGapBegins j.left.tokens)
-    × ((parts ≡ [] → ⊥) → NoPairBegins j.left.tokens) × (answer ≡ Ok all))
-    ⊎ (SectionBegins i.left.tokens × (answer ≡ Err memory))
-
--- where a section fails by backtracking there is none; it fails otherwise for want of memory, and
--- there is one
-section_fails : {X : Type 0} (told : X → SectionText) (i : Input ℕ) (k : Kind) (j : Input ℕ)
-    → SectionRuns told i (Err k) j
-    → (NoSectionBegins i.left.tokens × (k ≡ backtrack))
-    ⊎ (SectionBegins i.left.tokens × (k ≡ memory))
-section_fails told i k j
-    (ends, inl (x, name, ps, begins, no_section, no_gap, no_pair, text, is)) =
-    ok_is_err is refl
-section_fails told i k j (ends, inr (inl (none, is))) = inl (none, same_err refl is)
-section_fails told i k j (ends, inr (inr (some, is))) = inr (some, same_err refl is)
-
--- where a section was read there was one
-section_begins : {X : Type 0} (told : X → SectionText) (i : Input ℕ) (o : X) (j : Input ℕ)
-    → SectionRuns told i (Ok o) j → SectionBegins i.left.tokens
-section_begins told i o j
-    (ends, inl (x, name, ps, (behind, begins, more), no_section, no_gap, no_pair, text, is)) =
-    (name, behind, begins)
-section_begins told i o j (ends, inr (inl (none, is))) = ok_is_err refl is
-section_begins told i o j (ends, inr (inr (some, is))) = ok_is_err refl is
+    let (name, ps, begins, no_section, no_gap, no_pair, text) =
+    section_told told i o q.1 (reads s i (Ok o) q.0 q.1 item.0) in (
+      section name ∷ (ps ++ parts),
+      begins_append (section name ∷ ps) parts i.left.tokens q.1.left.tokens m.left.tokens
+          begins with,
+      tt,
+      same_item text (sym (pairs_upto ps parts at))
+          (texts ∙ sym (sections_behind ps parts no_section)),
+      (λ none. last no_gap),
+      λ some. no_pair_behind parts q.1.left.tokens m.left.tokens no_pair with last_pair,
+    )
 
 -- sections, and one behind them: one stands first
 first_section : (ps : List Part) (a b : List ℕ) → BeginsWith ps a b → BeginsAtSection ps
@@ -157,97 +142,64 @@ first_section (comment text ∷ ps) a b with at some = absurd at
 first_section (section name ∷ ps) a b (behind, begins, more) at some = (name, behind, begins)
 first_section (pair p ∷ ps) a b with at some = absurd at
 
-section_consumes : {X : Type 0} (told : X → SectionText) (i : Input ℕ) (o : X) (j : Input ℕ)
-    → SectionRuns told i (Ok o) j → j.left.tokens ≡ i.left.tokens → ⊥
-section_consumes told i o j
-    (ends, inl (x, name, ps, (behind, begins, more), no_section, no_gap, no_pair, text, is))
-    same = omega (
-      arith,
-      part_shortens (section name) i.left.tokens behind begins,
-      begins_length ps behind j.left.tokens more,
-      ap (λ l. length l) same,
-    )
-section_consumes told i o j (ends, inr (inl (none, is))) same = ok_is_err refl is
-section_consumes told i o j (ends, inr (inr (some, is))) same = ok_is_err refl is
-
 memory_backtracks : backtrack ≡ memory → ⊥
 memory_backtracks e = cc
 
--- what a repetition of sections leaves, and answers
-sections_ended : {S X C : Type 0} (told : X → SectionText) (run : Runs S ℕ X)
-    (into : Accumulator C X) (assert_kind : Kind) (i : Input ℕ) (answer : Answer C) (t : S)
-    (j : Input ℕ) (items : C → List X) (empty : C) (outputs : List X) (u : S) (m : Input ℕ)
-    (parts : List Part)
-    → items empty ≡ []
-    → ((c : C) (o : X) (d : C) → into.takes c o d → items d ≡ items c ++ (o ∷ []))
-    → ((s : S) (i : Input ℕ) (answer : Answer X) (t : S) (j : Input ℕ) → run s i answer t j
-    → SectionRuns told i answer j)
-    → BeginsWith parts i.left.tokens m.left.tokens → BeginsAtSection parts
-    → sections_of parts ≡ map told outputs
-    → (NoGapBegins i.left.tokens → NoGapBegins m.left.tokens)
-    → ((parts ≡ [] → ⊥) → NoPairBegins m.left.tokens)
-    → RepeatStops run into assert_kind empty outputs u m answer t j
-    → SectionsRead (λ c. map told (items c)) i answer j
-sections_ended told run into assert_kind i answer t j items empty outputs u m parts start keeps
-    reads with at texts last last_pair (inl (all, x, ran, taken, is, back)) =
-    elim (section_fails told m backtrack x (reads u m (Err backtrack) t x ran)) [
-      | inl none ↦
-          let P : List ℕ → Type 0 =
-          λ l. BeginsWith parts i.left.tokens l × NoSectionBegins l
-          × (NoGapBegins i.left.tokens → NoGapBegins l) × ((parts ≡ [] → ⊥) → NoPairBegins l) in
-          let there =
-          subst P (sym (ap (λ y. y.left.tokens) back)) (with, none.0, last, last_pair) in
-          let held = collected into.takes items keeps outputs empty all taken
-          ∙ ap (λ l. l ++ outputs) start in
-          inl (
-            all,
-            parts,
-            there.0,
-            at,
-            ap (λ l. map told l) held ∙ sym texts,
-            there.1,
-            there.2,
-            there.3,
-            is,
-          )
-      | inr e ↦ absurd (memory_backtracks e.1)
-    ]
-sections_ended told run into assert_kind i answer t j items empty outputs u m parts start keeps
-    reads with at texts last last_pair (inr (inl (k, ran, other, is))) =
-    elim (section_fails told m k j (reads u m (Err k) t j ran)) [
-      | inl none ↦ absurd (other none.1)
-      | inr e ↦ inr (first_section parts i.left.tokens m.left.tokens with at e.0, is ∙ ap Err e.1)
-    ]
-sections_ended told run into assert_kind i answer t j items empty outputs u m parts start keeps
-    reads with at texts last last_pair (inr (inr (inl (o, ran, same, is)))) =
-    absurd (section_consumes told m o j (reads u m (Ok o) t j ran) same)
-sections_ended told run into assert_kind i answer t j items empty outputs u m parts start keeps
-    reads with at texts last last_pair (inr (inr (inr (o, some, ran, grows, is)))) =
-    inr (
-      first_section parts i.left.tokens m.left.tokens with at
-          (section_begins told m o j (reads u m (Ok o) t j ran)),
-      is,
-    )
-
-pub sections_repeated : {S X C : Type 0} (told : X → SectionText) (run : Runs S ℕ X)
-    (into : Accumulator C X) (assert_kind : Kind) (range : Range) (s : S) (i : Input ℕ)
-    (answer : Answer C) (t : S) (j : Input ℕ) (items : C → List X)
-    → range ≡ record { start_inclusive = 0; end_inclusive = None } → (into.start_grows None → ⊥)
-    → ((c : C) → into.starts None c → items c ≡ [])
-    → ((c : C) (o : X) (d : C) → into.takes c o d → items d ≡ items c ++ (o ∷ []))
-    → RepeatRuns run into assert_kind range.start_inclusive
+-- a repetition of sections
+pub sections_repeated : {S X A : Type 0} (told : X → SectionText) (run : Runs S ℕ X)
+    (assert_kind : Kind) (range : Range) (s : S) (i : Input ℕ) (answer : Answer (Vec X A))
+    (t : S) (j : Input ℕ) → range ≡ record { start_inclusive = 0; end_inclusive = None }
+    → IsEndOf bytes_reading j i
+    → RepeatRuns run list_kept assert_kind range.start_inclusive
     (greatest_of range.start_inclusive range.end_inclusive) s i answer t j
     → ((s : S) (i : Input ℕ) (answer : Answer X) (t : S) (j : Input ℕ) → run s i answer t j
     → SectionRuns told i answer j)
-    → SectionsRead (λ c. map told (items c)) i answer j
-sections_repeated told run into assert_kind range s i answer t j items e free starts keeps ran
-    reads =
-    let (empty, outputs, u, m, start, chain, stops) =
-    repeated_by run into assert_kind range s i answer t j e free ran in
+    → SectionsRuns (λ all. map told all.items) i answer j
+sections_repeated told run assert_kind range s i (Ok all) t j e ends ran reads =
+    let done =
+    repeat_any_ok run list_kept assert_kind s i all t j
+    (repeated_by run list_kept assert_kind range 0 None s i (Ok all) t j e ran) in
     let (parts, with, at, texts, last, last_pair) =
-    sections_read told run reads outputs s i u m chain in
-    sections_ended told run into assert_kind i answer t j items empty outputs u m parts
-    (starts empty start) keeps reads with at texts last last_pair stops
+    sections_read told run reads done.outputs s i done.state done.input done.chain in
+    let P : List ℕ → Type 0 =
+    λ l. BeginsWith parts i.left.tokens l × NoSectionBegins l
+    × (NoGapBegins i.left.tokens → NoGapBegins l) × ((parts ≡ [] → ⊥) → NoPairBegins l) in
+    elim (section_fails told done.input backtrack done.last
+    (reads done.state done.input (Err backtrack) t done.last done.ended)) [
+      | inl none ↦
+          let there =
+          subst P (sym (ap (λ y. y.left.tokens) done.back)) (with, none.0, last, last_pair) in
+          let items = ap (λ l. map told l) (repeated_list run s i all t j done) ∙ texts in
+          (ends, inl (all, parts, there.0, at, items, there.1, there.2, there.3, refl))
+      | inr some ↦ absurd (memory_backtracks some.1)
+    ]
+sections_repeated told run assert_kind range s i (Err k) t j e ends ran reads =
+    let done =
+    repeat_any_err run list_kept assert_kind s i k t j (λ x. x)
+    (repeated_by run list_kept assert_kind range 0 None s i (Err k) t j e ran) in
+    let (parts, with, at, texts, last, last_pair) =
+    sections_read told run reads done.outputs s i done.state done.input done.chain in
+    let first = first_section parts i.left.tokens done.input.left.tokens with at in (
+      ends,
+      inr (elim done.failure [
+        | inl (fails, other) ↦
+            elim (section_fails told done.input k j (reads done.state done.input (Err k) t j fails))
+            [ inl none ↦ absurd (other none.1) | inr some ↦ (first some.0, ap Err some.1) ]
+        | inr (inl (o, ran_on, same, is)) ↦
+            let (name, ps, (behind, begins, more), no_section, no_gap, no_pair, text) =
+            section_told told done.input o j (reads done.state done.input (Ok o) t j ran_on) in
+            absurd (omega (
+              arith,
+              part_shortens (section name) done.input.left.tokens behind begins,
+              begins_length ps behind j.left.tokens more,
+              ap (λ l. length l) same,
+            ))
+        | inr (inr (o, some, ran_on, grows, is)) ↦
+            let (name, ps, (behind, begins, more), no_section, no_gap, no_pair, text) =
+            section_told told done.input o j (reads done.state done.input (Ok o) t j ran_on) in
+            (first (name, behind, begins), ap Err is)
+      ]),
+    )
 
 -- ---- a document
 
@@ -283,16 +235,6 @@ no_part_behind gap [] rest all no_gap no_section no_pair (pair p) behind begins 
 no_part_behind gap (q ∷ qs) rest all no_gap no_section no_pair (pair p) behind begins h =
     no_pair (λ e. not_none e) p behind begins
 
--- What a run of the reader of a document says, but for the end of the input.
-abbrev pub DocumentRead : {C : Type 0} → (C → List SectionText) → Input ℕ → Answer C → Input ℕ
-    → Type 0
-DocumentRead {C} told i answer j =
-    ((all : C) × (parts : List Part) × BeginsDocument parts i.left.tokens j.left.tokens
-    × (told all ≡ sections_of parts)
-    × ((part : Part) (behind : List ℕ) → Begins part j.left.tokens behind
-    → NoPairBeforeSections (parts ++ (part ∷ [])) → ⊥) × (answer ≡ Ok all))
-    ⊎ (ReachesSection i.left.tokens × (answer ≡ Err memory))
-
 -- behind a gap a section begins: so the document has one
 reaches_behind : (gap : List Part) (input rest : List ℕ) → AllByRecursion IsGapPart gap
     → BeginsWith gap input rest → SectionBegins rest → ReachesSection input
@@ -307,58 +249,43 @@ reaches_behind gap input rest all with (name, behind, begins) =
       omega (arith, ap (λ l. length l) (gap_no_sections gap one all)),
     )
 
-pub document_read : {S2 C : Type 0} (told : C → List SectionText) (s : Unit {0} × S2)
-    (i : Input ℕ) (answer : Answer C) (t : Unit {0} × S2) (j : Input ℕ)
-    → BothRuns (λ o1 o2. o2) (λ s i answer t j. GapRuns i answer j)
+pub document_read : {U C : Type 0} (told : C → List SectionText) (s : Unit {0} × U)
+    (i : Input ℕ) (answer : Answer C) (t : Unit {0} × U) (j : Input ℕ)
+    → IsEndOf bytes_reading j i
+    → PrecededRuns (λ s i answer t j. GapRuns i answer j)
     (λ s i answer t j. SectionsRuns told i answer j) s i answer t j
-    → DocumentRead told i answer j
-document_read {S2} {C} told s i answer t j
-    (inl (
-      o1,
-      o2,
-      a,
-      (ge, (gap, all_gap, with_gap, no_gap, gis)),
-      (se, inl (all, parts, with, at, texts, no_section, last, last_pair, sis)),
-      e,
-    )) =
-    let P : C → Type 0 = λ c. told c ≡ sections_of (gap ++ parts) in
-    inl (
-      o2,
-      gap ++ parts,
-      (
-        begins_append gap parts i.left.tokens a.left.tokens j.left.tokens with_gap with,
-        gap_before gap parts all_gap (before_sections parts at),
-      ),
-      subst P (sym (same_ok refl sis)) (texts ∙ sym (gap_no_sections gap parts all_gap)),
-      no_part_behind gap parts j.left.tokens all_gap (last no_gap) no_section last_pair,
-      e,
-    )
-document_read told s i answer t j (inl (o1, o2, a, g, (se, inr (some, sis)), e)) =
-    ok_is_err refl sis
-document_read told s i answer t j
-    (inr (inl (k, (ge, (gap, all_gap, with_gap, no_gap, gis)), s2, e))) = ok_is_err gis refl
-document_read told s i answer t j
-    (inr (inr (
-      o1,
-      k,
-      a,
-      g,
-      (se, inl (all, parts, with, at, texts, no_section, last, last_pair, sis)),
-      e,
-    ))) =
-    ok_is_err sis refl
-document_read told s i answer t j
-    (inr (inr (
-      o1,
-      k,
-      a,
-      (ge, (gap, all_gap, with_gap, no_gap, gis)),
-      (se, inr (some, sis)),
-      e,
-    ))) = inr (
-      reaches_behind gap i.left.tokens a.left.tokens all_gap with_gap some,
-      fails_as e refl sis refl,
-    )
+    → DocumentRuns told i answer j
+document_read told s i (Ok o) t j ends ran =
+    let (u, a, r1, r2) = preceded_ok o ran in
+    let (gap, all_gap, with_gap, no_gap, gis) = r1.1 in
+    elim r2.1 [
+      | inl (all, parts, with, at, texts, no_section, last, last_pair, is) ↦ (
+        ends,
+        inl (
+          o,
+          gap ++ parts,
+          (
+            begins_append gap parts i.left.tokens a.left.tokens j.left.tokens with_gap with,
+            gap_before gap parts all_gap (before_sections parts at),
+          ),
+          at_output (λ c. told c ≡ sections_of (gap ++ parts)) is
+              (texts ∙ sym (gap_no_sections gap parts all_gap)),
+          no_part_behind gap parts j.left.tokens all_gap (last no_gap) no_section last_pair,
+          refl,
+        ),
+      )
+      | inr (some, is) ↦ ok_is_err refl is
+    ]
+document_read told s i (Err k) t j ends ran = elim (both_err k ran) [
+  | inl (r1, same) ↦ ok_is_err r1.1.4 refl
+  | inr (u, a, r1, r2) ↦
+      let (gap, all_gap, with_gap, no_gap, gis) = r1.1 in
+      elim r2.1 [
+        | inl (all, parts, with, at, texts, no_section, last, last_pair, is) ↦ ok_is_err is refl
+        | inr (some, is) ↦
+            (ends, inr (reaches_behind gap i.left.tokens a.left.tokens all_gap with_gap some, is))
+      ]
+]
 
 -- No parts reach further than those behind which no part follows.
 longest_of_all : (ps qs : List Part) (input rest left : List ℕ) → BeginsWith ps input rest
@@ -457,16 +384,13 @@ refused_document told input o j n (ends, inr (reaches, is)) some at = ok_is_err 
 pub document_fails : {C : Type 0} (told : C → List SectionText) (i : Input ℕ) (k : Kind)
     (j : Input ℕ) → DocumentRuns told i (Err k) j → ReachesSection i.left.tokens × (k ≡ memory)
 document_fails told i k j (ends, inl (all, parts, begins, texts, none, is)) = ok_is_err is refl
-document_fails told i k j (ends, inr (reaches, is)) = (reaches, same_err refl is)
-
-same_kind : {a b : Kind} → Some a ≡ Some b → a ≡ b
-same_kind e = cc
+document_fails told i k j (ends, inr (reaches, is)) = (reaches, same_kind is)
 
 -- the inner error of want of memory is want of memory
 pub inner_memory : (k inner : Kind) → k ≡ memory → inner_kind_of k ≡ Some inner → inner ≡ memory
 inner_memory k inner is e =
     let P : Kind → Type 0 = λ x. inner_kind_of x ≡ Some inner in
-    sym (same_kind (subst P is e))
+    sym (same_some (subst P is e))
 
 pub marked_memory : (is_memory : Bool) → as_inner (marked_kind is_memory) ≡ memory
     → marked_kind is_memory ≡ memory
@@ -475,4 +399,4 @@ marked_memory false e = e
 
 -- the inner error of one that backtracks wants none
 pub inner_backtracks : (k : Kind) → Some backtrack ≡ Some (as_inner k) → k ≡ memory → ⊥
-inner_backtracks k told is = memory_backtracks (same_kind told ∙ ap as_inner is)
+inner_backtracks k told is = memory_backtracks (same_some told ∙ ap as_inner is)

@@ -1,25 +1,26 @@
 -- What the runs of a key, the mark, a value and a comment say of a pair.
-use Rattle.std.proofs.Common.{◌≡◌, ◌<◌, ◌∙◌, ◌⊎◌, ℕ, List, [], ◌∷◌, ◌++◌, length, Option, Ok, Err}
-use Rattle.std.proofs.Common.{refl, sym, ap, subst, arith, inl, inr}
+use Rattle.std.proofs.Common.{◌≡◌, ◌<◌, ◌∙◌, ◌⊎◌, ℕ, List, [], ◌∷◌, ◌++◌, length, Option, Some}
+use Rattle.std.proofs.Common.{None, Ok, Err, refl, sym, ap, subst, arith, inl, inr, lit<}
 use Rattle.std.specs.Borrow.{Bor}
 use Rattle.std.specs.List.{All}
+use Rattle.std.specs.Prelude.{MatchOption}
 use Rattle.std.specs.Str.{IsUtf8}
-use Rattle.streams.specs.Input.{Input}
+use Rattle.std.proofs.lemmas.Bool.{cases_eq}
+use Rattle.std.proofs.lemmas.List.Elements.{All-cons, All-head, All-nil, All-tail}
+use Rattle.streams.specs.Input.{Input, back_at}
 use Rattle.streams.specs.Kind.{Kind, backtrack}
 use Rattle.stream_errors.specs.Form.{Answer}
-use Rattle.winnow_comb.specs.InOrder.{ThreeRuns}
+use Rattle.stream_errors.specs.Form.Known.{at_output, ok_is_err, same_kind}
+use Rattle.winnow_comb.specs.InOrder.Known.{three_err}
 use Rattle.winnow_comb.specs.Opt.{OptRuns}
+use Rattle.winnow_comb.specs.Opt.Known.{opt_err, opt_ok}
+use Rattle.winnow_comb.specs.SeparatedPair.{SeparatedPairRuns}
+use Rattle.winnow_comb.specs.SeparatedPair.Known.{separated_pair_ok}
 use Rattle.readers.specs.Pair.{IsKeyByte}
 use Rattle.readers.specs.Document.{IsBlank, IsValueByte, NotFirst, EndsLine, PairBytes, pair}
 use Rattle.readers.specs.Document.{IsRemark, Begins, NoPairBegins}
 use Rattle.readers.specs.DocumentRuns.{IsFront, IsWithoutTrailing, KeyRuns, MarkRuns, ValueRuns}
 use Rattle.readers.specs.DocumentRuns.{CommentRuns}
-use Rattle.readers.proofs.PairLemmas.{All-head}
-use Rattle.readers.proofs.PairRuns.{ok_is_err, same_ok}
-use Rattle.readers.proofs.PartRuns.{fails_as, same_err}
-use Rattle.std.proofs.lemmas.Bool.{cases_eq}
-use Rattle.std.proofs.lemmas.List.Elements.{All-nil, All-cons, All-tail}
-use Rattle.std.proofs.Common.{lit<}
 use Rattle.readers.proofs.DocumentLemmas.{IsLaid, laid_of_pair, one_layout, pair_flat, after_key}
 use Rattle.readers.proofs.DocumentLemmas.{key_ends, not_blank}
 
@@ -76,6 +77,52 @@ laid_by tokens key a before rest lead b body behind keys blanks leads values =
       body_ends = values.2;
     }
 
+-- ---- what each run says that answered
+
+key_ok : (i : Input ℕ) (key : Bor (List ℕ)) (j : Input ℕ) → KeyRuns i (Ok key) j
+    → (0 < length key.now) × IsFront IsKeyByte i.left.tokens key.now j.left.tokens
+key_ok i key j (ends, inl (o, some, keys, is)) =
+    at_output (λ x. (0 < length x.now) × IsFront IsKeyByte i.left.tokens x.now j.left.tokens) is
+    (some, keys)
+key_ok i key j (ends, inr (none, is)) = ok_is_err refl is
+
+key_err : (i : Input ℕ) (k : Kind) (j : Input ℕ) → KeyRuns i (Err k) j
+    → NotFirst IsKeyByte i.left.tokens × (k ≡ backtrack)
+key_err i k j (ends, inl (o, some, keys, is)) = ok_is_err is refl
+key_err i k j (ends, inr (none, is)) = (none, same_kind is)
+
+mark_ok : (i : Input ℕ) (o : Unit {0}) (j : Input ℕ) → MarkRuns i (Ok o) j
+    → (before : List ℕ) × (lead : List ℕ) × (rest : List ℕ)
+    × IsFront IsBlank i.left.tokens before (61 ∷ rest)
+    × IsFront IsBlank rest lead j.left.tokens
+mark_ok i o j (ends, inl (before, lead, rest, blanks, leads, is)) =
+    (before, lead, rest, blanks, leads)
+mark_ok i o j (ends, inr (before, rest, blanks, none, is)) = ok_is_err refl is
+
+mark_err : (i : Input ℕ) (k : Kind) (j : Input ℕ) → MarkRuns i (Err k) j
+    → (before : List ℕ) × (rest : List ℕ) × IsFront IsBlank i.left.tokens before rest
+    × NotFirst (λ b. b ≡ 61) rest × (k ≡ backtrack)
+mark_err i k j (ends, inl (before, lead, rest, blanks, leads, is)) = ok_is_err is refl
+mark_err i k j (ends, inr (before, rest, blanks, none, is)) =
+    (before, rest, blanks, none, same_kind is)
+
+value_ok : (i : Input ℕ) (value : Bor (List ℕ)) (j : Input ℕ) → ValueRuns i (Ok value) j
+    → (body : List ℕ) × IsFront IsValueByte i.left.tokens body j.left.tokens
+    × IsWithoutTrailing body value.now × IsUtf8 value.now
+value_ok i value j (ends, (body, rest, values, inl (o, there, trail, text, is))) =
+    let P : List ℕ → Type 0 = λ l. IsFront IsValueByte i.left.tokens body l in
+    let both =
+    at_output (λ x. IsWithoutTrailing body x.now × IsUtf8 x.now) is (trail, text) in
+    (body, subst P there values, both.0, both.1)
+value_ok i value j (ends, (body, rest, values, inr (refuses, is))) = ok_is_err refl is
+
+value_err : (i : Input ℕ) (k : Kind) (j : Input ℕ) → ValueRuns i (Err k) j
+    → (body : List ℕ) × (rest : List ℕ) × IsFront IsValueByte i.left.tokens body rest
+    × ((value : List ℕ) → IsWithoutTrailing body value → IsUtf8 value → ⊥) × (k ≡ backtrack)
+value_err i k j (ends, (body, rest, values, inl (o, there, trail, text, is))) = ok_is_err is refl
+value_err i k j (ends, (body, rest, values, inr (refuses, is))) =
+    (body, rest, values, refuses, same_kind is)
+
 -- What the runs of a key, the mark and a value say together.
 abbrev pub FrontRead : Input ℕ → Answer (Bor (List ℕ) × Bor (List ℕ)) → Input ℕ → Type 0
 FrontRead i answer j =
@@ -87,133 +134,49 @@ FrontRead i answer j =
     -- no pair begins there
     ⊎ (NoPairBegins i.left.tokens × (answer ≡ Err backtrack))
 
-both_same : {A B : Type 0} {answer : Answer (A × B)} {a c : A} {b d : B} → answer ≡ Ok (a, b)
-    → a ≡ c → b ≡ d → answer ≡ Ok (c, d)
-both_same e f g = cc
-
 pub front_read : {S2 S3 : Type 0} (s : Unit {0} × S2 × S3) (i : Input ℕ)
     (answer : Answer (Bor (List ℕ) × Bor (List ℕ))) (t : Unit {0} × S2 × S3) (j : Input ℕ)
-    → ThreeRuns (λ o1 o2 o3. (o1, o3)) (λ s i answer t j. KeyRuns i answer j)
+    → SeparatedPairRuns (λ s i answer t j. KeyRuns i answer j)
     (λ s i answer t j. MarkRuns i answer j) (λ s i answer t j. ValueRuns i answer j) s i
     answer t j → FrontRead i answer j
-front_read s i answer t j
-    (inl (
-      o1,
-      o2,
-      o3,
-      a,
-      b,
-      (ke, inl (key, some, keys, kis)),
-      (me, inl (before, lead, rest, blanks, leads, mis)),
-      (ve, (body, behind, values, inl (value, there, trail, text, vis))),
-      e,
-    )) =
-    let P : List ℕ → Type 0 = λ l. IsLaid i.left.tokens key.now before lead body l in
+front_read s i (Ok o) t j ran =
+    let (between, a, b, r1, r2, r3) = separated_pair_ok o ran in
+    let (some, keys) = key_ok i o.0 a r1 in
+    let (before, lead, rest, blanks, leads) = mark_ok a between b r2 in
+    let (body, values, trail, text) = value_ok b o.1 j r3 in
     inl (
-      key,
-      value,
+      o.0,
+      o.1,
       before,
       lead,
       body,
-      subst P there (laid_by i.left.tokens key.now a.left.tokens before rest lead
-          b.left.tokens body behind keys blanks leads values),
+      laid_by i.left.tokens o.0.now a.left.tokens before rest lead b.left.tokens body
+          j.left.tokens keys blanks leads values,
       some,
       trail,
       text,
-      both_same e (same_ok refl kis) (same_ok refl vis),
+      refl,
     )
-front_read s i answer t j (inl (o1, o2, o3, a, b, (ke, inr (none, kis)), m, v, e)) =
-    ok_is_err refl kis
-front_read s i answer t j
-    (inl (o1, o2, o3, a, b, (ke, inl k), (me, inr (before, rest, blanks, none, mis)), v, e)) =
-    ok_is_err refl mis
-front_read s i answer t j
-    (inl (
-      o1,
-      o2,
-      o3,
-      a,
-      b,
-      (ke, inl k),
-      (me, inl m),
-      (ve, (body, behind, values, inr (refuses, vis))),
-      e,
-    )) = ok_is_err refl vis
-front_read s i answer t j (inr (inl (k, (ke, inl (key, some, keys, kis)), s2, s3, e))) =
-    ok_is_err kis refl
-front_read s i answer t j (inr (inl (k, (ke, inr (none, kis)), s2, s3, e))) =
-    inr (no_key_first i.left.tokens none, fails_as e refl kis refl)
-front_read s i answer t j (inr (inr (inl (o1, k, a, (ke, inr (none, kis)), m, s3, e)))) =
-    ok_is_err refl kis
-front_read s i answer t j
-    (inr (inr (inl (
-      o1,
-      k,
-      a,
-      (ke, inl (key, some, keys, kis)),
-      (me, inl (before, lead, rest, blanks, leads, mis)),
-      s3,
-      e,
-    )))) = ok_is_err mis refl
-front_read s i answer t j
-    (inr (inr (inl (
-      o1,
-      k,
-      a,
-      (ke, inl (key, some, keys, kis)),
-      (me, inr (before, rest, blanks, none, mis)),
-      s3,
-      e,
-    )))) =
-    inr (
-      no_mark_behind i.left.tokens key.now a.left.tokens before rest keys blanks none,
-      fails_as e refl mis refl,
-    )
-front_read s i answer t j (inr (inr (inr (o1, o2, k, a, b, (ke, inr (none, kis)), m, v, e)))) =
-    ok_is_err refl kis
-front_read s i answer t j
-    (inr (inr (inr (
-      o1,
-      o2,
-      k,
-      a,
-      b,
-      (ke, inl k1),
-      (me, inr (before, rest, blanks, none, mis)),
-      v,
-      e,
-    )))) = ok_is_err refl mis
-front_read s i answer t j
-    (inr (inr (inr (
-      o1,
-      o2,
-      k,
-      a,
-      b,
-      (ke, inl k1),
-      (me, inl m),
-      (ve, (body, behind, values, inl (value, there, trail, text, vis))),
-      e,
-    )))) =
-    ok_is_err vis refl
-front_read s i answer t j
-    (inr (inr (inr (
-      o1,
-      o2,
-      k,
-      a,
-      b,
-      (ke, inl (key, some, keys, kis)),
-      (me, inl (before, lead, rest, blanks, leads, mis)),
-      (ve, (body, behind, values, inr (refuses, vis))),
-      e,
-    )))) =
-    inr (
-      no_value_text i.left.tokens key.now before lead body behind
-          (laid_by i.left.tokens key.now a.left.tokens before rest lead b.left.tokens body
-          behind keys blanks leads values) refuses,
-      fails_as e refl vis refl,
-    )
+front_read s i (Err k) t j ran = elim (three_err k ran) [
+  | inl (r1, s2, s3) ↦
+      let (none, is) = key_err i k j r1 in inr (no_key_first i.left.tokens none, ap Err is)
+  | inr (inl (key, a, r1, r2, s3)) ↦
+      let (before, rest, blanks, none, is) = mark_err a k j r2 in
+      inr (
+        no_mark_behind i.left.tokens key.now a.left.tokens before rest (key_ok i key a r1).1
+            blanks none,
+        ap Err is,
+      )
+  | inr (inr (key, between, a, b, r1, r2, r3)) ↦
+      let (before, lead, rest, blanks, leads) = mark_ok a between b r2 in
+      let (body, behind, values, refuses, is) = value_err b k j r3 in
+      inr (
+        no_value_text i.left.tokens key.now before lead body behind
+            (laid_by i.left.tokens key.now a.left.tokens before rest lead b.left.tokens body
+            behind (key_ok i key a r1).1 blanks leads values) refuses,
+        ap Err is,
+      )
+]
 
 -- a comment, or none, and then the end of the line
 remark_ends : (tokens : List ℕ) → NotFirst IsValueByte tokens → NotFirst (λ b. b ≡ 59) tokens
@@ -228,27 +191,31 @@ pub remark_read : (s : Unit {0}) (i : Input ℕ) (o : Option (Unit {0})) (t : Un
     → OptRuns (λ s i answer t j. CommentRuns i answer j) s i (Ok o) t j
     → (remark : List ℕ) × IsRemark remark × (i.left.tokens ≡ remark ++ j.left.tokens)
     × EndsLine j.left.tokens
-remark_read s i o t j stops (inl (x, (ends, inl (text, begins, is)), e)) =
-    (59 ∷ text, inr (text, refl, begins.1.0), begins.0, begins.1.1)
-remark_read s i o t j stops (inl (x, (ends, inr (none, is)), e)) = ok_is_err refl is
-remark_read s i o t j stops (inr (inl (m, (ends, inl (text, begins, is)), e, back))) =
-    ok_is_err is refl
-remark_read s i o t j stops (inr (inl (m, (ends, inr (none, is)), e, back))) =
-    let P : List ℕ → Type 0 = λ l. (i.left.tokens ≡ l) × EndsLine l in
-    let there = subst P (sym (ap (λ x. x.left.tokens) back))
-    (refl, remark_ends i.left.tokens stops none) in
-    ([], inl refl, there.0, there.1)
-remark_read s i o t j stops (inr (inr (k, ran, other, e))) = ok_is_err refl e
+remark_read s i o t j stops ran = by_output o (opt_ok o ran)
+  where
+    by_output : (o : Option (Unit {0}))
+        → MatchOption o ((m : Input ℕ) × CommentRuns i (Err backtrack) m × (j ≡ back_at i.left m))
+        (λ x. CommentRuns i (Ok x) j)
+        → (remark : List ℕ) × IsRemark remark × (i.left.tokens ≡ remark ++ j.left.tokens)
+        × EndsLine j.left.tokens
+    by_output (Some x) (ends, inl (text, begins, is)) =
+        (59 ∷ text, inr (text, refl, begins.1.0), begins.0, begins.1.1)
+    by_output (Some x) (ends, inr (none, is)) = ok_is_err refl is
+    by_output None (m, (ends, inl (text, begins, is)), back) = ok_is_err is refl
+    by_output None (m, (ends, inr (none, is)), back) =
+        let P : List ℕ → Type 0 = λ l. (i.left.tokens ≡ l) × EndsLine l in
+        let there = subst P (sym (ap (λ x. x.left.tokens) back))
+        (refl, remark_ends i.left.tokens stops none) in
+        ([], inl refl, there.0, there.1)
 
 -- it never fails
 pub remark_never_fails : {P : Type 0} (s : Unit {0}) (i : Input ℕ) (k : Kind) (t : Unit {0})
     (j : Input ℕ) → OptRuns (λ s i answer t j. CommentRuns i answer j) s i (Err k) t j → P
-remark_never_fails s i k t j (inl (x, ran, e)) = ok_is_err e refl
-remark_never_fails s i k t j (inr (inl (m, ran, e, back))) = ok_is_err e refl
-remark_never_fails s i k t j (inr (inr (k1, (ends, inl (text, begins, is)), other, e))) =
-    ok_is_err is refl
-remark_never_fails s i k t j (inr (inr (k1, (ends, inr (none, is)), other, e))) =
-    absurd (other (same_err refl is))
+remark_never_fails {P} s i k t j ran = of_child (opt_err k ran)
+  where
+    of_child : CommentRuns i (Err k) j × (k ≡ backtrack → ⊥) → P
+    of_child ((ends, inl (text, begins, is)), other) = ok_is_err is refl
+    of_child ((ends, inr (none, is)), other) = absurd (other (same_kind is))
 
 -- A pair was read.
 pub pair_read : (tokens key before lead body a value remark behind : List ℕ)

@@ -7,6 +7,5 @@ pub mod Owed
 pub mod PairLemmas
 pub mod PairRuns
 pub mod PartRuns
-pub mod Repeated
 pub mod SectionLemmas
 pub mod TrailLemmas

@@ -7,3 +7,4 @@ pub mod csv;
 pub mod functions;
 pub mod numbers;
 pub mod request_line;
+pub mod words;

@@ -1,35 +1,39 @@
 -- What a caller knows of one run of a child on a condition, where it answered.
-use Rattle.std.specs.Prelude.{◌≡◌, Bool, true, false, Option, Ok, Err, MatchOption}
-use Rattle.std.proofs.Common.{refl, sym, subst, inl, inr}
-use Rattle.streams.specs.Input.{Input}
+use Rattle.std.specs.Prelude.{◌≡◌, Option, Some, None, Ok, Err, MatchOption, ◌⊎◌}
+use Rattle.std.proofs.Common.{refl, inl, inr}
 use Rattle.streams.specs.Kind.{Kind}
-use Rattle.stream_errors.specs.Form.Known.{ok_is_err, same_err, same_ok}
-use Rattle.winnow_core.specs.Runs.{Runs}
-use Rattle.winnow_comb.specs.Cond.{CondRuns}
+use Rattle.stream_errors.specs.Form.{Answer}
+use Rattle.stream_errors.specs.Form.Known.{at_kind, at_output, ok_is_err}
+
+-- the runs of CondRuns, by what the child's relate: Holds and Fails are what is said of the
+-- condition, Stays that the input stays
+abbrev pub CondCases : {O : Type 0} → Type 0 → (O → Type 0) → (Kind → Type 0) → Type 0 → Type 0
+    → Type 0 → Type 0 → Answer (Option O) → Type 0
+CondCases {O} Holds Ran Failed Fails SameState Stays Kept answer =
+    (((o : O) × Holds × Ran o × (answer ≡ Ok (Some o)))
+    ⊎ (((k : Kind) × Holds × Failed k × (answer ≡ Err k))
+    ⊎ (Fails × (answer ≡ Ok None) × SameState × Stays)))
+    × Kept
 
 -- an output: the condition holds, and the child succeeded with it; or none, where the condition
 -- does not hold, and nothing was run
-pub cond_ok : {S T O : Type 0} (run : Runs S T O) (s : S × Bool) (i : Input T) (o : Option O)
-    (t : S × Bool) (j : Input T) → CondRuns run s i (Ok o) t j
-    → MatchOption o ((s.1 ≡ false) × (j ≡ i)) (λ x. (s.1 ≡ true) × run s.0 i (Ok x) t.0 j)
-cond_ok {S} {T} {O} run s i o t j (inl (x, holds, r, e), kept) =
-    let P : Option O → Type 0 =
-    λ y. MatchOption y ((s.1 ≡ false) × (j ≡ i)) (λ z. (s.1 ≡ true) × run s.0 i (Ok z) t.0 j) in
-    subst P (sym (same_ok refl e)) (holds, r)
-cond_ok run s i o t j (inr (inl (k, holds, r, e)), kept) = ok_is_err refl e
-cond_ok {S} {T} {O} run s i o t j (inr (inr (fails, e, same_state, same)), kept) =
-    let P : Option O → Type 0 =
-    λ y. MatchOption y ((s.1 ≡ false) × (j ≡ i)) (λ z. (s.1 ≡ true) × run s.0 i (Ok z) t.0 j) in
-    subst P (sym (same_ok refl e)) (fails, same)
+pub cond_ok : {O : Type 0} {Holds : Type 0} {Ran : O → Type 0} {Failed : Kind → Type 0}
+    {Fails SameState Stays Kept : Type 0} (o : Option O)
+    → CondCases Holds Ran Failed Fails SameState Stays Kept (Ok o)
+    → MatchOption o (Fails × Stays) (λ x. Holds × Ran x)
+cond_ok {Holds = Holds} {Ran = Ran} {Fails = Fails} {Stays = Stays} o (inl (x, h, r, e), kept) =
+    at_output (λ y. MatchOption y (Fails × Stays) (λ z. Holds × Ran z)) e (h, r)
+cond_ok o (inr (inl (k, h, r, e)), kept) = ok_is_err refl e
+cond_ok {Holds = Holds} {Ran = Ran} {Fails = Fails} {Stays = Stays} o
+    (inr (inr (f, e, state, stays)), kept) =
+    at_output (λ y. MatchOption y (Fails × Stays) (λ z. Holds × Ran z)) e (f, stays)
 
 -- an error: the condition holds, and it is the child's
-pub cond_err : {S T O : Type 0} (run : Runs S T O) (s : S × Bool) (i : Input T) (k : Kind)
-    (t : S × Bool) (j : Input T) → CondRuns run s i (Err k) t j
-    → (s.1 ≡ true) × run s.0 i (Err k) t.0 j
-cond_err run s i k t j (inl (x, holds, r, e), kept) = ok_is_err e refl
-cond_err run s i k t j (inr (inl (l, holds, r, e)), kept) =
-    let P : Kind → Type 0 = λ x. run s.0 i (Err x) t.0 j in
-    (holds, subst P (sym (same_err refl e)) r)
-cond_err run s i k t j (inr (inr (fails, e, same_state, same)), kept) = ok_is_err e refl
+pub cond_err : {O : Type 0} {Holds : Type 0} {Ran : O → Type 0} {Failed : Kind → Type 0}
+    {Fails SameState Stays Kept : Type 0} (k : Kind)
+    → CondCases Holds Ran Failed Fails SameState Stays Kept (Err k) → Holds × Failed k
+cond_err k (inl (x, h, r, e), kept) = ok_is_err e refl
+cond_err {Failed = Failed} k (inr (inl (l, h, r, e)), kept) = (h, at_kind Failed e r)
+cond_err k (inr (inr (f, e, state, stays)), kept) = ok_is_err e refl
 
 pub ruleset known_conditions = (cond_ok, cond_err)

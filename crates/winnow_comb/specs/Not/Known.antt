@@ -1,37 +1,36 @@
 -- What a caller knows of one run of a child that is not to succeed.
 use Rattle.std.specs.Prelude.{◌≡◌, ⊤, Ok, Err, ◌⊎◌}
-use Rattle.std.proofs.Common.{refl, sym, ap, subst, inl, inr}
+use Rattle.std.proofs.Common.{refl, inl, inr}
 use Rattle.streams.specs.Input.{Input}
 use Rattle.streams.specs.Kind.{Kind, backtrack}
 use Rattle.stream_errors.specs.Form.{Answer}
-use Rattle.stream_errors.specs.Form.Known.{ok_is_err, same_err}
-use Rattle.winnow_core.specs.Runs.{Runs}
-use Rattle.winnow_comb.specs.Not.{NotRuns}
+use Rattle.stream_errors.specs.Form.Known.{at_kind, ok_is_err, same_kind}
+
+-- the runs of NotRuns, by what the child's relate; Back is that the input is back at the start
+abbrev pub NotCases : {T O : Type 0} → (O → Input T → Type 0) → (Input T → Type 0)
+    → (Kind → Input T → Type 0) → (Input T → Type 0) → Answer ⊤ → Type 0
+NotCases {T} {O} Ran Backtracked Failed Back answer =
+    ((o : O) × (m : Input T) × Ran o m × (answer ≡ Err backtrack) × Back m)
+    ⊎ (((m : Input T) × Backtracked m × (answer ≡ Ok tt) × Back m)
+    ⊎ ((k : Kind) × (m : Input T) × Failed k m × (k ≡ backtrack → ⊥) × (answer ≡ Err k) × Back m))
 
 -- it succeeded: the child backtracked
-pub not_ok : {S T O : Type 0} (run : Runs S T O) (s : S) (i : Input T) (u : ⊤) (t : S)
-    (j : Input T) → NotRuns run s i (Ok u) t j → (m : Input T) × run s i (Err backtrack) t m
-not_ok run s i u t j (inl (o, m, r, e, back)) = ok_is_err refl e
-not_ok run s i u t j (inr (inl (m, r, e, back))) = (m, r)
-not_ok run s i u t j (inr (inr (k, m, r, other, e, back))) = ok_is_err refl e
+pub not_ok : {T O : Type 0} {Ran : O → Input T → Type 0} {Backtracked : Input T → Type 0}
+    {Failed : Kind → Input T → Type 0} {Back : Input T → Type 0} (u : ⊤)
+    → NotCases Ran Backtracked Failed Back (Ok u) → (m : Input T) × Backtracked m × Back m
+not_ok u (inl (o, m, r, e, back)) = ok_is_err refl e
+not_ok u (inr (inl (m, r, e, back))) = (m, r, back)
+not_ok u (inr (inr (k, m, r, other, e, back))) = ok_is_err refl e
 
 -- it failed: the child succeeded, or failed by that kind and did not backtrack
-pub not_err : {S T O : Type 0} (run : Runs S T O) (s : S) (i : Input T) (k : Kind) (t : S)
-    (j : Input T) → NotRuns run s i (Err k) t j
-    → (m : Input T)
-    × (((o : O) × run s i (Ok o) t m × (k ≡ backtrack))
-    ⊎ (run s i (Err k) t m × (k ≡ backtrack → ⊥)))
-not_err run s i k t j (inl (o, m, r, e, back)) = (m, inl (o, r, same_err refl e))
-not_err run s i k t j (inr (inl (m, r, e, back))) = ok_is_err e refl
-not_err run s i k t j (inr (inr (l, m, r, other, e, back))) =
-    let P : Kind → Type 0 = λ x. run s i (Err x) t m × (x ≡ backtrack → ⊥) in
-    (m, inr (subst P (sym (same_err refl e)) (r, other)))
+pub not_err : {T O : Type 0} {Ran : O → Input T → Type 0} {Backtracked : Input T → Type 0}
+    {Failed : Kind → Input T → Type 0} {Back : Input T → Type 0} (k : Kind)
+    → NotCases Ran Backtracked Failed Back (Err k)
+    → (m : Input T) × Back m
+    × (((o : O) × Ran o m × (k ≡ backtrack)) ⊎ (Failed k m × (k ≡ backtrack → ⊥)))
+not_err k (inl (o, m, r, e, back)) = (m, back, inl (o, r, same_kind e))
+not_err k (inr (inl (m, r, e, back))) = ok_is_err e refl
+not_err {Failed = Failed} k (inr (inr (l, m, r, other, e, back))) =
+    (m, back, inr (at_kind (λ x. Failed x m × (x ≡ backtrack → ⊥)) e (r, other)))
 
--- whatever it answers, what was left is left
-pub not_stays : {S T O : Type 0} (run : Runs S T O) (s : S) (i : Input T) (answer : Answer ⊤)
-    (t : S) (j : Input T) → NotRuns run s i answer t j → j.left ≡ i.left
-not_stays run s i answer t j (inl (o, m, r, e, back)) = ap (λ x. x.left) back
-not_stays run s i answer t j (inr (inl (m, r, e, back))) = ap (λ x. x.left) back
-not_stays run s i answer t j (inr (inr (k, m, r, other, e, back))) = ap (λ x. x.left) back
-
-pub ruleset known_nots = (not_ok, not_err, not_stays)
+pub ruleset known_nots = (not_ok, not_err)

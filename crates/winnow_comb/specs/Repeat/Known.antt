@@ -1,7 +1,7 @@
 -- What a caller knows of one run of a repetition that answered: its items, in a chain, and what
 -- ended them.
-use Rattle.std.specs.Prelude.{◌≡◌, ◌<◌, ℕ, List, [], ◌∷◌, ◌++◌, length, Option, None, Ok, Err}
-use Rattle.std.specs.Prelude.{◌⊎◌}
+use Rattle.std.specs.Prelude.{◌≡◌, ◌<◌, ℕ, List, [], ◌∷◌, ◌++◌, length, Option, Some, None}
+use Rattle.std.specs.Prelude.{Ok, Err, ◌≤◌, ◌⊎◌}
 use Rattle.std.specs.List.{FoldsTo}
 use Rattle.std.specs.declared.vec.Vec.{Vec}
 use Rattle.std.proofs.Common.{refl, sym, subst, inl, inr, arith, append_assoc}
@@ -10,14 +10,14 @@ use Rattle.streams.specs.Equal.{none_is_some}
 use Rattle.streams.specs.Input.{Input, back_at}
 use Rattle.streams.specs.Kind.{Kind, backtrack, memory}
 use Rattle.stream_errors.specs.Form.{Answer}
-use Rattle.stream_errors.specs.Form.Known.{ok_is_err, same_err, same_ok}
+use Rattle.stream_errors.specs.Form.Known.{at_kind, at_output, ok_is_err, same_kind}
 use Rattle.stream_sets.specs.Accumulator.{Accumulator, list_kept}
 use Rattle.stream_sets.specs.Accumulator.Known.{list_of_outputs}
-use Rattle.stream_sets.specs.Range.{greatest_of}
+use Rattle.stream_sets.specs.Range.{IsWithin, greatest_of}
 use Rattle.stream_sets.specs.declared.range.Range.{Range}
 use Rattle.winnow_core.specs.Runs.{Runs}
 use Rattle.winnow_comb.specs.Chain.{IsItem}
-use Rattle.winnow_comb.specs.Repeat.{RepeatEnds, RepeatRuns}
+use Rattle.winnow_comb.specs.Repeat.{RepeatEnds, RepeatRuns, capacity_of}
 
 -- ---- chains of items
 
@@ -113,7 +113,6 @@ repeat_any_ok {S} {T} {O} {C} run into assert_kind s i all t j
         → RepeatedAll run into s i all t j
     of_end (inl (x, full, taken, e, a, b)) = none_is_some full
     of_end (inr (inl (x, last, below, enough, ran, taken, e, back))) =
-        let P : C → Type 0 = λ c. FoldsTo into.takes empty outputs c in
         record {
           empty = empty;
           outputs = outputs;
@@ -123,7 +122,7 @@ repeat_any_ok {S} {T} {O} {C} run into assert_kind s i all t j
           starts = starts;
           chain = chain.runs;
           ended = ran;
-          takes = subst P (sym (same_ok refl e)) taken.taken;
+          takes = at_output (λ c. FoldsTo into.takes empty outputs c) e taken.taken;
           back = back;
         }
     of_end (inr (inr (inl (k, some, below, ran, few, taken, e)))) = ok_is_err refl e
@@ -158,12 +157,157 @@ repeat_any_err {S} {T} {O} {C} run into assert_kind s i k t j free
     of_end (inl (x, full, taken, e, a, b)) = none_is_some full
     of_end (inr (inl (x, last, below, enough, ran, taken, e, back))) = ok_is_err e refl
     of_end (inr (inr (inl (l, some, below, ran, few, taken, e)))) =
-        let P : Kind → Type 0 = λ x. run u m (Err x) t j × (x ≡ backtrack → ⊥) in
-        inl (subst P (sym (same_err refl e)) (ran, λ is. omega (arith, few is)))
+        inl (at_kind (λ x. run u m (Err x) t j × (x ≡ backtrack → ⊥)) e
+        (ran, λ is. omega (arith, few is)))
     of_end (inr (inr (inr (inl (o, some, below, ran, same, taken, e))))) =
-        inr (inl (o, ran, same, same_err refl e))
+        inr (inl (o, ran, same, same_kind e))
     of_end (inr (inr (inr (inr (o, some, below, ran, consumes, taken, grows, e))))) =
-        inr (inr (o, some, ran, grows, same_err refl e))
+        inr (inr (o, some, ran, grows, same_kind e))
+
+-- ---- one item or more
+
+-- An output of a repetition of one or more: the first item, and those behind it as those of any
+-- number. The first may consume nothing.
+pub record RepeatedSome {S T O C : Type 0} (run : Runs S T O) (into : Accumulator C O) (s : S)
+    (i : Input T) (all : C) (t : S) (j : Input T) : Type 0 where
+  pub first : O
+  pub first_state : S
+  pub first_input : Input T
+  pub ran : run s i (Ok first) first_state first_input
+  pub empty : C
+  pub one : C
+  pub starts : into.starts None empty
+  pub takes_first : into.takes empty first one
+  pub outputs : List O
+  pub state : S
+  pub input : Input T
+  pub last : Input T
+  pub chain : Items run first_state first_input outputs state input
+  pub ended : run state input (Err backtrack) t last
+  pub takes : FoldsTo into.takes one outputs all
+  pub back : j ≡ back_at input.left last
+
+pub repeat_some_ok : {S T O C : Type 0} (run : Runs S T O) (into : Accumulator C O)
+    (assert_kind : Kind) (s : S) (i : Input T) (all : C) (t : S) (j : Input T)
+    → RepeatRuns run into assert_kind 1 None s i (Ok all) t j
+    → RepeatedSome run into s i all t j
+repeat_some_ok run into assert_kind s i all t j (inl (one, none, inl (k, r, e))) =
+    ok_is_err refl e
+repeat_some_ok {S} {T} {O} {C} run into assert_kind s i all t j
+    (inl (
+      is,
+      none,
+      inr (inl (
+        o,
+        v,
+        n,
+        empty,
+        one,
+        r,
+        starts,
+        takes,
+        (outputs, u, m, chain, ends),
+      )),
+    )) =
+    of_end ends
+  where
+    of_end : RepeatEnds run into assert_kind 0 None one outputs u m (Ok all) t j
+        → RepeatedSome run into s i all t j
+    of_end (inl (x, full, taken, e, a, b)) = none_is_some full
+    of_end (inr (inl (x, last, below, enough, ran, taken, e, back))) =
+        record {
+          first = o;
+          first_state = v;
+          first_input = n;
+          ran = r;
+          empty = empty;
+          one = one;
+          starts = starts;
+          takes_first = takes;
+          outputs = outputs;
+          state = u;
+          input = m;
+          last = last;
+          chain = chain.runs;
+          ended = ran;
+          takes = at_output (λ c. FoldsTo into.takes one outputs c) e taken.taken;
+          back = back;
+        }
+    of_end (inr (inr (inl (k, some, below, ran, few, taken, e)))) = ok_is_err refl e
+    of_end (inr (inr (inr (inl (x, some, below, ran, same, taken, e))))) = ok_is_err refl e
+    of_end (inr (inr (inr (inr (x, some, below, ran, consumes, taken, grows, e))))) =
+        ok_is_err refl e
+repeat_some_ok run into assert_kind s i all t j (inl (one, none, inr (inr (o, r, grows, e)))) =
+    ok_is_err refl e
+repeat_some_ok run into assert_kind s i all t j (inr (other, ran)) = absurd (other (refl, refl))
+
+-- ---- a number of items within bounds
+
+-- An output of a repetition of at least `least` items and at most the greatest number, other than
+-- of one or more: the items, and that the greatest number was reached, or one backtracked behind
+-- them.
+pub record RepeatedWithin {S T O C : Type 0} (run : Runs S T O) (into : Accumulator C O)
+    (least : ℕ) (greatest : Option ℕ) (s : S) (i : Input T) (all : C) (t : S)
+    (j : Input T) : Type 0 where
+  pub empty : C
+  pub outputs : List O
+  pub state : S
+  pub input : Input T
+  pub starts : into.starts (capacity_of least greatest) empty
+  pub chain : Items run s i outputs state input
+  pub takes : FoldsTo into.takes empty outputs all
+  pub enough : least ≤ length outputs
+  pub ended : ((greatest ≡ Some (length outputs)) × (t ≡ state) × (j ≡ input))
+      ⊎ ((last : Input T) × run state input (Err backtrack) t last × (j ≡ back_at input.left last))
+
+pub repeat_within_ok : {S T O C : Type 0} (run : Runs S T O) (into : Accumulator C O)
+    (assert_kind : Kind) (least : ℕ) (greatest : Option ℕ) (s : S) (i : Input T) (all : C)
+    (t : S) (j : Input T) → ((least ≡ 1) × (greatest ≡ None) → ⊥)
+    → RepeatRuns run into assert_kind least greatest s i (Ok all) t j
+    → RepeatedWithin run into least greatest s i all t j
+repeat_within_ok run into assert_kind least greatest s i all t j not_some (inl (one, none, ran)) =
+    absurd (not_some (one, none))
+repeat_within_ok run into assert_kind least greatest s i all t j not_some
+    (inr (other, inl (most, is, below, e, a, b))) = ok_is_err refl e
+repeat_within_ok run into assert_kind least greatest s i all t j not_some
+    (inr (other, inr (inl (w, grows, e, a, b)))) = ok_is_err refl e
+repeat_within_ok {S} {T} {O} {C} run into assert_kind least greatest s i all t j not_some
+    (inr (other, inr (inr (empty, within, starts, (outputs, u, m, chain, ends))))) =
+    of_end ends
+  where
+    of_end : RepeatEnds run into assert_kind least greatest empty outputs u m (Ok all) t j
+        → RepeatedWithin run into least greatest s i all t j
+    of_end (inl (x, full, taken, e, a, b)) =
+        let P : Option ℕ → Type 0 = λ g. IsWithin g least in
+        record {
+          empty = empty;
+          outputs = outputs;
+          state = u;
+          input = m;
+          starts = starts;
+          chain = chain.runs;
+          takes = at_output (λ c. FoldsTo into.takes empty outputs c) e taken.taken;
+          enough = subst P full within;
+          ended = inl (full, a, b);
+        }
+    of_end (inr (inl (x, last, below, enough, ran, taken, e, back))) =
+        record {
+          empty = empty;
+          outputs = outputs;
+          state = u;
+          input = m;
+          starts = starts;
+          chain = chain.runs;
+          takes = at_output (λ c. FoldsTo into.takes empty outputs c) e taken.taken;
+          enough = enough;
+          ended = inr (last, ran, back);
+        }
+    of_end (inr (inr (inl (k, some, below, ran, few, taken, e)))) = ok_is_err refl e
+    of_end (inr (inr (inr (inl (o, some, below, ran, same, taken, e))))) = ok_is_err refl e
+    of_end (inr (inr (inr (inr (o, some, below, ran, consumes, taken, grows, e))))) =
+        ok_is_err refl e
+
+-- ---- into a list, and by a range
 
 -- into a list: its items are those of the chain, in order
 pub repeated_list : {S T O A : Type 0} (run : Runs S T O) (s : S) (i : Input T) (all : Vec O A)
@@ -171,6 +315,14 @@ pub repeated_list : {S T O A : Type 0} (run : Runs S T O) (s : S) (i : Input T) 
     → all.items ≡ told.outputs
 repeated_list run s i all t j told =
     list_of_outputs told.outputs told.empty all told.starts told.takes
+
+-- of one or more: the first, and then those of the chain
+pub repeated_list_some : {S T O A : Type 0} (run : Runs S T O) (s : S) (i : Input T)
+    (all : Vec O A) (t : S) (j : Input T) (told : RepeatedSome run list_kept s i all t j)
+    → all.items ≡ told.first ∷ told.outputs
+repeated_list_some run s i all t j told =
+    list_of_outputs (told.first ∷ told.outputs) told.empty all told.starts
+    (told.one, told.takes_first, told.takes)
 
 -- the runs of a repetition by a range that is known
 pub repeated_by : {S T O C : Type 0} (run : Runs S T O) (into : Accumulator C O)
@@ -186,4 +338,12 @@ repeated_by run into assert_kind range least last s i answer t j e ran =
     (greatest_of r.start_inclusive r.end_inclusive) s i answer t j in
     subst P e ran
 
-pub ruleset known_repetitions = (repeat_any_ok, repeat_any_err, repeated_list, repeated_by)
+pub ruleset known_repetitions = (
+  repeat_any_ok,
+  repeat_any_err,
+  repeat_some_ok,
+  repeat_within_ok,
+  repeated_list,
+  repeated_list_some,
+  repeated_by,
+)

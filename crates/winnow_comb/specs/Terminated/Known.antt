@@ -3,16 +3,15 @@
 use Rattle.std.specs.Prelude.{Ok}
 use Rattle.std.proofs.Common.{sym, subst}
 use Rattle.streams.specs.Input.{Input}
-use Rattle.winnow_core.specs.Runs.{Runs}
-use Rattle.winnow_comb.specs.InOrder.Known.{both_ok}
-use Rattle.winnow_comb.specs.Terminated.{TerminatedRuns}
+use Rattle.streams.specs.Kind.{Kind}
+use Rattle.winnow_comb.specs.InOrder.Known.{BothCases, both_ok}
 
 -- an output: both succeeded, and it is that of the first
-pub terminated_ok : {S1 S2 T O1 O2 : Type 0} (run1 : Runs S1 T O1) (run2 : Runs S2 T O2)
-    (s : S1 × S2) (i : Input T) (o : O1) (t : S1 × S2) (j : Input T)
-    → TerminatedRuns run1 run2 s i (Ok o) t j
-    → (o2 : O2) × (a : Input T) × run1 s.0 i (Ok o) t.0 a × run2 s.1 a (Ok o2) t.1 j
-terminated_ok {O1 = O1} run1 run2 s i o t j ran =
+pub terminated_ok : {T O1 O2 : Type 0}
+    {Ran1 : O1 → Input T → Type 0} {Ran2 : O2 → Input T → Type 0} {Failed1 : Kind → Type 0}
+    {Failed2 : Kind → Input T → Type 0} {Kept2 : Type 0} (o : O1)
+    → BothCases (λ o1 o2. o1) Ran1 Ran2 Failed1 Failed2 Kept2 (Ok o)
+    → (o2 : O2) × (a : Input T) × Ran1 o a × Ran2 o2 a
+terminated_ok {Ran1 = Ran1} o ran =
     let (o1, o2, a, r1, r2, is) = both_ok o ran in
-    let P : O1 → Type 0 = λ x. run1 s.0 i (Ok x) t.0 a in
-    (o2, a, subst P (sym is) r1, r2)
+    (o2, a, subst (λ x. Ran1 x a) (sym is) r1, r2)

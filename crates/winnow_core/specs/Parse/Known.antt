@@ -10,7 +10,7 @@ use Rattle.stream_errors.specs.Fault.{refused_input, refused_offset, refused_inn
 use Rattle.stream_errors.specs.declared.fault.ParseError.{ParseError}
 use Rattle.stream_errors.specs.declared.fault.ParseFault.{ParseFault}
 use Rattle.stream_errors.specs.declared.fault.ParseFault.TheVariants.{Refused, Incomplete}
-use Rattle.winnow_core.specs.Parse.{ParsesWhole}
+use Rattle.winnow_core.specs.Parse.{IsFaultAt, ParsesWhole}
 
 -- an output: the run succeeded and left nothing
 pub parse_ok : {I T O X : Type 0} (view : I → Input T) (units : List T → ℕ)
@@ -21,16 +21,25 @@ pub parse_ok : {I T O X : Type 0} (view : I → Input T) (units : List T → ℕ
 parse_ok view units inner_kind start ran (Ok o) whole = whole
 parse_ok view units inner_kind start ran (Err fault) whole = tt
 
+-- what ParsesWhole says of a fault, by what the failing runs relate and those that leave something
+abbrev pub FaultCases : {I T O X : Type 0} → (I → Input T) → (List T → ℕ) → (X → Kind)
+    → Remaining T → (Kind → Input T → Type 0) → (O → Input T → Type 0) → ParseFault I X Needed
+    → Type 0
+FaultCases {I} {T} {O} view units inner_kind start Failed Ran fault =
+    ((k : Kind) × (j : Input T) × Failed k j × IsFaultAt view units inner_kind start j k fault)
+    ⊎ ((o : O) × (j : Input T) × Ran o j × (j.left.tokens ≡ [] → ⊥)
+    × IsFaultAt view units inner_kind start j backtrack fault)
+
 -- A refusal: where the run left the input, and why.
 pub record ParseRefused {I T O X : Type 0} (view : I → Input T) (units : List T → ℕ)
-    (inner_kind : X → Kind) (start : Remaining T) (ran : Answer O → Input T → Type 0)
-    (e : ParseError I X) : Type 0 where
+    (inner_kind : X → Kind) (start : Remaining T) (Failed : Kind → Input T → Type 0)
+    (Ran : O → Input T → Type 0) (e : ParseError I X) : Type 0 where
   -- where it left it
   pub at : Input T
   pub kind : Kind
   -- it failed, or left something
-  pub why : ran (Err kind) at
-      ⊎ ((o : O) × ran (Ok o) at × (at.left.tokens ≡ [] → ⊥) × (kind ≡ backtrack))
+  pub why : Failed kind at
+      ⊎ ((o : O) × Ran o at × (at.left.tokens ≡ [] → ⊥) × (kind ≡ backtrack))
   -- the place, in units from the start
   pub offset : refused_offset e + units at.left.tokens ≡ units start.tokens
   -- the kind of the error, without its mode
@@ -38,18 +47,18 @@ pub record ParseRefused {I T O X : Type 0} (view : I → Input T) (units : List 
   -- the input, back at its start
   pub input : view (refused_input e) ≡ back_at start at
 
-pub parse_refused : {I T O X : Type 0} (view : I → Input T) (units : List T → ℕ)
-    (inner_kind : X → Kind) (start : Remaining T) (ran : Answer O → Input T → Type 0)
-    (fault : ParseFault I X Needed) (e : ParseError I X) → fault ≡ Refused e
-    → ParsesWhole view units inner_kind start ran (Err fault)
-    → ParseRefused view units inner_kind start ran e
-parse_refused {I} {T} {O} {X} view units inner_kind start ran fault e is whole =
+pub parse_refused : {I T O X : Type 0} {view : I → Input T} {units : List T → ℕ}
+    {inner_kind : X → Kind} {start : Remaining T} {Failed : Kind → Input T → Type 0}
+    {Ran : O → Input T → Type 0} (fault : ParseFault I X Needed) (e : ParseError I X)
+    → fault ≡ Refused e → FaultCases view units inner_kind start Failed Ran fault
+    → ParseRefused view units inner_kind start Failed Ran e
+parse_refused {I} {T} {O} {X} {view} {units} {inner_kind} {start} {Failed} {Ran} fault e is ran =
     let P : ParseFault I X Needed → Type 0 =
-    λ f. ParsesWhole view units inner_kind start ran (Err f) in
-    of_refused (subst P is whole)
+    λ f. FaultCases view units inner_kind start Failed Ran f in
+    of_refused (subst P is ran)
   where
-    of_refused : ParsesWhole view units inner_kind start ran (Err (Refused e))
-        → ParseRefused view units inner_kind start ran e
+    of_refused : FaultCases view units inner_kind start Failed Ran (Refused e)
+        → ParseRefused view units inner_kind start Failed Ran e
     of_refused (inl (k, j, r, (offset, inner, input))) =
         record {
           at = j;
@@ -71,19 +80,19 @@ parse_refused {I} {T} {O} {X} view units inner_kind start ran fault e is whole =
 
 -- an incomplete parse: the run was, and has that need
 pub parse_incomplete : {I T O X : Type 0} (view : I → Input T) (units : List T → ℕ)
-    (inner_kind : X → Kind) (start : Remaining T) (ran : Answer O → Input T → Type 0)
-    (fault : ParseFault I X Needed) (needed : Needed) → fault ≡ Incomplete needed
-    → ParsesWhole view units inner_kind start ran (Err fault)
-    → (j : Input T) × ran (Err (incomplete (need_of needed))) j
-parse_incomplete {I} {T} {O} {X} view units inner_kind start ran fault needed is whole =
+    (inner_kind : X → Kind) (start : Remaining T) {Failed : Kind → Input T → Type 0}
+    {Ran : O → Input T → Type 0} (fault : ParseFault I X Needed) (needed : Needed)
+    → fault ≡ Incomplete needed → FaultCases view units inner_kind start Failed Ran fault
+    → (j : Input T) × Failed (incomplete (need_of needed)) j
+parse_incomplete {I} {T} {O} {X} view units inner_kind start {Failed} {Ran} fault needed is ran =
     let P : ParseFault I X Needed → Type 0 =
-    λ f. ParsesWhole view units inner_kind start ran (Err f) in
-    of_incomplete (subst P is whole)
+    λ f. FaultCases view units inner_kind start Failed Ran f in
+    of_incomplete (subst P is ran)
   where
-    of_incomplete : ParsesWhole view units inner_kind start ran (Err (Incomplete needed))
-        → (j : Input T) × ran (Err (incomplete (need_of needed))) j
+    of_incomplete : FaultCases view units inner_kind start Failed Ran (Incomplete needed)
+        → (j : Input T) × Failed (incomplete (need_of needed)) j
     of_incomplete (inl (k, j, r, same)) =
-        let P : Kind → Type 0 = λ x. ran (Err x) j in (j, subst P same r)
+        let P : Kind → Type 0 = λ x. Failed x j in (j, subst P same r)
     of_incomplete (inr (o, j, r, some, same)) = absurd (cc)
 
 pub ruleset known_parses = (parse_ok, parse_refused, parse_incomplete)

@@ -1,36 +1,42 @@
 -- What a caller knows of one run of an output that may be refused, where it answered.
-use Rattle.std.specs.Prelude.{◌≡◌, Option, Some, None, Ok, Err, ◌⊎◌}
-use Rattle.std.proofs.Common.{refl, sym, subst, inl, inr}
-use Rattle.streams.specs.Input.{Input, back_at}
+use Rattle.std.specs.Prelude.{◌≡◌, Ok, Err, ◌⊎◌}
+use Rattle.std.proofs.Common.{refl, inl, inr}
+use Rattle.streams.specs.Input.{Input}
 use Rattle.streams.specs.Kind.{Kind, backtrack}
-use Rattle.stream_errors.specs.Form.Known.{ok_is_err, same_err, same_ok}
-use Rattle.winnow_core.specs.VerifyMap.{VerifyMapRuns}
-use Rattle.winnow_core.specs.Runs.{Runs}
+use Rattle.stream_errors.specs.Form.{Answer}
+use Rattle.stream_errors.specs.Form.Known.{at_kind, at_output, ok_is_err, same_kind}
+
+-- the runs of VerifyMapRuns, by what the child's and the closure's relate; Back is that the input
+-- is back at the start
+abbrev pub VerifyMapCases : {T O U : Type 0} → (O → Type 0) → (O → U → Type 0)
+    → (O → Input T → Type 0) → (O → Type 0) → (Input T → Type 0) → (Kind → Type 0) → Type 0
+    → Answer U → Type 0
+VerifyMapCases {T} {O} {U} Ran Gave RanTo Refused Back Failed Kept answer =
+    ((o : O) × (u : U) × Ran o × Gave o u × (answer ≡ Ok u))
+    ⊎ (((o : O) × (a : Input T) × RanTo o a × Refused o × (answer ≡ Err backtrack) × Back a)
+    ⊎ ((k : Kind) × Failed k × Kept × (answer ≡ Err k)))
 
 -- an output: the closure made it of the child's
-pub verify_map_ok : {S G T O U : Type 0} (run : Runs S T O)
-    (step : G → O → Option U → G → Type 0) (s : S × G) (i : Input T) (u : U) (t : S × G)
-    (j : Input T) → VerifyMapRuns run step s i (Ok u) t j
-    → (o : O) × run s.0 i (Ok o) t.0 j × step s.1 o (Some u) t.1
-verify_map_ok run step s i u t j (inl (o, x, r, called, e)) =
-    let P : _ → Type 0 = λ y. step s.1 o (Some y) t.1 in
-    (o, r, subst P (sym (same_ok refl e)) called)
-verify_map_ok run step s i u t j (inr (inl (o, a, r, called, e, same))) = ok_is_err refl e
-verify_map_ok run step s i u t j (inr (inr (k, r, same, e))) = ok_is_err refl e
+pub verify_map_ok : {T O U : Type 0} {Ran : O → Type 0} {Gave : O → U → Type 0}
+    {RanTo : O → Input T → Type 0} {Refused : O → Type 0} {Back : Input T → Type 0}
+    {Failed : Kind → Type 0} {Kept : Type 0} (u : U)
+    → VerifyMapCases Ran Gave RanTo Refused Back Failed Kept (Ok u)
+    → (o : O) × Ran o × Gave o u
+verify_map_ok {Gave = Gave} u (inl (o, x, r, gave, e)) = (o, r, at_output (λ y. Gave o y) e gave)
+verify_map_ok u (inr (inl (o, a, r, refused, e, back))) = ok_is_err refl e
+verify_map_ok u (inr (inr (k, r, same, e))) = ok_is_err refl e
 
 -- an error: the closure refused what the child answered, and the input is back at the start; or it
 -- is the child's, and the closure was not called
-pub verify_map_err : {S G T O U : Type 0} (run : Runs S T O)
-    (step : G → O → Option U → G → Type 0) (s : S × G) (i : Input T) (k : Kind) (t : S × G)
-    (j : Input T) → VerifyMapRuns run step s i (Err k) t j
-    → ((o : O) × (a : Input T) × run s.0 i (Ok o) t.0 a × step s.1 o None t.1
-    × (k ≡ backtrack) × (j ≡ back_at i.left a))
-    ⊎ (run s.0 i (Err k) t.0 j × (t.1 ≡ s.1))
-verify_map_err run step s i k t j (inl (o, x, r, called, e)) = ok_is_err e refl
-verify_map_err run step s i k t j (inr (inl (o, a, r, called, e, same))) =
-    inl (o, a, r, called, same_err refl e, same)
-verify_map_err run step s i k t j (inr (inr (l, r, same, e))) =
-    let P : Kind → Type 0 = λ y. run s.0 i (Err y) t.0 j in
-    inr (subst P (sym (same_err refl e)) r, same)
+pub verify_map_err : {T O U : Type 0} {Ran : O → Type 0} {Gave : O → U → Type 0}
+    {RanTo : O → Input T → Type 0} {Refused : O → Type 0} {Back : Input T → Type 0}
+    {Failed : Kind → Type 0} {Kept : Type 0} (k : Kind)
+    → VerifyMapCases Ran Gave RanTo Refused Back Failed Kept (Err k)
+    → ((o : O) × (a : Input T) × RanTo o a × Refused o × (k ≡ backtrack) × Back a)
+    ⊎ (Failed k × Kept)
+verify_map_err k (inl (o, x, r, gave, e)) = ok_is_err e refl
+verify_map_err k (inr (inl (o, a, r, refused, e, back))) =
+    inl (o, a, r, refused, same_kind e, back)
+verify_map_err {Failed = Failed} k (inr (inr (l, r, same, e))) = inr (at_kind Failed e r, same)
 
 pub ruleset known_verified_maps = (verify_map_ok, verify_map_err)

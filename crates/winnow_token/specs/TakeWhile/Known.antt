@@ -1,6 +1,6 @@
 -- What a caller knows of one run of a take of members that answered.
 use Rattle.std.specs.Prelude.{◌≡◌, ◌<◌, ◌≤◌, ℕ, Bool, true, false, List, [], ◌∷◌, ◌++◌, length}
-use Rattle.std.specs.Prelude.{Option, Some, None, Ok, Err, ◌⊎◌, ◌↔◌, IsTrue}
+use Rattle.std.specs.Prelude.{Option, Some, None, Result, Ok, Err, IfOk, IsTrue, ◌⊎◌, ◌↔◌}
 use Rattle.std.specs.Borrow.{Bor}
 use Rattle.std.specs.List.{All}
 use Rattle.std.proofs.Common.{refl, sym, ap, subst, ◌∙◌, inl, inr, arith}
@@ -14,7 +14,7 @@ use Rattle.streams.specs.Reading.{Reading}
 use Rattle.streams.specs.Stream.{AnswersSeen}
 use Rattle.stream_sets.specs.Range.{IsWithin, greatest_of}
 use Rattle.stream_sets.specs.declared.range.Range.{Range}
-use Rattle.stream_errors.specs.Form.{Answer, ErrorForm}
+use Rattle.stream_errors.specs.Form.{Answer, ErrorForm, answer_by}
 use Rattle.stream_errors.specs.Form.Known.{ok_is_err, same_err, same_ok}
 use Rattle.winnow_token.specs.TakeWhile.{IsEnded, IsLongest, TakeWhileRuns}
 
@@ -66,6 +66,17 @@ took_counted {T} form member least greatest i slice j ran =
     let (taken, takes, all) = took counted_reading form member least greatest i slice j ran in
     let P : List T → Type 0 = λ l. Took member least greatest i l j in
     subst P (sym takes.shown) all
+
+-- so what is said of the tokens that were taken is said of the slice that a call answers
+pub took_told : {T E : Type 0} (kind : E → Kind) (form : ErrorForm) (member : T → Bool → Type 0)
+    (least : ℕ) (greatest : Option ℕ) (i j : Input T) (P : Bor (List T) → Type 0)
+    (result : Result (Bor (List T)) E)
+    → TakeWhileRuns counted_reading form member least greatest i (answer_by kind result) j
+    → ((slice : Bor (List T)) → Took member least greatest i slice.now j → P slice)
+    → IfOk result P
+took_told kind form member least greatest i j P (Ok slice) ran told =
+    told slice (took_counted form member least greatest i slice j ran)
+took_told kind form member least greatest i j P (Err e) ran told = tt
 
 -- A take of a whole input that failed: it stays, and too few members stand first.
 pub record TooFew {T : Type 0} (member : T → Bool → Type 0) (least : ℕ) (greatest : Option ℕ)
@@ -173,6 +184,7 @@ none_first {T} Q member i k j other none x more e =
 pub ruleset known_takes = (
   took,
   took_counted,
+  took_told,
   too_few,
   by_range,
   took_by,

@@ -1,15 +1,17 @@
 use Rattle.std.proofs.Common.{rules, ap, ◌∙◌, ◌∷◌, ◌≡◌, sym, refl, inl, inr, arith, List, ℕ, subst}
+use Rattle.std.proofs.Common.{Err}
 use Rattle.std.proofs.lemmas.Grind.{common_steps}
 use Rattle.std.proofs.lemmas.Bool.Decides.{nat_tests}
+use Rattle.std.specs.Str.{IsUtf8}
 use Rattle.streams.specs.Bytes.{bytes_reading}
 use Rattle.streams.specs.Input.{is_end_of_refl}
 use Rattle.stream_errors.specs.Form.{modal}
-use Rattle.readers.proofs.PairRuns.{took_by, took_too_few_by, matched, never_too_few, ok_is_err}
-use Rattle.readers.proofs.PairRuns.{same_ok}
-use Rattle.readers.proofs.PartRuns.{category_read, no_open, no_close, no_text, literal_fails}
-use Rattle.readers.proofs.PartRuns.{fails_as}
-use Rattle.std.specs.Str.{IsUtf8}
-use Rattle.readers.specs.Document.{Begins, section, NoSectionBegins}
+use Rattle.stream_errors.specs.Form.Known.{ok_is_err}
+use Rattle.winnow_core.specs.Literal.Known.{token_missing, token_taken, token_whole}
+use Rattle.winnow_comb.specs.InOrder.Known.{three_err, three_ok}
+use Rattle.winnow_token.specs.TakeWhile.Known.{never_too_few, too_few_by, took_by}
+use Rattle.readers.specs.Document.{Begins, section, IsNameByte}
+use Rattle.readers.proofs.PartRuns.{category_read, no_open, no_close, no_text, took_front}
 use Rattle.readers.proofs.ini.parts.category.Goals as goal
 
 pub returns-in-Ok : goal.returns-in-Ok
@@ -23,30 +25,29 @@ returns-in-Ok c =
     elim c.in-Ok.ensures.ran [
       | inl (o, u, seq, step, e) ↦
           let told : (u.now ≡ o.now) × IsUtf8 o.now = search rules in
-          elim seq [
-            | inl (o1, o2, o3, a, b, r1, r2, r3, f) ↦
-                let front_mark = matched modal _ _ _ _ _ refl r1.0 in
-                let name = took_by modal _ _ _ _ _ _ _ range front_mark.1 r2.0 in
-                let end_mark = matched modal _ _ _ _ _ name.whole r3.0 in
-                let is = ap (λ r. r.now) (same_ok refl f) in
-                let P : List ℕ → Type 0 = λ l. IsUtf8 l in
-                let Q : List ℕ → Type 0 =
-                λ l. Begins (section l) c.args.input.now.now c.parse_next.new.input.now in (
-                  c.in-Ok.ensures.ends,
-                  inl (
-                    u,
-                    subst Q (sym (told.0 ∙ is))
-                        (category_read _ _ _ _ _ _
-                        (front_mark.0 ∙ ap (λ b. b ∷ a.left.tokens) front_is) name
-                        (end_mark.0 ∙ ap (λ b. b ∷ c.parse_next.new.input.now) end_is)
-                        (subst P is told.1) (λ x h. let p = h.2 in search rules)),
-                    e,
-                  ),
-                )
-            | inr (inl (k, r1, s2, s3, f)) ↦ ok_is_err refl f
-            | inr (inr (inl (o1, k, a, r1, r2, s3, f))) ↦ ok_is_err refl f
-            | inr (inr (inr (o1, o2, k, a, b, r1, r2, r3, f))) ↦ ok_is_err refl f
-          ]
+          let (o1, o2, o3, a, b, r1, r2, r3, same) = three_ok _ seq in
+          let is = ap (λ r. r.now) same in
+          let front_mark = token_taken bytes_reading modal _ _ _ _ _ r1.0 in
+          let end_mark = token_taken bytes_reading modal _ _ _ _ _ r3.0 in
+          let name =
+          took_front IsNameByte _ _ _ _ _ (took_by modal _ _ _ _ _ _ _ range r2.0)
+          (λ x h. let p = h.2 in search rules)
+          (λ x h is. let p = h.2 in let seen = h.1 in let no_end = is.0 in let no_feed = is.1
+          in grind (arith, common_steps, nat_tests)) in
+          let P : List ℕ → Type 0 = λ l. IsUtf8 l in
+          let Q : List ℕ → Type 0 =
+          λ l. Begins (section l) c.args.input.now.now c.parse_next.new.input.now in (
+            c.in-Ok.ensures.ends,
+            inl (
+              u,
+              subst Q (sym (told.0 ∙ is))
+                  (category_read _ _ _ _ _
+                  (front_mark.splits ∙ ap (λ b. b ∷ a.left.tokens) front_is) name
+                  (end_mark.splits ∙ ap (λ b. b ∷ c.parse_next.new.input.now) end_is)
+                  (subst P is told.1)),
+              e,
+            ),
+          )
       | inr (inl (o, b', seq, step, e, back)) ↦ ok_is_err refl e
       | inr (inr (k, seq, same, e)) ↦ ok_is_err refl e
     ]
@@ -63,54 +64,53 @@ returns-in-Err c =
       | inl (o, u, seq, step, e) ↦ ok_is_err e refl
       | inr (inl (o, b', seq, step, e, back)) ↦
           let told : IsUtf8 o.now → ⊥ = search rules in
-          let none : NoSectionBegins c.args.input.now.now = elim seq [
-            | inl (o1, o2, o3, a, b, r1, r2, r3, f) ↦
-                let front_mark = matched modal _ _ _ _ _ refl r1.0 in
-                let name = took_by modal _ _ _ _ _ _ _ range front_mark.1 r2.0 in
-                let end_mark = matched modal _ _ _ _ _ name.whole r3.0 in
-                let is = ap (λ r. r.now) (same_ok refl f) in
-                let P : List ℕ → Type 0 = λ l. IsUtf8 l in
-                no_text _ _ _ _ _ _ (front_mark.0 ∙ ap (λ x. x ∷ a.left.tokens) front_is) name
-                (end_mark.0 ∙ ap (λ x. x ∷ b'.left.tokens) end_is)
-                (λ u. told (subst P (sym is) u))
-                (λ x h. let p = h.2 in search rules)
-                (λ x h is. let p = h.2 in let seen = h.1 in let no_end = is.0
-                in let no_feed = is.1 in grind (arith, common_steps, nat_tests))
-            | inr (inl (k, r1, s2, s3, f)) ↦ ok_is_err refl f
-            | inr (inr (inl (o1, k, a, r1, r2, s3, f))) ↦ ok_is_err refl f
-            | inr (inr (inr (o1, o2, k, a, b, r1, r2, r3, f))) ↦ ok_is_err refl f
-          ] in
-          (is_end_of_refl bytes_reading _, inr (none, refl, e))
+          let (o1, o2, o3, a, b, r1, r2, r3, same) = three_ok _ seq in
+          let front_mark = token_taken bytes_reading modal _ _ _ _ _ r1.0 in
+          let P : List ℕ → Type 0 = λ l. IsUtf8 l in (
+            is_end_of_refl bytes_reading _,
+            inr (
+              no_text _ _ _ _ (front_mark.splits ∙ ap (λ x. x ∷ a.left.tokens) front_is)
+                  (took_front IsNameByte _ _ _ _ _ (took_by modal _ _ _ _ _ _ _ range r2.0)
+                  (λ x h. let p = h.2 in search rules)
+                  (λ x h is. let p = h.2 in let seen = h.1 in let no_end = is.0
+                  in let no_feed = is.1 in grind (arith, common_steps, nat_tests)))
+                  (λ u. told (subst P (sym (ap (λ r. r.now) same)) u)),
+              refl,
+              e,
+            ),
+          )
       | inr (inr (k, seq, same, e)) ↦
-          elim seq [
-            | inl (o1, o2, o3, a, b, r1, r2, r3, f) ↦ ok_is_err f refl
-            | inr (inl (k1, r1, s2, s3, f)) ↦
-                let fails = literal_fails modal _ _ _ _ _ refl r1.0 in (
+          elim (three_err _ seq) [
+            | inl (r1, s2, s3) ↦
+                let missing = token_missing bytes_reading modal _ _ _ _ _ refl r1.0 in (
                   is_end_of_refl bytes_reading _,
                   inr (
-                    no_open _ (λ rest is. fails.1 rest
+                    no_open _ (λ rest is. missing.other rest
                         (is ∙ ap (λ b. b ∷ rest) (sym front_is))),
                     refl,
-                    fails_as e refl f fails.0,
+                    e ∙ ap Err missing.kind,
                   ),
                 )
-            | inr (inr (inl (o1, k2, a, r1, r2, s3, f))) ↦
-                let front_mark = matched modal _ _ _ _ _ refl r1.0 in
-                never_too_few _ _ _ _
-                (took_too_few_by modal _ _ _ _ _ _ _ range front_mark.1 tt r2.0)
-            | inr (inr (inr (o1, o2, k3, a, b, r1, r2, r3, f))) ↦
-                let front_mark = matched modal _ _ _ _ _ refl r1.0 in
-                let name = took_by modal _ _ _ _ _ _ _ range front_mark.1 r2.0 in
-                let fails = literal_fails modal _ _ _ _ _ name.whole r3.0 in (
+            | inr (inl (o1, a, r1, r2, s3)) ↦
+                let front_mark = token_taken bytes_reading modal _ _ _ _ _ r1.0 in
+                never_too_few _ _ _ _ _
+                (too_few_by _ modal _ _ _ _ _ _ _ range (token_whole front_mark refl) tt r2.0)
+            | inr (inr (o1, o2, a, b, r1, r2, r3)) ↦
+                let front_mark = token_taken bytes_reading modal _ _ _ _ _ r1.0 in
+                let name = took_by modal _ _ _ _ _ _ _ range r2.0 in
+                let missing =
+                token_missing bytes_reading modal _ _ _ _ _
+                (name.whole (token_whole front_mark refl)) r3.0 in (
                   is_end_of_refl bytes_reading _,
                   inr (
-                    no_close _ _ _ _ _ (front_mark.0 ∙ ap (λ b. b ∷ a.left.tokens) front_is)
-                        name (λ rest is. fails.1 rest (is ∙ ap (λ b. b ∷ rest) (sym end_is)))
+                    no_close _ _ _ _ (front_mark.splits ∙ ap (λ b. b ∷ a.left.tokens) front_is)
+                        (took_front IsNameByte _ _ _ _ _ name
                         (λ x h. let p = h.2 in search rules)
                         (λ x h is. let p = h.2 in let seen = h.1 in let no_end = is.0
-                        in let no_feed = is.1 in grind (arith, common_steps, nat_tests)),
+                        in let no_feed = is.1 in grind (arith, common_steps, nat_tests)))
+                        (λ rest is. missing.other rest (is ∙ ap (λ b. b ∷ rest) (sym end_is))),
                     refl,
-                    fails_as e refl f fails.0,
+                    e ∙ ap Err missing.kind,
                   ),
                 )
           ]

@@ -21,7 +21,6 @@ returns c =
           (λ x h is. class_denies IsAlphanum x h.0 h.1 h.2 (class_of_key x is)) in
           let P : List ℕ → Type 0 =
           λ l. IsFront IsKeyByte c.args.input.now.now l c.parse_next.new.input.now in
-          let taken = took_counted modal _ 1 None _ _ _ r.0 in
           (c.parse_next.ensures.ends, inl (u, search rules, subst P (sym told.0) front, e))
       | inr (inl (o, b, r, step, e, back)) ↦
           let told : IsUtf8 o.now → ⊥ = search rules in

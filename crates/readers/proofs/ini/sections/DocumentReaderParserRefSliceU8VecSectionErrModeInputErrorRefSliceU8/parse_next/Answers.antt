@@ -4,7 +4,6 @@ use Rattle.readers.proofs.DocumentReading.{document_read}
 use Rattle.readers.proofs.ini.sections.DocumentReaderParserRefSliceU8VecSectionErrModeInputErrorRefSliceU8.parse_next.Goals as goal
 
 pub returns-clause-ran : goal.returns-clause-ran
-returns-clause-ran g c = (
-  c.parse_next.ensures.ends,
-  document_read (λ all. map section_text all.items) _ _ _ _ _ c.parse_next.ensures.ran,
-)
+returns-clause-ran g c =
+    document_read (λ all. map section_text all.items) _ _ _ _ _ c.parse_next.ensures.ends
+    c.parse_next.ensures.ran
