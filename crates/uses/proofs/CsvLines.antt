@@ -61,7 +61,7 @@ item_more : {A : Type 0} (s : ℕ × (Range × A)) (i : Input ℕ) (o : Bor (Lis
     (t : ℕ × (Range × A)) (j : Input ℕ) (os : List (Bor (List ℕ))) (u : ℕ × (Range × A))
     (m : Input ℕ) → ItemMeans s i (Ok o) t j → Reads t j os u m → Reads s i (o ∷ os) u m
 item_more s i o t j os u m ran others comma any =
-    let (b, a, r1, r2) = preceded_ok ByteMeans FieldMeans s i o t j ran in
+    let (b, a, r1, r2) = preceded_ok o ran in
     let is = literal_taken bytes_reading modal _ _ i b a r1.0 in
     let mark : i.left.tokens ≡ 44 ∷ a.left.tokens =
     is.takes.passed.tokens ∙ ap (λ l. l ++ a.left.tokens) is.spells

@@ -3,12 +3,12 @@
 
 ghost use Rattle.std.specs.Prelude.{◌≡◌, ◌<◌, ◌∷◌, ◌++◌, length, IfOk};
 
-use stream_errors::empty::EmptyError;
-use winnow_ascii::ascii::alpha1;
-use winnow_core::parser::Parser;
+use winnow::ascii::alpha1;
+use winnow::error::EmptyError;
+use winnow::Parser;
 
 /// A word at the front of bytes: at least one letter, and the word and the rest are the input.
-#[tactic(auto, using(winnow_token::specs::TakeWhile::Known::known_takes))]
+#[tactic(auto, using(winnow::specs::Rules::known_takes))]
 pub fn front_word<'i>(input: &mut &'i [u8]) -> Result<&'i [u8], EmptyError>
     ensures splits { IfOk result (λ word. input.old.now ≡ word.now ++ input.new.now) }
     ensures some { IfOk result (λ word. 0 < length word.now) }
@@ -17,7 +17,7 @@ pub fn front_word<'i>(input: &mut &'i [u8]) -> Result<&'i [u8], EmptyError>
 }
 
 /// The mark behind a word, which stands first in bytes where it is answered.
-#[tactic(auto, using(winnow_core::specs::Literal::Known::known_literals))]
+#[tactic(auto, using(winnow::specs::Rules::known_literals))]
 pub fn mark<'i>(input: &mut &'i [u8]) -> Result<u8, EmptyError>
     ensures { IfOk result (λ _. input.old.now ≡ 61 ∷ input.new.now) }
 {
