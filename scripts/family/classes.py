@@ -12,7 +12,7 @@ CLASSES = [
 ]
 
 # The other parsers of the module, which are written by hand.
-OTHERS = ["crlf", "line_ending", "newline", "tab", "till_line_ending"]
+OTHERS = ["crlf", "dec_int", "dec_uint", "line_ending", "newline", "tab", "till_line_ending"]
 
 
 def class_parsers():

@@ -1,2 +1,5 @@
 mod ClassLemmas
+mod DecimalLemmas
+mod DecimalRuns
 mod LineEndLemmas
+mod NumeralLemmas

@@ -1,6 +1,11 @@
 pub mod Class
 pub mod Crlf
+pub mod DecInt
+pub mod DecUint
+pub mod DecimalText
+pub mod Digits
 pub mod LineEnding
 pub mod Newline
+pub mod Numeral
 pub mod Tab
 pub mod TillLineEnding
