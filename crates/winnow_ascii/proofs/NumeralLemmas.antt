@@ -72,7 +72,7 @@ module _ {K T S : Type 0} (seen : K → T) (code : K → ℕ) (reading : Reading
       subst P (sym e) ((x, refl, refl), tt)
 
   -- the numbers of members of a class
-  numbers_of : (class : ℕ → Type 0) (front : List T)
+  pub numbers_of : (class : ℕ → Type 0) (front : List T)
       → All (λ t. AnswersSeen seen (λ x b. IsTrue b ↔ class (code x)) t true) front
       → (cs : List ℕ) × AreCharacters seen code front cs × AllByRecursion class cs
   numbers_of class [] all = ([], tt, tt)

@@ -13,6 +13,11 @@ NoneFirst {K} {T} seen code class tokens =
     (tokens ≡ [])
     ⊎ ((t : T) × (rest : List T) × (tokens ≡ t ∷ rest) × IsIn seen code (λ c. class c → ⊥) t)
 
+-- A character of the class stands first.
+abbrev pub SomeFirst : {K T : Type 0} → (K → T) → (K → ℕ) → (ℕ → Type 0) → List T → Type 0
+SomeFirst {K} {T} seen code class tokens =
+    (t : T) × (rest : List T) × (tokens ≡ t ∷ rest) × IsIn seen code class t
+
 -- The tokens are characters of these numbers, one by one.
 abbrev pub AreCharacters : {K T : Type 0} → (K → T) → (K → ℕ) → List T → List ℕ → Type 0
 AreCharacters seen code [] [] = ⊤

@@ -4,6 +4,7 @@ pub mod DecInt
 pub mod DecUint
 pub mod DecimalText
 pub mod Digits
+pub mod HexUint
 pub mod LineEnding
 pub mod Newline
 pub mod Numeral
