@@ -105,7 +105,8 @@ module _ {K T S : Type 0} (seen : K → T) (code : K → ℕ) (reading : Reading
   outside : (t : T) → Member t false → IsIn seen code (λ c. IsHexDigit c → ⊥) t
   outside t (x, is, told) = (x, is, λ c. absurd (let f = told.1 c in cc))
 
-  inside : (tokens : List T) → All (λ t. Member t true) tokens → All (IsIn seen code IsHexDigit) tokens
+  inside : (tokens : List T) → All (λ t. Member t true) tokens
+      → All (IsIn seen code IsHexDigit) tokens
   inside tokens all = All-weaker (λ t. Member t true) (IsIn seen code IsHexDigit)
       (λ t told. (told.0, told.1, told.2.0 refl)) tokens all
 
@@ -115,9 +116,10 @@ module _ {K T S : Type 0} (seen : K → T) (code : K → ℕ) (reading : Reading
       → NoneFirst seen code IsHexDigit rest
   stops_at front [] tokens longest few = inl refl
   stops_at front (t ∷ more) tokens longest few =
-      elim (longest.stops t more refl)
-      [ inl other ↦ inr (t, more, refl, outside t other)
-      | inr e ↦ absurd (let same : most ≡ length front = cc in omega arith) ]
+      elim (longest.stops t more refl) [
+        | inl other ↦ inr (t, more, refl, outside t other)
+        | inr e ↦ absurd (let same : most ≡ length front = cc in omega arith)
+      ]
 
   -- nothing follows, and the input is whole or the type holds no more
   ended_at : (front rest : List T) (cut : Bool)
@@ -188,10 +190,11 @@ module _ {K T S : Type 0} (seen : K → T) (code : K → ℕ) (reading : Reading
       → (IsEnded Member (Some most) front rest ⊎ (cut ≡ false))
       → NoneFirst seen code IsHexDigit tokens × (tokens ≡ [] → cut ≡ false)
   none_front [] rest tokens cut longest few ended =
-      let Q : List T → Type 0 = λ l. NoneFirst seen code IsHexDigit l in
-      (subst Q (sym longest.splits) (stops_at [] rest tokens longest some),
-      λ none. elim (ended_at [] rest cut ended (sym longest.splits ∙ none))
-      [ inl e ↦ e | inr e ↦ absurd (let zero : 0 ≡ most = e in omega arith) ])
+      let Q : List T → Type 0 = λ l. NoneFirst seen code IsHexDigit l in (
+        subst Q (sym longest.splits) (stops_at [] rest tokens longest some),
+        λ none. elim (ended_at [] rest cut ended (sym longest.splits ∙ none))
+            [ inl e ↦ e | inr e ↦ absurd (let zero : 0 ≡ most = e in omega arith) ],
+      )
   none_front (t ∷ ts) rest tokens cut longest few ended = absurd (omega arith)
 
   pub hex_missing : {N : Type 0} (number : N → ℕ) (form : ErrorForm) (i : Input T) (k : Kind)
@@ -202,8 +205,13 @@ module _ {K T S : Type 0} (seen : K → T) (code : K → ℕ) (reading : Reading
   hex_missing number form i k j (inr (inl (within, still_open, is_cut, e, same))) =
       let need : max (1 - reading.units i.left.tokens) 1 ≡ 1 = omega arith in
       let kind : k ≡ incomplete_kind form (Some (max (1 - reading.units i.left.tokens) 1)) = cc in
-      inr (inl (inside i.left.tokens still_open.0, still_open.1, is_cut,
-      ap (λ x. Err x) (kind ∙ ap (λ n. incomplete_kind form (Some n)) need), same))
+      inr (inl (
+        inside i.left.tokens still_open.0,
+        still_open.1,
+        is_cut,
+        ap (λ x. Err x) (kind ∙ ap (λ n. incomplete_kind form (Some n)) need),
+        same,
+      ))
   hex_missing number form i k j
       (inr (inr (inl (front, rest, taken, within, longest, ended, enough, takes, e)))) = absurd cc
   hex_missing number form i k j
@@ -217,9 +225,17 @@ module _ {K T S : Type 0} (seen : K → T) (code : K → ℕ) (reading : Reading
       → length taken.digits ≡ most → SomeFirst seen code IsHexDigit j.left.tokens
       → k ≡ backtrack → m ≡ i → HexUintRuns number most seen code reading form i (Err k) m
   hex_over number form i slice j k m taken full (t, rest, split, is) kind same =
-      inr (inr (inr (taken.front, t, rest,
-      taken.takes.passed.tokens ∙ ap (λ l. taken.front ++ l) split, taken.members,
-      sym taken.long ∙ full, is, ap (λ x. Err x) kind, same)))
+      inr (inr (inr (
+        taken.front,
+        t,
+        rest,
+        taken.takes.passed.tokens ∙ ap (λ l. taken.front ++ l) split,
+        taken.members,
+        sym taken.long ∙ full,
+        is,
+        ap (λ x. Err x) kind,
+        same,
+      )))
 
   nothing_more : (i : Input T) (slice : S) (j : Input T) (taken : TakesHex i slice j)
       → (length taken.digits ≡ most → NoneFirst seen code IsHexDigit j.left.tokens)
@@ -238,9 +254,20 @@ module _ {K T S : Type 0} (seen : K → T) (code : K → ℕ) (reading : Reading
       let or_full : (length taken.digits < most) ⊎ (length taken.digits ≡ most) =
       below_or_same (length taken.digits) most few in
       let P : Input T → Type 0 = λ x. HexUintRuns number most seen code reading form i (Ok n) x in
-      subst P (sym same) (inl (taken.front, taken.digits, n, taken.takes.passed, taken.chars,
-      taken.are, taken.least, few, nothing_more i slice j taken none or_full, taken.ended, value,
-      refl))
+      subst P (sym same) (inl (
+        taken.front,
+        taken.digits,
+        n,
+        taken.takes.passed,
+        taken.chars,
+        taken.are,
+        taken.least,
+        few,
+        nothing_more i slice j taken none or_full,
+        taken.ended,
+        value,
+        refl,
+      ))
 
   -- the bytes of the slice are the digits
   pub hex_bytes : (bytes_of : List T → List ℕ)

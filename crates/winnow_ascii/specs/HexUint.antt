@@ -1,5 +1,6 @@
 -- Hexadecimal numbers.
-use Rattle.std.specs.Prelude.{◌≡◌, ◌<◌, ◌≤◌, ℕ, true, false, List, [], ◌∷◌, ◌++◌, length, Some, Ok, Err, ◌⊎◌}
+use Rattle.std.specs.Prelude.{◌≡◌, ◌<◌, ◌≤◌, ℕ, true, false, List, [], ◌∷◌, ◌++◌, length, Some, Ok}
+use Rattle.std.specs.Prelude.{Err, ◌⊎◌}
 use Rattle.std.specs.List.{All, AllByRecursion}
 use Rattle.streams.specs.Input.{Input, Passes}
 use Rattle.streams.specs.Kind.{backtrack}
@@ -9,8 +10,8 @@ use Rattle.stream_sets.specs.AsChar.{IsHexDigit}
 use Rattle.winnow_ascii.specs.Digits.{AreCharacters, IsIn, NoneFirst, value_in}
 pub mod Laws
 
--- A run of the parser of a hexadecimal number. Values of its type have the numbers `number`, and the
--- type holds at most `most` digits.
+-- A run of the parser of a hexadecimal number. Values of its type have the numbers `number`, and
+-- the type holds at most `most` digits.
 abbrev pub HexUintRuns : {N K T S : Type 0} → (N → ℕ) → ℕ → (K → T) → (K → ℕ) → Reading T S
     → ErrorForm → Input T → Answer N → Input T → Type 0
 HexUintRuns {N} {K} {T} {S} number most seen code reading form i answer j =

@@ -22,7 +22,8 @@ use winnow_core::parser::Parser;
 #[derive(Clone, Copy, Debug, PartialEq, Eq)]
 pub struct HexUintParser;
 
-impl<I: StreamIsPartial + SlicesAsBytes, O: HexUint, E: ParserError<I>> Parser<I, O, E> for HexUintParser
+impl<I: StreamIsPartial + SlicesAsBytes, O: HexUint, E: ParserError<I>> Parser<I, O, E>
+    for HexUintParser
 where
     I::Token: AsChar,
     I::Slice: AsBStr,

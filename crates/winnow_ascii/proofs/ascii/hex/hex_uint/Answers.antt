@@ -13,10 +13,12 @@ returns-then-overflows-clause-ran g c =
     g.Output.HexUint.nibbles g.met.Output.HexUint.holds_some
     g.Error.ParserError.form _ c.in-Ok.slice _
     (hex_runs g.Input.Stream.seen_as g.Input.Token.AsChar.code g.Input.Stream.reading
-    g.Error.ParserError.form _ _ _ _ _ _ _ _ _ c.take_while-digits.ensures.occurrences c.from.ensures c.new.ensures.start
+    g.Error.ParserError.form _ _ _ _ _ _ _ _ _ c.take_while-digits.ensures.occurrences
+    c.from.ensures c.new.ensures.start
     c.new.ensures.end c.max_nibbles-most.ensures
     c.in-Ok.ensures.ran.0) in
-    let bytes = c.as_bstr-bytes.ensures ∙ hex_bytes g.Input.Stream.seen_as g.Input.Token.AsChar.code g.Input.Stream.reading
+    let bytes = c.as_bstr-bytes.ensures
+    ∙ hex_bytes g.Input.Stream.seen_as g.Input.Token.AsChar.code g.Input.Stream.reading
     g.Output.HexUint.nibbles g.met.Output.HexUint.holds_some
     g.Input.SlicesAsBytes.bytes_of g.Input.SlicesAsBytes.bytes_add
     g.met.Input.SlicesAsBytes.ascii_byte _ c.in-Ok.slice _ _
@@ -39,10 +41,12 @@ number_of-requires-clause-digits g c =
     g.Output.HexUint.nibbles g.met.Output.HexUint.holds_some
     g.Error.ParserError.form _ c.in-Ok.slice _
     (hex_runs g.Input.Stream.seen_as g.Input.Token.AsChar.code g.Input.Stream.reading
-    g.Error.ParserError.form _ _ _ _ _ _ _ _ _ c.take_while-digits.ensures.occurrences c.from.ensures c.new.ensures.start
+    g.Error.ParserError.form _ _ _ _ _ _ _ _ _ c.take_while-digits.ensures.occurrences
+    c.from.ensures c.new.ensures.start
     c.new.ensures.end c.max_nibbles-most.ensures
     c.in-Ok.ensures.ran.0) in
-    let bytes = c.as_bstr-bytes.ensures ∙ hex_bytes g.Input.Stream.seen_as g.Input.Token.AsChar.code g.Input.Stream.reading
+    let bytes = c.as_bstr-bytes.ensures
+    ∙ hex_bytes g.Input.Stream.seen_as g.Input.Token.AsChar.code g.Input.Stream.reading
     g.Output.HexUint.nibbles g.met.Output.HexUint.holds_some
     g.Input.SlicesAsBytes.bytes_of g.Input.SlicesAsBytes.bytes_add
     g.met.Input.SlicesAsBytes.ascii_byte _ c.in-Ok.slice _ _
@@ -57,10 +61,12 @@ number_of-requires-clause-few g c =
     g.Output.HexUint.nibbles g.met.Output.HexUint.holds_some
     g.Error.ParserError.form _ c.in-Ok.slice _
     (hex_runs g.Input.Stream.seen_as g.Input.Token.AsChar.code g.Input.Stream.reading
-    g.Error.ParserError.form _ _ _ _ _ _ _ _ _ c.take_while-digits.ensures.occurrences c.from.ensures c.new.ensures.start
+    g.Error.ParserError.form _ _ _ _ _ _ _ _ _ c.take_while-digits.ensures.occurrences
+    c.from.ensures c.new.ensures.start
     c.new.ensures.end c.max_nibbles-most.ensures
     c.in-Ok.ensures.ran.0) in
-    let bytes = c.as_bstr-bytes.ensures ∙ hex_bytes g.Input.Stream.seen_as g.Input.Token.AsChar.code g.Input.Stream.reading
+    let bytes = c.as_bstr-bytes.ensures
+    ∙ hex_bytes g.Input.Stream.seen_as g.Input.Token.AsChar.code g.Input.Stream.reading
     g.Output.HexUint.nibbles g.met.Output.HexUint.holds_some
     g.Input.SlicesAsBytes.bytes_of g.Input.SlicesAsBytes.bytes_add
     g.met.Input.SlicesAsBytes.ascii_byte _ c.in-Ok.slice _ _
@@ -75,10 +81,12 @@ returns-in-Ok-clause-ran g c =
     g.Output.HexUint.nibbles g.met.Output.HexUint.holds_some
     g.Error.ParserError.form _ c.in-Ok.slice _
     (hex_runs g.Input.Stream.seen_as g.Input.Token.AsChar.code g.Input.Stream.reading
-    g.Error.ParserError.form _ _ _ _ _ _ _ _ _ c.take_while-digits.ensures.occurrences c.from.ensures c.new.ensures.start
+    g.Error.ParserError.form _ _ _ _ _ _ _ _ _ c.take_while-digits.ensures.occurrences
+    c.from.ensures c.new.ensures.start
     c.new.ensures.end c.max_nibbles-most.ensures
     c.in-Ok.ensures.ran.0) in
-    let bytes = c.as_bstr-bytes.ensures ∙ hex_bytes g.Input.Stream.seen_as g.Input.Token.AsChar.code g.Input.Stream.reading
+    let bytes = c.as_bstr-bytes.ensures
+    ∙ hex_bytes g.Input.Stream.seen_as g.Input.Token.AsChar.code g.Input.Stream.reading
     g.Output.HexUint.nibbles g.met.Output.HexUint.holds_some
     g.Input.SlicesAsBytes.bytes_of g.Input.SlicesAsBytes.bytes_add
     g.met.Input.SlicesAsBytes.ascii_byte _ c.in-Ok.slice _ _
@@ -96,6 +104,7 @@ returns-clause-ran g c =
     g.Output.HexUint.nibbles g.met.Output.HexUint.holds_some
     g.Output.HexUint.number g.Error.ParserError.form _ _ _
     (hex_runs g.Input.Stream.seen_as g.Input.Token.AsChar.code g.Input.Stream.reading
-    g.Error.ParserError.form _ _ _ _ _ _ _ _ _ c.take_while-digits.ensures.occurrences c.from.ensures c.new.ensures.start
+    g.Error.ParserError.form _ _ _ _ _ _ _ _ _ c.take_while-digits.ensures.occurrences
+    c.from.ensures c.new.ensures.start
     c.new.ensures.end c.max_nibbles-most.ensures
     c.in-Err.ensures.ran.0)
