@@ -16,6 +16,7 @@ use stream_errors::empty::EmptyError;
 use stream_errors::input_error::InputError;
 use stream_errors::mode::ErrMode;
 use stream_errors::parser_error::ParserError;
+use stream_sets::as_bstr::{AsBStr, SlicesAsBytes};
 use stream_sets::as_char::AsChar;
 use stream_sets::caseless::Caseless;
 use stream_sets::compare::Compare;
@@ -157,11 +158,12 @@ fn at_text<
         + Compare<Caseless<&'static str>>
         + FindSlice<char>
         + FindSlice<&'static str>
-        + FindSlice<(char, char)>,
+        + FindSlice<(char, char)>
+        + SlicesAsBytes,
     E: ParserError<I>,
 >(rt: &impl Abort)
 where
-    I::Slice: PartialEq + Debug,
+    I::Slice: AsBStr + PartialEq + Debug,
 {
     token::at_text::<I, E>(rt);
     parser::at_text::<I, E>(rt);
@@ -178,7 +180,8 @@ fn at_bytes<
         + Compare<&'static str>
         + Compare<&'static [u8]>
         + Compare<&'static [u8; 2]>
-        + FindSlice<(char, char)>,
+        + FindSlice<(char, char)>
+        + SlicesAsBytes,
     E: ParserError<I>,
 >(rt: &impl Abort, asserted: Kind)
 where
@@ -223,10 +226,16 @@ fn bytes_under_plain_errors(rt: HostRuntime) {
 fn cut_text_under_plain_errors(rt: HostRuntime) {
     token::at_plain_errors::<Partial<&str>, EmptyError>(&rt);
     ascii::line_ends::at_plain_errors::<Partial<&str>, EmptyError>(&rt);
+    ascii::numbers::at_plain_errors::<Partial<&str>, EmptyError>(&rt);
 }
 
 #[test]
 fn token_list(rt: HostRuntime) {
     let tokens = TokenSlice::new(&[7, 8]);
     token::any_of_items::<_, Modal>(&rt, tokens, &7, TokenSlice::new(&[8]));
+}
+
+#[test]
+fn numbers_by_types(rt: HostRuntime) {
+    ascii::numbers::by_types(&rt);
 }

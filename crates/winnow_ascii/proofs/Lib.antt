@@ -1,2 +1,6 @@
 mod ClassLemmas
+mod DecimalLemmas
+mod DecimalRuns
+mod HexLemmas
 mod LineEndLemmas
+mod NumeralLemmas

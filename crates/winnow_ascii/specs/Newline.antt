@@ -10,4 +10,5 @@ pub mod Laws
 -- lists that `spells` says.
 abbrev pub NewlineRuns : {T S : Type 0} → (ℕ → List T → Type 0) → Reading T S → ErrorForm → Input T
     → Answer ℕ → Input T → Type 0
-NewlineRuns spells reading form i answer j = LiteralRuns reading form (spells 10) (λ _. 10) i answer j
+NewlineRuns spells reading form i answer j =
+    LiteralRuns reading form (spells 10) (λ _. 10) i answer j

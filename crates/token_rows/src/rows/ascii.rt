@@ -1,6 +1,7 @@
-//! Parsers of ASCII's classes of characters, and of line ends.
+//! Parsers of ASCII's classes of characters, of line ends and of numbers as text.
 mod classes;
 pub(crate) mod line_ends;
+pub(crate) mod numbers;
 
 use crate::rows::{Modal, answers_each, ends_each, same};
 use outcomes::Ending::Takes;
@@ -10,6 +11,7 @@ use outcomes::{BACKTRACKS, Kind, lacks, outcome_with};
 use std::fmt::Debug;
 use std::process::Abort;
 use stream_errors::parser_error::ParserError;
+use stream_sets::as_bstr::{AsBStr, SlicesAsBytes};
 use stream_sets::as_char::AsChar;
 use stream_sets::compare::Compare;
 use stream_sets::find::FindSlice;
@@ -28,12 +30,12 @@ where
 
 /// The rows at a stream.
 pub(crate) fn at_stream<
-    I: OfText + Compare<char> + Compare<&'static str> + FindSlice<(char, char)>,
+    I: OfText + SlicesAsBytes + Compare<char> + Compare<&'static str> + FindSlice<(char, char)>,
     E: ParserError<I>,
 >(rt: &impl Abort)
 where
     I::Token: AsChar,
-    I::Slice: PartialEq + Debug,
+    I::Slice: AsBStr + PartialEq + Debug,
 {
     digit1::<I, E>(rt);
     digit1_on_cut_input::<I, E>(rt);
@@ -45,6 +47,7 @@ where
     multispace1_on_cut_input::<I, E>(rt);
     classes::classes::<I, E>(rt);
     line_ends::at_stream::<I, E>(rt);
+    numbers::at_stream::<I, E>(rt);
 }
 
 /// The function that is a parser answers and leaves so on the whole text.

@@ -115,11 +115,11 @@ where
 /// What stands before the first carriage return or line feed, which stays unread, or all of a whole
 /// input with neither; the output is the slice of the input.
 ///
-/// On a cut input with neither it is incomplete with an unknown need, and consumes nothing; under an
-/// error type with no mode it answers all that is left there too. Where what follows is a carriage
-/// return without a line feed, it backtracks, and the input stands at the carriage return; where a
-/// cut input ends behind that, it is incomplete with an unknown need, and the input stands there
-/// too.
+/// On a cut input with neither it is incomplete with an unknown need, and consumes nothing; under
+/// an error type with no mode it answers all that is left there too. Where what follows is a
+/// carriage return without a line feed, it backtracks, and the input stands at the carriage return;
+/// where a cut input ends behind that, it is incomplete with an unknown need, and the input stands
+/// there too.
 ///
 /// ```text
 /// till_line_ending(&mut b"ab\r\n".as_slice())   is Ok(b"ab"), and b"\r\n" is left

@@ -29,7 +29,8 @@ impl<I: StreamIsPartial + Compare<&'static str>, E: ParserError<I>> Parser<I, I:
 
     ghost meaning = { λ form. Keeps (λ _. LineEndingRuns I.spells I.reading form) };
 
-    ghost leaves_ends = { λ form x i answer y j r. line_ending_ends I.spells I.reading form i answer j r.0 };
+    ghost leaves_ends = { λ form x i answer y j r. line_ending_ends I.spells I.reading form i
+        answer j r.0 };
 
     #[inline(always)]
     fn parse_next(&mut self, input: &mut I) -> Result<I::Slice, E> {

@@ -28,7 +28,8 @@ impl<I: StreamIsPartial + Compare<char>, E: ParserError<I>> Parser<I, char, E> f
 
     ghost meaning = { λ form. Keeps (λ _. TabRuns I.spells I.reading form) };
 
-    ghost leaves_ends = { λ form x i answer y j r. tab_ends I.spells I.reading form i answer j r.0 };
+    ghost leaves_ends = { λ form x i answer y j r. tab_ends I.spells I.reading form i answer j
+        r.0 };
 
     #[inline(always)]
     fn parse_next(&mut self, input: &mut I) -> Result<char, E> {

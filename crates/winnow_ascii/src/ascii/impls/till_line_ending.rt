@@ -1,7 +1,8 @@
 //! What stands before a line end.
 ghost use Rattle.std.specs.Prelude.{⊤};
 ghost use Rattle.winnow_ascii.specs.TillLineEnding.{TillLineEndingRuns};
-ghost use Rattle.winnow_ascii.specs.TillLineEnding.Laws.{till_line_ending_alike, till_line_ending_ends};
+ghost use Rattle.winnow_ascii.specs.TillLineEnding.Laws.{till_line_ending_alike};
+ghost use Rattle.winnow_ascii.specs.TillLineEnding.Laws.{till_line_ending_ends};
 ghost use Rattle.winnow_core.specs.Agrees.{agrees_plain};
 ghost use Rattle.winnow_core.specs.Runs.{Keeps};
 
@@ -33,7 +34,8 @@ impl<
 
     ghost meaning = { λ form. Keeps (λ _. TillLineEndingRuns I.spells I.sought I.reading form) };
 
-    ghost leaves_ends = { λ form x i answer y j r. till_line_ending_ends I.spells I.sought I.reading form i answer j r.0 };
+    ghost leaves_ends = { λ form x i answer y j r. till_line_ending_ends I.spells I.sought
+        I.reading form i answer j r.0 };
 
     #[inline(always)]
     fn parse_next(&mut self, input: &mut I) -> Result<I::Slice, E> {
@@ -52,5 +54,6 @@ impl<
 > AgreesWith<I, I::Slice, E, TillLineEnding, J, F> for TillLineEnding {
     ghost like = { λ p q. ⊤ };
 
-    ghost agrees = { agrees_plain (till_line_ending_alike I.same_reading I.same_spells I.same_sought) };
+    ghost agrees = { agrees_plain
+        (till_line_ending_alike I.same_reading I.same_spells I.same_sought) };
 }

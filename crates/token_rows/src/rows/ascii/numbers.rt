@@ -1,0 +1,209 @@
+//! Numbers as text.
+use crate::rows::{answers, ends_each, same};
+use outcomes::Ending::{Fails, Takes};
+use outcomes::Kind::{self, Backtrack, Incomplete};
+use outcomes::texts::OfText;
+use outcomes::{BACKTRACKS, Ending, lacks};
+use std::process::Abort;
+use stream_errors::parser_error::ParserError;
+use stream_sets::as_bstr::{AsBStr, SlicesAsBytes};
+use stream_sets::as_char::AsChar;
+use streams::needed::Needed;
+use winnow_ascii::ascii::impls::{DecInt, DecUint, HexUintParser};
+use winnow_ascii::ascii::{Int, Uint};
+
+/// A run that passed so many units and needs one more.
+fn stops(taken: usize) -> Ending {
+    Fails(Incomplete(Needed::new(1)), taken)
+}
+
+/// The rows at a stream.
+pub(crate) fn at_stream<I: OfText + SlicesAsBytes, E: ParserError<I>>(rt: &impl Abort)
+where
+    I::Token: AsChar,
+    I::Slice: AsBStr,
+{
+    dec_uint::<I, E>(rt);
+    dec_int::<I, E>(rt);
+    hex_uint::<I, E>(rt);
+    dec_uint_on_cut_input::<I, E>(rt);
+    dec_int_on_cut_input::<I, E>(rt);
+    hex_uint_on_cut_input::<I, E>(rt);
+}
+
+fn dec_uint<I: OfText + SlicesAsBytes, E: ParserError<I>>(rt: &impl Abort)
+where
+    I::Token: AsChar,
+    I::Slice: AsBStr,
+{
+    let rows: [(&str, Result<u8, Kind>, &str); 9] = [
+        ("0", Ok(0), ""),
+        ("01", Ok(0), "1"),
+        ("12;", Ok(12), ";"),
+        ("255", Ok(255), ""),
+        ("256", Err(Backtrack), "256"),
+        ("300a", Err(Backtrack), "300a"),
+        ("+1", Err(Backtrack), "+1"),
+        ("", Err(Backtrack), ""),
+        ("٣", Err(Backtrack), "٣"),
+    ];
+    for (text, want, rest) in rows {
+        answers::<I, u8, E, _>(rt, "dec_uint", DecUint, text, want, rest);
+    }
+    for (text, want) in [
+        ("18446744073709551615", Ok(u64::MAX)),
+        ("18446744073709551616", Err(Backtrack)),
+    ] {
+        let rest = if want == Err(Backtrack) { text } else { "" };
+        answers::<I, u64, E, _>(rt, "dec_uint", DecUint, text, want, rest);
+    }
+}
+
+fn dec_int<I: OfText + SlicesAsBytes, E: ParserError<I>>(rt: &impl Abort)
+where
+    I::Token: AsChar,
+    I::Slice: AsBStr,
+{
+    let rows: [(&str, Result<i8, Kind>, &str); 10] = [
+        ("+127", Ok(127), ""),
+        ("-128", Ok(-128), ""),
+        ("128", Err(Backtrack), "128"),
+        ("-129", Err(Backtrack), "-129"),
+        ("-0", Err(Backtrack), "-0"),
+        ("0-", Ok(0), "-"),
+        ("-7é", Ok(-7), "é"),
+        ("+-1", Err(Backtrack), "+-1"),
+        ("-", Err(Backtrack), "-"),
+        ("", Err(Backtrack), ""),
+    ];
+    for (text, want, rest) in rows {
+        answers::<I, i8, E, _>(rt, "dec_int", DecInt, text, want, rest);
+    }
+    answers::<I, i32, E, _>(rt, "dec_int", DecInt, "-0", Err(Backtrack), "-0");
+}
+
+fn hex_uint<I: OfText + SlicesAsBytes, E: ParserError<I>>(rt: &impl Abort)
+where
+    I::Token: AsChar,
+    I::Slice: AsBStr,
+{
+    let rows: [(&str, Result<u8, Kind>, &str); 7] = [
+        ("fA;", Ok(0xFA), ";"),
+        ("0", Ok(0), ""),
+        ("9g", Ok(9), "g"),
+        ("00é", Ok(0), "é"),
+        ("fff", Err(Backtrack), "fff"),
+        (";", Err(Backtrack), ";"),
+        ("", Err(Backtrack), ""),
+    ];
+    for (text, want, rest) in rows {
+        answers::<I, u8, E, _>(rt, "hex_uint", HexUintParser, text, want, rest);
+    }
+    let all = "0123456789aBcDeF";
+    let want = Ok(0x0123456789ABCDEFu64);
+    answers::<I, u64, E, _>(rt, "hex_uint", HexUintParser, all, want, "");
+    let want = Ok(0xFFFF_FFFF_FFFF_FFFFusize);
+    answers::<I, usize, E, _>(rt, "hex_uint", HexUintParser, "FFFFFFFFFFFFFFFF", want, "");
+}
+
+fn dec_uint_on_cut_input<I: OfText + SlicesAsBytes, E: ParserError<I>>(rt: &impl Abort)
+where
+    I::Token: AsChar,
+    I::Slice: AsBStr,
+{
+    let rows = [
+        ("0", Takes(1), Takes(1)),
+        ("12", Takes(2), stops(1)),
+        ("9", Takes(1), stops(1)),
+        ("12;", Takes(2), Takes(2)),
+        ("999", BACKTRACKS, stops(1)),
+        ("999;", BACKTRACKS, BACKTRACKS),
+        ("", BACKTRACKS, lacks(1)),
+        (";", BACKTRACKS, BACKTRACKS),
+    ];
+    ends_each::<I, u8, E, _>(rt, "dec_uint", DecUint, &rows);
+}
+
+fn dec_int_on_cut_input<I: OfText + SlicesAsBytes, E: ParserError<I>>(rt: &impl Abort)
+where
+    I::Token: AsChar,
+    I::Slice: AsBStr,
+{
+    let rows = [
+        ("-", BACKTRACKS, stops(1)),
+        ("-1", Takes(2), stops(2)),
+        ("+12", Takes(3), stops(2)),
+        ("12", Takes(2), stops(1)),
+        ("-12;", Takes(3), Takes(3)),
+        ("0", Takes(1), Takes(1)),
+        ("-0", BACKTRACKS, BACKTRACKS),
+        ("", BACKTRACKS, lacks(1)),
+    ];
+    ends_each::<I, i8, E, _>(rt, "dec_int", DecInt, &rows);
+}
+
+fn hex_uint_on_cut_input<I: OfText + SlicesAsBytes, E: ParserError<I>>(rt: &impl Abort)
+where
+    I::Token: AsChar,
+    I::Slice: AsBStr,
+{
+    let rows = [
+        ("", BACKTRACKS, lacks(1)),
+        ("f", Takes(1), lacks(1)),
+        ("f;", Takes(1), Takes(1)),
+        ("ff", Takes(2), Takes(2)),
+        ("fff", BACKTRACKS, BACKTRACKS),
+        (";", BACKTRACKS, BACKTRACKS),
+    ];
+    ends_each::<I, u8, E, _>(rt, "hex_uint", HexUintParser, &rows);
+}
+
+/// The rows at a stream under an error that is plain.
+pub(crate) fn at_plain_errors<I: OfText + SlicesAsBytes, E: ParserError<I>>(rt: &impl Abort)
+where
+    I::Token: AsChar,
+    I::Slice: AsBStr,
+{
+    let none = BACKTRACKS;
+    let rows = [
+        ("", none, none),
+        ("12", Takes(2), none),
+        ("0", Takes(1), Takes(1)),
+    ];
+    ends_each::<I, u8, E, _>(rt, "dec_uint", DecUint, &rows);
+    let rows = [
+        ("-", none, none),
+        ("-12", Takes(3), none),
+        ("-1;", Takes(2), Takes(2)),
+    ];
+    ends_each::<I, i8, E, _>(rt, "dec_int", DecInt, &rows);
+    let rows = [("f", Takes(1), none), ("ff", Takes(2), Takes(2))];
+    ends_each::<I, u8, E, _>(rt, "hex_uint", HexUintParser, &rows);
+}
+
+/// What the types read of texts, by their own readers.
+pub(crate) fn by_types(rt: &impl Abort) {
+    for (text, want) in [("+255", Some(255)), ("256", None), ("-1", None), ("", None)] {
+        same(
+            rt,
+            "try_from_dec_uint",
+            text,
+            u8::try_from_dec_uint(text),
+            want,
+        );
+    }
+    for (text, want) in [
+        ("-128", Some(-128)),
+        ("+0", Some(0)),
+        ("128", None),
+        ("+", None),
+    ] {
+        same(
+            rt,
+            "try_from_dec_int",
+            text,
+            i8::try_from_dec_int(text),
+            want,
+        );
+    }
+}
