@@ -79,13 +79,19 @@ pub use Rattle.winnow_token.specs.TakeUntil
 pub use Rattle.winnow_token.specs.Before
 pub use Rattle.winnow_token.specs.Rest
 pub use Rattle.winnow_token.specs.Literal as LiteralParser
--- Classes of ASCII characters, and line ends.
+-- Classes of ASCII characters, line ends, and numbers as text.
 pub use Rattle.winnow_ascii.specs.Class
 pub use Rattle.winnow_ascii.specs.Crlf
 pub use Rattle.winnow_ascii.specs.LineEnding
 pub use Rattle.winnow_ascii.specs.Newline
 pub use Rattle.winnow_ascii.specs.Tab
 pub use Rattle.winnow_ascii.specs.TillLineEnding
+pub use Rattle.winnow_ascii.specs.Digits
+pub use Rattle.winnow_ascii.specs.DecimalText
+pub use Rattle.winnow_ascii.specs.Numeral
+pub use Rattle.winnow_ascii.specs.DecUint
+pub use Rattle.winnow_ascii.specs.DecInt
+pub use Rattle.winnow_ascii.specs.HexUint
 -- Choice, options, sequence and repetition.
 pub use Rattle.winnow_comb.specs.Opt
 pub use Rattle.winnow_comb.specs.Cond
