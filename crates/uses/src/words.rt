@@ -3,9 +3,9 @@
 
 ghost use Rattle.std.specs.Prelude.{◌≡◌, ◌<◌, ◌∷◌, ◌++◌, length, IfOk};
 
+use winnow::Parser;
 use winnow::ascii::alpha1;
 use winnow::error::EmptyError;
-use winnow::Parser;
 
 /// A word at the front of bytes: at least one letter, and the word and the rest are the input.
 #[tactic(auto, using(winnow::specs::Rules::known_takes))]
