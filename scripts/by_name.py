@@ -8,8 +8,9 @@ Run it at the top of the repository:
 A public parser is a struct in a file of its own under `src/*/impls/` of a library crate, and its
 name is that of the file. It has a row in `docs/PARSERS.md`, which links its definition, a file of
 `specs/`; a test, a function of a crate of rows whose name begins with the parser's, or a row that is
-labelled with it; and an edit that the prover must refuse, `must-fail/NAME_*.edit`. It fails where
-one lacks any of these.
+labelled with it; and an edit that the prover must refuse, `must-fail/NAME_*.edit`, of its crate or of
+one that it stands on, where no longer parser's name begins the edit's. It fails where one lacks any
+of these.
 """
 import pathlib
 import re
@@ -46,7 +47,26 @@ def tests():
     return {name for pair in names for name in pair if name}
 
 
-def lacks(crate, name, table, names):
+def below():
+    """Each crate's own name and those of the crates that it stands on."""
+    found = {}
+    for line in (TOP / "crates.txt").read_text(encoding="utf-8").splitlines():
+        name, colon, others = line.partition(":")
+        if colon and not line.startswith("#"):
+            found[name.strip()] = {name.strip(), *others.split()}
+    return found
+
+
+def edits():
+    """The edits, each by its crate and the longest of the parsers' names that its own begins with."""
+    known = {name for _, name in parsers()}
+    for path in CRATES.glob("*/must-fail/*.edit"):
+        names = [name for name in known if path.stem.startswith(name + "_")]
+        if names:
+            yield path.relative_to(CRATES).parts[0], max(names, key=len)
+
+
+def lacks(crate, name, table, names, edited, on):
     """What the parser lacks, in words."""
     if name not in table:
         yield "a row in docs/PARSERS.md"
@@ -54,13 +74,17 @@ def lacks(crate, name, table, names):
         yield "a definition that its row links"
     if not any(test == name or test.startswith(name + "_") for test in names):
         yield "a test in a crate of rows"
-    if not list(CRATES.glob("*/must-fail/%s_*.edit" % name)):
+    if not any((at, name) in edited for at in on[crate]):
         yield "an edit that must fail"
 
 
 def main():
-    table, names = rows(), tests()
-    missing = [(crate, name, what) for crate, name in parsers() for what in lacks(crate, name, table, names)]
+    table, names, edited, on = rows(), tests(), set(edits()), below()
+    missing = [
+        (crate, name, what)
+        for crate, name in parsers()
+        for what in lacks(crate, name, table, names, edited, on)
+    ]
     for crate, name, what in missing:
         print("%s: %s lacks %s" % (crate, name, what))
     return 1 if missing else 0
