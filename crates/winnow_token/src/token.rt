@@ -36,6 +36,8 @@ use winnow_core::short::short;
 /// It fails, and consumes nothing, where the literal does not stand first. Where a cut input is a
 /// proper beginning of it, it is incomplete with an unknown need.
 ///
+/// Known as `tag` in nom and in older winnow.
+///
 /// ```text
 /// literal(b"ab").parse_next(&mut b"abc".as_slice())   is Ok(b"ab"), and b"c" is left
 /// ```
@@ -59,6 +61,8 @@ where
 /// It fails, and consumes nothing, where there are too few. On a cut input it is incomplete where
 /// all that is left are members and more could be taken: the need is what is missing to the least
 /// count, and at least 1, in units. A greatest count below the least is an assert error.
+///
+/// Known as `take_while`, `take_while1`, `take_while_m_n` and `is_a` in nom.
 ///
 /// ```text
 /// let digit = Pred(|b: u8| b.is_ascii_digit());
@@ -88,6 +92,8 @@ where
 /// It is [`take_while`](crate::token::take_while) over the tokens outside the set, and fails and is
 /// incomplete as that is.
 ///
+/// Known as `take_till`, `take_till1` and `is_not` in nom.
+///
 /// ```text
 /// take_till(Range::from(0..), b';').parse_next(&mut b"ab;c".as_slice())
 ///     is Ok(b"ab"), and b";c" is left
@@ -113,6 +119,8 @@ where
 ///
 /// Where none is left it fails, and on a cut input it is incomplete with a need of 1 unit.
 ///
+/// Known as `anychar` in nom.
+///
 /// ```text
 /// any(&mut b"ab".as_slice())   is Ok(b'a'), and b"b" is left
 /// ```
@@ -134,6 +142,8 @@ pub fn any<Input: StreamIsPartial, Error: ParserError<Input>>(
 ///
 /// It fails, and consumes nothing, on another token and where none is left; on a cut input with
 /// nothing left it is incomplete with a need of 1 unit.
+///
+/// Known as `satisfy`, `one_of` and `char` in nom.
 ///
 /// ```text
 /// one_of((b'+', b'-')).parse_next(&mut b"-1".as_slice())   is Ok(b'-'), and b"1" is left
@@ -209,6 +219,8 @@ where
 /// match behind fewer tokens than the least is the same, and one behind more than the greatest
 /// fails; without one, in the form `1..`, a match at the start fails. Nothing is then consumed. A
 /// greatest count below the least is an assert error.
+///
+/// Known as `take_until` and `take_until1` in nom.
 ///
 /// ```text
 /// take_until(Range::from(0..), b"-->".as_slice()).parse_next(&mut b"ab-->c".as_slice())

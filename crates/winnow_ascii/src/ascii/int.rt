@@ -108,6 +108,8 @@ impl Int for isize {
 /// the first digit that are there. The need is 1 unit. Under an error type with no mode it
 /// backtracks instead, and consumes nothing.
 ///
+/// Known as `i8` to `i128` of `character::complete` in nom.
+///
 /// ```text
 /// dec_int::<_, i8, _>(&mut b"-12;".as_slice())   is Ok(-12), and b";" is left
 /// dec_int::<_, i8, _>(&mut b"-0".as_slice())     backtracks, and b"-0" is left

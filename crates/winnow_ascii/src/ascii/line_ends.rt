@@ -121,6 +121,8 @@ where
 /// where a cut input ends behind that, it is incomplete with an unknown need, and the input stands
 /// there too.
 ///
+/// Known as `not_line_ending` in nom.
+///
 /// ```text
 /// till_line_ending(&mut b"ab\r\n".as_slice())   is Ok(b"ab"), and b"\r\n" is left
 /// till_line_ending(&mut b"ab".as_slice())       is Ok(b"ab"), and nothing is left

@@ -106,6 +106,8 @@ impl Uint for usize {
 /// behind the first digit. The need is 1 unit. Under an error type with no mode it backtracks
 /// instead, and consumes nothing.
 ///
+/// Known as `u8` to `u128` of `character::complete` in nom.
+///
 /// ```text
 /// dec_uint::<_, u8, _>(&mut b"12;".as_slice())   is Ok(12), and b";" is left
 /// dec_uint::<_, u8, _>(&mut b"01".as_slice())    is Ok(0), and b"1" is left

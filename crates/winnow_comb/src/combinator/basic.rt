@@ -136,6 +136,8 @@ where
 /// An output is handed on, and so is an error that cuts, is incomplete or wants memory. The input
 /// stands where `parser` left it.
 ///
+/// Known as `cut` in nom.
+///
 /// ```text
 /// cut_err(b'a').parse_next(&mut b"b".as_slice())   cuts, and b"b" is left
 /// ```

@@ -82,6 +82,8 @@ where
 ///
 /// The first failure is handed on, with the input as the failing parser left it.
 ///
+/// Known as `separated_pair` in nom.
+///
 /// ```text
 /// separated_pair(b'a', b'=', b'b').parse_next(&mut b"a=b".as_slice())
 ///     is Ok((b'a', b'b')), and nothing is left
@@ -118,6 +120,8 @@ where
 /// documentation has it.
 ///
 /// The first failure is handed on, with the input as the failing parser left it.
+///
+/// Known as `between` in other libraries.
 ///
 /// ```text
 /// delimited(b'(', b'a', b')').parse_next(&mut b"(a);".as_slice())   is Ok(b'a'), and b";" is left
