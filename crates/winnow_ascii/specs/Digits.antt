@@ -10,7 +10,9 @@ IsIn {K} seen code class t = (x : K) × (seen x ≡ t) × class (code x)
 -- No character of the class stands first: nothing does, or another character.
 abbrev pub NoneFirst : {K T : Type 0} → (K → T) → (K → ℕ) → (ℕ → Type 0) → List T → Type 0
 NoneFirst {K} {T} seen code class tokens =
+    -- nothing is left
     (tokens ≡ [])
+    -- another character stands first
     ⊎ ((t : T) × (rest : List T) × (tokens ≡ t ∷ rest) × IsIn seen code (λ c. class c → ⊥) t)
 
 -- A character of the class stands first.

@@ -21,8 +21,10 @@ IsLeadingDigit c = (49 ≤ c) × (c ≤ 57)
 abbrev pub SignRuns : {K T S : Type 0} → (K → T) → (K → ℕ) → Reading T S → Bool → Input T
     → List ℕ → Input T → Type 0
 SignRuns {K} seen code reading signed i sign j =
+    -- a sign may stand, and one stands first
     ((x : K) × (signed ≡ true) × IsSign (code x) × Passes reading (seen x ∷ []) i j
     × (sign ≡ code x ∷ []))
+    -- none does
     ⊎ ((signed ≡ true → NoneFirst seen code IsSign i.left.tokens) × (sign ≡ []) × (j ≡ i))
 
 -- Digits are passed: a lone '0', where it may stand; or a digit from 1 to 9 and all digits after
@@ -30,8 +32,10 @@ SignRuns {K} seen code reading signed i sign j =
 abbrev pub DigitsRuns : {K T S : Type 0} → (K → T) → (K → ℕ) → Reading T S → Bool → Input T
     → List ℕ → Input T → Type 0
 DigitsRuns {K} {T} seen code reading zero i digits j =
+    -- a lone '0'
     ((x : K) × (zero ≡ true) × (code x ≡ 48) × Passes reading (seen x ∷ []) i j
     × (digits ≡ 48 ∷ []))
+    -- a digit from 1 to 9 and those after it: another character follows, or a whole input ends
     ⊎ ((front : List T) × (first : ℕ) × (others : List ℕ) × (digits ≡ first ∷ others)
     × IsLeadingDigit first × AllByRecursion IsDecDigit others × Passes reading front i j
     × AreCharacters seen code front digits × NoneFirst seen code IsDecDigit j.left.tokens
@@ -42,14 +46,18 @@ DigitsRuns {K} {T} seen code reading zero i digits j =
 abbrev pub LacksDigits : {K T S : Type 0} → (K → T) → (K → ℕ) → Reading T S → Input T → Input T
     → Type 0
 LacksDigits {K} seen code reading i j =
+    -- nothing is left
     ((i.left.tokens ≡ []) × (j ≡ i))
+    -- the first digit is passed, and nothing but digits is left
     ⊎ ((x : K) × IsLeadingDigit (code x) × Passes reading (seen x ∷ []) i j
     × All (IsIn seen code IsDecDigit) j.left.tokens)
 
 -- No digits stand first: nothing does, or another character.
 abbrev pub NoDigits : {K T : Type 0} → (K → T) → (K → ℕ) → Bool → Input T → Type 0
 NoDigits {K} {T} seen code zero i =
+    -- a whole input has nothing left
     ((i.left.tokens ≡ []) × (i.status.cut ≡ false))
+    -- another character stands first, or a '0' that may not
     ⊎ ((x : K) × (rest : List T) × (i.left.tokens ≡ seen x ∷ rest)
     × (IsLeadingDigit (code x) → ⊥) × (zero ≡ true → code x ≡ 48 → ⊥))
 

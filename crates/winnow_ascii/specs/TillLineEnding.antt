@@ -21,9 +21,11 @@ HasNoLineEnd {T} sought tokens =
 abbrev pub LineRuns : {T S : Type 0} → (ℕ × ℕ → List T → Type 0) → Reading T S → ErrorForm
     → Input T → S → Input T → Type 0
 LineRuns sought reading form i slice j =
+    -- what stands before the first match
     ((start : ℕ) × (end : ℕ)
     × (m : IsFirstMatch reading.units (sought (13, 10)) i.left.tokens start end)
     × Takes reading m.front i slice j)
+    -- all that is left
     ⊎ (HasNoLineEnd sought i.left.tokens × ShortKind form None i backtrack
     × Takes reading i.left.tokens i slice j × (j.left.tokens ≡ []))
 

@@ -20,12 +20,17 @@ use winnow_ascii::ascii;
 use winnow_ascii::ascii::impls::{Alphanumeric1, Digit1, Multispace1, Space0};
 
 /// The rows of places, and of the stream beside its partial one.
-pub(crate) fn at_places<I: OfText>(rt: &impl Abort)
+pub(crate) fn at_places<
+    I: OfText + SlicesAsBytes + Compare<char> + Compare<&'static str> + FindSlice<(char, char)>,
+>(rt: &impl Abort)
 where
     I::Token: AsChar,
+    I::Slice: AsBStr,
 {
     classes::places::<LocatingSlice<I>, Modal>(rt);
     classes::complete_streams::<I, Modal>(rt);
+    line_ends::complete_streams::<I, Modal>(rt);
+    numbers::complete_streams::<I, Modal>(rt);
 }
 
 /// The rows at a stream.

@@ -1,8 +1,8 @@
 //! Line ends, and what stands before one.
-use crate::rows::{answers, answers_each, ends_each};
+use crate::rows::{answers, answers_each, ends_each, same};
 use outcomes::Ending::{Fails, Takes};
 use outcomes::Kind::{self, Backtrack, Incomplete};
-use outcomes::texts::OfText;
+use outcomes::texts::{OfText, endings_alike};
 use outcomes::{BACKTRACKS, LACKS};
 use std::fmt::Debug;
 use std::process::Abort;
@@ -10,6 +10,7 @@ use stream_errors::parser_error::ParserError;
 use stream_sets::compare::Compare;
 use stream_sets::find::FindSlice;
 use streams::needed::Needed;
+use streams::partial::Partial;
 use winnow_ascii::ascii::impls::{Crlf, LineEnding, Newline, Tab, TillLineEnding};
 
 /// The rows at a stream.
@@ -147,4 +148,21 @@ pub(crate) fn at_plain_errors<
         ("ab\r", lone, lone),
     ];
     ends_each::<I, _, E, _>(rt, "till_line_ending", TillLineEnding, &rows);
+}
+
+/// How the parsers end, and on the partial stream that is marked complete.
+pub(crate) fn complete_streams<I, E>(rt: &impl Abort)
+where
+    I: OfText + Compare<char> + Compare<&'static str> + FindSlice<(char, char)>,
+    E: ParserError<I> + ParserError<Partial<I>>,
+{
+    let text = "\r";
+    let got = [
+        endings_alike::<I, _, E, _, _>(Crlf, Crlf, text),
+        endings_alike::<I, char, E, _, _>(Newline, Newline, text),
+        endings_alike::<I, char, E, _, _>(Tab, Tab, text),
+        endings_alike::<I, _, E, _, _>(LineEnding, LineEnding, text),
+        endings_alike::<I, _, E, _, _>(TillLineEnding, TillLineEnding, text),
+    ];
+    same(rt, "complete", text, got, [(BACKTRACKS, BACKTRACKS); 5]);
 }

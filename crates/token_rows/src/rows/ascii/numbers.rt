@@ -2,15 +2,16 @@
 use crate::rows::{answers, ends_each, same};
 use outcomes::Ending::{Fails, Takes};
 use outcomes::Kind::{self, Backtrack, Incomplete};
-use outcomes::texts::OfText;
+use outcomes::texts::{OfText, endings_alike};
 use outcomes::{BACKTRACKS, Ending, lacks};
 use std::process::Abort;
 use stream_errors::parser_error::ParserError;
 use stream_sets::as_bstr::{AsBStr, SlicesAsBytes};
 use stream_sets::as_char::AsChar;
 use streams::needed::Needed;
+use streams::partial::Partial;
 use winnow_ascii::ascii::impls::{DecInt, DecUint, HexUintParser};
-use winnow_ascii::ascii::{Int, Uint};
+use winnow_ascii::ascii::{HexUint, Int, Uint};
 
 /// A run that passed so many units and needs one more.
 fn stops(taken: usize) -> Ending {
@@ -181,7 +182,24 @@ where
     ends_each::<I, u8, E, _>(rt, "hex_uint", HexUintParser, &rows);
 }
 
-/// What the types read of texts, by their own readers.
+/// How the parsers end, and on the partial stream that is marked complete.
+pub(crate) fn complete_streams<I, E>(rt: &impl Abort)
+where
+    I: OfText + SlicesAsBytes,
+    I::Token: AsChar,
+    I::Slice: AsBStr,
+    E: ParserError<I> + ParserError<Partial<I>>,
+{
+    let text = "12";
+    let got = [
+        endings_alike::<I, u8, E, _, _>(DecUint, DecUint, text),
+        endings_alike::<I, i8, E, _, _>(DecInt, DecInt, text),
+        endings_alike::<I, u16, E, _, _>(HexUintParser, HexUintParser, text),
+    ];
+    same(rt, "complete", text, got, [(Takes(2), Takes(2)); 3]);
+}
+
+/// What the types read of texts, by their own readers, and a digit more.
 pub(crate) fn by_types(rt: &impl Abort) {
     for (text, want) in [("+255", Some(255)), ("256", None), ("-1", None), ("", None)] {
         same(
@@ -206,4 +224,7 @@ pub(crate) fn by_types(rt: &impl Abort) {
             want,
         );
     }
+    same(rt, "push_nibble", "", 0xA_u8.push_nibble(0xB), 0xAB);
+    same(rt, "push_nibble", "", 0xFFF_u16.push_nibble(0xF), u16::MAX);
+    same(rt, "push_nibble", "", 1_u128.push_nibble(2), 18);
 }
