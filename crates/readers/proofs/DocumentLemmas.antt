@@ -3,7 +3,7 @@ use Rattle.std.proofs.Common.{◌≡◌, ◌≢◌, ◌≤◌, ◌<◌, ◌∙�
 use Rattle.std.proofs.Common.{ap, subst, arith, inl, inr, append_assoc, lit<}
 use Rattle.std.specs.List.{All}
 use Rattle.std.proofs.lemmas.List.Elements.{All-append, All-head, All-tail, All-weaker}
-use Rattle.streams.specs.Equal.{same_first, same_others}
+use Rattle.winnow.specs.Equal.{same_first, same_others}
 use Rattle.readers.specs.Pair.{IsKeyByte}
 use Rattle.readers.specs.Document.{IsBlank, IsWhite, IsTrailing, IsCommentByte, IsNameByte}
 use Rattle.readers.specs.Document.{IsValueByte, NotFirst, NotLast, EndsLine, PairBytes, Part, white}

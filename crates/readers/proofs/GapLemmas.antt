@@ -2,15 +2,15 @@
 use Rattle.std.proofs.Common.{◌≡◌, ◌∙◌, ℕ, false, List, [], ◌∷◌, length, None, Ok, Err, refl, sym}
 use Rattle.std.proofs.Common.{ap, subst, arith, inl, inr}
 use Rattle.std.specs.List.{AllByRecursion}
-use Rattle.streams.specs.Input.{Input}
-use Rattle.streams.specs.Kind.{Kind, backtrack}
-use Rattle.stream_errors.specs.Form.{Answer}
-use Rattle.stream_sets.specs.Accumulator.{nothing_kept}
-use Rattle.stream_sets.specs.Range.{greatest_of}
-use Rattle.stream_sets.specs.declared.range.Range.{Range}
-use Rattle.winnow_core.specs.Runs.{Runs}
-use Rattle.winnow_comb.specs.Repeat.{RepeatRuns}
-use Rattle.winnow_comb.specs.Repeat.Known.{Items, repeat_any_err, repeat_any_ok, repeated_by}
+use Rattle.winnow.specs.Input.{Input}
+use Rattle.winnow.specs.Kind.{Kind, backtrack}
+use Rattle.winnow.specs.Form.{Answer}
+use Rattle.winnow.specs.Accumulator.{nothing_kept}
+use Rattle.winnow.specs.Range.{greatest_of}
+use Rattle.winnow.specs.{Range}
+use Rattle.winnow.specs.Runs.{Runs}
+use Rattle.winnow.specs.Repeat.{RepeatRuns}
+use Rattle.winnow.specs.Repeat.Known.{Items, repeat_any_err, repeat_any_ok, repeated_by}
 use Rattle.readers.specs.Document.{Part, Begins, BeginsWith}
 use Rattle.readers.specs.DocumentRuns.{IsGapPart, NoGapBegins}
 use Rattle.readers.proofs.PartRuns.{part_shortens}

@@ -7,15 +7,15 @@ use Rattle.std.specs.Prelude.{MatchOption}
 use Rattle.std.specs.Str.{IsUtf8}
 use Rattle.std.proofs.lemmas.Bool.{cases_eq}
 use Rattle.std.proofs.lemmas.List.Elements.{All-cons, All-head, All-nil, All-tail}
-use Rattle.streams.specs.Input.{Input, back_at}
-use Rattle.streams.specs.Kind.{Kind, backtrack}
-use Rattle.stream_errors.specs.Form.{Answer}
-use Rattle.stream_errors.specs.Form.Known.{at_output, ok_is_err, same_kind}
-use Rattle.winnow_comb.specs.InOrder.Known.{three_err}
-use Rattle.winnow_comb.specs.Opt.{OptRuns}
-use Rattle.winnow_comb.specs.Opt.Known.{opt_err, opt_ok}
-use Rattle.winnow_comb.specs.SeparatedPair.{SeparatedPairRuns}
-use Rattle.winnow_comb.specs.SeparatedPair.Known.{separated_pair_ok}
+use Rattle.winnow.specs.Input.{Input, back_at}
+use Rattle.winnow.specs.Kind.{Kind, backtrack}
+use Rattle.winnow.specs.Form.{Answer}
+use Rattle.winnow.specs.Form.Known.{at_output, ok_is_err, same_kind}
+use Rattle.winnow.specs.InOrder.Known.{three_err}
+use Rattle.winnow.specs.Opt.{OptRuns}
+use Rattle.winnow.specs.Opt.Known.{opt_err, opt_ok}
+use Rattle.winnow.specs.SeparatedPair.{SeparatedPairRuns}
+use Rattle.winnow.specs.SeparatedPair.Known.{separated_pair_ok}
 use Rattle.readers.specs.Pair.{IsKeyByte}
 use Rattle.readers.specs.Document.{IsBlank, IsValueByte, NotFirst, EndsLine, PairBytes, pair}
 use Rattle.readers.specs.Document.{IsRemark, Begins, NoPairBegins}

@@ -4,13 +4,13 @@ use Rattle.std.proofs.Common.{◌++◌, length, None, Some, refl, ap, subst, ari
 use Rattle.std.proofs.Common.{length-append}
 use Rattle.std.specs.List.{All}
 use Rattle.std.proofs.lemmas.List.{append-nil}
-use Rattle.streams.specs.Input.{Input}
-use Rattle.streams.specs.Bytes.{bytes_input}
-use Rattle.streams.specs.Equal.{same_some}
-use Rattle.streams.specs.Kind.{Kind}
-use Rattle.winnow_core.specs.Literal.Known.{TokenMissing, TokenTaken}
-use Rattle.winnow_token.specs.TakeWhile.{IsLongest}
-use Rattle.winnow_token.specs.TakeWhile.Known.{TooFew, Took, none_first, took_all, took_stops}
+use Rattle.winnow.specs.Input.{Input}
+use Rattle.winnow.specs.Bytes.{bytes_input}
+use Rattle.winnow.specs.Equal.{same_some}
+use Rattle.winnow.specs.Kind.{Kind}
+use Rattle.winnow.specs.Literal.Known.{TokenMissing, TokenTaken}
+use Rattle.winnow.specs.TakeWhile.{IsLongest}
+use Rattle.winnow.specs.TakeWhile.Known.{TooFew, Took, none_first, took_all, took_stops}
 use Rattle.readers.specs.Pair.{IsKeyByte, IsPairLine, IsRefusedPair}
 use Rattle.readers.proofs.PairLemmas.{refused_after_key, refused_after_line}
 

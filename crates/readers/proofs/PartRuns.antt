@@ -9,11 +9,11 @@ use Rattle.std.proofs.lemmas.Bool.{cases_eq}
 use Rattle.std.proofs.lemmas.List.Elements.{All-head, All-weaker}
 use Rattle.std.proofs.lemmas.Str.{IsUtf8-from_ascii}
 use Rattle.std.proofs.lemmas.Str.Ascii.{IsAscii-from_all}
-use Rattle.streams.specs.Equal.{same_first, same_others}
-use Rattle.streams.specs.Input.{Input}
-use Rattle.streams.specs.Kind.{Kind}
-use Rattle.stream_sets.specs.AsChar.{IsAlphanum}
-use Rattle.winnow_token.specs.TakeWhile.Known.{TooFew, Took, none_first, took_all, took_stops}
+use Rattle.winnow.specs.Equal.{same_first, same_others}
+use Rattle.winnow.specs.Input.{Input}
+use Rattle.winnow.specs.Kind.{Kind}
+use Rattle.winnow.specs.AsChar.{IsAlphanum}
+use Rattle.winnow.specs.TakeWhile.Known.{TooFew, Took, none_first, took_all, took_stops}
 use Rattle.readers.specs.Pair.{IsKeyByte}
 use Rattle.readers.specs.Document.{IsWhite, IsCommentByte, IsNameByte, NotFirst, EndsLine, Part}
 use Rattle.readers.specs.Document.{white, comment, section, pair, bytes_of, FitsBefore, Begins}

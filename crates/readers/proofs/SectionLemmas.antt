@@ -5,21 +5,21 @@ use Rattle.std.specs.Prelude.{map}
 use Rattle.std.specs.Borrow.{Bor}
 use Rattle.std.specs.List.{AllByRecursion}
 use Rattle.std.specs.declared.vec.Vec.{Vec}
-use Rattle.streams.specs.Bytes.{bytes_reading}
-use Rattle.streams.specs.Input.{Input, IsEndOf}
-use Rattle.streams.specs.Kind.{Kind, backtrack, memory}
-use Rattle.stream_errors.specs.Form.{Answer}
-use Rattle.stream_errors.specs.Form.Known.{at_output, ok_is_err, same_kind}
-use Rattle.stream_sets.specs.Accumulator.{list_kept}
-use Rattle.stream_sets.specs.Range.{greatest_of}
-use Rattle.stream_sets.specs.declared.range.Range.{Range}
-use Rattle.winnow_core.specs.Runs.{Runs}
-use Rattle.winnow_comb.specs.InOrder.Known.{both_err}
-use Rattle.winnow_comb.specs.Repeat.{RepeatRuns}
-use Rattle.winnow_comb.specs.Repeat.Known.{Items, repeat_any_err, repeat_any_ok, repeated_by}
-use Rattle.winnow_comb.specs.Repeat.Known.{repeated_list}
-use Rattle.winnow_comb.specs.Terminated.{TerminatedRuns}
-use Rattle.winnow_comb.specs.Terminated.Known.{terminated_ok}
+use Rattle.winnow.specs.Bytes.{bytes_reading}
+use Rattle.winnow.specs.Input.{Input, IsEndOf}
+use Rattle.winnow.specs.Kind.{Kind, backtrack, memory}
+use Rattle.winnow.specs.Form.{Answer}
+use Rattle.winnow.specs.Form.Known.{at_output, ok_is_err, same_kind}
+use Rattle.winnow.specs.Accumulator.{list_kept}
+use Rattle.winnow.specs.Range.{greatest_of}
+use Rattle.winnow.specs.{Range}
+use Rattle.winnow.specs.Runs.{Runs}
+use Rattle.winnow.specs.InOrder.Known.{both_err}
+use Rattle.winnow.specs.Repeat.{RepeatRuns}
+use Rattle.winnow.specs.Repeat.Known.{Items, repeat_any_err, repeat_any_ok, repeated_by}
+use Rattle.winnow.specs.Repeat.Known.{repeated_list}
+use Rattle.winnow.specs.Terminated.{TerminatedRuns}
+use Rattle.winnow.specs.Terminated.Known.{terminated_ok}
 use Rattle.readers.specs.Document.{SectionText, PairBytes, Part, white, comment, section, pair}
 use Rattle.readers.specs.Document.{Begins, BeginsWith, NoPairBegins, NoSectionBegins}
 use Rattle.readers.specs.Document.{pairs_of, sections_of, NoPairBeforeSections}

@@ -10,7 +10,7 @@ use Rattle.std.proofs.lemmas.List.{drop_more, get_or-drop, length-take-le}
 use Rattle.std.proofs.lemmas.Bool.{cases_eq}
 use Rattle.std.proofs.lemmas.List.Elements.{All-from_get_or}
 use Rattle.std.proofs.Math.Seq.{take-append-add}
-use Rattle.streams.specs.Equal.{same_first, same_others}
+use Rattle.winnow.specs.Equal.{same_first, same_others}
 use Rattle.readers.specs.Document.{IsTrailing}
 use Rattle.readers.specs.DocumentRuns.{IsWithoutTrailing}
 use Rattle.readers.proofs.DocumentLemmas.{same_end}

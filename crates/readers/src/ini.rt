@@ -9,12 +9,10 @@ mod sections;
 use crate::fault::Fault;
 pub use crate::ini::parts::{category, key_value};
 pub use crate::ini::sections::{Section, document};
-use stream_errors::empty::EmptyError;
-use stream_errors::fault::ParseFault;
-use stream_sets::range::Range;
-use stream_sets::sets::Pred;
-use winnow_core::parser::Parser;
-use winnow_token::token::take_while;
+use winnow::Parser;
+use winnow::error::{EmptyError, ParseFault};
+use winnow::stream::{Pred, Range};
+use winnow::token::take_while;
 
 /// Reads one line of a key, `=` and a value: one or more ASCII letters or digits, `=`, bytes other
 /// than a line feed, and at most one line feed.

@@ -5,9 +5,8 @@ ghost use Rattle.readers.specs.DocumentRuns.{KeyValueRuns, MarkRuns, ValueRuns};
 
 use crate::ini::parts::{category, comment, gap, key, key_value, mark, value};
 use std::alloc::Allocator;
-use stream_errors::input_error::InputError;
-use stream_errors::mode::ErrMode;
-use winnow_core::parser::Parser;
+use winnow::Parser;
+use winnow::error::{ErrMode, InputError};
 
 /// The parser [`category`](crate::ini::category).
 ///

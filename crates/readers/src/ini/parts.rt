@@ -1,23 +1,20 @@
 //! The parts of a document: sections' names, pairs, and what stands between them.
 ghost use Rattle.std.specs.Prelude.{◌≡◌, MatchOption, List, ℕ};
 ghost use Rattle.std.specs.Str.{IsUtf8};
-ghost use Rattle.streams.specs.Bytes.{bytes_input};
-ghost use Rattle.stream_errors.specs.Form.{answer_by};
+ghost use Rattle.winnow.specs.Bytes.{bytes_input};
+ghost use Rattle.winnow.specs.Form.{answer_by};
 ghost use Rattle.readers.specs.DocumentRuns.{CategoryRuns, CommentRuns, GapRuns, KeyRuns};
 ghost use Rattle.readers.specs.DocumentRuns.{KeyValueRuns, MarkRuns, ValueRuns, IsWithoutTrailing};
 
 use crate::ini::impls::{Comment, Key, Mark, Value};
 use std::alloc::Allocator;
 use std::str;
-use stream_errors::has_kind::HasKind;
-use stream_errors::input_error::InputError;
-use stream_errors::mode::ErrMode;
-use stream_sets::range::Range;
-use stream_sets::sets::Pred;
-use winnow_ascii::ascii::impls::{Alphanumeric1, Multispace1, Space0};
-use winnow_comb::combinator::{alt, delimited, opt, repeat, separated_pair, terminated};
-use winnow_core::parser::Parser;
-use winnow_token::token::take_while;
+use winnow::Parser;
+use winnow::ascii::impls::{Alphanumeric1, Multispace1, Space0};
+use winnow::combinator::{alt, delimited, opt, repeat, separated_pair, terminated};
+use winnow::error::{ErrMode, HasKind, InputError};
+use winnow::stream::{Pred, Range};
+use winnow::token::take_while;
 
 /// The bytes as text, where they are UTF-8.
 fn text(bytes: &[u8]) -> Option<&str>

@@ -7,13 +7,10 @@ ghost use Rattle.readers.specs.Sections.{pair_text, section_text};
 use crate::fault::Fault;
 use crate::ini::impls::{Category, Gap, KeyValue};
 use std::alloc::Allocator;
-use stream_errors::fault::ParseFault;
-use stream_errors::input_error::InputError;
-use stream_errors::mode::ErrMode;
-use stream_errors::parser_error::ParserError;
-use stream_sets::range::Range;
-use winnow_comb::combinator::{preceded, repeat, terminated};
-use winnow_core::parser::Parser;
+use winnow::Parser;
+use winnow::combinator::{preceded, repeat, terminated};
+use winnow::error::{ErrMode, InputError, ParseFault, ParserError};
+use winnow::stream::Range;
 
 /// A section: its name, and its pairs of a key and a value in order, as slices of the input. `A` is
 /// the allocator of the list.

@@ -1,11 +1,11 @@
 use Rattle.std.proofs.Common.{rules, ap, ◌+◌, ◌∙◌, sym, refl, inl, inr, lit≤, length, arith}
 use Rattle.std.proofs.lemmas.Grind.{common_steps}
 use Rattle.std.proofs.lemmas.Bool.Decides.{nat_tests}
-use Rattle.streams.specs.Bytes.{bytes_reading}
-use Rattle.stream_errors.specs.Form.{plain}
-use Rattle.winnow_core.specs.Literal.Known.{token_missing, token_taken, token_whole}
-use Rattle.winnow_core.specs.Sequence.Known.{sequence4_err, sequence4_ok}
-use Rattle.winnow_token.specs.TakeWhile.Known.{never_too_few, too_few_by, took_by}
+use Rattle.winnow.specs.Bytes.{bytes_reading}
+use Rattle.winnow.specs.Form.{plain}
+use Rattle.winnow.specs.Literal.Known.{token_missing, token_taken, token_whole}
+use Rattle.winnow.specs.Sequence.Known.{sequence4_err, sequence4_ok}
+use Rattle.winnow.specs.TakeWhile.Known.{never_too_few, too_few_by, took_by}
 use Rattle.readers.proofs.PairRuns.{line_taken, line_read, line_left, no_key, no_mark}
 use Rattle.readers.proofs.ini.pair.Goals as goal
 

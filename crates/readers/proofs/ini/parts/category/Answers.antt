@@ -3,13 +3,13 @@ use Rattle.std.proofs.Common.{Err}
 use Rattle.std.proofs.lemmas.Grind.{common_steps}
 use Rattle.std.proofs.lemmas.Bool.Decides.{nat_tests}
 use Rattle.std.specs.Str.{IsUtf8}
-use Rattle.streams.specs.Bytes.{bytes_reading}
-use Rattle.streams.specs.Input.{is_end_of_refl}
-use Rattle.stream_errors.specs.Form.{modal}
-use Rattle.stream_errors.specs.Form.Known.{ok_is_err}
-use Rattle.winnow_core.specs.Literal.Known.{token_missing, token_taken, token_whole}
-use Rattle.winnow_comb.specs.InOrder.Known.{three_err, three_ok}
-use Rattle.winnow_token.specs.TakeWhile.Known.{never_too_few, too_few_by, took_by}
+use Rattle.winnow.specs.Bytes.{bytes_reading}
+use Rattle.winnow.specs.Input.{is_end_of_refl}
+use Rattle.winnow.specs.Form.{modal}
+use Rattle.winnow.specs.Form.Known.{ok_is_err}
+use Rattle.winnow.specs.Literal.Known.{token_missing, token_taken, token_whole}
+use Rattle.winnow.specs.InOrder.Known.{three_err, three_ok}
+use Rattle.winnow.specs.TakeWhile.Known.{never_too_few, too_few_by, took_by}
 use Rattle.readers.specs.Document.{Begins, section, IsNameByte}
 use Rattle.readers.proofs.PartRuns.{category_read, no_open, no_close, no_text, took_front}
 use Rattle.readers.proofs.ini.parts.category.Goals as goal

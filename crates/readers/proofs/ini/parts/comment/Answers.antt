@@ -1,11 +1,11 @@
 use Rattle.std.proofs.Common.{rules, ap, ◌∙◌, ◌∷◌, sym, inl, inr, refl, arith, Err}
 use Rattle.std.proofs.lemmas.Grind.{common_steps}
 use Rattle.std.proofs.lemmas.Bool.Decides.{nat_tests}
-use Rattle.streams.specs.Bytes.{bytes_reading}
-use Rattle.stream_errors.specs.Form.{modal}
-use Rattle.winnow_core.specs.Literal.Known.{token_missing, token_taken, token_whole}
-use Rattle.winnow_core.specs.Sequence.Known.{sequence2_err, sequence2_ok}
-use Rattle.winnow_token.specs.TakeWhile.Known.{never_too_few, too_few_by, took_by}
+use Rattle.winnow.specs.Bytes.{bytes_reading}
+use Rattle.winnow.specs.Form.{modal}
+use Rattle.winnow.specs.Literal.Known.{token_missing, token_taken, token_whole}
+use Rattle.winnow.specs.Sequence.Known.{sequence2_err, sequence2_ok}
+use Rattle.winnow.specs.TakeWhile.Known.{never_too_few, too_few_by, took_by}
 use Rattle.readers.specs.Document.{IsCommentByte}
 use Rattle.readers.proofs.PartRuns.{comment_read, other_first, took_front}
 use Rattle.readers.proofs.ini.parts.comment.Goals as goal

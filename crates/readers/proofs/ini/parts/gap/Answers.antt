@@ -1,10 +1,10 @@
 use Rattle.std.proofs.Common.{ap, ◌∙◌, refl, inl, inr, None}
-use Rattle.streams.specs.Bytes.{bytes_reading}
-use Rattle.stream_errors.specs.Form.{modal}
-use Rattle.stream_errors.specs.Form.Known.{ok_is_err, same_err}
-use Rattle.winnow_comb.specs.Alt.Known.{or_else_err, or_else_ok}
-use Rattle.winnow_core.specs.Void.Known.{void_err, void_ok}
-use Rattle.winnow_token.specs.TakeWhile.Known.{too_few, took_counted}
+use Rattle.winnow.specs.Bytes.{bytes_reading}
+use Rattle.winnow.specs.Form.{modal}
+use Rattle.winnow.specs.Form.Known.{ok_is_err, same_err}
+use Rattle.winnow.specs.Alt.Known.{or_else_err, or_else_ok}
+use Rattle.winnow.specs.Void.Known.{void_err, void_ok}
+use Rattle.winnow.specs.TakeWhile.Known.{too_few, took_counted}
 use Rattle.readers.specs.Document.{white, comment, IsWhite}
 use Rattle.readers.proofs.PartRuns.{class_denies, class_says, no_front, no_gap, took_front}
 use Rattle.readers.proofs.GapLemmas.{gap_read}

@@ -1,9 +1,9 @@
 use Rattle.std.proofs.Common.{rules, ap, ◌∙◌, ◌≡◌, sym, refl, inl, inr, Err, List, ℕ, subst, None}
 use Rattle.std.specs.Str.{IsUtf8}
-use Rattle.streams.specs.Bytes.{bytes_reading}
-use Rattle.stream_errors.specs.Form.{modal}
-use Rattle.stream_sets.specs.AsChar.{IsAlphanum}
-use Rattle.winnow_token.specs.TakeWhile.Known.{too_few, took_counted}
+use Rattle.winnow.specs.Bytes.{bytes_reading}
+use Rattle.winnow.specs.Form.{modal}
+use Rattle.winnow.specs.AsChar.{IsAlphanum}
+use Rattle.winnow.specs.TakeWhile.Known.{too_few, took_counted}
 use Rattle.readers.specs.Pair.{IsKeyByte}
 use Rattle.readers.specs.DocumentRuns.{IsFront}
 use Rattle.readers.proofs.PartRuns.{class_denies, class_of_key, class_says, key_is_text}

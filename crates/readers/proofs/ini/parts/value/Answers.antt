@@ -2,8 +2,8 @@ use Rattle.std.proofs.Common.{rules, ap, ◌∙◌, refl, inl, inr, arith, List,
 use Rattle.std.proofs.lemmas.Grind.{common_steps}
 use Rattle.std.proofs.lemmas.Bool.Decides.{nat_tests}
 use Rattle.std.specs.Str.{IsUtf8}
-use Rattle.stream_errors.specs.Form.{modal}
-use Rattle.winnow_token.specs.TakeWhile.Known.{never_too_few, too_few_by, took_by}
+use Rattle.winnow.specs.Form.{modal}
+use Rattle.winnow.specs.TakeWhile.Known.{never_too_few, too_few_by, took_by}
 use Rattle.readers.specs.Document.{IsValueByte}
 use Rattle.readers.specs.DocumentRuns.{IsWithoutTrailing}
 use Rattle.readers.proofs.PartRuns.{took_front}

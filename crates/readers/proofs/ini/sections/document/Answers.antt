@@ -1,10 +1,10 @@
 use Rattle.std.proofs.Common.{◌+◌, ◌∙◌, ap, sym, length, inl, inr}
 use Rattle.std.specs.Prelude.{map}
-use Rattle.streams.specs.Equal.{true_is_false}
+use Rattle.winnow.specs.Equal.{true_is_false}
 use Rattle.readers.specs.Sections.{section_text}
 use Rattle.readers.proofs.DocumentReading.{refused_document, document_fails, inner_memory}
 use Rattle.readers.proofs.DocumentReading.{marked_memory, inner_backtracks}
-use Rattle.stream_errors.specs.Form.{marked_kind}
+use Rattle.winnow.specs.Form.{marked_kind}
 use Rattle.readers.proofs.ini.sections.document.Goals as goal
 
 pub returns-then-is_memory : goal.returns-then-is_memory

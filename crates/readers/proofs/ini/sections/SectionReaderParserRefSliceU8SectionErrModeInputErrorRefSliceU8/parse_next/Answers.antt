@@ -1,7 +1,7 @@
 use Rattle.std.proofs.Common.{◌≡◌, ◌∙◌, ap, refl, inl, inr, rules}
 use Rattle.std.specs.Prelude.{map}
-use Rattle.streams.specs.Bytes.{bytes_input}
-use Rattle.stream_errors.specs.Form.Known.{fails_as, ok_is_err, same_ok}
+use Rattle.winnow.specs.Bytes.{bytes_input}
+use Rattle.winnow.specs.Form.Known.{fails_as, ok_is_err, same_ok}
 use Rattle.readers.specs.Sections.{pair_text}
 use Rattle.readers.proofs.SectionLemmas.{name_gap_err, name_gap_ok, pairs_fail, same_text}
 use Rattle.readers.proofs.SectionLemmas.{section_ok}
