@@ -1,10 +1,12 @@
 -- What a caller knows of one run of a child that may be left out, where it answered.
 use Rattle.std.specs.Prelude.{◌≡◌, Option, Some, None, Ok, Err, MatchOption, ◌⊎◌}
 use Rattle.std.proofs.Common.{refl, inl, inr}
-use Rattle.streams.specs.Input.{Input}
+use Rattle.streams.specs.Input.{Input, back_at}
 use Rattle.streams.specs.Kind.{Kind, backtrack}
 use Rattle.stream_errors.specs.Form.{Answer}
 use Rattle.stream_errors.specs.Form.Known.{at_kind, at_output, ok_is_err}
+use Rattle.winnow_core.specs.Runs.{Runs}
+use Rattle.winnow_comb.specs.Opt.{OptRuns}
 
 -- the runs of OptRuns, by what the child's relate; Back is that the input is back at the start
 abbrev pub OptCases : {T O : Type 0} → (O → Type 0) → (Input T → Type 0) → (Input T → Type 0)
@@ -13,6 +15,12 @@ OptCases {T} {O} Ran Backtracked Back Failed answer =
     ((o : O) × Ran o × (answer ≡ Ok (Some o)))
     ⊎ (((m : Input T) × Backtracked m × (answer ≡ Ok None) × Back m)
     ⊎ ((k : Kind) × Failed k × (k ≡ backtrack → ⊥) × (answer ≡ Err k)))
+
+pub opt_cases : {S T O : Type 0} (run : Runs S T O) (s : S) (i : Input T)
+    (answer : Answer (Option O)) (t : S) (j : Input T) → OptRuns run s i answer t j
+    → OptCases (λ o. run s i (Ok o) t j) (λ m. run s i (Err backtrack) t m)
+    (λ m. j ≡ back_at i.left m) (λ k. run s i (Err k) t j) answer
+opt_cases run s i answer t j ran = ran
 
 -- an output: the child succeeded with it; or none, where it backtracked, and the input is back
 pub opt_ok : {T O : Type 0} {Ran : O → Type 0} {Backtracked Back : Input T → Type 0}
