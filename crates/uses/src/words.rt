@@ -5,6 +5,7 @@ ghost use Rattle.std.specs.Prelude.{◌≡◌, ◌<◌, ◌∷◌, ◌++◌, len
 
 use stream_errors::empty::EmptyError;
 use winnow_ascii::ascii::alpha1;
+use winnow_ascii::ascii::impls::Alpha1;
 use winnow_core::parser::Parser;
 
 /// A word at the front of bytes: at least one letter, and the word and the rest are the input.
@@ -22,4 +23,15 @@ pub fn mark<'i>(input: &mut &'i [u8]) -> Result<u8, EmptyError>
     ensures { IfOk result (λ _. input.old.now ≡ 61 ∷ input.new.now) }
 {
     b'='.parse_next(input)
+}
+
+/// A word, `=` and a word: both have a letter, and with the mark between them and the rest they
+/// are the input.
+#[tactic(auto, using(winnow_core::specs::Sequence::Known::known_sequences, winnow_token::specs::TakeWhile::Known::known_takes, winnow_core::specs::Literal::Known::known_literals))]
+pub fn assignment<'i>(
+    input: &mut &'i [u8],
+) -> Result<(&'i [u8], u8, &'i [u8]), EmptyError>
+    ensures { IfOk result (λ p. (0 < length p.0.now) × (0 < length p.2.now)) }
+{
+    (Alpha1, b'=', Alpha1).parse_next(input)
 }
