@@ -27,11 +27,11 @@ pub fn mark<'i>(input: &mut &'i [u8]) -> Result<u8, EmptyError>
 
 /// A word, `=` and a word: both have a letter, and with the mark between them and the rest they
 /// are the input.
-#[tactic(auto, using(winnow_core::specs::Sequence::Known::known_sequences, winnow_token::specs::TakeWhile::Known::known_takes, winnow_core::specs::Literal::Known::known_literals))]
-pub fn assignment<'i>(
-    input: &mut &'i [u8],
-) -> Result<(&'i [u8], u8, &'i [u8]), EmptyError>
-    ensures { IfOk result (λ p. (0 < length p.0.now) × (0 < length p.2.now)) }
+#[tactic(auto, using(winnow_core::specs::Sequence::Known::known_sequences, winnow_token::specs::TakeWhile::Known::known_takes, winnow_core::specs::Literal::Known::known_literals, winnow_core::specs::Splits::known_splits))]
+pub fn assignment<'i>(input: &mut &'i [u8]) -> Result<(&'i [u8], u8, &'i [u8]), EmptyError>
+    ensures some { IfOk result (λ p. (0 < length p.0.now) × (0 < length p.2.now)) }
+    ensures splits { IfOk result (λ p. input.old.now
+        ≡ p.0.now ++ (61 ∷ (p.2.now ++ input.new.now))) }
 {
     (Alpha1, b'=', Alpha1).parse_next(input)
 }
