@@ -6,6 +6,7 @@ ghost use Rattle.std.specs.Prelude.{◌≡◌, ◌<◌, ◌∷◌, ◌++◌, len
 use stream_errors::empty::EmptyError;
 use winnow_ascii::ascii::alpha1;
 use winnow_ascii::ascii::impls::Alpha1;
+use winnow_comb::combinator::preceded;
 use winnow_core::parser::Parser;
 
 /// A word at the front of bytes: at least one letter, and the word and the rest are the input.
@@ -27,11 +28,20 @@ pub fn mark<'i>(input: &mut &'i [u8]) -> Result<u8, EmptyError>
 
 /// A word, `=` and a word: both have a letter, and with the mark between them and the rest they
 /// are the input.
-#[tactic(auto, using(winnow_core::specs::Sequence::Known::known_sequences, winnow_token::specs::TakeWhile::Known::known_takes, winnow_core::specs::Literal::Known::known_literals, winnow_core::specs::Splits::known_splits))]
+#[tactic(auto, using(crate::specs::Words::known_in_words))]
 pub fn assignment<'i>(input: &mut &'i [u8]) -> Result<(&'i [u8], u8, &'i [u8]), EmptyError>
     ensures some { IfOk result (λ p. (0 < length p.0.now) × (0 < length p.2.now)) }
     ensures splits { IfOk result (λ p. input.old.now
         ≡ p.0.now ++ (61 ∷ (p.2.now ++ input.new.now))) }
 {
     (Alpha1, b'=', Alpha1).parse_next(input)
+}
+
+/// A word behind a mark: it has a letter, and behind the mark it and the rest are the input.
+#[tactic(auto, using(crate::specs::Words::known_in_words))]
+pub fn marked_word<'i>(input: &mut &'i [u8]) -> Result<&'i [u8], EmptyError>
+    ensures some { IfOk result (λ word. 0 < length word.now) }
+    ensures splits { IfOk result (λ word. input.old.now ≡ 61 ∷ (word.now ++ input.new.now)) }
+{
+    preceded(b'=', Alpha1).parse_next(input)
 }

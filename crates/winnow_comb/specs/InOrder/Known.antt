@@ -1,10 +1,10 @@
 -- What a caller knows of one run of children in order that answered: where it succeeded all did;
 -- where it failed one did, by that kind, and those before it succeeded.
-use Rattle.std.specs.Prelude.{◌≡◌, Ok, Err, ◌⊎◌}
-use Rattle.std.proofs.Common.{refl, inl, inr}
+use Rattle.std.specs.Prelude.{◌≡◌, Result, Ok, Err, IfOk, ◌⊎◌}
+use Rattle.std.proofs.Common.{refl, sym, subst, inl, inr}
 use Rattle.streams.specs.Input.{Input}
 use Rattle.streams.specs.Kind.{Kind}
-use Rattle.stream_errors.specs.Form.{Answer}
+use Rattle.stream_errors.specs.Form.{Answer, answer_by}
 use Rattle.stream_errors.specs.Form.Known.{at_kind, ok_is_err, same_ok}
 use Rattle.winnow_core.specs.Runs.{Runs}
 use Rattle.winnow_comb.specs.InOrder.{BothRuns, ThreeRuns}
@@ -100,4 +100,35 @@ three_err {Failed2 = Failed2} k (inr (inr (inl (o1, l, a, r1, r2, same3, e)))) =
 three_err {Failed3 = Failed3} k (inr (inr (inr (o1, o2, l, a, b, r1, r2, r3, e)))) =
     inr (inr (o1, o2, a, b, r1, r2, at_kind (λ x. Failed3 x b) e r3))
 
-pub ruleset known_in_order = (both_ok, both_err, three_ok, three_err)
+-- so what is said of the children's outputs is said where a call answers an output
+pub both_told : {T O1 O2 O E : Type 0} {output : O1 → O2 → O} {Ran1 : O1 → Input T → Type 0}
+    {Ran2 : O2 → Input T → Type 0} {Failed1 : Kind → Type 0} {Failed2 : Kind → Input T → Type 0}
+    {Kept2 : Type 0} (kind : E → Kind) (P : O → Type 0) (result : Result O E)
+    → BothCases output Ran1 Ran2 Failed1 Failed2 Kept2 (answer_by kind result)
+    → ((o1 : O1) (o2 : O2) (a : Input T) → Ran1 o1 a → Ran2 o2 a → P (output o1 o2))
+    → IfOk result P
+both_told kind P (Ok o) ran told =
+    let (o1, o2, a, r1, r2, is) = both_ok o ran in subst P (sym is) (told o1 o2 a r1 r2)
+both_told kind P (Err e) ran told = tt
+
+pub three_told : {T O1 O2 O3 O E : Type 0} {output : O1 → O2 → O3 → O}
+    {Ran1 : O1 → Input T → Type 0} {Ran2 : O2 → Input T → Input T → Type 0}
+    {Ran3 : O3 → Input T → Type 0} {Failed1 : Kind → Type 0}
+    {Failed2 Failed3 : Kind → Input T → Type 0} {Kept2 Kept3 : Type 0} (kind : E → Kind)
+    (P : O → Type 0) (result : Result O E)
+    → ThreeCases output Ran1 Ran2 Ran3 Failed1 Failed2 Failed3 Kept2 Kept3 (answer_by kind result)
+    → ((o1 : O1) (o2 : O2) (o3 : O3) (a b : Input T) → Ran1 o1 a → Ran2 o2 a b → Ran3 o3 b
+    → P (output o1 o2 o3)) → IfOk result P
+three_told kind P (Ok o) ran told =
+    let (o1, o2, o3, a, b, r1, r2, r3, is) = three_ok o ran in
+    subst P (sym is) (told o1 o2 o3 a b r1 r2 r3)
+three_told kind P (Err e) ran told = tt
+
+pub ruleset known_in_order = (
+  both_ok,
+  both_err,
+  both_told,
+  three_ok,
+  three_err,
+  three_told,
+)

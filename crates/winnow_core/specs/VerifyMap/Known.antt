@@ -1,9 +1,9 @@
 -- What a caller knows of one run of an output that may be refused, where it answered.
-use Rattle.std.specs.Prelude.{◌≡◌, Option, Some, None, Ok, Err, ◌⊎◌}
+use Rattle.std.specs.Prelude.{◌≡◌, Option, Some, None, Result, Ok, Err, IfOk, ◌⊎◌}
 use Rattle.std.proofs.Common.{refl, inl, inr}
 use Rattle.streams.specs.Input.{Input, back_at}
 use Rattle.streams.specs.Kind.{Kind, backtrack}
-use Rattle.stream_errors.specs.Form.{Answer}
+use Rattle.stream_errors.specs.Form.{Answer, answer_by}
 use Rattle.stream_errors.specs.Form.Known.{at_kind, at_output, ok_is_err, same_kind}
 use Rattle.winnow_core.specs.Runs.{Runs}
 use Rattle.winnow_core.specs.VerifyMap.{VerifyMapRuns}
@@ -49,4 +49,15 @@ verify_map_err k (inr (inl (o, a, r, refused, e, back))) =
     inl (o, a, r, refused, same_kind e, back)
 verify_map_err {Failed = Failed} k (inr (inr (l, r, same, e))) = inr (at_kind Failed e r, same)
 
-pub ruleset known_verified_maps = (verify_map_ok, verify_map_err)
+-- so what is said of an output is said where a call answers one
+pub verify_map_told : {T O U E : Type 0} {Ran : O → Type 0} {Gave : O → U → Type 0}
+    {RanTo : O → Input T → Type 0} {Refused : O → Type 0} {Back : Input T → Type 0}
+    {Failed : Kind → Type 0} {Kept : Type 0} (kind : E → Kind) (P : U → Type 0)
+    (result : Result U E)
+    → VerifyMapCases Ran Gave RanTo Refused Back Failed Kept (answer_by kind result)
+    → ((o : O) (u : U) → Ran o → Gave o u → P u) → IfOk result P
+verify_map_told kind P (Ok u) ran told =
+    let (o, r, gave) = verify_map_ok u ran in told o u r gave
+verify_map_told kind P (Err e) ran told = tt
+
+pub ruleset known_verified_maps = (verify_map_ok, verify_map_err, verify_map_told)
