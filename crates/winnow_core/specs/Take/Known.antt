@@ -40,4 +40,4 @@ pub take_err : {T L O : Type 0} {Ran : O → Type 0} {Read : List T → Type 0}
 take_err k (inl (o, front, x, r, read, shown, e)) = ok_is_err e refl
 take_err {Failed = Failed} k (inr (l, r, e)) = at_kind Failed e r
 
-pub ruleset known_takes = (take_ok, take_err)
+pub ruleset known_slices = (take_ok, take_err)
