@@ -65,10 +65,34 @@ def known_cases(n):
         bound, holds = case(n, failing)
         told = "(answer ≡ Err l)" if failing else "(answer ≡ Ok (%s))" % ", ".join("o%d" % k for k in upto(n))
         cases.append(conjunction(bound + holds + [told]))
-    lines = ["-- %s children: the runs of SequenceRuns%d, by what they relate" % (NUMBER[n], n)]
+    lines = ["-- %s children" % NUMBER[n]]
     head = " → ".join(kind if kind == "Type 0" else "(%s)" % kind for group, kind in relations(n) for _ in group)
     lines.append("abbrev pub SequenceCases%d : {T %s : Type 0} → %s → Answer (%s) → Type 0" % (n, " ".join(outputs), head, tuple_type(outputs)))
     lines.append("SequenceCases%d {T} %s %s answer = %s" % (n, " ".join("{%s}" % o for o in outputs), " ".join(names(n)), choice(cases)))
+    return "\n".join(lines)
+
+
+def known_pin(n):
+    """That the runs of a sequence are these cases."""
+    states = tuple_type(["S%d" % k for k in upto(n)])
+    types = " ".join(["S%d" % k for k in upto(n)] + ["T"] + ["O%d" % k for k in upto(n)])
+    runs = " ".join("(run%d : Runs S%d T O%d)" % (k, k, k) for k in upto(n))
+    arguments = " ".join("run%d" % k for k in upto(n))
+
+    def run(k, answer, last):
+        before = "i" if k == 1 else BETWEEN[k - 2]
+        after = "j" if k == last else BETWEEN[k - 1]
+        return "run%d s.%d %s (%s) t.%d %s" % (k, k - 1, before, answer, k - 1, after)
+
+    parts = ["(λ %s. %s)" % (" ".join(["o"] + inputs_of(k, n)), run(k, "Ok o", n)) for k in upto(n)]
+    parts += ["(λ %s. %s)" % (" ".join(["k"] + inputs_of(k, k)), run(k, "Err k", k)) for k in upto(n)]
+    parts += ["(t.%d ≡ s.%d)" % (k - 1, k - 1) for k in range(2, n + 1)]
+    lines = [
+        "pub sequence%d_cases : {%s : Type 0} %s (s : %s) (i : Input T) (answer : Answer (%s)) (t : %s) (j : Input T) → SequenceRuns%d %s s i answer t j → SequenceCases%d %s answer" % (
+            n, types, runs, states, tuple_type(["O%d" % k for k in upto(n)]), states, n, arguments, n, " ".join(parts),
+        ),
+        "sequence%d_cases %s s i answer t j ran = ran" % (n, arguments),
+    ]
     return "\n".join(lines)
 
 
@@ -127,16 +151,48 @@ def known_err(n):
     return "\n".join(lines)
 
 
-SEQUENCE_KNOWN = """-- What a caller knows of one run of a sequence that answered: where it succeeded all children did, each where the one before it stopped; where it failed one did, by that kind, and those before it succeeded.
+def known_told(n):
+    """What is said of the children's outputs is said where a call answers one."""
+    outputs = ["O%d" % k for k in upto(n)]
+    shared = " ".join("{%s : %s}" % (" ".join(group), relation) for group, relation in relations(n))
+    children = " ".join("(o%d : O%d)" % (k, k) for k in upto(n))
+    inputs = " ".join("(%s : Input T)" % x for x in BETWEEN[: n - 1])
+    runs = " → ".join("Ran%d %s" % (k, " ".join(["o%d" % k] + inputs_of(k, n))) for k in upto(n))
+    made = ", ".join("o%d" % k for k in upto(n))
+    lines = [
+        "pub sequence%d_told : {T %s E : Type 0} %s (kind : E → Kind) (P : %s → Type 0) (result : Result (%s) E) → SequenceCases%d %s (answer_by kind result) → (%s %s → %s → P (%s)) → IfOk result P" % (
+            n, " ".join(outputs), shared, tuple_type(outputs), tuple_type(outputs), n, " ".join(names(n)), children, inputs, runs, made,
+        ),
+        "sequence%d_told kind P (Ok o) ran told = let (%s) = sequence%d_ok o ran in told %s" % (
+            n, ", ".join(list(BETWEEN[: n - 1]) + ["r%d" % k for k in upto(n)]), n,
+            " ".join(["o.%d" % (k - 1) for k in upto(n)] + list(BETWEEN[: n - 1]) + ["r%d" % k for k in upto(n)]),
+        ),
+        "sequence%d_told kind P (Err e) ran told = tt" % n,
+    ]
+    return "\n".join(lines)
+
+
+SEQUENCE_CASES = """-- The runs of sequences by what they relate: an output or a kind, and the inputs between the children. A caller's run is found by these, whatever its children are. That the children which did not run keep their states is Kept.
 -- {head}
 use Rattle.std.specs.Prelude.{{◌≡◌, Ok, Err, ◌⊎◌}}
-use Rattle.std.proofs.Common.{{refl, inl, inr}}
 use Rattle.streams.specs.Input.{{Input}}
 use Rattle.streams.specs.Kind.{{Kind}}
 use Rattle.stream_errors.specs.Form.{{Answer}}
-use Rattle.stream_errors.specs.Form.Known.{{at_kind, at_output, ok_is_err}}
+use Rattle.winnow_core.specs.Runs.{{Runs}}
+use Rattle.winnow_core.specs.Sequence.{{{names}}}
 
--- A run is given by what it relates, an output or a kind and the inputs between the children, so that antt finds it at a caller's parsers. That the children which did not run keep their states is Kept.
+{family}
+"""
+
+SEQUENCE_KNOWN = """-- What a caller knows of one run of a sequence that answered: where it succeeded all children did, each where the one before it stopped; where it failed one did, by that kind, and those before it succeeded; and what is said of the children's outputs is said where a call answers one.
+-- {head}
+use Rattle.std.specs.Prelude.{{Result, Ok, Err, IfOk, ◌⊎◌}}
+use Rattle.std.proofs.Common.{{refl, inl, inr}}
+use Rattle.streams.specs.Input.{{Input}}
+use Rattle.streams.specs.Kind.{{Kind}}
+use Rattle.stream_errors.specs.Form.{{answer_by}}
+use Rattle.stream_errors.specs.Form.Known.{{at_kind, at_output, ok_is_err}}
+use Rattle.winnow_core.specs.Sequence.Cases.{{{names}}}
 
 {family}
 
@@ -145,10 +201,18 @@ pub ruleset known_sequences = ({lemmas})
 
 
 def write_known():
+    core = "crates/winnow_core/specs/Sequence/"
     some = range(2, MOST + 1)
     write(
-        "crates/winnow_core/specs/Sequence/Known.antt",
+        core + "Cases.antt",
+        SEQUENCE_CASES,
+        names=", ".join("SequenceRuns%d" % n for n in some),
+        family="\n\n".join("%s\n\n%s" % (known_cases(n), known_pin(n)) for n in some),
+    )
+    write(
+        core + "Known.antt",
         SEQUENCE_KNOWN,
-        family="\n\n".join("%s\n\n%s\n\n%s" % (known_cases(n), known_ok(n), known_err(n)) for n in some),
-        lemmas=", ".join("sequence%d_%s" % (n, way) for n in some for way in ("ok", "err")),
+        names=", ".join("SequenceCases%d" % n for n in some),
+        family="\n\n".join("-- %s children\n%s\n\n%s\n\n%s" % (NUMBER[n], known_ok(n), known_err(n), known_told(n)) for n in some),
+        lemmas=", ".join("sequence%d_%s" % (n, way) for n in some for way in ("ok", "err", "told")),
     )

@@ -142,9 +142,6 @@ first_section (comment text ∷ ps) a b with at some = absurd at
 first_section (section name ∷ ps) a b (behind, begins, more) at some = (name, behind, begins)
 first_section (pair p ∷ ps) a b with at some = absurd at
 
-memory_backtracks : backtrack ≡ memory → ⊥
-memory_backtracks e = cc
-
 -- a repetition of sections
 pub sections_repeated : {S X A : Type 0} (told : X → SectionText) (run : Runs S ℕ X)
     (assert_kind : Kind) (range : Range) (s : S) (i : Input ℕ) (answer : Answer (Vec X A))
@@ -171,7 +168,7 @@ sections_repeated told run assert_kind range s i (Ok all) t j e ends ran reads =
           subst P (sym (ap (λ y. y.left.tokens) done.back)) (with, none.0, last, last_pair) in
           let items = ap (λ l. map told l) (repeated_list run s i all t j done) ∙ texts in
           (ends, inl (all, parts, there.0, at, items, there.1, there.2, there.3, refl))
-      | inr some ↦ absurd (memory_backtracks some.1)
+      | inr some ↦ absurd (cc some.1)
     ]
 sections_repeated told run assert_kind range s i (Err k) t j e ends ran reads =
     let done =
@@ -399,4 +396,4 @@ marked_memory false e = e
 
 -- the inner error of one that backtracks wants none
 pub inner_backtracks : (k : Kind) → Some backtrack ≡ Some (as_inner k) → k ≡ memory → ⊥
-inner_backtracks k told is = memory_backtracks (same_some told ∙ ap as_inner is)
+inner_backtracks k told is = cc (same_some told ∙ ap as_inner is)

@@ -19,11 +19,8 @@ pub record LineTaken (input k v x left : List ℕ) : Type 0 where
   pub some : 0 < length k
   pub keys : All IsKeyByte k
   pub values : All (λ b. b ≢ 10) v
-  -- behind the value stands a line feed, or nothing
-  pub stops : (b : ℕ) (more : List ℕ) → x ++ left ≡ b ∷ more → b ≡ 10
-  -- which was taken, or none
+  -- a line feed, or none
   pub feed : (x ≡ []) ⊎ (x ≡ 10 ∷ [])
-  pub feed_stops : (b : ℕ) (more : List ℕ) → left ≡ b ∷ more → x ≡ [] → b ≢ 10
   pub splits : input ≡ k ++ (61 ∷ (v ++ (x ++ left)))
 
 -- at most one line feed
@@ -40,20 +37,13 @@ pub line_taken : (key_set value_set feed_set : ℕ → Bool → Type 0) (input k
     (a b c j : Input ℕ) → Took key_set 1 None (bytes_input input) k a → TokenTaken 61 a b
     → Took value_set 0 None b v c → Took feed_set 0 (Some 1) c x j
     → ((b : ℕ) → key_set b true → IsKeyByte b) → ((b : ℕ) → value_set b true → b ≢ 10)
-    → ((b : ℕ) → value_set b false → b ≡ 10) → ((b : ℕ) → feed_set b true → b ≡ 10)
-    → ((b : ℕ) → feed_set b false → b ≢ 10) → LineTaken input k v x j.left.tokens
+    → ((b : ℕ) → feed_set b true → b ≡ 10) → LineTaken input k v x j.left.tokens
 line_taken key_set value_set feed_set input k v x a b c j keys mark values feeds is_key is_value
-    not_value is_feed not_feed = record {
+    is_feed = record {
       some = keys.enough;
       keys = took_all IsKeyByte key_set 1 None (bytes_input input) k a is_key keys;
       values = took_all (λ y. y ≢ 10) value_set 0 None b v c is_value values;
-      stops = λ y more e. took_stops (λ z. z ≡ 10) value_set 0 b v c not_value values y more
-          (feeds.longest.splits ∙ e);
       feed = feed_end feed_set c.left.tokens j.left.tokens x is_feed feeds.longest;
-      feed_stops = λ y more e none. elim (feeds.longest.stops y more e) [
-        | inl stranger ↦ not_feed y stranger
-        | inr full ↦ absurd (omega (arith, same_some full, ap (λ l. length l) none))
-      ];
       splits = keys.longest.splits
           ∙ ap (λ l. k ++ l)
           (mark.splits ∙ ap (λ l. 61 ∷ l)
@@ -73,16 +63,28 @@ line_read input k v x left line nothing = (
       ∙ ap (λ l. k ++ (61 ∷ (v ++ l))) (ap (λ l. x ++ l) nothing ∙ append-nil x),
 )
 
+-- behind the value stands a line feed or nothing, and behind no line feed that was taken no other
+pub line_stops : (value_set feed_set : ℕ → Bool → Type 0) (v x : List ℕ) (b c j : Input ℕ)
+    → Took value_set 0 None b v c → Took feed_set 0 (Some 1) c x j
+    → ((b : ℕ) → value_set b false → b ≡ 10) → ((b : ℕ) → feed_set b false → b ≢ 10)
+    → (y : ℕ) (more : List ℕ) → j.left.tokens ≡ y ∷ more → x ≡ [] → ⊥
+line_stops value_set feed_set v x b c j values feeds not_value not_feed y more e none =
+    elim (feeds.longest.stops y more e) [
+      | inl stranger ↦ not_feed y stranger
+          (took_stops (λ z. z ≡ 10) value_set 0 b v c not_value values y more
+          (feeds.longest.splits ∙ ap (λ l. l ++ j.left.tokens) none ∙ e))
+      | inr full ↦ absurd (omega (arith, same_some full, ap (λ l. length l) none))
+    ]
+
 -- something follows the line
 pub line_left : (input k v x left : List ℕ) (n : ℕ) → LineTaken input k v x left
-    → (left ≡ [] → ⊥) → n + length left ≡ length input → IsRefusedPair input n
-line_left input k v x [] n line something at = absurd (something refl)
-line_left input k v x (y ∷ more) n line something at = by_feed line.feed
+    → ((y : ℕ) (more : List ℕ) → left ≡ y ∷ more → x ≡ [] → ⊥) → (left ≡ [] → ⊥)
+    → n + length left ≡ length input → IsRefusedPair input n
+line_left input k v x [] n line stops something at = absurd (something refl)
+line_left input k v x (y ∷ more) n line stops something at = by_feed line.feed
   where
     by_feed : (x ≡ []) ⊎ (x ≡ 10 ∷ []) → IsRefusedPair input n
-    by_feed (inl none) =
-        absurd (line.feed_stops y more refl none
-        (line.stops y more (ap (λ l. l ++ (y ∷ more)) none)))
+    by_feed (inl none) = absurd (stops y more refl none)
     by_feed (inr feed) =
         let split : input ≡ k ++ (61 ∷ (v ++ (10 ∷ (y ∷ more)))) =
         line.splits ∙ ap (λ l. k ++ (61 ∷ (v ++ (l ++ (y ∷ more))))) feed in

@@ -63,10 +63,9 @@ comment_read tokens rest text left mark (splits, all, stops) =
     (mark ∙ ap (λ l. 59 ∷ l) splits, (all, ends_line left stops))
 
 -- a name was read
-pub category_read : (tokens a name b rest : List ℕ) → tokens ≡ 91 ∷ a
-    → IsFront IsNameByte a name b → b ≡ 93 ∷ rest → IsUtf8 name
-    → Begins (section name) tokens rest
-category_read tokens a name b rest front_mark (splits, all, stops) end_mark utf8 = (
+pub category_read : (tokens a name b rest : List ℕ) → tokens ≡ 91 ∷ a → a ≡ name ++ b
+    → All IsNameByte name → b ≡ 93 ∷ rest → IsUtf8 name → Begins (section name) tokens rest
+category_read tokens a name b rest front_mark splits all end_mark utf8 = (
   front_mark ∙ ap (λ l. 91 ∷ l)
       (splits ∙ ap (λ l. name ++ l) end_mark ∙ sym (append_assoc name (93 ∷ []) rest)),
   (all, utf8),

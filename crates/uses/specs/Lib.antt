@@ -1,2 +1,3 @@
 pub mod Csv
 pub mod RequestLine
+pub mod Words

@@ -56,6 +56,7 @@ pub use Rattle.winnow_core.specs.Agrees
 pub use Rattle.winnow_core.specs.Short
 pub use Rattle.winnow_core.specs.Literal
 pub use Rattle.winnow_core.specs.Sequence
+pub use Rattle.winnow_core.specs.Splits
 pub use Rattle.winnow_core.specs.Eof
 pub use Rattle.winnow_core.specs.ByRef
 pub use Rattle.winnow_core.specs.Map

@@ -13,5 +13,6 @@ pub mod Void
 pub mod Take
 pub mod Func
 pub mod Parse
+pub mod Splits
 pub mod ParsePeek
 pub mod Laws

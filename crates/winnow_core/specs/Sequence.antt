@@ -5,6 +5,7 @@ use Rattle.std.specs.Prelude.{◌≡◌, ⊤, Ok, Err, ◌⊎◌}
 use Rattle.streams.specs.Input.{Input}
 use Rattle.streams.specs.Kind.{Kind}
 use Rattle.winnow_core.specs.Runs.{Runs}
+pub mod Cases
 pub mod Known
 pub mod Laws
 

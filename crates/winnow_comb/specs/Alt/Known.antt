@@ -2,9 +2,11 @@
 -- more.
 use Rattle.std.specs.Prelude.{◌≡◌, Ok, Err, ◌⊎◌}
 use Rattle.std.proofs.Common.{ap, inl, inr}
-use Rattle.streams.specs.Input.{Input}
+use Rattle.streams.specs.Input.{Input, back_at}
 use Rattle.streams.specs.Kind.{Kind, backtrack}
 use Rattle.stream_errors.specs.Form.{Answer}
+use Rattle.winnow_core.specs.Runs.{Runs}
+use Rattle.winnow_comb.specs.Alt.{OrElse}
 
 -- the runs of OrElse that answer so, by what those of the branch relate, and of the others from the
 -- start
@@ -12,6 +14,13 @@ abbrev pub OrElseCases : {T O : Type 0} → Type 0 → Type 0 → (Input T → T
     → (Input T → Type 0) → Answer O → Type 0
 OrElseCases {T} Ran Kept Backtracked Others answer =
     (Ran × (answer ≡ Err backtrack → ⊥) × Kept) ⊎ ((a : Input T) × Backtracked a × Others a)
+
+pub or_else_cases : {S1 S2 T O : Type 0} (run : Runs S1 T O) (others : Runs S2 T O)
+    (s : S1 × S2) (i : Input T) (answer : Answer O) (t : S1 × S2) (j : Input T)
+    → OrElse run others s i answer t j
+    → OrElseCases (run s.0 i answer t.0 j) (t.1 ≡ s.1) (λ a. run s.0 i (Err backtrack) t.0 a)
+    (λ a. others s.1 (back_at i.left a) answer t.1 j) answer
+or_else_cases run others s i answer t j ran = ran
 
 -- an output: the first branch's; or the first backtracked, and the others had it from the start
 pub or_else_ok : {T O : Type 0} {Ran Kept : Type 0} {Backtracked Others : Input T → Type 0}

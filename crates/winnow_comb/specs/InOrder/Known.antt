@@ -1,11 +1,13 @@
 -- What a caller knows of one run of children in order that answered: where it succeeded all did;
 -- where it failed one did, by that kind, and those before it succeeded.
-use Rattle.std.specs.Prelude.{◌≡◌, Ok, Err, ◌⊎◌}
-use Rattle.std.proofs.Common.{refl, inl, inr}
+use Rattle.std.specs.Prelude.{◌≡◌, Result, Ok, Err, IfOk, ◌⊎◌}
+use Rattle.std.proofs.Common.{refl, sym, subst, inl, inr}
 use Rattle.streams.specs.Input.{Input}
 use Rattle.streams.specs.Kind.{Kind}
-use Rattle.stream_errors.specs.Form.{Answer}
+use Rattle.stream_errors.specs.Form.{Answer, answer_by}
 use Rattle.stream_errors.specs.Form.Known.{at_kind, ok_is_err, same_ok}
+use Rattle.winnow_core.specs.Runs.{Runs}
+use Rattle.winnow_comb.specs.InOrder.{BothRuns, ThreeRuns}
 
 -- A run is given by what it relates, an output or a kind and the inputs between the children, so
 -- that antt finds it at a caller's parsers. That the children which did not run keep their states
@@ -19,6 +21,13 @@ BothCases {T} {O1} {O2} output Ran1 Ran2 Failed1 Failed2 Kept2 answer =
     ((o1 : O1) × (o2 : O2) × (a : Input T) × Ran1 o1 a × Ran2 o2 a × (answer ≡ Ok (output o1 o2)))
     ⊎ (((l : Kind) × Failed1 l × Kept2 × (answer ≡ Err l))
     ⊎ ((o1 : O1) × (l : Kind) × (a : Input T) × Ran1 o1 a × Failed2 l a × (answer ≡ Err l)))
+
+pub both_cases : {S1 S2 T O1 O2 O : Type 0} (output : O1 → O2 → O) (run1 : Runs S1 T O1)
+    (run2 : Runs S2 T O2) (s : S1 × S2) (i : Input T) (answer : Answer O) (t : S1 × S2)
+    (j : Input T) → BothRuns output run1 run2 s i answer t j
+    → BothCases output (λ o a. run1 s.0 i (Ok o) t.0 a) (λ o a. run2 s.1 a (Ok o) t.1 j)
+    (λ k. run1 s.0 i (Err k) t.0 j) (λ k a. run2 s.1 a (Err k) t.1 j) (t.1 ≡ s.1) answer
+both_cases output run1 run2 s i answer t j ran = ran
 
 pub both_ok : {T O1 O2 O : Type 0} {output : O1 → O2 → O} {Ran1 : O1 → Input T → Type 0}
     {Ran2 : O2 → Input T → Type 0} {Failed1 : Kind → Type 0} {Failed2 : Kind → Input T → Type 0}
@@ -51,6 +60,16 @@ ThreeCases {T} {O1} {O2} {O3} output Ran1 Ran2 Ran3 Failed1 Failed2 Failed3 Kept
     ⊎ ((o1 : O1) × (o2 : O2) × (l : Kind) × (a : Input T) × (b : Input T) × Ran1 o1 a
     × Ran2 o2 a b × Failed3 l b × (answer ≡ Err l))))
 
+pub three_cases : {S1 S2 S3 T O1 O2 O3 O : Type 0} (output : O1 → O2 → O3 → O)
+    (run1 : Runs S1 T O1) (run2 : Runs S2 T O2) (run3 : Runs S3 T O3) (s : S1 × S2 × S3)
+    (i : Input T) (answer : Answer O) (t : S1 × S2 × S3) (j : Input T)
+    → ThreeRuns output run1 run2 run3 s i answer t j
+    → ThreeCases output (λ o a. run1 s.0 i (Ok o) t.0 a) (λ o a b. run2 s.1 a (Ok o) t.1 b)
+    (λ o b. run3 s.2 b (Ok o) t.2 j) (λ k. run1 s.0 i (Err k) t.0 j)
+    (λ k a. run2 s.1 a (Err k) t.1 j) (λ k b. run3 s.2 b (Err k) t.2 j) (t.1 ≡ s.1)
+    (t.2 ≡ s.2) answer
+three_cases output run1 run2 run3 s i answer t j ran = ran
+
 pub three_ok : {T O1 O2 O3 O : Type 0} {output : O1 → O2 → O3 → O}
     {Ran1 : O1 → Input T → Type 0} {Ran2 : O2 → Input T → Input T → Type 0}
     {Ran3 : O3 → Input T → Type 0} {Failed1 : Kind → Type 0}
@@ -81,4 +100,35 @@ three_err {Failed2 = Failed2} k (inr (inr (inl (o1, l, a, r1, r2, same3, e)))) =
 three_err {Failed3 = Failed3} k (inr (inr (inr (o1, o2, l, a, b, r1, r2, r3, e)))) =
     inr (inr (o1, o2, a, b, r1, r2, at_kind (λ x. Failed3 x b) e r3))
 
-pub ruleset known_in_order = (both_ok, both_err, three_ok, three_err)
+-- so what is said of the children's outputs is said where a call answers an output
+pub both_told : {T O1 O2 O E : Type 0} {output : O1 → O2 → O} {Ran1 : O1 → Input T → Type 0}
+    {Ran2 : O2 → Input T → Type 0} {Failed1 : Kind → Type 0} {Failed2 : Kind → Input T → Type 0}
+    {Kept2 : Type 0} (kind : E → Kind) (P : O → Type 0) (result : Result O E)
+    → BothCases output Ran1 Ran2 Failed1 Failed2 Kept2 (answer_by kind result)
+    → ((o1 : O1) (o2 : O2) (a : Input T) → Ran1 o1 a → Ran2 o2 a → P (output o1 o2))
+    → IfOk result P
+both_told kind P (Ok o) ran told =
+    let (o1, o2, a, r1, r2, is) = both_ok o ran in subst P (sym is) (told o1 o2 a r1 r2)
+both_told kind P (Err e) ran told = tt
+
+pub three_told : {T O1 O2 O3 O E : Type 0} {output : O1 → O2 → O3 → O}
+    {Ran1 : O1 → Input T → Type 0} {Ran2 : O2 → Input T → Input T → Type 0}
+    {Ran3 : O3 → Input T → Type 0} {Failed1 : Kind → Type 0}
+    {Failed2 Failed3 : Kind → Input T → Type 0} {Kept2 Kept3 : Type 0} (kind : E → Kind)
+    (P : O → Type 0) (result : Result O E)
+    → ThreeCases output Ran1 Ran2 Ran3 Failed1 Failed2 Failed3 Kept2 Kept3 (answer_by kind result)
+    → ((o1 : O1) (o2 : O2) (o3 : O3) (a b : Input T) → Ran1 o1 a → Ran2 o2 a b → Ran3 o3 b
+    → P (output o1 o2 o3)) → IfOk result P
+three_told kind P (Ok o) ran told =
+    let (o1, o2, o3, a, b, r1, r2, r3, is) = three_ok o ran in
+    subst P (sym is) (told o1 o2 o3 a b r1 r2 r3)
+three_told kind P (Err e) ran told = tt
+
+pub ruleset known_in_order = (
+  both_ok,
+  both_err,
+  both_told,
+  three_ok,
+  three_err,
+  three_told,
+)

@@ -1,10 +1,13 @@
 -- What a caller knows of one run of a child that may be left out, where it answered.
-use Rattle.std.specs.Prelude.{◌≡◌, Option, Some, None, Ok, Err, MatchOption, ◌⊎◌}
+use Rattle.std.specs.Prelude.{◌≡◌, Option, Some, None, Result, Ok, Err, IfOk, ◌⊎◌}
+use Rattle.std.specs.Prelude.{MatchOption}
 use Rattle.std.proofs.Common.{refl, inl, inr}
-use Rattle.streams.specs.Input.{Input}
+use Rattle.streams.specs.Input.{Input, back_at}
 use Rattle.streams.specs.Kind.{Kind, backtrack}
-use Rattle.stream_errors.specs.Form.{Answer}
+use Rattle.stream_errors.specs.Form.{Answer, answer_by}
 use Rattle.stream_errors.specs.Form.Known.{at_kind, at_output, ok_is_err}
+use Rattle.winnow_core.specs.Runs.{Runs}
+use Rattle.winnow_comb.specs.Opt.{OptRuns}
 
 -- the runs of OptRuns, by what the child's relate; Back is that the input is back at the start
 abbrev pub OptCases : {T O : Type 0} → (O → Type 0) → (Input T → Type 0) → (Input T → Type 0)
@@ -13,6 +16,12 @@ OptCases {T} {O} Ran Backtracked Back Failed answer =
     ((o : O) × Ran o × (answer ≡ Ok (Some o)))
     ⊎ (((m : Input T) × Backtracked m × (answer ≡ Ok None) × Back m)
     ⊎ ((k : Kind) × Failed k × (k ≡ backtrack → ⊥) × (answer ≡ Err k)))
+
+pub opt_cases : {S T O : Type 0} (run : Runs S T O) (s : S) (i : Input T)
+    (answer : Answer (Option O)) (t : S) (j : Input T) → OptRuns run s i answer t j
+    → OptCases (λ o. run s i (Ok o) t j) (λ m. run s i (Err backtrack) t m)
+    (λ m. j ≡ back_at i.left m) (λ k. run s i (Err k) t j) answer
+opt_cases run s i answer t j ran = ran
 
 -- an output: the child succeeded with it; or none, where it backtracked, and the input is back
 pub opt_ok : {T O : Type 0} {Ran : O → Type 0} {Backtracked Back : Input T → Type 0}
@@ -34,4 +43,15 @@ opt_err k (inr (inl (m, r, e, back))) = ok_is_err e refl
 opt_err {Failed = Failed} k (inr (inr (l, r, other, e))) =
     at_kind (λ x. Failed x × (x ≡ backtrack → ⊥)) e (r, other)
 
-pub ruleset known_options = (opt_ok, opt_err)
+-- so what is said of both outputs is said where a call answers one
+pub opt_told : {T O E : Type 0} {Ran : O → Type 0} {Backtracked Back : Input T → Type 0}
+    {Failed : Kind → Type 0} (kind : E → Kind) (P : Option O → Type 0)
+    (result : Result (Option O) E) → OptCases Ran Backtracked Back Failed (answer_by kind result)
+    → ((o : O) → Ran o → P (Some o)) → ((m : Input T) → Backtracked m → Back m → P None)
+    → IfOk result P
+opt_told kind P (Ok (Some o)) ran some none = some o (opt_ok (Some o) ran)
+opt_told kind P (Ok None) ran some none =
+    let (m, r, back) = opt_ok None ran in none m r back
+opt_told kind P (Err e) ran some none = tt
+
+pub ruleset known_options = (opt_ok, opt_err, opt_told)

@@ -1,27 +1,17 @@
 -- What a caller knows of one run of a sequence that answered: where it succeeded all children did,
 -- each where the one before it stopped; where it failed one did, by that kind, and those before it
--- succeeded.
+-- succeeded; and what is said of the children's outputs is said where a call answers one.
 -- Written by scripts/families.py: do not edit.
-use Rattle.std.specs.Prelude.{◌≡◌, Ok, Err, ◌⊎◌}
+use Rattle.std.specs.Prelude.{Result, Ok, Err, IfOk, ◌⊎◌}
 use Rattle.std.proofs.Common.{refl, inl, inr}
 use Rattle.streams.specs.Input.{Input}
 use Rattle.streams.specs.Kind.{Kind}
-use Rattle.stream_errors.specs.Form.{Answer}
+use Rattle.stream_errors.specs.Form.{answer_by}
 use Rattle.stream_errors.specs.Form.Known.{at_kind, at_output, ok_is_err}
+use Rattle.winnow_core.specs.Sequence.Cases.{SequenceCases2, SequenceCases3, SequenceCases4}
+use Rattle.winnow_core.specs.Sequence.Cases.{SequenceCases5, SequenceCases6}
 
--- A run is given by what it relates, an output or a kind and the inputs between the children, so
--- that antt finds it at a caller's parsers. That the children which did not run keep their states
--- is Kept.
-
--- two children: the runs of SequenceRuns2, by what they relate
-abbrev pub SequenceCases2 : {T O1 O2 : Type 0} → (O1 → Input T → Type 0)
-    → (O2 → Input T → Type 0) → (Kind → Type 0) → (Kind → Input T → Type 0) → Type 0
-    → Answer (O1 × O2) → Type 0
-SequenceCases2 {T} {O1} {O2} Ran1 Ran2 Failed1 Failed2 Kept2 answer =
-    ((o1 : O1) × (o2 : O2) × (a : Input T) × Ran1 o1 a × Ran2 o2 a × (answer ≡ Ok (o1, o2)))
-    ⊎ (((l : Kind) × Failed1 l × Kept2 × (answer ≡ Err l))
-    ⊎ ((o1 : O1) × (l : Kind) × (a : Input T) × Ran1 o1 a × Failed2 l a × (answer ≡ Err l)))
-
+-- two children
 pub sequence2_ok : {T O1 O2 : Type 0} {Ran1 : O1 → Input T → Type 0}
     {Ran2 : O2 → Input T → Type 0} {Failed1 : Kind → Type 0} {Failed2 : Kind → Input T → Type 0}
     {Kept2 : Type 0} (o : O1 × O2) → SequenceCases2 Ran1 Ran2 Failed1 Failed2 Kept2 (Ok o)
@@ -41,20 +31,15 @@ sequence2_err {Failed1 = Failed1} k (inr (inl (l, h0, h1, is))) = inl (at_kind F
 sequence2_err {Failed2 = Failed2} k (inr (inr (o1, l, a, h0, h1, is))) = inr
     (o1, a, h0, at_kind (λ x. Failed2 x a) is h1)
 
--- three children: the runs of SequenceRuns3, by what they relate
-abbrev pub SequenceCases3 : {T O1 O2 O3 : Type 0} → (O1 → Input T → Type 0)
-    → (O2 → Input T → Input T → Type 0) → (O3 → Input T → Type 0) → (Kind → Type 0)
-    → (Kind → Input T → Type 0) → (Kind → Input T → Type 0) → Type 0 → Type 0
-    → Answer (O1 × O2 × O3) → Type 0
-SequenceCases3 {T} {O1} {O2} {O3} Ran1 Ran2 Ran3 Failed1 Failed2 Failed3 Kept2 Kept3 answer =
-    ((o1 : O1) × (o2 : O2) × (o3 : O3) × (a : Input T) × (b : Input T) × Ran1 o1 a × Ran2 o2 a b
-    × Ran3 o3 b × (answer ≡ Ok (o1, o2, o3)))
-    ⊎ (((l : Kind) × Failed1 l × Kept2 × Kept3 × (answer ≡ Err l))
-    ⊎ (((o1 : O1) × (l : Kind) × (a : Input T) × Ran1 o1 a × Failed2 l a × Kept3
-    × (answer ≡ Err l))
-    ⊎ ((o1 : O1) × (o2 : O2) × (l : Kind) × (a : Input T) × (b : Input T) × Ran1 o1 a
-    × Ran2 o2 a b × Failed3 l b × (answer ≡ Err l))))
+pub sequence2_told : {T O1 O2 E : Type 0} {Ran1 : O1 → Input T → Type 0}
+    {Ran2 : O2 → Input T → Type 0} {Failed1 : Kind → Type 0} {Failed2 : Kind → Input T → Type 0}
+    {Kept2 : Type 0} (kind : E → Kind) (P : O1 × O2 → Type 0) (result : Result (O1 × O2) E)
+    → SequenceCases2 Ran1 Ran2 Failed1 Failed2 Kept2 (answer_by kind result)
+    → ((o1 : O1) (o2 : O2) (a : Input T) → Ran1 o1 a → Ran2 o2 a → P (o1, o2)) → IfOk result P
+sequence2_told kind P (Ok o) ran told = let (a, r1, r2) = sequence2_ok o ran in told o.0 o.1 a r1 r2
+sequence2_told kind P (Err e) ran told = tt
 
+-- three children
 pub sequence3_ok : {T O1 O2 O3 : Type 0} {Ran1 : O1 → Input T → Type 0}
     {Ran2 : O2 → Input T → Input T → Type 0} {Ran3 : O3 → Input T → Type 0}
     {Failed1 : Kind → Type 0} {Failed2 Failed3 : Kind → Input T → Type 0} {Kept2 Kept3 : Type 0}
@@ -84,26 +69,18 @@ sequence3_err {Failed2 = Failed2} k (inr (inr (inl (o1, l, a, h0, h1, h2, is))))
 sequence3_err {Failed3 = Failed3} k (inr (inr (inr (o1, o2, l, a, b, h0, h1, h2, is)))) = inr
     (inr (o1, o2, a, b, h0, h1, at_kind (λ x. Failed3 x b) is h2))
 
--- four children: the runs of SequenceRuns4, by what they relate
-abbrev pub SequenceCases4 : {T O1 O2 O3 O4 : Type 0} → (O1 → Input T → Type 0)
-    → (O2 → Input T → Input T → Type 0) → (O3 → Input T → Input T → Type 0)
-    → (O4 → Input T → Type 0) → (Kind → Type 0) → (Kind → Input T → Type 0)
-    → (Kind → Input T → Type 0) → (Kind → Input T → Type 0) → Type 0 → Type 0 → Type 0
-    → Answer (O1 × O2 × O3 × O4) → Type 0
-SequenceCases4 {T} {O1} {O2} {O3} {O4} Ran1 Ran2 Ran3 Ran4 Failed1 Failed2 Failed3 Failed4 Kept2
-    Kept3 Kept4 answer =
-    ((o1 : O1) × (o2 : O2) × (o3 : O3) × (o4 : O4) × (a : Input T) × (b : Input T)
-    × (c : Input T) × Ran1 o1 a × Ran2 o2 a b × Ran3 o3 b c × Ran4 o4 c
-    × (answer ≡ Ok (o1, o2, o3, o4)))
-    ⊎ (((l : Kind) × Failed1 l × Kept2 × Kept3 × Kept4 × (answer ≡ Err l))
-    ⊎ (((o1 : O1) × (l : Kind) × (a : Input T) × Ran1 o1 a × Failed2 l a × Kept3 × Kept4
-    × (answer ≡ Err l))
-    ⊎ (((o1 : O1) × (o2 : O2) × (l : Kind) × (a : Input T) × (b : Input T) × Ran1 o1 a
-    × Ran2 o2 a b × Failed3 l b × Kept4 × (answer ≡ Err l))
-    ⊎ ((o1 : O1) × (o2 : O2) × (o3 : O3) × (l : Kind) × (a : Input T) × (b : Input T)
-    × (c : Input T) × Ran1 o1 a × Ran2 o2 a b × Ran3 o3 b c × Failed4 l c
-    × (answer ≡ Err l)))))
+pub sequence3_told : {T O1 O2 O3 E : Type 0} {Ran1 : O1 → Input T → Type 0}
+    {Ran2 : O2 → Input T → Input T → Type 0} {Ran3 : O3 → Input T → Type 0}
+    {Failed1 : Kind → Type 0} {Failed2 Failed3 : Kind → Input T → Type 0} {Kept2 Kept3 : Type 0}
+    (kind : E → Kind) (P : O1 × O2 × O3 → Type 0) (result : Result (O1 × O2 × O3) E)
+    → SequenceCases3 Ran1 Ran2 Ran3 Failed1 Failed2 Failed3 Kept2 Kept3 (answer_by kind result)
+    → ((o1 : O1) (o2 : O2) (o3 : O3) (a : Input T) (b : Input T) → Ran1 o1 a → Ran2 o2 a b
+    → Ran3 o3 b → P (o1, o2, o3)) → IfOk result P
+sequence3_told kind P (Ok o) ran told =
+    let (a, b, r1, r2, r3) = sequence3_ok o ran in told o.0 o.1 o.2 a b r1 r2 r3
+sequence3_told kind P (Err e) ran told = tt
 
+-- four children
 pub sequence4_ok : {T O1 O2 O3 O4 : Type 0} {Ran1 : O1 → Input T → Type 0}
     {Ran2 : O2 → Input T → Input T → Type 0} {Ran3 : O3 → Input T → Input T → Type 0}
     {Ran4 : O4 → Input T → Type 0} {Failed1 : Kind → Type 0}
@@ -145,30 +122,20 @@ sequence4_err {Failed4 = Failed4} k
     (inr (inr (inr (inr (o1, o2, o3, l, a, b, c, h0, h1, h2, h3, is))))) = inr
     (inr (inr (o1, o2, o3, a, b, c, h0, h1, h2, at_kind (λ x. Failed4 x c) is h3)))
 
--- five children: the runs of SequenceRuns5, by what they relate
-abbrev pub SequenceCases5 : {T O1 O2 O3 O4 O5 : Type 0} → (O1 → Input T → Type 0)
-    → (O2 → Input T → Input T → Type 0) → (O3 → Input T → Input T → Type 0)
-    → (O4 → Input T → Input T → Type 0) → (O5 → Input T → Type 0) → (Kind → Type 0)
-    → (Kind → Input T → Type 0) → (Kind → Input T → Type 0) → (Kind → Input T → Type 0)
-    → (Kind → Input T → Type 0) → Type 0 → Type 0 → Type 0 → Type 0
-    → Answer (O1 × O2 × O3 × O4 × O5) → Type 0
-SequenceCases5 {T} {O1} {O2} {O3} {O4} {O5} Ran1 Ran2 Ran3 Ran4 Ran5 Failed1 Failed2 Failed3
-    Failed4 Failed5 Kept2 Kept3 Kept4 Kept5 answer =
-    ((o1 : O1) × (o2 : O2) × (o3 : O3) × (o4 : O4) × (o5 : O5) × (a : Input T) × (b : Input T)
-    × (c : Input T) × (d : Input T) × Ran1 o1 a × Ran2 o2 a b × Ran3 o3 b c × Ran4 o4 c d
-    × Ran5 o5 d × (answer ≡ Ok (o1, o2, o3, o4, o5)))
-    ⊎ (((l : Kind) × Failed1 l × Kept2 × Kept3 × Kept4 × Kept5 × (answer ≡ Err l))
-    ⊎ (((o1 : O1) × (l : Kind) × (a : Input T) × Ran1 o1 a × Failed2 l a × Kept3 × Kept4
-    × Kept5 × (answer ≡ Err l))
-    ⊎ (((o1 : O1) × (o2 : O2) × (l : Kind) × (a : Input T) × (b : Input T) × Ran1 o1 a
-    × Ran2 o2 a b × Failed3 l b × Kept4 × Kept5 × (answer ≡ Err l))
-    ⊎ (((o1 : O1) × (o2 : O2) × (o3 : O3) × (l : Kind) × (a : Input T) × (b : Input T)
-    × (c : Input T) × Ran1 o1 a × Ran2 o2 a b × Ran3 o3 b c × Failed4 l c × Kept5
-    × (answer ≡ Err l))
-    ⊎ ((o1 : O1) × (o2 : O2) × (o3 : O3) × (o4 : O4) × (l : Kind) × (a : Input T)
-    × (b : Input T) × (c : Input T) × (d : Input T) × Ran1 o1 a × Ran2 o2 a b
-    × Ran3 o3 b c × Ran4 o4 c d × Failed5 l d × (answer ≡ Err l))))))
+pub sequence4_told : {T O1 O2 O3 O4 E : Type 0} {Ran1 : O1 → Input T → Type 0}
+    {Ran2 : O2 → Input T → Input T → Type 0} {Ran3 : O3 → Input T → Input T → Type 0}
+    {Ran4 : O4 → Input T → Type 0} {Failed1 : Kind → Type 0}
+    {Failed2 Failed3 Failed4 : Kind → Input T → Type 0} {Kept2 Kept3 Kept4 : Type 0}
+    (kind : E → Kind) (P : O1 × O2 × O3 × O4 → Type 0) (result : Result (O1 × O2 × O3 × O4) E)
+    → SequenceCases4 Ran1 Ran2 Ran3 Ran4 Failed1 Failed2 Failed3 Failed4 Kept2 Kept3 Kept4
+    (answer_by kind result)
+    → ((o1 : O1) (o2 : O2) (o3 : O3) (o4 : O4) (a : Input T) (b : Input T) (c : Input T)
+    → Ran1 o1 a → Ran2 o2 a b → Ran3 o3 b c → Ran4 o4 c → P (o1, o2, o3, o4)) → IfOk result P
+sequence4_told kind P (Ok o) ran told =
+    let (a, b, c, r1, r2, r3, r4) = sequence4_ok o ran in told o.0 o.1 o.2 o.3 a b c r1 r2 r3 r4
+sequence4_told kind P (Err e) ran told = tt
 
+-- five children
 pub sequence5_ok : {T O1 O2 O3 O4 O5 : Type 0} {Ran1 : O1 → Input T → Type 0}
     {Ran2 : O2 → Input T → Input T → Type 0} {Ran3 : O3 → Input T → Input T → Type 0}
     {Ran4 : O4 → Input T → Input T → Type 0} {Ran5 : O5 → Input T → Type 0}
@@ -237,36 +204,23 @@ sequence5_err {Failed5 = Failed5} k
       at_kind (λ x. Failed5 x d) is h4,
     ))))
 
--- six children: the runs of SequenceRuns6, by what they relate
-abbrev pub SequenceCases6 : {T O1 O2 O3 O4 O5 O6 : Type 0} → (O1 → Input T → Type 0)
-    → (O2 → Input T → Input T → Type 0) → (O3 → Input T → Input T → Type 0)
-    → (O4 → Input T → Input T → Type 0) → (O5 → Input T → Input T → Type 0)
-    → (O6 → Input T → Type 0) → (Kind → Type 0) → (Kind → Input T → Type 0)
-    → (Kind → Input T → Type 0) → (Kind → Input T → Type 0) → (Kind → Input T → Type 0)
-    → (Kind → Input T → Type 0) → Type 0 → Type 0 → Type 0 → Type 0 → Type 0
-    → Answer (O1 × O2 × O3 × O4 × O5 × O6) → Type 0
-SequenceCases6 {T} {O1} {O2} {O3} {O4} {O5} {O6} Ran1 Ran2 Ran3 Ran4 Ran5 Ran6 Failed1 Failed2
-    Failed3 Failed4 Failed5 Failed6 Kept2 Kept3 Kept4 Kept5 Kept6 answer =
-    ((o1 : O1) × (o2 : O2) × (o3 : O3) × (o4 : O4) × (o5 : O5) × (o6 : O6) × (a : Input T)
-    × (b : Input T) × (c : Input T) × (d : Input T) × (e : Input T) × Ran1 o1 a × Ran2 o2 a b
-    × Ran3 o3 b c × Ran4 o4 c d × Ran5 o5 d e × Ran6 o6 e
-    × (answer ≡ Ok (o1, o2, o3, o4, o5, o6)))
-    ⊎ (((l : Kind) × Failed1 l × Kept2 × Kept3 × Kept4 × Kept5 × Kept6 × (answer ≡ Err l))
-    ⊎ (((o1 : O1) × (l : Kind) × (a : Input T) × Ran1 o1 a × Failed2 l a × Kept3 × Kept4
-    × Kept5 × Kept6 × (answer ≡ Err l))
-    ⊎ (((o1 : O1) × (o2 : O2) × (l : Kind) × (a : Input T) × (b : Input T) × Ran1 o1 a
-    × Ran2 o2 a b × Failed3 l b × Kept4 × Kept5 × Kept6 × (answer ≡ Err l))
-    ⊎ (((o1 : O1) × (o2 : O2) × (o3 : O3) × (l : Kind) × (a : Input T) × (b : Input T)
-    × (c : Input T) × Ran1 o1 a × Ran2 o2 a b × Ran3 o3 b c × Failed4 l c × Kept5
-    × Kept6 × (answer ≡ Err l))
-    ⊎ (((o1 : O1) × (o2 : O2) × (o3 : O3) × (o4 : O4) × (l : Kind) × (a : Input T)
-    × (b : Input T) × (c : Input T) × (d : Input T) × Ran1 o1 a × Ran2 o2 a b
-    × Ran3 o3 b c × Ran4 o4 c d × Failed5 l d × Kept6 × (answer ≡ Err l))
-    ⊎ ((o1 : O1) × (o2 : O2) × (o3 : O3) × (o4 : O4) × (o5 : O5) × (l : Kind)
-    × (a : Input T) × (b : Input T) × (c : Input T) × (d : Input T) × (e : Input T)
-    × Ran1 o1 a × Ran2 o2 a b × Ran3 o3 b c × Ran4 o4 c d × Ran5 o5 d e × Failed6 l e
-    × (answer ≡ Err l)))))))
+pub sequence5_told : {T O1 O2 O3 O4 O5 E : Type 0} {Ran1 : O1 → Input T → Type 0}
+    {Ran2 : O2 → Input T → Input T → Type 0} {Ran3 : O3 → Input T → Input T → Type 0}
+    {Ran4 : O4 → Input T → Input T → Type 0} {Ran5 : O5 → Input T → Type 0}
+    {Failed1 : Kind → Type 0} {Failed2 Failed3 Failed4 Failed5 : Kind → Input T → Type 0}
+    {Kept2 Kept3 Kept4 Kept5 : Type 0} (kind : E → Kind) (P : O1 × O2 × O3 × O4 × O5 → Type 0)
+    (result : Result (O1 × O2 × O3 × O4 × O5) E)
+    → SequenceCases5 Ran1 Ran2 Ran3 Ran4 Ran5 Failed1 Failed2 Failed3 Failed4 Failed5 Kept2
+    Kept3 Kept4 Kept5 (answer_by kind result)
+    → ((o1 : O1) (o2 : O2) (o3 : O3) (o4 : O4) (o5 : O5) (a : Input T) (b : Input T)
+    (c : Input T) (d : Input T) → Ran1 o1 a → Ran2 o2 a b → Ran3 o3 b c → Ran4 o4 c d
+    → Ran5 o5 d → P (o1, o2, o3, o4, o5)) → IfOk result P
+sequence5_told kind P (Ok o) ran told =
+    let (a, b, c, d, r1, r2, r3, r4, r5) = sequence5_ok o ran
+    in told o.0 o.1 o.2 o.3 o.4 a b c d r1 r2 r3 r4 r5
+sequence5_told kind P (Err e) ran told = tt
 
+-- six children
 pub sequence6_ok : {T O1 O2 O3 O4 O5 O6 : Type 0} {Ran1 : O1 → Input T → Type 0}
     {Ran2 : O2 → Input T → Input T → Type 0} {Ran3 : O3 → Input T → Input T → Type 0}
     {Ran4 : O4 → Input T → Input T → Type 0} {Ran5 : O5 → Input T → Input T → Type 0}
@@ -385,15 +339,37 @@ sequence6_err {Failed6 = Failed6} k
       at_kind (λ x. Failed6 x e) is h5,
     )))))
 
+pub sequence6_told : {T O1 O2 O3 O4 O5 O6 E : Type 0} {Ran1 : O1 → Input T → Type 0}
+    {Ran2 : O2 → Input T → Input T → Type 0} {Ran3 : O3 → Input T → Input T → Type 0}
+    {Ran4 : O4 → Input T → Input T → Type 0} {Ran5 : O5 → Input T → Input T → Type 0}
+    {Ran6 : O6 → Input T → Type 0} {Failed1 : Kind → Type 0}
+    {Failed2 Failed3 Failed4 Failed5 Failed6 : Kind → Input T → Type 0}
+    {Kept2 Kept3 Kept4 Kept5 Kept6 : Type 0} (kind : E → Kind)
+    (P : O1 × O2 × O3 × O4 × O5 × O6 → Type 0) (result : Result (O1 × O2 × O3 × O4 × O5 × O6) E)
+    → SequenceCases6 Ran1 Ran2 Ran3 Ran4 Ran5 Ran6 Failed1 Failed2 Failed3 Failed4 Failed5
+    Failed6 Kept2 Kept3 Kept4 Kept5 Kept6 (answer_by kind result)
+    → ((o1 : O1) (o2 : O2) (o3 : O3) (o4 : O4) (o5 : O5) (o6 : O6) (a : Input T) (b : Input T)
+    (c : Input T) (d : Input T) (e : Input T) → Ran1 o1 a → Ran2 o2 a b → Ran3 o3 b c
+    → Ran4 o4 c d → Ran5 o5 d e → Ran6 o6 e → P (o1, o2, o3, o4, o5, o6)) → IfOk result P
+sequence6_told kind P (Ok o) ran told =
+    let (a, b, c, d, e, r1, r2, r3, r4, r5, r6) = sequence6_ok o ran
+    in told o.0 o.1 o.2 o.3 o.4 o.5 a b c d e r1 r2 r3 r4 r5 r6
+sequence6_told kind P (Err e) ran told = tt
+
 pub ruleset known_sequences = (
   sequence2_ok,
   sequence2_err,
+  sequence2_told,
   sequence3_ok,
   sequence3_err,
+  sequence3_told,
   sequence4_ok,
   sequence4_err,
+  sequence4_told,
   sequence5_ok,
   sequence5_err,
+  sequence5_told,
   sequence6_ok,
   sequence6_err,
+  sequence6_told,
 )

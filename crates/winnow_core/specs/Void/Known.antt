@@ -1,14 +1,22 @@
 -- What a caller knows of one run of an output that is dropped, where it answered.
-use Rattle.std.specs.Prelude.{◌≡◌, Ok, Err, ◌⊎◌}
+use Rattle.std.specs.Prelude.{◌≡◌, Result, Ok, Err, IfOk, ◌⊎◌}
 use Rattle.std.proofs.Common.{refl, inl, inr}
+use Rattle.streams.specs.Input.{Input}
 use Rattle.streams.specs.Kind.{Kind}
-use Rattle.stream_errors.specs.Form.{Answer}
+use Rattle.stream_errors.specs.Form.{Answer, answer_by}
 use Rattle.stream_errors.specs.Form.Known.{at_kind, ok_is_err}
+use Rattle.winnow_core.specs.Runs.{Runs}
+use Rattle.winnow_core.specs.Void.{VoidRuns}
 
 -- the runs of VoidRuns, by what the child's relate
 abbrev pub VoidCases : {O : Type 0} → (O → Type 0) → (Kind → Type 0) → Answer (Unit {0}) → Type 0
 VoidCases {O} Ran Failed answer =
     ((o : O) × Ran o × (answer ≡ Ok tt)) ⊎ ((k : Kind) × Failed k × (answer ≡ Err k))
+
+pub void_cases : {S T O : Type 0} (run : Runs S T O) (s : S) (i : Input T)
+    (answer : Answer (Unit {0})) (t : S) (j : Input T) → VoidRuns run s i answer t j
+    → VoidCases (λ o. run s i (Ok o) t j) (λ k. run s i (Err k) t j) answer
+void_cases run s i answer t j ran = ran
 
 -- it succeeded: the child did
 pub void_ok : {O : Type 0} {Ran : O → Type 0} {Failed : Kind → Type 0} (u : Unit {0})
@@ -22,4 +30,11 @@ pub void_err : {O : Type 0} {Ran : O → Type 0} {Failed : Kind → Type 0} (k :
 void_err k (inl (o, r, e)) = ok_is_err e refl
 void_err {Failed = Failed} k (inr (l, r, e)) = at_kind Failed e r
 
-pub ruleset known_voids = (void_ok, void_err)
+-- so what is said of an output is said where a call answers one
+pub void_told : {O E : Type 0} {Ran : O → Type 0} {Failed : Kind → Type 0} (kind : E → Kind)
+    (P : Unit {0} → Type 0) (result : Result (Unit {0}) E)
+    → VoidCases Ran Failed (answer_by kind result) → ((o : O) → Ran o → P tt) → IfOk result P
+void_told kind P (Ok u) ran told = let (o, r) = void_ok u ran in told o r
+void_told kind P (Err e) ran told = tt
+
+pub ruleset known_voids = (void_ok, void_err, void_told)

@@ -6,7 +6,7 @@ use Rattle.winnow.specs.Form.{plain}
 use Rattle.winnow.specs.Literal.Known.{token_missing, token_taken, token_whole}
 use Rattle.winnow.specs.Sequence.Known.{sequence4_err, sequence4_ok}
 use Rattle.winnow.specs.TakeWhile.Known.{never_too_few, too_few_by, took_by}
-use Rattle.readers.proofs.PairRuns.{line_taken, line_read, line_left, no_key, no_mark}
+use Rattle.readers.proofs.PairRuns.{line_left, line_read, line_stops, line_taken, no_key, no_mark}
 use Rattle.readers.proofs.ini.pair.Goals as goal
 
 pub returns-in-Ok-clause-parts : goal.returns-in-Ok-clause-parts
@@ -24,9 +24,7 @@ returns-in-Ok-clause-parts c =
     line_read _ _ _ _ _ (line_taken _ _ _ _ _ _ _ _ _ _ _ keys mark values feeds
     (λ x h. let p = h.2 in search rules)
     (λ x h. let p = h.2 in search rules)
-    (λ x h. let p = h.2 in let seen = h.1 in grind (arith, common_steps, nat_tests))
-    (λ x h. sym h.1 ∙ h.2.0 (search rules) ∙ feed)
-    (λ x h is_feed. let told = h.2.1 (h.1 ∙ is_feed ∙ sym feed) in search rules)) ran.2
+    (λ x h. sym h.1 ∙ h.2.0 (search rules) ∙ feed)) ran.2
 
 pub returns-in-Err-Refused-clause-refused : goal.returns-in-Err-Refused-clause-refused
 returns-in-Err-Refused-clause-refused c =
@@ -71,8 +69,9 @@ returns-in-Err-Refused-clause-refused c =
           line_left _ _ _ _ _ _ (line_taken _ _ _ _ _ _ _ _ _ _ _ keys mark values feeds
           (λ x h. let p = h.2 in search rules)
           (λ x h. let p = h.2 in search rules)
+          (λ x h. sym h.1 ∙ h.2.0 (search rules) ∙ feed))
+          (line_stops _ _ _ _ _ _ _ values feeds
           (λ x h. let p = h.2 in let seen = h.1 in grind (arith, common_steps, nat_tests))
-          (λ x h. sym h.1 ∙ h.2.0 (search rules) ∙ feed)
           (λ x h is_feed. let told = h.2.1 (h.1 ∙ is_feed ∙ sym feed) in search rules))
           something at
     ]

@@ -9,7 +9,7 @@ use Rattle.winnow.specs.Form.{modal}
 use Rattle.winnow.specs.Form.Known.{ok_is_err}
 use Rattle.winnow.specs.Literal.Known.{token_missing, token_taken, token_whole}
 use Rattle.winnow.specs.InOrder.Known.{three_err, three_ok}
-use Rattle.winnow.specs.TakeWhile.Known.{never_too_few, too_few_by, took_by}
+use Rattle.winnow.specs.TakeWhile.Known.{never_too_few, too_few_by, took_all, took_by}
 use Rattle.readers.specs.Document.{Begins, section, IsNameByte}
 use Rattle.readers.proofs.PartRuns.{category_read, no_open, no_close, no_text, took_front}
 use Rattle.readers.proofs.ini.parts.category.Goals as goal
@@ -29,11 +29,9 @@ returns-in-Ok c =
           let is = ap (λ r. r.now) same in
           let front_mark = token_taken bytes_reading modal _ _ _ _ _ r1.0 in
           let end_mark = token_taken bytes_reading modal _ _ _ _ _ r3.0 in
-          let name =
-          took_front IsNameByte _ _ _ _ _ (took_by modal _ _ _ _ _ _ _ range r2.0)
-          (λ x h. let p = h.2 in search rules)
-          (λ x h is. let p = h.2 in let seen = h.1 in let no_end = is.0 in let no_feed = is.1
-          in grind (arith, common_steps, nat_tests)) in
+          let name = took_by modal _ _ _ _ _ _ _ range r2.0 in
+          let all =
+          took_all IsNameByte _ _ _ _ _ _ (λ x h. let p = h.2 in search rules) name in
           let P : List ℕ → Type 0 = λ l. IsUtf8 l in
           let Q : List ℕ → Type 0 =
           λ l. Begins (section l) c.args.input.now.now c.parse_next.new.input.now in (
@@ -42,7 +40,8 @@ returns-in-Ok c =
               u,
               subst Q (sym (told.0 ∙ is))
                   (category_read _ _ _ _ _
-                  (front_mark.splits ∙ ap (λ b. b ∷ a.left.tokens) front_is) name
+                  (front_mark.splits ∙ ap (λ b. b ∷ a.left.tokens) front_is)
+                  name.longest.splits all
                   (end_mark.splits ∙ ap (λ b. b ∷ c.parse_next.new.input.now) end_is)
                   (subst P is told.1)),
               e,
