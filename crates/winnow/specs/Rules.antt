@@ -8,7 +8,7 @@ pub use Rattle.winnow_core.specs.Map.Known.{known_maps}
 pub use Rattle.winnow_core.specs.Parse.Known.{known_parses}
 pub use Rattle.winnow_core.specs.Sequence.Known.{known_sequences}
 pub use Rattle.winnow_core.specs.Splits.{known_splits}
-pub use Rattle.winnow_core.specs.Take.Known.{known_takes as known_taken_slices}
+pub use Rattle.winnow_core.specs.Take.Known.{known_slices}
 pub use Rattle.winnow_core.specs.VerifyMap.Known.{known_verified_maps}
 pub use Rattle.winnow_core.specs.Void.Known.{known_voids}
 pub use Rattle.winnow_token.specs.Any.Known.{known_tokens}
