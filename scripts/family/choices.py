@@ -86,10 +86,23 @@ CHOICE_IMPLS = """//! Tuples as branches.
 //!
 //! {head}
 ghost use Rattle.winnow_comb.specs.Alt.{{OrElse}};
-ghost use Rattle.winnow_comb.specs.Alt.Laws.{{or_else_agrees, or_else_ends}};
+ghost use Rattle.winnow_comb.specs.Alt.Laws.{{or_else_ends}};
+
+use crate::combinator::impls::alt::{{Alt, attempt}};
+use stream_errors::parser_error::ParserError;
+use streams::stream::Stream;
+use winnow_core::parser::Parser;
+
+{family}
+"""
+
+CHOICES_AGREE = """//! Choices among the members of tuples agree where these do.
+//!
+//! {head}
+ghost use Rattle.winnow_comb.specs.Alt.Laws.{{or_else_agrees}};
 ghost use Rattle.winnow_core.specs.Agrees.{{agrees1}};
 
-use crate::combinator::impls::alt::{{Alt, AltParser, attempt}};
+use crate::combinator::impls::alt::AltParser;
 use stream_errors::parser_error::ParserError;
 use streams::stream::Stream;
 use winnow_core::agrees_with::AgreesWith;
@@ -237,8 +250,9 @@ returns g c = chooses_first{n} {runs}
 def write_choices():
     comb = "crates/winnow_comb/"
     sizes = range(2, MOST + 1)
-    family = "\n\n".join("%s\n\n%s" % (choice_impl(n), choice_agrees(n)) for n in upto(MOST))
-    write(comb + "src/combinator/impls/alt/tuples.rt", CHOICE_IMPLS, family=family)
+    impls = comb + "src/combinator/impls/alt/"
+    write(impls + "tuples.rt", CHOICE_IMPLS, family="\n\n".join(choice_impl(n) for n in upto(MOST)))
+    write(impls + "agreeing.rt", CHOICES_AGREE, family="\n\n".join(choice_agrees(n) for n in upto(MOST)))
     # what the prover does not find: choices behind three branches that backtracked
     for n in range(4, MOST + 1):
         answers = "\n\n".join(choice_answer(n, k) for k in range(4, n + 1))

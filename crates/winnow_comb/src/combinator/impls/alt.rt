@@ -5,6 +5,7 @@ ghost use Rattle.streams.specs.Input.{IsEndOf};
 ghost use Rattle.winnow_comb.specs.Attempt.{AttemptRuns};
 ghost use Rattle.winnow_core.specs.Runs.{LeaveEnds, Meaning};
 
+mod agreeing;
 mod slices;
 mod tuples;
 
