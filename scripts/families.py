@@ -13,6 +13,7 @@ the crate `winnow_ascii`. It prints the crates whose files it writes.
 from family.choices import write_choices
 from family.classes import write_classes
 from family.known import write_known
+from family.reads import write_reads
 from family.sequences import write_sequences
 from family.sets import write_sets
 
@@ -20,6 +21,7 @@ if __name__ == "__main__":
     write_sets()
     write_sequences()
     write_known()
+    write_reads()
     write_choices()
     write_classes()
     print("stream_sets winnow_core winnow_comb winnow_ascii")

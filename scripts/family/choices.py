@@ -155,7 +155,7 @@ def attempt(step, k):
 
 def choice_answer(n, answering):
     """That the run of a choice among n is one where `answering` answers, behind those that backtracked."""
-    form = "g.E.ParserError.form"
+    form = "g.E.HasKind.form"
     goal = "returns-clause-ran" if answering == n else "returns-in-Some-attempt-%d-clause-ran" % (answering - 1)
 
     def meaning(k):
@@ -178,7 +178,7 @@ def choice_answer(n, answering):
 
 
 CHOICE_ANSWERS = """-- {head}
-use Rattle.std.proofs.Common.{{refl, sym, ap, inl}}
+use Rattle.std.proofs.Common.{{{common}}}
 use Rattle.winnow_comb.specs.Alt.{{OrElse}}
 use Rattle.winnow_comb.specs.Alt.Laws.{{or_else_next}}
 use Rattle.winnow_comb.proofs.combinator.impls.alt.tuples.Tuple{n}Alt.choice.Goals as goal
@@ -256,12 +256,14 @@ def write_choices():
     # what the prover does not find: choices behind three branches that backtracked
     for n in range(4, MOST + 1):
         answers = "\n\n".join(choice_answer(n, k) for k in range(4, n + 1))
-        write(comb + "proofs/combinator/impls/alt/tuples/Tuple%dAlt/choice/Answers.antt" % n, CHOICE_ANSWERS, n=n, answers=answers)
+        common = "sym, ap" if n == 4 else "refl, sym, ap, inl"
+        path = comb + "proofs/combinator/impls/alt/tuples/Tuple%dAlt/choice/Answers.antt" % n
+        write(path, CHOICE_ANSWERS, n=n, common=common, answers=answers)
     laws = ", ".join("ChoosesFirst%d" % n for n in sizes)
     write(comb + "specs/ChoiceLaws.antt", LAW_SPECS, family="\n\n".join(law_spec(n) for n in sizes))
     write(comb + "proofs/ChoiceLaws.antt", LAW_LEMMAS, laws=laws, family="\n\n".join(law_lemma(n) for n in sizes))
     write(comb + "src/laws/choices.rt", LAW_FUNCTIONS, laws=laws, family="\n\n".join(law_function(n) for n in sizes))
     for n in sizes:
         path = comb + "proofs/laws/choices/alt_of_%s_answers_as_the_first/Answers.antt" % NUMBER[n]
-        runs = " ".join("(g.P%d.Parser.meaning g.E.ParserError.form)" % k for k in upto(n))
+        runs = " ".join("(g.P%d.Parser.meaning g.E.HasKind.form)" % k for k in upto(n))
         write(path, LAW_ANSWERS, n=n, number=NUMBER[n], runs=runs)

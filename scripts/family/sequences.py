@@ -326,7 +326,6 @@ def agreement(n):
 
 AGREEMENTS = """-- What is made of one to six children that agree agrees.
 -- {head}
-use Rattle.std.specs.Prelude.{{◌≡◌}}
 use Rattle.std.proofs.Common.{{refl, ap, ◌∙◌}}
 use Rattle.winnow_core.specs.Agrees.{{Agrees}}
 use Rattle.winnow_core.specs.Runs.{{Meaning}}

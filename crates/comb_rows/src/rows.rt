@@ -7,6 +7,7 @@ mod basic;
 mod branch;
 mod complete;
 mod multi;
+mod separated;
 mod sequence;
 
 use outcomes::texts::{OfText, endings_at, endings_in_text, outcome_at, outcome_in_text};
@@ -172,6 +173,7 @@ where
     branch::alt_of_items::<I, E>(rt);
     sequence::at_bytes::<I, E>(rt);
     multi::at_bytes::<I, E, A>(rt, alloc);
+    separated::separated::<I, E, A>(rt, alloc);
 }
 
 /// The rows at bytes under a plain error: an assert error backtracks.
@@ -181,6 +183,7 @@ fn at_bytes_plainly<I: OfText + Compare<u8>, E: ParserError<I>>(rt: &impl Abort,
     sequence::tuples::<I, E>(rt);
     multi::repeat_plainly::<I, E, Global>(rt, alloc);
     multi::repeat_without_memory::<I, E>(rt, alloc);
+    separated::separated_without_memory::<I, E>(rt, alloc);
 }
 
 /// The rows at streams of characters, whole and cut.
@@ -194,6 +197,7 @@ where
     branch::alt_on_cut_input::<I, E>(rt);
     sequence::at_text::<I, E>(rt);
     multi::repeat_on_cut_input::<I, E, A>(rt, alloc);
+    separated::separated_on_cut_input::<I, E, A>(rt, alloc);
 }
 
 /// The rows on a stream, on the partial one of it, and of the like parsers on the two.

@@ -5,10 +5,12 @@
 //! by [`OfText`](crate::texts::OfText).
 #![tactic(auto)]
 
-ghost use Rattle.std.specs.Prelude.{◌≡◌, ◌-◌};
+ghost use Rattle.std.specs.Prelude.{◌≡◌, ◌-◌, ◌==◌, ⊤, Err, None, Some, if◌then◌else◌};
 ghost use Rattle.streams.specs.Input.{Input};
+ghost use Rattle.streams.specs.Kind.{incomplete};
 ghost use Rattle.stream_errors.specs.Form.{Answer, answer_by};
-ghost use Rattle.outcomes.specs.Shown.{ShowsEnding, answer_shown, kind_shown};
+ghost use Rattle.outcomes.specs.Shown.{EndsOnce, ShowsEnding, answer_shown, kind_shown};
+ghost use Rattle.outcomes.specs.Shown.{wants_more};
 
 pub mod texts;
 
@@ -88,13 +90,18 @@ pub const CUTS: Ending = Ending::Fails(Kind::Cut, 0);
 pub const LACKS: Ending = Ending::Fails(Kind::Incomplete(Needed::Unknown), 0);
 
 /// The end of a run that takes nothing and needs so many units more.
-pub fn lacks(units: usize) -> Ending {
+pub fn lacks(units: usize) -> Ending
+    ensures { ShowsEnding {O = ⊤} result
+        (Err (incomplete (if units == 0 then None else Some units))) 0 }
+{
     Ending::Fails(Kind::Incomplete(Needed::new(units)), 0)
 }
 
 impl Ending {
     /// Whether more input may change it.
-    pub fn is_incomplete(&self) -> bool {
+    pub fn is_incomplete(&self) -> bool
+        ensures { result ≡ wants_more self.now }
+    {
         match self {
             Ending::Fails(Kind::Incomplete(_), _) => true,
             _ => false,
@@ -118,10 +125,8 @@ pub fn ending_of<I: Stream, O: Drop, E: ParserError<I>, P: Parser<I, O, E>>(
     input: I,
 ) -> Ending
     requires { P.can_parse parser.old }
-    ensures ran { (answer : Answer O) × (rest : Input I.Seen)
-        × P.meaning E.form (P.state parser.old) (I.view input) answer (P.state parser.new) rest
-        × ShowsEnding result answer
-        (I.reading.units (I.view input).left.tokens - I.reading.units rest.left.tokens) }
+    ensures ran { EndsOnce (P.meaning E.form) I.reading.units (P.state parser.old) (I.view input)
+        result (P.state parser.new) }
     ensures again { P.can_parse parser.new }
 {
     let before = input.eof_offset();

@@ -1,4 +1,14 @@
 //! Streams that are made of texts.
+ghost use Rattle.std.specs.Prelude.{◌≡◌, false, true, ℕ, List, [], ◌∷◌, MatchBool};
+ghost use Rattle.streams.specs.Bytes.{bytes_input};
+ghost use Rattle.streams.specs.Input.{Input};
+ghost use Rattle.streams.specs.Located.{located_input};
+ghost use Rattle.streams.specs.Partial.{with_flag};
+ghost use Rattle.streams.specs.Text.{text_input};
+ghost use Rattle.outcomes.specs.Shown.{EndsOnce, answer_shown};
+ghost use Rattle.outcomes.specs.declared.Ending.{Ending};
+ghost use Rattle.outcomes.specs.Texts.{ShowsText, beginning_of};
+
 use crate::{Ending, Kind, Outcome, ending_of, outcome_of};
 use std::fmt::Debug;
 use stream_errors::parser_error::ParserError;
@@ -10,25 +20,34 @@ use winnow_core::parser::Parser;
 
 /// A stream that the rows of a test run on.
 pub trait OfText: StreamIsPartial + PartialEq + Debug {
+    // The input that a text of these bytes makes.
+    ghost input_of: { List ℕ → Input Self.Seen };
+
     /// The stream of `text`, cut where the stream can be.
-    fn of_text(text: &'static str) -> Self;
+    fn of_text(text: &'static str) -> Self
+        ensures { Self.view result ≡ input_of text.now };
 
     /// The stream of the first tokens of `text`, so many; of all where there are no more.
-    fn of_beginning(text: &'static str, count: usize) -> Self;
+    fn of_beginning(text: &'static str, count: usize) -> Self
+        ensures { Self.view result ≡ beginning_of (input_of text.now) count };
 
     /// The slice that is `text`.
-    fn slice_of_text(text: &'static str) -> Self::Slice;
+    fn slice_of_text(text: &'static str) -> Self::Slice
+        ensures { Self.reading.shows result (input_of text.now).left.tokens };
 }
 
 impl OfText for &'static str {
+    ghost input_of = { text_input };
+
     fn of_text(text: &'static str) -> &'static str {
         text
     }
 
     fn of_beginning(text: &'static str, count: usize) -> &'static str {
-        match text.char_indices().nth(count) {
-            Some((offset, _)) => text.get(..offset).unwrap_or(text),
-            None => text,
+        let mut rest = text;
+        match rest.offset_at(count) {
+            Ok(offset) => rest.next_slice(offset),
+            Err(_) => text,
         }
     }
 
@@ -38,6 +57,8 @@ impl OfText for &'static str {
 }
 
 impl OfText for &'static [u8] {
+    ghost input_of = { bytes_input };
+
     fn of_text(text: &'static str) -> &'static [u8] {
         text.as_bytes()
     }
@@ -53,6 +74,8 @@ impl OfText for &'static [u8] {
 }
 
 impl<I: OfText> OfText for Partial<I> {
+    ghost input_of = { λ text. with_flag (I.input_of text) true };
+
     fn of_text(text: &'static str) -> Partial<I> {
         Partial::new(I::of_text(text))
     }
@@ -67,6 +90,8 @@ impl<I: OfText> OfText for Partial<I> {
 }
 
 impl<I: OfText> OfText for LocatingSlice<I> {
+    ghost input_of = { λ text. located_input (I.input_of text) 0 };
+
     fn of_text(text: &'static str) -> LocatingSlice<I> {
         LocatingSlice::new(I::of_text(text))
     }
@@ -81,19 +106,26 @@ impl<I: OfText> OfText for LocatingSlice<I> {
 }
 
 /// The stream, marked complete.
-pub fn completed<I: StreamIsPartial>(input: I) -> I {
+pub fn completed<I: StreamIsPartial>(input: I) -> I
+    ensures { I.view result ≡ with_flag (I.view input) false }
+{
     let mut input = input;
     let _state = input.complete();
     input
 }
 
 /// The stream of `text`, whole.
-pub fn whole<I: OfText>(text: &'static str) -> I {
+pub fn whole<I: OfText>(text: &'static str) -> I
+    ensures { I.view result ≡ with_flag (I.input_of text.now) false }
+{
     completed(I::of_text(text))
 }
 
 /// A run on a whole text that answers so, and leaves so much of it.
-pub fn outcome_in_text<I: OfText, O>(answer: Result<O, Kind>, rest: &'static str) -> Outcome<O, I> {
+pub fn outcome_in_text<I: OfText, O>(answer: Result<O, Kind>, rest: &'static str) -> Outcome<O, I>
+    ensures answer { result.0 ≡ answer }
+    ensures rest { I.view result.1 ≡ with_flag (I.input_of rest.now) false }
+{
     (answer, whole(rest))
 }
 
@@ -103,7 +135,9 @@ pub fn outcome_at<I: OfText, O, E: ParserError<I>, P: Parser<I, O, E>>(
     text: &'static str,
 ) -> Outcome<O, I>
     requires { P.can_parse parser.old }
-    ensures { P.can_parse parser.new }
+    ensures ran { P.meaning E.form (P.state parser.old) (with_flag (I.input_of text.now) false)
+        (answer_shown result.0) (P.state parser.new) (I.view result.1) }
+    ensures again { P.can_parse parser.new }
 {
     outcome_of::<I, O, E, P>(parser, whole(text))
 }
@@ -114,7 +148,12 @@ pub fn endings_at<I: OfText, O: Drop, E: ParserError<I>, P: Parser<I, O, E>>(
     text: &'static str,
 ) -> [Ending; 2]
     requires { P.can_parse parser.old }
-    ensures { P.can_parse parser.new }
+    ensures ran { (first second : Ending) × (between : P.State) × (result ≡ first ∷ second ∷ [])
+        × EndsOnce (P.meaning E.form) I.reading.units (P.state parser.old)
+        (I.input_of text.now) first between
+        × EndsOnce (P.meaning E.form) I.reading.units between
+        (with_flag (I.input_of text.now) false) second (P.state parser.new) }
+    ensures again { P.can_parse parser.new }
 {
     [
         ending_of::<I, O, E, P>(parser, I::of_text(text)),
@@ -123,7 +162,10 @@ pub fn endings_at<I: OfText, O: Drop, E: ParserError<I>, P: Parser<I, O, E>>(
 }
 
 /// What these are where the parser ends so on the whole text, and so on the cut one.
-pub fn endings_in_text<I: OfText>(as_whole: Ending, as_cut: Ending) -> [Ending; 2] {
+pub fn endings_in_text<I: OfText>(as_whole: Ending, as_cut: Ending) -> [Ending; 2]
+    ensures { MatchBool (I.input_of []).status.cut (result ≡ as_cut ∷ as_whole ∷ [])
+        (result ≡ as_whole ∷ as_whole ∷ []) }
+{
     if I::of_text("").is_partial() {
         [as_cut, as_whole]
     } else {
@@ -132,7 +174,10 @@ pub fn endings_in_text<I: OfText>(as_whole: Ending, as_cut: Ending) -> [Ending; 
 }
 
 /// What a row says of a slice, at a stream.
-pub fn slice_in_text<I: OfText>(answer: Result<&'static str, Kind>) -> Result<I::Slice, Kind> {
+pub fn slice_in_text<I: OfText>(answer: Result<&'static str, Kind>) -> Result<I::Slice, Kind>
+    ensures { ShowsText I.reading.shows (λ text. (I.input_of text).left.tokens) answer.entry
+        result }
+{
     match answer {
         Ok(text) => Ok(I::slice_of_text(text)),
         Err(kind) => Err(kind),
@@ -150,6 +195,10 @@ where
     Q: Parser<Partial<I>, O, E> + Drop,
     requires parser { P.can_parse parser }
     requires like { Q.can_parse like }
+    ensures plain { (last : P.State) × EndsOnce (P.meaning ⟦<E as ParserError<I>>⟧.form)
+        I.reading.units (P.state parser) (I.input_of text.now) result.0 last }
+    ensures like { (last : Q.State) × EndsOnce (Q.meaning ⟦<E as ParserError<Partial<I>>>⟧.form)
+        I.reading.units (Q.state like) (with_flag (I.input_of text.now) false) result.1 last }
 {
     let mut parser = parser;
     let mut like = like;

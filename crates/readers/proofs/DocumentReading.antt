@@ -12,7 +12,7 @@ use Rattle.winnow.specs.Form.{Answer, inner_kind_of, marked_kind}
 use Rattle.winnow.specs.Form.Known.{at_output, ok_is_err, same_kind}
 use Rattle.winnow.specs.Mode.{as_inner}
 use Rattle.winnow.specs.Accumulator.{list_kept}
-use Rattle.winnow.specs.Range.{greatest_of}
+use Rattle.winnow.specs.Range.{bounds_of}
 use Rattle.winnow.specs.{Range}
 use Rattle.winnow.specs.Runs.{Runs}
 use Rattle.winnow.specs.InOrder.Known.{both_err}
@@ -147,8 +147,7 @@ pub sections_repeated : {S X A : Type 0} (told : X → SectionText) (run : Runs 
     (assert_kind : Kind) (range : Range) (s : S) (i : Input ℕ) (answer : Answer (Vec X A))
     (t : S) (j : Input ℕ) → range ≡ record { start_inclusive = 0; end_inclusive = None }
     → IsEndOf bytes_reading j i
-    → RepeatRuns run list_kept assert_kind range.start_inclusive
-    (greatest_of range.start_inclusive range.end_inclusive) s i answer t j
+    → RepeatRuns run list_kept assert_kind (bounds_of range) s i answer t j
     → ((s : S) (i : Input ℕ) (answer : Answer X) (t : S) (j : Input ℕ) → run s i answer t j
     → SectionRuns told i answer j)
     → SectionsRuns (λ all. map told all.items) i answer j

@@ -6,7 +6,7 @@ use Rattle.winnow.specs.Input.{Input}
 use Rattle.winnow.specs.Kind.{Kind, backtrack}
 use Rattle.winnow.specs.Form.{Answer}
 use Rattle.winnow.specs.Accumulator.{nothing_kept}
-use Rattle.winnow.specs.Range.{greatest_of}
+use Rattle.winnow.specs.Range.{bounds_of}
 use Rattle.winnow.specs.{Range}
 use Rattle.winnow.specs.Runs.{Runs}
 use Rattle.winnow.specs.Repeat.{RepeatRuns}
@@ -41,8 +41,7 @@ gap_parts run reads (o ∷ os) s i u m whole (p, item, rest) =
 pub gap_read : {S O : Type 0} (run : Runs S ℕ O) (assert_kind : Kind) (range : Range) (s : S)
     (i : Input ℕ) (answer : Answer (Unit {0})) (t : S) (j : Input ℕ)
     → range ≡ record { start_inclusive = 0; end_inclusive = None } → i.status.cut ≡ false
-    → RepeatRuns run nothing_kept assert_kind range.start_inclusive
-    (greatest_of range.start_inclusive range.end_inclusive) s i answer t j
+    → RepeatRuns run nothing_kept assert_kind (bounds_of range) s i answer t j
     → ReadsGapPart run
     → (parts : List Part) × AllByRecursion IsGapPart parts
     × BeginsWith parts i.left.tokens j.left.tokens × NoGapBegins j.left.tokens

@@ -11,7 +11,7 @@ use Rattle.winnow.specs.Kind.{Kind, backtrack, memory}
 use Rattle.winnow.specs.Form.{Answer}
 use Rattle.winnow.specs.Form.Known.{at_output, ok_is_err, same_kind}
 use Rattle.winnow.specs.Accumulator.{list_kept}
-use Rattle.winnow.specs.Range.{greatest_of}
+use Rattle.winnow.specs.Range.{bounds_of}
 use Rattle.winnow.specs.{Range}
 use Rattle.winnow.specs.Runs.{Runs}
 use Rattle.winnow.specs.InOrder.Known.{both_err}
@@ -149,8 +149,7 @@ pub pairs_repeated : {S A : Type 0} (run : Runs S ℕ (Bor (List ℕ) × Bor (Li
     (assert_kind : Kind) (range : Range) (s : S) (i : Input ℕ)
     (answer : Answer (Vec (Bor (List ℕ) × Bor (List ℕ)) A)) (t : S) (j : Input ℕ)
     → range ≡ record { start_inclusive = 0; end_inclusive = None } → IsEndOf bytes_reading j i
-    → RepeatRuns run list_kept assert_kind range.start_inclusive
-    (greatest_of range.start_inclusive range.end_inclusive) s i answer t j
+    → RepeatRuns run list_kept assert_kind (bounds_of range) s i answer t j
     → ReadsPair run → PairsRuns (λ all. map pair_text all.items) i answer j
 pairs_repeated run assert_kind range s i (Ok all) t j e ends ran reads =
     let told =

@@ -1,6 +1,5 @@
 -- Which requests a plan refuses. Requests are numbered from 0, and how many there were so far is in
--- a cell, so the last two
--- definitions only say that there is such a number.
+-- a cell, so the last two definitions only say that there is such a number.
 use Rattle.std.specs.Prelude.{◌≡◌, ℕ, ◌^◌, ◌<◌, ◌≤◌, ◌↔◌, Bool, IsTrue}
 use Rattle.refusing.specs.declared.requests.Plan.{Plan}
 use Rattle.refusing.specs.declared.requests.Plan.TheVariants.{Once, AlwaysFrom}

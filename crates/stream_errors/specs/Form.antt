@@ -2,12 +2,8 @@
 use Rattle.std.specs.Prelude.{◌≡◌, ℕ, Bool, true, false, Option, Some, None, Result, Ok, Err}
 use Rattle.std.proofs.Common.{refl, ◌⊎◌, inl, inr}
 use Rattle.streams.specs.Kind.{Kind, backtrack, cut, incomplete, memory}
+pub use Rattle.streams.specs.Kind.{ErrorForm, plain, modal}
 pub mod Known
-
--- A plain error type has the kinds backtrack and memory; a modal one, as ErrMode, all four.
-pub data ErrorForm : Type 0 where
-  plain : ErrorForm
-  modal : ErrorForm
 
 -- the kind of an assert error: a parser that was made or called wrongly
 abbrev pub assert_kind : ErrorForm → Kind

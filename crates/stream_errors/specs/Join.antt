@@ -1,7 +1,10 @@
 -- What becomes of the kinds of two errors that are joined.
-use Rattle.std.specs.Prelude.{◌≡◌, ◌⊎◌}
+use Rattle.std.specs.Prelude.{◌≡◌, ◌⊎◌, None}
+use Rattle.std.proofs.Common.{refl, ap, ◌∙◌, inl, inr}
 use Rattle.streams.specs.Kind.{Kind, backtrack, cut, incomplete, memory}
 use Rattle.streams.specs.declared.needed.Needed.{Needed}
+use Rattle.stream_errors.specs.Form.{need_of_kind}
+use Rattle.stream_errors.specs.Mode.{mode_round}
 use Rattle.stream_errors.specs.declared.mode.ErrMode.{ErrMode}
 use Rattle.stream_errors.specs.declared.mode.ErrMode.TheVariants.{Backtrack, Cut, Incomplete}
 
@@ -22,6 +25,34 @@ joint_kind (incomplete need) (incomplete other) = incomplete need
 -- The kind is the one that is promised; or it is memory, and a request for it could be refused.
 abbrev pub IsOrMemory : Kind → Type 0 → Kind → Type 0
 IsOrMemory promised grows kind = (kind ≡ promised) ⊎ ((kind ≡ memory) × grows)
+
+-- The kind is kept; or it is memory, and a request for it could be refused. An incomplete error
+-- has nothing to keep it in, and stays.
+abbrev pub KeepsKind : Type 0 → Kind → Kind → Type 0
+KeepsKind grows old new = (new ≡ old) ⊎ ((new ≡ memory) × (need_of_kind old ≡ None) × grows)
+
+-- an inner error is not incomplete for its mode
+whole_round : (k : Kind) → (need_of_kind (mode_round backtrack k) ≡ None)
+    × (need_of_kind (mode_round cut k) ≡ None)
+whole_round memory = (refl, refl)
+whole_round backtrack = (refl, refl)
+whole_round cut = (refl, refl)
+whole_round (incomplete need) = (refl, refl)
+
+-- where the inner error keeps its kind, so does the error that backtracks, or cuts, round it
+pub keeps_backtrack : {grows : Type 0} (old new : Kind) → KeepsKind grows old new
+    → KeepsKind grows (mode_round backtrack old) (mode_round backtrack new)
+keeps_backtrack old new (inl same) = inl (ap (mode_round backtrack) same)
+keeps_backtrack old new (inr (is, whole, grew)) =
+    inr (ap (mode_round backtrack) is, (whole_round old).0, grew)
+
+pub keeps_cut : {grows : Type 0} (old new : Kind) → KeepsKind grows old new
+    → KeepsKind grows (mode_round cut old) (mode_round cut new)
+keeps_cut old new (inl same) = inl (ap (mode_round cut) same)
+keeps_cut old new (inr (is, whole, grew)) =
+    inr (ap (mode_round cut) is, (whole_round old).1, grew)
+
+pub ruleset keeps_kinds = (keeps_backtrack, keeps_cut)
 
 -- an error with a mode asks for memory where its inner error does
 abbrev pub inner_grows : {E : Type 0} → (E → Type 0) → ErrMode E Needed → Type 0

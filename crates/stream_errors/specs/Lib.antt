@@ -2,3 +2,4 @@ pub mod Form
 pub mod Mode
 pub mod Join
 pub mod Fault
+pub mod ContextError

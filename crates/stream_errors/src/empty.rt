@@ -21,12 +21,12 @@ pub struct EmptyError {
 
 impl HasKind for EmptyError {
     ghost kind = { λ e. marked_kind e.is_memory };
+
+    ghost form = { plain };
 }
 
 impl<I: Stream> ParserError<I> for EmptyError {
     type Inner = EmptyError;
-
-    ghost form = { plain };
 
     ghost inner_kind = { λ e. marked_kind e.is_memory };
 

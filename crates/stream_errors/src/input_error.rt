@@ -36,12 +36,12 @@ impl<I> InputError<I> {
 
 impl<I> HasKind for InputError<I> {
     ghost kind = { λ e. marked_kind e.is_memory };
+
+    ghost form = { plain };
 }
 
 impl<I: Stream + Copy> ParserError<I> for InputError<I> {
     type Inner = InputError<I>;
-
-    ghost form = { plain };
 
     ghost inner_kind = { λ e. marked_kind e.is_memory };
 

@@ -5,7 +5,10 @@
 //! [`ErrMode`](crate::mode::ErrMode) round it has all four.
 #![tactic(auto)]
 
+pub mod context;
+pub mod context_error;
 pub mod empty;
+pub mod external;
 pub mod fault;
 pub mod has_kind;
 pub mod input_error;

@@ -5,8 +5,7 @@ ghost use Rattle.stream_errors.specs.Mode.{cut_of, backtrack_of};
 use crate::has_kind::HasKind;
 use crate::mode::ErrMode;
 
-/// An error that says whether other branches may be tried, and can be told, as winnow's
-/// documentation has it.
+/// An error that says whether other branches may be tried, and can be told.
 ///
 /// ```text
 /// ErrMode::Backtrack(error).cut()     is ErrMode::Cut(error)

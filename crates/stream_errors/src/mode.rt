@@ -11,7 +11,7 @@ use crate::parser_error::ParserError;
 use streams::needed::Needed;
 use streams::stream::Stream;
 
-/// An error with how the parsers around it take it, as winnow's documentation has it.
+/// An error with how the parsers around it take it.
 ///
 /// Its kind is memory where the inner error is marked so, else that of the variant. `N` is
 /// [`Needed`] wherever the error is used.
@@ -47,12 +47,12 @@ impl<E, N> ErrMode<E, N> {
 
 impl<E: HasKind> HasKind for ErrMode<E> {
     ghost kind = { λ e. mode_kind E.kind e };
+
+    ghost form = { modal };
 }
 
 impl<I: Stream, E: ParserError<I>> ParserError<I> for ErrMode<E> {
     type Inner = E;
-
-    ghost form = { modal };
 
     ghost inner_kind = { λ e. as_inner (E.kind e) };
 

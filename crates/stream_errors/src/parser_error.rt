@@ -25,9 +25,6 @@ pub trait ParserError<I: Stream>: HasKind + Drop {
     /// The error without its mode.
     type Inner: Drop;
 
-    // Whether the type has all kinds, or backtrack and memory alone.
-    ghost form: { ErrorForm };
-
     // The kind of an inner error.
     ghost inner_kind: { Self.Inner → Kind };
 
@@ -44,11 +41,11 @@ pub trait ParserError<I: Stream>: HasKind + Drop {
     /// The error for a parser that was made or called wrongly: it cuts, or backtracks for a plain
     /// type. It never ends the process.
     fn assert(input: &I, message: &'static str) -> Self
-        ensures { Self.kind result ≡ assert_kind form };
+        ensures { Self.kind result ≡ assert_kind Self.form };
 
     /// The error for a need of more input: it is incomplete, or backtracks for a plain type.
     fn incomplete(input: &I, needed: Needed) -> Self
-        ensures { Self.kind result ≡ incomplete_kind form (need_of needed) };
+        ensures { Self.kind result ≡ incomplete_kind Self.form (need_of needed) };
 
     /// The error for want of memory.
     fn no_memory(input: &I) -> Self
@@ -89,6 +86,6 @@ pub trait ParserError<I: Stream>: HasKind + Drop {
             (λ e. (inner_kind_of (Self.kind self) ≡ None) × (e ≡ self)) };
 
     // An error of a plain type backtracks or wants memory.
-    ghost plain_kinds: { form ≡ plain → (e : Self)
+    ghost plain_kinds: { Self.form ≡ plain → (e : Self)
         → (Self.kind e ≡ backtrack) ⊎ (Self.kind e ≡ memory) };
 }

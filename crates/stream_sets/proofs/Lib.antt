@@ -3,3 +3,4 @@ pub mod FindLemmas
 pub mod TextFindLemmas
 pub mod SeveralLemmas
 pub mod CaselessLemmas
+pub mod PlaceLemmas

@@ -10,3 +10,4 @@ pub mod Three
 pub mod FindSlice
 pub mod Accumulator
 pub mod FirstMatch
+pub mod ParseSlice

@@ -2,12 +2,26 @@
 use Rattle.std.specs.Prelude.{◌≡◌, ◌<◌, ◌≤◌, ◌-◌, ◌^◌, ℕ, nat_le, if◌then◌else◌, Option, Some, None}
 use Rattle.std.specs.Prelude.{⊤, MatchOption}
 use Rattle.std.proofs.lemmas.Bool.{le-leb, lt-leb}
+use Rattle.stream_sets.specs.declared.range.Range.{Range}
 
 -- The greatest count by the least and the written greatest one. The forms `0..` and `1..` have
 -- none; another range with no greatest count has the greatest number of its type.
 abbrev pub greatest_of : ℕ → Option ℕ → Option ℕ
 greatest_of least (Some n) = Some n
 greatest_of least None = if nat_le least 1 then None else Some (2 ^ 64 - 1)
+
+-- The bounds of a count: the least one, and the greatest one, if there is one.
+pub record Bounds : Type 0 where
+  pub least : ℕ
+  pub greatest : Option ℕ
+
+abbrev pub from_to : ℕ → Option ℕ → Bounds
+from_to least greatest = record { least = least; greatest = greatest }
+
+-- the bounds that a range stands for
+abbrev pub bounds_of : Range → Bounds
+bounds_of range =
+    from_to range.start_inclusive (greatest_of range.start_inclusive range.end_inclusive)
 
 -- n is at most the greatest count, if there is one
 abbrev pub IsWithin : Option ℕ → ℕ → Type 0

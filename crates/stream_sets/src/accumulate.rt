@@ -4,8 +4,8 @@ ghost use Rattle.stream_sets.specs.Accumulator.{Accumulator, list_kept, nothing_
 
 use std::alloc::{AllocError, Allocator};
 
-/// What a repetition puts its outputs into: nothing, or a list, as winnow's documentation has it.
-/// `A` is the allocator that it is made with.
+/// What a repetition puts its outputs into: nothing, or a list. `A` is the allocator that it is
+/// made with.
 ///
 /// ```text
 /// <Vec<u8> as Accumulate<u8, Global>>::initial(alloc, None)   is Ok of an empty list

@@ -9,7 +9,7 @@ use streams::locating::LocatingSlice;
 use streams::partial::Partial;
 use streams::stream::Stream;
 
-/// A slice of bytes or of text, seen as its bytes, as winnow's documentation has it.
+/// A slice of bytes or of text, seen as its bytes.
 ///
 /// ```text
 /// "é".as_bstr()   is [0xC3, 0xA9]
@@ -68,6 +68,10 @@ where
     // An ASCII character is the byte of its number.
     ghost ascii_byte: { (token : Self.Token) → Self.Token.code token < 128
         → bytes_of (Self.seen_as token ∷ []) ≡ Self.Token.code token ∷ [] };
+
+    // Tokens that are seen alike are one character.
+    ghost one_code: { (token other : Self.Token) → Self.seen_as token ≡ Self.seen_as other
+        → Self.Token.code token ≡ Self.Token.code other };
 }
 
 impl<'a> SlicesAsBytes for &'a [u8] {
@@ -78,6 +82,8 @@ impl<'a> SlicesAsBytes for &'a [u8] {
     ghost bytes_add = { λ xs ys. refl };
 
     ghost ascii_byte = { λ token small. refl };
+
+    ghost one_code = { λ token other same. same };
 }
 
 impl<'a> SlicesAsBytes for &'a str {
@@ -88,6 +94,8 @@ impl<'a> SlicesAsBytes for &'a str {
     ghost bytes_add = { encodes-append };
 
     ghost ascii_byte = { encodes_ascii };
+
+    ghost one_code = { λ token other same. same };
 }
 
 impl<I: SlicesAsBytes> SlicesAsBytes for Partial<I>
@@ -102,6 +110,8 @@ where
     ghost bytes_add = { I.bytes_add };
 
     ghost ascii_byte = { I.ascii_byte };
+
+    ghost one_code = { I.one_code };
 }
 
 impl<I: SlicesAsBytes> SlicesAsBytes for LocatingSlice<I>
@@ -116,4 +126,6 @@ where
     ghost bytes_add = { I.bytes_add };
 
     ghost ascii_byte = { I.ascii_byte };
+
+    ghost one_code = { I.one_code };
 }

@@ -3,8 +3,8 @@ ghost use Rattle.std.specs.Prelude.{◌≡◌, ◌↔◌, ℕ, IsTrue};
 ghost use Rattle.stream_sets.specs.AsChar.{IsAlpha, IsAlphanum, IsDecDigit, IsHexDigit, IsOctDigit};
 ghost use Rattle.stream_sets.specs.AsChar.{IsSpace, IsNewline};
 
-/// A token that is seen as a character, as winnow's documentation has it. The classes are those
-/// of ASCII: no character from 128 on is in any.
+/// A token that is seen as a character. The classes are those of ASCII: no character from 128 on is
+/// in any.
 ///
 /// A byte is the character of its number.
 ///

@@ -1,8 +1,8 @@
 //! Literals without regard to ASCII case.
 ghost use Rattle.std.specs.Prelude.{◌≡◌, ℕ, length};
 
-/// A literal that is compared without regard to the case of ASCII letters, as winnow's
-/// documentation has it. Other letters differ from theirs in another case.
+/// A literal that is compared without regard to the case of ASCII letters. Other letters differ
+/// from theirs in another case.
 ///
 /// ```text
 /// b"HeLLo!".as_slice().compare(Caseless("hello"))   is CompareResult::Ok(5)

@@ -25,7 +25,7 @@ pub enum CompareResult {
     Error,
 }
 
-/// A stream that can be compared with a literal of type `T`, as winnow's documentation has it.
+/// A stream that can be compared with a literal of type `T`.
 ///
 /// ```text
 /// b"abc".as_slice().compare(b"ab".as_slice())   is CompareResult::Ok(2)

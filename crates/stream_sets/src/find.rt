@@ -7,16 +7,17 @@ ghost use Rattle.stream_sets.specs.FirstMatch.{StaysFirst, literal_stays, two_st
 
 mod characters;
 pub mod like;
+mod place;
 mod several;
 mod text;
 mod wrapped;
 
-use memchr::{memchr, memchr2, memchr3, memmem};
+use crate::find::place::first_place;
+use memchr::{memchr, memchr2, memchr3};
 use std::ops;
 use streams::stream::Stream;
 
-/// A stream that can be searched for a literal of type `T`, or for one of a tuple of them, as
-/// winnow's documentation has it.
+/// A stream that can be searched for a literal of type `T`, or for one of a tuple of them.
 ///
 /// ```text
 /// b"aaab".as_slice().find_slice(b"aab".as_slice())   is Some(1..4)
@@ -41,7 +42,7 @@ pub trait FindSlice<T>: Stream {
 fn find_bytes(all: &[u8], literal: &[u8]) -> Option<ops::Range<usize>>
     ensures { FindsSlice length (λ xs. xs ≡ literal.now) all.now result }
 {
-    match memmem::find(all, literal) {
+    match first_place(all, literal) {
         Some(start) => Some(start..start + literal.len()),
         None => None,
     }

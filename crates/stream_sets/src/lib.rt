@@ -10,6 +10,7 @@ pub mod classes;
 pub mod compare;
 pub mod find;
 pub mod numbers;
+pub mod parse_slice;
 pub mod range;
 pub mod sets;
 pub mod slice_len;

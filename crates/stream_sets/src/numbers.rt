@@ -1,7 +1,7 @@
 //! Numbers that say how many tokens.
 ghost use Rattle.std.specs.Prelude.{◌≡◌, ℕ};
 
-/// An unsigned integer that a `usize` holds, as winnow's documentation has it.
+/// An unsigned integer that a `usize` holds.
 ///
 /// ```text
 /// 3u8.to_usize()   is 3

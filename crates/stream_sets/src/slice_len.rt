@@ -10,8 +10,8 @@ use streams::partial::Partial;
 use streams::stream::Stream;
 use streams::token_slice::TokenSlice;
 
-/// A slice or a literal that knows how many units it takes, as winnow's documentation has it:
-/// bytes of bytes and text, items of token lists.
+/// A slice or a literal that knows how many units it takes: bytes of bytes and text, items of token
+/// lists.
 ///
 /// ```text
 /// "é".slice_len()              is 2

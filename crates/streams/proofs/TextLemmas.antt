@@ -1,7 +1,7 @@
 -- What is known of the characters of a text and of its places.
 use Rattle.std.proofs.Common.{◌≡◌, ◌∙◌, ◌+◌, ◌&&◌, ℕ, Bool, true, false, List, [], ◌∷◌, ◌++◌}
 use Rattle.std.proofs.Common.{length, take, drop, Option, Some, None, is_some, true≢false, Bor}
-use Rattle.std.proofs.Common.{refl, sym, ap, subst, arith, append_assoc, length-append, encode_utf8}
+use Rattle.std.proofs.Common.{refl, sym, ap, subst, arith, append_assoc, length-append}
 use Rattle.std.proofs.Common.{encode_utf8_all, IsUtf8, IsCharBoundary, chars}
 use Rattle.std.specs.Char.{len_utf8}
 use Rattle.std.specs.Str.{all_scalars}

@@ -1,6 +1,5 @@
 -- How a stream of bytes counts them.
 use Rattle.std.specs.Prelude.{◌≡◌, ℕ, List, length}
-use Rattle.std.proofs.Common.{refl}
 use Rattle.streams.specs.Located.{located_reading}
 use Rattle.streams.specs.Place.{Place}
 use Rattle.streams.specs.Reading.{Reading}

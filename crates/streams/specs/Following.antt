@@ -1,6 +1,6 @@
 -- What may come behind the tokens that are left.
-use Rattle.std.specs.Prelude.{◌≡◌, ◌+◌, ◌-◌, ◌/◌, ◌^◌, ◌≤◌, ◌<◌, ℕ, true, List, [], ◌++◌}
-use Rattle.std.proofs.Common.{refl, sym, subst, ◌∙◌, arith}
+use Rattle.std.specs.Prelude.{◌≡◌, ◌+◌, ◌-◌, ◌/◌, ◌^◌, ◌≤◌, ℕ, true, List, [], ◌++◌}
+use Rattle.std.proofs.Common.{subst, ◌∙◌, arith}
 use Rattle.streams.specs.Input.{Input, Remaining, Ends, IsEndOf}
 use Rattle.streams.specs.Reading.{Reading}
 

@@ -1,6 +1,11 @@
 -- The kinds of error.
 use Rattle.std.specs.Prelude.{ℕ, Option}
 
+-- A plain error type has the kinds backtrack and memory; a modal one, as ErrMode, all four.
+pub data ErrorForm : Type 0 where
+  plain : ErrorForm
+  modal : ErrorForm
+
 -- An error is seen by its kind alone.
 pub data Kind : Type 0 where
   -- another branch may be tried

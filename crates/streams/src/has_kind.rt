@@ -1,11 +1,11 @@
 //! What contracts see of an error.
-ghost use Rattle.streams.specs.Kind.{Kind};
+ghost use Rattle.streams.specs.Kind.{ErrorForm, Kind};
 
 /// An error that contracts see by its kind.
 ///
 /// The traits that make and change errors stand on it, so that a bound on several of them speaks
 /// of one kind, and a stream that records errors shows their kinds. It has no functions: an error
-/// type says which kind each of its values has.
+/// type says which kind each of its values has, and which kinds it has at all.
 ///
 /// ```text
 /// ErrMode::Cut(error)   has the kind cut, or memory where `error` wants memory
@@ -13,4 +13,7 @@ ghost use Rattle.streams.specs.Kind.{Kind};
 pub trait HasKind {
     // The kind of an error.
     ghost kind: { Self → Kind };
+
+    // Whether the type has all kinds, or backtrack and memory alone.
+    ghost form: { ErrorForm };
 }

@@ -7,7 +7,7 @@ use crate::stream::{Location, Stream, StreamIsPartial, UpdateSlice};
 use crate::token_test::TokenTest;
 use std::alloc::AllocError;
 
-/// A stream that counts the units passed from its start, as winnow's documentation has it.
+/// A stream that counts the units passed from its start.
 ///
 /// The place is a number of units: bytes of bytes and text, items of token lists.
 ///

@@ -7,7 +7,7 @@ use crate::needed::Needed;
 use crate::stream::{Location, Stream, StreamIsPartial, UpdateSlice};
 use crate::token_test::TokenTest;
 
-/// A stream of which only a beginning may be there, as winnow's documentation has it.
+/// A stream of which only a beginning may be there.
 ///
 /// A parser whose answer more input could change answers that it is incomplete, until the stream
 /// is marked as complete.

@@ -123,7 +123,7 @@ pub trait Stream: Drop {
         (λ x. offsets_left s ≡ (x.0, seen_as x.1) ∷ offsets_left t) };
 }
 
-/// A stream that says whether more input may come, as winnow's documentation has it.
+/// A stream that says whether more input may come.
 ///
 /// A stream that does not support this is always whole.
 ///
@@ -168,7 +168,7 @@ pub trait StreamIsPartial: Stream {
     ghost whole_state: { supports_partial ≡ false → (s : Self.PartialState) → flag s ≡ false };
 }
 
-/// A stream that knows its place, as winnow's documentation has it.
+/// A stream that knows its place.
 ///
 /// ```text
 /// let mut input = LocatingSlice::new(b"ab".as_slice());
@@ -185,7 +185,7 @@ pub trait Location: Stream {
         ensures { result ≡ (Self.view self.now).left.place.passed };
 }
 
-/// A stream in whose place one over a part of it can be put, as winnow's documentation has it.
+/// A stream in whose place one over a part of it can be put.
 ///
 /// ```text
 /// b"abc".as_slice().update_slice(b"b".as_slice())   is b"b"

@@ -12,7 +12,7 @@ use std::alloc::AllocError;
 use std::iter::Enumerate;
 use std::slice::Iter;
 
-/// A list of tokens, such as a lexer makes, as winnow's documentation has it.
+/// A list of tokens, such as a lexer makes.
 ///
 /// A token is handed out by reference. Each offset and each need counts items.
 ///

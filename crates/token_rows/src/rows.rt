@@ -9,7 +9,7 @@ use outcomes::texts::{
     OfText, completed, endings_at, endings_in_text, outcome_at, outcome_in_text, slice_in_text,
     whole,
 };
-use outcomes::{Ending, Kind, ending_of};
+use outcomes::{Ending, Kind, ending_by_place, ending_of};
 use std::fmt::Debug;
 use std::process::Abort;
 use stream_errors::empty::EmptyError;
@@ -22,7 +22,7 @@ use stream_sets::caseless::Caseless;
 use stream_sets::compare::Compare;
 use stream_sets::find::FindSlice;
 use streams::partial::Partial;
-use streams::stream::Stream;
+use streams::stream::{Location, Stream};
 use streams::token_slice::TokenSlice;
 use winnow_core::parser::Parser;
 
@@ -31,6 +31,9 @@ type Modal = ErrMode<EmptyError>;
 
 /// Errors with a mode that hold the input.
 type ModalAtBytes = ErrMode<InputError<&'static [u8]>>;
+
+/// A text, and how a parser ends on it where it is whole, and where it is cut.
+type Row = (&'static str, Ending, Ending);
 
 /// What was got at a row of a parser is what the row says.
 fn same<T: PartialEq + Debug + Drop>(rt: &impl Abort, name: &str, row: &str, got: T, want: T) {
@@ -98,13 +101,54 @@ fn ends_each<I: OfText, O: Drop, E: ParserError<I>, P: Parser<I, O, E> + Drop>(
     rt: &impl Abort,
     name: &str,
     parser: P,
-    rows: &[(&'static str, Ending, Ending)],
+    rows: &[Row],
 )
     requires { P.can_parse parser }
 {
     let mut parser = parser;
     for (text, as_whole, as_cut) in rows {
         let got = endings_at::<I, O, E, P>(&mut parser, text);
+        same(
+            rt,
+            name,
+            text,
+            got,
+            endings_in_text::<I>(*as_whole, *as_cut),
+        );
+    }
+}
+
+/// A run of a parser on the whole text answers so, and stands behind so many units of it.
+fn answers_at<
+    I: OfText + Location,
+    O: PartialEq + Debug + Drop,
+    E: ParserError<I>,
+    P: Parser<I, O, E> + Drop,
+>(rt: &impl Abort, name: &str, parser: P, text: &'static str, want: Result<O, Kind>, place: usize)
+    requires { P.can_parse parser }
+{
+    let mut parser = parser;
+    let (answer, rest) = outcome_at::<I, O, E, P>(&mut parser, text);
+    let got = (answer, rest.current_token_start(), rest.eof_offset());
+    let left = text.len().saturating_sub(place);
+    same(rt, name, text, got, (want, place, left));
+}
+
+/// A parser moves the place so on each text, whole and cut.
+fn moves_each<I: OfText + Location, O: Drop, E: ParserError<I>, P: Parser<I, O, E> + Drop>(
+    rt: &impl Abort,
+    name: &str,
+    parser: P,
+    rows: &[Row],
+)
+    requires { P.can_parse parser }
+{
+    let mut parser = parser;
+    for (text, as_whole, as_cut) in rows {
+        let got = [
+            ending_by_place::<I, O, E, P>(&mut parser, I::of_text(text)),
+            ending_by_place::<I, O, E, P>(&mut parser, whole(text)),
+        ];
         same(
             rt,
             name,
@@ -225,8 +269,24 @@ fn bytes_under_plain_errors(rt: HostRuntime) {
 #[test]
 fn cut_text_under_plain_errors(rt: HostRuntime) {
     token::at_plain_errors::<Partial<&str>, EmptyError>(&rt);
-    ascii::line_ends::at_plain_errors::<Partial<&str>, EmptyError>(&rt);
-    ascii::numbers::at_plain_errors::<Partial<&str>, EmptyError>(&rt);
+    ascii::at_plain_errors::<Partial<&str>, EmptyError>(&rt);
+    ascii::at_plain_errors::<Partial<&str>, InputError<Partial<&'static str>>>(&rt);
+}
+
+#[test]
+fn cut_bytes_under_plain_errors(rt: HostRuntime) {
+    ascii::at_plain_errors::<Partial<&[u8]>, EmptyError>(&rt);
+    ascii::at_plain_errors::<Partial<&[u8]>, InputError<Partial<&'static [u8]>>>(&rt);
+}
+
+#[test]
+fn located_text(rt: HostRuntime) {
+    ascii::at_located::<&str>(&rt);
+}
+
+#[test]
+fn located_bytes(rt: HostRuntime) {
+    ascii::at_located::<&[u8]>(&rt);
 }
 
 #[test]

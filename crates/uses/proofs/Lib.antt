@@ -1,2 +1,1 @@
-pub mod CsvLines
 pub mod RequestLines

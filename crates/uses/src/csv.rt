@@ -1,9 +1,9 @@
 //! A line of comma separated values, without quotes.
 #![tactic(auto)]
 
-ghost use Rattle.std.specs.Prelude.{◌≡◌, ◌↔◌, None, IsTrue, IfOk};
+ghost use Rattle.std.specs.Prelude.{◌≡◌, ◌↔◌, IsTrue, IfOk};
 ghost use Rattle.winnow.specs.TakeWhile.{take_while_occurrences};
-ghost use Rattle.uses.specs.Csv.{AreOthers, IsFieldByte, IsLine};
+ghost use Rattle.uses.specs.Csv.{AreOthers, IsFieldByte, IsLine, any_number};
 
 use std::alloc::Allocator;
 use winnow::combinator::{preceded, repeat};
@@ -28,7 +28,7 @@ impl ContainsToken<u8> for FieldBytes {
 
 /// The parser of a field, which may be empty.
 fn field<I: StreamIsPartial<Token = u8>, E: ParserError<I>>() -> TakeWhile<FieldBytes, I, E>
-    ensures { take_while_occurrences result ≡ record { start_inclusive = 0; end_inclusive = None } }
+    ensures { take_while_occurrences result ≡ any_number }
 {
     take_while(Range::from(0..), FieldBytes)
 }

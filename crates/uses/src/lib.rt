@@ -6,5 +6,7 @@ pub mod complete_streams;
 pub mod csv;
 pub mod functions;
 pub mod numbers;
+pub mod numerals;
+pub mod ports;
 pub mod request_line;
 pub mod words;

@@ -1,6 +1,6 @@
 -- What the clauses of public functions cite, and the lemmas that stand beside it: the modules of
--- the
--- crates that have the definitions, under their own names; and the types of Rust that clauses name.
+-- the crates that have the definitions, under their own names; and the types of Rust that clauses
+-- name.
 -- Streams: what a parser sees of its input, and how a stream counts it.
 pub use Rattle.streams.specs.Kind
 pub use Rattle.streams.specs.Place
@@ -29,6 +29,7 @@ pub use Rattle.stream_sets.specs.Sets
 pub use Rattle.stream_sets.specs.Three
 pub use Rattle.stream_sets.specs.AsChar
 pub use Rattle.stream_sets.specs.AsBStr
+pub use Rattle.stream_sets.specs.ParseSlice
 pub use Rattle.stream_sets.specs.Compare
 pub use Rattle.stream_sets.specs.TextCompare
 pub use Rattle.stream_sets.specs.TokenCompare
@@ -44,6 +45,7 @@ pub use Rattle.stream_errors.specs.Form
 pub use Rattle.stream_errors.specs.Mode
 pub use Rattle.stream_errors.specs.Join
 pub use Rattle.stream_errors.specs.Fault
+pub use Rattle.stream_errors.specs.ContextError
 pub use Rattle.stream_errors.specs.declared.fault.ParseError.{ParseError}
 pub use Rattle.stream_errors.specs.declared.fault.ParseFault.{ParseFault}
 pub use Rattle.stream_errors.specs.declared.fault.ParseFault.TheVariants as ParseFaultCases
@@ -54,6 +56,7 @@ pub use Rattle.winnow_core.specs.Runs
 pub use Rattle.winnow_core.specs.SameMeaning
 pub use Rattle.winnow_core.specs.Agrees
 pub use Rattle.winnow_core.specs.Short
+pub use Rattle.winnow_core.specs.Reads
 pub use Rattle.winnow_core.specs.Literal
 pub use Rattle.winnow_core.specs.Sequence
 pub use Rattle.winnow_core.specs.Splits
@@ -62,6 +65,25 @@ pub use Rattle.winnow_core.specs.ByRef
 pub use Rattle.winnow_core.specs.Map
 pub use Rattle.winnow_core.specs.VerifyMap
 pub use Rattle.winnow_core.specs.Void
+pub use Rattle.winnow_core.specs.MakesOutput
+pub use Rattle.winnow_core.specs.DefaultValue
+pub use Rattle.winnow_core.specs.OutputInto
+pub use Rattle.winnow_core.specs.WithTaken
+pub use Rattle.winnow_core.specs.Span
+pub use Rattle.winnow_core.specs.WithSpan
+pub use Rattle.winnow_core.specs.Value
+pub use Rattle.winnow_core.specs.Settles
+pub use Rattle.winnow_core.specs.Verify
+pub use Rattle.winnow_core.specs.ParseTo
+pub use Rattle.winnow_core.specs.TryMap
+pub use Rattle.winnow_core.specs.AndThen
+pub use Rattle.winnow_core.specs.FlatMap
+pub use Rattle.winnow_core.specs.MakesError
+pub use Rattle.winnow_core.specs.CompleteErr
+pub use Rattle.winnow_core.specs.MapErr
+pub use Rattle.winnow_core.specs.ErrInto
+pub use Rattle.winnow_core.specs.Context
+pub use Rattle.winnow_core.specs.ContextWith
 pub use Rattle.winnow_core.specs.Func
 pub use Rattle.winnow_core.specs.Parse
 pub use Rattle.winnow_core.specs.ParsePeek
@@ -88,7 +110,9 @@ pub use Rattle.winnow_ascii.specs.Newline
 pub use Rattle.winnow_ascii.specs.Tab
 pub use Rattle.winnow_ascii.specs.TillLineEnding
 pub use Rattle.winnow_ascii.specs.Digits
+pub use Rattle.winnow_ascii.specs.Decimal
 pub use Rattle.winnow_ascii.specs.DecimalText
+pub use Rattle.winnow_ascii.specs.NumberLaws
 pub use Rattle.winnow_ascii.specs.Numeral
 pub use Rattle.winnow_ascii.specs.DecUint
 pub use Rattle.winnow_ascii.specs.DecInt
@@ -111,6 +135,7 @@ pub use Rattle.winnow_comb.specs.Attempt
 pub use Rattle.winnow_comb.specs.Alt
 pub use Rattle.winnow_comb.specs.Chain
 pub use Rattle.winnow_comb.specs.Repeat
+pub use Rattle.winnow_comb.specs.Separated
 pub use Rattle.winnow_comb.specs.ChoiceLaws
 pub use Rattle.winnow_comb.specs.RepeatLaws
 pub use Rattle.winnow_comb.specs.Laws as CombinatorLaws

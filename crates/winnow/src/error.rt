@@ -1,5 +1,8 @@
 //! What parsers answer where they have no output.
+pub use stream_errors::context::AddContext;
+pub use stream_errors::context_error::ContextError;
 pub use stream_errors::empty::EmptyError;
+pub use stream_errors::external::FromExternalError;
 pub use stream_errors::fault::{ParseError, ParseFault};
 pub use stream_errors::has_kind::HasKind;
 pub use stream_errors::input_error::InputError;

@@ -1,5 +1,9 @@
 //! Laws of the parsers and combinators: functions that do nothing, whose contracts are the laws. A
 //! caller calls one, and then knows what it says.
+pub use winnow_ascii::laws::{
+    dec_int_passes_its_digits, dec_int_reads_one_number, dec_uint_passes_its_digits,
+    dec_uint_reads_one_number, hex_uint_reads_one_number,
+};
 pub use winnow_comb::laws::choices::{
     alt_of_five_answers_as_the_first, alt_of_four_answers_as_the_first,
     alt_of_six_answers_as_the_first, alt_of_three_answers_as_the_first,
@@ -8,10 +12,15 @@ pub use winnow_comb::laws::choices::{
 pub use winnow_comb::laws::items::{
     alt_of_a_slice_answers_as_the_first, alt_of_an_array_answers_as_the_first,
 };
-pub use winnow_comb::laws::repetition::repeat_runs_at_most_once_a_unit;
+pub use winnow_comb::laws::repetition::{
+    repeat_runs_at_most_once_a_unit, separated_leaves_a_separator_without_an_element,
+};
 pub use winnow_comb::laws::{not_goes_back, opt_goes_back_on_none, peek_goes_back};
 pub use winnow_core::laws::{
-    a_complete_stream_is_answered_as_the_plain_one, leaves_an_end,
-    taken_bytes_and_the_rest_are_the_input, taken_text_and_the_rest_are_the_input,
-    taken_tokens_and_the_rest_are_the_input, verify_map_goes_back,
+    a_complete_stream_is_answered_as_the_plain_one, and_then_goes_back, leaves_an_end,
+    parse_to_goes_back, taken_bytes_and_the_rest_are_the_input,
+    taken_text_and_the_rest_are_the_input, taken_tokens_and_the_rest_are_the_input,
+    the_slice_taken_and_the_rest_are_the_input,
+    the_slice_with_the_output_and_the_rest_are_the_input, try_map_goes_back,
+    verify_goes_back, verify_map_goes_back,
 };

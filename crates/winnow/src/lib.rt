@@ -1,9 +1,8 @@
 //! The parser library winnow under its own module names.
 //!
 //! A user names this crate alone. Each item stands in the module where winnow has it, and is
-//! defined
-//! and proved in the crate that its documentation names; what the clauses of public functions cite
-//! stands in `Rattle.winnow.specs`.
+//! defined and proved in the crate that its documentation names; what the clauses of public
+//! functions cite stands in `Rattle.winnow.specs`.
 //!
 //! ```text
 //! use winnow::prelude::*;
@@ -21,5 +20,5 @@ pub mod prelude;
 pub mod stream;
 
 pub use winnow_core::agrees_with::AgreesWith;
-pub use winnow_core::parser::{Func, Parser};
+pub use winnow_core::parser::{Func, ModalParser, Parser};
 pub use winnow_token::token;

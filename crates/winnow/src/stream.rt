@@ -7,6 +7,7 @@ pub use stream_sets::compare::{Compare, CompareResult};
 pub use stream_sets::find::FindSlice;
 pub use stream_sets::find::like::FindsLike;
 pub use stream_sets::numbers::ToUsize;
+pub use stream_sets::parse_slice::ParseSlice;
 pub use stream_sets::range::Range;
 pub use stream_sets::sets::{ContainsToken, Pred};
 pub use stream_sets::slice_len::{SliceLen, SlicesWithLength};

@@ -5,7 +5,7 @@ use Rattle.streams.specs.Reading.{Reading}
 use Rattle.streams.specs.Stream.{AnswersSeen}
 use Rattle.stream_errors.specs.Form.{ErrorForm, Answer}
 use Rattle.stream_sets.specs.declared.range.Range.{Range}
-use Rattle.stream_sets.specs.Range.{greatest_of, greatest_of-few}
+use Rattle.stream_sets.specs.Range.{bounds_of, from_to, greatest_of, greatest_of-few}
 use Rattle.winnow_token.specs.TakeWhile.{TakeWhileRuns}
 
 -- a take by the range of the least number, which is at most 1, has no greatest one
@@ -13,13 +13,13 @@ pub least_runs : {X K T S : Type 0} (tells : X → K → Bool → Type 0) (least
     (reading : Reading T S) (form : ErrorForm) (i : Input T) (answer : Answer S) (j : Input T)
     (r : Range) (taken set : X) → least ≤ 1
     → r ≡ record { start_inclusive = least; end_inclusive = None } → taken ≡ set
-    → TakeWhileRuns reading form (AnswersSeen seen (tells taken)) r.start_inclusive
-    (greatest_of r.start_inclusive r.end_inclusive) i answer j
-    → TakeWhileRuns reading form (AnswersSeen seen (tells set)) least None i answer j
+    → TakeWhileRuns reading form (AnswersSeen seen (tells taken)) (bounds_of r) i answer j
+    → TakeWhileRuns reading form (AnswersSeen seen (tells set)) (from_to least None) i answer j
 least_runs tells least seen reading form i answer j r taken set few e same ran =
-    subst (λ greatest. TakeWhileRuns reading form (AnswersSeen seen (tells set)) least greatest
+    subst (λ greatest. TakeWhileRuns reading form (AnswersSeen seen (tells set))
+    (from_to least greatest)
     i answer j) (sym (greatest_of-few least few))
-    (subst (λ s. TakeWhileRuns reading form (AnswersSeen seen (tells s)) least
-    (greatest_of least None) i answer j) same
-    (subst (λ x. TakeWhileRuns reading form (AnswersSeen seen (tells taken)) x.start_inclusive
-    (greatest_of x.start_inclusive x.end_inclusive) i answer j) e ran))
+    (subst (λ s. TakeWhileRuns reading form (AnswersSeen seen (tells s))
+    (from_to least (greatest_of least None)) i answer j) same
+    (subst (λ x. TakeWhileRuns reading form (AnswersSeen seen (tells taken)) (bounds_of x) i
+    answer j) e ran))

@@ -1,8 +1,7 @@
 -- Texts of decimal numbers: what the standard library reads of them.
-use Rattle.std.proofs.Common.{◌≡◌, inl, inr, ◌+◌, ◌*◌, ◌^◌, ◌<◌, ◌++◌, ℕ, Bool, true, false, List}
-use Rattle.std.proofs.Common.{[], ◌∷◌, length, drop, Option, Result, Ok, Err, refl, sym, ap, subst}
+use Rattle.std.proofs.Common.{◌≡◌, inl, inr, ◌^◌, ◌<◌, ◌++◌, ℕ, Bool, true, false, List}
+use Rattle.std.proofs.Common.{[], ◌∷◌, drop, Option, Result, Ok, Err, refl, sym, ap, subst}
 use Rattle.std.proofs.Common.{◌∙◌, arith}
-use Rattle.std.proofs.Math.Nat.{pow-suc, pow-zero}
 use Rattle.std.proofs.lemmas.Bool.{eqb-true, ne_eqb}
 use Rattle.std.proofs.lemmas.Bool.Decides.{nat_tests}
 use Rattle.std.specs.Char.{digit_value}
@@ -10,29 +9,15 @@ use Rattle.std.specs.List.{AllByRecursion}
 use Rattle.std.specs.Prelude.{cond, ◌==◌, ℤ, pos, neg_ℤ, FitsSigned}
 use Rattle.std.specs.Result.{result_ok}
 use Rattle.std.specs.Str.Parse.{AllDigits, IsNumeral, ParsesSigned, ParsesUnsigned, digits_value}
-use Rattle.std.specs.Str.Parse.{digits_value_after, signed_digits_value, starts_with_minus}
+use Rattle.std.specs.Str.Parse.{signed_digits_value, starts_with_minus}
 use Rattle.std.specs.Str.Parse.{without_leading_plus, without_leading_sign}
 use mir.Syntax.{Width}
 use Rattle.stream_sets.specs.AsChar.{IsDecDigit}
 use Rattle.winnow_ascii.specs.DecimalText.{AreDigits, IsSignedText, IsUnsignedText, ReadsSigned}
 use Rattle.winnow_ascii.specs.DecimalText.{ReadsUnsigned, signed_value}
 use Rattle.winnow_ascii.specs.Digits.{value_in}
+use Rattle.winnow_ascii.specs.Digits.Known.{value_is}
 use Rattle.winnow_ascii.specs.Numeral.{IsSign}
-
--- the value as a sum is the value digit by digit
-value_after : (base n : ℕ) (ds : List ℕ)
-    → digits_value_after base n ds ≡ n * base ^ length ds + value_in base ds
-value_after base n [] =
-    let power : base ^ length {A = ℕ} [] ≡ 1 = pow-zero base in
-    let same : digits_value_after base n [] ≡ n = refl in
-    omega (arith, same, ap (λ x. n * x) power)
-value_after base n (d ∷ ds) =
-    let more = value_after base (n * base + digit_value d) ds in
-    let power : base ^ length (d ∷ ds) ≡ base ^ length ds * base = pow-suc base (length ds) in
-    omega (arith, more, ap (λ x. n * x) power)
-
-pub value_is : (base : ℕ) (ds : List ℕ) → digits_value base ds ≡ value_in base ds
-value_is base ds = value_after base 0 ds ∙ omega arith
 
 digit_low : (c : ℕ) → IsDecDigit c → digit_value c < 10
 digit_low c is = grind (arith, nat_tests)

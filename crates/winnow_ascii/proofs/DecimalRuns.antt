@@ -14,10 +14,11 @@ use Rattle.stream_errors.specs.Form.{ErrorForm}
 use Rattle.stream_sets.specs.AsChar.{IsDecDigit}
 use Rattle.winnow_ascii.specs.DecInt.{DecIntRuns}
 use Rattle.winnow_ascii.specs.DecUint.{DecUintRuns}
-use Rattle.winnow_ascii.specs.DecimalText.{AreDigits, IsSignedText, IsUnsignedText, ReadsSigned}
+use Rattle.winnow_ascii.specs.DecimalText.{IsSignedText, IsUnsignedText, ReadsSigned}
 use Rattle.winnow_ascii.specs.DecimalText.{ReadsUnsigned}
 use Rattle.winnow_ascii.specs.Digits.{AreCharacters}
-use Rattle.winnow_ascii.specs.Numeral.{DigitsRuns, IsSign, NumeralRuns, SignRuns}
+use Rattle.winnow_ascii.specs.Numeral.{IsSign, NumeralRuns, SignRuns}
+use Rattle.winnow_ascii.specs.Numeral.Known.{digits_are, unsigned}
 use Rattle.winnow_ascii.proofs.NumeralLemmas.{TakesNumeral}
 
 -- a list that is itself twice has nothing
@@ -55,25 +56,10 @@ signs_below sign (inr (c, is, e)) =
     subst P (sym e) (sign_low c is, tt)
 
 module _ {K T S : Type 0} (seen : K → T) (code : K → ℕ) (reading : Reading T S) where
-  digits_are : (zero : Bool) (i : Input T) (digits : List ℕ) (j : Input T)
-      → DigitsRuns seen code reading zero i digits j → AreDigits digits
-  digits_are zero i digits j (inl (x, may, is, passes, e)) =
-      let P : List ℕ → Type 0 = λ l. AreDigits l in
-      subst P (sym e) (omega arith, ((omega arith, omega arith), tt))
-  digits_are zero i digits j
-      (inr (front, first, others, e, leads, are, passes, chars, stops, whole)) =
-      let P : List ℕ → Type 0 = λ l. AreDigits l in
-      subst P (sym e) (omega arith, ((omega (arith, leads.0), leads.1), are))
-
   sign_is : (signed : Bool) (i : Input T) (sign : List ℕ) (j : Input T)
       → SignRuns seen code reading signed i sign j → IsSigns sign
   sign_is signed i sign j (inl (x, may, is, passes, e)) = inr (code x, is, e)
   sign_is signed i sign j (inr (none, e, same)) = inl e
-
-  no_sign_is : (i : Input T) (sign : List ℕ) (j : Input T)
-      → SignRuns seen code reading false i sign j → sign ≡ []
-  no_sign_is i sign j (inl (x, may, is, passes, e)) = absurd cc
-  no_sign_is i sign j (inr (none, e, same)) = e
 
   module _ (bytes_of : List T → List ℕ)
       (add : (xs ys : List T) → bytes_of (xs ++ ys) ≡ bytes_of xs ++ bytes_of ys)
@@ -100,7 +86,7 @@ module _ {K T S : Type 0} (seen : K → T) (code : K → ℕ) (reading : Reading
         → (bytes ≡ taken.1 ++ taken.2) × AllByRecursion (λ c. c < 128) (taken.1 ++ taken.2)
     numeral_bytes signed i j slice bytes has (front, sign, digits, (a, first, r), takes, chars) =
         let all = both_below sign digits (signs_below sign (sign_is signed i sign a first))
-        (below digits (digits_are _ a digits j r).1) in
+        (below digits (digits_are seen code reading _ a digits j r).0.1) in
         (has front takes.shown ∙ spelled front (sign ++ digits) chars all, all)
 
     pub numeral_utf8 : (signed : Bool) (i j : Input T) (slice : S) (bytes : List ℕ)
@@ -117,7 +103,7 @@ module _ {K T S : Type 0} (seen : K → T) (code : K → ℕ) (reading : Reading
         → (taken : TakesNumeral seen code reading true i slice j)
         → IsSignedText bytes taken.1 taken.2
     signed_numeral i j slice bytes has (front, sign, digits, (a, first, r), takes, chars) = (
-      digits_are _ a digits j r,
+      (digits_are seen code reading _ a digits j r).0,
       (numeral_bytes true i j slice bytes has
           (front, sign, digits, (a, first, r), takes, chars)).0,
       sign_is true i sign a first,
@@ -128,10 +114,10 @@ module _ {K T S : Type 0} (seen : K → T) (code : K → ℕ) (reading : Reading
         → (taken : TakesNumeral seen code reading false i slice j)
         → (taken.1 ≡ []) × IsUnsignedText bytes taken.2
     unsigned_numeral i j slice bytes has (front, sign, digits, (a, first, r), takes, chars) =
-        let none = no_sign_is i sign a first in (
+        let none = (unsigned seen code reading i sign a first).0 in (
           none,
           (
-            digits_are _ a digits j r,
+            (digits_are seen code reading _ a digits j r).0,
             inl ((numeral_bytes false i j slice bytes has
                 (front, sign, digits, (a, first, r), takes, chars)).0 ∙ ap (λ l. l ++ digits) none),
           ),

@@ -20,11 +20,11 @@ use Rattle.streams.specs.Stream.{AnswersSeen}
 use Rattle.stream_errors.specs.Form.{Answer, ErrorForm, incomplete_kind}
 use Rattle.stream_sets.specs.AsChar.{IsHexDigit}
 use Rattle.stream_sets.specs.declared.range.Range.{Range}
-use Rattle.stream_sets.specs.Range.{greatest_of}
+use Rattle.stream_sets.specs.Range.{bounds_of, from_to}
 use Rattle.winnow_token.specs.TakeWhile.{IsEnded, IsLongest, TakeWhileRuns}
 use Rattle.winnow_ascii.specs.Digits.{AreCharacters, IsIn, NoneFirst, SomeFirst, value_in}
 use Rattle.winnow_ascii.specs.HexUint.{HexUintRuns}
-use Rattle.winnow_ascii.proofs.DecimalLemmas.{value_is}
+use Rattle.winnow_ascii.specs.Digits.Known.{value_is}
 use Rattle.winnow_ascii.proofs.DecimalRuns.{spelled}
 use Rattle.winnow_ascii.proofs.NumeralLemmas.{numbers_of}
 
@@ -81,17 +81,16 @@ pub hex_runs : {K T S : Type 0} (seen : K → T) (code : K → ℕ) (reading : R
     → s ≡ record { start_inclusive = least; end_inclusive = Some most } → least ≡ 1
     → most ≡ greatest → greatest ≡ nibbles
     → TakeWhileRuns reading form (AnswersSeen seen (λ x b. IsTrue b ↔ IsHexDigit (code x)))
-    r.start_inclusive (greatest_of r.start_inclusive r.end_inclusive) i answer j
-    → TakeWhileRuns reading form (AnswersSeen seen (λ x b. IsTrue b ↔ IsHexDigit (code x))) 1
-    (Some nibbles) i answer j
+    (bounds_of r) i answer j
+    → TakeWhileRuns reading form (AnswersSeen seen (λ x b. IsTrue b ↔ IsHexDigit (code x)))
+    (from_to 1 (Some nibbles)) i answer j
 hex_runs seen code reading form i answer j r s least most greatest nibbles p q one to holds ran =
     let make : ℕ → ℕ → Range =
     λ x y. record { start_inclusive = x; end_inclusive = Some y } in
     let same : r ≡ make 1 nibbles =
     p ∙ q ∙ ap (λ x. make x most) one ∙ ap (λ y. make 1 y) (to ∙ holds) in
     subst (λ (x : Range). TakeWhileRuns reading form
-    (AnswersSeen seen (λ y b. IsTrue b ↔ IsHexDigit (code y))) x.start_inclusive
-    (greatest_of x.start_inclusive x.end_inclusive) i answer j) same ran
+    (AnswersSeen seen (λ y b. IsTrue b ↔ IsHexDigit (code y))) (bounds_of x) i answer j) same ran
 
 below_or_same : (a b : ℕ) → a ≤ b → (a < b) ⊎ (a ≡ b)
 below_or_same a b le = grind arith
@@ -152,7 +151,8 @@ module _ {K T S : Type 0} (seen : K → T) (code : K → ℕ) (reading : Reading
   same_length (t ∷ ts) (c ∷ cs) chars = ap suc (same_length ts cs chars.1)
 
   pub hex_takes : (form : ErrorForm) (i : Input T) (slice : S) (j : Input T)
-      → TakeWhileRuns reading form Member 1 (Some most) i (Ok slice) j → TakesHex i slice j
+      → TakeWhileRuns reading form Member (from_to 1 (Some most)) i (Ok slice) j
+      → TakesHex i slice j
   hex_takes form i slice j (inl (greatest, is, below, e, same)) = absurd cc
   hex_takes form i slice j (inr (inl (within, still_open, is_cut, e, same))) = absurd cc
   hex_takes form i slice j
@@ -198,7 +198,7 @@ module _ {K T S : Type 0} (seen : K → T) (code : K → ℕ) (reading : Reading
   none_front (t ∷ ts) rest tokens cut longest few ended = absurd (omega arith)
 
   pub hex_missing : {N : Type 0} (number : N → ℕ) (form : ErrorForm) (i : Input T) (k : Kind)
-      (j : Input T) → TakeWhileRuns reading form Member 1 (Some most) i (Err k) j
+      (j : Input T) → TakeWhileRuns reading form Member (from_to 1 (Some most)) i (Err k) j
       → HexUintRuns number most seen code reading form i (Err k) j
   hex_missing number form i k j (inl (greatest, is, below, e, same)) =
       absurd (let bound : most ≡ greatest = cc in omega arith)

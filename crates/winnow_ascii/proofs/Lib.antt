@@ -1,6 +1,7 @@
 mod ClassLemmas
 mod DecimalLemmas
 mod DecimalRuns
+mod DigitLemmas
 mod HexLemmas
 mod LineEndLemmas
 mod NumeralLemmas

@@ -1,6 +1,6 @@
 -- Numerals: what is passed in turn, and what a slice of it shows.
 use Rattle.std.proofs.Common.{◌≡◌, ◌⊎◌, inl, inr, ◌+◌, ◌++◌, ℕ, Bool, true, false, List, [], ◌∷◌}
-use Rattle.std.proofs.Common.{Option, Some, None, Ok, Err, refl, sym, ap, subst, ◌∙◌, append_assoc}
+use Rattle.std.proofs.Common.{Option, Some, None, Ok, Err, refl, sym, ap, subst, ◌∙◌}
 use Rattle.std.proofs.Common.{arith}
 use Rattle.std.specs.List.{All, AllByRecursion}
 use Rattle.std.proofs.lemmas.List.Elements.{All-head, All-tail, All-weaker}
@@ -8,7 +8,7 @@ use Rattle.std.specs.Prelude.{IsTrue, ◌↔◌, max, ◌-◌}
 use Rattle.streams.specs.Equal.{same_rest}
 use Rattle.streams.specs.Input.{Input, IsEndOf, Passes, Remaining, Takes, back_at, passed_again}
 use Rattle.streams.specs.Kind.{Kind, backtrack}
-use Rattle.streams.specs.Reading.{Reading, units-nil}
+use Rattle.streams.specs.Reading.{Reading}
 use Rattle.streams.specs.Stream.{AnswersSeen, Cuts, IsBoundary}
 use Rattle.stream_errors.specs.Form.{ErrorForm, incomplete_kind, plain, modal}
 use Rattle.stream_sets.specs.AsChar.{IsDecDigit}
@@ -17,31 +17,8 @@ use Rattle.winnow_ascii.specs.Class.{ClassRuns}
 use Rattle.winnow_ascii.specs.Digits.{AreCharacters, IsIn, NoneFirst}
 use Rattle.winnow_ascii.specs.Numeral.{DigitsRuns, IsLeadingDigit, IsSign, LacksDigits, NoDigits}
 use Rattle.winnow_ascii.specs.Numeral.{NoNumeral, NumeralRuns, SignRuns, is_none, left_by}
-
--- what is passed in two steps
-pub passes_two : {T S : Type 0} {reading : Reading T S} {xs ys : List T} {i a j : Input T}
-    → Passes reading xs i a → Passes reading ys a j → Passes reading (xs ++ ys) i j
-passes_two {reading = reading} {xs = xs} {ys = ys} {i = i} {j = j} p q = record {
-  tokens = p.tokens ∙ ap (λ l. xs ++ l) q.tokens ∙ sym (append_assoc xs ys j.left.tokens);
-  place = q.place ∙ ap (λ x. reading.advance x (reading.units ys)) p.place
-      ∙ reading.advance_add i.left.place (reading.units xs) (reading.units ys)
-      ∙ ap (λ n. reading.advance i.left.place n) (sym (reading.units_add xs ys));
-  possible = q.possible ∙ p.possible;
-  status = q.status ∙ p.status;
-}
-
--- nothing is passed
-passes_none : {T S : Type 0} (reading : Reading T S) (i j : Input T) → j ≡ i
-    → Passes reading [] i j
-passes_none reading i j same =
-    let P : Input _ → Type 0 = λ x. Passes reading [] i x in
-    subst P (sym same) (record {
-      tokens = refl;
-      place = sym (ap (λ n. reading.advance i.left.place n) (units-nil reading)
-          ∙ reading.advance_none i.left.place);
-      possible = refl;
-      status = refl;
-    })
+use Rattle.winnow_ascii.specs.Numeral.Known.{digits_front, numeral_front, passes_two, sign_front}
+use Rattle.winnow_ascii.specs.Numeral.Known.{sign_status}
 
 -- the status is that of the start
 pub back_same : {T : Type 0} (i b : Input T) → b.status ≡ i.status → back_at i.left b ≡ i
@@ -57,20 +34,6 @@ no_sign c r same plus minus (inl e) = plus (same ∙ e)
 no_sign c r same plus minus (inr e) = minus (same ∙ e)
 
 module _ {K T S : Type 0} (seen : K → T) (code : K → ℕ) (reading : Reading T S) where
-  characters_two : (xs ys : List T) (cs ds : List ℕ) → AreCharacters seen code xs cs
-      → AreCharacters seen code ys ds → AreCharacters seen code (xs ++ ys) (cs ++ ds)
-  characters_two [] ys [] ds p q = q
-  characters_two [] ys (c ∷ cs) ds p q = absurd p
-  characters_two (x ∷ xs) ys [] ds p q = absurd p
-  characters_two (x ∷ xs) ys (c ∷ cs) ds p q = (p.0, characters_two xs ys cs ds p.1 q)
-
-  -- one character, of a number that is given otherwise
-  one_character : (x : K) (cs : List ℕ) → cs ≡ code x ∷ []
-      → AreCharacters seen code (seen x ∷ []) cs
-  one_character x cs e =
-      let P : List ℕ → Type 0 = λ l. AreCharacters seen code (seen x ∷ []) l in
-      subst P (sym e) ((x, refl, refl), tt)
-
   -- the numbers of members of a class
   pub numbers_of : (class : ℕ → Type 0) (front : List T)
       → All (λ t. AnswersSeen seen (λ x b. IsTrue b ↔ class (code x)) t true) front
@@ -205,34 +168,6 @@ module _ {K T S : Type 0} (seen : K → T) (code : K → ℕ) (reading : Reading
         kind,
       )
 
-  -- what a sign and digits are passed by
-  abbrev pub PassesAs : Input T → List ℕ → Input T → Type 0
-  PassesAs i numbers j =
-      (front : List T) × Passes reading front i j × AreCharacters seen code front numbers
-
-  sign_front : (signed : Bool) (i : Input T) (sign : List ℕ) (j : Input T)
-      → SignRuns seen code reading signed i sign j → PassesAs i sign j
-  sign_front signed i sign j (inl (x, may, is, passes, e)) =
-      (seen x ∷ [], passes, one_character x sign e)
-  sign_front signed i sign j (inr (none, e, same)) =
-      let P : List ℕ → Type 0 = λ l. AreCharacters seen code [] l in
-      ([], passes_none reading i j same, subst P (sym e) tt)
-
-  digits_front : (zero : Bool) (i : Input T) (digits : List ℕ) (j : Input T)
-      → DigitsRuns seen code reading zero i digits j → PassesAs i digits j
-  digits_front zero i digits j (inl (x, may, is, passes, e)) =
-      (seen x ∷ [], passes, one_character x digits (e ∙ ap (λ c. c ∷ []) (sym is)))
-  digits_front zero i digits j
-      (inr (front, first, others, e, leads, are, passes, chars, stops, whole)) =
-      (front, passes, chars)
-
-  pub numeral_front : (signed : Bool) (i : Input T) (sign digits : List ℕ) (j : Input T)
-      → NumeralRuns seen code reading signed i sign digits j → PassesAs i (sign ++ digits) j
-  numeral_front signed i sign digits j (a, first, r) =
-      let p = sign_front signed i sign a first in
-      let q = digits_front _ a digits j r in
-      (p.0 ++ q.0, passes_two p.1 q.1, characters_two p.0 q.0 sign digits p.2 q.2)
-
   -- a slice that is taken of the start, as long as what was passed, ends where that did
   pub taken_again : (i j k : Input T) (slice : S) (front : List T) (length : ℕ)
       → Passes reading front i j
@@ -295,7 +230,7 @@ module _ {K T S : Type 0} (seen : K → T) (code : K → ℕ) (reading : Reading
       back
       cuts =
       let P : Bool → Type 0 = λ z. DigitsRuns seen code reading z a digits j in
-      let run = numeral_front signed i sign digits j (a, first, subst P none r) in
+      let run = numeral_front seen code reading signed i sign digits j (a, first, subst P none r) in
       let Q : Input T → Type 0 = λ x. Cuts reading length x slice k in
       let taken = taken_again i j k slice run.0 length run.1
       (long ∙ ap (λ x. reading.units x.tokens) at)
@@ -310,13 +245,9 @@ module _ {K T S : Type 0} (seen : K → T) (code : K → ℕ) (reading : Reading
       → ((digits : List ℕ) × DigitsRuns seen code reading zero a digits j)
       → (front : List T) × Passes reading front i j
   runs_front signed zero i a j (sign, first, none) (digits, r) =
-      let p = sign_front signed i sign a first in
-      let q = digits_front zero a digits j r in
+      let p = sign_front seen code reading signed i sign a first in
+      let q = digits_front seen code reading zero a digits j r in
       (p.0 ++ q.0, passes_two p.1 q.1)
-
-  pub sign_status : (signed : Bool) (i : Input T) (sign : List ℕ) (j : Input T)
-      → SignRuns seen code reading signed i sign j → j.status ≡ i.status
-  sign_status signed i sign j r = (sign_front signed i sign j r).1.status
 
   -- the input stands at the start where the error backtracks, and else where it stood
   abbrev pub GoesBack : Input T → Kind → Input T → Input T → Type 0
@@ -337,7 +268,7 @@ module _ {K T S : Type 0} (seen : K → T) (code : K → ℕ) (reading : Reading
     inl (
       b,
       lacks,
-      ap (λ x. x.cut) (sym (sign_status signed i sign a first)) ∙ cut,
+      ap (λ x. x.cut) (sym (sign_status seen code reading signed i sign a first)) ∙ cut,
       kind,
       lacking form i k b n kind goes,
     ),

@@ -1,5 +1,6 @@
 -- Takes of the characters of a class.
 use Rattle.std.specs.Prelude.{◌↔◌, ℕ, IsTrue, None}
+use Rattle.stream_sets.specs.Range.{from_to}
 use Rattle.streams.specs.Input.{Input}
 use Rattle.streams.specs.Reading.{Reading}
 use Rattle.streams.specs.Stream.{AnswersSeen}
@@ -12,5 +13,6 @@ pub mod Laws
 abbrev pub ClassRuns : {K T S : Type 0} → (ℕ → Type 0) → ℕ → (K → ℕ) → (K → T) → Reading T S
     → ErrorForm → Input T → Answer S → Input T → Type 0
 ClassRuns class least code seen reading form i answer j =
-    TakeWhileRuns reading form (AnswersSeen seen (λ t b. IsTrue b ↔ class (code t))) least None
+    TakeWhileRuns reading form (AnswersSeen seen (λ t b. IsTrue b ↔ class (code t)))
+    (from_to least None)
     i answer j

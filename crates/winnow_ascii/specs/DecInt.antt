@@ -6,6 +6,7 @@ use Rattle.streams.specs.Reading.{Reading}
 use Rattle.stream_errors.specs.Form.{ErrorForm, Answer}
 use Rattle.winnow_ascii.specs.DecimalText.{signed_value}
 use Rattle.winnow_ascii.specs.Numeral.{NumeralRuns, NoNumeral}
+pub mod Known
 pub mod Laws
 
 -- A run of the parser of a decimal signed number. Values of its type have the numbers `number`,

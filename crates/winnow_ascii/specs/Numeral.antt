@@ -7,7 +7,9 @@ use Rattle.streams.specs.Reading.{Reading}
 use Rattle.stream_errors.specs.Form.{ErrorForm, incomplete_kind, plain, modal}
 use Rattle.stream_sets.specs.AsChar.{IsDecDigit}
 use Rattle.winnow_ascii.specs.Digits.{AreCharacters, IsIn, NoneFirst}
+pub mod Known
 pub mod Laws
+pub mod Once
 
 -- a sign: '+' or '-'
 abbrev pub IsSign : ℕ → Type 0

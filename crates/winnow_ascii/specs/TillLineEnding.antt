@@ -8,6 +8,7 @@ use Rattle.stream_errors.specs.Form.{ErrorForm, Answer}
 use Rattle.stream_sets.specs.Compare.{IsShort, StandsFirst}
 use Rattle.stream_sets.specs.FindSlice.{Stands, IsFirstMatch}
 use Rattle.winnow_core.specs.Short.{ShortKind}
+pub mod Known
 pub mod Laws
 
 -- Neither a carriage return nor a line feed stands anywhere, where `sought` says for which lists a

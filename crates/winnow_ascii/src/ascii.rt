@@ -2,6 +2,7 @@
 #![tactic(auto, using(streams::specs::Ends::ends_follow))]
 
 mod classes;
+mod digits;
 mod hex;
 pub mod impls;
 mod int;

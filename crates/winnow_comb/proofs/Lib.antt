@@ -1,5 +1,7 @@
 pub mod ChoiceLemmas
 pub mod ChoiceLaws
 pub mod RepeatLemmas
+pub mod SeparatedLemmas
 mod RepetitionLaw
+mod SeparatedLaw
 mod ItemChoiceLaw

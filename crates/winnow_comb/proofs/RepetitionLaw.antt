@@ -1,12 +1,12 @@
 -- A repetition of any number of items runs its parser at most once a unit, and once more.
-use Rattle.std.proofs.Common.{◌≡◌, ◌≤◌, ◌+◌, ℕ, None, Ok, Err, length, subst, inl, inr, arith}
+use Rattle.std.proofs.Common.{None, Ok, Err, subst, inl, inr, arith}
 use Rattle.streams.specs.Equal.{none_is_some}
 use Rattle.streams.specs.Input.{Input}
 use Rattle.streams.specs.Kind.{Kind, backtrack}
 use Rattle.streams.specs.Reading.{Reading}
 use Rattle.stream_errors.specs.Form.{Answer}
 use Rattle.stream_sets.specs.Accumulator.{Accumulator}
-use Rattle.stream_sets.specs.Range.{greatest_of}
+use Rattle.stream_sets.specs.Range.{bounds_of, from_to}
 use Rattle.stream_sets.specs.declared.range.Range.{Range}
 use Rattle.winnow_core.specs.Runs.{Runs}
 use Rattle.winnow_comb.specs.Repeat.{RangedRuns, RepeatEnds, RepeatRuns}
@@ -16,7 +16,7 @@ use Rattle.winnow_comb.proofs.RepeatLemmas.{chain-length, length-units}
 -- the run that ended a repetition without a greatest number
 ended : {S T O C : Type 0} (run : Runs S T O) (into : Accumulator C O) (assert_kind : Kind)
     (before : C) (outputs : _) (u : S) (m : Input T) (answer : Answer C) (t : S) (j : Input T)
-    → RepeatEnds run into assert_kind 0 None before outputs u m answer t j
+    → RepeatEnds run into assert_kind (from_to 0 None) before outputs u m answer t j
     → (last : Answer O) × (x : Input T) × run u m last t x
 ended run into assert_kind before outputs u m answer t j
     (inl (all, full, taken, is, kept, same)) = none_is_some full
@@ -31,7 +31,7 @@ ended run into assert_kind before outputs u m answer t j
 
 any_number : {S T L O C : Type 0} (reading : Reading T L) (run : Runs S T O)
     (into : Accumulator C O) (assert_kind : Kind) (s : S) (i : Input T) (answer : Answer C)
-    (t : S) (j : Input T) → RepeatRuns run into assert_kind 0 None s i answer t j
+    (t : S) (j : Input T) → RepeatRuns run into assert_kind (from_to 0 None) s i answer t j
     → EndsOnceAUnit reading.units run into s i answer t
 any_number reading run into assert_kind s i answer t j (inl (one, open_end, ran)) =
     absurd (omega (arith, one))
@@ -62,6 +62,5 @@ pub runs_at_most_once_a_unit : {S T L O C : Type 0} (reading : Reading T L) (run
     → RunsAtMostOnceAUnit reading.units run into (RangedRuns run into assert_kind)
 runs_at_most_once_a_unit reading run into assert_kind s i answer t j any (r, kept) =
     let P : Range → Type 0 =
-    λ x. RepeatRuns run into assert_kind x.start_inclusive
-    (greatest_of x.start_inclusive x.end_inclusive) s.0 i answer t.0 j in
+    λ x. RepeatRuns run into assert_kind (bounds_of x) s.0 i answer t.0 j in
     any_number reading run into assert_kind s.0 i answer t.0 j (subst P any r)

@@ -5,12 +5,13 @@ use Rattle.streams.specs.Kind.{Kind, backtrack, memory}
 use Rattle.stream_errors.specs.Form.{Answer}
 use Rattle.winnow_core.specs.Runs.{Runs}
 use Rattle.stream_sets.specs.declared.range.Range.{Range}
-use Rattle.stream_sets.specs.Range.{IsWithin, IsBelow, greatest_of}
+use Rattle.stream_sets.specs.Range.{Bounds, IsBelow, IsWithin, bounds_of, from_to}
 use Rattle.winnow_comb.specs.Chain.{Chain, Accumulates}
 use Rattle.stream_sets.specs.Accumulator.{Accumulator}
 use Rattle.winnow_comb.specs.declared.combinator.impls.repeat.Repeat.{Repeat}
 pub mod Known
 pub mod Laws
+pub mod Reads
 
 -- how often the parser is run
 abbrev pub repeat_occurrences : {P I O C E A : Type 0} → Repeat P I O C E A → Range
@@ -20,38 +21,39 @@ repeat_occurrences s = s.occurrences
 abbrev pub repeat_parser : {P I O C E A : Type 0} → Repeat P I O C E A → P
 repeat_parser s = s.parser
 
--- What ends a repetition of at least `least` items and at most the greatest number, behind the
--- items of a chain.
-abbrev pub RepeatEnds : {S T O C : Type 0} → Runs S T O → Accumulator C O → Kind → ℕ → Option ℕ
-    → C → List O → S → Input T → Answer C → S → Input T → Type 0
-RepeatEnds {S} {T} {O} {C} run into assert_kind least greatest before outputs u m answer t j =
+-- What ends a repetition of a number of items within the bounds, behind the items of a chain.
+abbrev pub RepeatEnds : {S T O C : Type 0} → Runs S T O → Accumulator C O → Kind → Bounds → C
+    → List O → S → Input T → Answer C → S → Input T → Type 0
+RepeatEnds {S} {T} {O} {C} run into assert_kind bounds before outputs u m answer t j =
     -- the greatest number is reached
-    ((all : C) × (greatest ≡ Some (length outputs)) × Accumulates into.takes before outputs all
+    ((all : C) × (bounds.greatest ≡ Some (length outputs))
+    × Accumulates into.takes before outputs all
     × (answer ≡ Ok all) × (t ≡ u) × (j ≡ m))
     -- an item backtracks and there are enough: back before it
-    ⊎ (((all : C) × (x : Input T) × IsBelow greatest (length outputs) × (least ≤ length outputs)
+    ⊎ (((all : C) × (x : Input T) × IsBelow bounds.greatest (length outputs)
+    × (bounds.least ≤ length outputs)
     × run u m (Err backtrack) t x × Accumulates into.takes before outputs all
     × (answer ≡ Ok all) × (j ≡ back_at m.left x))
     -- an item fails: by another kind, or too early
-    ⊎ (((k : Kind) × (some : C) × IsBelow greatest (length outputs) × run u m (Err k) t j
-    × (k ≡ backtrack → length outputs < least)
+    ⊎ (((k : Kind) × (some : C) × IsBelow bounds.greatest (length outputs) × run u m (Err k) t j
+    × (k ≡ backtrack → length outputs < bounds.least)
     × Accumulates into.takes before outputs some × (answer ≡ Err k))
     -- an item consumes nothing
-    ⊎ (((o : O) × (some : C) × IsBelow greatest (length outputs) × run u m (Ok o) t j
+    ⊎ (((o : O) × (some : C) × IsBelow bounds.greatest (length outputs) × run u m (Ok o) t j
     × (j.left.tokens ≡ m.left.tokens) × Accumulates into.takes before outputs some
     × (answer ≡ Err assert_kind))
     -- an item consumes, and is one too many for the memory
-    ⊎ ((o : O) × (some : C) × IsBelow greatest (length outputs) × run u m (Ok o) t j
+    ⊎ ((o : O) × (some : C) × IsBelow bounds.greatest (length outputs) × run u m (Ok o) t j
     × (length j.left.tokens < length m.left.tokens)
     × Accumulates into.takes before outputs some × into.grows some
     × (answer ≡ Err memory)))))
 
 -- A chain of items, and what ended it.
-abbrev pub ItemsRun : {S T O C : Type 0} → Runs S T O → Accumulator C O → Kind → ℕ → Option ℕ
-    → C → S → Input T → Answer C → S → Input T → Type 0
-ItemsRun {S} {T} {O} {C} run into assert_kind least greatest before s i answer t j =
+abbrev pub ItemsRun : {S T O C : Type 0} → Runs S T O → Accumulator C O → Kind → Bounds → C → S
+    → Input T → Answer C → S → Input T → Type 0
+ItemsRun {S} {T} {O} {C} run into assert_kind bounds before s i answer t j =
     (outputs : List O) × (u : S) × (m : Input T) × Chain run s i outputs u m
-    × RepeatEnds run into assert_kind least greatest before outputs u m answer t j
+    × RepeatEnds run into assert_kind bounds before outputs u m answer t j
 
 -- One item or more: the first may consume nothing, and the accumulator is made behind it.
 abbrev pub RepeatOneRuns : {S T O C : Type 0} → Runs S T O → Accumulator C O → Kind → S
@@ -62,7 +64,7 @@ RepeatOneRuns {S} {T} {O} {C} run into assert_kind s i answer t j =
     -- it is followed by others
     ⊎ (((o : O) × (v : S) × (n : Input T) × (empty : C) × (one : C) × run s i (Ok o) v n
     × into.starts None empty × into.takes empty o one
-    × ItemsRun run into assert_kind 0 None one v n answer t j)
+    × ItemsRun run into assert_kind (from_to 0 None) one v n answer t j)
     -- there is no memory for an accumulator, or for the first item in it
     ⊎ ((o : O) × run s i (Ok o) t j
     × (into.start_grows None ⊎ ((empty : C) × into.starts None empty × into.grows empty))
@@ -73,32 +75,35 @@ abbrev pub capacity_of : ℕ → Option ℕ → Option ℕ
 capacity_of least None = None
 capacity_of least (Some most) = Some least
 
--- At least `least` items and at most the greatest number.
-abbrev pub RepeatManyRuns : {S T O C : Type 0} → Runs S T O → Accumulator C O → Kind → ℕ
-    → Option ℕ → S → Input T → Answer C → S → Input T → Type 0
-RepeatManyRuns {S} {T} {O} {C} run into assert_kind least greatest s i answer t j =
+-- A number of items within the bounds.
+abbrev pub RepeatManyRuns : {S T O C : Type 0} → Runs S T O → Accumulator C O → Kind → Bounds
+    → S → Input T → Answer C → S → Input T → Type 0
+RepeatManyRuns {S} {T} {O} {C} run into assert_kind bounds s i answer t j =
     -- the greatest number is below the least
-    ((most : ℕ) × (greatest ≡ Some most) × (most < least) × (answer ≡ Err assert_kind) × (t ≡ s)
+    ((most : ℕ) × (bounds.greatest ≡ Some most) × (most < bounds.least)
+    × (answer ≡ Err assert_kind) × (t ≡ s)
     × (j ≡ i))
     -- there is no memory for an accumulator
-    ⊎ ((IsWithin greatest least × into.start_grows (capacity_of least greatest)
+    ⊎ ((IsWithin bounds.greatest bounds.least
+    × into.start_grows (capacity_of bounds.least bounds.greatest)
     × (answer ≡ Err memory) × (t ≡ s) × (j ≡ i))
     -- the items
-    ⊎ ((empty : C) × IsWithin greatest least × into.starts (capacity_of least greatest) empty
-    × ItemsRun run into assert_kind least greatest empty s i answer t j))
+    ⊎ ((empty : C) × IsWithin bounds.greatest bounds.least
+    × into.starts (capacity_of bounds.least bounds.greatest) empty
+    × ItemsRun run into assert_kind bounds empty s i answer t j))
 
 -- A repetition: the form `1..` has its own rule for the first item.
-abbrev pub RepeatRuns : {S T O C : Type 0} → Runs S T O → Accumulator C O → Kind → ℕ → Option ℕ
-    → S → Input T → Answer C → S → Input T → Type 0
-RepeatRuns {S} {T} {O} {C} run into assert_kind least greatest s i answer t j =
-    ((least ≡ 1) × (greatest ≡ None) × RepeatOneRuns run into assert_kind s i answer t j)
-    ⊎ (((least ≡ 1) × (greatest ≡ None) → ⊥)
-    × RepeatManyRuns run into assert_kind least greatest s i answer t j)
+abbrev pub RepeatRuns : {S T O C : Type 0} → Runs S T O → Accumulator C O → Kind → Bounds → S
+    → Input T → Answer C → S → Input T → Type 0
+RepeatRuns {S} {T} {O} {C} run into assert_kind bounds s i answer t j =
+    ((bounds.least ≡ 1) × (bounds.greatest ≡ None)
+    × RepeatOneRuns run into assert_kind s i answer t j)
+    ⊎ (((bounds.least ≡ 1) × (bounds.greatest ≡ None) → ⊥)
+    × RepeatManyRuns run into assert_kind bounds s i answer t j)
 
 -- A repetition as often as a range says, which stays as it is.
 abbrev pub RangedRuns : {S T O C : Type 0} → Runs S T O → Accumulator C O → Kind
     → Runs (S × Range) T C
 RangedRuns run into assert_kind s i answer t j =
-    RepeatRuns run into assert_kind s.1.start_inclusive
-    (greatest_of s.1.start_inclusive s.1.end_inclusive) s.0 i answer t.0 j
+    RepeatRuns run into assert_kind (bounds_of s.1) s.0 i answer t.0 j
     × (t.1 ≡ s.1)

@@ -1,4 +1,4 @@
-//! Combinators.
+//! Combinators, as winnow's documentation has them.
 #![tactic(auto, using(streams::specs::Ends::ends_follow))]
 
 pub mod basic;
@@ -9,5 +9,5 @@ pub mod sequence;
 
 pub use crate::combinator::basic::{backtrack_err, cond, cut_err, empty, fail, not, opt, peek};
 pub use crate::combinator::branch::alt;
-pub use crate::combinator::multi::repeat;
+pub use crate::combinator::multi::{repeat, separated};
 pub use crate::combinator::sequence::{delimited, preceded, separated_pair, terminated};

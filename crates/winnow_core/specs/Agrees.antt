@@ -3,6 +3,7 @@ use Rattle.std.specs.Prelude.{◌≡◌, ⊤, List, [], ◌∷◌, map}
 use Rattle.std.proofs.Common.{refl, ap, ◌∙◌}
 use Rattle.winnow_core.specs.Runs.{Meaning}
 use Rattle.winnow_core.specs.SameMeaning.{SameMeaning, lift}
+pub mod Beside
 pub mod Sizes
 
 -- Two types of parsers agree: their meanings are one, along a map of states that leads from the

@@ -2,7 +2,8 @@
 use Rattle.std.specs.Prelude.{◌≡◌, List, ◌++◌, Ok, Err, ◌⊎◌}
 use Rattle.std.proofs.Common.{sym, subst}
 use Rattle.streams.specs.Input.{Input}
-use Rattle.streams.specs.Kind.{backtrack}
+use Rattle.streams.specs.Kind.{Kind, backtrack}
+use Rattle.streams.specs.Reading.{Reading}
 use Rattle.stream_errors.specs.Form.{Answer, ErrorForm}
 use Rattle.winnow_core.specs.Agrees.{Agrees}
 use Rattle.winnow_core.specs.Runs.{Meaning, Runs}
@@ -14,6 +15,14 @@ GoesBackOnRefusal {S} {G} {T} {O} {U} child run =
     (s : S × G) (i : Input T) (t : S × G) (j : Input T) → run s i (Err backtrack) t j
     → child s.0 i (Err backtrack) t.0 j
     ⊎ ((o : O) × (a : Input T) × child s.0 i (Ok o) t.0 a × (j.left ≡ i.left))
+
+-- Where a run fails, the child did, in the same way, and it left the input there; or the child
+-- succeeded, and the input is back where it was.
+abbrev pub GoesBackOnFailure : {S W T O U : Type 0} → (W → S) → Runs S T O → Runs W T U → Type 0
+GoesBackOnFailure {S} {W} {T} {O} {U} part child run =
+    (s : W) (i : Input T) (k : Kind) (t : W) (j : Input T) → run s i (Err k) t j
+    → child (part s) i (Err k) (part t) j
+    ⊎ ((o : O) × (a : Input T) × child (part s) i (Ok o) (part t) a × (j.left ≡ i.left))
 
 -- On each input the one parser has the runs that the other has, along a map of their states; and
 -- the map leads from the state of p to that of q exactly where p is like q.
@@ -58,6 +67,11 @@ run_of_like {other_run = other_run} alike p q i answer u j is r =
     let U : _ → Type 0 = λ v. other_run v i answer u j in
     let (t, same, there) = alike.back _ i answer u j (subst U (sym (alike.leads p q is)) r) in
     (t, there)
+
+-- each slice shows one list of tokens
+abbrev pub ShowsOne : {T L : Type 0} → Reading T L → (L → List T) → Type 0
+ShowsOne {T} {L} reading tokens_of =
+    (l : L) (xs : List T) → reading.shows l xs → tokens_of l ≡ xs
 
 -- Where a run answers a slice, the tokens of the slice and then the rest are the input before.
 abbrev pub TakesFromTheFront : {S T L : Type 0} → (L → List T) → Runs S T L → Type 0

@@ -1,6 +1,5 @@
 //! Parsers of different types that mean the same: over a stream, and over a stream that is read
-//! like
-//! it.
+//! like it.
 ghost use Rattle.winnow_core.specs.Agrees.{Agrees};
 
 use crate::parser::Parser;

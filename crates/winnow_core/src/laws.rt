@@ -1,14 +1,17 @@
 //! Laws of the parsers, for those that build on them.
-ghost use Rattle.std.specs.Prelude.{◌≡◌};
+ghost use Rattle.std.specs.Prelude.{◌≡◌, List};
 ghost use Rattle.std.specs.Str.{chars};
-ghost use Rattle.winnow_core.specs.Laws.{AnswersAlike, GoesBackOnRefusal, TakesFromTheFront};
+ghost use Rattle.winnow_core.specs.Laws.{AnswersAlike, GoesBackOnFailure, GoesBackOnRefusal};
+ghost use Rattle.winnow_core.specs.Laws.{ShowsOne, TakesFromTheFront};
 ghost use Rattle.winnow_core.specs.Runs.{LeaveEnds};
 
 use crate::agrees_with::AgreesWith;
-use crate::combinator::impls::{Take, VerifyMap};
+use crate::combinator::impls::{AndThen, ParseTo, Take, TryMap, Verify, VerifyMap, WithTaken};
 use crate::parser::Parser;
+use stream_errors::external::FromExternalError;
 use stream_errors::parser_error::ParserError;
-use streams::stream::Stream;
+use stream_sets::parse_slice::ParseSlice;
+use streams::stream::{Stream, StreamIsPartial};
 use streams::token_slice::TokenSlice;
 
 /// After `parse_next` the input is an end of the input before, whatever it answers.
@@ -28,6 +31,61 @@ pub fn verify_map_goes_back<
 >()
     ensures { GoesBackOnRefusal (P.meaning E.form)
         (⟦<VerifyMap<P, G, I, O, O2, E> as Parser<I, O2, E>>⟧.meaning E.form) }
+{}
+
+/// Where [`verify`](crate::parser::Parser::verify) fails though its parser succeeded, the input is
+/// back where it was.
+pub fn verify_goes_back<
+    P: Parser<I, O, E>,
+    G: FnMut(&O) -> bool,
+    I: Stream,
+    O: Drop,
+    E: ParserError<I>,
+>()
+    ensures { GoesBackOnFailure (λ s. s.0) (P.meaning E.form)
+        (⟦<Verify<P, G, I, O, E> as Parser<I, O, E>>⟧.meaning E.form) }
+{}
+
+/// Where [`try_map`](crate::parser::Parser::try_map) fails though its parser succeeded, the input
+/// is back where it was.
+pub fn try_map_goes_back<
+    P: Parser<I, O, E>,
+    G: FnMut(O) -> Result<O2, E2>,
+    I: Stream,
+    O,
+    O2,
+    E: ParserError<I> + FromExternalError<I, E2>,
+    E2,
+>()
+    ensures { GoesBackOnFailure (λ s. s.0) (P.meaning E.form)
+        (⟦<TryMap<P, G, I, O, O2, E, E2> as Parser<I, O2, E>>⟧.meaning E.form) }
+{}
+
+/// Where [`parse_to`](crate::parser::Parser::parse_to) fails though its parser succeeded, the input
+/// is back where it was.
+pub fn parse_to_goes_back<
+    P: Parser<I, O, E>,
+    I: Stream,
+    O: ParseSlice<O2> + Drop,
+    O2,
+    E: ParserError<I>,
+>()
+    ensures { GoesBackOnFailure (λ s. s) (P.meaning E.form)
+        (⟦<ParseTo<P, I, O, O2, E> as Parser<I, O2, E>>⟧.meaning E.form) }
+{}
+
+/// Where [`and_then`](crate::parser::Parser::and_then) fails though its outer parser succeeded, the
+/// input is back where it was.
+pub fn and_then_goes_back<
+    P: Parser<I, O, E>,
+    G: Parser<O, O2, E>,
+    I: Stream,
+    O: StreamIsPartial + Drop,
+    O2,
+    E: ParserError<I> + ParserError<O>,
+>()
+    ensures { GoesBackOnFailure (λ s. s.0) (P.meaning E.form)
+        (⟦<AndThen<P, G, I, O, O2, E> as Parser<I, O2, E>>⟧.meaning E.form) }
 {}
 
 /// A parser over a stream has, on each input, the runs of the like parser over a stream that is
@@ -82,4 +140,31 @@ pub fn taken_tokens_and_the_rest_are_the_input<
     ensures { TakesFromTheFront (λ slice. slice.now)
         (⟦<Take<P, TokenSlice<'t, T>, O, E> as Parser<TokenSlice<'t, T>, &'t [T], E>>⟧.meaning
         E.form) }
+{}
+
+/// Where the slices of a stream show one list of tokens each, as those of bytes, text and tokens
+/// do, also inside `Partial` and `LocatingSlice`, the slice that
+/// [`take`](crate::parser::Parser::take) answers and then the rest are the input before.
+pub fn the_slice_taken_and_the_rest_are_the_input<
+    P: Parser<I, O, E>,
+    I: Stream,
+    O: Drop,
+    E: ParserError<I>,
+>()
+    ensures { (tokens_of : I.Slice → List I.Seen) → ShowsOne I.reading tokens_of
+        → TakesFromTheFront tokens_of
+        (⟦<Take<P, I, O, E> as Parser<I, I::Slice, E>>⟧.meaning E.form) }
+{}
+
+/// The same of the slice that [`with_taken`](crate::parser::Parser::with_taken) answers beside the
+/// output.
+pub fn the_slice_with_the_output_and_the_rest_are_the_input<
+    P: Parser<I, O, E>,
+    I: Stream,
+    O,
+    E: ParserError<I>,
+>()
+    ensures { (tokens_of : I.Slice → List I.Seen) → ShowsOne I.reading tokens_of
+        → TakesFromTheFront (λ both. tokens_of both.1)
+        (⟦<WithTaken<P, I, O, E> as Parser<I, (O, I::Slice), E>>⟧.meaning E.form) }
 {}

@@ -4,26 +4,51 @@
 ghost use Rattle.std.specs.Prelude.{⊤, ◌≡◌, false};
 ghost use Rattle.stream_errors.specs.Form.{ErrorForm, answer_by};
 ghost use Rattle.streams.specs.Input.{IsEndOf, Remains};
+ghost use Rattle.winnow_core.specs.AndThen.{and_then_inner, and_then_outer};
 ghost use Rattle.winnow_core.specs.ByRef.{by_ref_name, by_ref_parser};
+ghost use Rattle.winnow_core.specs.CompleteErr.{complete_err_parser};
+ghost use Rattle.winnow_core.specs.Context.{context_parser, context_told};
+ghost use Rattle.winnow_core.specs.ContextWith.{context_with_closure, context_with_parser};
+ghost use Rattle.winnow_core.specs.DefaultValue.{default_value_parser};
+ghost use Rattle.winnow_core.specs.ErrInto.{err_into_parser};
+ghost use Rattle.winnow_core.specs.FlatMap.{flat_map_closure, flat_map_parser};
 ghost use Rattle.winnow_core.specs.Map.{map_closure, map_parser};
+ghost use Rattle.winnow_core.specs.MapErr.{map_err_closure, map_err_parser};
+ghost use Rattle.winnow_core.specs.OutputInto.{output_into_parser};
 ghost use Rattle.winnow_core.specs.Parse.{IsFaultAt, ParsesWhole};
 ghost use Rattle.winnow_core.specs.ParsePeek.{PeekAnswers};
+ghost use Rattle.winnow_core.specs.ParseTo.{parse_to_parser};
 ghost use Rattle.winnow_core.specs.Runs.{LeaveEnds, Meaning};
+ghost use Rattle.winnow_core.specs.Span.{span_parser};
 ghost use Rattle.winnow_core.specs.Take.{take_parser};
+ghost use Rattle.winnow_core.specs.TryMap.{try_map_closure, try_map_parser};
+ghost use Rattle.winnow_core.specs.Value.{value_kept, value_parser};
+ghost use Rattle.winnow_core.specs.Verify.{verify_closure, verify_parser};
 ghost use Rattle.winnow_core.specs.VerifyMap.{verify_map_closure, verify_map_parser};
 ghost use Rattle.winnow_core.specs.Void.{void_parser};
+ghost use Rattle.winnow_core.specs.WithSpan.{with_span_parser};
+ghost use Rattle.winnow_core.specs.WithTaken.{with_taken_parser};
 
 mod func;
 mod literals;
+mod modal;
 mod tuples;
 
-use crate::combinator::impls::{ByRef, Map, Take, VerifyMap, Void};
+use crate::combinator::impls::{
+    AndThen, ByRef, CompleteErr, Context, ContextWith, DefaultValue, ErrInto, FlatMap, Map, MapErr,
+    OutputInto, ParseTo, Span, Take, TryMap, Value, Verify, VerifyMap, Void, WithSpan, WithTaken,
+};
 pub use crate::parser::func::Func;
+pub use crate::parser::modal::ModalParser;
+use std::alloc::Allocator;
 use std::marker::PhantomData;
+use stream_errors::context::AddContext;
+use stream_errors::external::FromExternalError;
 use stream_errors::fault::{ParseError, ParseFault};
 use stream_errors::parser_error::ParserError;
+use stream_sets::parse_slice::ParseSlice;
 use streams::needed::Needed;
-use streams::stream::{Stream, StreamIsPartial};
+use streams::stream::{Location, Stream, StreamIsPartial};
 
 /// A parser: it takes tokens from an input and makes an output of them, as winnow's documentation
 /// has it.
@@ -35,7 +60,7 @@ use streams::stream::{Stream, StreamIsPartial};
 /// let mut input = b"a=1".as_slice();
 /// (b'a', b'=').parse_next(&mut input)   is Ok((b'a', b'=')), and b"1" is left
 /// ```
-pub trait Parser<I: Stream, O, E: ParserError<I>> {
+pub trait Parser<I: Stream, O, E: ParserError<I>>: Sized {
     // The states in which it may be run: closures in it may be called.
     ghost can_parse: { Self → Type 0 } = { λ _. ⊤ };
 
@@ -69,7 +94,6 @@ pub trait Parser<I: Stream, O, E: ParserError<I>> {
     /// ```
     final fn parse(&mut self, input: I) -> Result<O, ParseFault<I, E::Inner>>
     where
-        Self: Sized,
         I: StreamIsPartial,
         O: Drop,
         requires callable { can_parse self.old }
@@ -101,8 +125,6 @@ pub trait Parser<I: Stream, O, E: ParserError<I>> {
     /// ```
     #[inline(always)]
     final fn parse_peek(&mut self, input: I) -> Result<(I, O), E>
-    where
-        Self: Sized,
         requires { can_parse self.old }
         ensures again { can_parse self.new }
         ensures ran { PeekAnswers I.view E.kind
@@ -117,111 +139,231 @@ pub trait Parser<I: Stream, O, E: ParserError<I>> {
     }
 
     /// The parser behind a reference, as a parser: it runs this one, whose state goes on.
-    ///
-    /// ```text
-    /// let mut first = b'a'.map(..);
-    /// first.by_ref().parse_next(&mut input)   runs first, which can be run again after it
-    /// ```
     #[inline(always)]
     final fn by_ref(&mut self) -> ByRef<'_, Self, I, O, E>
-    where
-        Self: Sized,
         ensures state { by_ref_parser result ≡ self.old }
         ensures behind { by_ref_name result ≡ self.entry.ghost_name }
     {
         ByRef {
             parser: self,
-            input: PhantomData,
-            output: PhantomData,
-            error: PhantomData,
+            marker: PhantomData,
         }
     }
 
-    /// The parser with its output dropped.
-    ///
-    /// ```text
-    /// b"key".void().parse_next(&mut input)   is Ok(()) where b"key" stands first
-    /// ```
+    /// A clone of `value` in the place of the output; want of memory where the clone is refused it.
+    #[inline(always)]
+    final fn value<O2: Clone>(self, value: O2) -> Value<Self, I, O, O2, E>
+        ensures parser { value_parser result ≡ self }
+        ensures value { value_kept result ≡ value }
+    {
+        Value::new(self, value)
+    }
+
+    /// The default value of `O2` in the place of the output.
+    #[inline(always)]
+    final fn default_value<O2: Default>(self) -> DefaultValue<Self, I, O, O2, E>
+        ensures { default_value_parser result ≡ self }
+    {
+        DefaultValue::new(self)
+    }
+
+    /// Nothing in the place of the output. Known as `ignore` elsewhere.
     #[inline(always)]
     final fn void(self) -> Void<Self, I, O, E>
-    where
-        Self: Sized,
         ensures { void_parser result ≡ self }
     {
-        Void {
-            parser: self,
-            input: PhantomData,
-            output: PhantomData,
-            error: PhantomData,
-        }
+        Void::new(self)
     }
 
-    /// The parser with the slice that it read in place of its output.
-    ///
-    /// ```text
-    /// (b'a', b'b').take().parse_next(&mut b"abc".as_slice())   is Ok(b"ab"), and b"c" is left
-    /// ```
+    /// The output, converted by `From`.
+    #[inline(always)]
+    final fn output_into<O2: From<O>>(self) -> OutputInto<Self, I, O, O2, E>
+        ensures { output_into_parser result ≡ self }
+    {
+        OutputInto::new(self)
+    }
+
+    /// The slice that was read, in the place of the output. Known as `recognize` elsewhere.
     #[inline(always)]
     final fn take(self) -> Take<Self, I, O, E>
-    where
-        Self: Sized,
         ensures { take_parser result ≡ self }
     {
-        Take {
-            parser: self,
-            input: PhantomData,
-            output: PhantomData,
-            error: PhantomData,
-        }
+        Take::new(self)
     }
 
-    /// The parser with its output made into another by `map`, which is called once, where the
-    /// parser succeeds.
-    ///
-    /// ```text
-    /// b'a'.map(|b: u8| b == b'a').parse_next(&mut b"a".as_slice())   is Ok(true)
-    /// ```
+    /// The output, and the slice that was read. Known as `consumed` elsewhere.
+    #[inline(always)]
+    final fn with_taken(self) -> WithTaken<Self, I, O, E>
+        ensures { with_taken_parser result ≡ self }
+    {
+        WithTaken::new(self)
+    }
+
+    /// Where the parser began and where it ended, in units from the start of the stream, in the
+    /// place of the output.
+    #[inline(always)]
+    final fn span(self) -> Span<Self, I, O, E>
+    where
+        I: Location,
+        ensures { span_parser result ≡ self }
+    {
+        Span::new(self)
+    }
+
+    /// The output, and where the parser began and ended, in units from the start of the stream.
+    #[inline(always)]
+    final fn with_span(self) -> WithSpan<Self, I, O, E>
+    where
+        I: Location,
+        ensures { with_span_parser result ≡ self }
+    {
+        WithSpan::new(self)
+    }
+
+    /// What `map` makes of the output.
     #[inline(always)]
     final fn map<G, O2>(self, map: G) -> Map<Self, G, I, O, O2, E>
     where
-        Self: Sized,
         G: FnMut(O) -> O2,
         ensures parser { map_parser result ≡ self }
         ensures map { map_closure result ≡ map }
     {
-        Map {
-            parser: self,
-            map,
-            input: PhantomData,
-            output: PhantomData,
-            mapped: PhantomData,
-            error: PhantomData,
-        }
+        Map::new(self, map)
     }
 
-    /// The parser with its output made into another by `filter`, which is called once, where the
-    /// parser succeeds. Where it gives `None` the parser backtracks, and the input is back at the
-    /// start.
-    ///
-    /// ```text
-    /// b"a".verify_map(|s: &[u8]| s.get(1).copied()).parse_next(&mut b"a".as_slice())   backtracks
-    /// ```
+    /// What `map` makes of the output. Where it fails, the parser backtracks with its error (or is
+    /// want of memory, where keeping that was refused it), and the input is back at the start.
+    #[inline(always)]
+    final fn try_map<G, O2, E2>(self, map: G) -> TryMap<Self, G, I, O, O2, E, E2>
+    where
+        G: FnMut(O) -> Result<O2, E2>,
+        E: FromExternalError<I, E2>,
+        ensures parser { try_map_parser result ≡ self }
+        ensures map { try_map_closure result ≡ map }
+    {
+        TryMap::new(self, map)
+    }
+
+    /// What `filter` makes of the output. Where that is `None`, the parser backtracks, and the
+    /// input is back at the start. Known as `map_opt` elsewhere.
     #[inline(always)]
     final fn verify_map<G, O2>(self, filter: G) -> VerifyMap<Self, G, I, O, O2, E>
     where
-        Self: Sized,
         G: FnMut(O) -> Option<O2>,
         ensures parser { verify_map_parser result ≡ self }
         ensures filter { verify_map_closure result ≡ filter }
     {
-        VerifyMap {
-            parser: self,
-            filter,
-            input: PhantomData,
-            output: PhantomData,
-            mapped: PhantomData,
-            error: PhantomData,
-        }
+        VerifyMap::new(self, filter)
+    }
+
+    /// What the parser answers that `map` makes of the output, behind what this one read. It owes
+    /// that each parser that it makes can be run.
+    #[inline(always)]
+    final fn flat_map<G, H, O2>(self, map: G) -> FlatMap<Self, G, H, I, O, O2, E>
+    where
+        G: FnMut(O) -> H,
+        H: Parser<I, O2, E>,
+        ensures parser { flat_map_parser result ≡ self }
+        ensures map { flat_map_closure result ≡ map }
+    {
+        FlatMap::new(self, map)
+    }
+
+    /// What `inner` answers on the output, as an input to which no more comes; what it leaves is
+    /// dropped. Where it fails, its error is answered, and the input is back at the start.
+    #[inline(always)]
+    final fn and_then<G, O2>(self, inner: G) -> AndThen<Self, G, I, O, O2, E>
+    where
+        G: Parser<O, O2, E>,
+        O: StreamIsPartial,
+        E: ParserError<O>,
+        ensures outer { and_then_outer result ≡ self }
+        ensures inner { and_then_inner result ≡ inner }
+    {
+        AndThen::new(self, inner)
+    }
+
+    /// What the output reads as, by `FromStr`. Where it reads as nothing, the parser backtracks,
+    /// and the input is back at the start. Known as `from_str` elsewhere.
+    #[inline(always)]
+    final fn parse_to<O2>(self) -> ParseTo<Self, I, O, O2, E>
+    where
+        O: ParseSlice<O2>,
+        ensures { parse_to_parser result ≡ self }
+    {
+        ParseTo::new(self)
+    }
+
+    /// The output, where `filter` finds it true; else the parser backtracks, and the input is back
+    /// at the start. Known as `satisfy` elsewhere.
+    #[inline(always)]
+    final fn verify<G>(self, filter: G) -> Verify<Self, G, I, O, E>
+    where
+        G: FnMut(&O) -> bool,
+        ensures parser { verify_parser result ≡ self }
+        ensures filter { verify_closure result ≡ filter }
+    {
+        Verify::new(self, filter)
+    }
+
+    /// The output; an error keeps a clone of `context`. Its kind stays, or is memory, where that
+    /// was refused. Known as `labelled` elsewhere.
+    #[inline(always)]
+    final fn context<C, A>(self, alloc: A, context: C) -> Context<Self, I, O, E, C, A>
+    where
+        C: Clone,
+        A: Allocator,
+        E: AddContext<I, C, A>,
+        ensures parser { context_parser result ≡ self }
+        ensures context { context_told result ≡ context }
+    {
+        Context::new(self, context, alloc)
+    }
+
+    /// The output; an error keeps each item that `context` gives, which must end. Its kind stays,
+    /// or is memory, where that was refused.
+    #[inline(always)]
+    final fn context_with<F, C, FI, A>(
+        self,
+        alloc: A,
+        context: F,
+    ) -> ContextWith<Self, I, O, E, F, C, FI, A>
+    where
+        F: Fn() -> FI,
+        FI: Iterator<Item = C>,
+        A: Allocator,
+        E: AddContext<I, C, A>,
+        ensures parser { context_with_parser result ≡ self }
+        ensures context { context_with_closure result ≡ context }
+    {
+        ContextWith::new(self, context, alloc)
+    }
+
+    /// The output; an error becomes what `map` makes of it, and the input stays where it arose.
+    #[inline(always)]
+    final fn map_err<G, E2>(self, map: G) -> MapErr<Self, G, I, O, E, E2>
+    where
+        G: FnMut(E) -> E2,
+        ensures parser { map_err_parser result ≡ self }
+        ensures map { map_err_closure result ≡ map }
+    {
+        MapErr::new(self, map)
+    }
+
+    /// The output; an error for want of more input backtracks instead.
+    #[inline(always)]
+    final fn complete_err(self) -> CompleteErr<Self, I, O, E>
+        ensures { complete_err_parser result ≡ self }
+    {
+        CompleteErr::new(self)
+    }
+
+    /// The output; an error is converted by `From`.
+    #[inline(always)]
+    final fn err_into<E2: From<E>>(self) -> ErrInto<Self, I, O, E, E2>
+        ensures { err_into_parser result ≡ self }
+    {
+        ErrInto::new(self)
     }
 
     // Each run leaves an end of its input.

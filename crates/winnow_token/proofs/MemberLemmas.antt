@@ -13,7 +13,7 @@ use Rattle.streams.specs.Reading.{Reading}
 use Rattle.streams.specs.Stream.{AnswersSeen, FindsFirst, with_offsets}
 use Rattle.streams.specs.Equal.{same_first, same_others, true_is_false}
 use Rattle.stream_errors.specs.Form.{ErrorForm, Answer}
-use Rattle.stream_sets.specs.Range.{IsWithin, IsBelow}
+use Rattle.stream_sets.specs.Range.{IsBelow, IsWithin, from_to}
 use Rattle.winnow_token.specs.TakeWhile.{IsLongest, IsEnded, TakeWhileRuns}
 use Rattle.winnow_token.specs.Members.{CountsMembers, FoundRuns}
 
@@ -195,7 +195,7 @@ pub found_runs : {T S : Type 0} (reading : Reading T S) (form : ErrorForm)
     → CountsMembers member greatest reading.units i.left.tokens count end
     → (is_enough ≡ true → least ≤ count) → (is_enough ≡ false → count < least)
     → FoundRuns reading form end is_enough least i answer j
-    → TakeWhileRuns reading form member least greatest i answer j
+    → TakeWhileRuns reading form member (from_to least greatest) i answer j
 found_runs reading form member least greatest i answer j count None is_enough within
     (still_open, counted) enough few (inl (cut, e, same)) =
     inr (inl (within, still_open, cut, e, same))

@@ -4,7 +4,7 @@ use Rattle.streams.specs.Input.{Input, Takes}
 use Rattle.streams.specs.Kind.{Kind, backtrack}
 use Rattle.streams.specs.Reading.{Reading}
 use Rattle.stream_sets.specs.FindSlice.{Stands, IsFirstMatch}
-use Rattle.stream_sets.specs.Range.{IsWithin}
+use Rattle.stream_sets.specs.Range.{Bounds, IsWithin}
 use Rattle.stream_errors.specs.Form.{ErrorForm, Answer, assert_kind}
 use Rattle.winnow_core.specs.Short.{ShortKind}
 use Rattle.stream_sets.specs.declared.range.Range.{Range}
@@ -19,31 +19,32 @@ take_until_occurrences s = s.occurrences
 abbrev pub take_until_literal : {T I E : Type 0} → TakeUntil T I E → T
 take_until_literal s = s.literal
 
--- A run of a take of what stands before the first match, of at least `least` tokens and at most the
--- greatest number. The forms `0..` and `1..` have no greatest number.
-abbrev pub TakeUntilRuns : {T S : Type 0} → Reading T S → ErrorForm → (List T → Type 0) → ℕ
-    → Option ℕ → Input T → Answer S → Input T → Type 0
-TakeUntilRuns {T} {S} reading form sought least greatest i answer j =
+-- A run of a take of what stands before the first match, of a number of tokens within the bounds.
+-- The forms `0..` and `1..` have no greatest number.
+abbrev pub TakeUntilRuns : {T S : Type 0} → Reading T S → ErrorForm → (List T → Type 0)
+    → Bounds → Input T → Answer S → Input T → Type 0
+TakeUntilRuns {T} {S} reading form sought bounds i answer j =
     -- the greatest number is below the least
-    ((most : ℕ) × (greatest ≡ Some most) × (most < least) × (answer ≡ Err (assert_kind form))
+    ((most : ℕ) × (bounds.greatest ≡ Some most) × (most < bounds.least)
+    × (answer ≡ Err (assert_kind form))
     × (j ≡ i))
     -- nothing that is sought stands anywhere
-    ⊎ (((k : Kind) × IsWithin greatest least
+    ⊎ (((k : Kind) × IsWithin bounds.greatest bounds.least
     × ((front hit rest : List T) → Stands sought i.left.tokens front hit rest → ⊥)
     × ShortKind form None i k × (answer ≡ Err k) × (j ≡ i))
     -- what stands before the first match is taken
     ⊎ (((start : ℕ) × (end : ℕ)
     × (m : IsFirstMatch reading.units sought i.left.tokens start end) × (slice : S)
-    × (least ≤ length m.front) × IsWithin greatest (length m.front)
+    × (bounds.least ≤ length m.front) × IsWithin bounds.greatest (length m.front)
     × Takes reading m.front i slice j × (answer ≡ Ok slice))
     -- it has too few tokens: with no greatest number it fails, else a later match could have enough
     ⊎ (((start : ℕ) × (end : ℕ)
     × (m : IsFirstMatch reading.units sought i.left.tokens start end) × (k : Kind)
-    × IsWithin greatest least × (length m.front < least)
-    × (((greatest ≡ None) × (k ≡ backtrack))
-    ⊎ ((most : ℕ) × (greatest ≡ Some most) × ShortKind form None i k))
+    × IsWithin bounds.greatest bounds.least × (length m.front < bounds.least)
+    × (((bounds.greatest ≡ None) × (k ≡ backtrack))
+    ⊎ ((most : ℕ) × (bounds.greatest ≡ Some most) × ShortKind form None i k))
     × (answer ≡ Err k) × (j ≡ i))
     -- it has too many
     ⊎ ((start : ℕ) × (end : ℕ) × (m : IsFirstMatch reading.units sought i.left.tokens start end)
-    × (most : ℕ) × (greatest ≡ Some most) × (least ≤ most) × (most < length m.front)
+    × (most : ℕ) × (bounds.greatest ≡ Some most) × (bounds.least ≤ most) × (most < length m.front)
     × (answer ≡ Err backtrack) × (j ≡ i)))))

@@ -5,7 +5,7 @@ use Rattle.std.specs.List.{All}
 use Rattle.streams.specs.Input.{Input, Takes}
 use Rattle.streams.specs.Kind.{backtrack}
 use Rattle.streams.specs.Reading.{Reading}
-use Rattle.stream_sets.specs.Range.{IsWithin, IsBelow}
+use Rattle.stream_sets.specs.Range.{Bounds, IsBelow, IsWithin}
 use Rattle.stream_errors.specs.Form.{ErrorForm, Answer, incomplete_kind, assert_kind}
 use Rattle.stream_sets.specs.declared.range.Range.{Range}
 use Rattle.winnow_token.specs.declared.token.impls.take_while.TakeWhile.{TakeWhile}
@@ -44,24 +44,26 @@ IsOpen member greatest tokens = All (λ t. member t true) tokens × IsBelow grea
 abbrev pub missing_of : ℕ → ℕ → ℕ
 missing_of least left = max (least - left) 1
 
--- A run of a take of members, of at least `least` tokens and at most the greatest number.
-abbrev pub TakeWhileRuns : {T S : Type 0} → Reading T S → ErrorForm → (T → Bool → Type 0) → ℕ
-    → Option ℕ → Input T → Answer S → Input T → Type 0
-TakeWhileRuns {T} {S} reading form member least greatest i answer j =
+-- A run of a take of members, of a number of tokens within the bounds.
+abbrev pub TakeWhileRuns : {T S : Type 0} → Reading T S → ErrorForm → (T → Bool → Type 0)
+    → Bounds → Input T → Answer S → Input T → Type 0
+TakeWhileRuns {T} {S} reading form member bounds i answer j =
     -- the greatest number is below the least
-    ((most : ℕ) × (greatest ≡ Some most) × (most < least) × (answer ≡ Err (assert_kind form))
+    ((most : ℕ) × (bounds.greatest ≡ Some most) × (most < bounds.least)
+    × (answer ≡ Err (assert_kind form))
     × (j ≡ i))
     -- a cut input is open
-    ⊎ ((IsWithin greatest least × IsOpen member greatest i.left.tokens × (i.status.cut ≡ true)
+    ⊎ ((IsWithin bounds.greatest bounds.least × IsOpen member bounds.greatest i.left.tokens
+    × (i.status.cut ≡ true)
     × (answer ≡ Err (incomplete_kind form
-    (Some (missing_of least (reading.units i.left.tokens))))) × (j ≡ i))
+    (Some (missing_of bounds.least (reading.units i.left.tokens))))) × (j ≡ i))
     -- the longest beginning is taken
-    ⊎ (((front : List T) × (rest : List T) × (slice : S) × IsWithin greatest least
-    × IsLongest member greatest i.left.tokens front rest
-    × (IsEnded member greatest front rest ⊎ (i.status.cut ≡ false))
-    × (least ≤ length front) × Takes reading front i slice j × (answer ≡ Ok slice))
+    ⊎ (((front : List T) × (rest : List T) × (slice : S) × IsWithin bounds.greatest bounds.least
+    × IsLongest member bounds.greatest i.left.tokens front rest
+    × (IsEnded member bounds.greatest front rest ⊎ (i.status.cut ≡ false))
+    × (bounds.least ≤ length front) × Takes reading front i slice j × (answer ≡ Ok slice))
     -- it has too few tokens
-    ⊎ ((front : List T) × (rest : List T) × IsWithin greatest least
-    × IsLongest member greatest i.left.tokens front rest
-    × (IsEnded member greatest front rest ⊎ (i.status.cut ≡ false))
-    × (length front < least) × (answer ≡ Err backtrack) × (j ≡ i))))
+    ⊎ ((front : List T) × (rest : List T) × IsWithin bounds.greatest bounds.least
+    × IsLongest member bounds.greatest i.left.tokens front rest
+    × (IsEnded member bounds.greatest front rest ⊎ (i.status.cut ≡ false))
+    × (length front < bounds.least) × (answer ≡ Err backtrack) × (j ≡ i))))

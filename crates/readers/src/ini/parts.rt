@@ -151,8 +151,7 @@ pub(super) fn comment<'i>(input: &mut &'i [u8]) -> Result<(), ErrMode<InputError
 }
 
 /// What stands between sections and pairs: any number of white space and comments, to the first
-/// byte
-/// that begins neither. It never fails, and takes no memory.
+/// byte that begins neither. It never fails, and takes no memory.
 pub(super) fn gap<'i, A: Allocator + Copy>(
     alloc: A,
     input: &mut &'i [u8],

@@ -150,11 +150,10 @@ impl<'i, A: Allocator + Copy> Parser<
 /// and behind them. No pair stands before the first section.
 ///
 /// The answer is the sections in order, each with its pairs in order, repeats kept, as slices of
-/// the
-/// input. Other bytes are [`Fault::Refused`] at the place, in bytes from the start, where the first
-/// part begins that is no section, pair, white space or comment. Memory is taken for the lists
-/// alone, so for none where no section is read, and [`Fault::NoMemory`] is answered where a request
-/// for it was refused. The input is read once, in a time that grows as its length does.
+/// the input. Other bytes are [`Fault::Refused`] at the place, in bytes from the start, where the
+/// first part begins that is no section, pair, white space or comment. Memory is taken for the
+/// lists alone, so for none where no section is read, and [`Fault::NoMemory`] is answered where a
+/// request for it was refused. The input is read once, in a time that grows as its length does.
 ///
 /// ```text
 /// ini::document(alloc, b"[a]\nx=1\n")   is Ok of the section "a" with the pair ("x", "1")

@@ -36,8 +36,7 @@ impl Env for Arguments<'_> {
 }
 
 /// The program over these arguments and bytes, where the n-th request for memory is refused:
-/// whether
-/// one was. If none was, it ends so; else for want of memory.
+/// whether one was. If none was, it ends so; else for want of memory.
 fn serves(
     rt: &impl Abort,
     alloc: Global,

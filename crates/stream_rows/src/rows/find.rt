@@ -13,7 +13,7 @@ fn found<T, I: FindSlice<T>>(input: I, sought: T) -> Option<(usize, usize)> {
 }
 
 /// The rows: an input, a text, and where it stands first.
-fn rows() -> [(&'static str, &'static str, Option<(usize, usize)>); 8] {
+fn rows() -> [(&'static str, &'static str, Option<(usize, usize)>); 13] {
     [
         ("aaab", "aab", Some((1, 4))),
         ("abab", "ab", Some((0, 2))),
@@ -23,6 +23,23 @@ fn rows() -> [(&'static str, &'static str, Option<(usize, usize)>); 8] {
         ("a", "ab", None),
         ("ab", "", Some((0, 0))),
         ("", "", Some((0, 0))),
+        ("aaaaaaaab", "ab", Some((7, 9))),
+        ("a-a-a-a-a-", "ab", None),
+        (
+            "aaaaaaaaaaaaaaaaaaaaaaaaaaaaaaaaaaaaaaaaaaaaab",
+            "aaaaaaaaaaaaaaaaaaaaaaaaaaaaaaaaaaaaaaab",
+            Some((6, 46)),
+        ),
+        (
+            "aaaaaaaaaaaaaaaaaaaaaaaaaaaaaaaaaaaaaaaaaaaaaaaaaa",
+            "aaaaaaaaaaaaaaaaaaaaaaaaaaaaaaaaaaaaaaab",
+            None,
+        ),
+        (
+            "aaaaaaaaaaaaaaaaaaaaaaaaaaaaaaaaacaaaaaaaaaaaaaaaaaaaaaaaaaaaaaaaaaaaaaaab",
+            "aaaaaaaaaaaaaaaaaaaaaaaaaaaaaaaaaaaaaaab",
+            Some((34, 74)),
+        ),
     ]
 }
 

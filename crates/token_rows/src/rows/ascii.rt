@@ -1,6 +1,6 @@
 //! Parsers of ASCII's classes of characters, of line ends and of numbers as text.
 mod classes;
-pub(crate) mod line_ends;
+mod line_ends;
 pub(crate) mod numbers;
 
 use crate::rows::{Modal, answers_each, ends_each, same};
@@ -16,6 +16,8 @@ use stream_sets::as_char::AsChar;
 use stream_sets::compare::Compare;
 use stream_sets::find::FindSlice;
 use streams::locating::LocatingSlice;
+use streams::partial::Partial;
+use streams::stream::Location;
 use winnow_ascii::ascii;
 use winnow_ascii::ascii::impls::{Alphanumeric1, Digit1, Multispace1, Space0};
 
@@ -53,6 +55,51 @@ where
     classes::classes::<I, E>(rt);
     line_ends::at_stream::<I, E>(rt);
     numbers::at_stream::<I, E>(rt);
+}
+
+/// The rows of line ends and numbers at the stream that knows its place, whole and cut.
+pub(crate) fn at_located<
+    I: OfText + SlicesAsBytes + Compare<char> + Compare<&'static str> + FindSlice<(char, char)>,
+>(rt: &impl Abort)
+where
+    I::Token: AsChar,
+    I::Slice: AsBStr + PartialEq + Debug,
+{
+    at_place::<LocatingSlice<I>, Modal>(rt);
+    at_place::<Partial<LocatingSlice<I>>, Modal>(rt);
+}
+
+/// The rows of line ends and numbers at a stream that knows its place.
+fn at_place<
+    I: OfText
+        + Location
+        + SlicesAsBytes
+        + Compare<char>
+        + Compare<&'static str>
+        + FindSlice<(char, char)>,
+    E: ParserError<I>,
+>(rt: &impl Abort)
+where
+    I::Token: AsChar,
+    I::Slice: AsBStr + PartialEq + Debug,
+{
+    line_ends::ends::<I, E>(rt);
+    line_ends::at_places::<I, E>(rt);
+    numbers::ends::<I, E>(rt);
+    numbers::at_places::<I, E>(rt);
+}
+
+/// The rows of line ends and numbers at a stream under an error that is plain.
+pub(crate) fn at_plain_errors<
+    I: OfText + SlicesAsBytes + Compare<char> + Compare<&'static str> + FindSlice<(char, char)>,
+    E: ParserError<I>,
+>(rt: &impl Abort)
+where
+    I::Token: AsChar,
+    I::Slice: AsBStr,
+{
+    line_ends::at_plain_errors::<I, E>(rt);
+    numbers::at_plain_errors::<I, E>(rt);
 }
 
 /// The function that is a parser answers and leaves so on the whole text.

@@ -1,6 +1,10 @@
 //! The types of the combinators and adapters.
 pub use winnow_comb::combinator::impls::{
     Alt, AltParser, BacktrackErr, Cond, CutErr, Delimited, Empty, Fail, Not, Opt, Peek, Preceded,
-    Repeat, SeparatedPair, Terminated,
+    Repeat, Separated, SeparatedPair, Terminated,
 };
-pub use winnow_core::combinator::impls::{ByRef, Eof, Map, Take, VerifyMap, Void};
+pub use winnow_core::combinator::impls::{
+    AndThen, ByRef, CompleteErr, Context, ContextWith, DefaultValue, Eof, ErrInto, FlatMap, Map,
+    MapErr, OutputInto, ParseTo, Span, Take, TryMap, Value, Verify, VerifyMap, Void, WithSpan,
+    WithTaken,
+};

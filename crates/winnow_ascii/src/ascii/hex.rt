@@ -26,7 +26,7 @@ mod sealed {
     pub struct SealedMarker;
 }
 
-/// The unsigned numbers that [`hex_uint`] parses, as winnow's documentation has them.
+/// The unsigned numbers that [`hex_uint`] parses.
 ///
 /// ```text
 /// 0xA_u8.push_nibble(0xB)   is 0xAB

@@ -14,7 +14,7 @@ use stream_sets::as_bstr::{AsBStr, SlicesAsBytes};
 use stream_sets::as_char::AsChar;
 use streams::stream::StreamIsPartial;
 
-/// The signed numbers that [`dec_int`] parses, as winnow's documentation has them.
+/// The signed numbers that [`dec_int`] parses.
 ///
 /// ```text
 /// i8::try_from_dec_int("-128")   is Some(-128)

@@ -1,6 +1,7 @@
 //! Takes of the members of a class.
 ghost use Rattle.std.specs.Prelude.{None};
 ghost use Rattle.stream_errors.specs.Form.{answer_by};
+ghost use Rattle.stream_sets.specs.Range.{from_to};
 ghost use Rattle.streams.specs.Input.{IsEndOf};
 ghost use Rattle.streams.specs.Stream.{AnswersSeen};
 ghost use Rattle.winnow_token.specs.TakeWhile.{TakeWhileRuns};
@@ -19,7 +20,8 @@ pub(crate) fn any_of<S: ContainsToken<I::Token> + Drop, I: StreamIsPartial, E: P
     set: S,
 ) -> Result<I::Slice, E>
     requires { S.can_test set }
-    ensures ran { TakeWhileRuns I.reading E.form (AnswersSeen I.seen_as (S.tells set)) 0 None
+    ensures ran { TakeWhileRuns I.reading E.form (AnswersSeen I.seen_as (S.tells set))
+        (from_to 0 None)
         (I.view input.old) (answer_by E.kind result) (I.view input.new) }
     ensures ends { IsEndOf I.reading (I.view input.new) (I.view input.old) }
 {
@@ -33,7 +35,8 @@ pub(crate) fn some_of<S: ContainsToken<I::Token> + Drop, I: StreamIsPartial, E: 
     set: S,
 ) -> Result<I::Slice, E>
     requires { S.can_test set }
-    ensures ran { TakeWhileRuns I.reading E.form (AnswersSeen I.seen_as (S.tells set)) 1 None
+    ensures ran { TakeWhileRuns I.reading E.form (AnswersSeen I.seen_as (S.tells set))
+        (from_to 1 None)
         (I.view input.old) (answer_by E.kind result) (I.view input.new) }
     ensures ends { IsEndOf I.reading (I.view input.new) (I.view input.old) }
 {

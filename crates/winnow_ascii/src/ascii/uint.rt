@@ -1,11 +1,12 @@
 //! Decimal unsigned numbers.
-ghost use Rattle.std.specs.Prelude.{◌^◌, ℕ};
+ghost use Rattle.std.specs.Prelude.{◌≡◌, ◌<◌, ◌≤◌, ◌^◌, ℕ, MatchOption};
 ghost use Rattle.std.specs.Str.{IsUtf8};
 ghost use Rattle.stream_errors.specs.Form.{answer_by};
 ghost use Rattle.streams.specs.Input.{IsEndOf};
 ghost use Rattle.winnow_ascii.specs.DecUint.{DecUintRuns};
 ghost use Rattle.winnow_ascii.specs.DecimalText.{ReadsUnsigned};
 
+use crate::ascii::digits::small_number;
 use crate::ascii::numeral::take_numeral;
 use std::str;
 use stream_errors::parser_error::ParserError;
@@ -13,7 +14,7 @@ use stream_sets::as_bstr::{AsBStr, SlicesAsBytes};
 use stream_sets::as_char::AsChar;
 use streams::stream::StreamIsPartial;
 
-/// The unsigned numbers that [`dec_uint`] parses, as winnow's documentation has them.
+/// The unsigned numbers that [`dec_uint`] parses.
 ///
 /// ```text
 /// u8::try_from_dec_uint("255")   is Some(255)
@@ -30,6 +31,11 @@ pub trait Uint: Sized {
     /// the text is something else, or the number does not fit.
     fn try_from_dec_uint(slice: &str) -> Option<Self>
         ensures { ReadsUnsigned number bound slice.now result };
+
+    /// The value of a number, `None` exactly where it does not fit.
+    fn try_from_number(value: u64) -> Option<Self>
+        ensures { MatchOption result (bound ≤ value)
+            (λ n. (value < bound) × (number n ≡ value)) };
 }
 
 impl Uint for u8 {
@@ -40,6 +46,15 @@ impl Uint for u8 {
     #[inline(always)]
     fn try_from_dec_uint(slice: &str) -> Option<u8> {
         slice.parse().ok()
+    }
+
+    #[inline(always)]
+    fn try_from_number(value: u64) -> Option<u8> {
+        if value <= u8::MAX as u64 {
+            Some(value as u8)
+        } else {
+            None
+        }
     }
 }
 
@@ -52,6 +67,15 @@ impl Uint for u16 {
     fn try_from_dec_uint(slice: &str) -> Option<u16> {
         slice.parse().ok()
     }
+
+    #[inline(always)]
+    fn try_from_number(value: u64) -> Option<u16> {
+        if value <= u16::MAX as u64 {
+            Some(value as u16)
+        } else {
+            None
+        }
+    }
 }
 
 impl Uint for u32 {
@@ -62,6 +86,15 @@ impl Uint for u32 {
     #[inline(always)]
     fn try_from_dec_uint(slice: &str) -> Option<u32> {
         slice.parse().ok()
+    }
+
+    #[inline(always)]
+    fn try_from_number(value: u64) -> Option<u32> {
+        if value <= u32::MAX as u64 {
+            Some(value as u32)
+        } else {
+            None
+        }
     }
 }
 
@@ -74,6 +107,11 @@ impl Uint for u64 {
     fn try_from_dec_uint(slice: &str) -> Option<u64> {
         slice.parse().ok()
     }
+
+    #[inline(always)]
+    fn try_from_number(value: u64) -> Option<u64> {
+        Some(value)
+    }
 }
 
 impl Uint for u128 {
@@ -85,6 +123,11 @@ impl Uint for u128 {
     fn try_from_dec_uint(slice: &str) -> Option<u128> {
         slice.parse().ok()
     }
+
+    #[inline(always)]
+    fn try_from_number(value: u64) -> Option<u128> {
+        Some(value as u128)
+    }
 }
 
 impl Uint for usize {
@@ -95,6 +138,11 @@ impl Uint for usize {
     #[inline(always)]
     fn try_from_dec_uint(slice: &str) -> Option<usize> {
         slice.parse().ok()
+    }
+
+    #[inline(always)]
+    fn try_from_number(value: u64) -> Option<usize> {
+        Some(value as usize)
     }
 }
 
@@ -145,7 +193,20 @@ fn uint_of<S: AsBStr, N: Uint>(slice: &S) -> Option<N>
     requires { IsUtf8 (S.bytes slice.now) }
     ensures { ReadsUnsigned N.number N.bound (S.bytes slice.now) result }
 {
-    match str::from_utf8(slice.as_bstr()) {
+    let text = slice.as_bstr();
+    match small_number(text) {
+        Some(number) => N::try_from_number(number),
+        None => text_number(text),
+    }
+}
+
+/// The number that a text is read as, by the type's `FromStr`.
+#[inline(never)]
+fn text_number<N: Uint>(text: &[u8]) -> Option<N>
+    requires { IsUtf8 text.now }
+    ensures { ReadsUnsigned N.number N.bound text.now result }
+{
+    match str::from_utf8(text) {
         Ok(text) => N::try_from_dec_uint(text),
         Err(_) => None,
     }

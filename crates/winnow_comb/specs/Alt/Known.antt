@@ -1,10 +1,11 @@
 -- What a caller knows of one run of a choice that answered: of two branches, and by the nesting of
 -- more.
-use Rattle.std.specs.Prelude.{◌≡◌, Ok, Err, ◌⊎◌}
-use Rattle.std.proofs.Common.{ap, inl, inr}
+use Rattle.std.specs.Prelude.{◌≡◌, List, Ok, Err, ◌⊎◌}
+use Rattle.std.proofs.Common.{ap, inl, inr, subst, sym}
 use Rattle.streams.specs.Input.{Input, back_at}
 use Rattle.streams.specs.Kind.{Kind, backtrack}
 use Rattle.stream_errors.specs.Form.{Answer}
+use Rattle.winnow_core.specs.Reads.{Reads}
 use Rattle.winnow_core.specs.Runs.{Runs}
 use Rattle.winnow_comb.specs.Alt.{OrElse}
 
@@ -38,3 +39,21 @@ or_else_err k (inl (r, other, kept)) = inl (r, (λ e. other (ap Err e)), kept)
 or_else_err k (inr (a, r, q)) = inr (a, r, q)
 
 pub ruleset known_choices = (or_else_ok, or_else_err)
+
+-- ---- as a part of what a composition reads
+
+-- where all branches read, and an output shows the same whichever branch it is of
+pub or_else_reads : {S1 S2 T O : Type 0} {run : Runs S1 T O} {others : Runs S2 T O}
+    {known1 : S1 → Type 0} {known2 : S2 → Type 0} {shown : O → List T} {P : O → Type 0}
+    → Reads run known1 shown P → Reads others known2 shown P
+    → Reads (OrElse run others) (λ s. known1 s.0 × known2 s.1) shown P
+or_else_reads {known2 = known2} reads1 reads2 = record {
+  reads = λ s i o t j is ran. elim ran [
+    | inl (r, other, same) ↦ reads1.reads _ _ _ _ _ is.0 r
+    | inr (a, r, q) ↦ reads2.reads _ _ _ _ _ is.1 q
+  ];
+  again = λ s i answer t j is ran. elim ran [
+    | inl (r, other, same) ↦ (reads1.again _ _ _ _ _ is.0 r, subst known2 (sym same) is.1)
+    | inr (a, r, q) ↦ (reads1.again _ _ _ _ _ is.0 r, reads2.again _ _ _ _ _ is.1 q)
+  ];
+}

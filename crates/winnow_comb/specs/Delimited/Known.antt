@@ -1,10 +1,13 @@
 -- What a caller knows of one run of a child between two whose outputs are let go. Of a failure
 -- `three_err` of InOrder.Known says what is known.
-use Rattle.std.specs.Prelude.{Ok}
-use Rattle.std.proofs.Common.{sym, subst}
+use Rattle.std.specs.Prelude.{List, ◌++◌, Ok}
+use Rattle.std.proofs.Common.{refl, sym, subst}
 use Rattle.streams.specs.Input.{Input}
 use Rattle.streams.specs.Kind.{Kind}
-use Rattle.winnow_comb.specs.InOrder.Known.{ThreeCases, three_ok}
+use Rattle.winnow_core.specs.Reads.{Reads}
+use Rattle.winnow_core.specs.Runs.{Runs}
+use Rattle.winnow_comb.specs.Delimited.{DelimitedRuns}
+use Rattle.winnow_comb.specs.InOrder.Known.{ThreeCases, three_ok, three_reads}
 
 -- an output: all three succeeded, and it is that of the second
 pub delimited_ok : {T O1 O2 O3 : Type 0}
@@ -16,3 +19,14 @@ pub delimited_ok : {T O1 O2 O3 : Type 0}
 delimited_ok {Ran2 = Ran2} o ran =
     let (o1, o2, o3, a, b, r1, r2, r3, is) = three_ok o ran in
     (o1, o3, a, b, r1, subst (λ x. Ran2 x a b) (sym is) r2, r3)
+
+-- where the second reads, and the others always take these tokens
+pub delimited_reads : {S1 S2 S3 T O1 O2 O3 : Type 0} {run1 : Runs S1 T O1} {run2 : Runs S2 T O2}
+    {run3 : Runs S3 T O3} {known1 : S1 → Type 0} {known2 : S2 → Type 0} {known3 : S3 → Type 0}
+    {front behind : List T} {shown2 : O2 → List T} {P1 : O1 → Type 0}
+    {P2 : O2 → Type 0} {P3 : O3 → Type 0} → Reads run1 known1 (λ _. front) P1
+    → Reads run2 known2 shown2 P2 → Reads run3 known3 (λ _. behind) P3
+    → Reads (DelimitedRuns run1 run2 run3) (λ s. known1 s.0 × known2 s.1 × known3 s.2)
+    (λ o. front ++ (shown2 o ++ behind)) P2
+delimited_reads reads1 reads2 reads3 =
+    three_reads (λ o1 o2 o3. o2) _ _ (λ o1 o2 o3 p1 p2 p3. (refl, p2)) reads1 reads2 reads3

@@ -1,11 +1,12 @@
 -- What a caller knows of one run of children in order that answered: where it succeeded all did;
 -- where it failed one did, by that kind, and those before it succeeded.
-use Rattle.std.specs.Prelude.{◌≡◌, Result, Ok, Err, IfOk, ◌⊎◌}
-use Rattle.std.proofs.Common.{refl, sym, subst, inl, inr}
+use Rattle.std.specs.Prelude.{◌≡◌, List, ◌++◌, Result, Ok, Err, IfOk, ◌⊎◌}
+use Rattle.std.proofs.Common.{refl, ap, sym, subst, inl, inr, append_assoc, ◌∙◌}
 use Rattle.streams.specs.Input.{Input}
 use Rattle.streams.specs.Kind.{Kind}
 use Rattle.stream_errors.specs.Form.{Answer, answer_by}
 use Rattle.stream_errors.specs.Form.Known.{at_kind, ok_is_err, same_ok}
+use Rattle.winnow_core.specs.Reads.{MustLeave, Reads}
 use Rattle.winnow_core.specs.Runs.{Runs}
 use Rattle.winnow_comb.specs.InOrder.{BothRuns, ThreeRuns}
 
@@ -132,3 +133,111 @@ pub ruleset known_in_order = (
   three_err,
   three_told,
 )
+
+-- ---- as parts of what a composition reads
+
+-- two children that read do so, where the output that is made of theirs shows what they show
+pub both_reads : {S1 S2 T O1 O2 O : Type 0} {run1 : Runs S1 T O1} {run2 : Runs S2 T O2}
+    {known1 : S1 → Type 0} {known2 : S2 → Type 0} {shown1 : O1 → List T} {shown2 : O2 → List T}
+    {P1 : O1 → Type 0} {P2 : O2 → Type 0} (output : O1 → O2 → O) (shown : O → List T)
+    (P : O → Type 0)
+    → ((o1 : O1) (o2 : O2) → P1 o1 → P2 o2
+    → (shown (output o1 o2) ≡ shown1 o1 ++ shown2 o2) × P (output o1 o2))
+    → Reads run1 known1 shown1 P1 → Reads run2 known2 shown2 P2
+    → Reads (BothRuns output run1 run2) (λ s. known1 s.0 × known2 s.1) shown P
+both_reads {O = O} {known2 = known2} {shown1 = shown1} output shown P makes reads1 reads2 = record {
+  reads = λ s i o t j is ran.
+      let (o1, o2, a, r1, r2, made) = both_ok o ran in
+      let h1 = reads1.reads _ _ _ _ _ is.0 r1 in
+      let h2 = reads2.reads _ _ _ _ _ is.1 r2 in
+      let it = makes o1 o2 h1.1 h2.1 in
+      let Q : O → Type 0 = λ x. (i.left.tokens ≡ shown x ++ j.left.tokens) × P x in
+      subst Q (sym made) (rw it.0 (simp append_assoc (h1.0 ∙ ap (λ l. shown1 o1 ++ l) h2.0)), it.1);
+  again = λ s i answer t j is ran. elim ran [
+    | inl (o1, o2, a, r1, r2, e) ↦ (reads1.again _ _ _ _ _ is.0 r1, reads2.again _ _ _ _ _ is.1 r2)
+    | inr (inl (k, r1, same2, e)) ↦ (reads1.again _ _ _ _ _ is.0 r1, subst known2 (sym same2) is.1)
+    | inr (inr (o1, k, a, r1, r2, e))
+        ↦ (reads1.again _ _ _ _ _ is.0 r1, reads2.again _ _ _ _ _ is.1 r2)
+  ];
+}
+
+pub both_leaves : {S1 S2 T O1 O2 O : Type 0} {output : O1 → O2 → O} {run1 : Runs S1 T O1}
+    {run2 : Runs S2 T O2} {s : S1 × S2} {before a after : List T} → MustLeave run1 s.0 before a
+    → MustLeave run2 s.1 a after → MustLeave (BothRuns output run1 run2) s before after
+both_leaves must1 must2 = record {
+  leaves = λ i o t j begins ran.
+      let (o1, o2, a, r1, r2, is) = both_ok o ran in
+      must2.leaves _ _ _ _ (must1.leaves _ _ _ _ begins r1) r2;
+  answers = λ i k t j begins ran. elim (both_err k ran) [
+    | inl (f, same2) ↦ must1.answers _ _ _ _ begins f
+    | inr (o1, a, r1, f) ↦ must2.answers _ _ _ _ (must1.leaves _ _ _ _ begins r1) f
+  ];
+}
+
+-- and so do three
+pub three_reads : {S1 S2 S3 T O1 O2 O3 O : Type 0} {run1 : Runs S1 T O1} {run2 : Runs S2 T O2}
+    {run3 : Runs S3 T O3} {known1 : S1 → Type 0} {known2 : S2 → Type 0} {known3 : S3 → Type 0}
+    {shown1 : O1 → List T} {shown2 : O2 → List T} {shown3 : O3 → List T} {P1 : O1 → Type 0}
+    {P2 : O2 → Type 0} {P3 : O3 → Type 0} (output : O1 → O2 → O3 → O) (shown : O → List T)
+    (P : O → Type 0)
+    → ((o1 : O1) (o2 : O2) (o3 : O3) → P1 o1 → P2 o2 → P3 o3
+    → (shown (output o1 o2 o3) ≡ shown1 o1 ++ (shown2 o2 ++ shown3 o3)) × P (output o1 o2 o3))
+    → Reads run1 known1 shown1 P1 → Reads run2 known2 shown2 P2 → Reads run3 known3 shown3 P3
+    → Reads (ThreeRuns output run1 run2 run3) (λ s. known1 s.0 × known2 s.1 × known3 s.2) shown P
+three_reads {O = O} {known2 = known2} {known3 = known3} {shown1 = shown1} {shown2 = shown2} output
+    shown P makes reads1 reads2 reads3 = record {
+      reads = λ s i o t j is ran.
+          let (o1, o2, o3, a, b, r1, r2, r3, made) = three_ok o ran in
+          let h1 = reads1.reads _ _ _ _ _ is.0 r1 in
+          let h2 = reads2.reads _ _ _ _ _ is.1 r2 in
+          let h3 = reads3.reads _ _ _ _ _ is.2 r3 in
+          let it = makes o1 o2 o3 h1.1 h2.1 h3.1 in
+          let Q : O → Type 0 = λ x. (i.left.tokens ≡ shown x ++ j.left.tokens) × P x in
+          subst Q (sym made) (
+            rw it.0 (simp append_assoc
+                (h1.0 ∙ ap (λ l. shown1 o1 ++ l) (h2.0 ∙ ap (λ l. shown2 o2 ++ l) h3.0))),
+            it.1,
+          );
+      again = λ s i answer t j is ran. elim ran [
+        | inl (o1, o2, o3, a, b, r1, r2, r3, e)
+            ↦ (
+              reads1.again _ _ _ _ _ is.0 r1,
+              reads2.again _ _ _ _ _ is.1 r2,
+              reads3.again _ _ _ _ _ is.2 r3,
+            )
+        | inr (inl (k, r1, same2, same3, e))
+            ↦ (
+              reads1.again _ _ _ _ _ is.0 r1,
+              subst known2 (sym same2) is.1,
+              subst known3 (sym same3) is.2,
+            )
+        | inr (inr (inl (o1, k, a, r1, r2, same3, e)))
+            ↦ (
+              reads1.again _ _ _ _ _ is.0 r1,
+              reads2.again _ _ _ _ _ is.1 r2,
+              subst known3 (sym same3) is.2,
+            )
+        | inr (inr (inr (o1, o2, k, a, b, r1, r2, r3, e)))
+            ↦ (
+              reads1.again _ _ _ _ _ is.0 r1,
+              reads2.again _ _ _ _ _ is.1 r2,
+              reads3.again _ _ _ _ _ is.2 r3,
+            )
+      ];
+    }
+
+pub three_leaves : {S1 S2 S3 T O1 O2 O3 O : Type 0} {output : O1 → O2 → O3 → O}
+    {run1 : Runs S1 T O1} {run2 : Runs S2 T O2} {run3 : Runs S3 T O3} {s : S1 × S2 × S3}
+    {before a b after : List T} → MustLeave run1 s.0 before a → MustLeave run2 s.1 a b
+    → MustLeave run3 s.2 b after → MustLeave (ThreeRuns output run1 run2 run3) s before after
+three_leaves must1 must2 must3 = record {
+  leaves = λ i o t j begins ran.
+      let (o1, o2, o3, a, b, r1, r2, r3, is) = three_ok o ran in
+      must3.leaves _ _ _ _ (must2.leaves _ _ _ _ (must1.leaves _ _ _ _ begins r1) r2) r3;
+  answers = λ i k t j begins ran. elim (three_err k ran) [
+    | inl (f, same2, same3) ↦ must1.answers _ _ _ _ begins f
+    | inr (inl (o1, a, r1, f, same3)) ↦ must2.answers _ _ _ _ (must1.leaves _ _ _ _ begins r1) f
+    | inr (inr (o1, o2, a, b, r1, r2, f))
+        ↦ must3.answers _ _ _ _ (must2.leaves _ _ _ _ (must1.leaves _ _ _ _ begins r1) r2) f
+  ];
+}

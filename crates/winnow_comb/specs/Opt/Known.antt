@@ -1,11 +1,12 @@
 -- What a caller knows of one run of a child that may be left out, where it answered.
 use Rattle.std.specs.Prelude.{◌≡◌, Option, Some, None, Result, Ok, Err, IfOk, ◌⊎◌}
-use Rattle.std.specs.Prelude.{MatchOption}
-use Rattle.std.proofs.Common.{refl, inl, inr}
+use Rattle.std.specs.Prelude.{⊤, MatchOption, List, [], ◌++◌}
+use Rattle.std.proofs.Common.{refl, ap, inl, inr, sym}
 use Rattle.streams.specs.Input.{Input, back_at}
 use Rattle.streams.specs.Kind.{Kind, backtrack}
 use Rattle.stream_errors.specs.Form.{Answer, answer_by}
 use Rattle.stream_errors.specs.Form.Known.{at_kind, at_output, ok_is_err}
+use Rattle.winnow_core.specs.Reads.{Reads}
 use Rattle.winnow_core.specs.Runs.{Runs}
 use Rattle.winnow_comb.specs.Opt.{OptRuns}
 
@@ -55,3 +56,30 @@ opt_told kind P (Ok None) ran some none =
 opt_told kind P (Err e) ran some none = tt
 
 pub ruleset known_options = (opt_ok, opt_err, opt_told)
+
+-- ---- as a part of what a composition reads
+
+-- what an output shows, where there is one
+abbrev pub shown_of : {T O : Type 0} → (O → List T) → Option O → List T
+shown_of shown None = []
+shown_of shown (Some o) = shown o
+
+-- where the child reads
+pub opt_reads : {S T O : Type 0} {run : Runs S T O} {known : S → Type 0} {shown : O → List T}
+    {P : O → Type 0} → Reads run known shown P
+    → Reads (OptRuns run) known (shown_of shown) (λ o. MatchOption o ⊤ P)
+opt_reads {T = T} {O = O} {shown = shown} {P = P} reads = record {
+  reads = λ s i o t j is ran.
+      let Q : Option O → Type 0 =
+      λ x. (i.left.tokens ≡ shown_of shown x ++ j.left.tokens) × MatchOption x ⊤ P in
+      elim ran [
+        | inl (x, r, e) ↦ at_output Q e (reads.reads _ _ _ _ _ is r)
+        | inr (inl (m, r, e, back)) ↦ at_output Q e (sym (ap (λ k. k.left.tokens) back), tt)
+        | inr (inr (k, r, other, e)) ↦ ok_is_err refl e
+      ];
+  again = λ s i answer t j is ran. elim ran [
+    | inl (x, r, e) ↦ reads.again _ _ _ _ _ is r
+    | inr (inl (m, r, e, back)) ↦ reads.again _ _ _ _ _ is r
+    | inr (inr (k, r, other, e)) ↦ reads.again _ _ _ _ _ is r
+  ];
+}

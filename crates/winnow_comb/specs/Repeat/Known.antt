@@ -13,7 +13,7 @@ use Rattle.stream_errors.specs.Form.{Answer}
 use Rattle.stream_errors.specs.Form.Known.{at_kind, at_output, ok_is_err, same_kind}
 use Rattle.stream_sets.specs.Accumulator.{Accumulator, list_kept}
 use Rattle.stream_sets.specs.Accumulator.Known.{list_of_outputs}
-use Rattle.stream_sets.specs.Range.{IsWithin, greatest_of}
+use Rattle.stream_sets.specs.Range.{IsWithin, bounds_of, from_to, greatest_of}
 use Rattle.stream_sets.specs.declared.range.Range.{Range}
 use Rattle.winnow_core.specs.Runs.{Runs}
 use Rattle.winnow_comb.specs.Chain.{IsItem}
@@ -99,7 +99,8 @@ pub record RepeatedTo {S T O C : Type 0} (run : Runs S T O) (into : Accumulator 
 
 pub repeat_any_ok : {S T O C : Type 0} (run : Runs S T O) (into : Accumulator C O)
     (assert_kind : Kind) (s : S) (i : Input T) (all : C) (t : S) (j : Input T)
-    → RepeatRuns run into assert_kind 0 None s i (Ok all) t j → RepeatedAll run into s i all t j
+    → RepeatRuns run into assert_kind (from_to 0 None) s i (Ok all) t j
+    → RepeatedAll run into s i all t j
 repeat_any_ok run into assert_kind s i all t j (inl (one, none, ran)) = absurd (omega (arith, one))
 repeat_any_ok run into assert_kind s i all t j (inr (other, inl (most, is, below, e, a, b))) =
     ok_is_err refl e
@@ -109,7 +110,7 @@ repeat_any_ok {S} {T} {O} {C} run into assert_kind s i all t j
     (inr (other, inr (inr (empty, within, starts, (outputs, u, m, chain, ends))))) =
     of_end ends
   where
-    of_end : RepeatEnds run into assert_kind 0 None empty outputs u m (Ok all) t j
+    of_end : RepeatEnds run into assert_kind (from_to 0 None) empty outputs u m (Ok all) t j
         → RepeatedAll run into s i all t j
     of_end (inl (x, full, taken, e, a, b)) = none_is_some full
     of_end (inr (inl (x, last, below, enough, ran, taken, e, back))) =
@@ -134,7 +135,7 @@ repeat_any_ok {S} {T} {O} {C} run into assert_kind s i all t j
 pub repeat_any_err : {S T O C : Type 0} (run : Runs S T O) (into : Accumulator C O)
     (assert_kind : Kind) (s : S) (i : Input T) (k : Kind) (t : S) (j : Input T)
     → (into.start_grows None → ⊥)
-    → RepeatRuns run into assert_kind 0 None s i (Err k) t j
+    → RepeatRuns run into assert_kind (from_to 0 None) s i (Err k) t j
     → RepeatedTo run into assert_kind s i k t j
 repeat_any_err run into assert_kind s i k t j free (inl (one, none, ran)) =
     absurd (omega (arith, one))
@@ -152,7 +153,7 @@ repeat_any_err {S} {T} {O} {C} run into assert_kind s i k t j free
       failure = of_end ends;
     }
   where
-    of_end : RepeatEnds run into assert_kind 0 None empty outputs u m (Err k) t j
+    of_end : RepeatEnds run into assert_kind (from_to 0 None) empty outputs u m (Err k) t j
         → RepeatFailure run into assert_kind u m k t j
     of_end (inl (x, full, taken, e, a, b)) = none_is_some full
     of_end (inr (inl (x, last, below, enough, ran, taken, e, back))) = ok_is_err e refl
@@ -189,7 +190,7 @@ pub record RepeatedSome {S T O C : Type 0} (run : Runs S T O) (into : Accumulato
 
 pub repeat_some_ok : {S T O C : Type 0} (run : Runs S T O) (into : Accumulator C O)
     (assert_kind : Kind) (s : S) (i : Input T) (all : C) (t : S) (j : Input T)
-    → RepeatRuns run into assert_kind 1 None s i (Ok all) t j
+    → RepeatRuns run into assert_kind (from_to 1 None) s i (Ok all) t j
     → RepeatedSome run into s i all t j
 repeat_some_ok run into assert_kind s i all t j (inl (one, none, inl (k, r, e))) =
     ok_is_err refl e
@@ -211,7 +212,7 @@ repeat_some_ok {S} {T} {O} {C} run into assert_kind s i all t j
     )) =
     of_end ends
   where
-    of_end : RepeatEnds run into assert_kind 0 None one outputs u m (Ok all) t j
+    of_end : RepeatEnds run into assert_kind (from_to 0 None) one outputs u m (Ok all) t j
         → RepeatedSome run into s i all t j
     of_end (inl (x, full, taken, e, a, b)) = none_is_some full
     of_end (inr (inl (x, last, below, enough, ran, taken, e, back))) =
@@ -263,7 +264,7 @@ pub record RepeatedWithin {S T O C : Type 0} (run : Runs S T O) (into : Accumula
 pub repeat_within_ok : {S T O C : Type 0} (run : Runs S T O) (into : Accumulator C O)
     (assert_kind : Kind) (least : ℕ) (greatest : Option ℕ) (s : S) (i : Input T) (all : C)
     (t : S) (j : Input T) → ((least ≡ 1) × (greatest ≡ None) → ⊥)
-    → RepeatRuns run into assert_kind least greatest s i (Ok all) t j
+    → RepeatRuns run into assert_kind (from_to least greatest) s i (Ok all) t j
     → RepeatedWithin run into least greatest s i all t j
 repeat_within_ok run into assert_kind least greatest s i all t j not_some (inl (one, none, ran)) =
     absurd (not_some (one, none))
@@ -275,7 +276,7 @@ repeat_within_ok {S} {T} {O} {C} run into assert_kind least greatest s i all t j
     (inr (other, inr (inr (empty, within, starts, (outputs, u, m, chain, ends))))) =
     of_end ends
   where
-    of_end : RepeatEnds run into assert_kind least greatest empty outputs u m (Ok all) t j
+    of_end : RepeatEnds run into assert_kind (from_to least greatest) empty outputs u m (Ok all) t j
         → RepeatedWithin run into least greatest s i all t j
     of_end (inl (x, full, taken, e, a, b)) =
         let P : Option ℕ → Type 0 = λ g. IsWithin g least in
@@ -329,13 +330,11 @@ pub repeated_by : {S T O C : Type 0} (run : Runs S T O) (into : Accumulator C O)
     (assert_kind : Kind) (range : Range) (least : ℕ) (last : Option ℕ) (s : S) (i : Input T)
     (answer : Answer C) (t : S) (j : Input T)
     → range ≡ record { start_inclusive = least; end_inclusive = last }
-    → RepeatRuns run into assert_kind range.start_inclusive
-    (greatest_of range.start_inclusive range.end_inclusive) s i answer t j
-    → RepeatRuns run into assert_kind least (greatest_of least last) s i answer t j
+    → RepeatRuns run into assert_kind (bounds_of range) s i answer t j
+    → RepeatRuns run into assert_kind (from_to least (greatest_of least last)) s i answer t j
 repeated_by run into assert_kind range least last s i answer t j e ran =
     let P : Range → Type 0 =
-    λ r. RepeatRuns run into assert_kind r.start_inclusive
-    (greatest_of r.start_inclusive r.end_inclusive) s i answer t j in
+    λ r. RepeatRuns run into assert_kind (bounds_of r) s i answer t j in
     subst P e ran
 
 pub ruleset known_repetitions = (

@@ -18,7 +18,7 @@ use stream_errors::parser_error::ParserError;
 use streams::stream::Stream;
 use winnow_core::parser::Parser;
 
-/// A parser of `parser` or of nothing, as winnow's documentation has it.
+/// A parser of `parser` or of nothing.
 ///
 /// Where `parser` backtracks the output is `None`, and the input is back at the start. Its other
 /// errors, cut, incomplete and want of memory, are handed on, with the input as it left it.
@@ -45,7 +45,7 @@ where
     }
 }
 
-/// A parser that runs `parser` only where `condition` holds, as winnow's documentation has it.
+/// A parser that runs `parser` only where `condition` holds.
 ///
 /// Where it does not hold the output is `None`, and nothing is run. Where it holds the output is
 /// that of `parser`, and each of its errors is handed on, with the input as it left it.
@@ -75,8 +75,8 @@ where
     }
 }
 
-/// A parser that answers as `parser` does and consumes nothing, as winnow's documentation has it.
-/// Known as `look_ahead` and `rewind` too.
+/// A parser that answers as `parser` does and consumes nothing. Known as `look_ahead` and `rewind`
+/// too.
 ///
 /// Whatever `parser` answers, an output or an error of any kind, the input is back at the start.
 ///
@@ -101,8 +101,7 @@ where
     }
 }
 
-/// A parser that succeeds where `parser` does not, and consumes nothing, as winnow's documentation
-/// has it.
+/// A parser that succeeds where `parser` does not, and consumes nothing.
 ///
 /// Where `parser` backtracks the output is `()`, and where it succeeds this backtracks. Its other
 /// errors, cut, incomplete and want of memory, are handed on. In each case the input is back at
@@ -130,8 +129,7 @@ where
     }
 }
 
-/// A parser that cuts where `parser` backtracks, so that no other branch is tried, as winnow's
-/// documentation has it.
+/// A parser that cuts where `parser` backtracks, so that no other branch is tried.
 ///
 /// An output is handed on, and so is an error that cuts, is incomplete or wants memory. The input
 /// stands where `parser` left it.
@@ -159,8 +157,7 @@ where
     }
 }
 
-/// A parser that backtracks where `parser` cuts, so that another branch may be tried, as winnow's
-/// documentation has it.
+/// A parser that backtracks where `parser` cuts, so that another branch may be tried.
 ///
 /// An output is handed on, and so is an error that backtracks, is incomplete or wants memory. The
 /// input stands where `parser` left it.
@@ -186,8 +183,7 @@ where
     }
 }
 
-/// Succeeds, and consumes nothing, as winnow's documentation has it. Known as `value` and
-/// `success` too.
+/// Succeeds, and consumes nothing. Known as `value` and `success` too.
 ///
 /// ```text
 /// empty(&mut b"a".as_slice())   is Ok(()), and b"a" is left
@@ -201,7 +197,7 @@ pub fn empty<Input: Stream, Error: ParserError<Input>>(_input: &mut Input) -> Re
     Ok(())
 }
 
-/// Backtracks, and consumes nothing, as winnow's documentation has it. Known as `unexpected` too.
+/// Backtracks, and consumes nothing. Known as `unexpected` too.
 ///
 /// ```text
 /// fail::<_, u8, _>(&mut b"a".as_slice())   backtracks, and b"a" is left

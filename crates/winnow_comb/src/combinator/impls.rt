@@ -10,7 +10,8 @@ mod not;
 mod opt;
 mod peek;
 mod preceded;
-mod repeat;
+pub(crate) mod repeat;
+pub(crate) mod separated;
 mod separated_pair;
 mod terminated;
 
@@ -26,5 +27,6 @@ pub use crate::combinator::impls::opt::Opt;
 pub use crate::combinator::impls::peek::Peek;
 pub use crate::combinator::impls::preceded::Preceded;
 pub use crate::combinator::impls::repeat::Repeat;
+pub use crate::combinator::impls::separated::Separated;
 pub use crate::combinator::impls::separated_pair::SeparatedPair;
 pub use crate::combinator::impls::terminated::Terminated;

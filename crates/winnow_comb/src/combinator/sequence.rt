@@ -13,8 +13,7 @@ use stream_errors::parser_error::ParserError;
 use streams::stream::Stream;
 use winnow_core::parser::Parser;
 
-/// A parser of `ignored` and then `parser`, with the output of `parser`, as winnow's documentation
-/// has it.
+/// A parser of `ignored` and then `parser`, with the output of `parser`.
 ///
 /// The first failure is handed on, with the input as the failing parser left it.
 ///
@@ -45,8 +44,7 @@ where
     }
 }
 
-/// A parser of `parser` and then `ignored`, with the output of `parser`, as winnow's documentation
-/// has it.
+/// A parser of `parser` and then `ignored`, with the output of `parser`.
 ///
 /// The first failure is handed on, with the input as the failing parser left it.
 ///
@@ -77,8 +75,7 @@ where
     }
 }
 
-/// A parser of `first`, `separator` and `second`, with the outputs of the first and the last, as
-/// winnow's documentation has it.
+/// A parser of `first`, `separator` and `second`, with the outputs of the first and the last.
 ///
 /// The first failure is handed on, with the input as the failing parser left it.
 ///
@@ -116,8 +113,7 @@ where
     }
 }
 
-/// A parser of `ignored1`, `parser` and `ignored2`, with the output of `parser`, as winnow's
-/// documentation has it.
+/// A parser of `ignored1`, `parser` and `ignored2`, with the output of `parser`.
 ///
 /// The first failure is handed on, with the input as the failing parser left it.
 ///

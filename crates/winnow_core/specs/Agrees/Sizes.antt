@@ -1,6 +1,5 @@
 -- What is made of one to six children that agree agrees.
 -- Written by scripts/families.py: do not edit.
-use Rattle.std.specs.Prelude.{◌≡◌}
 use Rattle.std.proofs.Common.{refl, ap, ◌∙◌}
 use Rattle.winnow_core.specs.Agrees.{Agrees}
 use Rattle.winnow_core.specs.Runs.{Meaning}

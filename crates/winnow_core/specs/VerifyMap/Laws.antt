@@ -1,5 +1,5 @@
 -- What holds of the runs of an output that may be refused.
-use Rattle.std.specs.Prelude.{Option, Some, None, Ok, Err}
+use Rattle.std.specs.Prelude.{Option, Ok, Err}
 use Rattle.std.proofs.Common.{inl, inr}
 use Rattle.streams.specs.Reading.{Reading}
 use Rattle.winnow_core.specs.Ends.{back_ends}

@@ -1,5 +1,5 @@
 -- What holds of the runs of what is left.
-use Rattle.std.specs.Prelude.{◌≡◌, ⊤}
+use Rattle.std.specs.Prelude.{⊤}
 use Rattle.streams.specs.Input.{Input, IsEndOf, takes_end}
 use Rattle.streams.specs.Reading.{Reading}
 use Rattle.streams.specs.SameReading.{SameReading, reading_path}

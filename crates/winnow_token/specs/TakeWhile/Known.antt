@@ -1,6 +1,6 @@
 -- What a caller knows of one run of a take of members that answered.
 use Rattle.std.specs.Prelude.{◌≡◌, ◌<◌, ◌≤◌, ℕ, Bool, true, false, List, [], ◌∷◌, ◌++◌, length}
-use Rattle.std.specs.Prelude.{Option, Some, None, Result, Ok, Err, IfOk, IsTrue, ◌⊎◌, ◌↔◌}
+use Rattle.std.specs.Prelude.{Option, None, Result, Ok, Err, IfOk, IsTrue, ◌⊎◌, ◌↔◌}
 use Rattle.std.specs.Borrow.{Bor}
 use Rattle.std.specs.List.{All}
 use Rattle.std.proofs.Common.{refl, sym, ap, subst, ◌∙◌, inl, inr, arith}
@@ -12,10 +12,12 @@ use Rattle.streams.specs.Input.{Input, Takes}
 use Rattle.streams.specs.Kind.{Kind, backtrack}
 use Rattle.streams.specs.Reading.{Reading}
 use Rattle.streams.specs.Stream.{AnswersSeen}
-use Rattle.stream_sets.specs.Range.{IsWithin, greatest_of}
+use Rattle.stream_sets.specs.Range.{IsWithin, bounds_of, from_to, greatest_of}
 use Rattle.stream_sets.specs.declared.range.Range.{Range}
 use Rattle.stream_errors.specs.Form.{Answer, ErrorForm, answer_by}
 use Rattle.stream_errors.specs.Form.Known.{ok_is_err, same_err, same_ok}
+use Rattle.winnow_core.specs.Reads.{MustLeave, Reads}
+use Rattle.winnow_core.specs.Runs.{Keeps, Runs}
 use Rattle.winnow_token.specs.TakeWhile.{IsEnded, IsLongest, TakeWhileRuns}
 
 -- Tokens that were taken: the longest beginning of members, enough of them, and what is left.
@@ -31,7 +33,7 @@ pub record Took {T : Type 0} (member : T → Bool → Type 0) (least : ℕ) (gre
 -- the slice of a take, and the tokens that it shows
 pub took : {T S : Type 0} (reading : Reading T S) (form : ErrorForm)
     (member : T → Bool → Type 0) (least : ℕ) (greatest : Option ℕ) (i : Input T) (slice : S)
-    (j : Input T) → TakeWhileRuns reading form member least greatest i (Ok slice) j
+    (j : Input T) → TakeWhileRuns reading form member (from_to least greatest) i (Ok slice) j
     → (taken : List T) × Takes reading taken i slice j × Took member least greatest i taken j
 took reading form member least greatest i slice j (inl (most, e, lt, a, same)) = ok_is_err refl a
 took reading form member least greatest i slice j (inr (inl (within, open_too, cut, a, same))) =
@@ -60,7 +62,7 @@ took reading form member least greatest i slice j
 -- over bytes and token lists, those of the slice
 pub took_counted : {T : Type 0} (form : ErrorForm) (member : T → Bool → Type 0) (least : ℕ)
     (greatest : Option ℕ) (i : Input T) (slice : Bor (List T)) (j : Input T)
-    → TakeWhileRuns counted_reading form member least greatest i (Ok slice) j
+    → TakeWhileRuns counted_reading form member (from_to least greatest) i (Ok slice) j
     → Took member least greatest i slice.now j
 took_counted {T} form member least greatest i slice j ran =
     let (taken, takes, all) = took counted_reading form member least greatest i slice j ran in
@@ -71,7 +73,7 @@ took_counted {T} form member least greatest i slice j ran =
 pub took_told : {T E : Type 0} (kind : E → Kind) (form : ErrorForm) (member : T → Bool → Type 0)
     (least : ℕ) (greatest : Option ℕ) (i j : Input T) (P : Bor (List T) → Type 0)
     (result : Result (Bor (List T)) E)
-    → TakeWhileRuns counted_reading form member least greatest i (answer_by kind result) j
+    → TakeWhileRuns counted_reading form member (from_to least greatest) i (answer_by kind result) j
     → ((slice : Bor (List T)) → Took member least greatest i slice.now j → P slice)
     → IfOk result P
 took_told kind form member least greatest i j P (Ok slice) ran told =
@@ -91,7 +93,7 @@ pub record TooFew {T : Type 0} (member : T → Bool → Type 0) (least : ℕ) (g
 pub too_few : {T S : Type 0} (reading : Reading T S) (form : ErrorForm)
     (member : T → Bool → Type 0) (least : ℕ) (greatest : Option ℕ) (i : Input T) (k : Kind)
     (j : Input T) → i.status.cut ≡ false → IsWithin greatest least
-    → TakeWhileRuns reading form member least greatest i (Err k) j
+    → TakeWhileRuns reading form member (from_to least greatest) i (Err k) j
     → TooFew member least greatest i k j
 too_few reading form member least greatest i k j whole within (inl (most, e, lt, a, same)) =
     let P : Option ℕ → Type 0 = λ g. IsWithin g least in
@@ -117,20 +119,17 @@ pub by_range : {T S : Type 0} (reading : Reading T S) (form : ErrorForm)
     (member : T → Bool → Type 0) (range : Range) (least : ℕ) (last : Option ℕ) (i : Input T)
     (answer : Answer S) (j : Input T)
     → range ≡ record { start_inclusive = least; end_inclusive = last }
-    → TakeWhileRuns reading form member range.start_inclusive
-    (greatest_of range.start_inclusive range.end_inclusive) i answer j
-    → TakeWhileRuns reading form member least (greatest_of least last) i answer j
+    → TakeWhileRuns reading form member (bounds_of range) i answer j
+    → TakeWhileRuns reading form member (from_to least (greatest_of least last)) i answer j
 by_range reading form member range least last i answer j e ran =
     let P : Range → Type 0 =
-    λ r. TakeWhileRuns reading form member r.start_inclusive
-    (greatest_of r.start_inclusive r.end_inclusive) i answer j in
+    λ r. TakeWhileRuns reading form member (bounds_of r) i answer j in
     subst P e ran
 
 pub took_by : {T : Type 0} (form : ErrorForm) (member : T → Bool → Type 0) (range : Range)
     (least : ℕ) (last : Option ℕ) (i : Input T) (slice : Bor (List T)) (j : Input T)
     → range ≡ record { start_inclusive = least; end_inclusive = last }
-    → TakeWhileRuns counted_reading form member range.start_inclusive
-    (greatest_of range.start_inclusive range.end_inclusive) i (Ok slice) j
+    → TakeWhileRuns counted_reading form member (bounds_of range) i (Ok slice) j
     → Took member least (greatest_of least last) i slice.now j
 took_by form member range least last i slice j e ran =
     took_counted form member least (greatest_of least last) i slice j
@@ -140,8 +139,7 @@ pub too_few_by : {T S : Type 0} (reading : Reading T S) (form : ErrorForm)
     (member : T → Bool → Type 0) (range : Range) (least : ℕ) (last : Option ℕ) (i : Input T)
     (k : Kind) (j : Input T) → range ≡ record { start_inclusive = least; end_inclusive = last }
     → i.status.cut ≡ false → IsWithin (greatest_of least last) least
-    → TakeWhileRuns reading form member range.start_inclusive
-    (greatest_of range.start_inclusive range.end_inclusive) i (Err k) j
+    → TakeWhileRuns reading form member (bounds_of range) i (Err k) j
     → TooFew member least (greatest_of least last) i k j
 too_few_by reading form member range least last i k j e whole within ran =
     too_few reading form member least (greatest_of least last) i k j whole within
@@ -246,7 +244,7 @@ pub take_must : {T S : Type 0} (reading : Reading T S) (form : ErrorForm)
     (member : T → Bool → Type 0) (P : T → Type 0) (least : ℕ) (front : List T) (x : T)
     (rest : List T) (i : Input T) (answer : Answer S) (j : Input T) → Tells member P
     → i.left.tokens ≡ front ++ x ∷ rest → All P front → (P x → ⊥) → least ≤ length front
-    → TakeWhileRuns reading form member least None i answer j
+    → TakeWhileRuns reading form member (from_to least None) i answer j
     → (slice : S) × (answer ≡ Ok slice) × Takes reading front i slice j
 take_must reading form member P least front x rest i answer j set begins all not_p enough
     (inl (most, e, lt, a, same)) = none_is_some e
@@ -270,7 +268,8 @@ pub take_must_leave : {T S : Type 0} (reading : Reading T S) (form : ErrorForm)
     (member : T → Bool → Type 0) (P : T → Type 0) (least : ℕ) (front : List T) (x : T)
     (rest : List T) (i : Input T) (slice : S) (j : Input T) → Tells member P
     → i.left.tokens ≡ front ++ x ∷ rest → All P front → (P x → ⊥) → least ≤ length front
-    → TakeWhileRuns reading form member least None i (Ok slice) j → j.left.tokens ≡ x ∷ rest
+    → TakeWhileRuns reading form member (from_to least None) i (Ok slice) j
+    → j.left.tokens ≡ x ∷ rest
 take_must_leave reading form member P least front x rest i slice j set begins all not_p enough ran =
     let it = take_must reading form member P least front x rest i _ j set begins all not_p enough
     ran in
@@ -281,8 +280,54 @@ pub take_must_answer : {T S X : Type 0} {k : Kind} (reading : Reading T S) (form
     (member : T → Bool → Type 0) (P : T → Type 0) (least : ℕ) (front : List T) (x : T)
     (rest : List T) (i j : Input T) → Tells member P → i.left.tokens ≡ front ++ x ∷ rest
     → All P front → (P x → ⊥) → least ≤ length front
-    → TakeWhileRuns reading form member least None i (Err k) j → X
+    → TakeWhileRuns reading form member (from_to least None) i (Err k) j → X
 take_must_answer reading form member P least front x rest i j set begins all not_p enough ran =
     let it = take_must reading form member P least front x rest i _ j set begins all not_p enough
     ran in
     ok_is_err it.1 refl
+
+-- ---- takes as parts of what a composition reads
+
+-- what a take means over bytes and token lists, as often as a range says, whose set tells of each
+-- token whether it is of P
+abbrev pub TakesOf : {A T : Type 0} → ErrorForm → (T → Type 0) → Runs (Range × A) T (Bor (List T))
+TakesOf form P = Keeps (λ x. TakeWhileRuns counted_reading form
+    (AnswersSeen (λ t. t) (λ t answer. IsTrue answer ↔ P t)) (bounds_of x.0))
+
+-- it reads its slice, all of P and enough
+pub take_reads : {A T : Type 0} (form : ErrorForm) (P : T → Type 0) (range : Range)
+    → Reads (TakesOf {A = A} form P) (λ x. x.0 ≡ range) (λ slice. slice.now)
+    (λ slice. All P slice.now × (range.start_inclusive ≤ length slice.now))
+take_reads form P range = record {
+  reads = λ x i slice y j is ran.
+      let all = took_by form _ x.0 range.start_inclusive range.end_inclusive i slice j is ran.0 in
+      let set = tells_of P in
+      (all.longest.splits, (took_all P _ _ _ i slice.now j set.yes all, all.enough));
+  again = λ x i answer y j is ran. ap (λ z. z.0) ran.1 ∙ is;
+}
+
+-- where a stranger follows enough of P, it is left, if the range has no greatest number
+pub take_leaves : {A T : Type 0} (form : ErrorForm) (P : T → Type 0) (range : Range)
+    (s : Range × A) (front : List T) (x : T) (rest : List T)
+    → (bounds_of range).greatest ≡ None → s.0 ≡ range → All P front
+    → (P x → ⊥) → range.start_inclusive ≤ length front
+    → MustLeave (TakesOf {A = A} form P) s (front ++ x ∷ rest) (x ∷ rest)
+take_leaves {A} {T} form P range s front x rest unlimited is all not_p enough = record {
+  leaves = λ i slice t j begins ran. take_must_leave counted_reading form _ P _ front x rest i slice
+      j (tells_of P) begins all not_p enough (as_known i (Ok slice) j ran.0);
+  answers = λ i k t j begins ran. take_must_answer counted_reading form _ P _ front x rest i j
+      (tells_of P) begins all not_p enough (as_known i (Err k) j ran.0);
+}
+  where
+    member : T → Bool → Type 0
+    member = AnswersSeen (λ t. t) (λ t answer. IsTrue answer ↔ P t)
+
+    as_known : (i : Input T) (answer : Answer (Bor (List T))) (j : Input T)
+        → TakeWhileRuns counted_reading form member (bounds_of s.0) i answer j
+        → TakeWhileRuns counted_reading form member (from_to range.start_inclusive None) i answer j
+    as_known i answer j ran =
+        let Q : Option ℕ → Type 0 =
+        λ g. TakeWhileRuns counted_reading form member (from_to range.start_inclusive g) i
+        answer j in
+        subst Q unlimited (by_range counted_reading form member s.0 range.start_inclusive
+        range.end_inclusive i answer j is ran)

@@ -1,7 +1,7 @@
 //! Takes of the members of a set.
 ghost use Rattle.std.specs.Prelude.{◌≤◌, IfSome, None, Some, not};
 ghost use Rattle.stream_errors.specs.Form.{answer_by};
-ghost use Rattle.stream_sets.specs.Range.{greatest_of};
+ghost use Rattle.stream_sets.specs.Range.{bounds_of, from_to};
 ghost use Rattle.streams.specs.Input.{IsEndOf};
 ghost use Rattle.streams.specs.Stream.{AnswersSeen, IsBoundary};
 ghost use Rattle.winnow_token.specs.Members.{CountsMembers, FoundRuns};
@@ -71,8 +71,7 @@ pub(crate) fn take_members<S: ContainsToken<I::Token>, I: StreamIsPartial, E: Pa
 ) -> Result<I::Slice, E>
     requires { S.can_test set.now }
     ensures ran { TakeWhileRuns I.reading E.form (AnswersSeen I.seen_as (S.tells set.now))
-        occurrences.start_inclusive
-        (greatest_of occurrences.start_inclusive occurrences.end_inclusive) (I.view input.old)
+        (bounds_of occurrences) (I.view input.old)
         (answer_by E.kind result) (I.view input.new) }
     ensures ends { IsEndOf I.reading (I.view input.new) (I.view input.old) }
 {
@@ -92,8 +91,8 @@ fn take_unbounded<S: ContainsToken<I::Token>, I: StreamIsPartial, E: ParserError
 ) -> Result<I::Slice, E>
     requires set { S.can_test set.now }
     requires form { least ≤ 1 }
-    ensures ran { TakeWhileRuns I.reading E.form (AnswersSeen I.seen_as (S.tells set.now)) least
-        None (I.view input.old) (answer_by E.kind result) (I.view input.new) }
+    ensures ran { TakeWhileRuns I.reading E.form (AnswersSeen I.seen_as (S.tells set.now))
+        (from_to least None) (I.view input.old) (answer_by E.kind result) (I.view input.new) }
     ensures ends { IsEndOf I.reading (I.view input.new) (I.view input.old) }
 {
     let end = input.offset_for(Outside(set));
@@ -110,8 +109,9 @@ fn take_bounded<S: ContainsToken<I::Token>, I: StreamIsPartial, E: ParserError<I
     set: &S,
 ) -> Result<I::Slice, E>
     requires { S.can_test set.now }
-    ensures ran { TakeWhileRuns I.reading E.form (AnswersSeen I.seen_as (S.tells set.now)) least
-        (Some greatest) (I.view input.old) (answer_by E.kind result) (I.view input.new) }
+    ensures ran { TakeWhileRuns I.reading E.form (AnswersSeen I.seen_as (S.tells set.now))
+        (from_to least (Some greatest)) (I.view input.old) (answer_by E.kind result)
+        (I.view input.new) }
     ensures ends { IsEndOf I.reading (I.view input.new) (I.view input.old) }
 {
     if greatest < least {

@@ -1,7 +1,7 @@
 //! Takes up to a literal.
 ghost use Rattle.std.specs.Prelude.{◌≤◌, None, Some};
 ghost use Rattle.stream_errors.specs.Form.{answer_by};
-ghost use Rattle.stream_sets.specs.Range.{greatest_of};
+ghost use Rattle.stream_sets.specs.Range.{bounds_of, from_to};
 ghost use Rattle.streams.specs.Input.{IsEndOf};
 ghost use Rattle.winnow_token.specs.Before.{SaysAtLeast, SaysAtMost};
 ghost use Rattle.winnow_token.specs.TakeUntil.{TakeUntilRuns};
@@ -20,8 +20,8 @@ pub(crate) fn take_before<T: Copy, I: StreamIsPartial + FindSlice<T>, E: ParserE
     occurrences: Range,
     literal: T,
 ) -> Result<I::Slice, E>
-    ensures ran { TakeUntilRuns I.reading E.form (I.sought literal) occurrences.start_inclusive
-        (greatest_of occurrences.start_inclusive occurrences.end_inclusive) (I.view input.old)
+    ensures ran { TakeUntilRuns I.reading E.form (I.sought literal) (bounds_of occurrences)
+        (I.view input.old)
         (answer_by E.kind result) (I.view input.new) }
     ensures ends { IsEndOf I.reading (I.view input.new) (I.view input.old) }
 {
@@ -40,7 +40,7 @@ fn take_before_unbounded<T: Copy, I: StreamIsPartial + FindSlice<T>, E: ParserEr
     literal: T,
 ) -> Result<I::Slice, E>
     requires { least ≤ 1 }
-    ensures ran { TakeUntilRuns I.reading E.form (I.sought literal) least None
+    ensures ran { TakeUntilRuns I.reading E.form (I.sought literal) (from_to least None)
         (I.view input.old) (answer_by E.kind result) (I.view input.new) }
     ensures ends { IsEndOf I.reading (I.view input.new) (I.view input.old) }
 {
@@ -64,7 +64,7 @@ fn take_before_bounded<T: Copy, I: StreamIsPartial + FindSlice<T>, E: ParserErro
     greatest: usize,
     literal: T,
 ) -> Result<I::Slice, E>
-    ensures ran { TakeUntilRuns I.reading E.form (I.sought literal) least (Some greatest)
+    ensures ran { TakeUntilRuns I.reading E.form (I.sought literal) (from_to least (Some greatest))
         (I.view input.old) (answer_by E.kind result) (I.view input.new) }
     ensures ends { IsEndOf I.reading (I.view input.new) (I.view input.old) }
 {

@@ -1,5 +1,5 @@
 //! Line ends, and what stands before one.
-use crate::rows::{answers, answers_each, ends_each, same};
+use crate::rows::{Row, answers, answers_at, answers_each, ends_each, moves_each, same, sweep};
 use outcomes::Ending::{Fails, Takes};
 use outcomes::Kind::{self, Backtrack, Incomplete};
 use outcomes::texts::{OfText, endings_alike};
@@ -11,6 +11,7 @@ use stream_sets::compare::Compare;
 use stream_sets::find::FindSlice;
 use streams::needed::Needed;
 use streams::partial::Partial;
+use streams::stream::Location;
 use winnow_ascii::ascii::impls::{Crlf, LineEnding, Newline, Tab, TillLineEnding};
 
 /// The rows at a stream.
@@ -26,7 +27,75 @@ where
     tab::<I, E>(rt);
     line_ending::<I, E>(rt);
     till_line_ending::<I, E>(rt);
+    ends::<I, E>(rt);
+}
+
+/// How the parsers end at a stream, and at each beginning of a sample.
+pub(crate) fn ends<
+    I: OfText + Compare<char> + Compare<&'static str> + FindSlice<(char, char)>,
+    E: ParserError<I>,
+>(rt: &impl Abort) {
+    ends_each::<I, _, E, _>(rt, "crlf", Crlf, &crlf_endings());
+    ends_each::<I, _, E, _>(rt, "newline", Newline, &newline_endings());
+    ends_each::<I, _, E, _>(rt, "tab", Tab, &tab_endings());
+    ends_each::<I, _, E, _>(rt, "line_ending", LineEnding, &line_ending_endings());
+    ends_each::<I, _, E, _>(rt, "till_line_ending", TillLineEnding, &till_endings());
+    line_ending_on_cut_input::<I, E>(rt);
     till_line_ending_on_cut_input::<I, E>(rt);
+}
+
+/// How `crlf` ends.
+fn crlf_endings() -> [Row; 5] {
+    [
+        ("\r\n", Takes(2), Takes(2)),
+        ("\r", BACKTRACKS, LACKS),
+        ("", BACKTRACKS, LACKS),
+        ("\n", BACKTRACKS, BACKTRACKS),
+        ("\ra", BACKTRACKS, BACKTRACKS),
+    ]
+}
+
+/// How `newline` ends.
+fn newline_endings() -> [Row; 3] {
+    [
+        ("\na", Takes(1), Takes(1)),
+        ("\r\n", BACKTRACKS, BACKTRACKS),
+        ("", BACKTRACKS, LACKS),
+    ]
+}
+
+/// How `tab` ends.
+fn tab_endings() -> [Row; 3] {
+    [
+        ("\ta", Takes(1), Takes(1)),
+        (" ", BACKTRACKS, BACKTRACKS),
+        ("", BACKTRACKS, LACKS),
+    ]
+}
+
+/// How `line_ending` ends.
+fn line_ending_endings() -> [Row; 5] {
+    [
+        ("\n", Takes(1), Takes(1)),
+        ("\r\n", Takes(2), Takes(2)),
+        ("\r", BACKTRACKS, LACKS),
+        ("", BACKTRACKS, LACKS),
+        ("\r\r", BACKTRACKS, BACKTRACKS),
+    ]
+}
+
+/// How `till_line_ending` ends.
+fn till_endings() -> [Row; 7] {
+    let at = |kind: Kind| Fails(kind, 2);
+    [
+        ("ab\r\n", Takes(2), Takes(2)),
+        ("ab\n", Takes(2), Takes(2)),
+        ("ab", Takes(2), LACKS),
+        ("", Takes(0), LACKS),
+        ("\n", Takes(0), Takes(0)),
+        ("ab\r", at(Backtrack), at(Incomplete(Needed::Unknown))),
+        ("ab\rc", at(Backtrack), at(Backtrack)),
+    ]
 }
 
 fn crlf<I: OfText + Compare<&'static str>, E: ParserError<I>>(rt: &impl Abort)
@@ -39,33 +108,14 @@ where
         ("\n", Err(Backtrack), "\n"),
     ];
     answers_each::<I, E, _>(rt, "crlf", Crlf, &rows);
-    let rows = [
-        ("\r\n", Takes(2), Takes(2)),
-        ("\r", BACKTRACKS, LACKS),
-        ("", BACKTRACKS, LACKS),
-        ("\n", BACKTRACKS, BACKTRACKS),
-    ];
-    ends_each::<I, _, E, _>(rt, "crlf", Crlf, &rows);
 }
 
 fn newline<I: OfText + Compare<char>, E: ParserError<I>>(rt: &impl Abort) {
     answers::<I, char, E, _>(rt, "newline", Newline, "\n\n", Ok('\n'), "\n");
-    let rows = [
-        ("\na", Takes(1), Takes(1)),
-        ("\r\n", BACKTRACKS, BACKTRACKS),
-        ("", BACKTRACKS, LACKS),
-    ];
-    ends_each::<I, _, E, _>(rt, "newline", Newline, &rows);
 }
 
 fn tab<I: OfText + Compare<char>, E: ParserError<I>>(rt: &impl Abort) {
     answers::<I, char, E, _>(rt, "tab", Tab, "\t\t", Ok('\t'), "\t");
-    let rows = [
-        ("\ta", Takes(1), Takes(1)),
-        (" ", BACKTRACKS, BACKTRACKS),
-        ("", BACKTRACKS, LACKS),
-    ];
-    ends_each::<I, _, E, _>(rt, "tab", Tab, &rows);
 }
 
 fn line_ending<I: OfText + Compare<&'static str>, E: ParserError<I>>(rt: &impl Abort)
@@ -80,14 +130,6 @@ where
         ("a\n", Err(Backtrack), "a\n"),
     ];
     answers_each::<I, E, _>(rt, "line_ending", LineEnding, &rows);
-    let rows = [
-        ("\n", Takes(1), Takes(1)),
-        ("\r\n", Takes(2), Takes(2)),
-        ("\r", BACKTRACKS, LACKS),
-        ("", BACKTRACKS, LACKS),
-        ("\r\r", BACKTRACKS, BACKTRACKS),
-    ];
-    ends_each::<I, _, E, _>(rt, "line_ending", LineEnding, &rows);
 }
 
 fn till_line_ending<I: OfText + Compare<&'static str> + FindSlice<(char, char)>, E: ParserError<I>>(
@@ -110,20 +152,52 @@ where
     answers_each::<I, E, _>(rt, "till_line_ending", TillLineEnding, &rows);
 }
 
+fn line_ending_on_cut_input<I: OfText + Compare<&'static str>, E: ParserError<I>>(rt: &impl Abort) {
+    let as_whole = [BACKTRACKS, BACKTRACKS, Takes(2), Takes(2)];
+    let as_cut = [LACKS, LACKS, Takes(2), Takes(2)];
+    sweep::<I, _, E, _>(rt, "crlf", Crlf, "\r\n;", &as_whole, &as_cut);
+    sweep::<I, _, E, _>(rt, "line_ending", LineEnding, "\r\n;", &as_whole, &as_cut);
+    let as_whole = [BACKTRACKS, Takes(1), Takes(1)];
+    let as_cut = [LACKS, Takes(1), Takes(1)];
+    sweep::<I, _, E, _>(rt, "line_ending", LineEnding, "\n\n", &as_whole, &as_cut);
+}
+
 fn till_line_ending_on_cut_input<
     I: OfText + Compare<&'static str> + FindSlice<(char, char)>,
     E: ParserError<I>,
 >(rt: &impl Abort) {
-    let at = |kind: Kind| Fails(kind, 2);
-    let rows = [
-        ("ab\r\n", Takes(2), Takes(2)),
-        ("ab\n", Takes(2), Takes(2)),
-        ("ab", Takes(2), LACKS),
-        ("", Takes(0), LACKS),
-        ("ab\r", at(Backtrack), at(Incomplete(Needed::Unknown))),
-        ("ab\rc", at(Backtrack), at(Backtrack)),
-    ];
-    ends_each::<I, _, E, _>(rt, "till_line_ending", TillLineEnding, &rows);
+    let name = "till_line_ending";
+    let at = |kind: Kind| Fails(kind, 1);
+    let lacks_behind = at(Incomplete(Needed::Unknown));
+    let as_whole = [Takes(0), Takes(1), at(Backtrack), Takes(1), Takes(1)];
+    let as_cut = [LACKS, LACKS, lacks_behind, Takes(1), Takes(1)];
+    sweep::<I, _, E, _>(rt, name, TillLineEnding, "a\r\nb", &as_whole, &as_cut);
+    let as_whole = [Takes(0), Takes(1), at(Backtrack), at(Backtrack)];
+    let as_cut = [LACKS, LACKS, lacks_behind, at(Backtrack)];
+    sweep::<I, _, E, _>(rt, name, TillLineEnding, "a\rb", &as_whole, &as_cut);
+}
+
+/// The rows at a stream that knows its place.
+pub(crate) fn at_places<
+    I: OfText + Location + Compare<char> + Compare<&'static str> + FindSlice<(char, char)>,
+    E: ParserError<I>,
+>(rt: &impl Abort)
+where
+    I::Slice: PartialEq + Debug,
+{
+    moves_each::<I, _, E, _>(rt, "crlf", Crlf, &crlf_endings());
+    moves_each::<I, _, E, _>(rt, "newline", Newline, &newline_endings());
+    moves_each::<I, _, E, _>(rt, "tab", Tab, &tab_endings());
+    moves_each::<I, _, E, _>(rt, "line_ending", LineEnding, &line_ending_endings());
+    let name = "till_line_ending";
+    moves_each::<I, _, E, _>(rt, name, TillLineEnding, &till_endings());
+    let both = Ok(I::slice_of_text("\r\n"));
+    answers_at::<I, _, E, _>(rt, "crlf", Crlf, "\r\na", both, 2);
+    let feed = Ok(I::slice_of_text("\n"));
+    answers_at::<I, _, E, _>(rt, "line_ending", LineEnding, "\n\n", feed, 1);
+    let line = Ok(I::slice_of_text("é"));
+    answers_at::<I, _, E, _>(rt, name, TillLineEnding, "é\r\n", line, 2);
+    answers_at::<I, _, E, _>(rt, name, TillLineEnding, "é\rb", Err(Backtrack), 2);
 }
 
 /// The rows at a stream under an error that is plain.
@@ -133,12 +207,18 @@ pub(crate) fn at_plain_errors<
 >(rt: &impl Abort) {
     let none = BACKTRACKS;
     ends_each::<I, _, E, _>(rt, "newline", Newline, &[("", none, none)]);
-    let rows = [("", none, none), ("\r", none, none)];
+    ends_each::<I, _, E, _>(rt, "tab", Tab, &[("", none, none)]);
+    let rows = [
+        ("", none, none),
+        ("\r", none, none),
+        ("\r\n", Takes(2), Takes(2)),
+    ];
     ends_each::<I, _, E, _>(rt, "crlf", Crlf, &rows);
     let rows = [
         ("", none, none),
         ("\r", none, none),
         ("\n", Takes(1), Takes(1)),
+        ("\r\n", Takes(2), Takes(2)),
     ];
     ends_each::<I, _, E, _>(rt, "line_ending", LineEnding, &rows);
     let lone = Fails(Backtrack, 2);
@@ -146,6 +226,9 @@ pub(crate) fn at_plain_errors<
         ("ab", Takes(2), Takes(2)),
         ("", Takes(0), Takes(0)),
         ("ab\r", lone, lone),
+        ("ab\rc", lone, lone),
+        ("ab\r\n", Takes(2), Takes(2)),
+        ("ab\n", Takes(2), Takes(2)),
     ];
     ends_each::<I, _, E, _>(rt, "till_line_ending", TillLineEnding, &rows);
 }

@@ -1,5 +1,5 @@
 //! Numbers as text.
-use crate::rows::{answers, ends_each, same};
+use crate::rows::{Row, answers, answers_at, ends_each, moves_each, same, sweep};
 use outcomes::Ending::{Fails, Takes};
 use outcomes::Kind::{self, Backtrack, Incomplete};
 use outcomes::texts::{OfText, endings_alike};
@@ -10,8 +10,10 @@ use stream_sets::as_bstr::{AsBStr, SlicesAsBytes};
 use stream_sets::as_char::AsChar;
 use streams::needed::Needed;
 use streams::partial::Partial;
+use streams::stream::{Location, Stream};
 use winnow_ascii::ascii::impls::{DecInt, DecUint, HexUintParser};
 use winnow_ascii::ascii::{HexUint, Int, Uint};
+use winnow_token::token::impls::Any;
 
 /// A run that passed so many units and needs one more.
 fn stops(taken: usize) -> Ending {
@@ -27,6 +29,15 @@ where
     dec_uint::<I, E>(rt);
     dec_int::<I, E>(rt);
     hex_uint::<I, E>(rt);
+    ends::<I, E>(rt);
+}
+
+/// How the parsers end at a stream, and at each beginning of a sample.
+pub(crate) fn ends<I: OfText + SlicesAsBytes, E: ParserError<I>>(rt: &impl Abort)
+where
+    I::Token: AsChar,
+    I::Slice: AsBStr,
+{
     dec_uint_on_cut_input::<I, E>(rt);
     dec_int_on_cut_input::<I, E>(rt);
     hex_uint_on_cut_input::<I, E>(rt);
@@ -107,22 +118,52 @@ where
     answers::<I, usize, E, _>(rt, "hex_uint", HexUintParser, "FFFFFFFFFFFFFFFF", want, "");
 }
 
+/// How `dec_uint` of a byte ends.
+fn dec_uint_endings() -> [Row; 11] {
+    [
+        ("", BACKTRACKS, lacks(1)),
+        ("0", Takes(1), Takes(1)),
+        ("01", Takes(1), Takes(1)),
+        ("9", Takes(1), stops(1)),
+        ("12", Takes(2), stops(1)),
+        ("12;", Takes(2), Takes(2)),
+        ("255", Takes(3), stops(1)),
+        ("999", BACKTRACKS, stops(1)),
+        ("999;", BACKTRACKS, BACKTRACKS),
+        ("+1", BACKTRACKS, BACKTRACKS),
+        (";", BACKTRACKS, BACKTRACKS),
+    ]
+}
+
 fn dec_uint_on_cut_input<I: OfText + SlicesAsBytes, E: ParserError<I>>(rt: &impl Abort)
 where
     I::Token: AsChar,
     I::Slice: AsBStr,
 {
-    let rows = [
-        ("0", Takes(1), Takes(1)),
-        ("12", Takes(2), stops(1)),
-        ("9", Takes(1), stops(1)),
-        ("12;", Takes(2), Takes(2)),
-        ("999", BACKTRACKS, stops(1)),
-        ("999;", BACKTRACKS, BACKTRACKS),
+    ends_each::<I, u8, E, _>(rt, "dec_uint", DecUint, &dec_uint_endings());
+    let as_whole = [BACKTRACKS, Takes(1), Takes(2), Takes(3), Takes(3)];
+    let as_cut = [lacks(1), stops(1), stops(1), stops(1), Takes(3)];
+    sweep::<I, u8, E, _>(rt, "dec_uint", DecUint, "127;", &as_whole, &as_cut);
+}
+
+/// How `dec_int` of a signed byte ends.
+fn dec_int_endings() -> [Row; 14] {
+    [
         ("", BACKTRACKS, lacks(1)),
-        (";", BACKTRACKS, BACKTRACKS),
-    ];
-    ends_each::<I, u8, E, _>(rt, "dec_uint", DecUint, &rows);
+        ("-", BACKTRACKS, stops(1)),
+        ("+", BACKTRACKS, stops(1)),
+        ("-1", Takes(2), stops(2)),
+        ("+12", Takes(3), stops(2)),
+        ("12", Takes(2), stops(1)),
+        ("-12;", Takes(3), Takes(3)),
+        ("+12;", Takes(3), Takes(3)),
+        ("0", Takes(1), Takes(1)),
+        ("-0", BACKTRACKS, BACKTRACKS),
+        ("+0", BACKTRACKS, BACKTRACKS),
+        ("-129", BACKTRACKS, stops(2)),
+        ("128;", BACKTRACKS, BACKTRACKS),
+        ("-;", BACKTRACKS, BACKTRACKS),
+    ]
 }
 
 fn dec_int_on_cut_input<I: OfText + SlicesAsBytes, E: ParserError<I>>(rt: &impl Abort)
@@ -130,17 +171,23 @@ where
     I::Token: AsChar,
     I::Slice: AsBStr,
 {
-    let rows = [
-        ("-", BACKTRACKS, stops(1)),
-        ("-1", Takes(2), stops(2)),
-        ("+12", Takes(3), stops(2)),
-        ("12", Takes(2), stops(1)),
-        ("-12;", Takes(3), Takes(3)),
-        ("0", Takes(1), Takes(1)),
-        ("-0", BACKTRACKS, BACKTRACKS),
+    ends_each::<I, i8, E, _>(rt, "dec_int", DecInt, &dec_int_endings());
+    let as_whole = [BACKTRACKS, BACKTRACKS, Takes(2), Takes(3), Takes(3)];
+    let as_cut = [lacks(1), stops(1), stops(2), stops(2), Takes(3)];
+    sweep::<I, i8, E, _>(rt, "dec_int", DecInt, "-12;", &as_whole, &as_cut);
+}
+
+/// How `hex_uint` of a byte ends.
+fn hex_uint_endings() -> [Row; 7] {
+    [
         ("", BACKTRACKS, lacks(1)),
-    ];
-    ends_each::<I, i8, E, _>(rt, "dec_int", DecInt, &rows);
+        ("f", Takes(1), lacks(1)),
+        ("f;", Takes(1), Takes(1)),
+        ("ff", Takes(2), Takes(2)),
+        ("fff", BACKTRACKS, BACKTRACKS),
+        ("0A", Takes(2), Takes(2)),
+        (";", BACKTRACKS, BACKTRACKS),
+    ]
 }
 
 fn hex_uint_on_cut_input<I: OfText + SlicesAsBytes, E: ParserError<I>>(rt: &impl Abort)
@@ -148,15 +195,36 @@ where
     I::Token: AsChar,
     I::Slice: AsBStr,
 {
+    ends_each::<I, u8, E, _>(rt, "hex_uint", HexUintParser, &hex_uint_endings());
+    let as_whole = [BACKTRACKS, Takes(1), Takes(2), Takes(2)];
+    let as_cut = [lacks(1), lacks(1), Takes(2), Takes(2)];
+    sweep::<I, u8, E, _>(rt, "hex_uint", HexUintParser, "1f;", &as_whole, &as_cut);
+}
+
+/// The rows at a stream that knows its place.
+pub(crate) fn at_places<I: OfText + Location + SlicesAsBytes, E: ParserError<I>>(rt: &impl Abort)
+where
+    I::Token: AsChar,
+    I::Slice: AsBStr,
+{
+    moves_each::<I, u8, E, _>(rt, "dec_uint", DecUint, &dec_uint_endings());
+    moves_each::<I, i8, E, _>(rt, "dec_int", DecInt, &dec_int_endings());
+    moves_each::<I, u8, E, _>(rt, "hex_uint", HexUintParser, &hex_uint_endings());
+    let behind_one = Fails(Backtrack, 1);
     let rows = [
-        ("", BACKTRACKS, lacks(1)),
-        ("f", Takes(1), lacks(1)),
-        ("f;", Takes(1), Takes(1)),
-        ("ff", Takes(2), Takes(2)),
-        ("fff", BACKTRACKS, BACKTRACKS),
-        (";", BACKTRACKS, BACKTRACKS),
+        (";-12.", Takes(4), Takes(4)),
+        (";-0", behind_one, behind_one),
+        (";-1", Takes(3), stops(3)),
+        (";128", behind_one, stops(2)),
+        (";", behind_one, stops(1)),
     ];
-    ends_each::<I, u8, E, _>(rt, "hex_uint", HexUintParser, &rows);
+    moves_each::<I, (I::Token, i8), E, _>(rt, "dec_int behind one", (Any, DecInt), &rows);
+    answers_at::<I, u8, E, _>(rt, "dec_uint", DecUint, "12;", Ok(12), 2);
+    answers_at::<I, u8, E, _>(rt, "dec_uint", DecUint, "256", Err(Backtrack), 0);
+    answers_at::<I, i8, E, _>(rt, "dec_int", DecInt, "-7é", Ok(-7), 2);
+    answers_at::<I, i8, E, _>(rt, "dec_int", DecInt, "-0", Err(Backtrack), 0);
+    answers_at::<I, u8, E, _>(rt, "hex_uint", HexUintParser, "fA;", Ok(0xFA), 2);
+    answers_at::<I, u8, E, _>(rt, "hex_uint", HexUintParser, "fff", Err(Backtrack), 0);
 }
 
 /// The rows at a stream under an error that is plain.
@@ -168,17 +236,34 @@ where
     let none = BACKTRACKS;
     let rows = [
         ("", none, none),
-        ("12", Takes(2), none),
         ("0", Takes(1), Takes(1)),
+        ("9", Takes(1), none),
+        ("12", Takes(2), none),
+        ("12;", Takes(2), Takes(2)),
+        ("999", none, none),
+        (";", none, none),
     ];
     ends_each::<I, u8, E, _>(rt, "dec_uint", DecUint, &rows);
     let rows = [
+        ("", none, none),
         ("-", none, none),
+        ("+", none, none),
+        ("-1", Takes(2), none),
         ("-12", Takes(3), none),
+        ("+12", Takes(3), none),
         ("-1;", Takes(2), Takes(2)),
+        ("0", Takes(1), Takes(1)),
+        ("-0", none, none),
     ];
     ends_each::<I, i8, E, _>(rt, "dec_int", DecInt, &rows);
-    let rows = [("f", Takes(1), none), ("ff", Takes(2), Takes(2))];
+    let rows = [
+        ("", none, none),
+        ("f", Takes(1), none),
+        ("f;", Takes(1), Takes(1)),
+        ("ff", Takes(2), Takes(2)),
+        ("fff", none, none),
+        (";", none, none),
+    ];
     ends_each::<I, u8, E, _>(rt, "hex_uint", HexUintParser, &rows);
 }
 

@@ -1,14 +1,18 @@
-use Rattle.std.proofs.Common.{◌∙◌, ap}
-use Rattle.winnow.specs.Preceded.{preceded_ignored, preceded_parser}
-use Rattle.winnow.specs.TakeWhile.{take_while_occurrences}
-use Rattle.uses.proofs.CsvLines.{if_others}
+use Rattle.std.proofs.Common.{rules}
+use Rattle.std.specs.List.{All}
+use Rattle.winnow.specs.Form.{modal}
+use Rattle.winnow.specs.Preceded.Known.{preceded_reads}
+use Rattle.winnow.specs.Reads.Known.{reads_less, reads_told, token_reads}
+use Rattle.winnow.specs.Repeat.Reads.{repeat_reads}
+use Rattle.winnow.specs.TakeWhile.Known.{take_reads}
+use Rattle.uses.specs.Csv.{IsFieldByte, any_number}
 use Rattle.uses.proofs.csv.others.Goals as goal
 
 pub returns : goal.returns
 returns g c =
-    let parser = c.repeat.ensures.parser in
-    if_others _ _ _ c.parse_next.result _ _
-    (ap (λ p. preceded_ignored p) parser ∙ c.preceded.ensures.ignored)
-    (ap (λ p. take_while_occurrences (preceded_parser p)) parser
-    ∙ ap (λ p. take_while_occurrences p) c.preceded.ensures.parser ∙ c.field.ensures)
-    (c.repeat.ensures.occurrences ∙ c.from.ensures) c.parse_next.ensures.ran
+    let field = reads_less (λ field. All IsFieldByte field.now) (λ field is. is.0)
+    (take_reads modal IsFieldByte any_number) in
+    reads_told _ _ c.parse_next.result _ _ _ _
+    (repeat_reads _ any_number (preceded_reads (token_reads modal 44) field))
+    ((search rules, search rules), search rules) c.parse_next.ensures.ran
+    (λ fields splits are. record { splits = splits; are = are.0 })

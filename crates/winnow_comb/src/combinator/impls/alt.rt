@@ -14,8 +14,8 @@ use stream_errors::parser_error::ParserError;
 use streams::stream::Stream;
 use winnow_core::parser::Parser;
 
-/// Branches that [`alt`](crate::combinator::alt) meaning among, as winnow's documentation has it: a
-/// tuple of one to six parsers, or an array or a mutable slice of parsers of one type.
+/// Branches that [`alt`](crate::combinator::alt) chooses among: a tuple of one to six parsers, or
+/// an array or a mutable slice of parsers of one type.
 ///
 /// ```text
 /// (b'a', b'b').choice(&mut b"b".as_slice())   is Ok(b'b'), and nothing is left

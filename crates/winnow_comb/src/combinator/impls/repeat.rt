@@ -1,7 +1,7 @@
 //! Repetition.
 ghost use Rattle.std.specs.Prelude.{◌<◌, ◌≡◌, MatchBool, Some, ℕ};
 ghost use Rattle.stream_errors.specs.Form.{answer_by, assert_kind};
-ghost use Rattle.stream_sets.specs.Range.{IsWithin};
+ghost use Rattle.stream_sets.specs.Range.{IsWithin, from_to};
 ghost use Rattle.stream_sets.specs.declared.range.Range.{Range};
 ghost use Rattle.streams.specs.Input.{IsEndOf};
 ghost use Rattle.winnow_comb.specs.Repeat.{ItemsRun, RangedRuns, RepeatManyRuns, RepeatOneRuns};
@@ -86,7 +86,7 @@ impl<
 }
 
 /// Whether the greatest count is below the least.
-fn is_descending(least: usize, greatest: Option<usize>) -> bool
+pub(crate) fn is_descending(least: usize, greatest: Option<usize>) -> bool
     ensures { MatchBool result ((most : ℕ) × (greatest ≡ Some most) × (most < least))
         (IsWithin greatest least) }
 {
@@ -107,8 +107,9 @@ fn repeat_many<
 >(alloc: A, least: usize, greatest: Option<usize>, parser: &mut P, input: &mut I) -> Result<C, E>
     requires { P.can_parse parser.old }
     ensures again { P.can_parse parser.new }
-    ensures ran { RepeatManyRuns (P.meaning E.form) C.accumulator (assert_kind E.form) least
-        greatest (P.state parser.old) (I.view input.old) (answer_by E.kind result)
+    ensures ran { RepeatManyRuns (P.meaning E.form) C.accumulator (assert_kind E.form)
+        (from_to least greatest) (P.state parser.old) (I.view input.old)
+        (answer_by E.kind result)
         (P.state parser.new) (I.view input.new) }
     ensures ends { IsEndOf I.reading (I.view input.new) (I.view input.old) }
 {
@@ -149,7 +150,7 @@ fn repeat_one<
 }
 
 /// Repeats into an accumulator, at least `missing` times and at most `room` times.
-fn repeat_items<
+pub(crate) fn repeat_items<
     P: Parser<I, O, E>,
     I: Stream,
     O: Drop,
@@ -160,7 +161,8 @@ fn repeat_items<
     requires parser { P.can_parse parser.old }
     requires range { IsWithin room missing }
     ensures again { P.can_parse parser.new }
-    ensures ran { ItemsRun (P.meaning E.form) C.accumulator (assert_kind E.form) missing room
+    ensures ran { ItemsRun (P.meaning E.form) C.accumulator (assert_kind E.form)
+        (from_to missing room)
         all (P.state parser.old) (I.view input.old) (answer_by E.kind result)
         (P.state parser.new) (I.view input.new) }
     ensures ends { IsEndOf I.reading (I.view input.new) (I.view input.old) }

@@ -17,9 +17,7 @@ use streams::stream::Stream;
 #[derive(Drop)]
 pub struct ByRef<'p, P, I, O, E> {
     pub(crate) parser: &'p mut P,
-    pub(crate) input: PhantomData<I>,
-    pub(crate) output: PhantomData<O>,
-    pub(crate) error: PhantomData<E>,
+    pub(crate) marker: PhantomData<(I, O, E)>,
 }
 
 impl<'p, P: Parser<I, O, E>, I: Stream, O, E: ParserError<I>> Parser<I, O, E>

@@ -1,7 +1,7 @@
 //! Outputs made of outputs by a closure.
 ghost use Rattle.std.specs.Prelude.{◌≡◌};
 ghost use Rattle.winnow_core.specs.Agrees.{agrees_with};
-ghost use Rattle.winnow_core.specs.Map.{MapRuns};
+ghost use Rattle.winnow_core.specs.Map.{MapRuns, map_parser, map_closure};
 ghost use Rattle.winnow_core.specs.Map.Laws.{map_ends};
 
 use crate::agrees_with::AgreesWith;
@@ -19,10 +19,21 @@ use streams::stream::Stream;
 pub struct Map<F, G, I, O, O2, E> {
     pub(crate) parser: F,
     pub(crate) map: G,
-    pub(crate) input: PhantomData<I>,
-    pub(crate) output: PhantomData<O>,
-    pub(crate) mapped: PhantomData<O2>,
-    pub(crate) error: PhantomData<E>,
+    pub(crate) marker: PhantomData<(I, O, O2, E)>,
+}
+
+impl<F, G, I, O, O2, E> Map<F, G, I, O, O2, E> {
+    #[inline(always)]
+    pub(crate) fn new(parser: F, map: G) -> Map<F, G, I, O, O2, E>
+        ensures parser { map_parser result ≡ parser }
+        ensures map { map_closure result ≡ map }
+    {
+        Map {
+            parser,
+            map,
+            marker: PhantomData,
+        }
+    }
 }
 
 impl<F: Parser<I, O, E>, G: FnMut(O) -> O2, I: Stream, O, O2, E: ParserError<I>> Parser<I, O2, E>

@@ -1,5 +1,7 @@
 //! The slice that a parser read, in the place of its output.
-ghost use Rattle.winnow_core.specs.Take.{TakeRuns};
+ghost use Rattle.std.specs.Prelude.{◌≡◌, List, ◌++◌};
+ghost use Rattle.streams.specs.Input.{Ends};
+ghost use Rattle.winnow_core.specs.Take.{TakeRuns, take_parser};
 ghost use Rattle.winnow_core.specs.Take.Laws.{take_agrees, take_ends};
 
 use crate::agrees_with::AgreesWith;
@@ -17,9 +19,19 @@ use streams::stream::Stream;
 #[derive(Drop)]
 pub struct Take<F, I, O, E> {
     pub(crate) parser: F,
-    pub(crate) input: PhantomData<I>,
-    pub(crate) output: PhantomData<O>,
-    pub(crate) error: PhantomData<E>,
+    pub(crate) marker: PhantomData<(I, O, E)>,
+}
+
+impl<F, I, O, E> Take<F, I, O, E> {
+    #[inline(always)]
+    pub(crate) fn new(parser: F) -> Take<F, I, O, E>
+        ensures { take_parser result ≡ parser }
+    {
+        Take {
+            parser,
+            marker: PhantomData,
+        }
+    }
 }
 
 impl<F: Parser<I, O, E>, I: Stream, O: Drop, E: ParserError<I>> Parser<I, I::Slice, E>
@@ -38,10 +50,22 @@ impl<F: Parser<I, O, E>, I: Stream, O: Drop, E: ParserError<I>> Parser<I, I::Sli
     fn parse_next(&mut self, input: &mut I) -> Result<I::Slice, E> {
         let start = input.checkpoint();
         let _output = self.parser.parse_next(input)?;
-        let offset = input.offset_from(&start);
-        input.reset(&start);
-        Ok(input.next_slice(offset))
+        Ok(slice_from(&start, input))
     }
+}
+
+/// The slice from `start` to where the input stands, and stays.
+#[inline(always)]
+pub(crate) fn slice_from<I: Stream>(start: &I::Checkpoint, input: &mut I) -> I::Slice
+    requires { Ends I.reading (I.view input.old).left (I.seen start.now) }
+    ensures stays { I.view input.new ≡ I.view input.old }
+    ensures slice { (front : List I.Seen)
+        × ((I.seen start.now).tokens ≡ front ++ (I.view input.old).left.tokens)
+        × I.reading.shows result front }
+{
+    let offset = input.offset_from(start);
+    input.reset(start);
+    input.next_slice(offset)
 }
 
 impl<

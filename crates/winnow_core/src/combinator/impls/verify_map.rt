@@ -1,7 +1,7 @@
 //! Outputs made of outputs by a closure that may refuse them.
 ghost use Rattle.std.specs.Prelude.{◌≡◌};
 ghost use Rattle.winnow_core.specs.Agrees.{agrees_with};
-ghost use Rattle.winnow_core.specs.VerifyMap.{VerifyMapRuns};
+ghost use Rattle.winnow_core.specs.VerifyMap.{VerifyMapRuns, verify_map_parser, verify_map_closure};
 ghost use Rattle.winnow_core.specs.VerifyMap.Laws.{verify_map_ends};
 
 use crate::agrees_with::AgreesWith;
@@ -19,10 +19,21 @@ use streams::stream::Stream;
 pub struct VerifyMap<F, G, I, O, O2, E> {
     pub(crate) parser: F,
     pub(crate) filter: G,
-    pub(crate) input: PhantomData<I>,
-    pub(crate) output: PhantomData<O>,
-    pub(crate) mapped: PhantomData<O2>,
-    pub(crate) error: PhantomData<E>,
+    pub(crate) marker: PhantomData<(I, O, O2, E)>,
+}
+
+impl<F, G, I, O, O2, E> VerifyMap<F, G, I, O, O2, E> {
+    #[inline(always)]
+    pub(crate) fn new(parser: F, filter: G) -> VerifyMap<F, G, I, O, O2, E>
+        ensures parser { verify_map_parser result ≡ parser }
+        ensures filter { verify_map_closure result ≡ filter }
+    {
+        VerifyMap {
+            parser,
+            filter,
+            marker: PhantomData,
+        }
+    }
 }
 
 impl<F: Parser<I, O, E>, G: FnMut(O) -> Option<O2>, I: Stream, O, O2, E: ParserError<I>> Parser<

@@ -1,6 +1,7 @@
 //! Outputs that are dropped.
+ghost use Rattle.std.specs.Prelude.{◌≡◌};
 ghost use Rattle.winnow_core.specs.Agrees.{agrees1};
-ghost use Rattle.winnow_core.specs.Void.{VoidRuns};
+ghost use Rattle.winnow_core.specs.Void.{VoidRuns, void_parser};
 ghost use Rattle.winnow_core.specs.Void.Laws.{void_ends};
 
 use crate::agrees_with::AgreesWith;
@@ -17,9 +18,19 @@ use streams::stream::Stream;
 #[derive(Drop)]
 pub struct Void<F, I, O, E> {
     pub(crate) parser: F,
-    pub(crate) input: PhantomData<I>,
-    pub(crate) output: PhantomData<O>,
-    pub(crate) error: PhantomData<E>,
+    pub(crate) marker: PhantomData<(I, O, E)>,
+}
+
+impl<F, I, O, E> Void<F, I, O, E> {
+    #[inline(always)]
+    pub(crate) fn new(parser: F) -> Void<F, I, O, E>
+        ensures { void_parser result ≡ parser }
+    {
+        Void {
+            parser,
+            marker: PhantomData,
+        }
+    }
 }
 
 impl<F: Parser<I, O, E>, I: Stream, O: Drop, E: ParserError<I>> Parser<I, (), E>

@@ -1,6 +1,6 @@
 //! Takes of the tokens outside a set.
 ghost use Rattle.std.specs.Prelude.{◌≡◌, not};
-ghost use Rattle.stream_sets.specs.Range.{greatest_of};
+ghost use Rattle.stream_sets.specs.Range.{bounds_of};
 ghost use Rattle.stream_sets.specs.declared.range.Range.{Range};
 ghost use Rattle.streams.specs.Stream.{AnswersSeen};
 ghost use Rattle.winnow_core.specs.Agrees.{agrees_by_parts};
@@ -41,12 +41,10 @@ impl<S: ContainsToken<I::Token>, I: StreamIsPartial, E: ParserError<I>> Parser<I
 
     ghost meaning = { λ form. Keeps
         (λ x. TakeWhileRuns I.reading form
-        (AnswersSeen I.seen_as (λ k b. S.tells x.1 k (not b))) x.0.start_inclusive
-        (greatest_of x.0.start_inclusive x.0.end_inclusive)) };
+        (AnswersSeen I.seen_as (λ k b. S.tells x.1 k (not b))) (bounds_of x.0)) };
 
     ghost leaves_ends = { λ form x i answer y j r. take_while_ends I.reading form
-        (AnswersSeen I.seen_as (λ k b. S.tells x.1 k (not b))) x.0.start_inclusive
-        (greatest_of x.0.start_inclusive x.0.end_inclusive) i answer j r.0 };
+        (AnswersSeen I.seen_as (λ k b. S.tells x.1 k (not b))) (bounds_of x.0) i answer j r.0 };
 
     #[inline(always)]
     fn parse_next(&mut self, input: &mut I) -> Result<I::Slice, E> {

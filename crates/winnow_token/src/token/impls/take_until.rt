@@ -1,6 +1,6 @@
 //! Takes of what stands before a literal.
 ghost use Rattle.std.specs.Prelude.{◌≡◌};
-ghost use Rattle.stream_sets.specs.Range.{greatest_of};
+ghost use Rattle.stream_sets.specs.Range.{bounds_of};
 ghost use Rattle.stream_sets.specs.declared.range.Range.{Range};
 ghost use Rattle.winnow_core.specs.Agrees.{agrees_by_parts};
 ghost use Rattle.winnow_core.specs.Runs.{Keeps};
@@ -37,11 +37,10 @@ impl<T: Copy, I: StreamIsPartial + FindSlice<T>, E: ParserError<I>> Parser<I, I:
     ghost state = { λ s. (s.occurrences, s.literal) };
 
     ghost meaning = { λ form. Keeps
-        (λ x. TakeUntilRuns I.reading form (I.sought x.1) x.0.start_inclusive
-        (greatest_of x.0.start_inclusive x.0.end_inclusive)) };
+        (λ x. TakeUntilRuns I.reading form (I.sought x.1) (bounds_of x.0)) };
 
     ghost leaves_ends = { λ form x i answer y j r. take_until_ends I.reading form (I.sought x.1)
-        x.0.start_inclusive (greatest_of x.0.start_inclusive x.0.end_inclusive) i answer j
+        (bounds_of x.0) i answer j
         r.0 };
 
     #[inline(always)]

@@ -11,9 +11,9 @@ pub returns-then-overflows-clause-ran : goal.returns-then-overflows-clause-ran
 returns-then-overflows-clause-ran g c =
     let taken = hex_takes g.Input.Stream.seen_as g.Input.Token.AsChar.code g.Input.Stream.reading
     g.Output.HexUint.nibbles g.met.Output.HexUint.holds_some
-    g.Error.ParserError.form _ c.in-Ok.slice _
+    g.Error.HasKind.form _ c.in-Ok.slice _
     (hex_runs g.Input.Stream.seen_as g.Input.Token.AsChar.code g.Input.Stream.reading
-    g.Error.ParserError.form _ _ _ _ _ _ _ _ _ c.take_while-digits.ensures.occurrences
+    g.Error.HasKind.form _ _ _ _ _ _ _ _ _ c.take_while-digits.ensures.occurrences
     c.from.ensures c.new.ensures.start
     c.new.ensures.end c.max_nibbles-most.ensures
     c.in-Ok.ensures.ran.0) in
@@ -26,7 +26,7 @@ returns-then-overflows-clause-ran g c =
     let tells = c.if-overflows.ensures.tells in
     hex_over g.Input.Stream.seen_as g.Input.Token.AsChar.code g.Input.Stream.reading
     g.Output.HexUint.nibbles g.met.Output.HexUint.holds_some
-    g.Output.HexUint.number g.Error.ParserError.form _ c.in-Ok.slice _ _ _ taken
+    g.Output.HexUint.number g.Error.HasKind.form _ c.in-Ok.slice _ _ _ taken
     (sym (ap (λ l. length l) bytes) ∙ eqb-true _ _ tells.0 ∙ c.max_nibbles-most.ensures)
     tells.1 c.from_input.ensures
     (c.reset.ensures ∙ ap (λ x. back_at x (g.Input.Stream.view c.overflows.new.input))
@@ -39,9 +39,9 @@ pub number_of-requires-clause-digits : goal.number_of-requires-clause-digits
 number_of-requires-clause-digits g c =
     let taken = hex_takes g.Input.Stream.seen_as g.Input.Token.AsChar.code g.Input.Stream.reading
     g.Output.HexUint.nibbles g.met.Output.HexUint.holds_some
-    g.Error.ParserError.form _ c.in-Ok.slice _
+    g.Error.HasKind.form _ c.in-Ok.slice _
     (hex_runs g.Input.Stream.seen_as g.Input.Token.AsChar.code g.Input.Stream.reading
-    g.Error.ParserError.form _ _ _ _ _ _ _ _ _ c.take_while-digits.ensures.occurrences
+    g.Error.HasKind.form _ _ _ _ _ _ _ _ _ c.take_while-digits.ensures.occurrences
     c.from.ensures c.new.ensures.start
     c.new.ensures.end c.max_nibbles-most.ensures
     c.in-Ok.ensures.ran.0) in
@@ -59,9 +59,9 @@ pub number_of-requires-clause-few : goal.number_of-requires-clause-few
 number_of-requires-clause-few g c =
     let taken = hex_takes g.Input.Stream.seen_as g.Input.Token.AsChar.code g.Input.Stream.reading
     g.Output.HexUint.nibbles g.met.Output.HexUint.holds_some
-    g.Error.ParserError.form _ c.in-Ok.slice _
+    g.Error.HasKind.form _ c.in-Ok.slice _
     (hex_runs g.Input.Stream.seen_as g.Input.Token.AsChar.code g.Input.Stream.reading
-    g.Error.ParserError.form _ _ _ _ _ _ _ _ _ c.take_while-digits.ensures.occurrences
+    g.Error.HasKind.form _ _ _ _ _ _ _ _ _ c.take_while-digits.ensures.occurrences
     c.from.ensures c.new.ensures.start
     c.new.ensures.end c.max_nibbles-most.ensures
     c.in-Ok.ensures.ran.0) in
@@ -79,9 +79,9 @@ pub returns-in-Ok-clause-ran : goal.returns-in-Ok-clause-ran
 returns-in-Ok-clause-ran g c =
     let taken = hex_takes g.Input.Stream.seen_as g.Input.Token.AsChar.code g.Input.Stream.reading
     g.Output.HexUint.nibbles g.met.Output.HexUint.holds_some
-    g.Error.ParserError.form _ c.in-Ok.slice _
+    g.Error.HasKind.form _ c.in-Ok.slice _
     (hex_runs g.Input.Stream.seen_as g.Input.Token.AsChar.code g.Input.Stream.reading
-    g.Error.ParserError.form _ _ _ _ _ _ _ _ _ c.take_while-digits.ensures.occurrences
+    g.Error.HasKind.form _ _ _ _ _ _ _ _ _ c.take_while-digits.ensures.occurrences
     c.from.ensures c.new.ensures.start
     c.new.ensures.end c.max_nibbles-most.ensures
     c.in-Ok.ensures.ran.0) in
@@ -94,7 +94,7 @@ returns-in-Ok-clause-ran g c =
     let tells = c.if-overflows.ensures.tells in
     hex_done g.Input.Stream.seen_as g.Input.Token.AsChar.code g.Input.Stream.reading
     g.Output.HexUint.nibbles g.met.Output.HexUint.holds_some
-    g.Output.HexUint.number g.Error.ParserError.form _ c.in-Ok.slice _ _ _ taken
+    g.Output.HexUint.number g.Error.HasKind.form _ c.in-Ok.slice _ _ _ taken
     (λ full. tells (eq-eqb _ _ (ap (λ l. length l) bytes ∙ full ∙ sym c.max_nibbles-most.ensures)))
     (c.number_of.ensures ∙ ap (value_in 16) bytes) c.if-overflows.ensures.kept
 
@@ -102,9 +102,9 @@ pub returns-clause-ran : goal.returns-clause-ran
 returns-clause-ran g c =
     hex_missing g.Input.Stream.seen_as g.Input.Token.AsChar.code g.Input.Stream.reading
     g.Output.HexUint.nibbles g.met.Output.HexUint.holds_some
-    g.Output.HexUint.number g.Error.ParserError.form _ _ _
+    g.Output.HexUint.number g.Error.HasKind.form _ _ _
     (hex_runs g.Input.Stream.seen_as g.Input.Token.AsChar.code g.Input.Stream.reading
-    g.Error.ParserError.form _ _ _ _ _ _ _ _ _ c.take_while-digits.ensures.occurrences
+    g.Error.HasKind.form _ _ _ _ _ _ _ _ _ c.take_while-digits.ensures.occurrences
     c.from.ensures c.new.ensures.start
     c.new.ensures.end c.max_nibbles-most.ensures
     c.in-Err.ensures.ran.0)

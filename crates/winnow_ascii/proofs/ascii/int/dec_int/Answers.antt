@@ -16,7 +16,7 @@ returns-in-Some-clause-ran g c =
     int_read g.Input.Stream.seen_as g.Input.Token.AsChar.code g.Input.Stream.reading
     g.Input.SlicesAsBytes.bytes_of g.Input.SlicesAsBytes.bytes_add
     g.met.Input.SlicesAsBytes.ascii_byte
-    g.Output.Int.number g.Output.Int.fits g.Error.ParserError.form _ _ c.in-Ok.slice _
+    g.Output.Int.number g.Output.Int.fits g.Error.HasKind.form _ _ c.in-Ok.slice _
     c.in-Some.number (g.met.Input.SlicesAsBytes.has_bytes c.in-Ok.slice) c.in-Ok.ensures.ran
     c.in-Some.ensures
 
@@ -26,7 +26,7 @@ returns-in-Ok-clause-ran g c =
     int_refused g.Input.Stream.seen_as g.Input.Token.AsChar.code g.Input.Stream.reading
     g.Input.SlicesAsBytes.bytes_of g.Input.SlicesAsBytes.bytes_add
     g.met.Input.SlicesAsBytes.ascii_byte
-    g.Output.Int.number g.Output.Int.fits g.Error.ParserError.form _ _ _ c.in-Ok.slice _ _
+    g.Output.Int.number g.Output.Int.fits g.Error.HasKind.form _ _ _ c.in-Ok.slice _ _
     (g.met.Input.SlicesAsBytes.has_bytes c.in-Ok.slice) taken c.in-None.ensures
     c.from_input.ensures
     (c.reset.ensures ∙ ap (λ x. back_at x (g.Input.Stream.view c.take_numeral.new.input))

@@ -5,6 +5,6 @@ use Rattle.winnow_ascii.proofs.ascii.members.some_of.Goals as goal
 pub returns-clause-ran : goal.returns-clause-ran
 returns-clause-ran g c =
     least_runs g.S.ContainsToken.tells 1 g.I.Stream.seen_as g.I.Stream.reading
-    g.E.ParserError.form _ _ _ _ _ _ (omega arith)
+    g.E.HasKind.form _ _ _ _ _ _ (omega arith)
     (c.take_while.ensures.occurrences ∙ c.from.ensures) c.take_while.ensures.set
     c.parse_next.ensures.ran.0

@@ -4,11 +4,11 @@ use Rattle.winnow_ascii.proofs.ascii.numeral.pass_digits.Goals as goal
 
 pub returns-in-1-to-9-clause-ran : goal.returns-in-1-to-9-clause-ran
 returns-in-1-to-9-clause-ran g c =
-    leading_short g.I.Stream.seen_as g.I.Token.AsChar.code g.I.Stream.reading g.E.ParserError.form
+    leading_short g.I.Stream.seen_as g.I.Token.AsChar.code g.I.Stream.reading g.E.HasKind.form
     c.args.zero _ _ _ _ c.in-Some.token
     (omega (arith, c.as_char.ensures, c.in-1-to-9), omega (arith, c.as_char.ensures, c.in-1-to-9))
     c.in-Some.ensures.passes
-    (only_digits g.I.Stream.seen_as g.I.Token.AsChar.code g.I.Stream.reading g.E.ParserError.form
+    (only_digits g.I.Stream.seen_as g.I.Token.AsChar.code g.I.Stream.reading g.E.HasKind.form
     _ _ _ c.in-Err.ensures.ran)
 
 pub returns-in-0-clause-ran : goal.returns-in-0-clause-ran
@@ -29,5 +29,5 @@ returns-in-Ok-clause-ran g c =
     c.in-Some.token
     (omega (arith, c.as_char.ensures, c.in-1-to-9), omega (arith, c.as_char.ensures, c.in-1-to-9))
     c.in-Some.ensures.passes
-    (more_digits g.I.Stream.seen_as g.I.Token.AsChar.code g.I.Stream.reading g.E.ParserError.form
+    (more_digits g.I.Stream.seen_as g.I.Token.AsChar.code g.I.Stream.reading g.E.HasKind.form
     _ _ _ c.in-Ok.ensures.ran)

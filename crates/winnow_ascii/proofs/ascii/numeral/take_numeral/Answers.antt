@@ -1,7 +1,8 @@
 use Rattle.std.proofs.Common.{ap, ◌∙◌}
 use Rattle.streams.specs.Input.{back_at, is_end_of_trans, remains_of_start}
 use Rattle.winnow_ascii.proofs.NumeralLemmas.{back_same, bounded, numeral_missing, numeral_taken}
-use Rattle.winnow_ascii.proofs.NumeralLemmas.{runs_front, sign_status}
+use Rattle.winnow_ascii.proofs.NumeralLemmas.{runs_front}
+use Rattle.winnow_ascii.specs.Numeral.Known.{sign_status}
 use Rattle.winnow_ascii.proofs.ascii.numeral.take_numeral.Goals as goal
 
 pub offset_from-length-requires : goal.offset_from-length-requires
@@ -30,7 +31,7 @@ returns-clause-ran g c =
     ∙ sign_status g.I.Stream.seen_as g.I.Token.AsChar.code g.I.Stream.reading c.args.signed _ _ _
     c.pass_sign-zero.ensures.ran.1 in
     numeral_missing g.I.Stream.seen_as g.I.Token.AsChar.code g.I.Stream.reading
-    g.E.ParserError.form c.args.signed c.pass_sign-zero.result _ _ _ _ _
+    g.E.HasKind.form c.args.signed c.pass_sign-zero.result _ _ _ _ _
     c.pass_sign-zero.ensures.ran c.in-Err.ensures.ran (
       λ _. c.reset-in-Err.ensures
           ∙ ap (λ x. back_at x (g.I.Stream.view c.pass_digits.new.input)) c.checkpoint-start.ensures

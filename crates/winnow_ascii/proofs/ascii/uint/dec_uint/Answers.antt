@@ -17,7 +17,7 @@ returns-in-Some-clause-ran g c =
     uint_read g.Input.Stream.seen_as g.Input.Token.AsChar.code g.Input.Stream.reading
     g.Input.SlicesAsBytes.bytes_of g.Input.SlicesAsBytes.bytes_add
     g.met.Input.SlicesAsBytes.ascii_byte
-    g.Output.Uint.number g.Output.Uint.bound g.Error.ParserError.form _ _ c.in-Ok.slice _
+    g.Output.Uint.number g.Output.Uint.bound g.Error.HasKind.form _ _ c.in-Ok.slice _
     c.in-Some.number (g.met.Input.SlicesAsBytes.has_bytes c.in-Ok.slice) c.in-Ok.ensures.ran
     c.in-Some.ensures
 
@@ -27,7 +27,7 @@ returns-in-Ok-clause-ran g c =
     uint_refused g.Input.Stream.seen_as g.Input.Token.AsChar.code g.Input.Stream.reading
     g.Input.SlicesAsBytes.bytes_of g.Input.SlicesAsBytes.bytes_add
     g.met.Input.SlicesAsBytes.ascii_byte
-    g.Output.Uint.number g.Output.Uint.bound g.Error.ParserError.form _ _ _ c.in-Ok.slice _ _
+    g.Output.Uint.number g.Output.Uint.bound g.Error.HasKind.form _ _ _ c.in-Ok.slice _ _
     (g.met.Input.SlicesAsBytes.has_bytes c.in-Ok.slice) taken c.in-None.ensures
     c.from_input.ensures
     (c.reset.ensures ∙ ap (λ x. back_at x (g.Input.Stream.view c.take_numeral.new.input))

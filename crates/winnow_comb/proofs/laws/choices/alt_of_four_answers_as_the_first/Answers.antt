@@ -3,6 +3,6 @@ use Rattle.winnow_comb.proofs.ChoiceLaws.{chooses_first4}
 use Rattle.winnow_comb.proofs.laws.choices.alt_of_four_answers_as_the_first.Goals as goal
 
 pub returns : goal.returns
-returns g c = chooses_first4 (g.P1.Parser.meaning g.E.ParserError.form)
-    (g.P2.Parser.meaning g.E.ParserError.form) (g.P3.Parser.meaning g.E.ParserError.form)
-    (g.P4.Parser.meaning g.E.ParserError.form)
+returns g c = chooses_first4 (g.P1.Parser.meaning g.E.HasKind.form)
+    (g.P2.Parser.meaning g.E.HasKind.form) (g.P3.Parser.meaning g.E.HasKind.form)
+    (g.P4.Parser.meaning g.E.HasKind.form)

@@ -3,4 +3,4 @@ use Rattle.winnow_comb.proofs.laws.repetition.repeat_runs_at_most_once_a_unit.Go
 
 pub returns : goal.returns
 returns g c = runs_at_most_once_a_unit g.I.Stream.reading
-    (g.P.Parser.meaning g.E.ParserError.form) g.C.Accumulate.accumulator _
+    (g.P.Parser.meaning g.E.HasKind.form) g.C.Accumulate.accumulator _

@@ -1,17 +1,17 @@
 use Rattle.std.proofs.Common.{List, length}
 use Rattle.streams.specs.Input.{IsEndOf}
 use Rattle.winnow_comb.specs.Chain.{Chain, Accumulates}
-use Rattle.winnow_comb.proofs.RepeatLemmas.{Bounds}
+use Rattle.winnow_comb.proofs.RepeatLemmas.{RoomBehind}
 use Rattle.winnow_comb.proofs.combinator.impls.repeat.repeat_items.Given as goal
 
 abbrev pub invariant-items : goal.invariant-items
 invariant-items g l =
     (outputs : List _)
-    × Chain (g.P.Parser.meaning g.E.ParserError.form) (g.P.Parser.state l.fn.parser)
+    × Chain (g.P.Parser.meaning g.E.HasKind.form) (g.P.Parser.state l.fn.parser)
     (g.I.Stream.view l.fn.input) outputs (g.P.Parser.state l.parser)
     (g.I.Stream.view l.input)
     × Accumulates g.C.Accumulate.accumulator.takes l.fn.all outputs l.all
-    × Bounds l.fn.missing l.fn.room l.missing l.room (length outputs)
+    × RoomBehind l.fn.missing l.fn.room l.missing l.room (length outputs)
     × IsEndOf g.I.Stream.reading (g.I.Stream.view l.input) (g.I.Stream.view l.fn.input)
     × g.P.Parser.can_parse l.parser
 

@@ -8,7 +8,7 @@ use Rattle.winnow_comb.proofs.combinator.impls.alt.slices.choose.Goals as goal
 
 pub loop-k-init : goal.loop-k-init
 loop-k-init g c = record {
-  earlier = earlier_none (By g.P.Parser.state (g.P.Parser.meaning g.E.ParserError.form))
+  earlier = earlier_none (By g.P.Parser.state (g.P.Parser.meaning g.E.HasKind.form))
       c.args.branches.now (g.I.Stream.view c.args.input.now);
   callable = c.requires;
   starts = c.checkpoint-start.ensures;
@@ -17,8 +17,8 @@ loop-k-init g c = record {
 
 pub returns-in-Some-clause-ran : goal.returns-in-Some-clause-ran
 returns-in-Some-clause-ran g c =
-    choice_held g.P.Parser.state (g.P.Parser.meaning g.E.ParserError.form) _ _ _ _ _ _
-    (answered (By g.P.Parser.state (g.P.Parser.meaning g.E.ParserError.form))
+    choice_held g.P.Parser.state (g.P.Parser.meaning g.E.HasKind.form) _ _ _ _ _ _
+    (answered (By g.P.Parser.state (g.P.Parser.meaning g.E.HasKind.form))
     c.args.branches.now c.loop-k.branches (g.I.Stream.view c.args.input.now)
     (g.I.Stream.view c.loop-k.input) c.loop-k.k _ c.index-branches-k.result
     c.attempt.new.branch c.loop-k.invariant.earlier (omega arith) refl _ _ _
@@ -28,7 +28,7 @@ pub loop-k-preserved : goal.loop-k-preserved
 loop-k-preserved g c =
     let ran = c.in_default.ensures.ran in
     record {
-      earlier = earlier_more (By g.P.Parser.state (g.P.Parser.meaning g.E.ParserError.form))
+      earlier = earlier_more (By g.P.Parser.state (g.P.Parser.meaning g.E.HasKind.form))
           c.args.branches.now c.loop-k.branches (g.I.Stream.view c.args.input.now)
           (g.I.Stream.view c.loop-k.input) c.loop-k.k _ c.index-branches-k.result
           c.attempt.new.branch c.loop-k.invariant.earlier (omega arith) refl
@@ -45,11 +45,11 @@ returns-clause-ran g c =
     let some : 0 < length c.args.branches.now = search rules in
     let end : c.loop-k.k ≡ length c.args.branches.now - 1 = omega arith in
     let earlier = subst
-    (λ k. Earlier (By g.P.Parser.state (g.P.Parser.meaning g.E.ParserError.form))
+    (λ k. Earlier (By g.P.Parser.state (g.P.Parser.meaning g.E.HasKind.form))
     c.args.branches.now c.loop-k.branches (g.I.Stream.view c.args.input.now)
     (g.I.Stream.view c.loop-k.input) k) end c.loop-k.invariant.earlier in
-    choice_held g.P.Parser.state (g.P.Parser.meaning g.E.ParserError.form) _ _ _ _ _ _
-    (answered (By g.P.Parser.state (g.P.Parser.meaning g.E.ParserError.form))
+    choice_held g.P.Parser.state (g.P.Parser.meaning g.E.HasKind.form) _ _ _ _ _ _
+    (answered (By g.P.Parser.state (g.P.Parser.meaning g.E.HasKind.form))
     c.args.branches.now c.loop-k.branches (g.I.Stream.view c.args.input.now)
     (g.I.Stream.view c.loop-k.input) (length c.args.branches.now - 1) _
     c.index-branches-last.result c.parse_next.new.self earlier (omega arith) refl _ _ _

@@ -1,0 +1,44 @@
+#!/usr/bin/env bash
+# Times the library beside nom 7 and loops by hand, and prints a table in Markdown.
+#
+#     bench/run.sh [TURNS] [WORDS IN A WORKLOAD'S NAME]
+#
+# It installs Debian's packages of nom 7 and memchr where they are missing, and cargo where there is
+# none; proves and builds the crate `timed`; and builds and runs the program here, offline.
+# BENCH_CPU names the processor that both are built for: x86-64-v2 (Rattle's own choice) or
+# x86-64-v3.
+set -eu
+cd "$(dirname "$0")"
+cpu=${BENCH_CPU:-x86-64-v2}
+
+missing=()
+for package in librust-nom-dev librust-memchr-dev; do
+    dpkg -s "$package" > /dev/null 2>&1 || missing+=("$package")
+done
+command -v cargo > /dev/null || missing+=(cargo)
+if [ ${#missing[@]} -gt 0 ]; then
+    apt-get update > /dev/null
+    apt-get install -y --no-install-recommends "${missing[@]}" > /dev/null
+fi
+
+(cd ../crates/timed && rt lib --cpu "$cpu" > /dev/null)
+TIMED=$(cd ../crates/timed/out && pwd)
+KIT_C=$(dirname "$(rt doc)")/c
+export TIMED KIT_C
+
+mkdir -p .cargo
+cat > .cargo/config.toml << CONFIG
+[source.crates-io]
+replace-with = "debian"
+
+[source.debian]
+directory = "/usr/share/cargo/registry"
+
+[net]
+offline = true
+
+[build]
+rustflags = ["-Ctarget-cpu=$cpu"]
+CONFIG
+cargo build --release --offline --quiet
+exec ./target/release/bench "$@"

@@ -1,0 +1,61 @@
+//! The workloads with the library: the exports of the crate `timed`.
+use crate::outcome::Outcome;
+
+type Text = unsafe extern "C" fn(*const u8, usize, *mut Outcome);
+
+extern "C" {
+    fn timed_document(text: *const u8, size: usize, out: *mut Outcome);
+    fn timed_number_list(text: *const u8, size: usize, out: *mut Outcome);
+    fn timed_number_sum(text: *const u8, size: usize, out: *mut Outcome);
+    fn timed_number_pieces(text: *const u8, size: usize, out: *mut Outcome);
+    fn timed_rows(text: *const u8, size: usize, out: *mut Outcome);
+    fn timed_fields(text: *const u8, size: usize, out: *mut Outcome);
+    fn timed_heads(text: *const u8, size: usize, out: *mut Outcome);
+    fn timed_keywords(text: *const u8, size: usize, out: *mut Outcome);
+    fn timed_any_case(text: *const u8, size: usize, out: *mut Outcome);
+    fn timed_words(text: *const u8, size: usize, out: *mut Outcome);
+    fn timed_until(
+        literal: *const u8,
+        length: usize,
+        text: *const u8,
+        size: usize,
+        out: *mut Outcome,
+    );
+}
+
+fn call(export: Text, text: &[u8]) -> Outcome {
+    let mut out = Outcome::default();
+    // SAFETY: the exports have no `requires`, and both pointers are those of live borrows.
+    unsafe { export(text.as_ptr(), text.len(), &mut out) };
+    out
+}
+
+macro_rules! workloads {
+    ($($name:ident = $export:ident;)*) => {
+        $(pub fn $name(text: &[u8]) -> Outcome {
+            call($export, text)
+        })*
+    };
+}
+
+workloads! {
+    document = timed_document;
+    number_list = timed_number_list;
+    number_sum = timed_number_sum;
+    number_pieces = timed_number_pieces;
+    rows = timed_rows;
+    fields = timed_fields;
+    heads = timed_heads;
+    keywords = timed_keywords;
+    any_case = timed_any_case;
+    words = timed_words;
+}
+
+pub fn until(text: &[u8], literal: &'static [u8]) -> Outcome {
+    let mut out = Outcome::default();
+    // SAFETY: as in `call`; the literal lives as long as the program.
+    unsafe {
+        timed_until(literal.as_ptr(), literal.len(), text.as_ptr(), text.len(), &mut out);
+    }
+    out
+}

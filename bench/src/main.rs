@@ -1,0 +1,83 @@
+//! Times the library's parsers beside nom 7 and hand-written loops, and prints a table in Markdown.
+//!
+//! All that read one text take turns, and the best of their turns stands. What they answer is
+//! compared. Only ratios are printed.
+mod by_hand;
+mod by_nom;
+mod library;
+mod outcome;
+mod texts;
+mod workloads;
+
+use outcome::Outcome;
+use std::hint::black_box;
+use std::time::Instant;
+use workloads::{Reader, Workload};
+
+const SMALL: usize = 1 << 16;
+const MIDDLE: usize = 1 << 20;
+const LARGE: usize = 1 << 22;
+
+/// The least time of each reader, in seconds, and what they all answer.
+fn best(text: &[u8], readers: &[&Reader], turns: usize, name: &str) -> (Vec<f64>, Outcome) {
+    let want = readers[0](text);
+    let mut best = vec![f64::MAX; readers.len()];
+    for _ in 0..turns {
+        for (least, reader) in best.iter_mut().zip(readers) {
+            let start = Instant::now();
+            let got = reader(black_box(text));
+            let time = start.elapsed().as_secs_f64();
+            assert_eq!(black_box(got), want, "{name}: the readers differ");
+            *least = least.min(time);
+        }
+    }
+    (best, want)
+}
+
+/// One row of the table.
+fn row(workload: &Workload, turns: usize) -> String {
+    let mut readers = vec![&workload.nom, &workload.library];
+    readers.extend(&workload.hand);
+    let text = (workload.text)(MIDDLE);
+    let (times, told) = best(&text, &readers, turns, &workload.name);
+    assert!(told.count > 0 || text.is_empty(), "{}: nothing was read", workload.name);
+    let hand = times.get(2).map_or(String::new(), |hand| format!("{:.2}", times[1] / hand));
+    let growth = |size: usize, turns: usize| {
+        let text = (workload.text)(size);
+        let (times, _) = best(&text, &[&workload.library], turns, &workload.name);
+        times[0] / text.len() as f64
+    };
+    let growth = growth(LARGE, turns / 3 + 1) / growth(SMALL, turns * 8);
+    format!("| {} | {:.2} | {hand} | {growth:.2} |", workload.name, times[1] / times[0])
+}
+
+/// How the time grows for a literal whose beginning stands everywhere: 39 times `a` and a `b`, in a
+/// text of `a`.
+fn hard_search(turns: usize) -> String {
+    let literal: &'static [u8] = b"aaaaaaaaaaaaaaaaaaaaaaaaaaaaaaaaaaaaaaab";
+    let time = |size: usize, reader: Reader| {
+        let text = vec![b'a'; size];
+        let want = Outcome { count: 0, sum: 0, left: size as u64 };
+        let (times, told) = best(&text, &[&reader], turns / 4 + 2, "a literal of 39 a");
+        assert_eq!(told, want);
+        times[0] / size as f64
+    };
+    let reader = || -> Reader { Box::new(move |text| library::until(text, literal)) };
+    let beside = time(MIDDLE, reader()) / time(MIDDLE, Box::new(move |t| by_nom::until(t, literal)));
+    let growth = time(LARGE, reader()) / time(SMALL, reader());
+    format!("| up to 39 `a` and a `b`, in a text of `a` | {beside:.2} | | {growth:.2} |")
+}
+
+fn main() {
+    let mut words = std::env::args().skip(1);
+    let turns = words.next().and_then(|word| word.parse().ok()).unwrap_or(60);
+    let only = words.next().unwrap_or_default();
+    println!("| Workload | beside nom 7 | beside a loop by hand | 4 MiB beside 64 KiB, a byte |");
+    println!("|---|---|---|---|");
+    for workload in workloads::all().iter().filter(|w| w.name.contains(&only)) {
+        println!("{}", row(workload, turns));
+    }
+    if only.is_empty() {
+        println!("{}", hard_search(turns));
+    }
+}

@@ -1,0 +1,145 @@
+//! The texts that the workloads read: made from a fixed seed, so that each run reads the same.
+
+/// Numbers that look random, the same ones in each run.
+struct Dice(u64);
+
+impl Dice {
+    fn below(&mut self, n: usize) -> usize {
+        self.0 = self.0.wrapping_mul(6364136223846793005).wrapping_add(1442695040888963407);
+        ((self.0 >> 33) as usize) % n
+    }
+
+    fn letters(&mut self, out: &mut Vec<u8>, n: usize) {
+        for _ in 0..n {
+            out.push(b'a' + self.below(26) as u8);
+        }
+    }
+}
+
+/// Parts, until there are at least `size` bytes.
+fn parts(size: usize, mut part: impl FnMut(&mut Dice, &mut Vec<u8>)) -> Vec<u8> {
+    let mut dice = Dice(19);
+    let mut out = Vec::with_capacity(size + 4096);
+    while out.len() < size {
+        part(&mut dice, &mut out);
+    }
+    out
+}
+
+/// An INI document: sections of some pairs, with comments.
+pub fn document(size: usize) -> Vec<u8> {
+    parts(size, |dice, out| {
+        out.extend(format!("[part {}]\n", dice.below(1000)).bytes());
+        for _ in 0..dice.below(16) + 4 {
+            if dice.below(8) == 0 {
+                out.extend(b"; a remark on a line of its own\n");
+            }
+            let key = dice.below(9) + 4;
+            dice.letters(out, key);
+            out.extend(if dice.below(2) == 0 { &b" = "[..] } else { b"=" });
+            for _ in 0..dice.below(7) + 1 {
+                let word = dice.below(8) + 1;
+                dice.letters(out, word);
+                out.push(b' ');
+            }
+            if dice.below(6) == 0 {
+                out.extend(b"; why");
+            }
+            out.push(b'\n');
+        }
+        out.push(b'\n');
+    })
+}
+
+/// Numbers of one to nine digits, a comma behind each.
+pub fn numbers(size: usize) -> Vec<u8> {
+    parts(size, |dice, out| {
+        let bound = 10usize.pow(dice.below(9) as u32 + 1);
+        let number = dice.below(bound);
+        out.extend(format!("{number},").bytes());
+    })
+}
+
+/// Lines of fields with commas between them, without quotes.
+pub fn fields(size: usize) -> Vec<u8> {
+    parts(size, |dice, out| {
+        for k in 0..dice.below(12) + 1 {
+            if k > 0 {
+                out.push(b',');
+            }
+            let field = dice.below(17);
+            dice.letters(out, field);
+        }
+        out.push(b'\n');
+    })
+}
+
+/// Heads of HTTP requests, of 12 lines each.
+pub fn heads(size: usize) -> Vec<u8> {
+    let lines = [
+        "Host: www.example.org",
+        "User-Agent: Mozilla/5.0 (X11; Linux x86_64; rv:128.0) Gecko/20100101 Firefox/128.0",
+        "Accept: text/html,application/xhtml+xml,application/xml;q=0.9,*/*;q=0.8",
+        "Accept-Language: en-GB,en;q=0.5",
+        "Accept-Encoding: gzip, deflate, br",
+        "Referer: https://www.example.org/a/page/before/this/one.html",
+        "Connection: keep-alive",
+        "Cookie: session=8f14e45fceea167a5a36dedd4bea2543; theme=dark; seen=1",
+        "Upgrade-Insecure-Requests: 1",
+        "Cache-Control: max-age=0",
+        "If-None-Match: \"1541025663\"",
+    ];
+    parts(size, |dice, out| {
+        out.extend(b"GET /");
+        for _ in 0..dice.below(5) + 1 {
+            let part = dice.below(10) + 1;
+            dice.letters(out, part);
+            out.push(b'/');
+        }
+        out.extend(b" HTTP/1.1\r\n");
+        for line in lines {
+            out.extend(line.bytes());
+            out.extend(b"\r\n");
+        }
+        out.extend(b"\r\n");
+    })
+}
+
+/// Six keywords, in either case where `mixed`, with a space behind each.
+pub fn keywords(size: usize, mixed: bool) -> Vec<u8> {
+    let words = ["select", "from", "where", "group", "order", "limit"];
+    parts(size, |dice, out| {
+        let word = words[dice.below(6)];
+        for byte in word.bytes() {
+            let upper = mixed && dice.below(2) == 0;
+            out.push(if upper { byte.to_ascii_uppercase() } else { byte });
+        }
+        out.push(b' ');
+    })
+}
+
+/// Words, some of letters beyond ASCII, with a space behind each.
+pub fn words(size: usize) -> Vec<u8> {
+    parts(size, |dice, out| {
+        let word = dice.below(9) + 1;
+        dice.letters(out, word);
+        if dice.below(5) == 0 {
+            out.extend("é".bytes());
+        }
+        out.push(b' ');
+    })
+}
+
+/// Letters and spaces, in which the literal stands about once in `every` bytes, and its first byte
+/// alone about once in `alone` bytes, unless that is 0.
+pub fn marked(size: usize, literal: &[u8], every: usize, alone: usize) -> Vec<u8> {
+    parts(size, |dice, out| {
+        for _ in 0..dice.below(2 * every) {
+            out.push(b"etaoin shrdlu cmfwyp vbgkjqxz"[dice.below(29)]);
+            if alone > 0 && dice.below(alone) == 0 {
+                out.push(literal[0]);
+            }
+        }
+        out.extend(literal);
+    })
+}

@@ -1,0 +1,92 @@
+//! The workloads: what each reads, and who reads it.
+use crate::outcome::Outcome;
+use crate::{by_hand, by_nom, library, texts};
+
+pub type Reader = Box<dyn Fn(&[u8]) -> Outcome>;
+
+pub struct Workload {
+    pub name: String,
+    pub text: Box<dyn Fn(usize) -> Vec<u8>>,
+    pub library: Reader,
+    pub nom: Reader,
+    pub hand: Option<Reader>,
+}
+
+impl Workload {
+    fn new(
+        name: &str,
+        text: impl Fn(usize) -> Vec<u8> + 'static,
+        library: impl Fn(&[u8]) -> Outcome + 'static,
+        nom: impl Fn(&[u8]) -> Outcome + 'static,
+    ) -> Workload {
+        Workload {
+            name: name.to_string(),
+            text: Box::new(text),
+            library: Box::new(library),
+            nom: Box::new(nom),
+            hand: None,
+        }
+    }
+
+    fn by_hand(mut self, hand: impl Fn(&[u8]) -> Outcome + 'static) -> Workload {
+        self.hand = Some(Box::new(hand));
+        self
+    }
+
+    fn search(name: &str, literal: &'static [u8], every: usize, alone: usize) -> Workload {
+        Workload::new(
+            name,
+            move |size| texts::marked(size, literal, every, alone),
+            move |text| library::until(text, literal),
+            move |text| by_nom::until(text, literal),
+        )
+    }
+}
+
+const LONG: &[u8] = b"<!-- the end of the part that is hidden>";
+
+pub fn all() -> Vec<Workload> {
+    let mut all = vec![
+        Workload::new("an INI document", texts::document, library::document, by_nom::document)
+            .by_hand(by_hand::document),
+        Workload::new("numbers into a list", texts::numbers, library::number_list, by_nom::number_list)
+            .by_hand(by_hand::number_list),
+        Workload::new("the sum of numbers", texts::numbers, library::number_sum, by_nom::number_sum)
+            .by_hand(by_hand::number_sum),
+        Workload::new(
+            "the same in pieces of 4 KiB",
+            texts::numbers,
+            library::number_pieces,
+            by_nom::number_pieces,
+        ),
+        Workload::new("rows of fields of text", texts::fields, library::rows, by_nom::rows),
+        Workload::new("how many fields", texts::fields, library::fields, by_nom::fields),
+        Workload::new("heads of requests", texts::heads, library::heads, by_nom::heads),
+        Workload::new(
+            "six keywords",
+            |size| texts::keywords(size, false),
+            library::keywords,
+            by_nom::keywords,
+        ),
+        Workload::new(
+            "six keywords in any case",
+            |size| texts::keywords(size, true),
+            library::any_case,
+            by_nom::any_case,
+        ),
+        Workload::new("words of text", texts::words, library::words, by_nom::words),
+    ];
+    let literals: [(&str, &'static [u8]); 4] =
+        [("1 byte", b";"), ("2 bytes", b"--"), ("8 bytes", b"</title>"), ("40 bytes", LONG)];
+    for (length, literal) in literals {
+        for (how_often, every) in [("often", 32), ("rarely", 4096)] {
+            let name = format!("up to {length}, {how_often}");
+            all.push(Workload::search(&name, literal, every, 0));
+            if literal.len() > 1 {
+                let name = format!("{name}; its first byte often");
+                all.push(Workload::search(&name, literal, every, 32));
+            }
+        }
+    }
+    all
+}

@@ -1,0 +1,48 @@
+//! Slices that are read as text.
+ghost use Rattle.std.specs.Prelude.{Option};
+ghost use Rattle.stream_sets.specs.ParseSlice.{ReadsBytes, ReadsText};
+
+use std::str::FromStr;
+
+/// A slice that can be read as a value of the type `R`, by its `FromStr`.
+///
+/// ```text
+/// "12".parse_slice()             is Some(12) of a u8
+/// b"256".as_slice().parse_slice()   is None of a u8
+/// ```
+pub trait ParseSlice<R> {
+    // What a slice reads as.
+    ghost reads: { Self → Option R → Type 0 };
+
+    /// The value that the slice reads as; `None` where the type refuses the text, and where bytes
+    /// are not UTF-8.
+    fn parse_slice(&self) -> Option<R>
+        ensures { reads self.now result };
+}
+
+impl<'a, R: FromStr> ParseSlice<R> for &'a str
+where
+    R::Err: Drop,
+{
+    ghost reads = { λ slice result. ReadsText R.from_str_gives slice.now result };
+
+    #[inline]
+    fn parse_slice(&self) -> Option<R> {
+        self.parse().ok()
+    }
+}
+
+impl<'a, R: FromStr> ParseSlice<R> for &'a [u8]
+where
+    R::Err: Drop,
+{
+    ghost reads = { λ slice result. ReadsBytes R.from_str_gives slice.now result };
+
+    #[inline]
+    fn parse_slice(&self) -> Option<R> {
+        match str::from_utf8(self) {
+            Ok(text) => text.parse().ok(),
+            Err(_) => None,
+        }
+    }
+}

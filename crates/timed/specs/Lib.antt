@@ -1,0 +1,4 @@
+pub mod Numbers
+pub mod Outcome
+pub mod Searches
+pub mod Tally

@@ -1,0 +1,29 @@
+-- Runs of the parser of numbers with a comma behind each.
+use Rattle.std.specs.Prelude.{◌≡◌, ◌^◌, ℕ, [], ◌∷◌, ⊤, None}
+use Rattle.std.specs.Borrow.{Bor}
+use Rattle.winnow.specs.Accumulator.{Accumulator}
+use Rattle.winnow.specs.Bytes.{bytes_reading}
+use Rattle.winnow.specs.DecUint.{DecUintRuns}
+use Rattle.winnow.specs.Form.{Answer, assert_kind, modal}
+use Rattle.winnow.specs.Input.{Input}
+use Rattle.winnow.specs.Literal.{LiteralRuns}
+use Rattle.winnow.specs.Repeat.{RangedRuns}
+use Rattle.winnow.specs.Runs.{Keeps, Runs}
+use Rattle.winnow.specs.Terminated.{TerminatedRuns}
+use Rattle.winnow.specs.{Range}
+
+-- none or more
+abbrev pub any_number : Range
+any_number = record { start_inclusive = 0; end_inclusive = None }
+
+-- a number of 32 bits, and a byte behind it
+abbrev pub NumberMeans : Runs (⊤ × ℕ) ℕ ℕ
+NumberMeans = TerminatedRuns
+    (Keeps (λ _. DecUintRuns (λ n. n) (2 ^ 32) (λ b. b) (λ b. b) bytes_reading modal))
+    (Keeps (λ b. LiteralRuns bytes_reading modal (λ xs. xs ≡ b ∷ []) (λ _. b)))
+
+-- numbers with a comma behind each, into an accumulator
+abbrev pub NumbersRun : {C : Type 0} → Accumulator C ℕ → Input ℕ → Answer C → Input ℕ → Type 0
+NumbersRun into i answer j =
+    (t : (⊤ × ℕ) × Range)
+    × RangedRuns NumberMeans into (assert_kind modal) ((tt, 44), any_number) i answer t j

@@ -1,0 +1,44 @@
+-- What a workload tells of a run.
+use Rattle.std.specs.Prelude.{◌≡◌, ◌⊎◌, ℕ, List, length, MatchResult, vec_len}
+use Rattle.std.proofs.Common.{Global}
+use Rattle.std.specs.declared.vec.Vec.{Vec}
+use Rattle.winnow.specs.Form.{Answer}
+use Rattle.winnow.specs.Input.{Input}
+use Rattle.readers.specs.Document.{HasSections, IsDocumentFault, SectionText}
+use Rattle.readers.specs.declared.fault.Fault.{Fault}
+use Rattle.timed.specs.declared.outcome.Outcome.{Outcome}
+use Rattle.timed.specs.declared.tally.Count.{Count}
+use Rattle.timed.specs.declared.tally.Sum.{Sum}
+
+-- how many outputs the list of a run has, and how many bytes are left; nothing of a run that fails
+abbrev pub TellsList : {O : Type 0} → (Answer (Vec O Global) → Input ℕ → Type 0) → Outcome
+    → Type 0
+TellsList {O} run told =
+    (answer : Answer (Vec O Global)) × (j : Input ℕ) × run answer j
+    × MatchResult answer
+    (λ all. (told.count ≡ vec_len all) × (told.left ≡ length j.left.tokens))
+    (λ _. (told.count ≡ 0) × (told.left ≡ 0))
+
+-- how many outputs a run counts, and how many bytes are left; nothing of a run that fails
+abbrev pub TellsCount : (Answer Count → Input ℕ → Type 0) → Outcome → Type 0
+TellsCount run told =
+    (answer : Answer Count) × (j : Input ℕ) × run answer j
+    × MatchResult answer
+    (λ all. (told.count ≡ all.number) × (told.left ≡ length j.left.tokens))
+    (λ _. (told.count ≡ 0) × (told.left ≡ 0))
+
+-- how many numbers a run adds up, their sum, and how many bytes are left; nothing of a run that
+-- fails
+abbrev pub TellsSum : (Answer Sum → Input ℕ → Type 0) → Outcome → Type 0
+TellsSum run told =
+    (answer : Answer Sum) × (j : Input ℕ) × run answer j
+    × MatchResult answer
+    (λ all. (told.count ≡ all.number) × (told.sum ≡ all.sum)
+    × (told.left ≡ length j.left.tokens))
+    (λ _. (told.count ≡ 0) × (told.left ≡ 0))
+
+-- how many sections a document has; nothing of a text that is none
+abbrev pub TellsDocument : List ℕ → Outcome → Type 0
+TellsDocument text told =
+    ((sections : List SectionText) × HasSections text sections × (told.count ≡ length sections))
+    ⊎ ((fault : Fault) × IsDocumentFault text fault × (told.count ≡ 0))

@@ -1,0 +1,35 @@
+//! INI documents.
+ghost use Rattle.timed.specs.Outcome.{TellsDocument};
+
+use crate::outcome::Outcome;
+use readers::ini;
+use readers::ini::Section;
+use std::alloc::Global;
+
+/// How many bytes all values have.
+#[inline(never)]
+fn value_bytes(sections: &[Section<'_, Global>]) -> u64 {
+    let mut sum: u64 = 0;
+    for section in sections {
+        for pair in &section.pairs {
+            sum = sum.wrapping_add(pair.1.len() as u64);
+        }
+    }
+    sum
+}
+
+/// A document: how many sections it has, and how many bytes its values.
+#[unsafe(no_mangle)]
+pub extern "C" fn timed_document(alloc: Global, input: &[u8], out: &mut Outcome)
+    ensures { TellsDocument input.now out.new }
+{
+    *out = Outcome {
+        count: 0,
+        sum: 0,
+        left: 0,
+    };
+    if let Ok(sections) = ini::document(alloc, input) {
+        out.count = sections.len() as u64;
+        out.sum = value_bytes(&sections);
+    }
+}

@@ -1,0 +1,127 @@
+//! Numbers with a comma behind each.
+ghost use Rattle.std.specs.Prelude.{◌≡◌, length, ⊤};
+ghost use Rattle.winnow.specs.Bytes.{bytes_input};
+ghost use Rattle.winnow.specs.Form.{answer_by};
+ghost use Rattle.timed.specs.Numbers.{NumbersRun};
+ghost use Rattle.timed.specs.Outcome.{TellsList, TellsSum};
+ghost use Rattle.timed.specs.Tally.{sums};
+ghost use Rattle.winnow.specs.Accumulator.{list_kept};
+
+use crate::outcome::Outcome;
+use crate::tally::Sum;
+use std::alloc::Global;
+use winnow::ascii::impls::DecUint;
+use winnow::combinator::{repeat, terminated};
+use winnow::error::{EmptyError, ErrMode, HasKind, InputError};
+use winnow::prelude::*;
+use winnow::stream::{AsBStr, AsChar, Compare, Partial, Range, SlicesAsBytes};
+
+fn list<'i>(
+    alloc: Global,
+    input: &mut &'i [u8],
+) -> Result<Vec<u32, Global>, ErrMode<InputError<&'i [u8]>>>
+    ensures { NumbersRun list_kept (bytes_input input.old.now)
+        (answer_by ⟦<ErrMode<InputError<&'i [u8]>> as HasKind>⟧.kind result)
+        (bytes_input input.new.now) }
+{
+    repeat(alloc, Range::from(0..), terminated(DecUint, b',')).parse_next(input)
+}
+
+/// A list of numbers.
+#[unsafe(no_mangle)]
+pub extern "C" fn timed_number_list(alloc: Global, input: &[u8], out: &mut Outcome)
+    ensures { TellsList (NumbersRun list_kept (bytes_input input.now)) out.new }
+{
+    let mut rest = input;
+    *out = Outcome {
+        count: 0,
+        sum: 0,
+        left: 0,
+    };
+    if let Ok(all) = list(alloc, &mut rest) {
+        out.count = all.len() as u64;
+        out.left = rest.len() as u64;
+    }
+}
+
+fn sum<'i>(alloc: Global, input: &mut &'i [u8]) -> Result<Sum, ErrMode<InputError<&'i [u8]>>>
+    ensures { NumbersRun sums (bytes_input input.old.now)
+        (answer_by ⟦<ErrMode<InputError<&'i [u8]>> as HasKind>⟧.kind result)
+        (bytes_input input.new.now) }
+{
+    repeat(alloc, Range::from(0..), terminated(DecUint, b',')).parse_next(input)
+}
+
+/// The sum of numbers.
+#[unsafe(no_mangle)]
+pub extern "C" fn timed_number_sum(alloc: Global, input: &[u8], out: &mut Outcome)
+    ensures { TellsSum (NumbersRun sums (bytes_input input.now)) out.new }
+{
+    let mut rest = input;
+    *out = Outcome {
+        count: 0,
+        sum: 0,
+        left: 0,
+    };
+    if let Ok(all) = sum(alloc, &mut rest) {
+        out.count = all.number;
+        out.sum = all.sum;
+        out.left = rest.len() as u64;
+    }
+}
+
+/// A number and its comma, which may not be there yet.
+fn item<I: StreamIsPartial + SlicesAsBytes + Compare<u8>, E: ParserError<I>>(
+    input: &mut I,
+) -> Result<u32, E>
+where
+    I::Token: AsChar,
+    I::Slice: AsBStr,
+{
+    terminated(DecUint, b',').parse_next(input)
+}
+
+/// Adds up the numbers of a piece, and answers how many units they take with their commas.
+fn read_piece<I: StreamIsPartial + SlicesAsBytes + Compare<u8>>(
+    piece: I,
+    out: &mut Outcome,
+) -> usize
+where
+    I::Token: AsChar,
+    I::Slice: AsBStr,
+{
+    let size = piece.eof_offset();
+    let mut input = Partial::new(piece);
+    let mut left = size;
+    for _ in 0..size {
+        match item::<Partial<I>, ErrMode<EmptyError>>(&mut input) {
+            Ok(number) => {
+                out.count = out.count.wrapping_add(1);
+                out.sum = out.sum.wrapping_add(number as u64);
+                left = input.eof_offset();
+            }
+            Err(_) => break,
+        }
+    }
+    size.saturating_sub(left)
+}
+
+/// The sum of numbers that come in pieces of 4 KiB: each piece begins where the last one asked for
+/// more.
+#[unsafe(no_mangle)]
+pub extern "C" fn timed_number_pieces(input: &[u8], out: &mut Outcome) {
+    let mut rest = input;
+    *out = Outcome {
+        count: 0,
+        sum: 0,
+        left: 0,
+    };
+    for _ in 0..input.len() {
+        let read = read_piece(&rest[..rest.len().min(4096)], out);
+        match rest.get(read..) {
+            Some(more) if read > 0 => rest = more,
+            _ => break,
+        }
+    }
+    out.left = rest.len() as u64;
+}

@@ -1,0 +1,118 @@
+//! Words: keywords, and words of text.
+use crate::outcome::Outcome;
+use crate::tally::Count;
+use std::alloc::Global;
+use std::str;
+use winnow::ascii::Caseless;
+use winnow::combinator::{alt, repeat, terminated};
+use winnow::error::{EmptyError, ErrMode};
+use winnow::prelude::*;
+use winnow::stream::{AsChar, Compare, Range};
+use winnow::token::{literal, take_till};
+
+/// One of six keywords.
+fn keyword<I: StreamIsPartial + Compare<&'static [u8]>, E: ParserError<I>>(
+    input: &mut I,
+) -> Result<I::Slice, E> {
+    alt((
+        literal(b"select".as_slice()),
+        literal(b"from".as_slice()),
+        literal(b"where".as_slice()),
+        literal(b"group".as_slice()),
+        literal(b"order".as_slice()),
+        literal(b"limit".as_slice()),
+    ))
+    .parse_next(input)
+}
+
+/// Six keywords, a space behind each.
+#[unsafe(no_mangle)]
+pub extern "C" fn timed_keywords(input: &[u8], out: &mut Outcome) {
+    let mut rest = input;
+    *out = Outcome {
+        count: 0,
+        sum: 0,
+        left: 0,
+    };
+    for _ in 0..input.len() {
+        if keyword::<&[u8], ErrMode<EmptyError>>(&mut rest).is_err() {
+            break;
+        }
+        match rest {
+            [b' ', more @ ..] => rest = more,
+            _ => break,
+        }
+        out.count = out.count.wrapping_add(1);
+    }
+    out.left = rest.len() as u64;
+}
+
+/// One of six keywords, in upper or lower case.
+fn keyword_of_any_case<I: StreamIsPartial + Compare<Caseless<&'static [u8]>>, E: ParserError<I>>(
+    input: &mut I,
+) -> Result<I::Slice, E> {
+    alt((
+        literal(Caseless(b"select".as_slice())),
+        literal(Caseless(b"from".as_slice())),
+        literal(Caseless(b"where".as_slice())),
+        literal(Caseless(b"group".as_slice())),
+        literal(Caseless(b"order".as_slice())),
+        literal(Caseless(b"limit".as_slice())),
+    ))
+    .parse_next(input)
+}
+
+/// The same in upper or lower case.
+#[unsafe(no_mangle)]
+pub extern "C" fn timed_any_case(input: &[u8], out: &mut Outcome) {
+    let mut rest = input;
+    *out = Outcome {
+        count: 0,
+        sum: 0,
+        left: 0,
+    };
+    for _ in 0..input.len() {
+        if keyword_of_any_case::<&[u8], ErrMode<EmptyError>>(&mut rest).is_err() {
+            break;
+        }
+        match rest {
+            [b' ', more @ ..] => rest = more,
+            _ => break,
+        }
+        out.count = out.count.wrapping_add(1);
+    }
+    out.left = rest.len() as u64;
+}
+
+/// How many words have a space behind them.
+fn words<I: StreamIsPartial + Compare<char>, E: ParserError<I>>(
+    alloc: Global,
+    input: &mut I,
+) -> Result<Count, E>
+where
+    I::Token: AsChar,
+{
+    repeat(
+        alloc,
+        Range::from(0..),
+        terminated(take_till(Range::from(1..), ' '), ' '),
+    )
+    .parse_next(input)
+}
+
+/// Words of text, a space behind each.
+#[unsafe(no_mangle)]
+pub extern "C" fn timed_words(alloc: Global, input: &[u8], out: &mut Outcome) {
+    *out = Outcome {
+        count: 0,
+        sum: 0,
+        left: 0,
+    };
+    if let Ok(text) = str::from_utf8(input) {
+        let mut rest = text;
+        if let Ok(all) = words::<&str, ErrMode<EmptyError>>(alloc, &mut rest) {
+            out.count = all.number;
+            out.left = rest.len() as u64;
+        }
+    }
+}

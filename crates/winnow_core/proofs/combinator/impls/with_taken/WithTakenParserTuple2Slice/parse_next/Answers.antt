@@ -1,0 +1,6 @@
+use Rattle.std.proofs.Common.{rules, refl, inl}
+use Rattle.winnow_core.proofs.combinator.impls.with_taken.WithTakenParserTuple2Slice.parse_next.Goals as goal
+
+pub returns-clause-ran : goal.returns-clause-ran
+returns-clause-ran g c =
+    inl (c.in_ok-output.output, _, search rules, (refl, search rules), refl)

@@ -1,0 +1,26 @@
+-- Errors that do not ask for more input.
+use Rattle.std.specs.Prelude.{◌≡◌}
+use Rattle.streams.specs.Kind.{Kind, backtrack, cut, incomplete, memory}
+use Rattle.winnow_core.specs.MakesError.{MakesError}
+use Rattle.winnow_core.specs.Runs.{Runs}
+use Rattle.winnow_core.specs.declared.combinator.impls.complete_err.CompleteErr.{CompleteErr}
+
+-- the parser whose errors do not ask for more
+abbrev pub complete_err_parser : {F I O E : Type 0} → CompleteErr F I O E → F
+complete_err_parser s = s.parser
+
+-- an incomplete error backtracks, and others stay
+abbrev pub complete_kind : Kind → Kind
+complete_kind backtrack = backtrack
+complete_kind cut = cut
+complete_kind (incomplete need) = backtrack
+complete_kind memory = memory
+
+-- what a kind becomes
+abbrev pub CompleteErrBecomes : Unit {0} → Kind → Kind → Unit {0} → Type 0
+CompleteErrBecomes g k l h = l ≡ complete_kind k
+
+-- Where the child asks for more input, the run backtracks.
+abbrev pub CompleteErrRuns : {S T O : Type 0} → Runs S T O → Runs S T O
+CompleteErrRuns run s i answer t j =
+    MakesError CompleteErrBecomes run (s, tt) i answer (t, tt) j

@@ -1,0 +1,32 @@
+-- A parser that an output decides.
+use Rattle.std.specs.Prelude.{◌≡◌, Ok, Err, ◌⊎◌}
+use Rattle.streams.specs.Input.{Input}
+use Rattle.streams.specs.Kind.{Kind}
+use Rattle.stream_errors.specs.Form.{Answer}
+use Rattle.winnow_core.specs.Runs.{Runs}
+use Rattle.winnow_core.specs.declared.combinator.impls.flat_map.FlatMap.{FlatMap}
+pub mod Known
+pub mod Laws
+
+-- the parser whose output decides
+abbrev pub flat_map_parser : {F G H I O U E : Type 0} → FlatMap F G H I O U E → F
+flat_map_parser s = s.parser
+
+-- the closure that makes the parser
+abbrev pub flat_map_closure : {F G H I O U E : Type 0} → FlatMap F G H I O U E → G
+flat_map_closure s = s.map
+
+-- each parser that the closure makes, in whatever state, may be run
+abbrev pub MakesParsers : {G O H : Type 0} → (G → O → H → G → Type 0) → (H → Type 0) → Type 0
+MakesParsers {G} {O} {H} step can_parse =
+    (g : G) (o : O) (made : H) (h : G) → step g o made h → can_parse made
+
+-- A run of the child, and one of the parser that the closure makes of its output.
+abbrev pub FlatMapRuns : {S G H V T O U : Type 0} → (G → O → H → G → Type 0) → (H → V)
+    → Runs S T O → Runs V T U → Runs (S × G) T U
+FlatMapRuns {S} {G} {H} {V} {T} {O} {U} step state run second s i answer t j =
+    -- the child succeeds, and what the parser made answers is the answer
+    ((o : O) × (a : Input T) × (made : H) × (v : V) × run s.0 i (Ok o) t.0 a
+    × step s.1 o made t.1 × second (state made) a answer v j)
+    -- the child fails, and no parser is made
+    ⊎ ((k : Kind) × run s.0 i (Err k) t.0 j × (t.1 ≡ s.1) × (answer ≡ Err k))

@@ -1,0 +1,49 @@
+-- What a caller knows of one run that makes an error of another, where it answered: for `context`,
+-- `context_with`, `complete_err`, `map_err` and `err_into`.
+use Rattle.std.specs.Prelude.{◌≡◌, Result, Ok, Err, IfOk, ◌⊎◌}
+use Rattle.std.proofs.Common.{refl, inl, inr}
+use Rattle.streams.specs.Input.{Input}
+use Rattle.streams.specs.Kind.{Kind}
+use Rattle.stream_errors.specs.Form.{Answer, answer_by}
+use Rattle.stream_errors.specs.Form.Known.{at_kind, at_output, ok_is_err}
+use Rattle.winnow_core.specs.MakesError.{MakesError}
+use Rattle.winnow_core.specs.Runs.{Runs}
+
+-- the runs of MakesError, by what the child's relate; Became is what a kind became
+abbrev pub MakesErrorCases : {O : Type 0} → (O → Type 0) → Type 0 → (Kind → Type 0)
+    → (Kind → Kind → Type 0) → Answer O → Type 0
+MakesErrorCases {O} Ran Kept Failed Became answer =
+    ((o : O) × Ran o × Kept × (answer ≡ Ok o))
+    ⊎ ((k : Kind) × (l : Kind) × Failed k × Became k l × (answer ≡ Err l))
+
+pub makes_error_cases : {S G T O : Type 0} (becomes : G → Kind → Kind → G → Type 0)
+    (run : Runs S T O) (s : S × G) (i : Input T) (answer : Answer O) (t : S × G) (j : Input T)
+    → MakesError becomes run s i answer t j
+    → MakesErrorCases (λ o. run s.0 i (Ok o) t.0 j) (t.1 ≡ s.1) (λ k. run s.0 i (Err k) t.0 j)
+    (λ k l. becomes s.1 k l t.1) answer
+makes_error_cases becomes run s i answer t j ran = ran
+
+-- an output: the child's
+pub makes_error_ok : {O : Type 0} {Ran : O → Type 0} {Kept : Type 0} {Failed : Kind → Type 0}
+    {Became : Kind → Kind → Type 0} (o : O) → MakesErrorCases Ran Kept Failed Became (Ok o)
+    → Ran o × Kept
+makes_error_ok {Ran = Ran} o (inl (x, r, same, e)) = (at_output Ran e r, same)
+makes_error_ok o (inr (k, l, r, became, e)) = ok_is_err refl e
+
+-- an error: the child's became it
+pub makes_error_err : {O : Type 0} {Ran : O → Type 0} {Kept : Type 0} {Failed : Kind → Type 0}
+    {Became : Kind → Kind → Type 0} (l : Kind) → MakesErrorCases Ran Kept Failed Became (Err l)
+    → (k : Kind) × Failed k × Became k l
+makes_error_err l (inl (o, r, same, e)) = ok_is_err e refl
+makes_error_err {Became = Became} l (inr (k, m, r, became, e)) =
+    (k, r, at_kind (λ y. Became k y) e became)
+
+-- so what is said of an output is said where a call answers one
+pub makes_error_told : {O E : Type 0} {Ran : O → Type 0} {Kept : Type 0} {Failed : Kind → Type 0}
+    {Became : Kind → Kind → Type 0} (kind : E → Kind) (P : O → Type 0) (result : Result O E)
+    → MakesErrorCases Ran Kept Failed Became (answer_by kind result)
+    → ((o : O) → Ran o → P o) → IfOk result P
+makes_error_told kind P (Ok o) ran told = told o (makes_error_ok o ran).0
+makes_error_told kind P (Err e) ran told = tt
+
+pub ruleset known_errors = (makes_error_ok, makes_error_err, makes_error_told)

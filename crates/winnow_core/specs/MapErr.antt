@@ -1,0 +1,25 @@
+-- An error made of another by a closure.
+use Rattle.std.specs.Prelude.{◌≡◌}
+use Rattle.streams.specs.Kind.{Kind}
+use Rattle.winnow_core.specs.MakesError.{MakesError}
+use Rattle.winnow_core.specs.Runs.{Runs}
+use Rattle.winnow_core.specs.declared.combinator.impls.map_err.MapErr.{MapErr}
+
+-- the parser whose errors are mapped
+abbrev pub map_err_parser : {F G I O E D : Type 0} → MapErr F G I O E D → F
+map_err_parser s = s.parser
+
+-- the closure that maps them
+abbrev pub map_err_closure : {F G I O E D : Type 0} → MapErr F G I O E D → G
+map_err_closure s = s.map
+
+-- what a kind becomes by one call of the closure
+abbrev pub MapErrBecomes : {G E D : Type 0} → (E → Kind) → (D → Kind) → (G → E → D → G → Type 0)
+    → G → Kind → Kind → G → Type 0
+MapErrBecomes {G} {E} {D} kind new_kind step g k l h =
+    (old : E) × (new : D) × (kind old ≡ k) × step g old new h × (l ≡ new_kind new)
+
+-- The error is what one call of the closure made of an error of the child's kind.
+abbrev pub MapErrRuns : {S G T O E D : Type 0} → (E → Kind) → (D → Kind)
+    → (G → E → D → G → Type 0) → Runs S T O → Runs (S × G) T O
+MapErrRuns kind new_kind step run = MakesError (MapErrBecomes kind new_kind step) run

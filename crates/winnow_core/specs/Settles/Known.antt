@@ -1,0 +1,65 @@
+-- What a caller knows of one run that settles an output, where it answered: for `verify`,
+-- `parse_to`, `try_map` and `and_then`.
+use Rattle.std.specs.Prelude.{◌≡◌, Result, Ok, Err, IfOk, ◌⊎◌}
+use Rattle.std.proofs.Common.{refl, inl, inr}
+use Rattle.streams.specs.Input.{Input, back_at}
+use Rattle.streams.specs.Kind.{Kind}
+use Rattle.stream_errors.specs.Form.{Answer, answer_by}
+use Rattle.stream_errors.specs.Form.Known.{at_kind, at_output, ok_is_err}
+use Rattle.winnow_core.specs.Runs.{Runs}
+use Rattle.winnow_core.specs.Settles.{Settles}
+
+-- the runs of Settles, by what the child's relate; Accepted and Refused are how an output was
+-- settled, and Back that the input is back at the start
+abbrev pub SettlesCases : {T O U : Type 0} → (O → Type 0) → (O → Input T → Type 0)
+    → (O → U → Type 0) → (O → Kind → Type 0)
+    → (Input T → Type 0) → (Kind → Type 0) → Type 0 → Answer U → Type 0
+SettlesCases {T} {O} {U} Ran RanTo Accepted Refused Back Failed Kept answer =
+    ((o : O) × (u : U) × Ran o × Accepted o u × (answer ≡ Ok u))
+    ⊎ (((o : O) × (k : Kind) × (a : Input T) × RanTo o a × Refused o k × (answer ≡ Err k)
+    × Back a)
+    ⊎ ((k : Kind) × Failed k × Kept × (answer ≡ Err k)))
+
+pub settles_cases : {S G T O U : Type 0} (settle : G → O → Answer U → G → Type 0)
+    (run : Runs S T O) (s : S × G) (i : Input T) (answer : Answer U) (t : S × G) (j : Input T)
+    → Settles settle run s i answer t j
+    → SettlesCases (λ o. run s.0 i (Ok o) t.0 j) (λ o a. run s.0 i (Ok o) t.0 a)
+    (λ o u. settle s.1 o (Ok u) t.1) (λ o k. settle s.1 o (Err k) t.1)
+    (λ a. j ≡ back_at i.left a) (λ k. run s.0 i (Err k) t.0 j)
+    (t.1 ≡ s.1) answer
+settles_cases settle run s i answer t j ran = ran
+
+-- an output: the child's was settled into it
+pub settles_ok : {T O U : Type 0} {Ran : O → Type 0} {RanTo : O → Input T → Type 0}
+    {Accepted : O → U → Type 0} {Refused : O → Kind → Type 0} {Back : Input T → Type 0}
+    {Failed : Kind → Type 0}
+    {Kept : Type 0} (u : U) → SettlesCases Ran RanTo Accepted Refused Back Failed Kept (Ok u)
+    → (o : O) × Ran o × Accepted o u
+settles_ok {Accepted = Accepted} u (inl (o, x, r, settled, e)) =
+    (o, r, at_output (λ y. Accepted o y) e settled)
+settles_ok u (inr (inl (o, k, a, r, settled, e, back))) = ok_is_err refl e
+settles_ok u (inr (inr (k, r, same, e))) = ok_is_err refl e
+
+-- an error: the child's output was refused, and the input is back at the start; or it is the
+-- child's, and nothing was settled
+pub settles_err : {T O U : Type 0} {Ran : O → Type 0} {RanTo : O → Input T → Type 0}
+    {Accepted : O → U → Type 0} {Refused : O → Kind → Type 0} {Back : Input T → Type 0}
+    {Failed : Kind → Type 0}
+    {Kept : Type 0} (k : Kind) → SettlesCases Ran RanTo Accepted Refused Back Failed Kept (Err k)
+    → ((o : O) × (a : Input T) × RanTo o a × Refused o k × Back a) ⊎ (Failed k × Kept)
+settles_err k (inl (o, x, r, settled, e)) = ok_is_err e refl
+settles_err {Refused = Refused} k (inr (inl (o, l, a, r, settled, e, back))) =
+    inl (o, a, r, at_kind (λ y. Refused o y) e settled, back)
+settles_err {Failed = Failed} k (inr (inr (l, r, same, e))) = inr (at_kind Failed e r, same)
+
+-- so what is said of an output is said where a call answers one
+pub settles_told : {T O U E : Type 0} {Ran : O → Type 0} {RanTo : O → Input T → Type 0}
+    {Accepted : O → U → Type 0} {Refused : O → Kind → Type 0} {Back : Input T → Type 0}
+    {Failed : Kind → Type 0}
+    {Kept : Type 0} (kind : E → Kind) (P : U → Type 0) (result : Result U E)
+    → SettlesCases Ran RanTo Accepted Refused Back Failed Kept (answer_by kind result)
+    → ((o : O) (u : U) → Ran o → Accepted o u → P u) → IfOk result P
+settles_told kind P (Ok u) ran told = let (o, r, settled) = settles_ok u ran in told o u r settled
+settles_told kind P (Err e) ran told = tt
+
+pub ruleset known_settled = (settles_ok, settles_err, settles_told)

@@ -1,0 +1,28 @@
+-- An output that a closure tests.
+use Rattle.std.specs.Prelude.{◌≡◌, Bool, true, false, Ok, Err, ◌⊎◌}
+use Rattle.streams.specs.Kind.{backtrack}
+use Rattle.stream_errors.specs.Form.{Answer}
+use Rattle.winnow_core.specs.Settles.{Settles}
+use Rattle.winnow_core.specs.Runs.{Runs}
+use Rattle.winnow_core.specs.declared.combinator.impls.verify.Verify.{Verify}
+pub mod Known
+
+-- the parser whose output is tested
+abbrev pub verify_parser : {F G I O E : Type 0} → Verify F G I O E → F
+verify_parser s = s.parser
+
+-- the closure that tests it
+abbrev pub verify_closure : {F G I O E : Type 0} → Verify F G I O E → G
+verify_closure s = s.filter
+
+-- One call of the closure settles an output: found true it stays, and found false it backtracks.
+abbrev pub VerifySettles : {G O : Type 0} → (G → O → Bool → G → Type 0) → G → O → Answer O → G
+    → Type 0
+VerifySettles tests g o answer h =
+    (tests g o true h × (answer ≡ Ok o)) ⊎ (tests g o false h × (answer ≡ Err backtrack))
+
+-- The output is the child's, which one call of the closure found true; where it finds it false,
+-- the run backtracks.
+abbrev pub VerifyRuns : {S G T O : Type 0} → (G → O → Bool → G → Type 0) → Runs S T O
+    → Runs (S × G) T O
+VerifyRuns tests run = Settles (VerifySettles tests) run

@@ -1,0 +1,17 @@
+-- An output with the slice that was read.
+use Rattle.std.specs.Prelude.{◌≡◌, List, ◌++◌}
+use Rattle.streams.specs.Reading.{Reading}
+use Rattle.winnow_core.specs.MakesOutput.{MakesOutput}
+use Rattle.winnow_core.specs.Runs.{Runs}
+use Rattle.winnow_core.specs.declared.combinator.impls.with_taken.WithTaken.{WithTaken}
+pub mod Laws
+
+-- the parser whose slice is answered too
+abbrev pub with_taken_parser : {F I O E : Type 0} → WithTaken F I O E → F
+with_taken_parser s = s.parser
+
+-- The output is the child's, and a slice of the tokens between its start and its end.
+abbrev pub WithTakenRuns : {S T L O : Type 0} → Reading T L → Runs S T O → Runs S T (O × L)
+WithTakenRuns {S} {T} {L} {O} reading run =
+    MakesOutput (λ i o j both. (both.0 ≡ o) × ((front : List T)
+    × (i.left.tokens ≡ front ++ j.left.tokens) × reading.shows both.1 front)) run

@@ -1,0 +1,91 @@
+//! Outputs that another parser reads.
+ghost use Rattle.std.specs.Prelude.{◌≡◌};
+ghost use Rattle.winnow_core.specs.Agrees.Sizes.{agrees2};
+ghost use Rattle.winnow_core.specs.AndThen.{AndThenSettles, AndThenRuns, and_then_inner};
+ghost use Rattle.winnow_core.specs.AndThen.{and_then_outer};
+ghost use Rattle.winnow_core.specs.Settles.Laws.{settles_ends};
+
+use crate::agrees_with::AgreesWith;
+use crate::parser::Parser;
+use std::marker::PhantomData;
+use stream_errors::parser_error::ParserError;
+use streams::stream::{Stream, StreamIsPartial};
+
+/// The parser that [`Parser::and_then`](crate::parser::Parser::and_then) makes.
+///
+/// ```text
+/// Take::new(3).and_then(digit1)   is an AndThen
+/// ```
+#[derive(Drop)]
+pub struct AndThen<F, G, I, O, O2, E> {
+    pub(crate) outer: F,
+    pub(crate) inner: G,
+    pub(crate) marker: PhantomData<(I, O, O2, E)>,
+}
+
+impl<F, G, I, O, O2, E> AndThen<F, G, I, O, O2, E> {
+    #[inline(always)]
+    pub(crate) fn new(outer: F, inner: G) -> AndThen<F, G, I, O, O2, E>
+        ensures outer { and_then_outer result ≡ outer }
+        ensures inner { and_then_inner result ≡ inner }
+    {
+        AndThen {
+            outer,
+            inner,
+            marker: PhantomData,
+        }
+    }
+}
+
+impl<
+    F: Parser<I, O, E>,
+    G: Parser<O, O2, E>,
+    I: Stream,
+    O: StreamIsPartial + Drop,
+    O2,
+    E: ParserError<I> + ParserError<O>,
+> Parser<I, O2, E> for AndThen<F, G, I, O, O2, E> {
+    ghost can_parse = { λ s. F.can_parse s.outer × G.can_parse s.inner };
+
+    ghost State = { F.State × G.State };
+
+    ghost state = { λ s. (F.state s.outer, G.state s.inner) };
+
+    ghost meaning = { λ form. AndThenRuns O.view (F.meaning form) (G.meaning form) };
+
+    ghost leaves_ends = { λ form. settles_ends I.reading
+        (AndThenSettles O.view (G.meaning form)) (F.meaning form)
+        (F.leaves_ends form) };
+
+    #[inline]
+    fn parse_next(&mut self, input: &mut I) -> Result<O2, E> {
+        let start = input.checkpoint();
+        let mut output = self.outer.parse_next(input)?;
+        let _state = output.complete();
+        match self.inner.parse_next(&mut output) {
+            Ok(output) => Ok(output),
+            Err(error) => {
+                input.reset(&start);
+                Err(error)
+            }
+        }
+    }
+}
+
+impl<
+    P: AgreesWith<I, O, E, Q, J, F>,
+    Q: Parser<J, O, F>,
+    G: AgreesWith<O, O2, E, H, O, F>,
+    H: Parser<O, O2, F>,
+    I: Stream,
+    J: Stream<Token = I::Token, Seen = I::Seen, Slice = I::Slice>,
+    O: StreamIsPartial + Drop,
+    O2,
+    E: ParserError<I> + ParserError<O>,
+    F: ParserError<J> + ParserError<O>,
+> AgreesWith<I, O2, E, AndThen<Q, H, J, O, O2, F>, J, F> for AndThen<P, G, I, O, O2, E> {
+    ghost like = { λ p q. P.like p.outer q.outer × G.like p.inner q.inner };
+
+    ghost agrees = { agrees2 (λ p. p.outer) (λ q. q.outer) (λ p. p.inner) (λ q. q.inner)
+        (λ X Y m n form. AndThenRuns O.view (m form) (n form)) P.agrees G.agrees };
+}

@@ -1,0 +1,79 @@
+//! Errors that do not ask for more input.
+ghost use Rattle.std.specs.Prelude.{◌≡◌};
+ghost use Rattle.winnow_core.specs.Agrees.{agrees1};
+ghost use Rattle.winnow_core.specs.CompleteErr.{CompleteErrBecomes, CompleteErrRuns};
+ghost use Rattle.winnow_core.specs.CompleteErr.{complete_err_parser};
+ghost use Rattle.winnow_core.specs.MakesError.Laws.{makes_error_ends};
+
+use crate::agrees_with::AgreesWith;
+use crate::parser::Parser;
+use std::marker::PhantomData;
+use stream_errors::parser_error::ParserError;
+use streams::stream::Stream;
+
+/// The parser that [`Parser::complete_err`](crate::parser::Parser::complete_err) makes.
+///
+/// ```text
+/// digit1.complete_err()   is a CompleteErr
+/// ```
+#[derive(Drop)]
+pub struct CompleteErr<F, I, O, E> {
+    pub(crate) parser: F,
+    pub(crate) marker: PhantomData<(I, O, E)>,
+}
+
+impl<F, I, O, E> CompleteErr<F, I, O, E> {
+    #[inline(always)]
+    pub(crate) fn new(parser: F) -> CompleteErr<F, I, O, E>
+        ensures { complete_err_parser result ≡ parser }
+    {
+        CompleteErr {
+            parser,
+            marker: PhantomData,
+        }
+    }
+}
+
+impl<F: Parser<I, O, E>, I: Stream, O, E: ParserError<I>> Parser<I, O, E>
+    for CompleteErr<F, I, O, E> {
+    ghost can_parse = { λ s. F.can_parse s.parser };
+
+    ghost State = { F.State };
+
+    ghost state = { λ s. F.state s.parser };
+
+    ghost meaning = { λ form. CompleteErrRuns (F.meaning form) };
+
+    ghost leaves_ends = { λ form s i answer t j ran. makes_error_ends I.reading
+        CompleteErrBecomes (F.meaning form)
+        (F.leaves_ends form) _ i answer _ j ran };
+
+    #[inline]
+    fn parse_next(&mut self, input: &mut I) -> Result<O, E> {
+        match self.parser.parse_next(input) {
+            Ok(output) => Ok(output),
+            Err(error) => {
+                if error.is_incomplete() {
+                    Err(E::from_input(input))
+                } else {
+                    Err(error)
+                }
+            }
+        }
+    }
+}
+
+impl<
+    P: AgreesWith<I, O, E, Q, J, F>,
+    Q: Parser<J, O, F>,
+    I: Stream,
+    J: Stream<Token = I::Token, Seen = I::Seen, Slice = I::Slice>,
+    O,
+    E: ParserError<I>,
+    F: ParserError<J>,
+> AgreesWith<I, O, E, CompleteErr<Q, J, O, F>, J, F> for CompleteErr<P, I, O, E> {
+    ghost like = { λ p q. P.like p.parser q.parser };
+
+    ghost agrees = { agrees1 (λ p. p.parser) (λ q. q.parser)
+        (λ X m form. CompleteErrRuns (m form)) P.agrees };
+}

@@ -1,0 +1,101 @@
+//! Errors that are told what was being parsed.
+ghost use Rattle.std.specs.Prelude.{Bool};
+ghost use Rattle.std.specs.Prelude.{◌≡◌};
+ghost use Rattle.winnow_core.specs.Agrees.{agrees_with};
+ghost use Rattle.winnow_core.specs.Context.{ContextBecomes, ContextRuns, context_parser};
+ghost use Rattle.winnow_core.specs.Context.{context_told};
+ghost use Rattle.winnow_core.specs.MakesError.Laws.{makes_error_ends};
+
+use crate::agrees_with::AgreesWith;
+use crate::parser::Parser;
+use std::alloc::Allocator;
+use std::marker::PhantomData;
+use stream_errors::context::AddContext;
+use stream_errors::parser_error::ParserError;
+use streams::stream::Stream;
+
+/// The parser that [`Parser::context`](crate::parser::Parser::context) makes.
+///
+/// ```text
+/// digit1.context(Global, "number")   is a Context
+/// ```
+#[derive(Drop)]
+pub struct Context<F, I, O, E, C, A> {
+    pub(crate) parser: F,
+    pub(crate) context: C,
+    pub(crate) alloc: A,
+    pub(crate) marker: PhantomData<(I, O, E)>,
+}
+
+impl<F, I, O, E, C, A> Context<F, I, O, E, C, A> {
+    #[inline(always)]
+    pub(crate) fn new(parser: F, context: C, alloc: A) -> Context<F, I, O, E, C, A>
+        ensures parser { context_parser result ≡ parser }
+        ensures context { context_told result ≡ context }
+    {
+        Context {
+            parser,
+            context,
+            alloc,
+            marker: PhantomData,
+        }
+    }
+}
+
+impl<
+    F: Parser<I, O, E>,
+    I: Stream,
+    O,
+    E: ParserError<I> + AddContext<I, C, A>,
+    C: Clone,
+    A: Allocator + Copy,
+> Parser<I, O, E> for Context<F, I, O, E, C, A> {
+    ghost can_parse = { λ s. F.can_parse s.parser };
+
+    ghost State = { F.State × (C × Bool) };
+
+    ghost state = { λ s. (F.state s.parser, (s.context, E.context_grows)) };
+
+    ghost meaning = { λ form. ContextRuns C.is_infallible (F.meaning form) };
+
+    ghost leaves_ends = { λ form. makes_error_ends I.reading
+        (ContextBecomes C.is_infallible) (F.meaning form)
+        (F.leaves_ends form) };
+
+    #[inline]
+    fn parse_next(&mut self, input: &mut I) -> Result<O, E> {
+        let start = input.checkpoint();
+        match self.parser.parse_next(input) {
+            Ok(output) => Ok(output),
+            Err(error) => {
+                // An incomplete error keeps no context, so nothing is cloned for it.
+                if error.is_incomplete() {
+                    return Err(error);
+                }
+                match self.context.clone() {
+                    Ok(context) => Err(error.add_context(self.alloc, input, &start, context)),
+                    Err(_) => Err(E::no_memory(input)),
+                }
+            }
+        }
+    }
+}
+
+impl<
+    P: AgreesWith<I, O, E, Q, J, F>,
+    Q: Parser<J, O, F>,
+    I: Stream,
+    J: Stream<Token = I::Token, Seen = I::Seen, Slice = I::Slice>,
+    O,
+    E: ParserError<I> + AddContext<I, C, A>,
+    F: ParserError<J> + AddContext<J, C, A>,
+    C: Clone,
+    A: Allocator + Copy,
+> AgreesWith<I, O, E, Context<Q, J, O, F, C, A>, J, F> for Context<P, I, O, E, C, A> {
+    ghost like = { λ p q. P.like p.parser q.parser
+        × (◌≡◌ {A = C × Bool} (p.context, E.context_grows) (q.context, F.context_grows)) };
+
+    ghost agrees = { agrees_with (λ p. p.parser) (λ q. q.parser)
+        (λ p. (p.context, E.context_grows)) (λ q. (q.context, F.context_grows))
+        (λ X m form. ContextRuns C.is_infallible (m form)) P.agrees };
+}

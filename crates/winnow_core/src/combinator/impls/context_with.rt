@@ -1,0 +1,108 @@
+//! Errors that are told what was being parsed by a closure.
+ghost use Rattle.std.specs.Iterator.{IsFinite};
+ghost use Rattle.std.specs.Prelude.{Bool};
+ghost use Rattle.std.specs.Prelude.{◌≡◌};
+ghost use Rattle.winnow_core.specs.Agrees.{agrees_with};
+ghost use Rattle.winnow_core.specs.ContextWith.{ContextWithBecomes, ContextWithRuns};
+ghost use Rattle.winnow_core.specs.ContextWith.{context_with_closure, context_with_parser};
+ghost use Rattle.winnow_core.specs.MakesError.Laws.{makes_error_ends};
+
+use crate::agrees_with::AgreesWith;
+use crate::parser::Parser;
+use std::alloc::Allocator;
+use std::marker::PhantomData;
+use stream_errors::context::AddContext;
+use stream_errors::parser_error::ParserError;
+use streams::stream::Stream;
+
+/// The parser that [`Parser::context_with`](crate::parser::Parser::context_with) makes.
+///
+/// ```text
+/// digit1.context_with(Global, || ["number"].into_iter())   is a ContextWith
+/// ```
+#[derive(Drop)]
+pub struct ContextWith<P, I, O, E, F, C, FI, A> {
+    pub(crate) parser: P,
+    pub(crate) context: F,
+    pub(crate) alloc: A,
+    pub(crate) marker: PhantomData<(I, O, E, C, FI)>,
+}
+
+impl<P, I, O, E, F, C, FI, A> ContextWith<P, I, O, E, F, C, FI, A> {
+    #[inline(always)]
+    pub(crate) fn new(parser: P, context: F, alloc: A) -> ContextWith<P, I, O, E, F, C, FI, A>
+        ensures parser { context_with_parser result ≡ parser }
+        ensures context { context_with_closure result ≡ context }
+    {
+        ContextWith {
+            parser,
+            context,
+            alloc,
+            marker: PhantomData,
+        }
+    }
+}
+
+impl<
+    P: Parser<I, O, E>,
+    I: Stream,
+    O,
+    E: ParserError<I> + AddContext<I, C, A>,
+    F: Fn() -> FI,
+    C,
+    FI: Iterator<Item = C>,
+    A: Allocator + Copy,
+> Parser<I, O, E> for ContextWith<P, I, O, E, F, C, FI, A> {
+    ghost can_parse = { λ s. P.can_parse s.parser × F.IsAlwaysCallable s.context
+        × ((items : FI) → F.post s.context items
+        → FI.can_next items × IsFinite (FI.remaining items)) };
+
+    ghost State = { P.State × (F × Bool) };
+
+    ghost state = { λ s. (P.state s.parser, (s.context, E.context_grows)) };
+
+    ghost meaning = { λ form. ContextWithRuns (P.meaning form) };
+
+    ghost leaves_ends = { λ form. makes_error_ends I.reading
+        ContextWithBecomes (P.meaning form)
+        (P.leaves_ends form) };
+
+    #[inline]
+    fn parse_next(&mut self, input: &mut I) -> Result<O, E> {
+        let start = input.checkpoint();
+        match self.parser.parse_next(input) {
+            Ok(output) => Ok(output),
+            Err(error) => {
+                let mut error = error;
+                for context in (self.context)() {
+                    error = error.add_context(self.alloc, input, &start, context);
+                }
+                Err(error)
+            }
+        }
+    }
+}
+
+impl<
+    P: AgreesWith<I, O, D, Q, J, E>,
+    Q: Parser<J, O, E>,
+    I: Stream,
+    J: Stream<Token = I::Token, Seen = I::Seen, Slice = I::Slice>,
+    O,
+    D: ParserError<I> + AddContext<I, C, A>,
+    E: ParserError<J> + AddContext<J, C, A>,
+    F: Fn() -> FI,
+    C,
+    FI: Iterator<Item = C>,
+    A: Allocator + Copy,
+> AgreesWith<I, O, D, ContextWith<Q, J, O, E, F, C, FI, A>, J, E>
+    for ContextWith<P, I, O, D, F, C, FI, A> {
+    ghost like = { λ p q. P.like p.parser q.parser
+        × (◌≡◌ {A = F × Bool} (p.context, D.context_grows) (q.context, E.context_grows)) };
+
+    ghost agrees = { agrees_with (λ p. p.parser) (λ q. q.parser)
+        (λ p. (p.context, D.context_grows)) (λ q. (q.context, E.context_grows))
+        (λ X m form. ContextWithRuns (m form)) P.agrees };
+
+    fn agree() {}
+}

@@ -1,0 +1,70 @@
+//! Default values in the place of outputs.
+ghost use Rattle.std.specs.Prelude.{◌≡◌};
+ghost use Rattle.winnow_core.specs.Agrees.{agrees1};
+ghost use Rattle.winnow_core.specs.DefaultValue.{DefaultValueRuns, default_value_parser};
+ghost use Rattle.winnow_core.specs.MakesOutput.Laws.{makes_output_ends};
+
+use crate::agrees_with::AgreesWith;
+use crate::parser::Parser;
+use std::marker::PhantomData;
+use stream_errors::parser_error::ParserError;
+use streams::stream::Stream;
+
+/// The parser that [`Parser::default_value`](crate::parser::Parser::default_value) makes.
+///
+/// ```text
+/// b'a'.default_value::<u8>()   is a DefaultValue
+/// ```
+#[derive(Drop)]
+pub struct DefaultValue<F, I, O, O2, E> {
+    pub(crate) parser: F,
+    pub(crate) marker: PhantomData<(I, O, O2, E)>,
+}
+
+impl<F, I, O, O2, E> DefaultValue<F, I, O, O2, E> {
+    #[inline(always)]
+    pub(crate) fn new(parser: F) -> DefaultValue<F, I, O, O2, E>
+        ensures { default_value_parser result ≡ parser }
+    {
+        DefaultValue {
+            parser,
+            marker: PhantomData,
+        }
+    }
+}
+
+impl<F: Parser<I, O, E>, I: Stream, O: Drop, O2: Default, E: ParserError<I>> Parser<I, O2, E>
+    for DefaultValue<F, I, O, O2, E> {
+    ghost can_parse = { λ s. F.can_parse s.parser };
+
+    ghost State = { F.State };
+
+    ghost state = { λ s. F.state s.parser };
+
+    ghost meaning = { λ form. DefaultValueRuns O2.is_default (F.meaning form) };
+
+    ghost leaves_ends = { λ form. makes_output_ends I.reading _ (F.meaning form)
+        (F.leaves_ends form) };
+
+    #[inline]
+    fn parse_next(&mut self, input: &mut I) -> Result<O2, E> {
+        let _output = self.parser.parse_next(input)?;
+        Ok(O2::default())
+    }
+}
+
+impl<
+    P: AgreesWith<I, O, E, Q, J, F>,
+    Q: Parser<J, O, F>,
+    I: Stream,
+    J: Stream<Token = I::Token, Seen = I::Seen, Slice = I::Slice>,
+    O: Drop,
+    O2: Default,
+    E: ParserError<I>,
+    F: ParserError<J>,
+> AgreesWith<I, O2, E, DefaultValue<Q, J, O, O2, F>, J, F> for DefaultValue<P, I, O, O2, E> {
+    ghost like = { λ p q. P.like p.parser q.parser };
+
+    ghost agrees = { agrees1 (λ p. p.parser) (λ q. q.parser)
+        (λ X m form. DefaultValueRuns O2.is_default (m form)) P.agrees };
+}

@@ -1,0 +1,76 @@
+//! Errors that are converted.
+ghost use Rattle.std.specs.Prelude.{◌≡◌};
+ghost use Rattle.winnow_core.specs.Agrees.{agrees1};
+ghost use Rattle.winnow_core.specs.ErrInto.{ErrIntoBecomes, ErrIntoRuns, err_into_parser};
+ghost use Rattle.winnow_core.specs.MakesError.Laws.{makes_error_ends};
+
+use crate::agrees_with::AgreesWith;
+use crate::parser::Parser;
+use std::marker::PhantomData;
+use stream_errors::parser_error::ParserError;
+use streams::stream::Stream;
+
+/// The parser that [`Parser::err_into`](crate::parser::Parser::err_into) makes.
+///
+/// ```text
+/// digit1.err_into::<Fault>()   is an ErrInto
+/// ```
+#[derive(Drop)]
+pub struct ErrInto<F, I, O, E, E2> {
+    pub(crate) parser: F,
+    pub(crate) marker: PhantomData<(I, O, E, E2)>,
+}
+
+impl<F, I, O, E, E2> ErrInto<F, I, O, E, E2> {
+    #[inline(always)]
+    pub(crate) fn new(parser: F) -> ErrInto<F, I, O, E, E2>
+        ensures { err_into_parser result ≡ parser }
+    {
+        ErrInto {
+            parser,
+            marker: PhantomData,
+        }
+    }
+}
+
+impl<F: Parser<I, O, E>, I: Stream, O, E: ParserError<I>, E2: ParserError<I> + From<E>> Parser<
+    I,
+    O,
+    E2,
+> for ErrInto<F, I, O, E, E2> {
+    ghost can_parse = { λ s. F.can_parse s.parser };
+
+    ghost State = { F.State };
+
+    ghost state = { λ s. F.state s.parser };
+
+    ghost meaning = { λ _. ErrIntoRuns E.kind E2.kind E2.from_gives (F.meaning E.form) };
+
+    ghost leaves_ends = { λ _ s i answer t j ran. makes_error_ends I.reading
+        (ErrIntoBecomes E.kind E2.kind E2.from_gives) (F.meaning E.form)
+        (F.leaves_ends E.form) _ i answer _ j ran };
+
+    #[inline]
+    fn parse_next(&mut self, input: &mut I) -> Result<O, E2> {
+        match self.parser.parse_next(input) {
+            Ok(output) => Ok(output),
+            Err(error) => Err(E2::from(error)),
+        }
+    }
+}
+
+/// The conversion is of one type of error, so both parsers have that.
+impl<
+    P: AgreesWith<I, O, E, Q, J, E>,
+    Q: Parser<J, O, E>,
+    I: Stream,
+    J: Stream<Token = I::Token, Seen = I::Seen, Slice = I::Slice>,
+    O,
+    E: ParserError<I> + ParserError<J>,
+    E2: ParserError<I> + ParserError<J> + From<E>,
+> AgreesWith<I, O, E2, ErrInto<Q, J, O, E, E2>, J, E2> for ErrInto<P, I, O, E, E2> {
+    ghost like = { λ p q. P.like p.parser q.parser };
+
+    ghost agrees = { agrees1 (λ p. p.parser) (λ q. q.parser)
+        (λ X m form. ErrIntoRuns E.kind E2.kind E2.from_gives (m E.form)) P.agrees };
+}

@@ -1,0 +1,66 @@
+//! Parsers that outputs decide.
+ghost use Rattle.std.specs.Prelude.{◌≡◌};
+ghost use Rattle.winnow_core.specs.FlatMap.Laws.{flat_map_ends};
+ghost use Rattle.winnow_core.specs.FlatMap.{FlatMapRuns, MakesParsers, flat_map_closure};
+ghost use Rattle.winnow_core.specs.FlatMap.{flat_map_parser};
+
+use crate::agrees_with::AgreesWith;
+use crate::parser::Parser;
+use std::marker::PhantomData;
+use stream_errors::parser_error::ParserError;
+use streams::stream::Stream;
+
+/// The parser that [`Parser::flat_map`](crate::parser::Parser::flat_map) makes.
+///
+/// ```text
+/// length.flat_map(|n: usize| take(n))   is a FlatMap
+/// ```
+#[derive(Drop)]
+pub struct FlatMap<F, G, H, I, O, O2, E> {
+    pub(crate) parser: F,
+    pub(crate) map: G,
+    pub(crate) marker: PhantomData<(H, I, O, O2, E)>,
+}
+
+impl<F, G, H, I, O, O2, E> FlatMap<F, G, H, I, O, O2, E> {
+    #[inline(always)]
+    pub(crate) fn new(parser: F, map: G) -> FlatMap<F, G, H, I, O, O2, E>
+        ensures parser { flat_map_parser result ≡ parser }
+        ensures map { flat_map_closure result ≡ map }
+    {
+        FlatMap {
+            parser,
+            map,
+            marker: PhantomData,
+        }
+    }
+}
+
+impl<
+    F: Parser<I, O, E>,
+    G: FnMut(O) -> H,
+    H: Parser<I, O2, E> + Drop,
+    I: Stream,
+    O,
+    O2,
+    E: ParserError<I>,
+> Parser<I, O2, E> for FlatMap<F, G, H, I, O, O2, E> {
+    ghost can_parse = { λ s. F.can_parse s.parser × G.IsAlwaysCallable s.map
+        × MakesParsers G.step H.can_parse };
+
+    ghost State = { F.State × G };
+
+    ghost state = { λ s. (F.state s.parser, s.map) };
+
+    ghost meaning = { λ form. FlatMapRuns G.step H.state (F.meaning form) (H.meaning form) };
+
+    ghost leaves_ends = { λ form. flat_map_ends I.reading G.step H.state (F.meaning form)
+        (H.meaning form) (F.leaves_ends form) (H.leaves_ends form) };
+
+    #[inline]
+    fn parse_next(&mut self, input: &mut I) -> Result<O2, E> {
+        let output = self.parser.parse_next(input)?;
+        let mut second = (self.map)(output);
+        second.parse_next(input)
+    }
+}

@@ -1,0 +1,86 @@
+//! Errors made of errors by a closure.
+ghost use Rattle.std.specs.Prelude.{◌≡◌};
+ghost use Rattle.winnow_core.specs.Agrees.{agrees_with};
+ghost use Rattle.winnow_core.specs.MakesError.Laws.{makes_error_ends};
+ghost use Rattle.winnow_core.specs.MapErr.{MapErrBecomes, MapErrRuns, map_err_closure};
+ghost use Rattle.winnow_core.specs.MapErr.{map_err_parser};
+
+use crate::agrees_with::AgreesWith;
+use crate::parser::Parser;
+use std::marker::PhantomData;
+use stream_errors::parser_error::ParserError;
+use streams::stream::Stream;
+
+/// The parser that [`Parser::map_err`](crate::parser::Parser::map_err) makes.
+///
+/// ```text
+/// digit1.map_err(|_: ErrMode<EmptyError>| Fault::NoDigit)   is a MapErr
+/// ```
+#[derive(Drop)]
+pub struct MapErr<F, G, I, O, E, E2> {
+    pub(crate) parser: F,
+    pub(crate) map: G,
+    pub(crate) marker: PhantomData<(I, O, E, E2)>,
+}
+
+impl<F, G, I, O, E, E2> MapErr<F, G, I, O, E, E2> {
+    #[inline(always)]
+    pub(crate) fn new(parser: F, map: G) -> MapErr<F, G, I, O, E, E2>
+        ensures parser { map_err_parser result ≡ parser }
+        ensures map { map_err_closure result ≡ map }
+    {
+        MapErr {
+            parser,
+            map,
+            marker: PhantomData,
+        }
+    }
+}
+
+impl<
+    F: Parser<I, O, E>,
+    G: FnMut(E) -> E2,
+    I: Stream,
+    O,
+    E: ParserError<I>,
+    E2: ParserError<I>,
+> Parser<I, O, E2> for MapErr<F, G, I, O, E, E2> {
+    ghost can_parse = { λ s. F.can_parse s.parser × G.IsAlwaysCallable s.map };
+
+    ghost State = { F.State × G };
+
+    ghost state = { λ s. (F.state s.parser, s.map) };
+
+    ghost meaning = { λ _. MapErrRuns E.kind E2.kind G.step (F.meaning E.form) };
+
+    ghost leaves_ends = { λ _. makes_error_ends I.reading (MapErrBecomes E.kind E2.kind G.step)
+        (F.meaning E.form)
+        (F.leaves_ends E.form) };
+
+    #[inline]
+    fn parse_next(&mut self, input: &mut I) -> Result<O, E2> {
+        match self.parser.parse_next(input) {
+            Ok(output) => Ok(output),
+            Err(error) => Err((self.map)(error)),
+        }
+    }
+}
+
+/// The closure takes one type of error, so both parsers have that.
+impl<
+    P: AgreesWith<I, O, E, Q, J, E>,
+    Q: Parser<J, O, E>,
+    G: FnMut(E) -> E2,
+    I: Stream,
+    J: Stream<Token = I::Token, Seen = I::Seen, Slice = I::Slice>,
+    O,
+    E: ParserError<I> + ParserError<J>,
+    E2: ParserError<I> + ParserError<J>,
+> AgreesWith<I, O, E2, MapErr<Q, G, J, O, E, E2>, J, E2> for MapErr<P, G, I, O, E, E2> {
+    ghost like = { λ p q. P.like p.parser q.parser × (p.map ≡ q.map) };
+
+    ghost agrees = { agrees_with (λ p. p.parser) (λ q. q.parser) (λ p. p.map) (λ q. q.map)
+        (λ X m form. MapErrRuns E.kind E2.kind G.step (m E.form)) P.agrees };
+
+    fn agree() {}
+}

@@ -1,0 +1,70 @@
+//! Outputs that are converted.
+ghost use Rattle.std.specs.Prelude.{◌≡◌};
+ghost use Rattle.winnow_core.specs.Agrees.{agrees1};
+ghost use Rattle.winnow_core.specs.MakesOutput.Laws.{makes_output_ends};
+ghost use Rattle.winnow_core.specs.OutputInto.{OutputIntoRuns, output_into_parser};
+
+use crate::agrees_with::AgreesWith;
+use crate::parser::Parser;
+use std::marker::PhantomData;
+use stream_errors::parser_error::ParserError;
+use streams::stream::Stream;
+
+/// The parser that [`Parser::output_into`](crate::parser::Parser::output_into) makes.
+///
+/// ```text
+/// digits.output_into::<u64>()   is an OutputInto
+/// ```
+#[derive(Drop)]
+pub struct OutputInto<F, I, O, O2, E> {
+    pub(crate) parser: F,
+    pub(crate) marker: PhantomData<(I, O, O2, E)>,
+}
+
+impl<F, I, O, O2, E> OutputInto<F, I, O, O2, E> {
+    #[inline(always)]
+    pub(crate) fn new(parser: F) -> OutputInto<F, I, O, O2, E>
+        ensures { output_into_parser result ≡ parser }
+    {
+        OutputInto {
+            parser,
+            marker: PhantomData,
+        }
+    }
+}
+
+impl<F: Parser<I, O, E>, I: Stream, O, O2: From<O>, E: ParserError<I>> Parser<I, O2, E>
+    for OutputInto<F, I, O, O2, E> {
+    ghost can_parse = { λ s. F.can_parse s.parser };
+
+    ghost State = { F.State };
+
+    ghost state = { λ s. F.state s.parser };
+
+    ghost meaning = { λ form. OutputIntoRuns O2.from_gives (F.meaning form) };
+
+    ghost leaves_ends = { λ form. makes_output_ends I.reading _ (F.meaning form)
+        (F.leaves_ends form) };
+
+    #[inline]
+    fn parse_next(&mut self, input: &mut I) -> Result<O2, E> {
+        let output = self.parser.parse_next(input)?;
+        Ok(O2::from(output))
+    }
+}
+
+impl<
+    P: AgreesWith<I, O, E, Q, J, F>,
+    Q: Parser<J, O, F>,
+    I: Stream,
+    J: Stream<Token = I::Token, Seen = I::Seen, Slice = I::Slice>,
+    O,
+    O2: From<O>,
+    E: ParserError<I>,
+    F: ParserError<J>,
+> AgreesWith<I, O2, E, OutputInto<Q, J, O, O2, F>, J, F> for OutputInto<P, I, O, O2, E> {
+    ghost like = { λ p q. P.like p.parser q.parser };
+
+    ghost agrees = { agrees1 (λ p. p.parser) (λ q. q.parser)
+        (λ X m form. OutputIntoRuns O2.from_gives (m form)) P.agrees };
+}

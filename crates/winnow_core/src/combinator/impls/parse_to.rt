@@ -1,0 +1,82 @@
+//! Outputs that are read as text.
+ghost use Rattle.std.specs.Prelude.{◌≡◌};
+ghost use Rattle.winnow_core.specs.Agrees.{agrees1};
+ghost use Rattle.winnow_core.specs.ParseTo.{ParseToSettles, ParseToRuns, parse_to_parser};
+ghost use Rattle.winnow_core.specs.Settles.Laws.{settles_ends};
+
+use crate::agrees_with::AgreesWith;
+use crate::parser::Parser;
+use std::marker::PhantomData;
+use stream_errors::parser_error::ParserError;
+use stream_sets::parse_slice::ParseSlice;
+use streams::stream::Stream;
+
+/// The parser that [`Parser::parse_to`](crate::parser::Parser::parse_to) makes.
+///
+/// ```text
+/// digits.parse_to::<u8>()   is a ParseTo
+/// ```
+#[derive(Drop)]
+pub struct ParseTo<F, I, O, O2, E> {
+    pub(crate) parser: F,
+    pub(crate) marker: PhantomData<(I, O, O2, E)>,
+}
+
+impl<F, I, O, O2, E> ParseTo<F, I, O, O2, E> {
+    #[inline(always)]
+    pub(crate) fn new(parser: F) -> ParseTo<F, I, O, O2, E>
+        ensures { parse_to_parser result ≡ parser }
+    {
+        ParseTo {
+            parser,
+            marker: PhantomData,
+        }
+    }
+}
+
+impl<F: Parser<I, O, E>, I: Stream, O: ParseSlice<O2> + Drop, O2, E: ParserError<I>> Parser<
+    I,
+    O2,
+    E,
+> for ParseTo<F, I, O, O2, E> {
+    ghost can_parse = { λ s. F.can_parse s.parser };
+
+    ghost State = { F.State };
+
+    ghost state = { λ s. F.state s.parser };
+
+    ghost meaning = { λ form. ParseToRuns O.reads (F.meaning form) };
+
+    ghost leaves_ends = { λ form s i answer t j ran. settles_ends I.reading
+        (ParseToSettles O.reads) (F.meaning form)
+        (F.leaves_ends form) _ i answer _ j ran };
+
+    #[inline]
+    fn parse_next(&mut self, input: &mut I) -> Result<O2, E> {
+        let start = input.checkpoint();
+        let output = self.parser.parse_next(input)?;
+        match output.parse_slice() {
+            Some(output) => Ok(output),
+            None => {
+                input.reset(&start);
+                Err(E::from_input(input))
+            }
+        }
+    }
+}
+
+impl<
+    P: AgreesWith<I, O, E, Q, J, F>,
+    Q: Parser<J, O, F>,
+    I: Stream,
+    J: Stream<Token = I::Token, Seen = I::Seen, Slice = I::Slice>,
+    O: ParseSlice<O2> + Drop,
+    O2,
+    E: ParserError<I>,
+    F: ParserError<J>,
+> AgreesWith<I, O2, E, ParseTo<Q, J, O, O2, F>, J, F> for ParseTo<P, I, O, O2, E> {
+    ghost like = { λ p q. P.like p.parser q.parser };
+
+    ghost agrees = { agrees1 (λ p. p.parser) (λ q. q.parser)
+        (λ X m form. ParseToRuns O.reads (m form)) P.agrees };
+}

@@ -1,0 +1,72 @@
+//! The places between which a parser read.
+ghost use Rattle.std.specs.Prelude.{◌≡◌};
+ghost use Rattle.winnow_core.specs.Agrees.{agrees1};
+ghost use Rattle.winnow_core.specs.MakesOutput.Laws.{makes_output_ends};
+ghost use Rattle.winnow_core.specs.Span.{SpanRuns, span_parser};
+
+use crate::agrees_with::AgreesWith;
+use crate::parser::Parser;
+use std::marker::PhantomData;
+use std::ops::Range;
+use stream_errors::parser_error::ParserError;
+use streams::stream::Location;
+
+/// The parser that [`Parser::span`](crate::parser::Parser::span) makes.
+///
+/// ```text
+/// (b'a', b'b').span()   is a Span
+/// ```
+#[derive(Drop)]
+pub struct Span<F, I, O, E> {
+    pub(crate) parser: F,
+    pub(crate) marker: PhantomData<(I, O, E)>,
+}
+
+impl<F, I, O, E> Span<F, I, O, E> {
+    #[inline(always)]
+    pub(crate) fn new(parser: F) -> Span<F, I, O, E>
+        ensures { span_parser result ≡ parser }
+    {
+        Span {
+            parser,
+            marker: PhantomData,
+        }
+    }
+}
+
+impl<F: Parser<I, O, E>, I: Location, O: Drop, E: ParserError<I>> Parser<I, Range<usize>, E>
+    for Span<F, I, O, E> {
+    ghost can_parse = { λ s. F.can_parse s.parser };
+
+    ghost State = { F.State };
+
+    ghost state = { λ s. F.state s.parser };
+
+    ghost meaning = { λ form. SpanRuns (F.meaning form) };
+
+    ghost leaves_ends = { λ form. makes_output_ends I.reading _ (F.meaning form)
+        (F.leaves_ends form) };
+
+    #[inline]
+    fn parse_next(&mut self, input: &mut I) -> Result<Range<usize>, E> {
+        let start = input.current_token_start();
+        let _output = self.parser.parse_next(input)?;
+        let end = input.previous_token_end();
+        Ok(start..end)
+    }
+}
+
+impl<
+    P: AgreesWith<I, O, E, Q, J, F>,
+    Q: Parser<J, O, F>,
+    I: Location,
+    J: Location<Token = I::Token, Seen = I::Seen, Slice = I::Slice>,
+    O: Drop,
+    E: ParserError<I>,
+    F: ParserError<J>,
+> AgreesWith<I, Range<usize>, E, Span<Q, J, O, F>, J, F> for Span<P, I, O, E> {
+    ghost like = { λ p q. P.like p.parser q.parser };
+
+    ghost agrees = { agrees1 (λ p. p.parser) (λ q. q.parser)
+        (λ X m form. SpanRuns (m form)) P.agrees };
+}

@@ -1,0 +1,97 @@
+//! Outputs made of outputs by a closure that may fail.
+ghost use Rattle.std.specs.Prelude.{Bool};
+ghost use Rattle.std.specs.Prelude.{◌≡◌};
+ghost use Rattle.winnow_core.specs.Agrees.{agrees_with};
+ghost use Rattle.winnow_core.specs.Settles.Laws.{settles_ends};
+ghost use Rattle.winnow_core.specs.TryMap.{TryMapSettles, TryMapRuns, try_map_closure};
+ghost use Rattle.winnow_core.specs.TryMap.{try_map_parser};
+
+use crate::agrees_with::AgreesWith;
+use crate::parser::Parser;
+use std::marker::PhantomData;
+use stream_errors::external::FromExternalError;
+use stream_errors::parser_error::ParserError;
+use streams::stream::Stream;
+
+/// The parser that [`Parser::try_map`](crate::parser::Parser::try_map) makes.
+///
+/// ```text
+/// digits.try_map(|s: &str| s.parse::<u8>())   is a TryMap
+/// ```
+#[derive(Drop)]
+pub struct TryMap<F, G, I, O, O2, E, E2> {
+    pub(crate) parser: F,
+    pub(crate) map: G,
+    pub(crate) marker: PhantomData<(I, O, O2, E, E2)>,
+}
+
+impl<F, G, I, O, O2, E, E2> TryMap<F, G, I, O, O2, E, E2> {
+    #[inline(always)]
+    pub(crate) fn new(parser: F, map: G) -> TryMap<F, G, I, O, O2, E, E2>
+        ensures parser { try_map_parser result ≡ parser }
+        ensures map { try_map_closure result ≡ map }
+    {
+        TryMap {
+            parser,
+            map,
+            marker: PhantomData,
+        }
+    }
+}
+
+impl<
+    F: Parser<I, O, E>,
+    G: FnMut(O) -> Result<O2, E2>,
+    I: Stream,
+    O,
+    O2,
+    E: ParserError<I> + FromExternalError<I, E2>,
+    E2,
+> Parser<I, O2, E> for TryMap<F, G, I, O, O2, E, E2> {
+    ghost can_parse = { λ s. F.can_parse s.parser × G.IsAlwaysCallable s.map };
+
+    ghost State = { F.State × (G × Bool) };
+
+    ghost state = { λ s. (F.state s.parser, (s.map, E.external_grows)) };
+
+    ghost meaning = { λ form. TryMapRuns G.step (F.meaning form) };
+
+    ghost leaves_ends = { λ form. settles_ends I.reading
+        (TryMapSettles G.step) (F.meaning form)
+        (F.leaves_ends form) };
+
+    #[inline]
+    fn parse_next(&mut self, input: &mut I) -> Result<O2, E> {
+        let start = input.checkpoint();
+        let output = self.parser.parse_next(input)?;
+        match (self.map)(output) {
+            Ok(output) => Ok(output),
+            Err(error) => {
+                input.reset(&start);
+                Err(E::from_external_error(input, error))
+            }
+        }
+    }
+}
+
+impl<
+    P: AgreesWith<I, O, E, Q, J, F>,
+    Q: Parser<J, O, F>,
+    G: FnMut(O) -> Result<O2, E2>,
+    I: Stream,
+    J: Stream<Token = I::Token, Seen = I::Seen, Slice = I::Slice>,
+    O,
+    O2,
+    E: ParserError<I> + FromExternalError<I, E2>,
+    F: ParserError<J> + FromExternalError<J, E2>,
+    E2,
+> AgreesWith<I, O2, E, TryMap<Q, G, J, O, O2, F, E2>, J, F> for TryMap<P, G, I, O, O2, E, E2> {
+    ghost like = { λ p q. P.like p.parser q.parser
+        × (◌≡◌ {A = G × Bool} (p.map, E.external_grows) (q.map, F.external_grows)) };
+
+    ghost agrees = { agrees_with (λ p. p.parser) (λ q. q.parser)
+        (λ p. (p.map, E.external_grows)) (λ q. (q.map, F.external_grows))
+        (λ X m form. TryMapRuns G.step (m form)) P.agrees };
+
+    fn agree() {}
+}

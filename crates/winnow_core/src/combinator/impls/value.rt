@@ -1,0 +1,76 @@
+//! Values in the place of outputs.
+ghost use Rattle.std.specs.Prelude.{◌≡◌};
+ghost use Rattle.winnow_core.specs.Agrees.{agrees_with};
+ghost use Rattle.winnow_core.specs.Value.Laws.{value_ends};
+ghost use Rattle.winnow_core.specs.Value.{ValueRuns, value_kept, value_parser};
+
+use crate::agrees_with::AgreesWith;
+use crate::parser::Parser;
+use std::marker::PhantomData;
+use stream_errors::parser_error::ParserError;
+use streams::stream::Stream;
+
+/// The parser that [`Parser::value`](crate::parser::Parser::value) makes.
+///
+/// ```text
+/// b't'.value(true)   is a Value
+/// ```
+#[derive(Drop)]
+pub struct Value<F, I, O, O2, E> {
+    pub(crate) parser: F,
+    pub(crate) value: O2,
+    pub(crate) marker: PhantomData<(I, O, E)>,
+}
+
+impl<F, I, O, O2, E> Value<F, I, O, O2, E> {
+    #[inline(always)]
+    pub(crate) fn new(parser: F, value: O2) -> Value<F, I, O, O2, E>
+        ensures parser { value_parser result ≡ parser }
+        ensures value { value_kept result ≡ value }
+    {
+        Value {
+            parser,
+            value,
+            marker: PhantomData,
+        }
+    }
+}
+
+impl<F: Parser<I, O, E>, I: Stream, O: Drop, O2: Clone, E: ParserError<I>> Parser<I, O2, E>
+    for Value<F, I, O, O2, E> {
+    ghost can_parse = { λ s. F.can_parse s.parser };
+
+    ghost State = { F.State × O2 };
+
+    ghost state = { λ s. (F.state s.parser, s.value) };
+
+    ghost meaning = { λ form. ValueRuns O2.is_clone O2.is_infallible (F.meaning form) };
+
+    ghost leaves_ends = { λ form. value_ends I.reading O2.is_clone O2.is_infallible
+        (F.meaning form) (F.leaves_ends form) };
+
+    #[inline]
+    fn parse_next(&mut self, input: &mut I) -> Result<O2, E> {
+        let _output = self.parser.parse_next(input)?;
+        match self.value.clone() {
+            Ok(value) => Ok(value),
+            Err(_) => Err(E::no_memory(input)),
+        }
+    }
+}
+
+impl<
+    P: AgreesWith<I, O, E, Q, J, F>,
+    Q: Parser<J, O, F>,
+    I: Stream,
+    J: Stream<Token = I::Token, Seen = I::Seen, Slice = I::Slice>,
+    O: Drop,
+    O2: Clone,
+    E: ParserError<I>,
+    F: ParserError<J>,
+> AgreesWith<I, O2, E, Value<Q, J, O, O2, F>, J, F> for Value<P, I, O, O2, E> {
+    ghost like = { λ p q. P.like p.parser q.parser × (p.value ≡ q.value) };
+
+    ghost agrees = { agrees_with (λ p. p.parser) (λ q. q.parser) (λ p. p.value) (λ q. q.value)
+        (λ X m form. ValueRuns O2.is_clone O2.is_infallible (m form)) P.agrees };
+}

@@ -1,0 +1,87 @@
+//! Outputs that a closure tests.
+ghost use Rattle.std.specs.Fn.{CalledAt};
+ghost use Rattle.std.specs.Prelude.{◌≡◌};
+ghost use Rattle.winnow_core.specs.Agrees.{agrees_with};
+ghost use Rattle.winnow_core.specs.Settles.Laws.{settles_ends};
+ghost use Rattle.winnow_core.specs.Verify.{VerifySettles, VerifyRuns, verify_closure};
+ghost use Rattle.winnow_core.specs.Verify.{verify_parser};
+
+use crate::agrees_with::AgreesWith;
+use crate::parser::Parser;
+use std::marker::PhantomData;
+use stream_errors::parser_error::ParserError;
+use streams::stream::Stream;
+
+/// The parser that [`Parser::verify`](crate::parser::Parser::verify) makes.
+///
+/// ```text
+/// Any.verify(|b: &u8| *b < 10)   is a Verify
+/// ```
+#[derive(Drop)]
+pub struct Verify<F, G, I, O, E> {
+    pub(crate) parser: F,
+    pub(crate) filter: G,
+    pub(crate) marker: PhantomData<(I, O, E)>,
+}
+
+impl<F, G, I, O, E> Verify<F, G, I, O, E> {
+    #[inline(always)]
+    pub(crate) fn new(parser: F, filter: G) -> Verify<F, G, I, O, E>
+        ensures parser { verify_parser result ≡ parser }
+        ensures filter { verify_closure result ≡ filter }
+    {
+        Verify {
+            parser,
+            filter,
+            marker: PhantomData,
+        }
+    }
+}
+
+impl<F: Parser<I, O, E>, G: FnMut(&O) -> bool, I: Stream, O: Drop, E: ParserError<I>> Parser<
+    I,
+    O,
+    E,
+> for Verify<F, G, I, O, E> {
+    ghost can_parse = { λ s. F.can_parse s.parser × G.IsAlwaysCallable s.filter };
+
+    ghost State = { F.State × G };
+
+    ghost state = { λ s. (F.state s.parser, s.filter) };
+
+    ghost meaning = { λ form. VerifyRuns (CalledAt G.FnMut) (F.meaning form) };
+
+    ghost leaves_ends = { λ form. settles_ends I.reading (VerifySettles (CalledAt G.FnMut))
+        (F.meaning form)
+        (F.leaves_ends form) };
+
+    #[inline]
+    fn parse_next(&mut self, input: &mut I) -> Result<O, E> {
+        let start = input.checkpoint();
+        let output = self.parser.parse_next(input)?;
+        if (self.filter)(&output) {
+            Ok(output)
+        } else {
+            input.reset(&start);
+            Err(E::from_input(input))
+        }
+    }
+}
+
+impl<
+    P: AgreesWith<I, O, E, Q, J, F>,
+    Q: Parser<J, O, F>,
+    G: FnMut(&O) -> bool,
+    I: Stream,
+    J: Stream<Token = I::Token, Seen = I::Seen, Slice = I::Slice>,
+    O: Drop,
+    E: ParserError<I>,
+    F: ParserError<J>,
+> AgreesWith<I, O, E, Verify<Q, G, J, O, F>, J, F> for Verify<P, G, I, O, E> {
+    ghost like = { λ p q. P.like p.parser q.parser × (p.filter ≡ q.filter) };
+
+    ghost agrees = { agrees_with (λ p. p.parser) (λ q. q.parser) (λ p. p.filter)
+        (λ q. q.filter) (λ X m form. VerifyRuns (CalledAt G.FnMut) (m form)) P.agrees };
+
+    fn agree() {}
+}

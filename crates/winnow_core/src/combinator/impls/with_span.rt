@@ -1,0 +1,72 @@
+//! Outputs with the places between which they were read.
+ghost use Rattle.std.specs.Prelude.{◌≡◌};
+ghost use Rattle.winnow_core.specs.Agrees.{agrees1};
+ghost use Rattle.winnow_core.specs.MakesOutput.Laws.{makes_output_ends};
+ghost use Rattle.winnow_core.specs.WithSpan.{WithSpanRuns, with_span_parser};
+
+use crate::agrees_with::AgreesWith;
+use crate::parser::Parser;
+use std::marker::PhantomData;
+use std::ops::Range;
+use stream_errors::parser_error::ParserError;
+use streams::stream::Location;
+
+/// The parser that [`Parser::with_span`](crate::parser::Parser::with_span) makes.
+///
+/// ```text
+/// (b'a', b'b').with_span()   is a WithSpan
+/// ```
+#[derive(Drop)]
+pub struct WithSpan<F, I, O, E> {
+    pub(crate) parser: F,
+    pub(crate) marker: PhantomData<(I, O, E)>,
+}
+
+impl<F, I, O, E> WithSpan<F, I, O, E> {
+    #[inline(always)]
+    pub(crate) fn new(parser: F) -> WithSpan<F, I, O, E>
+        ensures { with_span_parser result ≡ parser }
+    {
+        WithSpan {
+            parser,
+            marker: PhantomData,
+        }
+    }
+}
+
+impl<F: Parser<I, O, E>, I: Location, O, E: ParserError<I>> Parser<I, (O, Range<usize>), E>
+    for WithSpan<F, I, O, E> {
+    ghost can_parse = { λ s. F.can_parse s.parser };
+
+    ghost State = { F.State };
+
+    ghost state = { λ s. F.state s.parser };
+
+    ghost meaning = { λ form. WithSpanRuns (F.meaning form) };
+
+    ghost leaves_ends = { λ form. makes_output_ends I.reading _ (F.meaning form)
+        (F.leaves_ends form) };
+
+    #[inline]
+    fn parse_next(&mut self, input: &mut I) -> Result<(O, Range<usize>), E> {
+        let start = input.current_token_start();
+        let output = self.parser.parse_next(input)?;
+        let end = input.previous_token_end();
+        Ok((output, start..end))
+    }
+}
+
+impl<
+    P: AgreesWith<I, O, E, Q, J, F>,
+    Q: Parser<J, O, F>,
+    I: Location,
+    J: Location<Token = I::Token, Seen = I::Seen, Slice = I::Slice>,
+    O,
+    E: ParserError<I>,
+    F: ParserError<J>,
+> AgreesWith<I, (O, Range<usize>), E, WithSpan<Q, J, O, F>, J, F> for WithSpan<P, I, O, E> {
+    ghost like = { λ p q. P.like p.parser q.parser };
+
+    ghost agrees = { agrees1 (λ p. p.parser) (λ q. q.parser)
+        (λ X m form. WithSpanRuns (m form)) P.agrees };
+}

@@ -1,0 +1,71 @@
+//! Outputs with the slices that were read.
+ghost use Rattle.std.specs.Prelude.{◌≡◌};
+ghost use Rattle.winnow_core.specs.MakesOutput.Laws.{makes_output_ends};
+ghost use Rattle.winnow_core.specs.WithTaken.Laws.{with_taken_agrees};
+ghost use Rattle.winnow_core.specs.WithTaken.{WithTakenRuns, with_taken_parser};
+
+use crate::agrees_with::AgreesWith;
+use crate::combinator::impls::take::slice_from;
+use crate::parser::Parser;
+use std::marker::PhantomData;
+use stream_errors::parser_error::ParserError;
+use streams::reads_like::ReadsLike;
+use streams::stream::Stream;
+
+/// The parser that [`Parser::with_taken`](crate::parser::Parser::with_taken) makes.
+///
+/// ```text
+/// (b'a', b'b').with_taken()   is a WithTaken
+/// ```
+#[derive(Drop)]
+pub struct WithTaken<F, I, O, E> {
+    pub(crate) parser: F,
+    pub(crate) marker: PhantomData<(I, O, E)>,
+}
+
+impl<F, I, O, E> WithTaken<F, I, O, E> {
+    #[inline(always)]
+    pub(crate) fn new(parser: F) -> WithTaken<F, I, O, E>
+        ensures { with_taken_parser result ≡ parser }
+    {
+        WithTaken {
+            parser,
+            marker: PhantomData,
+        }
+    }
+}
+
+impl<F: Parser<I, O, E>, I: Stream, O, E: ParserError<I>> Parser<I, (O, I::Slice), E>
+    for WithTaken<F, I, O, E> {
+    ghost can_parse = { λ s. F.can_parse s.parser };
+
+    ghost State = { F.State };
+
+    ghost state = { λ s. F.state s.parser };
+
+    ghost meaning = { λ form. WithTakenRuns I.reading (F.meaning form) };
+
+    ghost leaves_ends = { λ form. makes_output_ends I.reading _ (F.meaning form)
+        (F.leaves_ends form) };
+
+    #[inline]
+    fn parse_next(&mut self, input: &mut I) -> Result<(O, I::Slice), E> {
+        let start = input.checkpoint();
+        let output = self.parser.parse_next(input)?;
+        Ok((output, slice_from(&start, input)))
+    }
+}
+
+impl<
+    P: AgreesWith<I, O, E, Q, J, F>,
+    Q: Parser<J, O, F>,
+    I: ReadsLike<J>,
+    J: Stream<Token = I::Token, Seen = I::Seen, Slice = I::Slice>,
+    O,
+    E: ParserError<I>,
+    F: ParserError<J>,
+> AgreesWith<I, (O, I::Slice), E, WithTaken<Q, J, O, F>, J, F> for WithTaken<P, I, O, E> {
+    ghost like = { λ p q. P.like p.parser q.parser };
+
+    ghost agrees = { with_taken_agrees (λ p. p.parser) (λ q. q.parser) I.same_reading P.agrees };
+}
