@@ -21,6 +21,6 @@ pub use winnow_core::laws::{
     parse_to_goes_back, taken_bytes_and_the_rest_are_the_input,
     taken_text_and_the_rest_are_the_input, taken_tokens_and_the_rest_are_the_input,
     the_slice_taken_and_the_rest_are_the_input,
-    the_slice_with_the_output_and_the_rest_are_the_input, try_map_goes_back,
-    verify_goes_back, verify_map_goes_back,
+    the_slice_with_the_output_and_the_rest_are_the_input, try_map_goes_back, verify_goes_back,
+    verify_map_goes_back,
 };
