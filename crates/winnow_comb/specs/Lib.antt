@@ -6,9 +6,12 @@ pub mod CutErr
 pub mod BacktrackErr
 pub mod Empty
 pub mod Fail
+pub mod Fold
 pub mod InOrder
 pub mod Preceded
 pub mod Terminated
+pub mod TryFold
+pub mod VerifyFold
 pub mod SeparatedPair
 pub mod Delimited
 pub mod Attempt

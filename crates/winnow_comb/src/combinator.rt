@@ -3,6 +3,7 @@
 
 pub mod basic;
 pub mod branch;
+mod folding;
 pub mod impls;
 pub mod multi;
 pub mod sequence;
