@@ -6,6 +6,7 @@ ghost use Rattle.streams.specs.Input.{IsEndOf};
 mod basic;
 mod branch;
 mod complete;
+mod folds;
 mod multi;
 mod separated;
 mod sequence;
@@ -227,4 +228,9 @@ fn bytes_under_plain_errors(rt: HostRuntime) {
 #[test]
 fn text(rt: HostRuntime) {
     at_streams::<&str, ErrMode<EmptyError>, Global>(&rt, rt.alloc());
+}
+
+#[test]
+fn values(rt: HostRuntime) {
+    folds::fold(&rt, rt.alloc());
 }

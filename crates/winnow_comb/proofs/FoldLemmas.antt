@@ -35,31 +35,65 @@ module _ {S Q R T O : Type 0} (folds : Q → R → O → Answer R → Q → Type
     (assert_kind : Kind) (bounds : Bounds) (s : S × (Q × R)) (i : Input T) (outputs : List O) (u : S)
     (q : Q) (value : R) (m : Input T) (chain : Chain (FoldedRuns folds run) s i outputs
     (u, (q, value)) m) where
-
   -- the greatest number is reached
   pub fold_full : bounds.greatest ≡ Some (length outputs)
       → FoldItemsRun folds run assert_kind bounds s i (Ok value) (u, q) m
   fold_full full =
-      inl (value, (outputs, (u, (q, value)), m, chain,
-      inl (tt, full, nothing_takes outputs, refl, refl, refl)), refl)
+      inl (
+        value,
+        (
+          outputs,
+          (u, (q, value)),
+          m,
+          chain,
+          inl (tt, full, nothing_takes outputs, refl, refl, refl),
+        ),
+        refl,
+      )
 
   -- an item backtracks and there are enough
   pub fold_ended : (t : S) (x j : Input T) → IsBelow bounds.greatest (length outputs)
       → bounds.least ≤ length outputs → run u m (Err backtrack) t x → j ≡ back_at m.left x
       → FoldItemsRun folds run assert_kind bounds s i (Ok value) (t, q) j
   fold_ended t x j below enough ran back =
-      inl (value, (outputs, (u, (q, value)), m, chain,
-      inr (inl (tt, x, below, enough, inl (backtrack, ran, refl, refl), nothing_takes outputs, refl,
-      back))), refl)
+      inl (
+        value,
+        (
+          outputs,
+          (u, (q, value)),
+          m,
+          chain,
+          inr (inl (
+            tt,
+            x,
+            below,
+            enough,
+            inl (backtrack, ran, refl, refl),
+            nothing_takes outputs,
+            refl,
+            back,
+          )),
+        ),
+        refl,
+      )
 
   -- an item fails
   pub fold_failed : (k : Kind) (t : S) (j : Input T) → IsBelow bounds.greatest (length outputs)
       → (k ≡ backtrack → length outputs < bounds.least) → run u m (Err k) t j
       → FoldItemsRun folds run assert_kind bounds s i (Err k) (t, q) j
   fold_failed k t j below few ran =
-      inr (inl (k, value, (outputs, (u, (q, value)), m, chain,
-      inr (inr (inl (k, tt, below, inl (k, ran, refl, refl), few, nothing_takes outputs, refl)))),
-      refl))
+      inr (inl (
+        k,
+        value,
+        (
+          outputs,
+          (u, (q, value)),
+          m,
+          chain,
+          inr (inr (inl (k, tt, below, inl (k, ran, refl, refl), few, nothing_takes outputs, refl))),
+        ),
+        refl,
+      ))
 
   -- an item consumes nothing
   pub fold_stuck : (o : O) (k : Kind) (t : S) (j : Input T)
@@ -67,9 +101,26 @@ module _ {S Q R T O : Type 0} (folds : Q → R → O → Answer R → Q → Type
       → j.left.tokens ≡ m.left.tokens → k ≡ assert_kind
       → FoldItemsRun folds run assert_kind bounds s i (Err k) (t, q) j
   fold_stuck o k t j below ran nothing e =
-      inr (inl (k, value, (outputs, (u, (q, value)), m, chain,
-      inr (inr (inr (inl (o, tt, below, inr (inl (o, ran, nothing, refl, refl)), nothing,
-      nothing_takes outputs, ap Err e))))), refl))
+      inr (inl (
+        k,
+        value,
+        (
+          outputs,
+          (u, (q, value)),
+          m,
+          chain,
+          inr (inr (inr (inl (
+            o,
+            tt,
+            below,
+            inr (inl (o, ran, nothing, refl, refl)),
+            nothing,
+            nothing_takes outputs,
+            ap Err e,
+          )))),
+        ),
+        refl,
+      ))
 
   -- an item is refused
   pub fold_refused : (o : O) (k : Kind) (t : S) (p : Q) (x j : Input T)

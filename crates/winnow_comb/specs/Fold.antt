@@ -10,6 +10,7 @@ use Rattle.winnow_core.specs.Runs.{Runs}
 use Rattle.winnow_comb.specs.Chain.{Chain}
 use Rattle.winnow_comb.specs.Repeat.{ItemsRun}
 use Rattle.winnow_comb.specs.declared.combinator.impls.fold.RepeatFold.{RepeatFold}
+pub mod Known
 pub mod Laws
 
 -- how often the parser is run

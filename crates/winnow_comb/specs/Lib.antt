@@ -19,6 +19,8 @@ pub mod Alt
 pub mod Chain
 pub mod Repeat
 pub mod Separated
+pub mod SeparatedFoldl1
+pub mod SeparatedFoldr1
 pub mod Laws
 pub mod ChoiceLaws
 pub mod RepeatLaws

@@ -24,7 +24,8 @@ folded_ends reading folds run ends s i answer t j (inr (inl (o, r, nothing, same
 folded_ends reading folds run ends s i answer t j (inr (inr (o, r, consumes, taken, e))) =
     ends s.0 i (Ok o) t.0 j r
 
-fold_items_end : {S Q R T L O : Type 0} (reading : Reading T L)
+-- a fold of items leaves an end, where these do
+pub fold_items_end : {S Q R T L O : Type 0} (reading : Reading T L)
     (folds : Q → R → O → Answer R → Q → Type 0) (run : Runs S T O) (assert_kind : Kind)
     (bounds : Bounds) → LeaveEnds reading run → (s : _) (i : Input T) (answer : Answer R) (t : _)
     (j : Input T) → FoldItemsRun folds run assert_kind bounds s i answer t j → IsEndOf reading j i

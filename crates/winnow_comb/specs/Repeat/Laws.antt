@@ -61,7 +61,8 @@ one_ends reading run into assert_kind ends s i answer t j
 one_ends reading run into assert_kind ends s i answer t j (inr (inr (o, r, grows, e))) =
     ends s i (Ok o) t j r
 
-many_ends : {S T L O C : Type 0} (reading : Reading T L) (run : Runs S T O)
+-- repetitions of a number of items leave an end, where these do
+pub many_ends : {S T L O C : Type 0} (reading : Reading T L) (run : Runs S T O)
     (into : Accumulator C O) (assert_kind : Kind) (bounds : Bounds)
     → LeaveEnds reading run
     → LeaveEnds reading (RepeatManyRuns run into assert_kind bounds)

@@ -55,13 +55,7 @@ pub(crate) fn fold_range<
     O: Drop,
     R: Drop,
     E: ParserError<I>,
->(
-    occurrences: Range,
-    parser: &mut P,
-    init: &mut G,
-    op: &mut F,
-    input: &mut I,
-) -> Result<R, E>
+>(occurrences: Range, parser: &mut P, init: &mut G, op: &mut F, input: &mut I) -> Result<R, E>
     requires parser { P.can_parse parser.old }
     requires init { G.IsAlwaysCallable init.old }
     requires op { F.can_fold op.old }

@@ -109,7 +109,13 @@ impl<
         if self.occurrences.start_inclusive == 1 && self.occurrences.greatest().is_none() {
             fold_one(&mut self.parser, &mut self.init, &mut self.op, input)
         } else {
-            fold_range(self.occurrences, &mut self.parser, &mut self.init, &mut self.op, input)
+            fold_range(
+                self.occurrences,
+                &mut self.parser,
+                &mut self.init,
+                &mut self.op,
+                input,
+            )
         }
     }
 }

@@ -169,7 +169,7 @@ pub(crate) fn is_descending(least: usize, greatest: Option<usize>) -> bool
 }
 
 /// Repeats from `least` times on, to `greatest` times if there is a bound.
-fn repeat_many<
+pub(crate) fn repeat_many<
     P: Parser<I, O, E>,
     I: Stream,
     O: Drop,

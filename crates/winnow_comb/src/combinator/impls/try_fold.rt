@@ -121,7 +121,13 @@ impl<
         (TryFoldTakes H.step) (P.meaning form) (assert_kind form) (P.leaves_ends form) };
 
     fn parse_next(&mut self, input: &mut I) -> Result<R, E> {
-        fold_range(self.occurrences, &mut self.parser, &mut self.init, &mut self.op, input)
+        fold_range(
+            self.occurrences,
+            &mut self.parser,
+            &mut self.init,
+            &mut self.op,
+            input,
+        )
     }
 }
 

@@ -59,7 +59,7 @@ returns-in-Err-clause-ran g c =
   where
     few : g.E.HasKind.kind c.in-Err.error ≡ backtrack → length c.items.invariant.0 < c.args.missing
     few e = elim c.else-missing-eq0.branch [
-      else-missing-eq0-via-then-missing-eq0+else-is_backtrack w ↦ search rules
+      | else-missing-eq0-via-then-missing-eq0+else-is_backtrack w ↦ search rules
       | else-missing-eq0-via-else-missing-eq0 w ↦ omega (arith, c.items.invariant.2.still_missing)
     ]
 
