@@ -233,4 +233,11 @@ fn text(rt: HostRuntime) {
 #[test]
 fn values(rt: HostRuntime) {
     folds::fold(&rt, rt.alloc());
+    folds::verify_fold(&rt, rt.alloc());
+    folds::try_fold(&rt, rt.alloc());
+    folds::calls(&rt, rt.alloc());
+    folds::ends(&rt, rt.alloc());
+    folds::foldl1(&rt);
+    folds::foldr1(&rt, rt.alloc());
+    folds::foldr1_without_memory(&rt, rt.alloc());
 }
