@@ -5,4 +5,5 @@ pub mod SeparatedLemmas
 pub mod FoldLemmas
 mod RepetitionLaw
 mod SeparatedLaw
+mod FoldLaw
 mod ItemChoiceLaw

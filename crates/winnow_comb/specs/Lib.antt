@@ -24,3 +24,4 @@ pub mod SeparatedFoldr1
 pub mod Laws
 pub mod ChoiceLaws
 pub mod RepeatLaws
+pub mod FoldLaws

@@ -115,6 +115,16 @@ fold_items_ok folds run assert_kind s i value t j
     (inr (inr (outputs, u, m, o, k, x, chain, below, ran, fewer, refused, e, back))) =
     ok_is_err refl e
 
+-- a fold of any number has no rule of its own for the first item
+pub fold_of_any : {S G Q R T O : Type 0} (starts : G → R → G → Type 0)
+    (folds : Q → R → O → Answer R → Q → Type 0) (run : Runs S T O) (assert_kind : Kind)
+    (s : S × (G × Q)) (i : Input T) (answer : Answer R) (t : S × (G × Q)) (j : Input T)
+    → FoldRuns starts folds run assert_kind (from_to 0 None) s i answer t j
+    → FoldManyRuns starts folds run assert_kind (from_to 0 None) s i answer t j
+fold_of_any starts folds run assert_kind s i answer t j (inl (one, none, ran)) =
+    absurd (omega (arith, one))
+fold_of_any starts folds run assert_kind s i answer t j (inr (other, ran)) = ran
+
 -- by a value that is made first
 pub fold_any_ok : {S G Q R T O : Type 0} (starts : G → R → G → Type 0)
     (folds : Q → R → O → Answer R → Q → Type 0) (run : Runs S T O) (assert_kind : Kind)
@@ -159,4 +169,4 @@ fold_some_ok starts folds run assert_kind s i value t j
 fold_some_ok starts folds run assert_kind s i value t j (inr (other, r)) =
     absurd (other (refl, refl))
 
-pub ruleset known_folds = (fold_items_ok, fold_any_ok, fold_some_ok, folded_items)
+pub ruleset known_folds = (fold_items_ok, fold_of_any, fold_any_ok, fold_some_ok, folded_items)
