@@ -90,7 +90,9 @@ pub fn number_list(s: &[u8]) -> Outcome {
         all.push(value);
         at = next;
     }
-    Outcome { count: all.len() as u64, sum: 0, left: (s.len() - at) as u64 }
+    // the last comma has no number behind it, and is left
+    let last = usize::from(at > 0);
+    Outcome { count: all.len() as u64, sum: 0, left: (s.len() - at + last) as u64 }
 }
 
 pub fn number_sum(s: &[u8]) -> Outcome {

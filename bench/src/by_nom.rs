@@ -5,7 +5,7 @@ use nom::bytes::complete::{tag, tag_no_case, take_till, take_until, take_while, 
 use nom::character::complete::{alphanumeric1, char, multispace1, one_of, space0, u32 as number};
 use nom::character::streaming;
 use nom::combinator::{map_res, opt, recognize, value};
-use nom::multi::{fold_many0, many0, many0_count};
+use nom::multi::{fold_many0, many0, many0_count, separated_list0};
 use nom::sequence::{delimited, pair, preceded, separated_pair, terminated, tuple};
 use nom::{IResult, InputLength, Parser};
 use std::str::{from_utf8, Utf8Error};
@@ -77,7 +77,7 @@ pub fn document(s: &[u8]) -> Outcome {
 // ---- numbers
 
 pub fn number_list(s: &[u8]) -> Outcome {
-    let read: IResult<In<'_>, Vec<u32>> = many0(terminated(number, char(',')))(s);
+    let read: IResult<In<'_>, Vec<u32>> = separated_list0(char(','), number)(s);
     read.map_or(Outcome::default(), |(rest, all)| count(all.len(), rest))
 }
 

@@ -6,6 +6,7 @@ ghost use Rattle.streams.specs.Input.{IsEndOf};
 mod basic;
 mod branch;
 mod complete;
+mod folds;
 mod multi;
 mod separated;
 mod sequence;
@@ -227,4 +228,16 @@ fn bytes_under_plain_errors(rt: HostRuntime) {
 #[test]
 fn text(rt: HostRuntime) {
     at_streams::<&str, ErrMode<EmptyError>, Global>(&rt, rt.alloc());
+}
+
+#[test]
+fn values(rt: HostRuntime) {
+    folds::fold(&rt, rt.alloc());
+    folds::verify_fold(&rt, rt.alloc());
+    folds::try_fold(&rt, rt.alloc());
+    folds::calls(&rt, rt.alloc());
+    folds::ends(&rt, rt.alloc());
+    folds::foldl1(&rt);
+    folds::foldr1(&rt, rt.alloc());
+    folds::foldr1_without_memory(&rt, rt.alloc());
 }

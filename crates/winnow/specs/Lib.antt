@@ -136,6 +136,11 @@ pub use Rattle.winnow_comb.specs.Alt
 pub use Rattle.winnow_comb.specs.Chain
 pub use Rattle.winnow_comb.specs.Repeat
 pub use Rattle.winnow_comb.specs.Separated
+pub use Rattle.winnow_comb.specs.SeparatedFoldl1
+pub use Rattle.winnow_comb.specs.SeparatedFoldr1
+pub use Rattle.winnow_comb.specs.Fold
+pub use Rattle.winnow_comb.specs.VerifyFold
+pub use Rattle.winnow_comb.specs.TryFold
 pub use Rattle.winnow_comb.specs.ChoiceLaws
 pub use Rattle.winnow_comb.specs.RepeatLaws
 pub use Rattle.winnow_comb.specs.Laws as CombinatorLaws

@@ -2,6 +2,8 @@ pub mod ChoiceLemmas
 pub mod ChoiceLaws
 pub mod RepeatLemmas
 pub mod SeparatedLemmas
+pub mod FoldLemmas
 mod RepetitionLaw
 mod SeparatedLaw
+mod FoldLaw
 mod ItemChoiceLaw

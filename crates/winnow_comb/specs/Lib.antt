@@ -6,9 +6,12 @@ pub mod CutErr
 pub mod BacktrackErr
 pub mod Empty
 pub mod Fail
+pub mod Fold
 pub mod InOrder
 pub mod Preceded
 pub mod Terminated
+pub mod TryFold
+pub mod VerifyFold
 pub mod SeparatedPair
 pub mod Delimited
 pub mod Attempt
@@ -16,6 +19,9 @@ pub mod Alt
 pub mod Chain
 pub mod Repeat
 pub mod Separated
+pub mod SeparatedFoldl1
+pub mod SeparatedFoldr1
 pub mod Laws
 pub mod ChoiceLaws
 pub mod RepeatLaws
+pub mod FoldLaws

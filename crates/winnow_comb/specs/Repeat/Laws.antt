@@ -13,7 +13,8 @@ use Rattle.winnow_comb.specs.Chain.{IsItem}
 use Rattle.winnow_comb.specs.Repeat.{ItemsRun, RangedRuns, RepeatManyRuns, RepeatOneRuns}
 use Rattle.winnow_comb.specs.Repeat.{RepeatRuns}
 
-chain_ends : {S T L O : Type 0} (reading : Reading T L) (run : Runs S T O)
+-- chains of items lead to an end
+pub chain_ends : {S T L O : Type 0} (reading : Reading T L) (run : Runs S T O)
     → LeaveEnds reading run → (outputs : List O) (s : S) (i : Input T) (t : S) (j : Input T)
     → FoldsTo (λ p o q. IsItem run p o q) (s, i) outputs (t, j) → IsEndOf reading j i
 chain_ends reading run ends [] s i t j e = same_ends reading i j (ap (λ p. p.1) (sym e))
@@ -60,7 +61,8 @@ one_ends reading run into assert_kind ends s i answer t j
 one_ends reading run into assert_kind ends s i answer t j (inr (inr (o, r, grows, e))) =
     ends s i (Ok o) t j r
 
-many_ends : {S T L O C : Type 0} (reading : Reading T L) (run : Runs S T O)
+-- repetitions of a number of items leave an end, where these do
+pub many_ends : {S T L O C : Type 0} (reading : Reading T L) (run : Runs S T O)
     (into : Accumulator C O) (assert_kind : Kind) (bounds : Bounds)
     → LeaveEnds reading run
     → LeaveEnds reading (RepeatManyRuns run into assert_kind bounds)

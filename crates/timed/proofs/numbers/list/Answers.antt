@@ -1,17 +1,15 @@
 use Rattle.std.proofs.Common.{◌∙◌, ap, refl}
 use Rattle.winnow.specs.Accumulator.{list_kept}
 use Rattle.winnow.specs.Form.{assert_kind, modal}
-use Rattle.winnow.specs.Repeat.{RangedRuns}
-use Rattle.winnow.specs.Terminated.{terminated_ignored}
-use Rattle.timed.specs.Numbers.{NumberMeans, any_number}
-use Rattle.timed.proofs.Runs.{both, ran_from}
+use Rattle.winnow.specs.Separated.{RangedElements}
+use Rattle.timed.specs.Numbers.{ByteMeans, DecimalMeans, any_number}
+use Rattle.timed.proofs.Runs.{beside, ran_from}
 use Rattle.timed.proofs.numbers.list.Goals as goal
 
 pub returns : goal.returns
-returns c =
-    let comma = ap terminated_ignored c.repeat.ensures.parser ∙ c.terminated.ensures.ignored in
-    let range = c.repeat.ensures.occurrences ∙ c.from.ensures in (
-      _,
-      ran_from (RangedRuns NumberMeans list_kept (assert_kind modal)) _ ((tt, 44), any_number)
-          (both (both refl comma) range) _ _ _ _ c.parse_next.ensures.ran,
-    )
+returns c = (
+  _,
+  ran_from (RangedElements DecimalMeans ByteMeans list_kept (assert_kind modal)) _
+      (tt, 44, any_number) (beside refl c.separated.ensures.separator
+      (c.separated.ensures.occurrences ∙ c.from.ensures)) _ _ _ _ c.parse_next.ensures.ran,
+)

@@ -5,11 +5,19 @@ ghost use Rattle.stream_sets.specs.Range.{IsWithin, from_to};
 ghost use Rattle.stream_sets.specs.declared.range.Range.{Range};
 ghost use Rattle.streams.specs.Input.{IsEndOf};
 ghost use Rattle.winnow_comb.specs.Repeat.{ItemsRun, RangedRuns, RepeatManyRuns, RepeatOneRuns};
+ghost use Rattle.winnow_comb.specs.Fold.{fold_closure, fold_init, fold_occurrences, fold_parser};
+ghost use Rattle.winnow_comb.specs.Repeat.{repeat_occurrences, repeat_parser};
 ghost use Rattle.winnow_comb.specs.Repeat.Laws.{ranged_ends};
+ghost use Rattle.winnow_comb.specs.TryFold.{try_fold_closure, try_fold_init, try_fold_occurrences};
+ghost use Rattle.winnow_comb.specs.TryFold.{try_fold_parser};
+ghost use Rattle.winnow_comb.specs.VerifyFold.{verify_fold_closure, verify_fold_init};
+ghost use Rattle.winnow_comb.specs.VerifyFold.{verify_fold_occurrences, verify_fold_parser};
 ghost use Rattle.winnow_core.specs.Agrees.{agrees_with};
 
+use crate::combinator::impls::{RepeatFold, RepeatTryFold, RepeatVerifyFold};
 use std::alloc::Allocator;
 use std::marker::PhantomData;
+use stream_errors::external::FromExternalError;
 use stream_errors::parser_error::ParserError;
 use stream_sets::accumulate::Accumulate;
 use stream_sets::range::Range;
@@ -31,6 +39,70 @@ pub struct Repeat<P, I, O, C, E, A> {
     pub(crate) output: PhantomData<O>,
     pub(crate) accumulator: PhantomData<C>,
     pub(crate) error: PhantomData<E>,
+}
+
+impl<P: Parser<I, O, E>, I: Stream, O, E: ParserError<I>, A: Drop> Repeat<P, I, O, (), E, A> {
+    /// Folds the outputs into a value: `init` makes it, and `op` takes each output in, in order.
+    ///
+    /// It ends and fails as the repetition does, and takes no memory. In the form `1..` the value
+    /// is made behind the first item, and else first. Known as `fold_many0` and `fold_many1` in
+    /// nom.
+    ///
+    /// ```text
+    /// repeat(alloc, Range::from(0..), digit).fold(|| 0, |sum: u32, n| sum + n)
+    ///     on b"12a" is Ok(3), and b"a" is left
+    /// ```
+    #[inline(always)]
+    pub fn fold<G, H, R>(self, init: G, op: H) -> RepeatFold<P, G, H, I, O, R, E>
+    where
+        G: FnMut() -> R,
+        H: FnMut(R, O) -> R,
+        ensures occurrences { fold_occurrences result ≡ repeat_occurrences self }
+        ensures parser { fold_parser result ≡ repeat_parser self }
+        ensures init { fold_init result ≡ init }
+        ensures op { fold_closure result ≡ op }
+    {
+        RepeatFold::new(self.occurrences, self.parser, init, op)
+    }
+
+    /// As [`fold`](Repeat::fold), but `op` may refuse an output by `None`: then it backtracks, and
+    /// the input stands before the refused item. The value is made first, in each form.
+    ///
+    /// ```text
+    /// repeat(alloc, Range::from(0..), digit).verify_fold(|| 0, |sum: u8, n| sum.checked_add(n))
+    /// ```
+    #[inline(always)]
+    pub fn verify_fold<G, H, R>(self, init: G, op: H) -> RepeatVerifyFold<P, G, H, I, O, R, E>
+    where
+        G: FnMut() -> R,
+        H: FnMut(R, O) -> Option<R>,
+        ensures occurrences { verify_fold_occurrences result ≡ repeat_occurrences self }
+        ensures parser { verify_fold_parser result ≡ repeat_parser self }
+        ensures init { verify_fold_init result ≡ init }
+        ensures op { verify_fold_closure result ≡ op }
+    {
+        RepeatVerifyFold::new(self.occurrences, self.parser, init, op)
+    }
+
+    /// As [`verify_fold`](Repeat::verify_fold), but `op` says why it refuses an output: its error
+    /// is kept as [`FromExternalError`] says, and backtracks.
+    ///
+    /// ```text
+    /// repeat(alloc, Range::from(0..), digits).try_fold(|| 0, |sum: u8, n: &str| add(sum, n.parse()?))
+    /// ```
+    #[inline(always)]
+    pub fn try_fold<G, H, R, X>(self, init: G, op: H) -> RepeatTryFold<P, G, H, I, O, R, E, X>
+    where
+        G: FnMut() -> R,
+        H: FnMut(R, O) -> Result<R, X>,
+        E: FromExternalError<I, X>,
+        ensures occurrences { try_fold_occurrences result ≡ repeat_occurrences self }
+        ensures parser { try_fold_parser result ≡ repeat_parser self }
+        ensures init { try_fold_init result ≡ init }
+        ensures op { try_fold_closure result ≡ op }
+    {
+        RepeatTryFold::new(self.occurrences, self.parser, init, op)
+    }
 }
 
 impl<
@@ -97,7 +169,7 @@ pub(crate) fn is_descending(least: usize, greatest: Option<usize>) -> bool
 }
 
 /// Repeats from `least` times on, to `greatest` times if there is a bound.
-fn repeat_many<
+pub(crate) fn repeat_many<
     P: Parser<I, O, E>,
     I: Stream,
     O: Drop,
