@@ -15,6 +15,7 @@ pub mod Attempt
 pub mod Alt
 pub mod Chain
 pub mod Repeat
+pub mod RepeatTill
 pub mod Separated
 pub mod Laws
 pub mod ChoiceLaws

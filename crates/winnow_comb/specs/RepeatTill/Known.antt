@@ -1,0 +1,1 @@
+-- What a caller knows of one run of a repetition until a terminator that answered.
