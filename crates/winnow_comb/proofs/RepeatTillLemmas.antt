@@ -1,6 +1,6 @@
 -- What is known while items are repeated until a terminator.
-use Rattle.std.proofs.Common.{◌≡◌, ◌≤◌, ◌<◌, ◌+◌, ◌-◌, ◌∙◌, ℕ, List, [], ◌∷◌, ◌++◌, Option}
-use Rattle.std.proofs.Common.{Some, None, Ok, Err, refl, sym, ap, subst, inr, arith}
+use Rattle.std.proofs.Common.{◌≡◌, ◌-◌, ◌∙◌, ℕ, List, [], ◌∷◌, ◌++◌, Option}
+use Rattle.std.proofs.Common.{Some, None, Ok, Err, refl, ap, subst, inr}
 use Rattle.std.specs.Prelude.{MatchOption}
 use Rattle.std.proofs.lemmas.Fn.{FoldsTo-push}
 use Rattle.streams.specs.Input.{Input, IsEndOf, Remaining, back_at, is_end_of_trans}
@@ -40,12 +40,11 @@ pub turn : {S W T O D : Type 0} (run : Runs S T O) (till : Runs W T D) (s : S) (
     (i x at : Input T) (seen : Remaining T) (k : Kind) (answer : Answer O) (t : S) (w : W)
     (j : Input T) → till z i (Err k) w x → k ≡ backtrack → at ≡ back_at seen x → seen ≡ i.left
     → run s at answer t j → TurnRuns run till (s, z) i answer (t, w) j
-turn run till s z i x at seen k answer t w j failed is back start ran =
-    (
-      x,
-      subst (λ l. till z i (Err l) w x) is failed,
-      subst (λ a. run s a answer t j) (back ∙ ap (λ r. back_at r x) start) ran,
-    )
+turn run till s z i x at seen k answer t w j failed is back start ran = (
+  x,
+  subst (λ l. till z i (Err l) w x) is failed,
+  subst (λ a. run s a answer t j) (back ∙ ap (λ r. back_at r x) start) ran,
+)
 
 -- and an end is left
 pub turn_end : {T L : Type 0} (reading : Reading T L) (i x at j : Input T) (seen : Remaining T)

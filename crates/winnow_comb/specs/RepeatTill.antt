@@ -13,6 +13,7 @@ use Rattle.winnow_core.specs.Runs.{Runs}
 use Rattle.winnow_comb.specs.Chain.{Accumulates, Chain}
 use Rattle.winnow_comb.specs.Repeat.{capacity_of}
 use Rattle.winnow_comb.specs.declared.combinator.impls.repeat_till.RepeatTill.{RepeatTill}
+pub mod Items
 pub mod Known
 pub mod Laws
 

@@ -1,5 +1,5 @@
 -- What holds of the runs of repetitions until a terminator.
-use Rattle.std.specs.Prelude.{◌≡◌, ℕ, List, [], ◌∷◌, Option, Ok, Err}
+use Rattle.std.specs.Prelude.{ℕ, List, [], ◌∷◌, Option, Ok, Err}
 use Rattle.std.specs.List.{FoldsTo}
 use Rattle.std.proofs.Common.{ap, inl, inr, refl, sym}
 use Rattle.streams.specs.Input.{Input, IsEndOf, back_at, is_end_of_trans}
@@ -9,7 +9,6 @@ use Rattle.stream_sets.specs.Accumulator.{Accumulator}
 use Rattle.stream_sets.specs.Range.{Bounds}
 use Rattle.winnow_core.specs.Ends.{back_ends, same_ends}
 use Rattle.winnow_core.specs.Runs.{Runs, LeaveEnds}
-use Rattle.winnow_comb.specs.Chain.{IsItem}
 use Rattle.winnow_comb.specs.Repeat.Laws.{chain_ends}
 use Rattle.winnow_comb.specs.RepeatTill.{IsSuccess, LeastItemsRun, RangedTillRuns}
 use Rattle.winnow_comb.specs.RepeatTill.{RepeatTillRuns, TurnRuns, TurnsRun, room_behind, till_bounds}

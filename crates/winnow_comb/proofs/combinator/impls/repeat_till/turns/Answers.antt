@@ -28,7 +28,13 @@ returns-in-Ok-clause-ran g c =
       _,
       inv.1,
       inv.2,
-      inl (c.in-Ok.end, within_room _ _ _ _ _ inv.3, c.in-Ok.ensures.ran, refl, refl),
+      inl (
+        c.in-Ok.end,
+        within_room _ _ _ _ _ inv.3,
+        c.in-Ok.ensures.ran,
+        refl {a = g.P.Parser.state c.turns.parser},
+        search rules,
+      ),
     )
 
 pub returns-then-eq-clause-ran : goal.returns-then-eq-clause-ran
@@ -45,12 +51,12 @@ returns-then-eq-clause-ran g c =
         g.E.HasKind.kind c.in-Err.error,
         within,
         c.in-Err.ensures.ran,
-        refl,
+        refl {a = g.P.Parser.state c.turns.parser},
         elim c.then-eq.branch [
           | then-eq-via-then-eq w ↦ λ is. no_room _ _ _ _ _ inv.3 (search rules)
           | then-eq-via-else-eq+then-not-is_backtrack w ↦ λ is. search rules
         ],
-        refl,
+        search rules,
       )),
     )
 
