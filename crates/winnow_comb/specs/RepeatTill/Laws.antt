@@ -11,7 +11,8 @@ use Rattle.winnow_core.specs.Ends.{back_ends, same_ends}
 use Rattle.winnow_core.specs.Runs.{Runs, LeaveEnds}
 use Rattle.winnow_comb.specs.Repeat.Laws.{chain_ends}
 use Rattle.winnow_comb.specs.RepeatTill.{IsSuccess, LeastItemsRun, RangedTillRuns}
-use Rattle.winnow_comb.specs.RepeatTill.{RepeatTillRuns, TurnRuns, TurnsRun, room_behind, till_bounds}
+use Rattle.winnow_comb.specs.RepeatTill.{RepeatTillRuns, TurnRuns, TurnsRun, room_behind}
+use Rattle.winnow_comb.specs.RepeatTill.{till_bounds}
 
 successes_end : {S T L O : Type 0} (reading : Reading T L) (run : Runs S T O)
     → LeaveEnds reading run → (outputs : List O) (s : S) (i : Input T) (t : S) (j : Input T)

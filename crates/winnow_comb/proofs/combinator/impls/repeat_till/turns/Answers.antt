@@ -1,12 +1,10 @@
-use Rattle.std.proofs.Common.{rules, arith, inl, inr, refl, [], ◌∷◌, ◌++◌, length-append}
+use Rattle.std.proofs.Common.{rules, arith, inl, inr, refl, Ok, Err, [], ◌∷◌, ◌++◌, length-append}
 use Rattle.streams.specs.Input.{is_end_of_refl, is_end_of_trans}
 use Rattle.winnow_comb.proofs.RepeatLemmas.{accumulates_more, accumulates_none, chain_more}
 use Rattle.winnow_comb.proofs.RepeatLemmas.{chain_none, fewer_tokens, no_room, room_behind_more}
 use Rattle.winnow_comb.proofs.RepeatLemmas.{room_behind_none, same_units, some_room}
 use Rattle.winnow_comb.proofs.RepeatTillLemmas.{turn, turn_end, within_room}
 use Rattle.winnow_comb.proofs.combinator.impls.repeat_till.turns.Goals as goal
-use Rattle.winnow_comb.proofs.combinator.impls.repeat_till.turns.Goals.{then-eq-via-then-eq}
-use Rattle.winnow_comb.proofs.combinator.impls.repeat_till.turns.Goals.{then-eq-via-else-eq+then-not-is_backtrack}
 
 pub turns-init : goal.turns-init
 turns-init g c = (
@@ -53,8 +51,8 @@ returns-then-eq-clause-ran g c =
         c.in-Err.ensures.ran,
         refl {a = g.P.Parser.state c.turns.parser},
         elim c.then-eq.branch [
-          | then-eq-via-then-eq w ↦ λ is. no_room _ _ _ _ _ inv.3 (search rules)
-          | then-eq-via-else-eq+then-not-is_backtrack w ↦ λ is. search rules
+          | goal.then-eq-via-then-eq w ↦ λ is. no_room _ _ _ _ _ inv.3 (search rules)
+          | goal.then-eq-via-else-eq+then-not-is_backtrack w ↦ λ is. search rules
         ],
         search rules,
       )),
@@ -74,8 +72,8 @@ returns-in_err-output-clause-ran g c =
         _,
         below,
         turn (g.P.Parser.meaning g.E.HasKind.form) (g.G.Parser.meaning g.E.HasKind.form) _ _ _ _
-            _ _ _ _ _ _ _ c.in-Err.ensures.ran (search rules) c.reset.ensures
-            c.checkpoint-start.ensures c.in_err-output.ensures.ran,
+            _ _ _ (Err (g.E.HasKind.kind c.in_err-output.field-0.0)) _ _ _ c.in-Err.ensures.ran
+            (search rules) c.reset.ensures c.checkpoint-start.ensures c.in_err-output.ensures.ran,
         search rules,
       ))),
     )
@@ -97,8 +95,8 @@ returns-then-eof_offset-left-clause-ran g c =
         c.in_ok-output.output,
         below,
         turn (g.P.Parser.meaning g.E.HasKind.form) (g.G.Parser.meaning g.E.HasKind.form) _ _ _ _
-            _ _ _ _ _ _ _ c.in-Err.ensures.ran (search rules) c.reset.ensures
-            c.checkpoint-start.ensures c.in_ok-output.ensures.ran,
+            _ _ _ (Ok c.in_ok-output.output) _ _ _ c.in-Err.ensures.ran (search rules)
+            c.reset.ensures c.checkpoint-start.ensures c.in_ok-output.ensures.ran,
         same,
         search rules,
       )))),
@@ -121,8 +119,8 @@ returns-in-Err-accumulate-clause-ran g c =
         c.in_ok-output.output,
         below,
         turn (g.P.Parser.meaning g.E.HasKind.form) (g.G.Parser.meaning g.E.HasKind.form) _ _ _ _
-            _ _ _ _ _ _ _ c.in-Err.ensures.ran (search rules) c.reset.ensures
-            c.checkpoint-start.ensures c.in_ok-output.ensures.ran,
+            _ _ _ (Ok c.in_ok-output.output) _ _ _ c.in-Err.ensures.ran (search rules)
+            c.reset.ensures c.checkpoint-start.ensures c.in_ok-output.ensures.ran,
         fewer,
         search rules,
         search rules,
@@ -138,8 +136,8 @@ turns-preserved g c =
       inv.0 ++ (c.in_ok-output.output ∷ []),
       chain_more inv.1
           (turn (g.P.Parser.meaning g.E.HasKind.form) (g.G.Parser.meaning g.E.HasKind.form) _ _ _ _
-          _ _ _ _ _ _ _ c.in-Err.ensures.ran (search rules) c.reset.ensures
-          c.checkpoint-start.ensures c.in_ok-output.ensures.ran)
+          _ _ _ (Ok c.in_ok-output.output) _ _ _ c.in-Err.ensures.ran (search rules)
+          c.reset.ensures c.checkpoint-start.ensures c.in_ok-output.ensures.ran)
           fewer,
       accumulates_more inv.2 (search rules),
       room_behind_more _ _ _ _ _ _ _ _ inv.3 (λ e. search rules) (omega arith)
