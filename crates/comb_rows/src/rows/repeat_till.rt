@@ -177,13 +177,7 @@ fn repeat_till_of_nothing<I: OfText + Compare<u8>, E: ParserError<I>, A: Allocat
         (Range::from(2), "a", Err(Backtrack), 1),
     ] {
         let run = listed::<I, (), u8, E, _, _, A>(alloc, range, Empty, b';', text);
-        same(
-            rt,
-            "repeat_till of Empty",
-            text,
-            counted(run),
-            (want, left),
-        );
+        same(rt, "repeat_till of Empty", text, counted(run), (want, left));
     }
 }
 
@@ -195,7 +189,11 @@ fn repeat_till_a_failure<I: OfText + Compare<u8>, E: ParserError<I>, A: Allocato
     let name = "repeat_till, failing";
     for kind in HARD {
         let end = Failing(kind);
-        for (range, left) in [(Range::from(0..), 2), (Range::from(2), 0), (Range::from(0), 2)] {
+        for (range, left) in [
+            (Range::from(0..), 2),
+            (Range::from(2), 0),
+            (Range::from(0), 2),
+        ] {
             let run = listed::<I, u8, u8, E, _, _, A>(alloc, range, b'a', end, "aaa");
             same(rt, name, "aaa", counted(run), (Err(kind), left));
         }
