@@ -269,7 +269,8 @@ repeat_till_err run till into assert_kind least greatest s i k t j fits free
           (full_behind least greatest (length outputs) within) ended;
     })
 
--- What makes turns of any number fail: as above, but a terminator that backtracks never does.
+-- An error of any number of items: the turns before it, and what failed. No terminator that
+-- backtracks is handed on.
 pub record FailedTill {S W T O D C : Type 0} (run : Runs S T O) (till : Runs W T D)
     (into : Accumulator C O) (assert_kind : Kind) (s : S × W) (i : Input T) (k : Kind)
     (t : S × W) (j : Input T) : Type 0 where
