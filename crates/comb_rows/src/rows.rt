@@ -8,6 +8,7 @@ mod branch;
 mod complete;
 mod folds;
 mod multi;
+mod repeat_till;
 mod separated;
 mod sequence;
 
@@ -174,6 +175,7 @@ where
     branch::alt_of_items::<I, E>(rt);
     sequence::at_bytes::<I, E>(rt);
     multi::at_bytes::<I, E, A>(rt, alloc);
+    repeat_till::repeat_till::<I, E, A>(rt, alloc);
     separated::separated::<I, E, A>(rt, alloc);
 }
 
@@ -184,6 +186,8 @@ fn at_bytes_plainly<I: OfText + Compare<u8>, E: ParserError<I>>(rt: &impl Abort,
     sequence::tuples::<I, E>(rt);
     multi::repeat_plainly::<I, E, Global>(rt, alloc);
     multi::repeat_without_memory::<I, E>(rt, alloc);
+    repeat_till::repeat_till_plainly::<I, E, Global>(rt, alloc);
+    repeat_till::repeat_till_without_memory::<I, E>(rt, alloc);
     separated::separated_without_memory::<I, E>(rt, alloc);
 }
 
@@ -198,6 +202,7 @@ where
     branch::alt_on_cut_input::<I, E>(rt);
     sequence::at_text::<I, E>(rt);
     multi::repeat_on_cut_input::<I, E, A>(rt, alloc);
+    repeat_till::repeat_till_on_cut_input::<I, E, A>(rt, alloc);
     separated::separated_on_cut_input::<I, E, A>(rt, alloc);
 }
 

@@ -135,6 +135,7 @@ pub use Rattle.winnow_comb.specs.Attempt
 pub use Rattle.winnow_comb.specs.Alt
 pub use Rattle.winnow_comb.specs.Chain
 pub use Rattle.winnow_comb.specs.Repeat
+pub use Rattle.winnow_comb.specs.RepeatTill
 pub use Rattle.winnow_comb.specs.Separated
 pub use Rattle.winnow_comb.specs.SeparatedFoldl1
 pub use Rattle.winnow_comb.specs.SeparatedFoldr1

@@ -35,5 +35,6 @@ pub use Rattle.winnow_comb.specs.Not.Known.{known_nots}
 pub use Rattle.winnow_comb.specs.Opt.Known.{known_options}
 pub use Rattle.winnow_comb.specs.Peek.Known.{known_peeks}
 pub use Rattle.winnow_comb.specs.Repeat.Known.{known_repetitions}
+pub use Rattle.winnow_comb.specs.RepeatTill.Known.{known_turns}
 pub use Rattle.winnow_comb.specs.Separated.Known.{known_elements}
 pub use Rattle.winnow_comb.specs.Fold.Known.{known_folds}

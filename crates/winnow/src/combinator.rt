@@ -4,6 +4,6 @@ pub mod impls;
 pub use winnow_comb::combinator::impls::Alt;
 pub use winnow_comb::combinator::{
     alt, backtrack_err, cond, cut_err, delimited, empty, fail, not, opt, peek, preceded, repeat,
-    separated, separated_foldl1, separated_foldr1, separated_pair, terminated,
+    repeat_till, separated, separated_foldl1, separated_foldr1, separated_pair, terminated,
 };
 pub use winnow_core::combinator::eof;

@@ -18,6 +18,7 @@ pub mod Attempt
 pub mod Alt
 pub mod Chain
 pub mod Repeat
+pub mod RepeatTill
 pub mod Separated
 pub mod SeparatedFoldl1
 pub mod SeparatedFoldr1

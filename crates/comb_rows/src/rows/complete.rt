@@ -10,7 +10,7 @@ use stream_sets::range::Range;
 use streams::partial::Partial;
 use streams::stream::{Stream, StreamIsPartial};
 use winnow_comb::combinator;
-use winnow_comb::combinator::impls::{Empty, Fail, Repeat};
+use winnow_comb::combinator::impls::{Empty, Fail, Repeat, RepeatTill};
 use winnow_core::agrees_with::AgreesWith;
 use winnow_core::parser::Parser;
 use winnow_token::token::impls::TakeWhile;
@@ -110,6 +110,10 @@ where
     let first = letters::<I, E, A>(alloc);
     let got = endings_alike::<I, (), E, _, _>(first, letters::<Partial<I>, E, A>(alloc), "aab");
     same(rt, "repeat", "aab", got, both(Takes(2)));
+    let first = letters_till::<I, E, A>(alloc);
+    let like = letters_till::<Partial<I>, E, A>(alloc);
+    let got = endings_alike::<I, ((), I::Slice), E, _, _>(first, like, "aab");
+    same(rt, "repeat_till", "aab", got, both(Takes(3)));
 }
 
 /// A repetition of a letter that keeps nothing.
@@ -117,4 +121,11 @@ fn letters<I: StreamIsPartial<Token = char>, E: ParserError<I>, A: Allocator + C
     alloc: A,
 ) -> Repeat<TakeWhile<char, I, E>, I, I::Slice, (), E, A> {
     combinator::repeat(alloc, Range::from(0..), letter('a'))
+}
+
+/// A repetition of a letter until another one, that keeps nothing.
+fn letters_till<I: StreamIsPartial<Token = char>, E: ParserError<I>, A: Allocator + Copy>(
+    alloc: A,
+) -> RepeatTill<TakeWhile<char, I, E>, TakeWhile<char, I, E>, I, I::Slice, I::Slice, (), E, A> {
+    combinator::repeat_till(alloc, Range::from(0..), letter('a'), letter('b'))
 }

@@ -1,7 +1,7 @@
 //! The types of the combinators and adapters.
 pub use winnow_comb::combinator::impls::{
     Alt, AltParser, BacktrackErr, Cond, CutErr, Delimited, Empty, Fail, Not, Opt, Peek, Preceded,
-    Repeat, RepeatFold, RepeatTryFold, RepeatVerifyFold, Separated, SeparatedFoldl1,
+    Repeat, RepeatFold, RepeatTill, RepeatTryFold, RepeatVerifyFold, Separated, SeparatedFoldl1,
     SeparatedFoldr1, SeparatedPair, Terminated,
 };
 pub use winnow_core::combinator::impls::{

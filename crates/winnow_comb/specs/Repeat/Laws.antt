@@ -13,7 +13,7 @@ use Rattle.winnow_comb.specs.Chain.{IsItem}
 use Rattle.winnow_comb.specs.Repeat.{ItemsRun, RangedRuns, RepeatManyRuns, RepeatOneRuns}
 use Rattle.winnow_comb.specs.Repeat.{RepeatRuns}
 
--- chains of items lead to an end
+-- each run of a chain leaves an end, and so does the chain
 pub chain_ends : {S T L O : Type 0} (reading : Reading T L) (run : Runs S T O)
     → LeaveEnds reading run → (outputs : List O) (s : S) (i : Input T) (t : S) (j : Input T)
     → FoldsTo (λ p o q. IsItem run p o q) (s, i) outputs (t, j) → IsEndOf reading j i
