@@ -10,7 +10,7 @@ counts = record {
   starts = λ _ count. count.number ≡ 0;
   takes = λ count _ more. more.number ≡ (count.number + 1) % 2 ^ 64;
   start_grows = λ _. ⊥;
-  grows = λ _. ⊥;
+  grows = λ _ _. ⊥;
 }
 
 -- each number is one more, and is added
@@ -20,5 +20,5 @@ sums = record {
   takes = λ sum n more. (more.number ≡ (sum.number + 1) % 2 ^ 64)
       × (more.sum ≡ (sum.sum + n) % 2 ^ 64);
   start_grows = λ _. ⊥;
-  grows = λ _. ⊥;
+  grows = λ _ _. ⊥;
 }
