@@ -2,7 +2,13 @@
 ghost use Rattle.std.specs.BTreeMap.{IsEmpty};
 ghost use Rattle.std.specs.Prelude.{◌≡◌, [], MatchResult, string_bytes, ⊤};
 ghost use Rattle.stream_sets.specs.Accumulator.{
-    Accumulator, characters_kept, entries_kept, list_kept, nothing_kept, number_kept, texts_kept,
+  Accumulator,
+  characters_kept,
+  entries_kept,
+  list_kept,
+  nothing_kept,
+  number_kept,
+  texts_kept,
 };
 
 use std::alloc::{AllocError, Allocator};

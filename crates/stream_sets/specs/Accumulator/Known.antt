@@ -126,11 +126,13 @@ module _ {K X : Type 0} {R : K → K → Ordering} (order : IsTotalOrder R) wher
     where
       test : K → Bool
       test = is_at (R q)
+
       apart : R k e.0 ≡ Greater → test e.0 ≡ true → test k ≡ true → ⊥
       apart above at_e at_k =
           let same : R k e.0 ≡ Equal =
           sym (order.congr q k e.0 ((Equal-is (R q k)).0 at_k)) ∙ (Equal-is (R q e.0)).0 at_e in
           true≢false (sym (ap is_eq (sym above ∙ same)))
+
       by : (r : Ordering) → R k e.0 ≡ r
           → lookup test (insert_entry R es k v) ≡ lookup test ((k, v) ∷ es)
           → lookup test (match_ordering r ((k, v) ∷ e ∷ es) ((e.0, v) ∷ es)
