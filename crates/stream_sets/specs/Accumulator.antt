@@ -8,6 +8,7 @@ use Rattle.std.specs.Char.{encode_utf8}
 use Rattle.std.specs.declared.cmp.Ordering.{Ordering}
 use Rattle.std.specs.declared.string.String.{String}
 use Rattle.std.specs.declared.vec.Vec.{Vec}
+pub mod Entries
 pub mod Known
 
 -- What an accumulator is to a repetition.
