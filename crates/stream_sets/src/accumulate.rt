@@ -1,15 +1,8 @@
 //! What repetition puts its outputs into.
 ghost use Rattle.std.specs.BTreeMap.{IsEmpty};
 ghost use Rattle.std.specs.Prelude.{◌≡◌, [], MatchResult, string_bytes, ⊤};
-ghost use Rattle.stream_sets.specs.Accumulator.{
-  Accumulator,
-  characters_kept,
-  entries_kept,
-  list_kept,
-  nothing_kept,
-  number_kept,
-  texts_kept,
-};
+ghost use Rattle.stream_sets.specs.Accumulator.{Accumulator, characters_kept, entries_kept};
+ghost use Rattle.stream_sets.specs.Accumulator.{list_kept, nothing_kept, number_kept, texts_kept};
 
 use std::alloc::{AllocError, Allocator};
 use std::collections::BTreeMap;
@@ -95,7 +88,8 @@ impl<O: Drop, A: Drop> Accumulate<O, A> for usize {
     }
 }
 
-/// A text to whose end the characters are put. An empty one takes no memory.
+/// A text to whose end the characters are put. An empty one takes no memory; more is wanted only
+/// where the bytes of a character have no room.
 ///
 /// ```text
 /// repeat(0.., any) into a String on "abc"   is Ok of the text abc
@@ -116,7 +110,8 @@ impl<A: Allocator> Accumulate<char, A> for String<A> {
     }
 }
 
-/// A text to whose end the texts are put. An empty one takes no memory.
+/// A text to whose end the texts are put. An empty one takes no memory; more is wanted only where
+/// the bytes of a text have no room.
 ///
 /// ```text
 /// separated(0.., digit1, ',') into a String on "1,23"   is Ok of the text 123
@@ -138,7 +133,7 @@ impl<'i, A: Allocator> Accumulate<&'i str, A> for String<A> {
 }
 
 /// A map that the pairs of a key and a value are put into. The last value of a key stands, beside
-/// the first of its equal keys. An empty one takes no memory.
+/// the first of its equal keys. An empty one takes no memory; more is wanted only for a new key.
 ///
 /// ```text
 /// repeat(0.., (any, any)) into a BTreeMap on "a1b2a3"   is Ok of 'a' to '3' and 'b' to '2'
