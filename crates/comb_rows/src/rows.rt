@@ -3,6 +3,7 @@
 ghost use Rattle.std.specs.Prelude.{⊤};
 ghost use Rattle.streams.specs.Input.{IsEndOf};
 
+mod accumulators;
 mod basic;
 mod branch;
 mod complete;
@@ -228,6 +229,12 @@ fn bytes(rt: HostRuntime) {
 #[test]
 fn bytes_under_plain_errors(rt: HostRuntime) {
     at_bytes_plainly::<&[u8], InputError<&'static [u8]>>(&rt, rt.alloc());
+}
+
+#[test]
+fn into_accumulators(rt: HostRuntime) {
+    accumulators::accumulators::<&str, ErrMode<EmptyError>, Global>(&rt, rt.alloc());
+    accumulators::accumulators_without_memory::<&str, EmptyError>(&rt, rt.alloc());
 }
 
 #[test]

@@ -1,6 +1,14 @@
 -- What a repetition puts its outputs into.
-use Rattle.std.specs.Prelude.{◌≡◌, ◌≤◌, ℕ, List, [], ◌∷◌, ◌++◌, Option, ⊤, vec_capacity, vec_len}
+use Rattle.std.specs.Prelude.{◌≡◌, ◌≤◌, ◌<◌, ◌+◌, ◌-◌, ◌^◌, ℕ, min, List, [], ◌∷◌, ◌++◌, length}
+use Rattle.std.specs.Prelude.{Option, None, ⊤, vec_capacity, vec_len}
+use Rattle.std.specs.Prelude.{string_bytes, string_capacity, string_len}
+use Rattle.std.specs.BTreeMap.{BTreeMap, get, insert_entry}
+use Rattle.std.specs.Borrow.{Bor}
+use Rattle.std.specs.Char.{encode_utf8}
+use Rattle.std.specs.declared.cmp.Ordering.{Ordering}
+use Rattle.std.specs.declared.string.String.{String}
 use Rattle.std.specs.declared.vec.Vec.{Vec}
+pub mod Entries
 pub mod Known
 
 -- What an accumulator is to a repetition.
@@ -11,8 +19,8 @@ pub record Accumulator (C O : Type 0) : Type 1 where
   pub takes : C → O → C → Type 0
   -- whether a request for memory may be refused where an empty one is made for so many outputs
   pub start_grows : Option ℕ → Type 0
-  -- the ones for which one may be refused where they take an output
-  pub grows : C → Type 0
+  -- the ones for which one may be refused where they take this output
+  pub grows : C → O → Type 0
 
 -- what it is to keep nothing
 abbrev pub nothing_kept : {O : Type 0} → Accumulator ⊤ O
@@ -20,7 +28,7 @@ nothing_kept = record {
   starts = λ _ _. ⊤;
   takes = λ _ _ _. ⊤;
   start_grows = λ _. ⊥;
-  grows = λ _. ⊥;
+  grows = λ _ _. ⊥;
 }
 
 -- what it is to keep the outputs in a list, in order
@@ -29,5 +37,42 @@ list_kept = record {
   starts = λ _ list. list.items ≡ [];
   takes = λ list output more. more.items ≡ list.items ++ output ∷ [];
   start_grows = λ _. ⊥;
-  grows = λ list. vec_capacity list ≤ vec_len list;
+  grows = λ list _. vec_capacity list ≤ vec_len list;
+}
+
+-- what it is to keep the number of the outputs, or the greatest `usize` if there are more
+abbrev pub number_kept : {O : Type 0} → Accumulator ℕ O
+number_kept = record {
+  starts = λ _ number. number ≡ 0;
+  takes = λ number _ more. more ≡ min (number + 1) (2 ^ 64 - 1);
+  start_grows = λ _. ⊥;
+  grows = λ _ _. ⊥;
+}
+
+-- what it is to keep the outputs as one text, in order, where `spell` gives the bytes of each;
+-- memory is wanted for those that there is no room for
+abbrev pub spelled : {O A : Type 0} → (O → List ℕ) → Accumulator (String A) O
+spelled spell = record {
+  starts = λ _ text. string_bytes text ≡ [];
+  takes = λ text output more. string_bytes more ≡ string_bytes text ++ spell output;
+  start_grows = λ _. ⊥;
+  grows = λ text output. string_capacity text < string_len text + length (spell output);
+}
+
+-- what it is to keep characters as a text
+abbrev pub characters_kept : {A : Type 0} → Accumulator (String A) ℕ
+characters_kept = spelled encode_utf8
+
+-- what it is to keep texts as one text
+abbrev pub texts_kept : {A : Type 0} → Accumulator (String A) (Bor (List ℕ))
+texts_kept = spelled (λ text. text.now)
+
+-- what it is to keep pairs of a key and a value by their keys, in the order `cmp` of these: an equal
+-- key that is there stays, and takes the value; memory is wanted for a new key alone
+abbrev pub entries_kept : {K X : Type 0} → (K → K → Ordering) → Accumulator (BTreeMap K X) (K × X)
+entries_kept cmp = record {
+  starts = λ _ map. map.entries ≡ [];
+  takes = λ map pair more. more.entries ≡ insert_entry cmp map.entries pair.0 pair.1;
+  start_grows = λ _. ⊥;
+  grows = λ map pair. get cmp map pair.0 ≡ None;
 }

@@ -1,11 +1,14 @@
 //! What repetition puts its outputs into.
-ghost use Rattle.std.specs.Prelude.{◌≡◌, [], MatchResult, ⊤};
-ghost use Rattle.stream_sets.specs.Accumulator.{Accumulator, list_kept, nothing_kept};
+ghost use Rattle.std.specs.BTreeMap.{IsEmpty};
+ghost use Rattle.std.specs.Prelude.{◌≡◌, [], MatchResult, string_bytes, ⊤};
+ghost use Rattle.stream_sets.specs.Accumulator.{Accumulator, characters_kept, entries_kept};
+ghost use Rattle.stream_sets.specs.Accumulator.{list_kept, nothing_kept, number_kept, texts_kept};
 
 use std::alloc::{AllocError, Allocator};
+use std::collections::BTreeMap;
 
-/// What a repetition puts its outputs into: nothing, or a list. `A` is the allocator that it is
-/// made with.
+/// What a repetition puts its outputs into: nothing, a number, a list, a text or a map. `A` is the
+/// allocator that it is made with.
 ///
 /// ```text
 /// <Vec<u8> as Accumulate<u8, Global>>::initial(alloc, None)   is Ok of an empty list
@@ -25,7 +28,7 @@ pub trait Accumulate<O, A>: Drop {
     /// Takes one output more. It fails only where a request for memory was refused.
     fn accumulate(&mut self, output: O) -> Result<(), AllocError>
         ensures { MatchResult result (λ _. accumulator.takes self.old output self.new)
-            (λ _. accumulator.grows self.old) };
+            (λ _. accumulator.grows self.old output) };
 }
 
 /// Nothing is kept, and no memory is taken.
@@ -59,6 +62,96 @@ impl<O: Drop, A: Allocator> Accumulate<O, A> for Vec<O, A> {
     #[inline(always)]
     fn accumulate(&mut self, output: O) -> Result<(), AllocError> {
         self.push(output)?;
+        Ok(())
+    }
+}
+
+/// The number of the outputs, which stays at the greatest `usize`. No memory is taken.
+///
+/// ```text
+/// repeat(0.., any) into a usize on "abc"   is Ok(3)
+/// ```
+impl<O: Drop, A: Drop> Accumulate<O, A> for usize {
+    ghost accumulator = { number_kept };
+
+    #[inline(always)]
+    fn initial(_alloc: A, _capacity: Option<usize>) -> Result<usize, AllocError>
+        ensures { MatchResult result (λ number. number ≡ 0) (λ _. ⊥) }
+    {
+        Ok(0)
+    }
+
+    #[inline(always)]
+    fn accumulate(&mut self, _output: O) -> Result<(), AllocError> {
+        *self = self.saturating_add(1);
+        Ok(())
+    }
+}
+
+/// A text to whose end the characters are put. An empty one takes no memory; more is wanted only
+/// where the bytes of a character have no room.
+///
+/// ```text
+/// repeat(0.., any) into a String on "abc"   is Ok of the text abc
+/// ```
+impl<A: Allocator> Accumulate<char, A> for String<A> {
+    ghost accumulator = { characters_kept };
+
+    #[inline(always)]
+    fn initial(alloc: A, _capacity: Option<usize>) -> Result<String<A>, AllocError>
+        ensures { MatchResult result (λ text. string_bytes text ≡ []) (λ _. ⊥) }
+    {
+        Ok(String::new(alloc))
+    }
+
+    #[inline(always)]
+    fn accumulate(&mut self, output: char) -> Result<(), AllocError> {
+        self.push(output)
+    }
+}
+
+/// A text to whose end the texts are put. An empty one takes no memory; more is wanted only where
+/// the bytes of a text have no room.
+///
+/// ```text
+/// separated(0.., digit1, ',') into a String on "1,23"   is Ok of the text 123
+/// ```
+impl<'i, A: Allocator> Accumulate<&'i str, A> for String<A> {
+    ghost accumulator = { texts_kept };
+
+    #[inline(always)]
+    fn initial(alloc: A, _capacity: Option<usize>) -> Result<String<A>, AllocError>
+        ensures { MatchResult result (λ text. string_bytes text ≡ []) (λ _. ⊥) }
+    {
+        Ok(String::new(alloc))
+    }
+
+    #[inline(always)]
+    fn accumulate(&mut self, output: &'i str) -> Result<(), AllocError> {
+        self.push_str(output)
+    }
+}
+
+/// A map that the pairs of a key and a value are put into. The last value of a key stands, beside
+/// the first of its equal keys. An empty one takes no memory; more is wanted only for a new key.
+///
+/// ```text
+/// repeat(0.., (any, any)) into a BTreeMap on "a1b2a3"   is Ok of 'a' to '3' and 'b' to '2'
+/// ```
+impl<K: Ord + Drop, V: Drop, A: Allocator + Clone> Accumulate<(K, V), A> for BTreeMap<K, V, A> {
+    ghost accumulator = { entries_kept K.cmp };
+
+    #[inline(always)]
+    fn initial(alloc: A, _capacity: Option<usize>) -> Result<BTreeMap<K, V, A>, AllocError>
+        ensures { MatchResult result (λ map. IsEmpty map) (λ _. ⊥) }
+    {
+        Ok(BTreeMap::new(alloc))
+    }
+
+    #[inline(always)]
+    fn accumulate(&mut self, output: (K, V)) -> Result<(), AllocError> {
+        let (key, value) = output;
+        let _before = self.insert(key, value)?;
         Ok(())
     }
 }

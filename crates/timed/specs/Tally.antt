@@ -9,5 +9,5 @@ counts = record {
   starts = λ _ count. count.number ≡ 0;
   takes = λ count _ more. more.number ≡ (count.number + 1) % 2 ^ 64;
   start_grows = λ _. ⊥;
-  grows = λ _. ⊥;
+  grows = λ _ _. ⊥;
 }

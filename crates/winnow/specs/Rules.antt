@@ -1,6 +1,7 @@
 -- Lemmas and rulesets that callers name in `using(..)`.
 pub use Rattle.streams.specs.Ends.{ends_follow}
 pub use Rattle.stream_errors.specs.Form.Known.{known_answers}
+pub use Rattle.stream_sets.specs.Accumulator.Known.{known_accumulators}
 pub use Rattle.winnow_core.specs.Laws.{run_of_like}
 pub use Rattle.winnow_core.specs.Eof.Known.{known_ends}
 pub use Rattle.winnow_core.specs.Literal.Known.{known_literals}

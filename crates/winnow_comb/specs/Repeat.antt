@@ -45,7 +45,7 @@ RepeatEnds {S} {T} {O} {C} run into assert_kind bounds before outputs u m answer
     -- an item consumes, and is one too many for the memory
     ⊎ ((o : O) × (some : C) × IsBelow bounds.greatest (length outputs) × run u m (Ok o) t j
     × (length j.left.tokens < length m.left.tokens)
-    × Accumulates into.takes before outputs some × into.grows some
+    × Accumulates into.takes before outputs some × into.grows some o
     × (answer ≡ Err memory)))))
 
 -- A chain of items, and what ended it.
@@ -67,7 +67,7 @@ RepeatOneRuns {S} {T} {O} {C} run into assert_kind s i answer t j =
     × ItemsRun run into assert_kind (from_to 0 None) one v n answer t j)
     -- there is no memory for an accumulator, or for the first item in it
     ⊎ ((o : O) × run s i (Ok o) t j
-    × (into.start_grows None ⊎ ((empty : C) × into.starts None empty × into.grows empty))
+    × (into.start_grows None ⊎ ((empty : C) × into.starts None empty × into.grows empty o))
     × (answer ≡ Err memory)))
 
 -- how many items an accumulator is made for: the least number, in a repetition with a greatest one

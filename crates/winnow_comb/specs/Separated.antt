@@ -62,7 +62,7 @@ ElementsRun {S} {W} {T} {O} {D} {C} run separator into assert_kind bounds empty 
     × (k ≡ backtrack → 0 < bounds.least) × (answer ≡ Err k))
     -- there is no memory for it
     ⊎ (((o : O) × IsBelow bounds.greatest 0 × run s.0 i (Ok o) t.0 j × (t.1 ≡ s.1)
-    × into.grows empty × (answer ≡ Err memory))
+    × into.grows empty o × (answer ≡ Err memory))
     -- links follow it
     ⊎ ((o : O) × (v : S) × (n : Input T) × (one : C) × IsBelow bounds.greatest 0
     × run s.0 i (Ok o) v n × into.takes empty o one

@@ -86,7 +86,7 @@ RepeatFailure {S} {T} {O} {C} run into assert_kind u m k t j =
     -- one that consumes nothing
     ⊎ (((o : O) × run u m (Ok o) t j × (j.left.tokens ≡ m.left.tokens) × (k ≡ assert_kind))
     -- one too many for the memory
-    ⊎ ((o : O) × (some : C) × run u m (Ok o) t j × into.grows some × (k ≡ memory)))
+    ⊎ ((o : O) × (some : C) × run u m (Ok o) t j × into.grows some o × (k ≡ memory)))
 
 -- An error of a repetition of any number: the items before it, and what made it fail.
 pub record RepeatedTo {S T O C : Type 0} (run : Runs S T O) (into : Accumulator C O)
