@@ -77,7 +77,7 @@ LeastItemsRun {S} {T} {O} {C} run into least empty s i answer t j =
     -- one fails
     ⊎ (((k : Kind) × (length outputs < least) × run u m (Err k) t j × (answer ≡ Err k))
     -- one is one too many for the memory
-    ⊎ ((o : O) × (length outputs < least) × run u m (Ok o) t j × into.grows some
+    ⊎ ((o : O) × (length outputs < least) × run u m (Ok o) t j × into.grows some o
     × (answer ≡ Err memory))))
 
 -- A turn: the terminator backtracks, and the parser is run from the same place.
@@ -103,7 +103,7 @@ TurnsEnd {S} {W} {T} {O} {D} {C} run till into assert_kind room outputs some u m
     × (j.left.tokens ≡ m.left.tokens) × (answer ≡ Err assert_kind))
     -- the item consumes, and is one too many for the memory
     ⊎ ((o : O) × IsBelow room (length outputs) × TurnRuns run till u m (Ok o) t j
-    × (length j.left.tokens < length m.left.tokens) × into.grows some
+    × (length j.left.tokens < length m.left.tokens) × into.grows some o
     × (answer ≡ Err memory)))))
 
 -- A chain of turns whose items consume, and what ended it.

@@ -67,11 +67,11 @@ pub first_failed : {S T O C : Type 0} (run : Runs S T O) (into : Accumulator C O
     → ((length firsts ≡ least) × ◌≡◌ {A = Answer C} (Err k) (Ok made) × (t ≡ p) × (j ≡ q))
     ⊎ (((l : Kind) × (length firsts < least) × run p q (Err l) t j
     × ◌≡◌ {A = Answer C} (Err k) (Err l))
-    ⊎ ((o : O) × (length firsts < least) × run p q (Ok o) t j × into.grows made
+    ⊎ ((o : O) × (length firsts < least) × run p q (Ok o) t j × into.grows made o
     × ◌≡◌ {A = Answer C} (Err k) (Err memory)))
     → (length firsts < least)
     × (run p q (Err k) t j
-    ⊎ ((o : O) × (some : C) × run p q (Ok o) t j × into.grows some × (k ≡ memory)))
+    ⊎ ((o : O) × (some : C) × run p q (Ok o) t j × into.grows some o × (k ≡ memory)))
 first_failed run into least firsts made p q k t j (inl (enough, e, kept, same)) =
     ok_is_err e refl
 first_failed run into least firsts made p q k t j (inr (inl (l, few, r, e))) =

@@ -159,7 +159,7 @@ TurnsFailure {S} {W} {T} {O} {D} {C} run till into assert_kind full u m k t j =
     ⊎ (((o : O) × TurnRuns run till u m (Ok o) t j × (j.left.tokens ≡ m.left.tokens)
     × (k ≡ assert_kind))
     -- one too many for the memory
-    ⊎ ((o : O) × (some : C) × TurnRuns run till u m (Ok o) t j × into.grows some
+    ⊎ ((o : O) × (some : C) × TurnRuns run till u m (Ok o) t j × into.grows some o
     × (k ≡ memory))))
 
 -- An error before the least number of items was reached: those before it, and what failed.
@@ -172,7 +172,7 @@ pub record FewerThanLeast {S W T O C : Type 0} (run : Runs S T O) (into : Accumu
   pub few : length firsts < least
   -- an item failed, or was one too many for the memory
   pub failure : run state input (Err k) t.0 j
-      ⊎ ((o : O) × (some : C) × run state input (Ok o) t.0 j × into.grows some × (k ≡ memory))
+      ⊎ ((o : O) × (some : C) × run state input (Ok o) t.0 j × into.grows some o × (k ≡ memory))
   pub kept : t.1 ≡ s.1
 
 -- An error behind the least number of items: these, the turns behind them, and what failed.
@@ -238,7 +238,7 @@ repeat_till_err run till into assert_kind least greatest s i k t j fits free
       ran = ran.runs;
       few = few.0;
       failure = at_kind (λ x. run p q (Err x) t.0 j
-          ⊎ ((o : _) × (some : _) × run p q (Ok o) t.0 j × into.grows some × (x ≡ memory))) e
+          ⊎ ((o : _) × (some : _) × run p q (Ok o) t.0 j × into.grows some o × (x ≡ memory))) e
           few.1;
       kept = kept;
     })
