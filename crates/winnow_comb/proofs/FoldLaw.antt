@@ -34,7 +34,6 @@ TurnFails {S} {W} {T} {O} {D} run separator from t j =
 -- ---- chains are turns
 
 module _ {S W T O D : Type 0} (run : Runs S T O) (separator : Runs W T D) where
-
   link_turn : (assert_kind : Kind) (link : D × O) (s u : S × W) (i j : Input T)
       → PairLinkRuns run separator assert_kind s i (Ok link) u j
       → (m : Input T) × separator s.1 i (Ok link.0) u.1 m × run s.0 m (Ok link.1) u.0 j
@@ -73,9 +72,11 @@ module _ {S W T O D : Type 0} (run : Runs S T O) (separator : Runs W T D) where
   pair_turns [] s u i m e =
       ([], tt, ap (λ x. ((x.0.1, x.0.0), x.1)) e)
   pair_turns (link ∷ links) s u i m (p, (ran, consumes), rest) =
-      let (places, turns, e) = pair_turns links (p.0.1, p.0.0) u p.1 m rest in
-      (((p.0.1, p.0.0), p.1) ∷ places,
-      (pair_turn link s (p.0.1, p.0.0) i p.1 ran, turns), e)
+      let (places, turns, e) = pair_turns links (p.0.1, p.0.0) u p.1 m rest in (
+        ((p.0.1, p.0.0), p.1) ∷ places,
+        (pair_turn link s (p.0.1, p.0.0) i p.1 ran, turns),
+        e,
+      )
 
   -- ---- what ended them is a turn that fails
 
@@ -100,7 +101,6 @@ module _ {S W T O D : Type 0} (run : Runs S T O) (separator : Runs W T D) where
   -- ---- turns from one place
 
   module _ (decides : Decides run) (decides_between : Decides separator) where
-
     -- a turn that fails where one succeeds
     no_turn : (s u t : S × W) (i m j n : Input T) (link : D × O)
         → separator s.1 i (Ok link.0) u.1 m → run s.0 m (Ok link.1) u.0 n

@@ -32,7 +32,8 @@ folded_more folds run s i outputs u q value m chain o t p more j ran fewer taken
     chain_more chain (inr (inr (o, ran, fewer, taken, refl))) fewer
 
 module _ {S Q R T O : Type 0} (folds : Q → R → O → Answer R → Q → Type 0) (run : Runs S T O)
-    (assert_kind : Kind) (bounds : Bounds) (s : S × (Q × R)) (i : Input T) (outputs : List O) (u : S)
+    (assert_kind : Kind) (bounds : Bounds) (s : S × (Q × R)) (i : Input T) (outputs : List O)
+    (u : S)
     (q : Q) (value : R) (m : Input T) (chain : Chain (FoldedRuns folds run) s i outputs
     (u, (q, value)) m) where
   -- the greatest number is reached
@@ -90,7 +91,15 @@ module _ {S Q R T O : Type 0} (folds : Q → R → O → Answer R → Q → Type
           (u, (q, value)),
           m,
           chain,
-          inr (inr (inl (k, tt, below, inl (k, ran, refl, refl), few, nothing_takes outputs, refl))),
+          inr (inr (inl (
+            k,
+            tt,
+            below,
+            inl (k, ran, refl, refl),
+            few,
+            nothing_takes outputs,
+            refl,
+          ))),
         ),
         refl,
       ))
@@ -129,4 +138,18 @@ module _ {S Q R T O : Type 0} (folds : Q → R → O → Answer R → Q → Type
       → j ≡ back_at m.left x
       → FoldItemsRun folds run assert_kind bounds s i (Err k) (t, p) j
   fold_refused o k t p x j below ran fewer refused back =
-      inr (inr (outputs, (u, (q, value)), m, o, k, x, chain, below, ran, fewer, refused, refl, back))
+      inr (inr (
+        outputs,
+        (u, (q, value)),
+        m,
+        o,
+        k,
+        x,
+        chain,
+        below,
+        ran,
+        fewer,
+        refused,
+        refl,
+        back,
+      ))

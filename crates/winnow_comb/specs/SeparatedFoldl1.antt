@@ -6,7 +6,9 @@ use Rattle.stream_errors.specs.Form.{Answer}
 use Rattle.stream_sets.specs.Range.{from_to}
 use Rattle.winnow_core.specs.Runs.{Runs}
 use Rattle.winnow_comb.specs.Fold.{FoldItemsRun}
-use Rattle.winnow_comb.specs.declared.combinator.impls.separated_foldl1.SeparatedFoldl1.{SeparatedFoldl1}
+use Rattle.winnow_comb.specs.declared.combinator.impls.separated_foldl1.SeparatedFoldl1.{
+  SeparatedFoldl1,
+}
 pub mod Laws
 
 -- the parser of the elements

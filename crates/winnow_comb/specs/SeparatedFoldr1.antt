@@ -9,7 +9,9 @@ use Rattle.stream_sets.specs.Range.{from_to}
 use Rattle.winnow_core.specs.Runs.{Runs}
 use Rattle.winnow_core.specs.Sequence.{SequenceRuns2}
 use Rattle.winnow_comb.specs.Repeat.{RepeatManyRuns}
-use Rattle.winnow_comb.specs.declared.combinator.impls.separated_foldr1.SeparatedFoldr1.{SeparatedFoldr1}
+use Rattle.winnow_comb.specs.declared.combinator.impls.separated_foldr1.SeparatedFoldr1.{
+  SeparatedFoldr1,
+}
 pub mod Laws
 
 -- the parser of the elements

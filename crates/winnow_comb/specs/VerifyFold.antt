@@ -5,7 +5,9 @@ use Rattle.stream_errors.specs.Form.{Answer}
 use Rattle.stream_sets.specs.declared.range.Range.{Range}
 use Rattle.winnow_core.specs.Runs.{Runs}
 use Rattle.winnow_comb.specs.Fold.{RangedFoldMany}
-use Rattle.winnow_comb.specs.declared.combinator.impls.verify_fold.RepeatVerifyFold.{RepeatVerifyFold}
+use Rattle.winnow_comb.specs.declared.combinator.impls.verify_fold.RepeatVerifyFold.{
+  RepeatVerifyFold,
+}
 
 -- how often the parser is run
 abbrev pub verify_fold_occurrences : {P G H I O R E : Type 0} → RepeatVerifyFold P G H I O R E

@@ -55,7 +55,8 @@ pub number_of_outputs : {O : Type 0} (outputs : List O) (empty all : ℕ)
     → all ≡ min (length outputs) (2 ^ 64 - 1)
 number_of_outputs outputs empty all start taken =
     let small : empty ≤ greatest = grind (arith, start) in
-    let e : all ≡ min (empty + length outputs) greatest = number_more outputs empty all taken small in
+    let e : all ≡ min (empty + length outputs) greatest =
+    number_more outputs empty all taken small in
     grind (arith, e, start)
 
 -- ---- texts

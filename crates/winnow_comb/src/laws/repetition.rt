@@ -43,7 +43,8 @@ pub fn separated_leaves_a_separator_without_an_element<
 /// Where each separator consumes, and one state and one input decide how elements and separators
 /// end, [`separated_foldl1`](crate::combinator::separated_foldl1) and
 /// [`separated_foldr1`](crate::combinator::separated_foldr1) fold the same elements: from one state
-/// and input, where both succeed, these are the outputs of one list of runs, and both leave the same.
+/// and input, where both succeed, these are the outputs of one list of runs, and both leave the
+/// same.
 pub fn separated_folds_fold_the_same<
     P: Parser<I, O, E>,
     S: Parser<I, D, E>,

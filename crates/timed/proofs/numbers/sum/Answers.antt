@@ -10,5 +10,6 @@ returns c =
     let parser = c.fold.ensures.parser ∙ c.repeat.ensures.parser in
     let comma = ap terminated_ignored parser ∙ c.terminated.ensures.ignored in
     let range = c.fold.ensures.occurrences ∙ c.repeat.ensures.occurrences ∙ c.from.ensures in
-    sum_told _ _ (λ g e h began. search (rules, of_calls)) (λ q v n w p called. search (rules, of_calls))
+    sum_told _ _ (λ g e h began. search (rules, of_calls))
+    (λ q v n w p called. search (rules, of_calls))
     _ _ _ _ _ (both refl comma) range c.parse_next.ensures.ran

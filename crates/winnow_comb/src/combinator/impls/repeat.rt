@@ -88,7 +88,7 @@ impl<P: Parser<I, O, E>, I: Stream, O, E: ParserError<I>, A: Drop> Repeat<P, I, 
     /// is kept as [`FromExternalError`] says, and backtracks.
     ///
     /// ```text
-    /// repeat(alloc, Range::from(0..), digits).try_fold(|| 0, |sum: u8, n: &str| add(sum, n.parse()?))
+    /// repeat(alloc, Range::from(0..), digit).try_fold(|| 0, |sum: u8, n| add(sum, n))
     /// ```
     #[inline(always)]
     pub fn try_fold<G, H, R, X>(self, init: G, op: H) -> RepeatTryFold<P, G, H, I, O, R, E, X>

@@ -60,7 +60,7 @@ impl<
 /// The parser that [`Repeat::try_fold`](crate::combinator::impls::Repeat::try_fold) makes.
 ///
 /// ```text
-/// repeat(alloc, Range::from(0..), digit).try_fold(|| 0, |sum: u8, n| sum.checked_add(n).ok_or(TooLarge))
+/// repeat(alloc, Range::from(0..), digit).try_fold(|| 0, |sum: u8, n| add(sum, n))
 ///     is a RepeatTryFold
 /// ```
 #[derive(Drop)]
@@ -113,7 +113,8 @@ impl<
 
     ghost State = { P.State × (Range × (G × (H × Bool))) };
 
-    ghost state = { λ s. (P.state s.parser, (s.occurrences, (s.init, (s.op.closure, E.external_grows)))) };
+    ghost state = { λ s.
+        (P.state s.parser, (s.occurrences, (s.init, (s.op.closure, E.external_grows)))) };
 
     ghost meaning = { λ form. TryFoldRuns G.step H.step (P.meaning form) (assert_kind form) };
 

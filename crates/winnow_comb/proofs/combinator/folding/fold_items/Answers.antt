@@ -1,4 +1,5 @@
-use Rattle.std.proofs.Common.{rules, arith, refl, sym, subst, inl, inr, Err, length, ◌<◌, ◌≡◌, [], ◌∷◌, ◌++◌, length-append}
+use Rattle.std.proofs.Common.{rules, arith, refl, sym, subst, inl, inr, Err, length, ◌<◌, ◌≡◌, []}
+use Rattle.std.proofs.Common.{◌∷◌, ◌++◌, length-append}
 use Rattle.streams.specs.Input.{is_end_of_refl, is_end_of_trans}
 use Rattle.streams.specs.Kind.{backtrack}
 use Rattle.winnow_comb.specs.Fold.{FoldItemsRun}
@@ -25,7 +26,8 @@ items-init g c = (
 pub returns-then-eq-clause-ran : goal.returns-then-eq-clause-ran
 returns-then-eq-clause-ran g c =
     let inv = c.items.invariant in
-    fold_full g.F.Folding.folds (g.P.Parser.meaning g.E.HasKind.form) _ _ _ _ _ _ _ _ _ inv.1 (no_room _ _ _ _ _ inv.2 (search rules))
+    fold_full g.F.Folding.folds (g.P.Parser.meaning g.E.HasKind.form) _ _ _ _ _ _ _ _ _ inv.1
+    (no_room _ _ _ _ _ inv.2 (search rules))
 
 pub returns-then-eof_offset-left-clause-ran : goal.returns-then-eof_offset-left-clause-ran
 returns-then-eof_offset-left-clause-ran g c =
@@ -41,21 +43,25 @@ returns-in-Err-fold-clause-ran g c =
     let below = some_room _ _ _ _ _ inv.2 (λ e. search rules) in
     let fewer = fewer_tokens g.I.Stream.reading _ _ c.in-Ok.ensures.ends
     (λ e. absurd (omega (arith, e))) in
-    fold_refused g.F.Folding.folds (g.P.Parser.meaning g.E.HasKind.form) _ _ _ _ _ _ _ _ _ inv.1 c.in-Ok.output _ _ _ (g.I.Stream.view c.parse_next.new.input) _ below
+    fold_refused g.F.Folding.folds (g.P.Parser.meaning g.E.HasKind.form) _ _ _ _ _ _ _ _ _ inv.1
+    c.in-Ok.output _ _ _ (g.I.Stream.view c.parse_next.new.input) _ below
     c.in-Ok.ensures.ran fewer (c.in-Err-fold.ensures.folded _ c.error.ensures) (search rules)
 
 pub returns-then-is_backtrack-clause-ran : goal.returns-then-is_backtrack-clause-ran
 returns-then-is_backtrack-clause-ran g c =
     let inv = c.items.invariant in
     let below = some_room _ _ _ _ _ inv.2 (λ e. search rules) in
-    fold_ended g.F.Folding.folds (g.P.Parser.meaning g.E.HasKind.form) _ _ _ _ _ _ _ _ _ inv.1 _ (g.I.Stream.view c.parse_next.new.input) _ below (omega (arith, inv.2.still_missing)) (search rules)
+    fold_ended g.F.Folding.folds (g.P.Parser.meaning g.E.HasKind.form) _ _ _ _ _ _ _ _ _ inv.1 _
+    (g.I.Stream.view c.parse_next.new.input) _ below (omega (arith, inv.2.still_missing))
+    (search rules)
     (search rules)
 
 pub returns-in-Err-clause-ran : goal.returns-in-Err-clause-ran
 returns-in-Err-clause-ran g c =
     let inv = c.items.invariant in
     let below = some_room _ _ _ _ _ inv.2 (λ e. search rules) in
-    fold_failed g.F.Folding.folds (g.P.Parser.meaning g.E.HasKind.form) _ _ _ _ _ _ _ _ _ inv.1 _ _ _ below (λ e. few e) c.in-Err.ensures.ran
+    fold_failed g.F.Folding.folds (g.P.Parser.meaning g.E.HasKind.form) _ _ _ _ _ _ _ _ _ inv.1
+    _ _ _ below (λ e. few e) c.in-Err.ensures.ran
   where
     few : g.E.HasKind.kind c.in-Err.error ≡ backtrack → length c.items.invariant.0 < c.args.missing
     few e = elim c.else-missing-eq0.branch [
@@ -73,7 +79,8 @@ items-preserved g c =
     let fewer = fewer_tokens g.I.Stream.reading _ _ c.in-Ok.ensures.ends
     (λ e. absurd (omega (arith, e))) in (
       inv.0 ++ (c.in-Ok.output ∷ []),
-      folded_more g.F.Folding.folds (g.P.Parser.meaning g.E.HasKind.form) _ _ _ _ _ _ _ inv.1 _ _ _ _ _ c.in-Ok.ensures.ran fewer
+      folded_more g.F.Folding.folds (g.P.Parser.meaning g.E.HasKind.form) _ _ _ _ _ _ _ inv.1 _
+          _ _ _ _ c.in-Ok.ensures.ran fewer
           c.in-Ok-fold.ensures.folded,
       room_behind_more _ _ _ _ _ _ _ _ inv.2 (λ e. search rules) c.saturating_sub-missing.ensures
           (search rules) (length-append inv.0 (c.in-Ok.output ∷ [])),
