@@ -144,6 +144,7 @@ pub use Rattle.winnow_comb.specs.VerifyFold
 pub use Rattle.winnow_comb.specs.TryFold
 pub use Rattle.winnow_comb.specs.ChoiceLaws
 pub use Rattle.winnow_comb.specs.RepeatLaws
+pub use Rattle.winnow_comb.specs.FoldLaws
 pub use Rattle.winnow_comb.specs.Laws as CombinatorLaws
 -- What callers name in `using(..)`, which takes the files of this crate alone.
 pub mod Rules

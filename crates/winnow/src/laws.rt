@@ -13,7 +13,8 @@ pub use winnow_comb::laws::items::{
     alt_of_a_slice_answers_as_the_first, alt_of_an_array_answers_as_the_first,
 };
 pub use winnow_comb::laws::repetition::{
-    repeat_runs_at_most_once_a_unit, separated_leaves_a_separator_without_an_element,
+    repeat_runs_at_most_once_a_unit, separated_folds_fold_the_same,
+    separated_leaves_a_separator_without_an_element,
 };
 pub use winnow_comb::laws::{not_goes_back, opt_goes_back_on_none, peek_goes_back};
 pub use winnow_core::laws::{

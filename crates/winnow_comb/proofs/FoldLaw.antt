@@ -1,10 +1,10 @@
 -- Elements that are folded to the left and to the right are the same ones.
-use Rattle.std.specs.Prelude.{◌≡◌, ◌<◌, List, [], ◌∷◌, length, None, Ok, Err, ◌⊎◌, ⊤}
+use Rattle.std.specs.Prelude.{◌≡◌, ℕ, Option, List, [], ◌∷◌, length, None, Ok, Err, ◌⊎◌}
 use Rattle.std.specs.declared.vec.Vec.{Vec}
 use Rattle.std.proofs.Common.{refl, sym, ap, ◌∙◌, subst, inl, inr, arith}
 use Rattle.streams.specs.Input.{Input, back_at}
 use Rattle.streams.specs.Kind.{Kind, backtrack}
-use Rattle.stream_errors.specs.Form.Known.{at_output, ok_is_err, same_output}
+use Rattle.stream_errors.specs.Form.Known.{at_output, ok_is_err}
 use Rattle.stream_sets.specs.Accumulator.{list_kept}
 use Rattle.stream_sets.specs.Range.{from_to}
 use Rattle.winnow_core.specs.Runs.{Runs}
@@ -19,12 +19,13 @@ use Rattle.winnow_comb.specs.SeparatedFoldr1.{FoldsRight, SeparatedFoldr1Runs}
 -- ---- where turns end
 
 -- the last place
-final : {S T : Type 0} → S → Input T → List (S × Input T) → S × Input T
+abbrev final : {S T : Type 0} → S → Input T → List (S × Input T) → S × Input T
 final s i [] = (s, i)
 final s i (place ∷ places) = final place.0 place.1 places
 
 -- a turn that fails: its separator does, or the element behind it
-TurnFails : {S W T O D : Type 0} → Runs S T O → Runs W T D → (S × W) × Input T → S × W → Input T
+abbrev TurnFails : {S W T O D : Type 0} → Runs S T O → Runs W T D → (S × W) × Input T → S × W
+    → Input T
     → Type 0
 TurnFails {S} {W} {T} {O} {D} run separator from t j =
     ((k : Kind) × separator from.0.1 from.1 (Err k) t.1 j × (t.0 ≡ from.0.0))
@@ -63,7 +64,8 @@ module _ {S W T O D : Type 0} (run : Runs S T O) (separator : Runs W T D) where
   link_turns assert_kind [] s u i m e = ([], tt, e)
   link_turns assert_kind (link ∷ links) s u i m (p, (ran, consumes), rest) =
       let (places, turns, e) = link_turns assert_kind links p.0 u p.1 m rest in
-      (p ∷ places, (link_turn assert_kind link s p.0 i p.1 ran, turns), e)
+      let turn = link_turn assert_kind link s p.0 i p.1 ran in
+      (p ∷ places, (turn.0, turn.1, turn.2, turns), e)
 
   pair_turns : (links : List (D × O)) (s u : S × W) (i m : Input T)
       → Items (SequenceRuns2 separator run) (s.1, s.0) i links (u.1, u.0) m
@@ -72,11 +74,10 @@ module _ {S W T O D : Type 0} (run : Runs S T O) (separator : Runs W T D) where
   pair_turns [] s u i m e =
       ([], tt, ap (λ x. ((x.0.1, x.0.0), x.1)) e)
   pair_turns (link ∷ links) s u i m (p, (ran, consumes), rest) =
-      let (places, turns, e) = pair_turns links (p.0.1, p.0.0) u p.1 m rest in (
-        ((p.0.1, p.0.0), p.1) ∷ places,
-        (pair_turn link s (p.0.1, p.0.0) i p.1 ran, turns),
-        e,
-      )
+      let place : (S × W) × Input T = ((p.0.1, p.0.0), p.1) in
+      let (places, turns, e) = pair_turns links place.0 u p.1 m rest in
+      let turn = pair_turn link s place.0 i p.1 ran in
+      (place ∷ places, (turn.0, turn.1, turn.2, turns), e)
 
   -- ---- what ended them is a turn that fails
 
@@ -89,12 +90,12 @@ module _ {S W T O D : Type 0} (run : Runs S T O) (separator : Runs W T D) where
   link_fails assert_kind consumes s t i j (inr (inr (inl (d, m, k, r, fewer, q, e)))) =
       inr (d, m, k, r, q)
   link_fails assert_kind consumes s t i j (inr (inr (inr (d, m, o, r, fewer, q, e)))) =
-      ok_is_err (sym e) refl
+      ok_is_err e refl
 
   pair_fails : (s t : S × W) (i j : Input T)
       → SequenceRuns2 separator run (s.1, s.0) i (Err backtrack) (t.1, t.0) j
       → TurnFails run separator (s, i) t j
-  pair_fails s t i j (inl (d, o, m, r, q, e)) = ok_is_err (sym e) refl
+  pair_fails s t i j (inl (d, o, m, r, q, e)) = ok_is_err e refl
   pair_fails s t i j (inr (inl (k, r, same, e))) = inl (k, r, same)
   pair_fails s t i j (inr (inr (d, k, m, r, q, e))) = inr (d, m, k, r, q)
 
@@ -185,7 +186,7 @@ same_turns {S} {W} {Q} {T} {O} {D} step run separator assert_kind decides betwee
     first left t j all u k told known =
     let (places, turns, e) =
     link_turns run separator assert_kind told.outputs s told.state n told.input told.chain in
-    let state = (known.state.1, known.state.0) in
+    let state : S × W = (known.state.1, known.state.0) in
     let (more, again, f) =
     pair_turns run separator known.outputs s state n known.input known.chain in
     let Fails : (S × W) × Input T → Type 0 =
@@ -234,9 +235,10 @@ fold_the_same {S} {W} {Q} {T} {O} {D} A step run separator assert_kind decides b
     (from_to 0 None) (s.1, x.0) x.1 (Ok all) (u.1, u.0) k in
     let told = fold_items_ok (JoinsLink step) (PairLinkRuns run separator assert_kind) assert_kind
     ((v, s.1), (s.2, first)) n left ((t.0, t.1), t.2) j items in
+    let not_one : (0 ≡ 1) × (◌≡◌ {A = Option ℕ} None None) → ⊥ = λ h. absurd (omega (arith, h.0)) in
     let known = repeat_any_ok (SequenceRuns2 separator run) (list_kept {A = A}) assert_kind
     (s.1, v) n all (u.1, u.0) k
-    (inr (λ h. absurd (omega (arith, h.0)), subst Pairs (sym both) pairs)) in
+    (inr (not_one, subst Pairs (sym both) pairs)) in
     let (places, turns, again, states, others, left_same) =
     same_turns step run separator assert_kind decides between consumes (v, s.1) n s.2 first left
     ((t.0, t.1), t.2) j all (u.0, u.1) k told known in

@@ -1,13 +1,13 @@
 -- What a caller knows of one fold that answered: its items, in a chain, the value that they are
 -- folded into, and what ended them.
-use Rattle.std.specs.Prelude.{◌≡◌, ◌<◌, List, [], ◌∷◌, length, None, Ok, Err, ◌⊎◌}
+use Rattle.std.specs.Prelude.{◌≡◌, ◌<◌, List, [], ◌∷◌, length, None, Ok, Err}
 use Rattle.std.specs.List.{FoldsTo, fold}
 use Rattle.std.proofs.Common.{refl, sym, ap, ◌∙◌, subst, inl, inr, arith}
 use Rattle.streams.specs.Equal.{none_is_some}
 use Rattle.streams.specs.Input.{Input, back_at}
 use Rattle.streams.specs.Kind.{Kind, backtrack}
 use Rattle.stream_errors.specs.Form.{Answer}
-use Rattle.stream_errors.specs.Form.Known.{at_kind, at_output, ok_is_err, same_kind}
+use Rattle.stream_errors.specs.Form.Known.{at_kind, at_output, ok_is_err}
 use Rattle.stream_sets.specs.Accumulator.{nothing_kept}
 use Rattle.stream_sets.specs.Range.{from_to}
 use Rattle.winnow_core.specs.Runs.{Runs}

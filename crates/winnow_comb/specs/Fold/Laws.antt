@@ -1,5 +1,5 @@
 -- What holds of the runs of folds.
-use Rattle.std.specs.Prelude.{List, [], ◌∷◌, None, Ok, Err}
+use Rattle.std.specs.Prelude.{None, Ok, Err}
 use Rattle.std.proofs.Common.{inl, inr}
 use Rattle.streams.specs.Input.{Input, IsEndOf, is_end_of_trans}
 use Rattle.streams.specs.Kind.{Kind}
@@ -9,7 +9,7 @@ use Rattle.stream_sets.specs.Accumulator.{nothing_kept}
 use Rattle.stream_sets.specs.Range.{Bounds, bounds_of, from_to}
 use Rattle.winnow_core.specs.Ends.{back_ends, same_ends}
 use Rattle.winnow_core.specs.Runs.{Runs, LeaveEnds}
-use Rattle.winnow_comb.specs.Fold.{FoldItemsRun, FoldManyRuns, FoldOneRuns, FoldRuns, FoldTakes}
+use Rattle.winnow_comb.specs.Fold.{FoldItemsRun, FoldManyRuns, FoldOneRuns, FoldTakes}
 use Rattle.winnow_comb.specs.Fold.{FoldedRuns, RangedFoldMany, RangedFolds}
 use Rattle.winnow_comb.specs.Repeat.Laws.{chain_ends, items_end}
 

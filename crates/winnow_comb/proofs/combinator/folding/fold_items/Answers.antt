@@ -1,8 +1,7 @@
-use Rattle.std.proofs.Common.{rules, arith, refl, sym, subst, inl, inr, Err, length, ◌<◌, ◌≡◌, []}
+use Rattle.std.proofs.Common.{rules, arith, length, ◌<◌, ◌≡◌, []}
 use Rattle.std.proofs.Common.{◌∷◌, ◌++◌, length-append}
 use Rattle.streams.specs.Input.{is_end_of_refl, is_end_of_trans}
 use Rattle.streams.specs.Kind.{backtrack}
-use Rattle.winnow_comb.specs.Fold.{FoldItemsRun}
 use Rattle.winnow_comb.proofs.FoldLemmas.{fold_ended, fold_failed, fold_full, fold_refused}
 use Rattle.winnow_comb.proofs.FoldLemmas.{fold_stuck, folded_more}
 use Rattle.winnow_comb.proofs.RepeatLemmas.{chain_none, fewer_tokens, no_room, room_behind_more}

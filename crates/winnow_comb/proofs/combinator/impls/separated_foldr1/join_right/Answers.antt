@@ -1,4 +1,4 @@
-use Rattle.std.proofs.Common.{of_calls, rules, ◌∷◌, ◌++◌, append_assoc}
+use Rattle.std.proofs.Common.{of_calls, rules, ◌∷◌, append_assoc}
 use Rattle.winnow_comb.proofs.combinator.impls.separated_foldr1.join_right.Goals as goal
 
 pub links-preserved : goal.links-preserved

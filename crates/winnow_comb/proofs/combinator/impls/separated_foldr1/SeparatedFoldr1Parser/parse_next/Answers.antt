@@ -1,4 +1,4 @@
-use Rattle.std.proofs.Common.{rules, refl, inl, inr}
+use Rattle.std.proofs.Common.{refl, inr}
 use Rattle.winnow_comb.proofs.combinator.impls.separated_foldr1.SeparatedFoldr1Parser.parse_next.Goals as goal
 
 pub returns-clause-ran : goal.returns-clause-ran
