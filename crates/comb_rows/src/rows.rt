@@ -6,6 +6,7 @@ ghost use Rattle.streams.specs.Input.{IsEndOf};
 mod basic;
 mod branch;
 mod complete;
+mod iterators;
 mod multi;
 mod separated;
 mod sequence;
@@ -174,6 +175,7 @@ where
     sequence::at_bytes::<I, E>(rt);
     multi::at_bytes::<I, E, A>(rt, alloc);
     separated::separated::<I, E, A>(rt, alloc);
+    iterators::at_bytes::<I, E>(rt);
 }
 
 /// The rows at bytes under a plain error: an assert error backtracks.
@@ -184,6 +186,7 @@ fn at_bytes_plainly<I: OfText + Compare<u8>, E: ParserError<I>>(rt: &impl Abort,
     multi::repeat_plainly::<I, E, Global>(rt, alloc);
     multi::repeat_without_memory::<I, E>(rt, alloc);
     separated::separated_without_memory::<I, E>(rt, alloc);
+    iterators::at_bytes_plainly::<I, E>(rt);
 }
 
 /// The rows at streams of characters, whole and cut.
@@ -212,6 +215,9 @@ where
     complete::of_one::<I, E>(rt);
     complete::of_several::<I, E>(rt);
     complete::of_many::<I, E, A>(rt, alloc);
+    iterators::at_text::<I, E>(rt);
+    iterators::at_text::<Partial<I>, E>(rt);
+    iterators::iterator_on_cut_input::<Partial<I>, E>(rt);
 }
 
 #[test]

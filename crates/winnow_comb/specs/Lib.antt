@@ -16,6 +16,7 @@ pub mod Alt
 pub mod Chain
 pub mod Repeat
 pub mod Separated
+pub mod Iterator
 pub mod Laws
 pub mod ChoiceLaws
 pub mod RepeatLaws
