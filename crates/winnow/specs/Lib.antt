@@ -136,6 +136,8 @@ pub use Rattle.winnow_comb.specs.Alt
 pub use Rattle.winnow_comb.specs.Chain
 pub use Rattle.winnow_comb.specs.Repeat
 pub use Rattle.winnow_comb.specs.Separated
+pub use Rattle.winnow_comb.specs.Iterator
+pub use Rattle.winnow_comb.specs.Fill
 pub use Rattle.winnow_comb.specs.ChoiceLaws
 pub use Rattle.winnow_comb.specs.RepeatLaws
 pub use Rattle.winnow_comb.specs.Laws as CombinatorLaws

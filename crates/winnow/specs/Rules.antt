@@ -36,3 +36,5 @@ pub use Rattle.winnow_comb.specs.Opt.Known.{known_options}
 pub use Rattle.winnow_comb.specs.Peek.Known.{known_peeks}
 pub use Rattle.winnow_comb.specs.Repeat.Known.{known_repetitions}
 pub use Rattle.winnow_comb.specs.Separated.Known.{known_elements}
+pub use Rattle.winnow_comb.specs.Iterator.Known.{known_iterators}
+pub use Rattle.winnow_comb.specs.Fill.Known.{known_fillings}

@@ -17,6 +17,7 @@ pub mod Chain
 pub mod Repeat
 pub mod Separated
 pub mod Iterator
+pub mod Fill
 pub mod Laws
 pub mod ChoiceLaws
 pub mod RepeatLaws

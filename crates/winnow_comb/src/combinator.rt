@@ -10,5 +10,5 @@ pub mod sequence;
 pub use crate::combinator::basic::{backtrack_err, cond, cut_err, empty, fail, not, opt, peek};
 pub use crate::combinator::branch::alt;
 pub use crate::combinator::impls::ParserIterator;
-pub use crate::combinator::multi::{iterator, repeat, separated};
+pub use crate::combinator::multi::{fill, iterator, repeat, separated};
 pub use crate::combinator::sequence::{delimited, preceded, separated_pair, terminated};

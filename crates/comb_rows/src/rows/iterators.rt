@@ -1,8 +1,8 @@
-//! The runs of a parser one by one.
+//! The runs of a parser one by one, and buffers that are filled.
 use crate::rows::{Failing, HARD, same};
 use outcomes::Kind::{self, Backtrack, Cut};
 use outcomes::kind_of;
-use outcomes::texts::{OfText, whole};
+use outcomes::texts::{OfText, outcome_at, whole};
 use std::fmt::Debug;
 use std::process::Abort;
 use stream_errors::modal::ModalError;
@@ -12,7 +12,7 @@ use streams::needed::Needed;
 use streams::stream::Stream;
 use winnow_comb::combinator;
 use winnow_comb::combinator::ParserIterator;
-use winnow_comb::combinator::impls::Empty;
+use winnow_comb::combinator::impls::{Empty, Fill};
 use winnow_core::parser::Parser;
 use winnow_token::token::impls::Any;
 
@@ -38,7 +38,7 @@ fn gives<I: Stream, O: PartialEq + Debug + Copy, E: ParserError<I>, P: Parser<I,
     let mut input = input;
     let mut all: ParserIterator<'_, P, I, O, E> = combinator::iterator(&mut input, parser);
     let mut expected = items.iter();
-    for item in &mut all {
+    while let Some(item) = all.next() {
         same(rt, name, "an item", Some(item), expected.next().copied());
     }
     same(rt, name, "no item", all.next(), None);
@@ -58,6 +58,7 @@ pub(crate) fn at_bytes<I: OfText + Compare<u8>, E: ParserError<I> + ModalError>(
     iterator::<I, E>(rt);
     iterator_stopped::<I, E>(rt);
     iterator_of_nothing::<I, E>(rt, Cut);
+    fill_stopped::<I, E>(rt);
 }
 
 /// Items up to a run that backtracks, which leaves the input where it was before that run.
@@ -130,6 +131,7 @@ pub(crate) fn at_text<I: OfText + Stream<Token = char>, E: ParserError<I>>(rt: &
         end,
     );
     iterator_that_goes_on::<I, E>(rt);
+    fill::<I, E>(rt);
 }
 
 /// What gives more items ends well too.
@@ -155,4 +157,48 @@ where
 {
     let end = (Err(Kind::Incomplete(Needed::new(1))), 0);
     gives::<I, char, E, _>(rt, "iterator, cut", Any, I::of_text("ab"), &['a', 'b'], end);
+}
+
+/// A run on the text fills the buffer so, answers so, and leaves so many units.
+fn fills<
+    const N: usize,
+    I: OfText,
+    O: PartialEq + Debug + Copy,
+    E: ParserError<I>,
+    P: Parser<I, O, E> + Drop,
+>(
+    rt: &impl Abort,
+    parser: P,
+    text: &'static str,
+    elements: ([O; N], [O; N]),
+    want: (Result<(), Kind>, usize),
+)
+    requires { P.can_parse parser }
+{
+    let (mut buffer, filled) = elements;
+    let mut filling: Fill<'_, P, I, O, E> = combinator::fill(parser, &mut buffer);
+    let (answer, rest) = outcome_at::<I, (), E, _>(&mut filling, text);
+    same(rt, "fill", text, (answer, rest.eof_offset()), want);
+    same(rt, "the buffer of fill", text, buffer, filled);
+}
+
+/// A run an element, to the last one or the first error.
+fn fill<I: OfText + Stream<Token = char>, E: ParserError<I>>(rt: &impl Abort) {
+    let old = ['x', 'y', 'z'];
+    let short = (old, ['a', 'b', 'z']);
+    fills::<3, I, char, E, _>(rt, Any, "ab", short, (Err(Backtrack), 0));
+    fills::<3, I, char, E, _>(rt, Any, "abc", (old, ['a', 'b', 'c']), (Ok(()), 0));
+    fills::<3, I, char, E, _>(rt, Any, "abcd", (old, ['a', 'b', 'c']), (Ok(()), 1));
+    fills::<3, I, char, E, _>(rt, Any, "", (old, old), (Err(Backtrack), 0));
+    fills::<0, I, char, E, _>(rt, Any, "a", ([], []), (Ok(()), 1));
+}
+
+/// Other errors are handed on too; an item need not consume.
+fn fill_stopped<I: OfText + Compare<u8>, E: ParserError<I>>(rt: &impl Abort) {
+    for kind in HARD {
+        fills::<1, I, u8, E, _>(rt, Failing(kind), "ab", (*b"x", *b"x"), (Err(kind), 1));
+    }
+    let parser = combinator::opt(b'a');
+    let filled = [Some(b'a'), None];
+    fills::<2, I, Option<u8>, E, _>(rt, parser, "ab", ([None, Some(b'x')], filled), (Ok(()), 1));
 }

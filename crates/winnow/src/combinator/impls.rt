@@ -1,7 +1,7 @@
 //! The types of the combinators and adapters.
 pub use winnow_comb::combinator::impls::{
-    Alt, AltParser, BacktrackErr, Cond, CutErr, Delimited, Empty, Fail, Not, Opt, Peek, Preceded,
-    Repeat, Separated, SeparatedPair, Terminated,
+    Alt, AltParser, BacktrackErr, Cond, CutErr, Delimited, Empty, Fail, Fill, Not, Opt,
+    ParserIterator, Peek, Preceded, Repeat, Separated, SeparatedPair, Terminated,
 };
 pub use winnow_core::combinator::impls::{
     AndThen, ByRef, CompleteErr, Context, ContextWith, DefaultValue, Eof, ErrInto, FlatMap, Map,

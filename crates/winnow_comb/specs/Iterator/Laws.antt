@@ -1,6 +1,6 @@
 -- What holds of the calls of an iterator over the runs of a parser.
 use Rattle.std.specs.Prelude.{Option, Ok, Err}
-use Rattle.std.proofs.Common.{inl, inr, ap, sym}
+use Rattle.std.proofs.Common.{inl, inr, ap}
 use Rattle.streams.specs.Input.{IsEndOf}
 use Rattle.streams.specs.Kind.{Kind, backtrack}
 use Rattle.streams.specs.Reading.{Reading}
