@@ -1,8 +1,8 @@
 //! The runs of a parser one by one, and buffers that are filled.
 use crate::rows::{Failing, HARD, same};
 use outcomes::Kind::{self, Backtrack, Cut};
-use outcomes::kind_of;
-use outcomes::texts::{OfText, outcome_at, whole};
+use outcomes::texts::{OfText, whole};
+use outcomes::{kind_of, outcome_of};
 use std::fmt::Debug;
 use std::process::Abort;
 use stream_errors::modal::ModalError;
@@ -159,46 +159,65 @@ where
     gives::<I, char, E, _>(rt, "iterator, cut", Any, I::of_text("ab"), &['a', 'b'], end);
 }
 
-/// A run on the text fills the buffer so, answers so, and leaves so many units.
+/// One run that fills the buffer: its answer, and the units left.
+fn filled<I: Stream, O: Drop, E: ParserError<I>, P: Parser<I, O, E> + Drop>(
+    parser: P,
+    buffer: &mut [O],
+    input: I,
+) -> (Result<(), Kind>, usize)
+    requires { P.can_parse parser }
+{
+    let mut filling: Fill<'_, P, I, O, E> = combinator::fill(parser, buffer);
+    let (answer, rest) = outcome_of::<I, (), E, _>(&mut filling, input);
+    (answer, rest.eof_offset())
+}
+
+/// A run on the input makes the new elements of the old ones, answers so, and leaves so many units.
 fn fills<
     const N: usize,
-    I: OfText,
+    I: Stream,
     O: PartialEq + Debug + Copy,
     E: ParserError<I>,
     P: Parser<I, O, E> + Drop,
->(
-    rt: &impl Abort,
-    parser: P,
-    text: &'static str,
-    elements: ([O; N], [O; N]),
-    want: (Result<(), Kind>, usize),
-)
+>(rt: &impl Abort, parser: P, input: I, elements: ([O; N], [O; N]), want: (Result<(), Kind>, usize))
     requires { P.can_parse parser }
 {
-    let (mut buffer, filled) = elements;
-    let mut filling: Fill<'_, P, I, O, E> = combinator::fill(parser, &mut buffer);
-    let (answer, rest) = outcome_at::<I, (), E, _>(&mut filling, text);
-    same(rt, "fill", text, (answer, rest.eof_offset()), want);
-    same(rt, "the buffer of fill", text, buffer, filled);
+    let (old, new) = elements;
+    let mut buffer = old;
+    let got = filled::<I, O, E, P>(parser, &mut buffer, input);
+    same(rt, "fill", "the answer", got, want);
+    same(rt, "fill", "the buffer", buffer, new);
 }
 
 /// A run an element, to the last one or the first error.
 fn fill<I: OfText + Stream<Token = char>, E: ParserError<I>>(rt: &impl Abort) {
     let old = ['x', 'y', 'z'];
     let short = (old, ['a', 'b', 'z']);
-    fills::<3, I, char, E, _>(rt, Any, "ab", short, (Err(Backtrack), 0));
-    fills::<3, I, char, E, _>(rt, Any, "abc", (old, ['a', 'b', 'c']), (Ok(()), 0));
-    fills::<3, I, char, E, _>(rt, Any, "abcd", (old, ['a', 'b', 'c']), (Ok(()), 1));
-    fills::<3, I, char, E, _>(rt, Any, "", (old, old), (Err(Backtrack), 0));
-    fills::<0, I, char, E, _>(rt, Any, "a", ([], []), (Ok(()), 1));
+    fills::<3, I, char, E, _>(rt, Any, whole("ab"), short, (Err(Backtrack), 0));
+    fills::<3, I, char, E, _>(rt, Any, whole("abc"), (old, ['a', 'b', 'c']), (Ok(()), 0));
+    fills::<3, I, char, E, _>(rt, Any, whole("abcd"), (old, ['a', 'b', 'c']), (Ok(()), 1));
+    fills::<3, I, char, E, _>(rt, Any, whole(""), (old, old), (Err(Backtrack), 0));
+    fills::<0, I, char, E, _>(rt, Any, whole("a"), ([], []), (Ok(()), 1));
 }
 
 /// Other errors are handed on too; an item need not consume.
 fn fill_stopped<I: OfText + Compare<u8>, E: ParserError<I>>(rt: &impl Abort) {
     for kind in HARD {
-        fills::<1, I, u8, E, _>(rt, Failing(kind), "ab", (*b"x", *b"x"), (Err(kind), 1));
+        fills::<1, I, u8, E, _>(
+            rt,
+            Failing(kind),
+            whole("ab"),
+            (*b"x", *b"x"),
+            (Err(kind), 1),
+        );
     }
     let parser = combinator::opt(b'a');
     let filled = [Some(b'a'), None];
-    fills::<2, I, Option<u8>, E, _>(rt, parser, "ab", ([None, Some(b'x')], filled), (Ok(()), 1));
+    fills::<2, I, Option<u8>, E, _>(
+        rt,
+        parser,
+        whole("ab"),
+        ([None, Some(b'x')], filled),
+        (Ok(()), 1),
+    );
 }
