@@ -1,12 +1,11 @@
 -- What is known while a buffer is filled.
 use Rattle.std.proofs.Common.{◌≡◌, ◌<◌, ◌+◌, ◌∙◌, ℕ, List, [], ◌∷◌, ◌++◌, length, Ok, Err, refl}
 use Rattle.std.proofs.Common.{sym, ap, inl, inr, arith, get_or, append_assoc, length-append}
-use Rattle.std.specs.Prelude.{slice_set, ⊤}
+use Rattle.std.specs.Prelude.{slice_set}
 use Rattle.std.proofs.lemmas.Fn.{FoldsTo-push}
 use Rattle.std.proofs.lemmas.List.{length_push}
 use Rattle.streams.specs.Input.{Input}
 use Rattle.streams.specs.Kind.{Kind}
-use Rattle.stream_errors.specs.Form.{Answer}
 use Rattle.winnow_core.specs.Runs.{Runs}
 use Rattle.winnow_comb.specs.Chain.{Successes}
 use Rattle.winnow_comb.specs.Fill.{FillsElements}
@@ -43,7 +42,8 @@ module _ {S T O : Type 0} (run : Runs S T O) (orig now : List O) (s : S) (i : In
   pub filled_more : (d o : O) (v : S) (n : Input T) → k < length now → run u m (Ok o) v n
       → Filled run orig (slice_set now k o) s i v n (k + 1)
   filled_more d o v n within r =
-      let (tail, is) = rest_of p.outputs p.rest now k (get_or now k d) d p.count p.new within refl in
+      let (tail, is) =
+      rest_of p.outputs p.rest now k (get_or now k d) d p.count p.new within refl in
       let split : now ≡ p.outputs ++ get_or now k d ∷ tail =
       p.new ∙ ap (λ l. p.outputs ++ l) is in
       record {

@@ -1,5 +1,5 @@
 -- Elements with separators leave a separator unread whose element backtracks.
-use Rattle.std.proofs.Common.{◌≡◌, ◌≤◌, ℕ, Option, None, Ok, Err, sym, subst, ap, ◌⊎◌, inl, inr}
+use Rattle.std.proofs.Common.{◌≡◌, ℕ, Option, None, Ok, Err, sym, subst, ap, ◌⊎◌, inl, inr}
 use Rattle.std.proofs.Common.{◌∙◌}
 use Rattle.streams.specs.Input.{Input}
 use Rattle.streams.specs.Kind.{Kind, backtrack}

@@ -2,7 +2,6 @@
 -- runs that consume, and the run behind them stopped it.
 use Rattle.std.specs.Prelude.{◌≡◌, List, [], ◌∷◌, ◌++◌, Option, Some, None}
 use Rattle.std.specs.Iterator.{Drains, Yields}
-use Rattle.std.specs.List.{FoldsTo}
 use Rattle.std.proofs.Common.{refl, sym, subst, inl, inr}
 use Rattle.std.proofs.lemmas.Fn.{FoldsTo-push}
 use Rattle.streams.specs.Input.{Input}

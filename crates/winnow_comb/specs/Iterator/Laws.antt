@@ -6,7 +6,7 @@ use Rattle.streams.specs.Kind.{Kind, backtrack}
 use Rattle.streams.specs.Reading.{Reading}
 use Rattle.winnow_core.specs.Ends.{back_ends, same_ends}
 use Rattle.winnow_core.specs.Runs.{Runs, LeaveEnds}
-use Rattle.winnow_comb.specs.Iterator.{IteratorNext, IteratorState, IteratorStops}
+use Rattle.winnow_comb.specs.Iterator.{IteratorNext, IteratorState}
 
 -- they leave an end, where the runs of the parser do
 pub iterator_ends : {S T L O : Type 0} (reading : Reading T L) (run : Runs S T O)

@@ -1,7 +1,7 @@
 -- What holds of the runs of elements with separators.
-use Rattle.std.specs.Prelude.{◌≡◌, ◌-◌, ℕ, Option, Some, Ok, Err}
+use Rattle.std.specs.Prelude.{Ok, Err}
 use Rattle.std.proofs.Common.{inl, inr}
-use Rattle.streams.specs.Input.{Input, is_end_of_trans}
+use Rattle.streams.specs.Input.{is_end_of_trans}
 use Rattle.streams.specs.Kind.{Kind, backtrack}
 use Rattle.streams.specs.Reading.{Reading}
 use Rattle.stream_sets.specs.Accumulator.{Accumulator}
@@ -9,7 +9,7 @@ use Rattle.stream_sets.specs.Range.{Bounds, bounds_of}
 use Rattle.winnow_core.specs.Ends.{back_ends, same_ends}
 use Rattle.winnow_core.specs.Runs.{Runs, LeaveEnds}
 use Rattle.winnow_comb.specs.Repeat.Laws.{items_end}
-use Rattle.winnow_comb.specs.Separated.{ElementsRun, LinkRuns, RangedElements, SeparatedRuns}
+use Rattle.winnow_comb.specs.Separated.{ElementsRun, LinkRuns, RangedElements}
 use Rattle.winnow_comb.specs.Separated.{links_within}
 
 -- links leave an end, where separators and elements do

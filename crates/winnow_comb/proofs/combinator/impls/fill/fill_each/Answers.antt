@@ -1,6 +1,6 @@
-use Rattle.std.proofs.Common.{◌≡◌, length, rules, arith, refl, subst}
+use Rattle.std.proofs.Common.{arith}
 use Rattle.streams.specs.Input.{is_end_of_refl, is_end_of_trans}
-use Rattle.winnow_comb.proofs.FillLemmas.{filled_none, filled_more, filled_all, filled_to}
+use Rattle.winnow_comb.proofs.FillLemmas.{filled_none, filled_more, filled_to}
 use Rattle.winnow_comb.proofs.combinator.impls.fill.fill_each.Goals as goal
 
 pub loop-k-init : goal.loop-k-init
