@@ -8,6 +8,7 @@ mod basic;
 mod branch;
 mod complete;
 mod folds;
+mod iterators;
 mod multi;
 mod repeat_till;
 mod separated;
@@ -178,6 +179,7 @@ where
     multi::at_bytes::<I, E, A>(rt, alloc);
     repeat_till::repeat_till::<I, E, A>(rt, alloc);
     separated::separated::<I, E, A>(rt, alloc);
+    iterators::at_bytes::<I, E>(rt);
 }
 
 /// The rows at bytes under a plain error: an assert error backtracks.
@@ -190,6 +192,7 @@ fn at_bytes_plainly<I: OfText + Compare<u8>, E: ParserError<I>>(rt: &impl Abort,
     repeat_till::repeat_till_plainly::<I, E, Global>(rt, alloc);
     repeat_till::repeat_till_without_memory::<I, E>(rt, alloc);
     separated::separated_without_memory::<I, E>(rt, alloc);
+    iterators::at_bytes_plainly::<I, E>(rt);
 }
 
 /// The rows at streams of characters, whole and cut.
@@ -219,6 +222,9 @@ where
     complete::of_one::<I, E>(rt);
     complete::of_several::<I, E>(rt);
     complete::of_many::<I, E, A>(rt, alloc);
+    iterators::at_text::<I, E>(rt);
+    iterators::at_text::<Partial<I>, E>(rt);
+    iterators::iterator_on_cut_input::<Partial<I>, E>(rt);
 }
 
 #[test]

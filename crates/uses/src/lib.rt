@@ -5,6 +5,7 @@ pub mod choices;
 pub mod complete_streams;
 pub mod csv;
 pub mod functions;
+pub mod items;
 pub mod numbers;
 pub mod numerals;
 pub mod ports;

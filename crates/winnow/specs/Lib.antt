@@ -142,6 +142,8 @@ pub use Rattle.winnow_comb.specs.SeparatedFoldr1
 pub use Rattle.winnow_comb.specs.Fold
 pub use Rattle.winnow_comb.specs.VerifyFold
 pub use Rattle.winnow_comb.specs.TryFold
+pub use Rattle.winnow_comb.specs.Iterator
+pub use Rattle.winnow_comb.specs.Fill
 pub use Rattle.winnow_comb.specs.ChoiceLaws
 pub use Rattle.winnow_comb.specs.RepeatLaws
 pub use Rattle.winnow_comb.specs.FoldLaws

@@ -39,3 +39,5 @@ pub use Rattle.winnow_comb.specs.Repeat.Known.{known_repetitions}
 pub use Rattle.winnow_comb.specs.RepeatTill.Known.{known_turns}
 pub use Rattle.winnow_comb.specs.Separated.Known.{known_elements}
 pub use Rattle.winnow_comb.specs.Fold.Known.{known_folds}
+pub use Rattle.winnow_comb.specs.Iterator.Known.{known_iterators}
+pub use Rattle.winnow_comb.specs.Fill.Known.{known_fillings}

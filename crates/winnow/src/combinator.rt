@@ -3,7 +3,8 @@ pub mod impls;
 
 pub use winnow_comb::combinator::impls::Alt;
 pub use winnow_comb::combinator::{
-    alt, backtrack_err, cond, cut_err, delimited, empty, fail, not, opt, peek, preceded, repeat,
-    repeat_till, separated, separated_foldl1, separated_foldr1, separated_pair, terminated,
+    ParserIterator, alt, backtrack_err, cond, cut_err, delimited, empty, fail, fill, iterator, not,
+    opt, peek, preceded, repeat, repeat_till, separated, separated_foldl1, separated_foldr1,
+    separated_pair, terminated,
 };
 pub use winnow_core::combinator::eof;

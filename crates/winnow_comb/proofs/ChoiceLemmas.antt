@@ -48,7 +48,7 @@ backtracked_more run start (s ∷ ss) i (t ∷ ts) m x y a (n, q, h) r =
     (n, q, backtracked_more run start ss (back_at start n) ts m x y a h r)
 
 -- the branch k begins the rest
-rest_of : {S : Type 0} (ran rest now : List S) (k : ℕ) (item d : S) → length ran ≡ k
+pub rest_of : {S : Type 0} (ran rest now : List S) (k : ℕ) (item d : S) → length ran ≡ k
     → now ≡ ran ++ rest → k < length now → item ≡ get_or now k d
     → (tail : List S) × (rest ≡ item ∷ tail)
 rest_of ran [] now k item d count e within is =
@@ -58,13 +58,13 @@ rest_of ran (x ∷ tail) now k item d count e within is =
     (tail, ap (λ z. z ∷ tail) same)
 
 -- a write at the branch k
-set_at : {S : Type 0} (ran tail now : List S) (k : ℕ) (item new : S) → length ran ≡ k
+pub set_at : {S : Type 0} (ran tail now : List S) (k : ℕ) (item new : S) → length ran ≡ k
     → now ≡ ran ++ item ∷ tail → slice_set now k new ≡ ran ++ new ∷ tail
 set_at ran tail now k item new count e =
     ap (λ l. slice_set l k new) e ∙ ap (λ n. slice_set (ran ++ item ∷ tail) n new) (sym count)
     ∙ set-append_seam ran item tail new
 
-length-zero : {S : Type 0} (xs : List S) → length xs ≡ 0 → xs ≡ []
+pub length-zero : {S : Type 0} (xs : List S) → length xs ≡ 0 → xs ≡ []
 length-zero [] e = refl
 length-zero (x ∷ xs) e = absurd (omega (arith, e))
 

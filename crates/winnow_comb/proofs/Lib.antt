@@ -4,6 +4,7 @@ pub mod RepeatLemmas
 pub mod RepeatTillLemmas
 pub mod SeparatedLemmas
 pub mod FoldLemmas
+pub mod FillLemmas
 mod RepetitionLaw
 mod SeparatedLaw
 mod FoldLaw

@@ -22,6 +22,8 @@ pub mod RepeatTill
 pub mod Separated
 pub mod SeparatedFoldl1
 pub mod SeparatedFoldr1
+pub mod Iterator
+pub mod Fill
 pub mod Laws
 pub mod ChoiceLaws
 pub mod RepeatLaws

@@ -10,7 +10,8 @@ pub mod sequence;
 
 pub use crate::combinator::basic::{backtrack_err, cond, cut_err, empty, fail, not, opt, peek};
 pub use crate::combinator::branch::alt;
+pub use crate::combinator::impls::ParserIterator;
 pub use crate::combinator::multi::{
-    repeat, repeat_till, separated, separated_foldl1, separated_foldr1,
+    fill, iterator, repeat, repeat_till, separated, separated_foldl1, separated_foldr1,
 };
 pub use crate::combinator::sequence::{delimited, preceded, separated_pair, terminated};
