@@ -2,13 +2,13 @@
 use Rattle.std.proofs.Common.{◌≡◌, ◌<◌, ◌+◌, ◌∙◌, ℕ, List, [], ◌∷◌, ◌++◌, length, Ok, Err, refl}
 use Rattle.std.proofs.Common.{sym, ap, inl, inr, arith, get_or, append_assoc, length-append}
 use Rattle.std.specs.Prelude.{slice_set}
-use Rattle.std.proofs.lemmas.Fn.{FoldsTo-push}
 use Rattle.std.proofs.lemmas.List.{length_push}
 use Rattle.streams.specs.Input.{Input}
 use Rattle.streams.specs.Kind.{Kind}
 use Rattle.winnow_core.specs.Runs.{Runs}
 use Rattle.winnow_comb.specs.Chain.{Successes}
 use Rattle.winnow_comb.specs.Fill.{FillsElements}
+use Rattle.winnow_comb.proofs.RepeatLemmas.{successes_more, successes_none}
 use Rattle.winnow_comb.proofs.ChoiceLemmas.{rest_of, set_at, length-zero}
 
 -- The first k elements are outputs, and the others are as they were.
@@ -29,7 +29,7 @@ filled_none run buffer s i = record {
   outputs = [];
   before = [];
   rest = buffer;
-  chain = refl;
+  chain = successes_none run s i;
   count = refl;
   same_count = refl;
   old = refl;
@@ -50,8 +50,7 @@ module _ {S T O : Type 0} (run : Runs S T O) (orig now : List O) (s : S) (i : In
         outputs = p.outputs ++ o ∷ [];
         before = p.before ++ get_or now k d ∷ [];
         rest = tail;
-        chain = FoldsTo-push (λ a x b. run a.0 a.1 (Ok x) b.0 b.1) (s, i) p.outputs (u, m) o (v, n)
-            p.chain r;
+        chain = successes_more p.chain r;
         count = length_push p.outputs o ∙ ap (λ x. x + 1) p.count;
         same_count = length_push p.before (get_or now k d) ∙ ap (λ x. x + 1) p.same_count
             ∙ sym (length_push p.outputs o);

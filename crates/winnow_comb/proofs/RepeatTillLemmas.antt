@@ -1,8 +1,7 @@
 -- What is known while items are repeated until a terminator.
-use Rattle.std.proofs.Common.{◌≡◌, ◌-◌, ◌∙◌, ℕ, List, [], ◌∷◌, ◌++◌, Option}
-use Rattle.std.proofs.Common.{Some, None, Ok, Err, refl, ap, subst, inr}
+use Rattle.std.proofs.Common.{◌≡◌, ◌-◌, ◌∙◌, ℕ, Option}
+use Rattle.std.proofs.Common.{Some, None, Ok, Err, ap, subst, inr}
 use Rattle.std.specs.Prelude.{MatchOption}
-use Rattle.std.proofs.lemmas.Fn.{FoldsTo-push}
 use Rattle.streams.specs.Input.{Input, IsEndOf, Remaining, back_at, is_end_of_trans}
 use Rattle.streams.specs.Kind.{Kind, backtrack}
 use Rattle.streams.specs.Reading.{Reading}
@@ -12,22 +11,9 @@ use Rattle.stream_sets.specs.Range.{IsWithin, from_to}
 use Rattle.winnow_core.specs.Ends.{back_ends}
 use Rattle.winnow_core.specs.Runs.{Runs}
 use Rattle.winnow_comb.specs.Repeat.{capacity_of}
-use Rattle.winnow_comb.specs.RepeatTill.{IsSuccess, LeastItemsRun, RepeatTillRuns, Successes}
+use Rattle.winnow_comb.specs.RepeatTill.{LeastItemsRun, RepeatTillRuns}
 use Rattle.winnow_comb.specs.RepeatTill.{TurnRuns, TurnsRun, room_behind}
 use Rattle.winnow_comb.proofs.RepeatLemmas.{RoomBehind}
-
-pub successes_none : {S T O : Type 0} (run : Runs S T O) (s : S) (i : Input T)
-    → Successes run s i [] s i
-successes_none run s i = record { runs = refl }
-
-pub successes_more : {S T O : Type 0} {run : Runs S T O} {s : S} {i : Input T}
-    {outputs : List O} {t : S} {j : Input T} {o : O} {u : S} {k : Input T}
-    → Successes run s i outputs t j → run t j (Ok o) u k
-    → Successes run s i (outputs ++ (o ∷ [])) u k
-successes_more {run = run} {s = s} {i = i} {outputs = outputs} {t = t} {j = j} {o = o} {u = u}
-    {k = k} c r = record {
-      runs = FoldsTo-push (λ p o q. IsSuccess run p o q) (s, i) outputs (t, j) o (u, k) c.runs r;
-    }
 
 -- there are no more than the greatest number
 pub within_room : (least : ℕ) (greatest : Option ℕ) (missing : ℕ) (room : Option ℕ) (count : ℕ)

@@ -1,16 +1,14 @@
 -- Repetition until a terminator.
-use Rattle.std.specs.Prelude.{◌≡◌, ◌<◌, ◌-◌, ◌^◌, ℕ, nat_le, if◌then◌else◌, List, length}
+use Rattle.std.specs.Prelude.{◌≡◌, ◌<◌, ◌-◌, ℕ, List, length}
 use Rattle.std.specs.Prelude.{Option, Some, None, Ok, Err, ◌⊎◌}
-use Rattle.std.specs.List.{FoldsTo}
-use Rattle.std.proofs.lemmas.Bool.{lt-leb}
 use Rattle.streams.specs.Input.{Input, back_at}
 use Rattle.streams.specs.Kind.{Kind, backtrack, memory}
 use Rattle.stream_errors.specs.Form.{Answer}
 use Rattle.stream_sets.specs.Accumulator.{Accumulator}
-use Rattle.stream_sets.specs.Range.{Bounds, IsBelow, IsWithin, from_to}
+use Rattle.stream_sets.specs.Range.{Bounds, IsBelow, IsWithin, bounds_of}
 use Rattle.stream_sets.specs.declared.range.Range.{Range}
 use Rattle.winnow_core.specs.Runs.{Runs}
-use Rattle.winnow_comb.specs.Chain.{Accumulates, Chain}
+use Rattle.winnow_comb.specs.Chain.{Accumulates, Chain, Successes}
 use Rattle.winnow_comb.specs.Repeat.{capacity_of}
 use Rattle.winnow_comb.specs.declared.combinator.impls.repeat_till.RepeatTill.{RepeatTill}
 pub mod Items
@@ -30,40 +28,10 @@ repeat_till_parser s = s.parser
 abbrev pub repeat_till_terminator : {P G I O D C E A : Type 0} → RepeatTill P G I O D C E A → G
 repeat_till_terminator s = s.terminator
 
--- The greatest count by the least and the written greatest one. The form `0..` has none; another
--- range with no greatest count has the greatest number of its type.
-abbrev pub till_greatest : ℕ → Option ℕ → Option ℕ
-till_greatest least (Some n) = Some n
-till_greatest least None = if nat_le least 0 then None else Some (2 ^ 64 - 1)
-
-pub till_greatest-none : (least : ℕ) → least ≡ 0 → None ≡ till_greatest least None
-till_greatest-none least h = rw h (λ i. None)
-
-pub till_greatest-some : (least : ℕ) → 0 < least
-    → Some 18446744073709551615 ≡ till_greatest least None
-till_greatest-some least h = rw (lt-leb least 0 h)
-
-pub ruleset till_greatest_by_least = (till_greatest-none, till_greatest-some)
-
--- the bounds that a range stands for where a terminator ends the items
-abbrev pub till_bounds : Range → Bounds
-till_bounds range =
-    from_to range.start_inclusive (till_greatest range.start_inclusive range.end_inclusive)
-
 -- how many items there is room for behind the least, if there is a greatest number
 abbrev pub room_behind : ℕ → Option ℕ → Option ℕ
 room_behind least None = None
 room_behind least (Some most) = Some (most - least)
-
--- One run that succeeds, from a state and an input to a state and an input.
-abbrev pub IsSuccess : {S T O : Type 0} → Runs S T O → (S × Input T) → O → (S × Input T) → Type 0
-IsSuccess run from o to = run from.0 from.1 (Ok o) to.0 to.1
-
--- Runs that succeed, whether they consume or not, each where the one before it ended, and their
--- outputs in order.
-pub record Successes {S T O : Type 0} (run : Runs S T O) (s : S) (i : Input T)
-    (outputs : List O) (t : S) (j : Input T) : Type 0 where
-  pub runs : FoldsTo (λ p o q. IsSuccess run p o q) (s, i) outputs (t, j)
 
 -- The least number of items, which no terminator is tried before: some succeed, and what ended
 -- them.
@@ -142,5 +110,5 @@ RepeatTillRuns {S} {W} {T} {O} {D} {C} run till into assert_kind bounds s i answ
 abbrev pub RangedTillRuns : {S W T O D C : Type 0} → Runs S T O → Runs W T D → Accumulator C O
     → Kind → Runs (S × W × Range) T (C × D)
 RangedTillRuns run till into assert_kind s i answer t j =
-    RepeatTillRuns run till into assert_kind (till_bounds s.2) (s.0, s.1) i answer (t.0, t.1) j
+    RepeatTillRuns run till into assert_kind (bounds_of s.2) (s.0, s.1) i answer (t.0, t.1) j
     × (t.2 ≡ s.2)

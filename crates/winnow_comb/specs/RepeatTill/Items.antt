@@ -11,12 +11,8 @@ use Rattle.stream_errors.specs.Form.Known.{at_kind, ok_is_err, same_kind, same_o
 use Rattle.stream_sets.specs.Accumulator.{Accumulator}
 use Rattle.stream_sets.specs.Range.{IsWithin}
 use Rattle.winnow_core.specs.Runs.{Runs}
-use Rattle.winnow_comb.specs.RepeatTill.{IsSuccess, LeastItemsRun, room_behind}
-
--- Items that succeed one behind the other, whether they consume or not, from a state and an input
--- to a state and an input.
-abbrev pub FirstItems : {S T O : Type 0} → Runs S T O → S → Input T → List O → S → Input T → Type 0
-FirstItems run s i outputs u m = FoldsTo (λ p o q. IsSuccess run p o q) (s, i) outputs (u, m)
+use Rattle.winnow_comb.specs.Chain.{Successes}
+use Rattle.winnow_comb.specs.RepeatTill.{LeastItemsRun, room_behind}
 
 -- ---- counts
 
@@ -45,14 +41,14 @@ taken_in_two takes (o ∷ os) outputs empty one all (c, taken, more) rest =
 pub least_reached : {S T O C : Type 0} (run : Runs S T O) (into : Accumulator C O) (least : ℕ)
     (empty : C) (s : S) (i : Input T) (first : C) (v : S) (n : Input T)
     → LeastItemsRun run into least empty s i (Ok first) v n
-    → (firsts : List O) × FirstItems run s i firsts v n × (length firsts ≡ least)
+    → (firsts : List O) × Successes run s i firsts v n × (length firsts ≡ least)
     × FoldsTo into.takes empty firsts first
 least_reached {C = C} run into least empty s i first v n
     (firsts, p, q, made, ran, taken, inl (enough, e, kept, same)) =
     let P : C → Type 0 = λ c. FoldsTo into.takes empty firsts c in (
       firsts,
-      subst (λ x. FirstItems run s i firsts x n) (sym kept)
-          (subst (λ x. FirstItems run s i firsts p x) (sym same) ran.runs),
+      subst (λ x. Successes run s i firsts x n) (sym kept)
+          (subst (λ x. Successes run s i firsts p x) (sym same) ran),
       enough,
       subst P (sym (same_output e)) taken.taken,
     )
@@ -85,7 +81,7 @@ no_items (o ∷ os) none = absurd (omega (arith, none))
 
 -- where none is needed, nothing was run
 pub none_first : {S T O : Type 0} (run : Runs S T O) (firsts : List O) (s : S) (i : Input T) (v : S)
-    (n : Input T) → length firsts ≡ 0 → FirstItems run s i firsts v n
+    (n : Input T) → length firsts ≡ 0 → Successes run s i firsts v n
     → ◌≡◌ {A = S × Input T} (s, i) (v, n)
-none_first run [] s i v n none e = e
-none_first run (o ∷ os) s i v n none e = absurd (omega (arith, none))
+none_first run [] s i v n none all = all.runs
+none_first run (o ∷ os) s i v n none all = absurd (omega (arith, none))

@@ -12,17 +12,17 @@ use Rattle.stream_errors.specs.Form.{Answer}
 use Rattle.stream_errors.specs.Form.Known.{at_kind, ok_is_err, same_kind, same_output}
 use Rattle.stream_sets.specs.Accumulator.{Accumulator, list_kept}
 use Rattle.stream_sets.specs.Accumulator.Known.{list_of_outputs}
-use Rattle.stream_sets.specs.Range.{IsWithin, from_to}
+use Rattle.stream_sets.specs.Range.{IsWithin, bounds_of, from_to, greatest_of}
 use Rattle.stream_sets.specs.declared.range.Range.{Range}
 use Rattle.winnow_core.specs.Runs.{Runs}
 use Rattle.winnow_comb.specs.Repeat.{capacity_of}
 use Rattle.winnow_comb.specs.Repeat.Known.{Items}
 use Rattle.winnow_comb.specs.RepeatTill.{LeastItemsRun, RepeatTillRuns, TurnRuns}
-use Rattle.winnow_comb.specs.RepeatTill.Items.{FirstItems, first_failed, full_behind}
+use Rattle.winnow_comb.specs.Chain.{Successes}
+use Rattle.winnow_comb.specs.RepeatTill.Items.{first_failed, full_behind}
 use Rattle.winnow_comb.specs.RepeatTill.Items.{least_reached, no_items, none_first, taken_in_two}
 use Rattle.winnow_comb.specs.RepeatTill.Items.{within_behind}
-use Rattle.winnow_comb.specs.RepeatTill.{TurnsEnd, TurnsRun, room_behind, till_bounds}
-use Rattle.winnow_comb.specs.RepeatTill.{till_greatest}
+use Rattle.winnow_comb.specs.RepeatTill.{TurnsEnd, TurnsRun, room_behind}
 
 -- ---- an output
 
@@ -37,7 +37,7 @@ pub record RepeatedTill {S W T O D C : Type 0} (run : Runs S T O) (till : Runs W
   pub firsts : List O
   pub first_state : S
   pub first_input : Input T
-  pub ran : FirstItems run s.0 i firsts first_state first_input
+  pub ran : Successes run s.0 i firsts first_state first_input
   pub as_many : length firsts ≡ least
   -- those of turns
   pub outputs : List O
@@ -168,7 +168,7 @@ pub record FewerThanLeast {S W T O C : Type 0} (run : Runs S T O) (into : Accumu
   pub firsts : List O
   pub state : S
   pub input : Input T
-  pub ran : FirstItems run s.0 i firsts state input
+  pub ran : Successes run s.0 i firsts state input
   pub few : length firsts < least
   -- an item failed, or was one too many for the memory
   pub failure : run state input (Err k) t.0 j
@@ -182,7 +182,7 @@ pub record FailedTurns {S W T O D C : Type 0} (run : Runs S T O) (till : Runs W 
   pub firsts : List O
   pub first_state : S
   pub first_input : Input T
-  pub ran : FirstItems run s.0 i firsts first_state first_input
+  pub ran : Successes run s.0 i firsts first_state first_input
   pub as_many : length firsts ≡ least
   pub outputs : List O
   pub state : S × W
@@ -235,7 +235,7 @@ repeat_till_err run till into assert_kind least greatest s i k t j fits free
       firsts = firsts;
       state = p;
       input = q;
-      ran = ran.runs;
+      ran = ran;
       few = few.0;
       failure = at_kind (λ x. run p q (Err x) t.0 j
           ⊎ ((o : _) × (some : _) × run p q (Ok o) t.0 j × into.grows some o × (x ≡ memory))) e
@@ -338,12 +338,12 @@ pub repeated_till_by : {S W T O D C : Type 0} (run : Runs S T O) (till : Runs W 
     (into : Accumulator C O) (assert_kind : Kind) (range : Range) (least : ℕ) (end : Option ℕ)
     (s : S × W) (i : Input T) (answer : Answer (C × D)) (t : S × W) (j : Input T)
     → range ≡ record { start_inclusive = least; end_inclusive = end }
-    → RepeatTillRuns run till into assert_kind (till_bounds range) s i answer t j
-    → RepeatTillRuns run till into assert_kind (from_to least (till_greatest least end)) s i
+    → RepeatTillRuns run till into assert_kind (bounds_of range) s i answer t j
+    → RepeatTillRuns run till into assert_kind (from_to least (greatest_of least end)) s i
     answer t j
 repeated_till_by run till into assert_kind range least end s i answer t j e ran =
     let P : Range → Type 0 =
-    λ r. RepeatTillRuns run till into assert_kind (till_bounds r) s i answer t j in
+    λ r. RepeatTillRuns run till into assert_kind (bounds_of r) s i answer t j in
     subst P e ran
 
 pub ruleset known_turns = (

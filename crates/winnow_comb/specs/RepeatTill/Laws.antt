@@ -1,26 +1,17 @@
 -- What holds of the runs of repetitions until a terminator.
-use Rattle.std.specs.Prelude.{ℕ, List, [], ◌∷◌, Option, Ok, Err}
-use Rattle.std.specs.List.{FoldsTo}
-use Rattle.std.proofs.Common.{ap, inl, inr, refl, sym}
-use Rattle.streams.specs.Input.{Input, IsEndOf, back_at, is_end_of_trans}
+use Rattle.std.specs.Prelude.{ℕ, Option, Ok, Err}
+use Rattle.std.proofs.Common.{inl, inr, refl}
+use Rattle.streams.specs.Input.{back_at, is_end_of_trans}
 use Rattle.streams.specs.Kind.{Kind, backtrack}
 use Rattle.streams.specs.Reading.{Reading}
 use Rattle.stream_sets.specs.Accumulator.{Accumulator}
-use Rattle.stream_sets.specs.Range.{Bounds}
+use Rattle.stream_sets.specs.Range.{Bounds, bounds_of}
 use Rattle.winnow_core.specs.Ends.{back_ends, same_ends}
 use Rattle.winnow_core.specs.Runs.{Runs, LeaveEnds}
+use Rattle.winnow_comb.specs.Chain.Laws.{successes_end}
 use Rattle.winnow_comb.specs.Repeat.Laws.{chain_ends}
-use Rattle.winnow_comb.specs.RepeatTill.{IsSuccess, LeastItemsRun, RangedTillRuns}
+use Rattle.winnow_comb.specs.RepeatTill.{LeastItemsRun, RangedTillRuns}
 use Rattle.winnow_comb.specs.RepeatTill.{RepeatTillRuns, TurnRuns, TurnsRun, room_behind}
-use Rattle.winnow_comb.specs.RepeatTill.{till_bounds}
-
-successes_end : {S T L O : Type 0} (reading : Reading T L) (run : Runs S T O)
-    → LeaveEnds reading run → (outputs : List O) (s : S) (i : Input T) (t : S) (j : Input T)
-    → FoldsTo (λ p o q. IsSuccess run p o q) (s, i) outputs (t, j) → IsEndOf reading j i
-successes_end reading run ends [] s i t j e = same_ends reading i j (ap (λ p. p.1) (sym e))
-successes_end reading run ends (o ∷ os) s i t j (p, item, rest) =
-    is_end_of_trans (successes_end reading run ends os p.0 p.1 t j rest)
-    (ends s i (Ok o) p.0 p.1 item)
 
 -- the least items leave an end, where items do
 pub least_items_end : {S T L O C : Type 0} (reading : Reading T L) (run : Runs S T O)
@@ -29,15 +20,15 @@ pub least_items_end : {S T L O C : Type 0} (reading : Reading T L) (run : Runs S
 least_items_end reading run into least empty ends s i answer t j
     (outputs, u, m, some, chain, taken, inl (enough, e, kept, same)) =
     is_end_of_trans (same_ends reading m j same)
-    (successes_end reading run ends outputs s i u m chain.runs)
+    (successes_end reading run ends outputs s i u m chain)
 least_items_end reading run into least empty ends s i answer t j
     (outputs, u, m, some, chain, taken, inr (inl (k, few, r, e))) =
     is_end_of_trans (ends u m (Err k) t j r)
-    (successes_end reading run ends outputs s i u m chain.runs)
+    (successes_end reading run ends outputs s i u m chain)
 least_items_end reading run into least empty ends s i answer t j
     (outputs, u, m, some, chain, taken, inr (inr (o, few, r, grows, e))) =
     is_end_of_trans (ends u m (Ok o) t j r)
-    (successes_end reading run ends outputs s i u m chain.runs)
+    (successes_end reading run ends outputs s i u m chain)
 
 -- a turn leaves an end, where items and terminators do
 pub turn_ends : {S W T L O D : Type 0} (reading : Reading T L) (run : Runs S T O)
@@ -89,5 +80,5 @@ pub repeat_till_ends : {S W T L O D C : Type 0} (reading : Reading T L) (run : R
     (till : Runs W T D) (into : Accumulator C O) (assert_kind : Kind) → LeaveEnds reading run
     → LeaveEnds reading till → LeaveEnds reading (RangedTillRuns run till into assert_kind)
 repeat_till_ends reading run till into assert_kind ends last s i answer t j (r, kept) =
-    within_ends reading run till into assert_kind (till_bounds s.2) ends last (s.0, s.1) i answer
+    within_ends reading run till into assert_kind (bounds_of s.2) ends last (s.0, s.1) i answer
     (t.0, t.1) j r

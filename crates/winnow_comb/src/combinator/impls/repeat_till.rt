@@ -4,7 +4,6 @@ ghost use Rattle.stream_errors.specs.Form.{answer_by, assert_kind};
 ghost use Rattle.stream_sets.specs.declared.range.Range.{Range};
 ghost use Rattle.streams.specs.Input.{IsEndOf};
 ghost use Rattle.winnow_comb.specs.RepeatTill.{LeastItemsRun, RangedTillRuns, TurnsRun};
-ghost use Rattle.winnow_comb.specs.RepeatTill.{till_greatest};
 ghost use Rattle.winnow_comb.specs.RepeatTill.Laws.{repeat_till_ends};
 ghost use Rattle.winnow_core.specs.Agrees.Beside.{agrees2_with};
 
@@ -56,7 +55,7 @@ impl<
 
     fn parse_next(&mut self, input: &mut I) -> Result<(C, D), E> {
         let least = self.occurrences.start_inclusive;
-        let greatest = greatest_till(self.occurrences);
+        let greatest = self.occurrences.greatest();
         if is_descending(least, greatest) {
             return Err(E::assert(input, "the greatest count is below the least"));
         }
@@ -93,25 +92,6 @@ impl<
         (λ q. q.terminator) (λ p. p.occurrences) (λ q. q.occurrences)
         (λ X Y m n form. RangedTillRuns (m form) (n form) C.accumulator (assert_kind form))
         P.agrees G.agrees };
-}
-
-/// The greatest count: none in the form `0..`, and the greatest `usize` of another range with no
-/// end, where the least items are read before the terminator is tried.
-#[inline(always)]
-#[tactic(auto, using(crate::specs::RepeatTill::till_greatest_by_least))]
-fn greatest_till(range: Range) -> Option<usize>
-    ensures { result ≡ till_greatest range.start_inclusive range.end_inclusive }
-{
-    match range.end_inclusive {
-        Some(last) => Some(last),
-        None => {
-            if range.start_inclusive == 0 {
-                None
-            } else {
-                Some(usize::MAX)
-            }
-        }
-    }
 }
 
 /// Reads so many items into an accumulator, and lets them consume nothing.

@@ -1,7 +1,7 @@
 use Rattle.std.proofs.Common.{rules, arith, [], ◌∷◌, ◌++◌, length-append}
 use Rattle.streams.specs.Input.{is_end_of_refl, is_end_of_trans}
-use Rattle.winnow_comb.proofs.RepeatLemmas.{accumulates_more, accumulates_none}
-use Rattle.winnow_comb.proofs.RepeatTillLemmas.{successes_more, successes_none}
+use Rattle.winnow_comb.proofs.RepeatLemmas.{accumulates_more, accumulates_none, successes_more}
+use Rattle.winnow_comb.proofs.RepeatLemmas.{successes_none}
 use Rattle.winnow_comb.proofs.combinator.impls.repeat_till.least_items.Goals as goal
 
 pub items-init : goal.items-init

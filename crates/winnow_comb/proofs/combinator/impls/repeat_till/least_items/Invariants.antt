@@ -1,7 +1,6 @@
 use Rattle.std.proofs.Common.{◌≡◌, ◌+◌, List, length}
 use Rattle.streams.specs.Input.{IsEndOf}
-use Rattle.winnow_comb.specs.Chain.{Accumulates}
-use Rattle.winnow_comb.specs.RepeatTill.{Successes}
+use Rattle.winnow_comb.specs.Chain.{Accumulates, Successes}
 use Rattle.winnow_comb.proofs.combinator.impls.repeat_till.least_items.Given as goal
 
 abbrev pub invariant-items : goal.invariant-items
