@@ -68,8 +68,7 @@ abbrev pub texts_kept : {A : Type 0} → Accumulator (String A) (Bor (List ℕ))
 texts_kept = spelled (λ text. text.now)
 
 -- what it is to keep pairs of a key and a value by their keys, in the order `cmp` of these: an
--- equal
--- key that is there stays, and takes the value; memory is wanted for a new key alone
+-- equal key that is there stays, and takes the value; memory is wanted for a new key alone
 abbrev pub entries_kept : {K X : Type 0} → (K → K → Ordering) → Accumulator (BTreeMap K X) (K × X)
 entries_kept cmp = record {
   starts = λ _ map. map.entries ≡ [];
