@@ -15,8 +15,7 @@ abbrev pub context_with_closure : {P I O E F C FI A : Type 0} → ContextWith P 
 context_with_closure s = s.context
 
 -- what a kind becomes: the closure stays, and so does the kind; or, where the errors grow, a
--- request
--- for memory was refused to the error that keeps the contexts
+-- request for memory was refused to the error that keeps the contexts
 abbrev pub ContextWithBecomes : {F : Type 0} → F × Bool → Kind → Kind → F × Bool → Type 0
 ContextWithBecomes f k l g = (g ≡ f) × KeepsKind (IsTrue f.1) k l
 
