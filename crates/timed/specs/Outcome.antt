@@ -8,7 +8,6 @@ use Rattle.readers.specs.Document.{HasSections, IsDocumentFault, SectionText}
 use Rattle.readers.specs.declared.fault.Fault.{Fault}
 use Rattle.timed.specs.declared.outcome.Outcome.{Outcome}
 use Rattle.timed.specs.declared.tally.Count.{Count}
-use Rattle.timed.specs.declared.tally.Sum.{Sum}
 
 -- how many outputs the list of a run has, and how many bytes are left; nothing of a run that fails
 abbrev pub TellsList : {O : Type 0} → (Answer (Vec O Global) → Input ℕ → Type 0) → Outcome
@@ -29,11 +28,11 @@ TellsCount run told =
 
 -- how many numbers a run adds up, their sum, and how many bytes are left; nothing of a run that
 -- fails
-abbrev pub TellsSum : (Answer Sum → Input ℕ → Type 0) → Outcome → Type 0
+abbrev pub TellsSum : (Answer (ℕ × ℕ) → Input ℕ → Type 0) → Outcome → Type 0
 TellsSum run told =
-    (answer : Answer Sum) × (j : Input ℕ) × run answer j
+    (answer : Answer (ℕ × ℕ)) × (j : Input ℕ) × run answer j
     × MatchResult answer
-    (λ all. (told.count ≡ all.number) × (told.sum ≡ all.sum)
+    (λ all. (told.count ≡ all.0) × (told.sum ≡ all.1)
     × (told.left ≡ length j.left.tokens))
     (λ _. (told.count ≡ 0) × (told.left ≡ 0))
 

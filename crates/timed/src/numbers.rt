@@ -2,13 +2,11 @@
 ghost use Rattle.std.specs.Prelude.{◌≡◌, length, ⊤};
 ghost use Rattle.winnow.specs.Bytes.{bytes_input};
 ghost use Rattle.winnow.specs.Form.{answer_by};
-ghost use Rattle.timed.specs.Numbers.{NumbersBetweenRun, NumbersRun};
+ghost use Rattle.timed.specs.Numbers.{NumbersBetweenRun, SumRun};
 ghost use Rattle.timed.specs.Outcome.{TellsList, TellsSum};
-ghost use Rattle.timed.specs.Tally.{sums};
 ghost use Rattle.winnow.specs.Accumulator.{list_kept};
 
 use crate::outcome::Outcome;
-use crate::tally::Sum;
 use std::alloc::Global;
 use winnow::ascii::impls::DecUint;
 use winnow::combinator::{repeat, separated, terminated};
@@ -44,18 +42,24 @@ pub extern "C" fn timed_number_list(alloc: Global, input: &[u8], out: &mut Outco
     }
 }
 
-fn sum<'i>(alloc: Global, input: &mut &'i [u8]) -> Result<Sum, ErrMode<InputError<&'i [u8]>>>
-    ensures { NumbersRun sums (bytes_input input.old.now)
+/// How many numbers there are, and their sum.
+fn sum<'i>(alloc: Global, input: &mut &'i [u8]) -> Result<(u64, u64), ErrMode<InputError<&'i [u8]>>>
+    ensures { SumRun (bytes_input input.old.now)
         (answer_by ⟦<ErrMode<InputError<&'i [u8]>> as HasKind>⟧.kind result)
         (bytes_input input.new.now) }
 {
-    repeat(alloc, Range::from(0..), terminated(DecUint, b',')).parse_next(input)
+    repeat(alloc, Range::from(0..), terminated(DecUint, b','))
+        .fold(
+            || (0u64, 0u64),
+            |all: (u64, u64), n: u32| (all.0.wrapping_add(1), all.1.wrapping_add(n as u64)),
+        )
+        .parse_next(input)
 }
 
 /// The sum of numbers.
 #[unsafe(no_mangle)]
 pub extern "C" fn timed_number_sum(alloc: Global, input: &[u8], out: &mut Outcome)
-    ensures { TellsSum (NumbersRun sums (bytes_input input.now)) out.new }
+    ensures { TellsSum (SumRun (bytes_input input.now)) out.new }
 {
     let mut rest = input;
     *out = Outcome {
@@ -64,8 +68,8 @@ pub extern "C" fn timed_number_sum(alloc: Global, input: &[u8], out: &mut Outcom
         left: 0,
     };
     if let Ok(all) = sum(alloc, &mut rest) {
-        out.count = all.number;
-        out.sum = all.sum;
+        out.count = all.0;
+        out.sum = all.1;
         out.left = rest.len() as u64;
     }
 }

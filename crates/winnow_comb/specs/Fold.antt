@@ -60,6 +60,11 @@ FoldItemsRun {S} {Q} {R} {T} {O} folds run assert_kind bounds s i answer t j =
     × (length x.left.tokens < length m.left.tokens) × folds u.1.0 u.1.1 o (Err k) t.1
     × (answer ≡ Err k) × (j ≡ back_at m.left x)))
 
+-- One call of a closure makes the value to begin with.
+pub record Makes {G R : Type 0} (starts : G → R → G → Type 0) (g : G) (value : R)
+    (h : G) : Type 0 where
+  pub made : starts g value h
+
 -- A number of items within the bounds: the value to begin with is made first.
 abbrev pub FoldManyRuns : {S G Q R T O : Type 0} → (G → R → G → Type 0)
     → (Q → R → O → Answer R → Q → Type 0) → Runs S T O → Kind → Bounds → S × (G × Q) → Input T
@@ -69,7 +74,7 @@ FoldManyRuns {S} {G} {Q} {R} {T} {O} starts folds run assert_kind bounds s i ans
     ((most : ℕ) × (bounds.greatest ≡ Some most) × (most < bounds.least)
     × (answer ≡ Err assert_kind) × (t ≡ s) × (j ≡ i))
     -- the items
-    ⊎ ((empty : R) × IsWithin bounds.greatest bounds.least × starts s.1.0 empty t.1.0
+    ⊎ ((empty : R) × IsWithin bounds.greatest bounds.least × Makes starts s.1.0 empty t.1.0
     × FoldItemsRun folds run assert_kind bounds (s.0, (s.1.1, empty)) i answer (t.0, t.1.1) j)
 
 -- One item or more: the first may consume nothing, and the value to begin with is made behind it.
@@ -81,7 +86,7 @@ FoldOneRuns {S} {G} {Q} {R} {T} {O} starts folds run assert_kind s i answer t j 
     ((k : Kind) × run s.0 i (Err k) t.0 j × (t.1 ≡ s.1) × (answer ≡ Err k))
     -- it is followed by others
     ⊎ ((o : O) × (v : S) × (n : Input T) × (empty : R) × (q : Q) × (one : R) × run s.0 i (Ok o) v n
-    × starts s.1.0 empty t.1.0 × folds s.1.1 empty o (Ok one) q
+    × Makes starts s.1.0 empty t.1.0 × folds s.1.1 empty o (Ok one) q
     × FoldItemsRun folds run assert_kind (from_to 0 None) (v, (q, one)) n answer (t.0, t.1.1) j)
 
 -- A fold: the form `1..` has its own rule for the first item.

@@ -136,7 +136,7 @@ fold_any_ok starts folds run assert_kind s i value t j (inl (most, is, below, e,
     none_is_some is
 fold_any_ok starts folds run assert_kind s i value t j (inr (empty, within, began, items)) = (
   empty,
-  began,
+  began.made,
   fold_items_ok folds run assert_kind (s.0, (s.1.1, empty)) i value (t.0, t.1.1) j items,
 )
 
@@ -162,7 +162,7 @@ fold_some_ok starts folds run assert_kind s i value t j
       q,
       one,
       r,
-      began,
+      began.made,
       taken,
       fold_items_ok folds run assert_kind (v, (q, one)) n value (t.0, t.1.1) j items,
     )

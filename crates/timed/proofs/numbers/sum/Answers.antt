@@ -1,17 +1,14 @@
-use Rattle.std.proofs.Common.{◌∙◌, ap, refl}
-use Rattle.timed.specs.Tally.{sums}
-use Rattle.winnow.specs.Form.{assert_kind, modal}
-use Rattle.winnow.specs.Repeat.{RangedRuns}
+use Rattle.std.proofs.Common.{of_calls, rules, ◌∙◌, ap, refl}
+use Rattle.winnow.specs.Fold.{fold_occurrences, fold_parser}
 use Rattle.winnow.specs.Terminated.{terminated_ignored}
-use Rattle.timed.specs.Numbers.{NumberMeans, any_number}
-use Rattle.timed.proofs.Runs.{both, ran_from}
+use Rattle.timed.proofs.Runs.{both}
+use Rattle.timed.proofs.Sums.{sum_told}
 use Rattle.timed.proofs.numbers.sum.Goals as goal
 
 pub returns : goal.returns
 returns c =
-    let comma = ap terminated_ignored c.repeat.ensures.parser ∙ c.terminated.ensures.ignored in
-    let range = c.repeat.ensures.occurrences ∙ c.from.ensures in (
-      _,
-      ran_from (RangedRuns NumberMeans sums (assert_kind modal)) _ ((tt, 44), any_number)
-          (both (both refl comma) range) _ _ _ _ c.parse_next.ensures.ran,
-    )
+    let parser = c.fold.ensures.parser ∙ c.repeat.ensures.parser in
+    let comma = ap terminated_ignored parser ∙ c.terminated.ensures.ignored in
+    let range = c.fold.ensures.occurrences ∙ c.repeat.ensures.occurrences ∙ c.from.ensures in
+    sum_told _ _ _ _ _ _ _ (both refl comma) range c.parse_next.ensures.ran
+    (λ g e h began. search (rules, of_calls)) (λ q v n w p called. search (rules, of_calls))
