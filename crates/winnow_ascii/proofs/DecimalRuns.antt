@@ -10,14 +10,14 @@ use Rattle.std.specs.Str.{IsAscii, IsUtf8}
 use Rattle.streams.specs.Input.{Input}
 use Rattle.streams.specs.Kind.{Kind, backtrack}
 use Rattle.streams.specs.Reading.{Reading}
-use Rattle.stream_errors.specs.Form.{ErrorForm}
+use Rattle.stream_errors.specs.Form.{Answer, ErrorForm}
 use Rattle.stream_sets.specs.AsChar.{IsDecDigit}
 use Rattle.winnow_ascii.specs.DecInt.{DecIntRuns}
 use Rattle.winnow_ascii.specs.DecUint.{DecUintRuns}
 use Rattle.winnow_ascii.specs.DecimalText.{IsSignedText, IsUnsignedText, ReadsSigned}
 use Rattle.winnow_ascii.specs.DecimalText.{ReadsUnsigned}
-use Rattle.winnow_ascii.specs.Digits.{AreCharacters}
-use Rattle.winnow_ascii.specs.Numeral.{IsSign, NumeralRuns, SignRuns}
+use Rattle.winnow_ascii.specs.Digits.{AreCharacters, value_in}
+use Rattle.winnow_ascii.specs.Numeral.{DigitsRuns, IsSign, NumeralRuns, SignRuns}
 use Rattle.winnow_ascii.specs.Numeral.Known.{digits_are, unsigned}
 use Rattle.winnow_ascii.proofs.NumeralLemmas.{TakesNumeral}
 
@@ -170,3 +170,22 @@ module _ {K T S : Type 0} (seen : K → T) (code : K → ℕ) (reading : Reading
   pub taken_status : (signed : Bool) (i j : Input T) (slice : S)
       → TakesNumeral seen code reading signed i slice j → j.status ≡ i.status
   taken_status signed i j slice (front, sign, digits, run, takes, chars) = takes.passed.status
+
+  -- a numeral was passed whose number is m, and fits
+  pub uint_passed : {N : Type 0} (number : N → ℕ) (bound : ℕ) (form : ErrorForm) (i j : Input T)
+      (m : ℕ) (n : N)
+      → ((digits : List ℕ) × DigitsRuns seen code reading true i digits j
+      × (m ≡ value_in 10 digits)) → (m < bound) × (number n ≡ m)
+      → DecUintRuns number bound seen code reading form i (Ok n) j
+  uint_passed number bound form i j m n (digits, run, same) (fits, is) =
+      let unsigned = inr (λ e. absurd cc, refl, refl) in
+      inl (digits, n, (i, unsigned, run), subst (λ v. v < bound) same fits, is ∙ same, refl)
+
+  -- a run from the same place
+  pub uint_again : {N : Type 0} (number : N → ℕ) (bound : ℕ) (form : ErrorForm)
+      (i a j : Input T) (answer : Answer N) → a ≡ i
+      → DecUintRuns number bound seen code reading form a answer j
+      → DecUintRuns number bound seen code reading form i answer j
+  uint_again number bound form i a j answer same run =
+      let P : Input T → Type 0 = λ x. DecUintRuns number bound seen code reading form x answer j in
+      subst P same run

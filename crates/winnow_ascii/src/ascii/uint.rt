@@ -6,7 +6,7 @@ ghost use Rattle.streams.specs.Input.{IsEndOf};
 ghost use Rattle.winnow_ascii.specs.DecUint.{DecUintRuns};
 ghost use Rattle.winnow_ascii.specs.DecimalText.{ReadsUnsigned};
 
-use crate::ascii::digits::small_number;
+use crate::ascii::digits::small_numeral;
 use crate::ascii::numeral::take_numeral;
 use std::str;
 use stream_errors::parser_error::ParserError;
@@ -175,12 +175,35 @@ where
     ensures ends { IsEndOf Input.reading (Input.view input.new) (Input.view input.old) }
 {
     let start = input.checkpoint();
-    match take_numeral::<Input, Error>(input, false) {
-        Ok(slice) => match uint_of::<Input::Slice, Output>(&slice) {
+    if let Some(number) = small_numeral(input) {
+        if let Some(number) = Output::try_from_number(number) {
+            return Ok(number);
+        }
+    }
+    input.reset(&start);
+    any_uint(input)
+}
+
+/// A decimal unsigned number, by the slice of its numeral.
+#[inline(never)]
+fn any_uint<I, N, E>(input: &mut I) -> Result<N, E>
+where
+    I: StreamIsPartial + SlicesAsBytes,
+    I::Token: AsChar,
+    I::Slice: AsBStr,
+    N: Uint,
+    E: ParserError<I>,
+    ensures ran { DecUintRuns N.number N.bound I.seen_as I.Token.code I.reading
+        E.form (I.view input.old) (answer_by E.kind result) (I.view input.new) }
+    ensures ends { IsEndOf I.reading (I.view input.new) (I.view input.old) }
+{
+    let start = input.checkpoint();
+    match take_numeral::<I, E>(input, false) {
+        Ok(slice) => match uint_of::<I::Slice, N>(&slice) {
             Some(number) => Ok(number),
             None => {
                 input.reset(&start);
-                Err(Error::from_input(input))
+                Err(E::from_input(input))
             }
         },
         Err(error) => Err(error),
@@ -193,20 +216,7 @@ fn uint_of<S: AsBStr, N: Uint>(slice: &S) -> Option<N>
     requires { IsUtf8 (S.bytes slice.now) }
     ensures { ReadsUnsigned N.number N.bound (S.bytes slice.now) result }
 {
-    let text = slice.as_bstr();
-    match small_number(text) {
-        Some(number) => N::try_from_number(number),
-        None => text_number(text),
-    }
-}
-
-/// The number that a text is read as, by the type's `FromStr`.
-#[inline(never)]
-fn text_number<N: Uint>(text: &[u8]) -> Option<N>
-    requires { IsUtf8 text.now }
-    ensures { ReadsUnsigned N.number N.bound text.now result }
-{
-    match str::from_utf8(text) {
+    match str::from_utf8(slice.as_bstr()) {
         Ok(text) => N::try_from_dec_uint(text),
         Err(_) => None,
     }

@@ -1,38 +1,21 @@
-use Rattle.std.proofs.Common.{false, ap, ◌∙◌}
+use Rattle.std.proofs.Common.{ap, ◌∙◌}
 use Rattle.streams.specs.Input.{back_at}
-use Rattle.winnow_ascii.proofs.DecimalRuns.{uint_read, uint_refused, numeral_utf8, taken_status}
+use Rattle.winnow_ascii.proofs.DecimalRuns.{uint_again, uint_passed}
 use Rattle.winnow_ascii.proofs.NumeralLemmas.{back_same}
 use Rattle.winnow_ascii.proofs.ascii.uint.dec_uint.Goals as goal
 
-pub uint_of-requires : goal.uint_of-requires
-uint_of-requires g c =
-    numeral_utf8 g.Input.Stream.seen_as g.Input.Token.AsChar.code g.Input.Stream.reading
-    g.Input.SlicesAsBytes.bytes_of g.Input.SlicesAsBytes.bytes_add
-    g.met.Input.SlicesAsBytes.ascii_byte
-    false _ _ c.in-Ok.slice _ (g.met.Input.SlicesAsBytes.has_bytes c.in-Ok.slice)
-    c.in-Ok.ensures.ran
+pub returns-in-Some-try_from_number-clause-ran : goal.returns-in-Some-try_from_number-clause-ran
+returns-in-Some-try_from_number-clause-ran g c =
+    uint_passed g.Input.Stream.seen_as g.Input.Token.AsChar.code g.Input.Stream.reading
+    g.Output.Uint.number g.Output.Uint.bound g.Error.HasKind.form _ _ _ _ c.in-Some.ensures.ran
+    c.in-Some-try_from_number.ensures
 
-pub returns-in-Some-clause-ran : goal.returns-in-Some-clause-ran
-returns-in-Some-clause-ran g c =
-    uint_read g.Input.Stream.seen_as g.Input.Token.AsChar.code g.Input.Stream.reading
-    g.Input.SlicesAsBytes.bytes_of g.Input.SlicesAsBytes.bytes_add
-    g.met.Input.SlicesAsBytes.ascii_byte
-    g.Output.Uint.number g.Output.Uint.bound g.Error.HasKind.form _ _ c.in-Ok.slice _
-    c.in-Some.number (g.met.Input.SlicesAsBytes.has_bytes c.in-Ok.slice) c.in-Ok.ensures.ran
-    c.in-Some.ensures
-
-pub returns-in-Ok-clause-ran : goal.returns-in-Ok-clause-ran
-returns-in-Ok-clause-ran g c =
-    let taken = c.in-Ok.ensures.ran in
-    uint_refused g.Input.Stream.seen_as g.Input.Token.AsChar.code g.Input.Stream.reading
-    g.Input.SlicesAsBytes.bytes_of g.Input.SlicesAsBytes.bytes_add
-    g.met.Input.SlicesAsBytes.ascii_byte
-    g.Output.Uint.number g.Output.Uint.bound g.Error.HasKind.form _ _ _ c.in-Ok.slice _ _
-    (g.met.Input.SlicesAsBytes.has_bytes c.in-Ok.slice) taken c.in-None.ensures
-    c.from_input.ensures
-    (c.reset.ensures ∙ ap (λ x. back_at x (g.Input.Stream.view c.take_numeral.new.input))
+pub returns-clause-ran : goal.returns-clause-ran
+returns-clause-ran g c =
+    uint_again g.Input.Stream.seen_as g.Input.Token.AsChar.code g.Input.Stream.reading
+    g.Output.Uint.number g.Output.Uint.bound g.Error.HasKind.form _ _ _ _
+    (c.reset.ensures ∙ ap (λ x. back_at x (g.Input.Stream.view c.small_numeral.new.input))
     c.checkpoint-start.ensures
     ∙ back_same (g.Input.Stream.view c.args.input.now)
-    (g.Input.Stream.view c.take_numeral.new.input)
-    (taken_status g.Input.Stream.seen_as g.Input.Token.AsChar.code g.Input.Stream.reading false
-    _ _ c.in-Ok.slice taken))
+    (g.Input.Stream.view c.small_numeral.new.input) c.small_numeral.ensures.status)
+    c.any_uint.ensures.ran
