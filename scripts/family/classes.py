@@ -12,10 +12,7 @@ CLASSES = [
 ]
 
 # The other parsers of the module, which are written by hand.
-OTHERS = ["crlf", "dec_int", "dec_uint", "hex_uint", "line_ending", "newline", "tab", "till_line_ending"]
-
-# A struct with another name than its function's, since a trait has that.
-KINDS = {"hex_uint": "HexUintParser"}
+OTHERS = ["crlf", "line_ending", "newline", "tab", "till_line_ending"]
 
 
 def class_parsers():
@@ -156,7 +153,7 @@ def write_classes():
         ascii_crate + "src/ascii/impls.rt",
         CLASS_IMPLS,
         modules="\n".join("mod %s;" % call for call in calls),
-        kinds="\n".join("pub use crate::ascii::impls::%s::%s;" % (call, KINDS.get(call, camel(call))) for call in calls),
+        kinds="\n".join("pub use crate::ascii::impls::%s::%s;" % (call, camel(call)) for call in calls),
     )
     for name, members, one, chars, is_member, front, rest, least in rows:
         call = "%s%d" % (name, least)

@@ -109,14 +109,14 @@ pub use Rattle.winnow_ascii.specs.LineEnding
 pub use Rattle.winnow_ascii.specs.Newline
 pub use Rattle.winnow_ascii.specs.Tab
 pub use Rattle.winnow_ascii.specs.TillLineEnding
-pub use Rattle.winnow_ascii.specs.Digits
-pub use Rattle.winnow_ascii.specs.Decimal
-pub use Rattle.winnow_ascii.specs.DecimalText
-pub use Rattle.winnow_ascii.specs.NumberLaws
-pub use Rattle.winnow_ascii.specs.Numeral
-pub use Rattle.winnow_ascii.specs.DecUint
-pub use Rattle.winnow_ascii.specs.DecInt
-pub use Rattle.winnow_ascii.specs.HexUint
+pub use Rattle.winnow_numbers.specs.Digits
+pub use Rattle.winnow_numbers.specs.Decimal
+pub use Rattle.winnow_numbers.specs.DecimalText
+pub use Rattle.winnow_numbers.specs.NumberLaws
+pub use Rattle.winnow_numbers.specs.Numeral
+pub use Rattle.winnow_numbers.specs.DecUint
+pub use Rattle.winnow_numbers.specs.DecInt
+pub use Rattle.winnow_numbers.specs.HexUint
 -- Choice, options, sequence and repetition.
 pub use Rattle.winnow_comb.specs.Opt
 pub use Rattle.winnow_comb.specs.Cond

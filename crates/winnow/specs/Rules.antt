@@ -24,9 +24,9 @@ pub use Rattle.winnow_token.specs.Any.Known.{known_tokens}
 pub use Rattle.winnow_token.specs.OneOf.Known.{known_members}
 pub use Rattle.winnow_token.specs.Rest.Known.{known_rests}
 pub use Rattle.winnow_token.specs.TakeWhile.Known.{known_takes}
-pub use Rattle.winnow_ascii.specs.DecInt.Known.{known_signed_numbers}
-pub use Rattle.winnow_ascii.specs.DecUint.Known.{known_unsigned_numbers}
-pub use Rattle.winnow_ascii.specs.HexUint.Known.{known_hexadecimal_numbers}
+pub use Rattle.winnow_numbers.specs.DecInt.Known.{known_signed_numbers}
+pub use Rattle.winnow_numbers.specs.DecUint.Known.{known_unsigned_numbers}
+pub use Rattle.winnow_numbers.specs.HexUint.Known.{known_hexadecimal_numbers}
 pub use Rattle.winnow_ascii.specs.LineEnding.Known.{known_line_ends}
 pub use Rattle.winnow_ascii.specs.TillLineEnding.Known.{known_lines}
 pub use Rattle.winnow_comb.specs.Alt.Known.{known_choices}

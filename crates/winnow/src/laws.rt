@@ -1,9 +1,5 @@
 //! Laws of the parsers and combinators: functions that do nothing, whose contracts are the laws. A
 //! caller calls one, and then knows what it says.
-pub use winnow_ascii::laws::{
-    dec_int_passes_its_digits, dec_int_reads_one_number, dec_uint_passes_its_digits,
-    dec_uint_reads_one_number, hex_uint_reads_one_number,
-};
 pub use winnow_comb::laws::choices::{
     alt_of_five_answers_as_the_first, alt_of_four_answers_as_the_first,
     alt_of_six_answers_as_the_first, alt_of_three_answers_as_the_first,
@@ -24,4 +20,8 @@ pub use winnow_core::laws::{
     the_slice_taken_and_the_rest_are_the_input,
     the_slice_with_the_output_and_the_rest_are_the_input, try_map_goes_back, verify_goes_back,
     verify_map_goes_back,
+};
+pub use winnow_numbers::laws::{
+    dec_int_passes_its_digits, dec_int_reads_one_number, dec_uint_passes_its_digits,
+    dec_uint_reads_one_number, hex_uint_reads_one_number,
 };

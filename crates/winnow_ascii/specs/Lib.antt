@@ -1,14 +1,6 @@
 pub mod Class
 pub mod Crlf
-pub mod DecInt
-pub mod DecUint
-pub mod Decimal
-pub mod DecimalText
-pub mod Digits
-pub mod HexUint
 pub mod LineEnding
 pub mod Newline
-pub mod NumberLaws
-pub mod Numeral
 pub mod Tab
 pub mod TillLineEnding

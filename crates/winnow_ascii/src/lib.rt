@@ -1,4 +1,4 @@
-//! The parsers of ASCII's classes of characters, of line ends and of numbers as text.
+//! The parsers of ASCII's classes of characters, and of line ends.
 //!
 //! Each of the first is a take of the members of a class, by the definition of `specs/Class.antt`.
 //! They work on each stream whose tokens are characters, as bytes and text. Each of the others is
@@ -6,4 +6,3 @@
 #![tactic(auto)]
 
 pub mod ascii;
-pub mod laws;

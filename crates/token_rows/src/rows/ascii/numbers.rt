@@ -11,8 +11,8 @@ use stream_sets::as_char::AsChar;
 use streams::needed::Needed;
 use streams::partial::Partial;
 use streams::stream::{Location, Stream};
-use winnow_ascii::ascii::impls::{DecInt, DecUint, HexUintParser};
-use winnow_ascii::ascii::{HexUint, Int, Uint};
+use winnow_numbers::ascii::impls::{DecInt, DecUint, HexUintParser};
+use winnow_numbers::ascii::{HexUint, Int, Uint};
 use winnow_token::token::impls::Any;
 
 /// A run that passed so many units and needs one more.

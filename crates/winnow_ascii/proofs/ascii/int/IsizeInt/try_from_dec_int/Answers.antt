@@ -1,6 +1,0 @@
-use Rattle.std.specs.Int.{w64}
-use Rattle.winnow_ascii.proofs.DecimalLemmas.{reads_signed}
-use Rattle.winnow_ascii.proofs.ascii.int.IsizeInt.try_from_dec_int.Goals as goal
-
-pub returns : goal.returns
-returns c = reads_signed w64 _ _ _ c.ok.ensures.value c.parse.ensures.value.0

@@ -1,5 +1,0 @@
-use Rattle.winnow_ascii.proofs.DecimalLemmas.{reads_unsigned}
-use Rattle.winnow_ascii.proofs.ascii.uint.U64Uint.try_from_dec_uint.Goals as goal
-
-pub returns : goal.returns
-returns c = reads_unsigned 64 _ _ _ c.ok.ensures.value c.parse.ensures.value.0

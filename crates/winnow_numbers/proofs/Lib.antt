@@ -1,0 +1,5 @@
+mod DecimalLemmas
+mod DecimalRuns
+mod DigitLemmas
+mod HexLemmas
+mod NumeralLemmas

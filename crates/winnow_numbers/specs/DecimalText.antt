@@ -1,0 +1,46 @@
+-- Texts of decimal numbers, and the numbers of a type that they are read as.
+use Rattle.std.specs.Prelude.{◌≡◌, ◌<◌, ◌≤◌, ℕ, ℤ, pos, neg_ℤ, List, [], ◌∷◌, ◌++◌, length, Option}
+use Rattle.std.specs.Prelude.{IsSome, MatchOption, if◌then◌else◌, ◌==◌, ◌⊎◌}
+use Rattle.std.specs.List.{AllByRecursion}
+use Rattle.stream_sets.specs.AsChar.{IsDecDigit}
+use Rattle.winnow_numbers.specs.Digits.{value_in}
+use Rattle.winnow_numbers.specs.Numeral.{IsSign}
+
+-- digits, at least one
+abbrev pub AreDigits : List ℕ → Type 0
+AreDigits digits = (0 < length digits) × AllByRecursion IsDecDigit digits
+
+-- The text is digits, with '+' before them or nothing.
+abbrev pub IsUnsignedText : List ℕ → List ℕ → Type 0
+IsUnsignedText text digits = AreDigits digits × ((text ≡ digits) ⊎ (text ≡ 43 ∷ digits))
+
+-- The number of a type, below `bound`, that a text is read as: none exactly where it is no digits,
+-- or their number does not fit.
+pub record ReadsUnsigned {N : Type 0} (number : N → ℕ) (bound : ℕ) (text : List ℕ)
+    (answer : Option N) : Type 0 where
+  pub reads : (digits : List ℕ) → IsUnsignedText text digits
+      → MatchOption answer (bound ≤ value_in 10 digits)
+      (λ n. (value_in 10 digits < bound) × (number n ≡ value_in 10 digits))
+  pub only : IsSome answer → (digits : List ℕ) × IsUnsignedText text digits
+
+-- The text is digits behind a sign, '+' or '-' or none.
+abbrev pub IsSignedText : List ℕ → List ℕ → List ℕ → Type 0
+IsSignedText text sign digits =
+    AreDigits digits × (text ≡ sign ++ digits)
+    × ((sign ≡ []) ⊎ ((c : ℕ) × IsSign c × (sign ≡ c ∷ [])))
+
+-- the number that digits behind a sign stand for: negative behind '-'
+abbrev pub signed_value : List ℕ → List ℕ → ℤ
+signed_value [] digits = pos (value_in 10 digits)
+signed_value (c ∷ cs) digits =
+    if c == 45 then neg_ℤ (pos (value_in 10 digits)) else pos (value_in 10 digits)
+
+-- The number of a type, of those that fit it, that a text is read as: none exactly where it is no
+-- digits behind a sign, or their number does not fit.
+pub record ReadsSigned {N : Type 0} (number : N → ℤ) (fits : ℤ → Type 0) (text : List ℕ)
+    (answer : Option N) : Type 0 where
+  pub reads : (sign digits : List ℕ) → IsSignedText text sign digits
+      → MatchOption answer (fits (signed_value sign digits) → ⊥)
+      (λ n. fits (signed_value sign digits) × (number n ≡ signed_value sign digits))
+  pub only : IsSome answer
+      → (sign : List ℕ) × (digits : List ℕ) × IsSignedText text sign digits

@@ -1,0 +1,8 @@
+pub mod DecInt
+pub mod DecUint
+pub mod Decimal
+pub mod DecimalText
+pub mod Digits
+pub mod HexUint
+pub mod NumberLaws
+pub mod Numeral

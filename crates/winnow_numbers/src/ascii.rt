@@ -1,0 +1,13 @@
+//! Parsers of ASCII text, as winnow's documentation has them: those of numbers.
+#![tactic(auto, using(streams::specs::Ends::ends_follow))]
+
+mod digits;
+mod hex;
+pub mod impls;
+mod int;
+mod numeral;
+mod uint;
+
+pub use crate::ascii::hex::{HexUint, hex_uint};
+pub use crate::ascii::int::{Int, dec_int};
+pub use crate::ascii::uint::{Uint, dec_uint};

@@ -1,0 +1,47 @@
+//! The numbers of short numerals, in one pass over their tokens.
+ghost use Rattle.std.specs.Prelude.{◌≡◌, IfSome, ℕ, List, true};
+ghost use Rattle.streams.specs.Input.{IsEndOf};
+ghost use Rattle.winnow_numbers.specs.Digits.{value_in};
+ghost use Rattle.winnow_numbers.specs.Numeral.{DigitsRuns};
+
+use stream_sets::as_char::AsChar;
+use streams::stream::StreamIsPartial;
+
+// The greatest number behind which any digit still fits 64 bits.
+const MOST: u64 = 1_844_674_407_370_955_160;
+
+/// Passes the numeral that stands first, with no sign, and answers its number. It may answer none,
+/// and stand anywhere, where there is none, where it has many digits, or where a cut input ends in
+/// it.
+#[inline(always)]
+pub(crate) fn small_numeral<I: StreamIsPartial>(input: &mut I) -> Option<u64>
+where
+    I::Token: AsChar,
+    ensures ran { IfSome result (λ number. (digits : List ℕ)
+        × DigitsRuns I.seen_as I.Token.code I.reading true (I.view input.old) digits
+        (I.view input.new) × (number ≡ value_in 10 digits)) }
+    ensures status { (I.view input.new).status ≡ (I.view input.old).status }
+    ensures ends { IsEndOf I.reading (I.view input.new) (I.view input.old) }
+{
+    let mut number = match input.next_token()?.as_char() {
+        '0' => return Some(0),
+        digit @ '1'..='9' => digit as u64 - '0' as u64,
+        _ => return None,
+    };
+    loop {
+        let behind = input.checkpoint();
+        let digit = match input.next_token() {
+            Some(token) => token.as_char(),
+            None if input.is_partial() => return None,
+            None => return Some(number),
+        };
+        if digit < '0' || digit > '9' {
+            input.reset(&behind);
+            return Some(number);
+        }
+        if number > MOST {
+            return None;
+        }
+        number = number * 10 + (digit as u64 - '0' as u64);
+    }
+}

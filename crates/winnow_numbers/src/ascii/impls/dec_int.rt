@@ -1,0 +1,61 @@
+//! Decimal signed numbers.
+ghost use Rattle.std.specs.Prelude.{⊤};
+ghost use Rattle.winnow_numbers.specs.DecInt.{DecIntRuns};
+ghost use Rattle.winnow_numbers.specs.DecInt.Laws.{dec_int_alike, dec_int_ends};
+ghost use Rattle.winnow_core.specs.Agrees.{agrees_plain};
+ghost use Rattle.winnow_core.specs.Runs.{Keeps};
+
+use crate::ascii::{Int, dec_int};
+use stream_errors::parser_error::ParserError;
+use stream_sets::as_bstr::{AsBStr, SlicesAsBytes};
+use stream_sets::as_char::AsChar;
+use streams::reads_like::ReadsLike;
+use streams::stream::{Stream, StreamIsPartial};
+use winnow_core::agrees_with::AgreesWith;
+use winnow_core::parser::Parser;
+
+/// The parser [`dec_int`](crate::ascii::dec_int), of each type of output.
+///
+/// ```text
+/// DecInt.parse_next(&mut b"-12;".as_slice())   is Ok(-12_i8), and b";" is left
+/// ```
+#[derive(Clone, Copy, Debug, PartialEq, Eq)]
+pub struct DecInt;
+
+impl<I: StreamIsPartial + SlicesAsBytes, O: Int, E: ParserError<I>> Parser<I, O, E> for DecInt
+where
+    I::Token: AsChar,
+    I::Slice: AsBStr,
+{
+    ghost State = { ⊤ };
+
+    ghost state = { λ _. tt };
+
+    ghost meaning = { λ form. Keeps
+        (λ _. DecIntRuns O.number O.fits I.seen_as I.Token.code I.reading form) };
+
+    ghost leaves_ends = { λ form x i answer y j r. dec_int_ends O.number O.fits I.seen_as
+        I.Token.code I.reading form i answer j r.0 };
+
+    #[inline(always)]
+    fn parse_next(&mut self, input: &mut I) -> Result<O, E> {
+        dec_int(input)
+    }
+}
+
+impl<
+    I: StreamIsPartial + SlicesAsBytes + ReadsLike<J>,
+    J: StreamIsPartial + SlicesAsBytes + Stream<Token = I::Token, Seen = I::Seen, Slice = I::Slice>,
+    O: Int,
+    E: ParserError<I>,
+    F: ParserError<J>,
+> AgreesWith<I, O, E, DecInt, J, F> for DecInt
+where
+    I::Token: AsChar,
+    I::Slice: AsBStr,
+{
+    ghost like = { λ p q. ⊤ };
+
+    ghost agrees = { agrees_plain
+        (dec_int_alike O.number O.fits I.Token.code I.same_reading I.same_tokens) };
+}

@@ -1,0 +1,61 @@
+//! Decimal unsigned numbers.
+ghost use Rattle.std.specs.Prelude.{⊤};
+ghost use Rattle.winnow_numbers.specs.DecUint.{DecUintRuns};
+ghost use Rattle.winnow_numbers.specs.DecUint.Laws.{dec_uint_alike, dec_uint_ends};
+ghost use Rattle.winnow_core.specs.Agrees.{agrees_plain};
+ghost use Rattle.winnow_core.specs.Runs.{Keeps};
+
+use crate::ascii::{Uint, dec_uint};
+use stream_errors::parser_error::ParserError;
+use stream_sets::as_bstr::{AsBStr, SlicesAsBytes};
+use stream_sets::as_char::AsChar;
+use streams::reads_like::ReadsLike;
+use streams::stream::{Stream, StreamIsPartial};
+use winnow_core::agrees_with::AgreesWith;
+use winnow_core::parser::Parser;
+
+/// The parser [`dec_uint`](crate::ascii::dec_uint), of each type of output.
+///
+/// ```text
+/// DecUint.parse_next(&mut b"12;".as_slice())   is Ok(12_u8), and b";" is left
+/// ```
+#[derive(Clone, Copy, Debug, PartialEq, Eq)]
+pub struct DecUint;
+
+impl<I: StreamIsPartial + SlicesAsBytes, O: Uint, E: ParserError<I>> Parser<I, O, E> for DecUint
+where
+    I::Token: AsChar,
+    I::Slice: AsBStr,
+{
+    ghost State = { ⊤ };
+
+    ghost state = { λ _. tt };
+
+    ghost meaning = { λ form. Keeps
+        (λ _. DecUintRuns O.number O.bound I.seen_as I.Token.code I.reading form) };
+
+    ghost leaves_ends = { λ form x i answer y j r. dec_uint_ends O.number O.bound I.seen_as
+        I.Token.code I.reading form i answer j r.0 };
+
+    #[inline(always)]
+    fn parse_next(&mut self, input: &mut I) -> Result<O, E> {
+        dec_uint(input)
+    }
+}
+
+impl<
+    I: StreamIsPartial + SlicesAsBytes + ReadsLike<J>,
+    J: StreamIsPartial + SlicesAsBytes + Stream<Token = I::Token, Seen = I::Seen, Slice = I::Slice>,
+    O: Uint,
+    E: ParserError<I>,
+    F: ParserError<J>,
+> AgreesWith<I, O, E, DecUint, J, F> for DecUint
+where
+    I::Token: AsChar,
+    I::Slice: AsBStr,
+{
+    ghost like = { λ p q. ⊤ };
+
+    ghost agrees = { agrees_plain
+        (dec_uint_alike O.number O.bound I.Token.code I.same_reading I.same_tokens) };
+}

@@ -1,0 +1,223 @@
+//! Decimal unsigned numbers.
+ghost use Rattle.std.specs.Prelude.{◌≡◌, ◌<◌, ◌≤◌, ◌^◌, ℕ, MatchOption};
+ghost use Rattle.std.specs.Str.{IsUtf8};
+ghost use Rattle.stream_errors.specs.Form.{answer_by};
+ghost use Rattle.streams.specs.Input.{IsEndOf};
+ghost use Rattle.winnow_numbers.specs.DecUint.{DecUintRuns};
+ghost use Rattle.winnow_numbers.specs.DecimalText.{ReadsUnsigned};
+
+use crate::ascii::digits::small_numeral;
+use crate::ascii::numeral::take_numeral;
+use std::str;
+use stream_errors::parser_error::ParserError;
+use stream_sets::as_bstr::{AsBStr, SlicesAsBytes};
+use stream_sets::as_char::AsChar;
+use streams::stream::StreamIsPartial;
+
+/// The unsigned numbers that [`dec_uint`] parses.
+///
+/// ```text
+/// u8::try_from_dec_uint("255")   is Some(255)
+/// u8::try_from_dec_uint("256")   is None
+/// ```
+pub trait Uint: Sized {
+    // The number of a value.
+    ghost number: { Self → ℕ };
+
+    // The least number that does not fit.
+    ghost bound: { ℕ };
+
+    /// Reads digits, before which a `+` may stand, by the type's `FromStr`; `None` exactly where
+    /// the text is something else, or the number does not fit.
+    fn try_from_dec_uint(slice: &str) -> Option<Self>
+        ensures { ReadsUnsigned number bound slice.now result };
+
+    /// The value of a number, `None` exactly where it does not fit.
+    fn try_from_number(value: u64) -> Option<Self>
+        ensures { MatchOption result (bound ≤ value)
+            (λ n. (value < bound) × (number n ≡ value)) };
+}
+
+impl Uint for u8 {
+    ghost number = { λ n. n };
+
+    ghost bound = { 2 ^ 8 };
+
+    #[inline(always)]
+    fn try_from_dec_uint(slice: &str) -> Option<u8> {
+        slice.parse().ok()
+    }
+
+    #[inline(always)]
+    fn try_from_number(value: u64) -> Option<u8> {
+        if value <= u8::MAX as u64 {
+            Some(value as u8)
+        } else {
+            None
+        }
+    }
+}
+
+impl Uint for u16 {
+    ghost number = { λ n. n };
+
+    ghost bound = { 2 ^ 16 };
+
+    #[inline(always)]
+    fn try_from_dec_uint(slice: &str) -> Option<u16> {
+        slice.parse().ok()
+    }
+
+    #[inline(always)]
+    fn try_from_number(value: u64) -> Option<u16> {
+        if value <= u16::MAX as u64 {
+            Some(value as u16)
+        } else {
+            None
+        }
+    }
+}
+
+impl Uint for u32 {
+    ghost number = { λ n. n };
+
+    ghost bound = { 2 ^ 32 };
+
+    #[inline(always)]
+    fn try_from_dec_uint(slice: &str) -> Option<u32> {
+        slice.parse().ok()
+    }
+
+    #[inline(always)]
+    fn try_from_number(value: u64) -> Option<u32> {
+        if value <= u32::MAX as u64 {
+            Some(value as u32)
+        } else {
+            None
+        }
+    }
+}
+
+impl Uint for u64 {
+    ghost number = { λ n. n };
+
+    ghost bound = { 2 ^ 64 };
+
+    #[inline(always)]
+    fn try_from_dec_uint(slice: &str) -> Option<u64> {
+        slice.parse().ok()
+    }
+
+    #[inline(always)]
+    fn try_from_number(value: u64) -> Option<u64> {
+        Some(value)
+    }
+}
+
+impl Uint for u128 {
+    ghost number = { λ n. n };
+
+    ghost bound = { 2 ^ 128 };
+
+    #[inline(always)]
+    fn try_from_dec_uint(slice: &str) -> Option<u128> {
+        slice.parse().ok()
+    }
+
+    #[inline(always)]
+    fn try_from_number(value: u64) -> Option<u128> {
+        Some(value as u128)
+    }
+}
+
+impl Uint for usize {
+    ghost number = { λ n. n };
+
+    ghost bound = { 2 ^ 64 };
+
+    #[inline(always)]
+    fn try_from_dec_uint(slice: &str) -> Option<usize> {
+        slice.parse().ok()
+    }
+
+    #[inline(always)]
+    fn try_from_number(value: u64) -> Option<usize> {
+        Some(value as usize)
+    }
+}
+
+/// A decimal unsigned number: one `0`, or a digit from 1 to 9 and all digits after it.
+///
+/// It backtracks, and consumes nothing, where no digit stands first, or the number does not fit the
+/// type. On a cut input with nothing left it is incomplete, and consumes nothing; on one that ends
+/// in the digits of a number that does not begin with `0` it is incomplete, and the input stands
+/// behind the first digit. The need is 1 unit. Under an error type with no mode it backtracks
+/// instead, and consumes nothing.
+///
+/// Known as `u8` to `u128` of `character::complete` in nom.
+///
+/// ```text
+/// dec_uint::<_, u8, _>(&mut b"12;".as_slice())   is Ok(12), and b";" is left
+/// dec_uint::<_, u8, _>(&mut b"01".as_slice())    is Ok(0), and b"1" is left
+/// dec_uint::<_, u8, _>(&mut b"256".as_slice())   backtracks, and b"256" is left
+/// ```
+#[inline(always)]
+pub fn dec_uint<Input, Output, Error>(input: &mut Input) -> Result<Output, Error>
+where
+    Input: StreamIsPartial + SlicesAsBytes,
+    Input::Token: AsChar,
+    Input::Slice: AsBStr,
+    Output: Uint,
+    Error: ParserError<Input>,
+    ensures ran { DecUintRuns Output.number Output.bound Input.seen_as Input.Token.code
+        Input.reading
+        Error.form (Input.view input.old) (answer_by Error.kind result) (Input.view input.new) }
+    ensures ends { IsEndOf Input.reading (Input.view input.new) (Input.view input.old) }
+{
+    let start = input.checkpoint();
+    if let Some(number) = small_numeral(input) {
+        if let Some(number) = Output::try_from_number(number) {
+            return Ok(number);
+        }
+    }
+    input.reset(&start);
+    any_uint(input)
+}
+
+/// A decimal unsigned number, by the slice of its numeral.
+#[inline(never)]
+fn any_uint<I, N, E>(input: &mut I) -> Result<N, E>
+where
+    I: StreamIsPartial + SlicesAsBytes,
+    I::Token: AsChar,
+    I::Slice: AsBStr,
+    N: Uint,
+    E: ParserError<I>,
+    ensures ran { DecUintRuns N.number N.bound I.seen_as I.Token.code I.reading
+        E.form (I.view input.old) (answer_by E.kind result) (I.view input.new) }
+    ensures ends { IsEndOf I.reading (I.view input.new) (I.view input.old) }
+{
+    let start = input.checkpoint();
+    match take_numeral::<I, E>(input, false) {
+        Ok(slice) => match uint_of::<I::Slice, N>(&slice) {
+            Some(number) => Ok(number),
+            None => {
+                input.reset(&start);
+                Err(E::from_input(input))
+            }
+        },
+        Err(error) => Err(error),
+    }
+}
+
+/// The number that a slice is read as.
+#[inline(always)]
+fn uint_of<S: AsBStr, N: Uint>(slice: &S) -> Option<N>
+    requires { IsUtf8 (S.bytes slice.now) }
+    ensures { ReadsUnsigned N.number N.bound (S.bytes slice.now) result }
+{
+    match str::from_utf8(slice.as_bstr()) {
+        Ok(text) => N::try_from_dec_uint(text),
+        Err(_) => None,
+    }
+}
