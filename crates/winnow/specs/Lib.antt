@@ -133,20 +133,21 @@ pub use Rattle.winnow_comb.specs.SeparatedPair
 pub use Rattle.winnow_comb.specs.Delimited
 pub use Rattle.winnow_comb.specs.Attempt
 pub use Rattle.winnow_comb.specs.Alt
-pub use Rattle.winnow_comb.specs.Chain
-pub use Rattle.winnow_comb.specs.Repeat
-pub use Rattle.winnow_comb.specs.RepeatTill
-pub use Rattle.winnow_comb.specs.Separated
-pub use Rattle.winnow_comb.specs.SeparatedFoldl1
-pub use Rattle.winnow_comb.specs.SeparatedFoldr1
-pub use Rattle.winnow_comb.specs.Fold
-pub use Rattle.winnow_comb.specs.VerifyFold
-pub use Rattle.winnow_comb.specs.TryFold
-pub use Rattle.winnow_comb.specs.Iterator
-pub use Rattle.winnow_comb.specs.Fill
+pub use Rattle.winnow_repeat.specs.Chain
+pub use Rattle.winnow_repeat.specs.Repeat
+pub use Rattle.winnow_repeat.specs.RepeatTill
+pub use Rattle.winnow_separated.specs.Separated
+pub use Rattle.winnow_separated.specs.SeparatedFoldl1
+pub use Rattle.winnow_separated.specs.SeparatedFoldr1
+pub use Rattle.winnow_repeat.specs.Fold
+pub use Rattle.winnow_repeat.specs.VerifyFold
+pub use Rattle.winnow_repeat.specs.TryFold
+pub use Rattle.winnow_repeat.specs.Iterator
+pub use Rattle.winnow_repeat.specs.Fill
 pub use Rattle.winnow_comb.specs.ChoiceLaws
-pub use Rattle.winnow_comb.specs.RepeatLaws
-pub use Rattle.winnow_comb.specs.FoldLaws
+pub use Rattle.winnow_repeat.specs.RepeatLaws
+pub use Rattle.winnow_separated.specs.SeparatedLaws
+pub use Rattle.winnow_separated.specs.FoldLaws
 pub use Rattle.winnow_comb.specs.Laws as CombinatorLaws
 -- What callers name in `using(..)`, which takes the files of this crate alone.
 pub mod Rules

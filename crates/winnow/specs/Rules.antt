@@ -35,9 +35,9 @@ pub use Rattle.winnow_comb.specs.InOrder.Known.{known_in_order}
 pub use Rattle.winnow_comb.specs.Not.Known.{known_nots}
 pub use Rattle.winnow_comb.specs.Opt.Known.{known_options}
 pub use Rattle.winnow_comb.specs.Peek.Known.{known_peeks}
-pub use Rattle.winnow_comb.specs.Repeat.Known.{known_repetitions}
-pub use Rattle.winnow_comb.specs.RepeatTill.Known.{known_turns}
-pub use Rattle.winnow_comb.specs.Separated.Known.{known_elements}
-pub use Rattle.winnow_comb.specs.Fold.Known.{known_folds}
-pub use Rattle.winnow_comb.specs.Iterator.Known.{known_iterators}
-pub use Rattle.winnow_comb.specs.Fill.Known.{known_fillings}
+pub use Rattle.winnow_repeat.specs.Repeat.Known.{known_repetitions}
+pub use Rattle.winnow_repeat.specs.RepeatTill.Known.{known_turns}
+pub use Rattle.winnow_separated.specs.Separated.Known.{known_elements}
+pub use Rattle.winnow_repeat.specs.Fold.Known.{known_folds}
+pub use Rattle.winnow_repeat.specs.Iterator.Known.{known_iterators}
+pub use Rattle.winnow_repeat.specs.Fill.Known.{known_fillings}

@@ -3,8 +3,9 @@ pub mod impls;
 
 pub use winnow_comb::combinator::impls::Alt;
 pub use winnow_comb::combinator::{
-    ParserIterator, alt, backtrack_err, cond, cut_err, delimited, empty, fail, fill, iterator, not,
-    opt, peek, preceded, repeat, repeat_till, separated, separated_foldl1, separated_foldr1,
+    alt, backtrack_err, cond, cut_err, delimited, empty, fail, not, opt, peek, preceded,
     separated_pair, terminated,
 };
 pub use winnow_core::combinator::eof;
+pub use winnow_repeat::combinator::{ParserIterator, fill, iterator, repeat, repeat_till};
+pub use winnow_separated::combinator::{separated, separated_foldl1, separated_foldr1};

@@ -8,10 +8,6 @@ pub use winnow_comb::laws::choices::{
 pub use winnow_comb::laws::items::{
     alt_of_a_slice_answers_as_the_first, alt_of_an_array_answers_as_the_first,
 };
-pub use winnow_comb::laws::repetition::{
-    repeat_runs_at_most_once_a_unit, separated_folds_fold_the_same,
-    separated_leaves_a_separator_without_an_element,
-};
 pub use winnow_comb::laws::{not_goes_back, opt_goes_back_on_none, peek_goes_back};
 pub use winnow_core::laws::{
     a_complete_stream_is_answered_as_the_plain_one, and_then_goes_back, leaves_an_end,
@@ -24,4 +20,8 @@ pub use winnow_core::laws::{
 pub use winnow_numbers::laws::{
     dec_int_passes_its_digits, dec_int_reads_one_number, dec_uint_passes_its_digits,
     dec_uint_reads_one_number, hex_uint_reads_one_number,
+};
+pub use winnow_repeat::laws::repeat_runs_at_most_once_a_unit;
+pub use winnow_separated::laws::{
+    separated_folds_fold_the_same, separated_leaves_a_separator_without_an_element,
 };

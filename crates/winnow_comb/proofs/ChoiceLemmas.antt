@@ -9,6 +9,7 @@ use Rattle.streams.specs.Input.{Input, Remaining, back_at}
 use Rattle.streams.specs.Kind.{Kind, backtrack}
 use Rattle.stream_errors.specs.Form.{Answer}
 use Rattle.winnow_core.specs.Runs.{Runs, By}
+use Rattle.winnow_core.specs.Elements.{length-zero, rest_of, set_at}
 use Rattle.winnow_comb.specs.Alt.Slice.{Backtracked, AltSliceRuns}
 
 -- The first k branches backtracked, and the others are as they were: `m` is where the next one
@@ -46,27 +47,6 @@ backtracked_more run start [] i (t ∷ ts) m x y a h r = absurd h
 backtracked_more run start (s ∷ ss) i [] m x y a h r = absurd h
 backtracked_more run start (s ∷ ss) i (t ∷ ts) m x y a (n, q, h) r =
     (n, q, backtracked_more run start ss (back_at start n) ts m x y a h r)
-
--- the branch k begins the rest
-pub rest_of : {S : Type 0} (ran rest now : List S) (k : ℕ) (item d : S) → length ran ≡ k
-    → now ≡ ran ++ rest → k < length now → item ≡ get_or now k d
-    → (tail : List S) × (rest ≡ item ∷ tail)
-rest_of ran [] now k item d count e within is =
-    absurd (omega (arith, ap (λ l. length l) e, length-append ran []))
-rest_of ran (x ∷ tail) now k item d count e within is =
-    let same : x ≡ item = sym (is ∙ ap (λ l. get_or l k d) e ∙ get_or_at ran x tail d k count) in
-    (tail, ap (λ z. z ∷ tail) same)
-
--- a write at the branch k
-pub set_at : {S : Type 0} (ran tail now : List S) (k : ℕ) (item new : S) → length ran ≡ k
-    → now ≡ ran ++ item ∷ tail → slice_set now k new ≡ ran ++ new ∷ tail
-set_at ran tail now k item new count e =
-    ap (λ l. slice_set l k new) e ∙ ap (λ n. slice_set (ran ++ item ∷ tail) n new) (sym count)
-    ∙ set-append_seam ran item tail new
-
-pub length-zero : {S : Type 0} (xs : List S) → length xs ≡ 0 → xs ≡ []
-length-zero [] e = refl
-length-zero (x ∷ xs) e = absurd (omega (arith, e))
 
 module _ {S T O : Type 0} (run : Runs S T O) (orig now : List S) (i m : Input T) (k : ℕ)
     (item d new : S) (p : Earlier run orig now i m k) (within : k < length now)

@@ -3,7 +3,6 @@ ghost use Rattle.winnow_comb.specs.Laws.{GoesBack, GoesBackOnNone};
 
 pub mod choices;
 pub mod items;
-pub mod repetition;
 
 use crate::combinator::impls::{Not, Opt, Peek};
 use stream_errors::parser_error::ParserError;

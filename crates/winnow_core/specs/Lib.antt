@@ -36,3 +36,4 @@ pub mod Splits
 pub mod ParsePeek
 pub mod Laws
 pub mod Reads
+pub mod Elements

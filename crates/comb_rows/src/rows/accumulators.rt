@@ -11,9 +11,10 @@ use stream_sets::accumulate::Accumulate;
 use stream_sets::range::Range;
 use streams::stream::{Stream, StreamIsPartial};
 use winnow_ascii::ascii::impls::Digit1;
-use winnow_comb::combinator;
-use winnow_comb::combinator::impls::{Empty, Repeat, Separated};
+use winnow_comb::combinator::impls::Empty;
 use winnow_core::parser::Parser;
+use winnow_repeat::combinator::impls::Repeat;
+use winnow_separated::combinator::impls::Separated;
 use winnow_token::token::impls::{Any, TakeWhile};
 
 /// The accumulator of a repetition or the kind of its error, and the units left.
@@ -30,7 +31,9 @@ where
     A: Allocator + Copy,
     requires { P.can_parse parser }
 {
-    let mut parser: Repeat<P, I, O, C, E, A> = combinator::repeat(alloc, range, parser);
+    let mut parser: Repeat<P, I, O, C, E, A> = winnow_repeat::combinator::repeat(
+        alloc, range, parser,
+    );
     let (answer, rest) = outcome_at::<I, C, E, _>(&mut parser, text);
     (answer, rest.eof_offset())
 }
@@ -47,7 +50,7 @@ where
     requires { P.can_parse parser }
 {
     let mut parser: Separated<P, TakeWhile<char, I, E>, I, O, I::Slice, C, E, A> =
-        combinator::separated(alloc, range, parser, letter(','));
+        winnow_separated::combinator::separated(alloc, range, parser, letter(','));
     let (answer, rest) = outcome_at::<I, C, E, _>(&mut parser, text);
     (answer, rest.eof_offset())
 }

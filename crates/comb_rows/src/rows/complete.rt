@@ -10,9 +10,10 @@ use stream_sets::range::Range;
 use streams::partial::Partial;
 use streams::stream::{Stream, StreamIsPartial};
 use winnow_comb::combinator;
-use winnow_comb::combinator::impls::{Empty, Fail, Repeat, RepeatTill};
+use winnow_comb::combinator::impls::{Empty, Fail};
 use winnow_core::agrees_with::AgreesWith;
 use winnow_core::parser::Parser;
+use winnow_repeat::combinator::impls::{Repeat, RepeatTill};
 use winnow_token::token::impls::TakeWhile;
 
 /// Both end so.
@@ -120,12 +121,12 @@ where
 fn letters<I: StreamIsPartial<Token = char>, E: ParserError<I>, A: Allocator + Copy>(
     alloc: A,
 ) -> Repeat<TakeWhile<char, I, E>, I, I::Slice, (), E, A> {
-    combinator::repeat(alloc, Range::from(0..), letter('a'))
+    winnow_repeat::combinator::repeat(alloc, Range::from(0..), letter('a'))
 }
 
 /// A repetition of a letter until another one, that keeps nothing.
 fn letters_till<I: StreamIsPartial<Token = char>, E: ParserError<I>, A: Allocator + Copy>(
     alloc: A,
 ) -> RepeatTill<TakeWhile<char, I, E>, TakeWhile<char, I, E>, I, I::Slice, I::Slice, (), E, A> {
-    combinator::repeat_till(alloc, Range::from(0..), letter('a'), letter('b'))
+    winnow_repeat::combinator::repeat_till(alloc, Range::from(0..), letter('a'), letter('b'))
 }

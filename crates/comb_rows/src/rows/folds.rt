@@ -11,8 +11,9 @@ use stream_sets::range::Range;
 use streams::needed::Needed;
 use streams::partial::Partial;
 use winnow_comb::combinator::impls::Empty;
-use winnow_comb::combinator::{repeat, separated_foldl1, separated_foldr1};
 use winnow_core::parser::Parser;
+use winnow_repeat::combinator::repeat;
+use winnow_separated::combinator::{separated_foldl1, separated_foldr1};
 use winnow_token::token::impls::Any;
 
 /// Errors with a mode.

@@ -11,9 +11,10 @@ use stream_sets::compare::Compare;
 use streams::needed::Needed;
 use streams::stream::Stream;
 use winnow_comb::combinator;
-use winnow_comb::combinator::ParserIterator;
-use winnow_comb::combinator::impls::{Empty, Fill};
+use winnow_comb::combinator::impls::Empty;
 use winnow_core::parser::Parser;
+use winnow_repeat::combinator::ParserIterator;
+use winnow_repeat::combinator::impls::Fill;
 use winnow_token::token::impls::Any;
 
 /// The kind of the error that a call answers.
@@ -36,7 +37,9 @@ fn gives<I: Stream, O: PartialEq + Debug + Copy, E: ParserError<I>, P: Parser<I,
     requires { P.can_parse parser }
 {
     let mut input = input;
-    let mut all: ParserIterator<'_, P, I, O, E> = combinator::iterator(&mut input, parser);
+    let mut all: ParserIterator<'_, P, I, O, E> = winnow_repeat::combinator::iterator(
+        &mut input, parser,
+    );
     let mut expected = items.iter();
     while let Some(item) = all.next() {
         same(rt, name, "an item", Some(item), expected.next().copied());
@@ -137,7 +140,9 @@ pub(crate) fn at_text<I: OfText + Stream<Token = char>, E: ParserError<I>>(rt: &
 /// What gives more items ends well too.
 fn iterator_that_goes_on<I: OfText + Stream<Token = char>, E: ParserError<I>>(rt: &impl Abort) {
     let mut input: I = whole("ab");
-    let mut all: ParserIterator<'_, Any, I, char, E> = combinator::iterator(&mut input, Any);
+    let mut all: ParserIterator<'_, Any, I, char, E> = winnow_repeat::combinator::iterator(
+        &mut input, Any,
+    );
     same(rt, "iterator", "the first of ab", all.next(), Some('a'));
     let answer = kind::<I, E>(all.finish());
     same(
@@ -167,7 +172,7 @@ fn filled<I: Stream, O: Drop, E: ParserError<I>, P: Parser<I, O, E> + Drop>(
 ) -> (Result<(), Kind>, usize)
     requires { P.can_parse parser }
 {
-    let mut filling: Fill<'_, P, I, O, E> = combinator::fill(parser, buffer);
+    let mut filling: Fill<'_, P, I, O, E> = winnow_repeat::combinator::fill(parser, buffer);
     let (answer, rest) = outcome_of::<I, (), E, _>(&mut filling, input);
     (answer, rest.eof_offset())
 }

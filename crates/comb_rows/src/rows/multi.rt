@@ -15,8 +15,9 @@ use streams::needed::Needed;
 use streams::stream::Stream;
 use winnow_ascii::ascii::impls::Digit1;
 use winnow_comb::combinator;
-use winnow_comb::combinator::impls::{Empty, Repeat};
+use winnow_comb::combinator::impls::Empty;
 use winnow_core::parser::Parser;
+use winnow_repeat::combinator::impls::Repeat;
 use winnow_token::token::impls::TakeWhile;
 
 /// The number of items of a repetition into a list, or the kind of its error, and the units left.
@@ -31,7 +32,9 @@ fn listed<I: OfText, O: Drop, E: ParserError<I>, P: Parser<I, O, E> + Drop, A: A
 ) -> Listed
     requires { P.can_parse parser }
 {
-    let mut parser: Repeat<P, I, O, Vec<O, A>, E, A> = combinator::repeat(alloc, range, parser);
+    let mut parser: Repeat<P, I, O, Vec<O, A>, E, A> = winnow_repeat::combinator::repeat(
+        alloc, range, parser,
+    );
     let (answer, rest) = outcome_at::<I, Vec<O, A>, E, _>(&mut parser, text);
     let count = match answer {
         Ok(list) => Ok(list.len()),
@@ -102,7 +105,11 @@ pub(crate) fn repeat_plainly<I: OfText + Compare<u8>, E: ParserError<I>, A: Allo
 ) {
     let got = listed::<I, (), E, _, A>(alloc, Range::from(2), (), "a");
     same(rt, "repeat(2, ())", "a", got, (Err(Backtrack), 1));
-    let mut kept: Repeat<u8, I, u8, (), E, A> = combinator::repeat(alloc, Range::from(0..), b'a');
+    let mut kept: Repeat<u8, I, u8, (), E, A> = winnow_repeat::combinator::repeat(
+        alloc,
+        Range::from(0..),
+        b'a',
+    );
     let (answer, rest) = outcome_at::<I, (), E, _>(&mut kept, "aab");
     same(
         rt,
@@ -165,11 +172,8 @@ where
         ),
         ("repeat(3..=2)", Range::from(3..=2), "aa", CUTS, CUTS),
     ] {
-        let letters: Repeat<TakeWhile<char, I, E>, I, I::Slice, (), E, A> = combinator::repeat(
-            alloc,
-            range,
-            letter('a'),
-        );
+        let letters: Repeat<TakeWhile<char, I, E>, I, I::Slice, (), E, A> =
+            winnow_repeat::combinator::repeat(alloc, range, letter('a'));
         ends::<I, (), E, _>(rt, name, letters, text, (as_whole, as_cut));
     }
 }

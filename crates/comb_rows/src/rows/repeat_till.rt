@@ -11,9 +11,9 @@ use stream_sets::as_char::AsChar;
 use stream_sets::compare::Compare;
 use stream_sets::range::Range;
 use streams::stream::Stream;
-use winnow_comb::combinator;
-use winnow_comb::combinator::impls::{Empty, RepeatTill};
+use winnow_comb::combinator::impls::Empty;
 use winnow_core::parser::Parser;
+use winnow_repeat::combinator::impls::RepeatTill;
 use winnow_token::token::impls::{Any, TakeWhile};
 
 /// The items and what ended them, or the kind of the error, and the units left.
@@ -38,9 +38,8 @@ where
     requires parser { P.can_parse parser }
     requires terminator { G.can_parse terminator }
 {
-    let mut parser: RepeatTill<P, G, I, O, D, Vec<O, A>, E, A> = combinator::repeat_till(
-        alloc, range, parser, terminator,
-    );
+    let mut parser: RepeatTill<P, G, I, O, D, Vec<O, A>, E, A> =
+        winnow_repeat::combinator::repeat_till(alloc, range, parser, terminator);
     let (answer, rest) = outcome_at::<I, (Vec<O, A>, D), E, _>(&mut parser, text);
     (answer, rest.eof_offset())
 }
@@ -218,7 +217,7 @@ pub(crate) fn repeat_till_plainly<I: OfText + Compare<u8>, E: ParserError<I>, A:
     let run = listed::<I, (), u8, E, _, _, A>(alloc, Range::from(0..), Empty, b';', "a");
     let want = (Err(Backtrack), 1);
     same(rt, "repeat_till of Empty", "a", counted(run), want);
-    let mut kept: RepeatTill<u8, u8, I, u8, u8, (), E, A> = combinator::repeat_till(
+    let mut kept: RepeatTill<u8, u8, I, u8, u8, (), E, A> = winnow_repeat::combinator::repeat_till(
         alloc,
         Range::from(0..),
         b'a',
@@ -293,7 +292,7 @@ where
             (),
             E,
             A,
-        > = combinator::repeat_till(alloc, range, letter('a'), letter(';'));
+        > = winnow_repeat::combinator::repeat_till(alloc, range, letter('a'), letter(';'));
         ends::<I, ((), I::Slice), E, _>(rt, "repeat_till", letters, text, want);
     }
 }

@@ -15,8 +15,9 @@ use streams::needed::Needed;
 use streams::stream::Stream;
 use winnow_ascii::ascii::impls::Digit1;
 use winnow_comb::combinator;
-use winnow_comb::combinator::impls::{Empty, Separated};
+use winnow_comb::combinator::impls::Empty;
 use winnow_core::parser::Parser;
+use winnow_separated::combinator::impls::Separated;
 use winnow_token::token::impls::TakeWhile;
 
 /// The number of elements into a list, or the kind of the error, and the units left.
@@ -38,9 +39,8 @@ where
     requires parser { P.can_parse parser }
     requires separator { S.can_parse separator }
 {
-    let mut parser: Separated<P, S, I, O, D, Vec<O, A>, E, A> = combinator::separated(
-        alloc, range, parser, separator,
-    );
+    let mut parser: Separated<P, S, I, O, D, Vec<O, A>, E, A> =
+        winnow_separated::combinator::separated(alloc, range, parser, separator);
     let (answer, rest) = outcome_at::<I, Vec<O, A>, E, _>(&mut parser, text);
     let count = match answer {
         Ok(list) => Ok(list.len()),
@@ -174,7 +174,7 @@ where
             (),
             E,
             A,
-        > = combinator::separated(alloc, range, letter('a'), letter(','));
+        > = winnow_separated::combinator::separated(alloc, range, letter('a'), letter(','));
         ends::<I, (), E, _>(rt, name, letters, text, want);
     }
 }

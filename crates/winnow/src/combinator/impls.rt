@@ -1,11 +1,14 @@
 //! The types of the combinators and adapters.
 pub use winnow_comb::combinator::impls::{
-    Alt, AltParser, BacktrackErr, Cond, CutErr, Delimited, Empty, Fail, Fill, Not, Opt,
-    ParserIterator, Peek, Preceded, Repeat, RepeatFold, RepeatTill, RepeatTryFold,
-    RepeatVerifyFold, Separated, SeparatedFoldl1, SeparatedFoldr1, SeparatedPair, Terminated,
+    Alt, AltParser, BacktrackErr, Cond, CutErr, Delimited, Empty, Fail, Not, Opt, Peek, Preceded,
+    SeparatedPair, Terminated,
 };
 pub use winnow_core::combinator::impls::{
     AndThen, ByRef, CompleteErr, Context, ContextWith, DefaultValue, Eof, ErrInto, FlatMap, Map,
     MapErr, OutputInto, ParseTo, Span, Take, TryMap, Value, Verify, VerifyMap, Void, WithSpan,
     WithTaken,
 };
+pub use winnow_repeat::combinator::impls::{
+    Fill, ParserIterator, Repeat, RepeatFold, RepeatTill, RepeatTryFold, RepeatVerifyFold,
+};
+pub use winnow_separated::combinator::impls::{Separated, SeparatedFoldl1, SeparatedFoldr1};

@@ -1,8 +1,0 @@
-use Rattle.std.proofs.Common.{rules, refl, inl, inr, arith}
-use Rattle.winnow_comb.proofs.RepeatLemmas.{same_units}
-use Rattle.winnow_comb.proofs.combinator.impls.separated_foldl1.PairLinkParserTuple2.parse_next.Goals as goal
-
-pub returns-then-eof_offset-left-clause-ran : goal.returns-then-eof_offset-left-clause-ran
-returns-then-eof_offset-left-clause-ran g c =
-    let same = same_units g.I.Stream.reading _ _ c.in_ok-separator.ensures.ends (omega arith) in
-    inr (inl (c.in_ok-separator.separator, c.in_ok-separator.ensures.ran, same, refl, search rules))

@@ -1,6 +1,0 @@
-use Rattle.winnow_comb.proofs.RepetitionLaw.{runs_at_most_once_a_unit}
-use Rattle.winnow_comb.proofs.laws.repetition.repeat_runs_at_most_once_a_unit.Goals as goal
-
-pub returns : goal.returns
-returns g c = runs_at_most_once_a_unit g.I.Stream.reading
-    (g.P.Parser.meaning g.E.HasKind.form) g.C.Accumulate.accumulator _

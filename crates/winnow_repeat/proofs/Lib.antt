@@ -1,0 +1,5 @@
+mod FillLemmas
+mod FoldLemmas
+mod RepeatLemmas
+mod RepeatTillLemmas
+mod RepetitionLaw

@@ -1,0 +1,12 @@
+use Rattle.winnow_repeat.specs.Consumed.{same_units}
+use Rattle.std.proofs.Common.{rules, refl, inl, inr, arith}
+use Rattle.winnow_repeat.proofs.combinator.impls.iterator.ParserIterator.run.Goals as goal
+
+pub returns-then-eof_offset-left-clause-ran : goal.returns-then-eof_offset-left-clause-ran
+returns-then-eof_offset-left-clause-ran g c =
+    let same = same_units g.I.Stream.reading _ _ c.in-Ok.ensures.ends (omega arith) in
+    inr (inl (
+      search rules,
+      inr (inr (c.in-Ok.output, c.in-Ok.ensures.ran, same, search rules)),
+      refl,
+    ))

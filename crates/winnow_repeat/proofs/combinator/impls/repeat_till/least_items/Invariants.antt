@@ -1,0 +1,17 @@
+use Rattle.std.proofs.Common.{◌≡◌, ◌+◌, List, length}
+use Rattle.streams.specs.Input.{IsEndOf}
+use Rattle.winnow_repeat.specs.Chain.{Accumulates, Successes}
+use Rattle.winnow_repeat.proofs.combinator.impls.repeat_till.least_items.Given as goal
+
+abbrev pub invariant-items : goal.invariant-items
+invariant-items g l =
+    (outputs : List _)
+    × Successes (g.P.Parser.meaning g.E.HasKind.form) (g.P.Parser.state l.fn.parser)
+    (g.I.Stream.view l.fn.input) outputs (g.P.Parser.state l.parser) (g.I.Stream.view l.input)
+    × Accumulates g.C.Accumulate.accumulator.takes l.fn.empty outputs l.all
+    × (length outputs + l.missing ≡ l.fn.least)
+    × IsEndOf g.I.Stream.reading (g.I.Stream.view l.input) (g.I.Stream.view l.fn.input)
+    × g.P.Parser.can_parse l.parser
+
+abbrev pub decreases-items : goal.decreases-items
+decreases-items g l = l.missing

@@ -1,0 +1,46 @@
+-- A buffer that is filled.
+use Rattle.std.specs.Prelude.{◌≡◌, ℕ, List, [], ◌++◌, length, Ok, Err, ◌⊎◌, ⊤}
+use Rattle.streams.specs.Input.{Input}
+use Rattle.streams.specs.Kind.{Kind}
+use Rattle.stream_errors.specs.Form.{Answer}
+use Rattle.winnow_core.specs.Runs.{Runs}
+use Rattle.winnow_repeat.specs.Chain.{Successes}
+use Rattle.winnow_repeat.specs.declared.combinator.impls.fill.Fill.{Fill}
+pub mod Known
+pub mod Laws
+
+-- the parser that is run
+abbrev pub fill_parser : {P I O E : Type 0} → Fill P I O E → P
+fill_parser s = s.parser
+
+-- A buffer behind a reference: its elements, and which reference it is.
+pub record Buffer (O : Type 0) : Type 0 where
+  pub elements : List O
+  pub name : ℕ
+
+-- the buffer
+abbrev pub fill_buffer : {P I O E : Type 0} → Fill P I O E → Buffer O
+fill_buffer s = record { elements = s.buffer.now; name = s.buffer.ghost_name }
+
+-- What ends the filling of a buffer of which `rest` is left.
+abbrev pub FillEnds : {S T O : Type 0} → Runs S T O → List O → S → Input T → Answer ⊤ → S
+    → Input T → Type 0
+FillEnds {S} {T} {O} run rest u m answer t j =
+    -- each element was overwritten
+    ((rest ≡ []) × (answer ≡ Ok tt) × (t ≡ u) × (j ≡ m))
+    -- the run for the next element fails
+    ⊎ ((k : Kind) × (rest ≡ [] → ⊥) × run u m (Err k) t j × (answer ≡ Err k))
+
+-- A run an element, in order: the outputs take the place of the first elements, and the rest of
+-- them stay as they were.
+abbrev pub FillsElements : {S T O : Type 0} → Runs S T O → List O → S → Input T → Answer ⊤
+    → List O → S → Input T → Type 0
+FillsElements {S} {T} {O} run old s i answer new t j =
+    (outputs : List O) × (before : List O) × (rest : List O) × (u : S) × (m : Input T)
+    × Successes run s i outputs u m × (length before ≡ length outputs)
+    × (old ≡ before ++ rest) × (new ≡ outputs ++ rest) × FillEnds run rest u m answer t j
+
+-- A run that fills a buffer, which is a part of the parser.
+abbrev pub FillRuns : {S T O : Type 0} → Runs S T O → Runs (S × Buffer O) T ⊤
+FillRuns run s i answer t j =
+    FillsElements run s.1.elements s.0 i answer t.1.elements t.0 j × (t.1.name ≡ s.1.name)

@@ -1,0 +1,104 @@
+-- What a caller knows of the calls of an iterator: its items so far are the outputs of a chain of
+-- runs that consume, and the run behind them stopped it.
+use Rattle.std.specs.Prelude.{◌≡◌, List, [], ◌∷◌, ◌++◌, Option, Some, None}
+use Rattle.std.specs.Iterator.{Drains, Yields}
+use Rattle.std.proofs.Common.{refl, sym, subst, inl, inr}
+use Rattle.std.proofs.lemmas.Fn.{FoldsTo-push}
+use Rattle.streams.specs.Input.{Input}
+use Rattle.streams.specs.Kind.{Kind}
+use Rattle.winnow_core.specs.Runs.{Runs}
+use Rattle.winnow_repeat.specs.Chain.{IsItem}
+use Rattle.winnow_repeat.specs.Iterator.{IteratorNext, IteratorState, IteratorStops, running}
+use Rattle.winnow_repeat.specs.Repeat.Known.{Items}
+
+-- an item: the iterator went on and goes on, and its parser succeeded and consumed
+pub iterator_item : {S T O : Type 0} (run : Runs S T O) (assert_kind : Kind)
+    (s : IteratorState S T) (o : O) (t : IteratorState S T)
+    → IteratorNext run assert_kind s (Some o) t
+    → (s.standing ≡ running) × (t.standing ≡ running)
+    × IsItem run (s.parser, s.input) o (t.parser, t.input)
+iterator_item {O = O} run assert_kind s o t (inl (x, on, r, consumes, is, goes)) =
+    let P : O → Type 0 = λ y. IsItem run (s.parser, s.input) y (t.parser, t.input) in
+    (on, goes, subst P (sym (same_item is)) (r, consumes))
+  where
+    same_item : {A : Type 0} {a b : A} → Some a ≡ Some b → a ≡ b
+    same_item e = cc
+iterator_item run assert_kind s o t (inr (inl (on, stops, none))) = absurd (cc)
+iterator_item run assert_kind s o t (inr (inr (off, none, same))) = absurd (cc)
+
+-- no item from one that went on: what stopped it
+pub iterator_stopped : {S T O : Type 0} (run : Runs S T O) (assert_kind : Kind)
+    (s t : IteratorState S T) → s.standing ≡ running
+    → IteratorNext run assert_kind s None t → IteratorStops run assert_kind s t
+iterator_stopped run assert_kind s t on (inl (o, also, r, consumes, is, goes)) = absurd (cc)
+iterator_stopped run assert_kind s t on (inr (inl (also, stops, none))) = stops
+iterator_stopped run assert_kind s t on (inr (inr (off, none, same))) = absurd (off on)
+
+-- one that was stopped stays as it is, and gives nothing more
+pub iterator_stays : {S T O : Type 0} (run : Runs S T O) (assert_kind : Kind)
+    (s : IteratorState S T) (item : Option O) (t : IteratorState S T)
+    → (s.standing ≡ running → ⊥) → IteratorNext run assert_kind s item t
+    → (item ≡ None) × (t ≡ s)
+iterator_stays run assert_kind s item t off (inl (o, on, r, consumes, is, goes)) = absurd (off on)
+iterator_stays run assert_kind s item t off (inr (inl (on, stops, none))) = absurd (off on)
+iterator_stays run assert_kind s item t off (inr (inr (also, none, same))) = (none, same)
+
+-- an item more behind those of a chain
+pub iterator_more : {S T O : Type 0} (run : Runs S T O) (assert_kind : Kind)
+    (s : S) (i : Input T) (outputs : List O) (u : IteratorState S T) (o : O)
+    (t : IteratorState S T) → Items run s i outputs u.parser u.input
+    → IteratorNext run assert_kind u (Some o) t
+    → Items run s i (outputs ++ o ∷ []) t.parser t.input
+iterator_more run assert_kind s i outputs u o t chain step =
+    let told = iterator_item run assert_kind u o t step in
+    FoldsTo-push (λ p x q. IsItem run p x q) (s, i) outputs (u.parser, u.input) o
+    (t.parser, t.input) chain told.2
+
+-- The items that calls gave, in order: the outputs of a chain.
+pub iterator_yielded : {S T O X : Type 0} (run : Runs S T O) (assert_kind : Kind)
+    (state : X → IteratorState S T) (gives : X → Option O → X → Type 0)
+    → ((a : X) (item : Option O) (b : X) → gives a item b
+    → IteratorNext run assert_kind (state a) item (state b))
+    → (outputs : List O) (a b : X) → (state a).standing ≡ running → Yields gives a outputs b
+    → Items run (state a).parser (state a).input outputs (state b).parser (state b).input
+    × ((state b).standing ≡ running)
+iterator_yielded {X = X} run assert_kind state gives steps [] a b on e =
+    let P : X → Type 0 = λ x. Items run (state a).parser (state a).input [] (state x).parser
+    (state x).input × ((state x).standing ≡ running) in
+    subst P e (refl, on)
+iterator_yielded run assert_kind state gives steps (o ∷ os) a b on (c, step, more) =
+    let told = iterator_item run assert_kind (state a) o (state c) (steps a (Some o) c step) in
+    let behind = iterator_yielded run assert_kind state gives steps os c b told.1 more in
+    ((((state c).parser, (state c).input), told.2, behind.0), behind.1)
+
+-- All items of an iterator that went on: those of a chain, and the run that stopped it.
+pub record Iterated {S T O : Type 0} (run : Runs S T O) (assert_kind : Kind)
+    (s : IteratorState S T) (outputs : List O) : Type 0 where
+  pub last : IteratorState S T
+  pub behind : IteratorState S T
+  pub chain : Items run s.parser s.input outputs last.parser last.input
+  pub stops : IteratorStops run assert_kind last behind
+
+pub iterator_drained : {S T O X : Type 0} (run : Runs S T O) (assert_kind : Kind)
+    (state : X → IteratorState S T) (gives : X → Option O → X → Type 0)
+    → ((a : X) (item : Option O) (b : X) → gives a item b
+    → IteratorNext run assert_kind (state a) item (state b))
+    → (outputs : List O) (a : X) → (state a).standing ≡ running → Drains gives a outputs
+    → Iterated run assert_kind (state a) outputs
+iterator_drained run assert_kind state gives steps outputs a on (u, (t, yields, ends)) =
+    let told = iterator_yielded run assert_kind state gives steps outputs a t on yields in
+    record {
+      last = state t;
+      behind = state u;
+      chain = told.0;
+      stops = iterator_stopped run assert_kind (state t) (state u) told.1 (steps t None u ends);
+    }
+
+pub ruleset known_iterators = (
+  iterator_item,
+  iterator_stopped,
+  iterator_stays,
+  iterator_more,
+  iterator_yielded,
+  iterator_drained,
+)

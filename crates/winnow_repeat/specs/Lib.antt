@@ -1,0 +1,11 @@
+pub mod Chain
+pub mod Consumed
+pub mod Fill
+pub mod Fold
+pub mod Iterator
+pub mod Repeat
+pub mod RepeatLaws
+pub mod RepeatTill
+pub mod Room
+pub mod TryFold
+pub mod VerifyFold

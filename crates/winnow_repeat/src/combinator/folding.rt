@@ -1,0 +1,166 @@
+//! How repetition folds its outputs into a value.
+ghost use Rattle.std.specs.Prelude.{◌≡◌, MatchResult, Ok, Err};
+ghost use Rattle.stream_errors.specs.Form.{Answer, answer_by, assert_kind};
+ghost use Rattle.stream_sets.specs.Range.{IsWithin, bounds_of, from_to};
+ghost use Rattle.streams.specs.Input.{IsEndOf};
+ghost use Rattle.streams.specs.Kind.{Kind};
+ghost use Rattle.winnow_repeat.specs.Fold.{FoldItemsRun, FoldManyRuns};
+
+use crate::combinator::items::is_descending;
+use stream_errors::has_kind::HasKind;
+use stream_errors::parser_error::ParserError;
+use stream_sets::range::Range;
+use streams::stream::Stream;
+use winnow_core::parser::Parser;
+
+/// How a value takes an output, or refuses it.
+pub trait Folding<I: Stream, O, R, E: ParserError<I>> {
+    /// What says why an output was refused.
+    type Refusal;
+
+    // Where an output may be folded in.
+    ghost can_fold: { Self → Type 0 };
+
+    // The states of what folds, and that which it is in.
+    ghost State: { Type 0 };
+
+    ghost state: { Self → State };
+
+    // How a value takes an output, from a state to a state: into a value, or with an error.
+    ghost folds: { State → R → O → Answer R → State → Type 0 };
+
+    // The kinds of the errors for a refusal.
+    ghost refuses: { Self.Refusal → Kind → Type 0 };
+
+    /// Folds an output into a value, or says why not.
+    fn fold(&mut self, value: R, output: O) -> Result<R, Self::Refusal>
+        requires { can_fold self.old }
+        ensures again { can_fold self.new }
+        ensures folded { MatchResult result
+            (λ more. folds (state self.old) value output (Ok more) (state self.new))
+            (λ refusal. (k : Kind) → refuses refusal k
+            → folds (state self.old) value output (Err k) (state self.new)) };
+
+    /// The error for a refusal, at the place of `input`.
+    fn error(refusal: Self::Refusal, input: &I) -> E
+        ensures { refuses refusal (E.kind result) };
+}
+
+/// Makes a value, and folds as many items into it as a range says.
+pub(crate) fn fold_range<
+    P: Parser<I, O, E>,
+    G: FnMut() -> R,
+    F: Folding<I, O, R, E>,
+    I: Stream,
+    O: Drop,
+    R: Drop,
+    E: ParserError<I>,
+>(occurrences: Range, parser: &mut P, init: &mut G, op: &mut F, input: &mut I) -> Result<R, E>
+    requires parser { P.can_parse parser.old }
+    requires init { G.IsAlwaysCallable init.old }
+    requires op { F.can_fold op.old }
+    ensures again { P.can_parse parser.new × G.IsAlwaysCallable init.new × F.can_fold op.new }
+    ensures ran { FoldManyRuns G.step F.folds (P.meaning E.form) (assert_kind E.form)
+        (bounds_of occurrences) (P.state parser.old, (init.old, F.state op.old))
+        (I.view input.old) (answer_by E.kind result)
+        (P.state parser.new, (init.new, F.state op.new)) (I.view input.new) }
+    ensures ends { IsEndOf I.reading (I.view input.new) (I.view input.old) }
+{
+    let least = occurrences.start_inclusive;
+    let greatest = occurrences.greatest();
+    fold_many(least, greatest, parser, init, op, input)
+}
+
+/// Makes a value, and folds items into it: at least `least`, to `greatest` if there is a bound.
+fn fold_many<
+    P: Parser<I, O, E>,
+    G: FnMut() -> R,
+    F: Folding<I, O, R, E>,
+    I: Stream,
+    O: Drop,
+    R: Drop,
+    E: ParserError<I>,
+>(
+    least: usize,
+    greatest: Option<usize>,
+    parser: &mut P,
+    init: &mut G,
+    op: &mut F,
+    input: &mut I,
+) -> Result<R, E>
+    requires parser { P.can_parse parser.old }
+    requires init { G.IsAlwaysCallable init.old }
+    requires op { F.can_fold op.old }
+    ensures again { P.can_parse parser.new × G.IsAlwaysCallable init.new × F.can_fold op.new }
+    ensures ran { FoldManyRuns G.step F.folds (P.meaning E.form) (assert_kind E.form)
+        (from_to least greatest) (P.state parser.old, (init.old, F.state op.old))
+        (I.view input.old) (answer_by E.kind result)
+        (P.state parser.new, (init.new, F.state op.new)) (I.view input.new) }
+    ensures ends { IsEndOf I.reading (I.view input.new) (I.view input.old) }
+{
+    if is_descending(least, greatest) {
+        return Err(E::assert(input, "the greatest count is below the least"));
+    }
+    let value = init();
+    fold_items(value, least, greatest, parser, op, input)
+}
+
+/// Folds items into a value, at least `missing` and at most `room`.
+pub fn fold_items<
+    P: Parser<I, O, E>,
+    F: Folding<I, O, R, E>,
+    I: Stream,
+    O: Drop,
+    R: Drop,
+    E: ParserError<I>,
+>(
+    value: R,
+    missing: usize,
+    room: Option<usize>,
+    parser: &mut P,
+    op: &mut F,
+    input: &mut I,
+) -> Result<R, E>
+    requires parser { P.can_parse parser.old }
+    requires op { F.can_fold op.old }
+    requires range { IsWithin room missing }
+    ensures again { P.can_parse parser.new × F.can_fold op.new }
+    ensures ran { FoldItemsRun F.folds (P.meaning E.form) (assert_kind E.form)
+        (from_to missing room) (P.state parser.old, (F.state op.old, value)) (I.view input.old)
+        (answer_by E.kind result) (P.state parser.new, F.state op.new) (I.view input.new) }
+    ensures ends { IsEndOf I.reading (I.view input.new) (I.view input.old) }
+{
+    let mut value = value;
+    let mut missing = missing;
+    let mut room = room;
+    'items: loop {
+        if room == Some(0) {
+            return Ok(value);
+        }
+        let start = input.checkpoint();
+        let left = input.eof_offset();
+        match parser.parse_next(input) {
+            Ok(output) => {
+                if input.eof_offset() == left {
+                    return Err(E::assert(input, "each item must consume"));
+                }
+                match op.fold(value, output) {
+                    Ok(more) => value = more,
+                    Err(refusal) => {
+                        input.reset(&start);
+                        return Err(F::error(refusal, input));
+                    }
+                }
+                missing = missing.saturating_sub(1);
+                room = room.map(|n: usize| n.saturating_sub(1));
+            }
+            Err(error) => {
+                if missing == 0 && error.is_backtrack() {
+                    input.reset(&start);
+                    return Ok(value);
+                }
+                return Err(error);
+            }
+        }
+    }
+}

@@ -1,0 +1,81 @@
+//! A buffer that is filled.
+ghost use Rattle.std.specs.Prelude.{◌≡◌};
+ghost use Rattle.stream_errors.specs.Form.{answer_by};
+ghost use Rattle.streams.specs.Input.{IsEndOf};
+ghost use Rattle.winnow_repeat.specs.Fill.{Buffer, FillRuns, FillsElements, fill_buffer};
+ghost use Rattle.winnow_repeat.specs.Fill.Laws.{fill_ends};
+ghost use Rattle.winnow_core.specs.Agrees.{agrees_with};
+
+use std::marker::PhantomData;
+use stream_errors::parser_error::ParserError;
+use streams::stream::Stream;
+use winnow_core::agrees_with::AgreesWith;
+use winnow_core::parser::Parser;
+
+/// The parser that [`fill`](crate::combinator::fill) makes.
+///
+/// ```text
+/// fill(Any, &mut letters)   is a Fill
+/// ```
+#[derive(Drop)]
+pub struct Fill<'b, P, I, O, E> {
+    pub(crate) parser: P,
+    pub(crate) buffer: &'b mut [O],
+    pub(crate) marker: PhantomData<(I, E)>,
+}
+
+impl<'b, P: Parser<I, O, E>, I: Stream, O: Drop, E: ParserError<I>> Parser<I, (), E>
+    for Fill<'b, P, I, O, E> {
+    ghost can_parse = { λ s. P.can_parse s.parser };
+
+    ghost State = { P.State × Buffer O };
+
+    ghost state = { λ s. (P.state s.parser, fill_buffer s) };
+
+    ghost meaning = { λ form. FillRuns (P.meaning form) };
+
+    ghost leaves_ends = { λ form. fill_ends I.reading (P.meaning form) (P.leaves_ends form) };
+
+    fn parse_next(&mut self, input: &mut I) -> Result<(), E> {
+        fill_each(&mut self.parser, self.buffer, input)
+    }
+}
+
+impl<
+    'b,
+    P: AgreesWith<I, O, E, Q, J, F>,
+    Q: Parser<J, O, F>,
+    I: Stream,
+    J: Stream<Token = I::Token, Seen = I::Seen, Slice = I::Slice>,
+    O: Drop,
+    E: ParserError<I>,
+    F: ParserError<J>,
+> AgreesWith<I, (), E, Fill<'b, Q, J, O, F>, J, F> for Fill<'b, P, I, O, E> {
+    ghost like = { λ p q. P.like p.parser q.parser
+        × (fill_buffer p ≡ fill_buffer q) };
+
+    ghost agrees = { agrees_with (λ p. p.parser) (λ q. q.parser) fill_buffer fill_buffer
+        (λ X m form. FillRuns (m form)) P.agrees };
+}
+
+/// Overwrites each element of a buffer by the output of a run.
+fn fill_each<P: Parser<I, O, E>, I: Stream, O: Drop, E: ParserError<I>>(
+    parser: &mut P,
+    buffer: &mut [O],
+    input: &mut I,
+) -> Result<(), E>
+    requires { P.can_parse parser.old }
+    ensures again { P.can_parse parser.new }
+    ensures ran { FillsElements (P.meaning E.form) buffer.old (P.state parser.old)
+        (I.view input.old) (answer_by E.kind result) buffer.new (P.state parser.new)
+        (I.view input.new) }
+    ensures ends { IsEndOf I.reading (I.view input.new) (I.view input.old) }
+{
+    for k in 0..buffer.len() {
+        match parser.parse_next(input) {
+            Ok(output) => buffer[k] = output,
+            Err(error) => return Err(error),
+        }
+    }
+    Ok(())
+}

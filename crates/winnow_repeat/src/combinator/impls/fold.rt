@@ -1,0 +1,170 @@
+//! Repetition whose outputs a closure folds into a value.
+ghost use Rattle.std.specs.Prelude.{◌≡◌, ⊤};
+ghost use Rattle.stream_errors.specs.Form.{answer_by, assert_kind};
+ghost use Rattle.stream_sets.specs.declared.range.Range.{Range};
+ghost use Rattle.streams.specs.Input.{IsEndOf};
+ghost use Rattle.streams.specs.Kind.{Kind, backtrack};
+ghost use Rattle.winnow_repeat.specs.Fold.{FoldOneRuns, FoldTakes, RangedFolds, fold_closure};
+ghost use Rattle.winnow_repeat.specs.Fold.{fold_init, fold_occurrences, fold_parser};
+ghost use Rattle.winnow_repeat.specs.Fold.Laws.{ranged_folds_end};
+ghost use Rattle.winnow_core.specs.Agrees.{agrees_with};
+
+use crate::combinator::folding::{Folding, fold_items, fold_range};
+use std::marker::PhantomData;
+use stream_errors::parser_error::ParserError;
+use stream_sets::range::Range;
+use streams::stream::Stream;
+use winnow_core::agrees_with::AgreesWith;
+use winnow_core::parser::Parser;
+
+/// A closure that folds each output into a value.
+#[derive(Drop)]
+pub(crate) struct Always<H> {
+    pub(crate) closure: H,
+}
+
+impl<H: FnMut(R, O) -> R, I: Stream, O, R, E: ParserError<I>> Folding<I, O, R, E> for Always<H> {
+    type Refusal = ();
+
+    ghost can_fold = { λ s. H.IsAlwaysCallable s.closure };
+
+    ghost State = { H };
+
+    ghost state = { λ s. s.closure };
+
+    ghost folds = { FoldTakes H.step };
+
+    ghost refuses = { λ _ k. k ≡ backtrack };
+
+    #[inline(always)]
+    fn fold(&mut self, value: R, output: O) -> Result<R, ()> {
+        Ok((self.closure)(value, output))
+    }
+
+    #[inline(always)]
+    fn error(_refusal: (), input: &I) -> E {
+        E::from_input(input)
+    }
+}
+
+/// The parser that [`Repeat::fold`](crate::combinator::impls::Repeat::fold) makes.
+///
+/// ```text
+/// repeat(alloc, Range::from(0..), digit).fold(|| 0, |sum: u32, n| sum + n)   is a RepeatFold
+/// ```
+#[derive(Drop)]
+pub struct RepeatFold<P, G, H, I, O, R, E> {
+    pub(crate) occurrences: Range,
+    pub(crate) parser: P,
+    pub(crate) init: G,
+    pub(crate) op: Always<H>,
+    pub(crate) marker: PhantomData<(I, O, R, E)>,
+}
+
+impl<P, G, H, I, O, R, E> RepeatFold<P, G, H, I, O, R, E> {
+    #[inline(always)]
+    pub(crate) fn new(
+        occurrences: Range,
+        parser: P,
+        init: G,
+        op: H,
+    ) -> RepeatFold<P, G, H, I, O, R, E>
+        ensures occurrences { fold_occurrences result ≡ occurrences }
+        ensures parser { fold_parser result ≡ parser }
+        ensures init { fold_init result ≡ init }
+        ensures op { fold_closure result ≡ op }
+    {
+        RepeatFold {
+            occurrences,
+            parser,
+            init,
+            op: Always { closure: op },
+            marker: PhantomData,
+        }
+    }
+}
+
+impl<
+    P: Parser<I, O, E>,
+    G: FnMut() -> R,
+    H: FnMut(R, O) -> R,
+    I: Stream,
+    O: Drop,
+    R: Drop,
+    E: ParserError<I>,
+> Parser<I, R, E> for RepeatFold<P, G, H, I, O, R, E> {
+    ghost can_parse = { λ s. P.can_parse s.parser × G.IsAlwaysCallable s.init
+        × H.IsAlwaysCallable s.op.closure };
+
+    ghost State = { P.State × (Range × (G × H)) };
+
+    ghost state = { λ s. (P.state s.parser, (s.occurrences, (s.init, s.op.closure))) };
+
+    ghost meaning = { λ form. RangedFolds G.step H.step (P.meaning form) (assert_kind form) };
+
+    ghost leaves_ends = { λ form. ranged_folds_end I.reading G.step H.step (P.meaning form)
+        (assert_kind form) (P.leaves_ends form) };
+
+    fn parse_next(&mut self, input: &mut I) -> Result<R, E> {
+        if self.occurrences.start_inclusive == 1 && self.occurrences.greatest().is_none() {
+            fold_one(&mut self.parser, &mut self.init, &mut self.op, input)
+        } else {
+            fold_range(
+                self.occurrences,
+                &mut self.parser,
+                &mut self.init,
+                &mut self.op,
+                input,
+            )
+        }
+    }
+}
+
+impl<
+    P: AgreesWith<I, O, E, Q, J, F>,
+    Q: Parser<J, O, F>,
+    G: FnMut() -> R,
+    H: FnMut(R, O) -> R,
+    I: Stream,
+    J: Stream<Token = I::Token, Seen = I::Seen, Slice = I::Slice>,
+    O: Drop,
+    R: Drop,
+    E: ParserError<I>,
+    F: ParserError<J>,
+> AgreesWith<I, R, E, RepeatFold<Q, G, H, J, O, R, F>, J, F> for RepeatFold<P, G, H, I, O, R, E> {
+    ghost like = { λ p q. P.like p.parser q.parser
+        × (◌≡◌ {A = Range × (G × H)} (p.occurrences, (p.init, p.op.closure))
+        (q.occurrences, (q.init, q.op.closure))) };
+
+    ghost agrees = { agrees_with (λ p. p.parser) (λ q. q.parser)
+        (λ p. (p.occurrences, (p.init, p.op.closure)))
+        (λ q. (q.occurrences, (q.init, q.op.closure)))
+        (λ X m form. RangedFolds G.step H.step (m form) (assert_kind form)) P.agrees };
+}
+
+/// Folds one item or more: the value to begin with is made behind the first.
+fn fold_one<
+    P: Parser<I, O, E>,
+    G: FnMut() -> R,
+    H: FnMut(R, O) -> R,
+    I: Stream,
+    O: Drop,
+    R: Drop,
+    E: ParserError<I>,
+>(parser: &mut P, init: &mut G, op: &mut Always<H>, input: &mut I) -> Result<R, E>
+    requires parser { P.can_parse parser.old }
+    requires init { G.IsAlwaysCallable init.old }
+    requires op { H.IsAlwaysCallable op.old.closure }
+    ensures again { P.can_parse parser.new × G.IsAlwaysCallable init.new
+        × H.IsAlwaysCallable op.new.closure }
+    ensures ran { FoldOneRuns G.step (FoldTakes H.step) (P.meaning E.form) (assert_kind E.form)
+        (P.state parser.old, (init.old, op.old.closure)) (I.view input.old)
+        (answer_by E.kind result) (P.state parser.new, (init.new, op.new.closure))
+        (I.view input.new) }
+    ensures ends { IsEndOf I.reading (I.view input.new) (I.view input.old) }
+{
+    let first = parser.parse_next(input)?;
+    let value = init();
+    let value = (op.closure)(value, first);
+    fold_items(value, 0, None, parser, op, input)
+}

@@ -1,0 +1,185 @@
+//! Repetition.
+ghost use Rattle.std.specs.Prelude.{◌≡◌};
+ghost use Rattle.stream_errors.specs.Form.{answer_by, assert_kind};
+ghost use Rattle.stream_sets.specs.declared.range.Range.{Range};
+ghost use Rattle.streams.specs.Input.{IsEndOf};
+ghost use Rattle.winnow_repeat.specs.Repeat.{RangedRuns, RepeatOneRuns};
+ghost use Rattle.winnow_repeat.specs.Fold.{fold_closure, fold_init, fold_occurrences, fold_parser};
+ghost use Rattle.winnow_repeat.specs.Repeat.{repeat_occurrences, repeat_parser};
+ghost use Rattle.winnow_repeat.specs.Repeat.Laws.{ranged_ends};
+ghost use Rattle.winnow_repeat.specs.TryFold.{try_fold_closure, try_fold_init, try_fold_occurrences};
+ghost use Rattle.winnow_repeat.specs.TryFold.{try_fold_parser};
+ghost use Rattle.winnow_repeat.specs.VerifyFold.{verify_fold_closure, verify_fold_init};
+ghost use Rattle.winnow_repeat.specs.VerifyFold.{verify_fold_occurrences, verify_fold_parser};
+ghost use Rattle.winnow_core.specs.Agrees.{agrees_with};
+
+use crate::combinator::impls::{RepeatFold, RepeatTryFold, RepeatVerifyFold};
+use crate::combinator::items::{repeat_items, repeat_many};
+use std::alloc::Allocator;
+use std::marker::PhantomData;
+use stream_errors::external::FromExternalError;
+use stream_errors::parser_error::ParserError;
+use stream_sets::accumulate::Accumulate;
+use stream_sets::range::Range;
+use streams::stream::Stream;
+use winnow_core::agrees_with::AgreesWith;
+use winnow_core::parser::Parser;
+
+/// The parser that [`repeat`](crate::combinator::repeat) makes.
+///
+/// ```text
+/// repeat(alloc, Range::from(2), b'a')   is a Repeat
+/// ```
+#[derive(Drop)]
+pub struct Repeat<P, I, O, C, E, A> {
+    pub(crate) alloc: A,
+    pub(crate) occurrences: Range,
+    pub(crate) parser: P,
+    pub(crate) input: PhantomData<I>,
+    pub(crate) output: PhantomData<O>,
+    pub(crate) accumulator: PhantomData<C>,
+    pub(crate) error: PhantomData<E>,
+}
+
+impl<P: Parser<I, O, E>, I: Stream, O, E: ParserError<I>, A: Drop> Repeat<P, I, O, (), E, A> {
+    /// Folds the outputs into a value: `init` makes it, and `op` takes each output in, in order.
+    ///
+    /// It ends and fails as the repetition does, and takes no memory. In the form `1..` the value
+    /// is made behind the first item, and else first. Known as `fold_many0` and `fold_many1` in
+    /// nom.
+    ///
+    /// ```text
+    /// repeat(alloc, Range::from(0..), digit).fold(|| 0, |sum: u32, n| sum + n)
+    ///     on b"12a" is Ok(3), and b"a" is left
+    /// ```
+    #[inline(always)]
+    pub fn fold<G, H, R>(self, init: G, op: H) -> RepeatFold<P, G, H, I, O, R, E>
+    where
+        G: FnMut() -> R,
+        H: FnMut(R, O) -> R,
+        ensures occurrences { fold_occurrences result ≡ repeat_occurrences self }
+        ensures parser { fold_parser result ≡ repeat_parser self }
+        ensures init { fold_init result ≡ init }
+        ensures op { fold_closure result ≡ op }
+    {
+        RepeatFold::new(self.occurrences, self.parser, init, op)
+    }
+
+    /// As [`fold`](Repeat::fold), but `op` may refuse an output by `None`: then it backtracks, and
+    /// the input stands before the refused item. The value is made first, in each form.
+    ///
+    /// ```text
+    /// repeat(alloc, Range::from(0..), digit).verify_fold(|| 0, |sum: u8, n| sum.checked_add(n))
+    /// ```
+    #[inline(always)]
+    pub fn verify_fold<G, H, R>(self, init: G, op: H) -> RepeatVerifyFold<P, G, H, I, O, R, E>
+    where
+        G: FnMut() -> R,
+        H: FnMut(R, O) -> Option<R>,
+        ensures occurrences { verify_fold_occurrences result ≡ repeat_occurrences self }
+        ensures parser { verify_fold_parser result ≡ repeat_parser self }
+        ensures init { verify_fold_init result ≡ init }
+        ensures op { verify_fold_closure result ≡ op }
+    {
+        RepeatVerifyFold::new(self.occurrences, self.parser, init, op)
+    }
+
+    /// As [`verify_fold`](Repeat::verify_fold), but `op` says why it refuses an output: its error
+    /// is kept as [`FromExternalError`] says, and backtracks.
+    ///
+    /// ```text
+    /// repeat(alloc, Range::from(0..), digit).try_fold(|| 0, |sum: u8, n| add(sum, n))
+    /// ```
+    #[inline(always)]
+    pub fn try_fold<G, H, R, X>(self, init: G, op: H) -> RepeatTryFold<P, G, H, I, O, R, E, X>
+    where
+        G: FnMut() -> R,
+        H: FnMut(R, O) -> Result<R, X>,
+        E: FromExternalError<I, X>,
+        ensures occurrences { try_fold_occurrences result ≡ repeat_occurrences self }
+        ensures parser { try_fold_parser result ≡ repeat_parser self }
+        ensures init { try_fold_init result ≡ init }
+        ensures op { try_fold_closure result ≡ op }
+    {
+        RepeatTryFold::new(self.occurrences, self.parser, init, op)
+    }
+}
+
+impl<
+    P: Parser<I, O, E>,
+    I: Stream,
+    O: Drop,
+    C: Accumulate<O, A>,
+    E: ParserError<I>,
+    A: Allocator + Copy,
+> Parser<I, C, E> for Repeat<P, I, O, C, E, A> {
+    ghost can_parse = { λ s. P.can_parse s.parser };
+
+    ghost State = { P.State × Range };
+
+    ghost state = { λ s. (P.state s.parser, s.occurrences) };
+
+    ghost meaning = { λ form. RangedRuns (P.meaning form) C.accumulator (assert_kind form) };
+
+    ghost leaves_ends = { λ form. ranged_ends I.reading (P.meaning form) C.accumulator
+        (assert_kind form) (P.leaves_ends form) };
+
+    fn parse_next(&mut self, input: &mut I) -> Result<C, E> {
+        let least = self.occurrences.start_inclusive;
+        match self.occurrences.greatest() {
+            None => {
+                if least == 1 {
+                    repeat_one(self.alloc, &mut self.parser, input)
+                } else {
+                    repeat_many(self.alloc, least, None, &mut self.parser, input)
+                }
+            }
+            Some(most) => repeat_many(self.alloc, least, Some(most), &mut self.parser, input),
+        }
+    }
+}
+
+impl<
+    P: AgreesWith<I, O, E, Q, J, F>,
+    Q: Parser<J, O, F>,
+    I: Stream,
+    J: Stream<Token = I::Token, Seen = I::Seen, Slice = I::Slice>,
+    O: Drop,
+    C: Accumulate<O, A>,
+    E: ParserError<I>,
+    F: ParserError<J>,
+    A: Allocator + Copy,
+> AgreesWith<I, C, E, Repeat<Q, J, O, C, F, A>, J, F> for Repeat<P, I, O, C, E, A> {
+    ghost like = { λ p q. P.like p.parser q.parser × (p.occurrences ≡ q.occurrences) };
+
+    ghost agrees = { agrees_with (λ p. p.parser) (λ q. q.parser) (λ p. p.occurrences)
+        (λ q. q.occurrences)
+        (λ X m form. RangedRuns (m form) C.accumulator (assert_kind form)) P.agrees };
+}
+
+/// Repeats once or more: the accumulator is made behind the first item.
+fn repeat_one<
+    P: Parser<I, O, E>,
+    I: Stream,
+    O: Drop,
+    C: Accumulate<O, A>,
+    E: ParserError<I>,
+    A: Allocator + Copy,
+>(alloc: A, parser: &mut P, input: &mut I) -> Result<C, E>
+    requires { P.can_parse parser.old }
+    ensures again { P.can_parse parser.new }
+    ensures ran { RepeatOneRuns (P.meaning E.form) C.accumulator (assert_kind E.form)
+        (P.state parser.old) (I.view input.old) (answer_by E.kind result) (P.state parser.new)
+        (I.view input.new) }
+    ensures ends { IsEndOf I.reading (I.view input.new) (I.view input.old) }
+{
+    let first = parser.parse_next(input)?;
+    let mut all = match C::initial(alloc, None) {
+        Ok(all) => all,
+        Err(_) => return Err(E::no_memory(input)),
+    };
+    match all.accumulate(first) {
+        Ok(()) => repeat_items(all, 0, None, parser, input),
+        Err(_) => Err(E::no_memory(input)),
+    }
+}

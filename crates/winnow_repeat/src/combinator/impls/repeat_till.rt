@@ -1,0 +1,175 @@
+//! Repetition until a terminator.
+ghost use Rattle.std.specs.Prelude.{◌≡◌};
+ghost use Rattle.stream_errors.specs.Form.{answer_by, assert_kind};
+ghost use Rattle.stream_sets.specs.declared.range.Range.{Range};
+ghost use Rattle.streams.specs.Input.{IsEndOf};
+ghost use Rattle.winnow_repeat.specs.RepeatTill.{LeastItemsRun, RangedTillRuns, TurnsRun};
+ghost use Rattle.winnow_repeat.specs.RepeatTill.Laws.{repeat_till_ends};
+ghost use Rattle.winnow_core.specs.Agrees.Beside.{agrees2_with};
+
+use crate::combinator::items::is_descending;
+use std::alloc::Allocator;
+use std::marker::PhantomData;
+use stream_errors::parser_error::ParserError;
+use stream_sets::accumulate::Accumulate;
+use stream_sets::range::Range;
+use streams::stream::Stream;
+use winnow_core::agrees_with::AgreesWith;
+use winnow_core::parser::Parser;
+
+/// The parser that [`repeat_till`](crate::combinator::repeat_till) makes.
+///
+/// ```text
+/// repeat_till(alloc, Range::from(0..), Any, b';')   is a RepeatTill
+/// ```
+#[derive(Drop)]
+pub struct RepeatTill<P, G, I, O, D, C, E, A> {
+    pub(crate) alloc: A,
+    pub(crate) occurrences: Range,
+    pub(crate) parser: P,
+    pub(crate) terminator: G,
+    pub(crate) marker: PhantomData<(I, O, D, C, E)>,
+}
+
+impl<
+    P: Parser<I, O, E>,
+    G: Parser<I, D, E>,
+    I: Stream,
+    O: Drop,
+    D,
+    C: Accumulate<O, A>,
+    E: ParserError<I>,
+    A: Allocator + Copy,
+> Parser<I, (C, D), E> for RepeatTill<P, G, I, O, D, C, E, A> {
+    ghost can_parse = { λ s. P.can_parse s.parser × G.can_parse s.terminator };
+
+    ghost State = { P.State × G.State × Range };
+
+    ghost state = { λ s. (P.state s.parser, G.state s.terminator, s.occurrences) };
+
+    ghost meaning = { λ form. RangedTillRuns (P.meaning form) (G.meaning form) C.accumulator
+        (assert_kind form) };
+
+    ghost leaves_ends = { λ form. repeat_till_ends I.reading (P.meaning form) (G.meaning form)
+        C.accumulator (assert_kind form) (P.leaves_ends form) (G.leaves_ends form) };
+
+    fn parse_next(&mut self, input: &mut I) -> Result<(C, D), E> {
+        let least = self.occurrences.start_inclusive;
+        let greatest = self.occurrences.greatest();
+        if is_descending(least, greatest) {
+            return Err(E::assert(input, "the greatest count is below the least"));
+        }
+        match C::initial(self.alloc, greatest.map(|_: usize| least)) {
+            Ok(empty) => {
+                let all = least_items(empty, least, &mut self.parser, input)?;
+                let room = greatest.map(|most: usize| most.saturating_sub(least));
+                turns(all, room, &mut self.parser, &mut self.terminator, input)
+            }
+            Err(_) => Err(E::no_memory(input)),
+        }
+    }
+}
+
+impl<
+    P: AgreesWith<I, O, E, Q, J, F>,
+    Q: Parser<J, O, F>,
+    G: AgreesWith<I, D, E, W, J, F>,
+    W: Parser<J, D, F>,
+    I: Stream,
+    J: Stream<Token = I::Token, Seen = I::Seen, Slice = I::Slice>,
+    O: Drop,
+    D,
+    C: Accumulate<O, A>,
+    E: ParserError<I>,
+    F: ParserError<J>,
+    A: Allocator + Copy,
+> AgreesWith<I, (C, D), E, RepeatTill<Q, W, J, O, D, C, F, A>, J, F>
+    for RepeatTill<P, G, I, O, D, C, E, A> {
+    ghost like = { λ p q. P.like p.parser q.parser × G.like p.terminator q.terminator
+        × (p.occurrences ≡ q.occurrences) };
+
+    ghost agrees = { agrees2_with (λ p. p.parser) (λ q. q.parser) (λ p. p.terminator)
+        (λ q. q.terminator) (λ p. p.occurrences) (λ q. q.occurrences)
+        (λ X Y m n form. RangedTillRuns (m form) (n form) C.accumulator (assert_kind form))
+        P.agrees G.agrees };
+}
+
+/// Reads so many items into an accumulator, and lets them consume nothing.
+fn least_items<
+    P: Parser<I, O, E>,
+    I: Stream,
+    O: Drop,
+    C: Accumulate<O, A>,
+    E: ParserError<I>,
+    A: Allocator + Copy,
+>(empty: C, least: usize, parser: &mut P, input: &mut I) -> Result<C, E>
+    requires { P.can_parse parser.old }
+    ensures again { P.can_parse parser.new }
+    ensures ran { LeastItemsRun (P.meaning E.form) C.accumulator least empty
+        (P.state parser.old) (I.view input.old) (answer_by E.kind result)
+        (P.state parser.new) (I.view input.new) }
+    ensures ends { IsEndOf I.reading (I.view input.new) (I.view input.old) }
+{
+    let mut all = empty;
+    let mut missing = least;
+    'items: while missing > 0 {
+        let output = parser.parse_next(input)?;
+        match all.accumulate(output) {
+            Ok(()) => missing -= 1,
+            Err(_) => return Err(E::no_memory(input)),
+        }
+    }
+    Ok(all)
+}
+
+/// Tries the terminator, and reads an item where that backtracks, again and again: at most `room`
+/// items, into an accumulator.
+fn turns<
+    P: Parser<I, O, E>,
+    G: Parser<I, D, E>,
+    I: Stream,
+    O: Drop,
+    D,
+    C: Accumulate<O, A>,
+    E: ParserError<I>,
+    A: Allocator + Copy,
+>(
+    before: C,
+    room: Option<usize>,
+    parser: &mut P,
+    terminator: &mut G,
+    input: &mut I,
+) -> Result<(C, D), E>
+    requires parser { P.can_parse parser.old }
+    requires terminator { G.can_parse terminator.old }
+    ensures again { P.can_parse parser.new × G.can_parse terminator.new }
+    ensures ran { TurnsRun (P.meaning E.form) (G.meaning E.form) C.accumulator
+        (assert_kind E.form) room before (P.state parser.old, G.state terminator.old)
+        (I.view input.old) (answer_by E.kind result)
+        (P.state parser.new, G.state terminator.new) (I.view input.new) }
+    ensures ends { IsEndOf I.reading (I.view input.new) (I.view input.old) }
+{
+    let mut all = before;
+    let mut room = room;
+    'turns: loop {
+        let start = input.checkpoint();
+        let left = input.eof_offset();
+        match terminator.parse_next(input) {
+            Ok(end) => return Ok((all, end)),
+            Err(error) => {
+                if room == Some(0) || !error.is_backtrack() {
+                    return Err(error);
+                }
+            }
+        }
+        input.reset(&start);
+        let output = parser.parse_next(input)?;
+        if input.eof_offset() == left {
+            return Err(E::assert(input, "each item must consume"));
+        }
+        match all.accumulate(output) {
+            Ok(()) => room = room.map(|n: usize| n.saturating_sub(1)),
+            Err(_) => return Err(E::no_memory(input)),
+        }
+    }
+}

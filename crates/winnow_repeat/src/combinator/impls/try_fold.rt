@@ -1,0 +1,158 @@
+//! Repetition whose outputs are folded into a value by a closure that may fail.
+ghost use Rattle.std.specs.Prelude.{◌≡◌, Bool, IsTrue};
+ghost use Rattle.stream_errors.specs.Form.{assert_kind};
+ghost use Rattle.stream_errors.specs.Join.{IsOrMemory};
+ghost use Rattle.stream_sets.specs.declared.range.Range.{Range};
+ghost use Rattle.streams.specs.Kind.{backtrack};
+ghost use Rattle.winnow_repeat.specs.Fold.Laws.{ranged_fold_many_ends};
+ghost use Rattle.winnow_repeat.specs.TryFold.{TryFoldRuns, TryFoldTakes};
+ghost use Rattle.winnow_repeat.specs.TryFold.{try_fold_closure, try_fold_init};
+ghost use Rattle.winnow_repeat.specs.TryFold.{try_fold_occurrences, try_fold_parser};
+ghost use Rattle.winnow_core.specs.Agrees.{agrees_with};
+
+use crate::combinator::folding::{Folding, fold_range};
+use std::marker::PhantomData;
+use stream_errors::external::FromExternalError;
+use stream_errors::parser_error::ParserError;
+use stream_sets::range::Range;
+use streams::stream::Stream;
+use winnow_core::agrees_with::AgreesWith;
+use winnow_core::parser::Parser;
+
+/// A closure that folds each output into a value, or fails.
+#[derive(Drop)]
+pub(crate) struct Tried<H, X> {
+    pub(crate) closure: H,
+    pub(crate) error: PhantomData<X>,
+}
+
+impl<
+    H: FnMut(R, O) -> Result<R, X>,
+    I: Stream,
+    O,
+    R,
+    E: ParserError<I> + FromExternalError<I, X>,
+    X,
+> Folding<I, O, R, E> for Tried<H, X> {
+    type Refusal = X;
+
+    ghost can_fold = { λ s. H.IsAlwaysCallable s.closure };
+
+    ghost State = { H × Bool };
+
+    ghost state = { λ s. (s.closure, E.external_grows) };
+
+    ghost folds = { TryFoldTakes H.step };
+
+    ghost refuses = { λ _ k. IsOrMemory backtrack (IsTrue E.external_grows) k };
+
+    #[inline(always)]
+    fn fold(&mut self, value: R, output: O) -> Result<R, X> {
+        (self.closure)(value, output)
+    }
+
+    #[inline(always)]
+    fn error(refusal: X, input: &I) -> E {
+        E::from_external_error(input, refusal)
+    }
+}
+
+/// The parser that [`Repeat::try_fold`](crate::combinator::impls::Repeat::try_fold) makes.
+///
+/// ```text
+/// repeat(alloc, Range::from(0..), digit).try_fold(|| 0, |sum: u8, n| add(sum, n))
+///     is a RepeatTryFold
+/// ```
+#[derive(Drop)]
+pub struct RepeatTryFold<P, G, H, I, O, R, E, X> {
+    pub(crate) occurrences: Range,
+    pub(crate) parser: P,
+    pub(crate) init: G,
+    pub(crate) op: Tried<H, X>,
+    pub(crate) marker: PhantomData<(I, O, R, E)>,
+}
+
+impl<P, G, H, I, O, R, E, X> RepeatTryFold<P, G, H, I, O, R, E, X> {
+    #[inline(always)]
+    pub(crate) fn new(
+        occurrences: Range,
+        parser: P,
+        init: G,
+        op: H,
+    ) -> RepeatTryFold<P, G, H, I, O, R, E, X>
+        ensures occurrences { try_fold_occurrences result ≡ occurrences }
+        ensures parser { try_fold_parser result ≡ parser }
+        ensures init { try_fold_init result ≡ init }
+        ensures op { try_fold_closure result ≡ op }
+    {
+        RepeatTryFold {
+            occurrences,
+            parser,
+            init,
+            op: Tried {
+                closure: op,
+                error: PhantomData,
+            },
+            marker: PhantomData,
+        }
+    }
+}
+
+impl<
+    P: Parser<I, O, E>,
+    G: FnMut() -> R,
+    H: FnMut(R, O) -> Result<R, X>,
+    I: Stream,
+    O: Drop,
+    R: Drop,
+    E: ParserError<I> + FromExternalError<I, X>,
+    X,
+> Parser<I, R, E> for RepeatTryFold<P, G, H, I, O, R, E, X> {
+    ghost can_parse = { λ s. P.can_parse s.parser × G.IsAlwaysCallable s.init
+        × H.IsAlwaysCallable s.op.closure };
+
+    ghost State = { P.State × (Range × (G × (H × Bool))) };
+
+    ghost state = { λ s.
+        (P.state s.parser, (s.occurrences, (s.init, (s.op.closure, E.external_grows)))) };
+
+    ghost meaning = { λ form. TryFoldRuns G.step H.step (P.meaning form) (assert_kind form) };
+
+    ghost leaves_ends = { λ form. ranged_fold_many_ends I.reading G.step
+        (TryFoldTakes H.step) (P.meaning form) (assert_kind form) (P.leaves_ends form) };
+
+    fn parse_next(&mut self, input: &mut I) -> Result<R, E> {
+        fold_range(
+            self.occurrences,
+            &mut self.parser,
+            &mut self.init,
+            &mut self.op,
+            input,
+        )
+    }
+}
+
+impl<
+    P: AgreesWith<I, O, E, Q, J, F>,
+    Q: Parser<J, O, F>,
+    G: FnMut() -> R,
+    H: FnMut(R, O) -> Result<R, X>,
+    I: Stream,
+    J: Stream<Token = I::Token, Seen = I::Seen, Slice = I::Slice>,
+    O: Drop,
+    R: Drop,
+    E: ParserError<I> + FromExternalError<I, X>,
+    F: ParserError<J> + FromExternalError<J, X>,
+    X,
+> AgreesWith<I, R, E, RepeatTryFold<Q, G, H, J, O, R, F, X>, J, F>
+    for RepeatTryFold<P, G, H, I, O, R, E, X> {
+    ghost like = { λ p q. P.like p.parser q.parser
+        × (◌≡◌ {A = Range × (G × (H × Bool))}
+        (p.occurrences, (p.init, (p.op.closure, E.external_grows)))
+        (q.occurrences, (q.init, (q.op.closure, F.external_grows)))) };
+
+    ghost agrees = { agrees_with (λ p. p.parser) (λ q. q.parser)
+        (λ p. (p.occurrences, (p.init, (p.op.closure, E.external_grows))))
+        (λ q. (q.occurrences, (q.init, (q.op.closure, F.external_grows))))
+        (λ X m form. TryFoldRuns G.step H.step (m form) (assert_kind form)) P.agrees };
+}

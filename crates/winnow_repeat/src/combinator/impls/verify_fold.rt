@@ -1,0 +1,145 @@
+//! Repetition whose outputs a closure folds into a value, or refuses.
+ghost use Rattle.std.specs.Prelude.{◌≡◌};
+ghost use Rattle.stream_errors.specs.Form.{assert_kind};
+ghost use Rattle.stream_sets.specs.declared.range.Range.{Range};
+ghost use Rattle.streams.specs.Kind.{backtrack};
+ghost use Rattle.winnow_repeat.specs.Fold.Laws.{ranged_fold_many_ends};
+ghost use Rattle.winnow_repeat.specs.VerifyFold.{VerifyFoldRuns, VerifyFoldTakes};
+ghost use Rattle.winnow_repeat.specs.VerifyFold.{verify_fold_closure, verify_fold_init};
+ghost use Rattle.winnow_repeat.specs.VerifyFold.{verify_fold_occurrences, verify_fold_parser};
+ghost use Rattle.winnow_core.specs.Agrees.{agrees_with};
+
+use crate::combinator::folding::{Folding, fold_range};
+use std::marker::PhantomData;
+use stream_errors::parser_error::ParserError;
+use stream_sets::range::Range;
+use streams::stream::Stream;
+use winnow_core::agrees_with::AgreesWith;
+use winnow_core::parser::Parser;
+
+/// A closure that folds each output into a value, or refuses it.
+#[derive(Drop)]
+pub(crate) struct Verified<H> {
+    pub(crate) closure: H,
+}
+
+impl<H: FnMut(R, O) -> Option<R>, I: Stream, O, R, E: ParserError<I>> Folding<I, O, R, E>
+    for Verified<H> {
+    type Refusal = ();
+
+    ghost can_fold = { λ s. H.IsAlwaysCallable s.closure };
+
+    ghost State = { H };
+
+    ghost state = { λ s. s.closure };
+
+    ghost folds = { VerifyFoldTakes H.step };
+
+    ghost refuses = { λ _ k. k ≡ backtrack };
+
+    #[inline(always)]
+    fn fold(&mut self, value: R, output: O) -> Result<R, ()> {
+        match (self.closure)(value, output) {
+            Some(more) => Ok(more),
+            None => Err(()),
+        }
+    }
+
+    #[inline(always)]
+    fn error(_refusal: (), input: &I) -> E {
+        E::from_input(input)
+    }
+}
+
+/// The parser that [`Repeat::verify_fold`](crate::combinator::impls::Repeat::verify_fold) makes.
+///
+/// ```text
+/// repeat(alloc, Range::from(0..), digit).verify_fold(|| 0, |sum: u8, n| sum.checked_add(n))
+///     is a RepeatVerifyFold
+/// ```
+#[derive(Drop)]
+pub struct RepeatVerifyFold<P, G, H, I, O, R, E> {
+    pub(crate) occurrences: Range,
+    pub(crate) parser: P,
+    pub(crate) init: G,
+    pub(crate) op: Verified<H>,
+    pub(crate) marker: PhantomData<(I, O, R, E)>,
+}
+
+impl<P, G, H, I, O, R, E> RepeatVerifyFold<P, G, H, I, O, R, E> {
+    #[inline(always)]
+    pub(crate) fn new(
+        occurrences: Range,
+        parser: P,
+        init: G,
+        op: H,
+    ) -> RepeatVerifyFold<P, G, H, I, O, R, E>
+        ensures occurrences { verify_fold_occurrences result ≡ occurrences }
+        ensures parser { verify_fold_parser result ≡ parser }
+        ensures init { verify_fold_init result ≡ init }
+        ensures op { verify_fold_closure result ≡ op }
+    {
+        RepeatVerifyFold {
+            occurrences,
+            parser,
+            init,
+            op: Verified { closure: op },
+            marker: PhantomData,
+        }
+    }
+}
+
+impl<
+    P: Parser<I, O, E>,
+    G: FnMut() -> R,
+    H: FnMut(R, O) -> Option<R>,
+    I: Stream,
+    O: Drop,
+    R: Drop,
+    E: ParserError<I>,
+> Parser<I, R, E> for RepeatVerifyFold<P, G, H, I, O, R, E> {
+    ghost can_parse = { λ s. P.can_parse s.parser × G.IsAlwaysCallable s.init
+        × H.IsAlwaysCallable s.op.closure };
+
+    ghost State = { P.State × (Range × (G × H)) };
+
+    ghost state = { λ s. (P.state s.parser, (s.occurrences, (s.init, s.op.closure))) };
+
+    ghost meaning = { λ form. VerifyFoldRuns G.step H.step (P.meaning form) (assert_kind form) };
+
+    ghost leaves_ends = { λ form. ranged_fold_many_ends I.reading G.step
+        (VerifyFoldTakes H.step) (P.meaning form) (assert_kind form) (P.leaves_ends form) };
+
+    fn parse_next(&mut self, input: &mut I) -> Result<R, E> {
+        fold_range(
+            self.occurrences,
+            &mut self.parser,
+            &mut self.init,
+            &mut self.op,
+            input,
+        )
+    }
+}
+
+impl<
+    P: AgreesWith<I, O, E, Q, J, F>,
+    Q: Parser<J, O, F>,
+    G: FnMut() -> R,
+    H: FnMut(R, O) -> Option<R>,
+    I: Stream,
+    J: Stream<Token = I::Token, Seen = I::Seen, Slice = I::Slice>,
+    O: Drop,
+    R: Drop,
+    E: ParserError<I>,
+    F: ParserError<J>,
+> AgreesWith<I, R, E, RepeatVerifyFold<Q, G, H, J, O, R, F>, J, F>
+    for RepeatVerifyFold<P, G, H, I, O, R, E> {
+    ghost like = { λ p q. P.like p.parser q.parser
+        × (◌≡◌ {A = Range × (G × H)} (p.occurrences, (p.init, p.op.closure))
+        (q.occurrences, (q.init, q.op.closure))) };
+
+    ghost agrees = { agrees_with (λ p. p.parser) (λ q. q.parser)
+        (λ p. (p.occurrences, (p.init, p.op.closure)))
+        (λ q. (q.occurrences, (q.init, q.op.closure)))
+        (λ X m form. VerifyFoldRuns G.step H.step (m form) (assert_kind form)) P.agrees };
+}

@@ -1,0 +1,99 @@
+//! Items into an accumulator, as all repetitions read them.
+ghost use Rattle.std.specs.Prelude.{◌<◌, ◌≡◌, MatchBool, Some, ℕ};
+ghost use Rattle.stream_errors.specs.Form.{answer_by, assert_kind};
+ghost use Rattle.stream_sets.specs.Range.{IsWithin, from_to};
+ghost use Rattle.streams.specs.Input.{IsEndOf};
+ghost use Rattle.winnow_repeat.specs.Repeat.{ItemsRun, RepeatManyRuns};
+
+use std::alloc::Allocator;
+use stream_errors::parser_error::ParserError;
+use stream_sets::accumulate::Accumulate;
+use streams::stream::Stream;
+use winnow_core::parser::Parser;
+
+/// Whether the greatest count is below the least.
+pub fn is_descending(least: usize, greatest: Option<usize>) -> bool
+    ensures { MatchBool result ((most : ℕ) × (greatest ≡ Some most) × (most < least))
+        (IsWithin greatest least) }
+{
+    match greatest {
+        Some(most) => most < least,
+        None => false,
+    }
+}
+
+/// Repeats from `least` times on, to `greatest` times if there is a bound.
+pub fn repeat_many<
+    P: Parser<I, O, E>,
+    I: Stream,
+    O: Drop,
+    C: Accumulate<O, A>,
+    E: ParserError<I>,
+    A: Allocator + Copy,
+>(alloc: A, least: usize, greatest: Option<usize>, parser: &mut P, input: &mut I) -> Result<C, E>
+    requires { P.can_parse parser.old }
+    ensures again { P.can_parse parser.new }
+    ensures ran { RepeatManyRuns (P.meaning E.form) C.accumulator (assert_kind E.form)
+        (from_to least greatest) (P.state parser.old) (I.view input.old)
+        (answer_by E.kind result)
+        (P.state parser.new) (I.view input.new) }
+    ensures ends { IsEndOf I.reading (I.view input.new) (I.view input.old) }
+{
+    if is_descending(least, greatest) {
+        return Err(E::assert(input, "the greatest count is below the least"));
+    }
+    match C::initial(alloc, greatest.map(|_: usize| least)) {
+        Ok(all) => repeat_items(all, least, greatest, parser, input),
+        Err(_) => Err(E::no_memory(input)),
+    }
+}
+
+/// Repeats into an accumulator, at least `missing` times and at most `room` times.
+pub fn repeat_items<
+    P: Parser<I, O, E>,
+    I: Stream,
+    O: Drop,
+    C: Accumulate<O, A>,
+    E: ParserError<I>,
+    A: Allocator + Copy,
+>(all: C, missing: usize, room: Option<usize>, parser: &mut P, input: &mut I) -> Result<C, E>
+    requires parser { P.can_parse parser.old }
+    requires range { IsWithin room missing }
+    ensures again { P.can_parse parser.new }
+    ensures ran { ItemsRun (P.meaning E.form) C.accumulator (assert_kind E.form)
+        (from_to missing room)
+        all (P.state parser.old) (I.view input.old) (answer_by E.kind result)
+        (P.state parser.new) (I.view input.new) }
+    ensures ends { IsEndOf I.reading (I.view input.new) (I.view input.old) }
+{
+    let mut all = all;
+    let mut missing = missing;
+    let mut room = room;
+    'items: loop {
+        if room == Some(0) {
+            return Ok(all);
+        }
+        let start = input.checkpoint();
+        let left = input.eof_offset();
+        match parser.parse_next(input) {
+            Ok(output) => {
+                if input.eof_offset() == left {
+                    return Err(E::assert(input, "each item must consume"));
+                }
+                match all.accumulate(output) {
+                    Ok(()) => {}
+                    Err(_) => return Err(E::no_memory(input)),
+                }
+                missing = missing.saturating_sub(1);
+                room = room.map(|n: usize| n.saturating_sub(1));
+            }
+            Err(error) => {
+                if missing == 0 && error.is_backtrack() {
+                    input.reset(&start);
+                    return Ok(all);
+                }
+                return Err(error);
+            }
+        }
+    }
+}

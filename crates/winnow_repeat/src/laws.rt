@@ -1,0 +1,23 @@
+//! Laws of repetition, each proved by a function that does nothing.
+ghost use Rattle.winnow_repeat.specs.RepeatLaws.{RunsAtMostOnceAUnit};
+
+use crate::combinator::impls::Repeat;
+use std::alloc::Allocator;
+use stream_errors::parser_error::ParserError;
+use stream_sets::accumulate::Accumulate;
+use streams::stream::Stream;
+use winnow_core::parser::Parser;
+
+/// The items of a repetition of any number, and the run that ends it, are at most one run more than
+/// units were left.
+pub fn repeat_runs_at_most_once_a_unit<
+    P: Parser<I, O, E>,
+    I: Stream,
+    O: Drop,
+    C: Accumulate<O, A>,
+    E: ParserError<I>,
+    A: Allocator + Copy,
+>()
+    ensures { RunsAtMostOnceAUnit I.reading.units (P.meaning E.form) C.accumulator
+        (⟦<Repeat<P, I, O, C, E, A> as Parser<I, C, E>>⟧.meaning E.form) }
+{}

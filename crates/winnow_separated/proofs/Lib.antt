@@ -1,0 +1,3 @@
+mod FoldLaw
+mod SeparatedLaw
+mod SeparatedLemmas

@@ -1,0 +1,62 @@
+-- Laws of elements that are folded.
+use Rattle.std.specs.Prelude.{◌≡◌, ◌<◌, List, [], ◌∷◌, length, Ok, Err, ⊤}
+use Rattle.streams.specs.Input.{Input}
+use Rattle.stream_errors.specs.Form.{Answer}
+use Rattle.winnow_core.specs.Runs.{Runs}
+use Rattle.winnow_separated.specs.SeparatedFoldr1.{FoldsRight}
+
+-- Both answers are outputs, or errors of one kind.
+abbrev pub SameOutcome : {O : Type 0} → Answer O → Answer O → Type 0
+SameOutcome (Ok m) (Ok n) = ⊤
+SameOutcome (Ok m) (Err l) = ⊥
+SameOutcome (Err k) (Ok n) = ⊥
+SameOutcome (Err k) (Err l) = k ≡ l
+
+-- One state and one input decide whether a run succeeds, the kind of its error, its new state and
+-- what it leaves; its outputs may differ.
+abbrev pub Decides : {S T O : Type 0} → Runs S T O → Type 0
+Decides {S} {T} {O} run =
+    (s : S) (i : Input T) (answer other : Answer O) (t u : S) (j k : Input T)
+    → run s i answer t j → run s i other u k → SameOutcome answer other × (t ≡ u) × (j ≡ k)
+
+-- each run that succeeds consumes
+abbrev pub Consumes : {S T O : Type 0} → Runs S T O → Type 0
+Consumes {S} {T} {O} run =
+    (s : S) (i : Input T) (o : O) (t : S) (j : Input T) → run s i (Ok o) t j
+    → length j.left.tokens < length i.left.tokens
+
+-- Separators and the elements behind them, each where the one before it ended, with their outputs:
+-- from a state and an input through states and inputs.
+abbrev pub Turns : {S W T O D : Type 0} → Runs S T O → Runs W T D → S × W → Input T
+    → List (D × O) → List ((S × W) × Input T) → Type 0
+Turns run separator s i [] [] = ⊤
+Turns run separator s i [] (place ∷ places) = ⊥
+Turns run separator s i (link ∷ links) [] = ⊥
+Turns {T = T} run separator s i (link ∷ links) (place ∷ places) =
+    (m : Input T) × separator s.1 i (Ok link.0) place.0.1 m
+    × run s.0 m (Ok link.1) place.0.0 place.1
+    × Turns run separator place.0 place.1 links places
+
+-- A first element and links, folded to the left.
+abbrev pub FoldsLeft : {Q O D : Type 0} → (Q → O → D → O → O → Q → Type 0) → Q → O → List (D × O)
+    → O → Q → Type 0
+FoldsLeft step q first [] value p = (value ≡ first) × (p ≡ q)
+FoldsLeft {Q} {O} step q first (link ∷ links) value p =
+    (more : O) × (c : Q) × step q first link.0 link.1 more c
+    × FoldsLeft step c more links value p
+
+-- Two runs of elements that are folded, from one state and input, where both succeed: the elements
+-- and separators of both are the outputs of one list of runs, the first folded to the left and the
+-- second to the right, and both leave the same.
+abbrev pub FoldTheSame : {S W Q T O D : Type 0} → (Q → O → D → O → O → Q → Type 0) → Runs S T O
+    → Runs W T D → Runs (S × W × Q) T O → Runs (S × W × Q) T O → Type 0
+FoldTheSame {S} {W} {Q} {T} {O} {D} step run separator to_left to_right =
+    (s : S × W × Q) (i : Input T) (left right : O) (t u : S × W × Q) (j k : Input T)
+    → to_left s i (Ok left) t j → to_right s i (Ok right) u k
+    → (v : S) × (n : Input T) × (places : List ((S × W) × Input T))
+    × (first : O) × (links : List (D × O)) × (one : O) × (others : List (D × O))
+    × run s.0 i (Ok first) v n × Turns run separator (v, s.1) n links places
+    × FoldsLeft step s.2 first links left t.2
+    × run s.0 i (Ok one) v n × Turns run separator (v, s.1) n others places
+    × FoldsRight step s.2 one others right u.2
+    × (t.0 ≡ u.0) × (t.1 ≡ u.1) × (j ≡ k)

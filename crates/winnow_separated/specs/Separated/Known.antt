@@ -1,0 +1,133 @@
+-- What a caller knows of one run of elements with separators that answered: the first element, the
+-- links behind it in a chain, and what ended them.
+use Rattle.std.specs.Prelude.{◌≡◌, ◌-◌, ℕ, List, None, Ok, Err, ◌⊎◌}
+use Rattle.std.specs.List.{FoldsTo}
+use Rattle.std.proofs.Common.{refl, sym, inl, inr}
+use Rattle.streams.specs.Equal.{none_is_some}
+use Rattle.streams.specs.Input.{Input, back_at}
+use Rattle.streams.specs.Kind.{Kind, backtrack}
+use Rattle.stream_errors.specs.Form.Known.{at_kind, at_output, ok_is_err, same_kind}
+use Rattle.stream_sets.specs.Accumulator.{Accumulator}
+use Rattle.stream_sets.specs.Range.{from_to}
+use Rattle.winnow_core.specs.Runs.{Runs}
+use Rattle.winnow_repeat.specs.Repeat.{RepeatEnds}
+use Rattle.winnow_repeat.specs.Repeat.Known.{Items}
+use Rattle.winnow_separated.specs.Separated.{ElementsRun, LinkRuns, SeparatedRuns}
+
+-- No element: the first backtracked, and the input is back before it.
+pub record NoElement {S W T O C : Type 0} (run : Runs S T O) (into : Accumulator C O) (s : S × W)
+    (i : Input T) (all : C) (t : S × W) (j : Input T) : Type 0 where
+  -- where the run that backtracked left the input
+  pub last : Input T
+  pub starts : into.starts None all
+  pub ended : run s.0 i (Err backtrack) t.0 last
+  pub kept : t.1 ≡ s.1
+  pub back : j ≡ back_at i.left last
+
+-- One element or more: links follow the first, until one backtracked; and the input is back before
+-- that link.
+pub record SomeElements {S W T O D C : Type 0} (run : Runs S T O) (separator : Runs W T D)
+    (into : Accumulator C O) (assert_kind : Kind) (s : S × W) (i : Input T) (all : C)
+    (t : S × W) (j : Input T) : Type 0 where
+  pub first : O
+  pub first_state : S
+  pub first_input : Input T
+  pub ran : run s.0 i (Ok first) first_state first_input
+  pub empty : C
+  pub one : C
+  pub starts : into.starts None empty
+  pub takes_first : into.takes empty first one
+  -- the elements of the links
+  pub outputs : List O
+  pub state : S × W
+  pub input : Input T
+  pub chain : Items (LinkRuns run separator assert_kind) (first_state, s.1) first_input outputs
+      state input
+  -- where the link that backtracked left the input
+  pub last : Input T
+  pub ended : LinkRuns run separator assert_kind state input (Err backtrack) t last
+  pub takes : FoldsTo into.takes one outputs all
+  pub back : j ≡ back_at input.left last
+
+-- an output of any number of elements
+pub separated_any_ok : {S W T O D C : Type 0} (run : Runs S T O) (separator : Runs W T D)
+    (into : Accumulator C O) (assert_kind : Kind) (least : ℕ) (s : S × W) (i : Input T) (all : C)
+    (t : S × W) (j : Input T)
+    → SeparatedRuns run separator into assert_kind (from_to least None) s i (Ok all) t j
+    → NoElement run into s i all t j ⊎ SomeElements run separator into assert_kind s i all t j
+separated_any_ok run separator into assert_kind least s i all t j
+    (inl (most, is, below, e, a, b)) = none_is_some is
+separated_any_ok run separator into assert_kind least s i all t j
+    (inr (inl (within, grows, e, a, b))) = ok_is_err refl e
+separated_any_ok {S} {W} {T} {O} {D} {C} run separator into assert_kind least s i all t j
+    (inr (inr (empty, within, starts, elements))) = of_elements elements
+  where
+    of_elements : ElementsRun run separator into assert_kind (from_to least None) empty s i
+        (Ok all) t j
+        → NoElement run into s i all t j ⊎ SomeElements run separator into assert_kind s i all t j
+    of_elements (inl (none, e, a, b)) = none_is_some none
+    of_elements (inr (inl (x, below, needed, r, kept, e, back))) =
+        inl (record {
+          last = x;
+          starts = at_output (λ c. into.starts None c) e starts;
+          ended = r;
+          kept = kept;
+          back = back;
+        })
+    of_elements (inr (inr (inl (k, below, r, kept, few, e)))) = ok_is_err refl e
+    of_elements (inr (inr (inr (inl (o, below, r, kept, grows, e))))) = ok_is_err refl e
+    of_elements (inr (inr (inr (inr (
+      o,
+      v,
+      n,
+      one,
+      below,
+      r,
+      takes,
+      (outputs, u, m, chain, ends),
+    ))))) = inr (of_end ends)
+      where
+        of_end : RepeatEnds (LinkRuns run separator assert_kind) into assert_kind
+            (from_to (least - 1) None) one outputs u m (Ok all) t j
+            → SomeElements run separator into assert_kind s i all t j
+        of_end (inl (c, full, taken, e, a, b)) = none_is_some full
+        of_end (inr (inl (c, last, room, enough, ran, taken, e, back))) =
+            record {
+              first = o;
+              first_state = v;
+              first_input = n;
+              ran = r;
+              empty = empty;
+              one = one;
+              starts = starts;
+              takes_first = takes;
+              outputs = outputs;
+              state = u;
+              input = m;
+              chain = chain.runs;
+              last = last;
+              ended = ran;
+              takes = at_output (λ x. FoldsTo into.takes one outputs x) e taken.taken;
+              back = back;
+            }
+        of_end (inr (inr (inl (k, some, room, ran, few, taken, e)))) = ok_is_err refl e
+        of_end (inr (inr (inr (inl (d, some, room, ran, same, taken, e))))) = ok_is_err refl e
+        of_end (inr (inr (inr (inr (d, some, room, ran, consumes, taken, grows, e))))) =
+            ok_is_err refl e
+
+-- a link that backtracked: its separator did, or the element behind it
+pub link_backtracked : {S W T O D : Type 0} (run : Runs S T O) (separator : Runs W T D)
+    (assert_kind : Kind) (s : S × W) (i : Input T) (t : S × W) (j : Input T)
+    → (assert_kind ≡ backtrack → ⊥)
+    → LinkRuns run separator assert_kind s i (Err backtrack) t j
+    → (separator s.1 i (Err backtrack) t.1 j × (t.0 ≡ s.0))
+    ⊎ ((d : D) × (m : Input T) × separator s.1 i (Ok d) t.1 m
+    × run s.0 m (Err backtrack) t.0 j)
+link_backtracked run separator assert_kind s i t j other (inl (k, r, same, e)) =
+    inl (at_kind (λ x. separator s.1 i (Err x) t.1 j) e r, same)
+link_backtracked run separator assert_kind s i t j other (inr (inl (d, r, nothing, same, e))) =
+    absurd (other (sym (same_kind e)))
+link_backtracked run separator assert_kind s i t j other (inr (inr (d, m, r, consumes, q))) =
+    inr (d, m, r, q)
+
+pub ruleset known_elements = (separated_any_ok, link_backtracked)

@@ -1,0 +1,211 @@
+//! Elements with separators between them.
+ghost use Rattle.std.specs.Prelude.{◌≡◌};
+ghost use Rattle.stream_errors.specs.Form.{answer_by, assert_kind};
+ghost use Rattle.stream_sets.specs.Range.{IsWithin, from_to};
+ghost use Rattle.stream_sets.specs.declared.range.Range.{Range};
+ghost use Rattle.streams.specs.Input.{IsEndOf};
+ghost use Rattle.winnow_separated.specs.Separated.{ElementsRun, LinkRuns, RangedElements, SeparatedRuns};
+ghost use Rattle.winnow_separated.specs.Separated.Laws.{link_ends, separated_ends};
+ghost use Rattle.winnow_core.specs.Agrees.Beside.{agrees2_with};
+
+use std::alloc::Allocator;
+use std::marker::PhantomData;
+use stream_errors::parser_error::ParserError;
+use stream_sets::accumulate::Accumulate;
+use stream_sets::range::Range;
+use streams::stream::Stream;
+use winnow_core::agrees_with::AgreesWith;
+use winnow_core::parser::Parser;
+use winnow_repeat::combinator::items::{is_descending, repeat_items};
+
+/// The parser that [`separated`](crate::combinator::separated) makes.
+///
+/// ```text
+/// separated(alloc, Range::from(0..), Digit1, b',')   is a Separated
+/// ```
+#[derive(Drop)]
+pub struct Separated<P, S, I, O, D, C, E, A> {
+    pub(crate) alloc: A,
+    pub(crate) occurrences: Range,
+    pub(crate) link: Link<P, S, D>,
+    pub(crate) marker: PhantomData<(I, O, C, E)>,
+}
+
+/// A separator, which must consume, and an element.
+#[derive(Drop)]
+pub(crate) struct Link<P, S, D> {
+    pub(crate) parser: P,
+    pub(crate) separator: S,
+    pub(crate) output: PhantomData<D>,
+}
+
+impl<P: Parser<I, O, E>, S: Parser<I, D, E>, I: Stream, O, D: Drop, E: ParserError<I>> Parser<
+    I,
+    O,
+    E,
+> for Link<P, S, D> {
+    ghost can_parse = { λ s. P.can_parse s.parser × S.can_parse s.separator };
+
+    ghost State = { P.State × S.State };
+
+    ghost state = { λ s. (P.state s.parser, S.state s.separator) };
+
+    ghost meaning = { λ form. LinkRuns (P.meaning form) (S.meaning form) (assert_kind form) };
+
+    ghost leaves_ends = { λ form. link_ends I.reading (P.meaning form) (S.meaning form)
+        (assert_kind form) (P.leaves_ends form) (S.leaves_ends form) };
+
+    #[inline]
+    fn parse_next(&mut self, input: &mut I) -> Result<O, E> {
+        let left = input.eof_offset();
+        let _separator = self.separator.parse_next(input)?;
+        if input.eof_offset() == left {
+            return Err(E::assert(input, "each separator must consume"));
+        }
+        self.parser.parse_next(input)
+    }
+}
+
+impl<
+    P: Parser<I, O, E>,
+    S: Parser<I, D, E>,
+    I: Stream,
+    O: Drop,
+    D: Drop,
+    C: Accumulate<O, A>,
+    E: ParserError<I>,
+    A: Allocator + Copy,
+> Parser<I, C, E> for Separated<P, S, I, O, D, C, E, A> {
+    ghost can_parse = { λ s. P.can_parse s.link.parser × S.can_parse s.link.separator };
+
+    ghost State = { P.State × S.State × Range };
+
+    ghost state = { λ s. (P.state s.link.parser, S.state s.link.separator, s.occurrences) };
+
+    ghost meaning = { λ form. RangedElements (P.meaning form) (S.meaning form) C.accumulator
+        (assert_kind form) };
+
+    ghost leaves_ends = { λ form. separated_ends I.reading (P.meaning form) (S.meaning form)
+        C.accumulator (assert_kind form) (P.leaves_ends form) (S.leaves_ends form) };
+
+    fn parse_next(&mut self, input: &mut I) -> Result<C, E> {
+        let least = self.occurrences.start_inclusive;
+        let greatest = self.occurrences.greatest();
+        separated_many(self.alloc, least, greatest, &mut self.link, input)
+    }
+}
+
+impl<
+    P: AgreesWith<I, O, E, Q, J, F>,
+    Q: Parser<J, O, F>,
+    S: AgreesWith<I, D, E, W, J, F>,
+    W: Parser<J, D, F>,
+    I: Stream,
+    J: Stream<Token = I::Token, Seen = I::Seen, Slice = I::Slice>,
+    O: Drop,
+    D: Drop,
+    C: Accumulate<O, A>,
+    E: ParserError<I>,
+    F: ParserError<J>,
+    A: Allocator + Copy,
+> AgreesWith<I, C, E, Separated<Q, W, J, O, D, C, F, A>, J, F>
+    for Separated<P, S, I, O, D, C, E, A> {
+    ghost like = { λ p q. P.like p.link.parser q.link.parser
+        × S.like p.link.separator q.link.separator × (p.occurrences ≡ q.occurrences) };
+
+    ghost agrees = { agrees2_with (λ p. p.link.parser) (λ q. q.link.parser)
+        (λ p. p.link.separator) (λ q. q.link.separator) (λ p. p.occurrences)
+        (λ q. q.occurrences)
+        (λ X Y m n form. RangedElements (m form) (n form) C.accumulator (assert_kind form))
+        P.agrees S.agrees };
+}
+
+/// Reads elements into an accumulator, at least `least` and at most `greatest` if there is a bound.
+fn separated_many<
+    P: Parser<I, O, E>,
+    S: Parser<I, D, E>,
+    I: Stream,
+    O: Drop,
+    D: Drop,
+    C: Accumulate<O, A>,
+    E: ParserError<I>,
+    A: Allocator + Copy,
+>(
+    alloc: A,
+    least: usize,
+    greatest: Option<usize>,
+    link: &mut Link<P, S, D>,
+    input: &mut I,
+) -> Result<C, E>
+    requires parser { P.can_parse link.old.parser }
+    requires separator { S.can_parse link.old.separator }
+    ensures again { P.can_parse link.new.parser × S.can_parse link.new.separator }
+    ensures ran { SeparatedRuns (P.meaning E.form) (S.meaning E.form) C.accumulator
+        (assert_kind E.form) (from_to least greatest)
+        (P.state link.old.parser, S.state link.old.separator) (I.view input.old)
+        (answer_by E.kind result) (P.state link.new.parser, S.state link.new.separator)
+        (I.view input.new) }
+    ensures ends { IsEndOf I.reading (I.view input.new) (I.view input.old) }
+{
+    if is_descending(least, greatest) {
+        return Err(E::assert(input, "the greatest count is below the least"));
+    }
+    match C::initial(alloc, greatest.map(|_: usize| least)) {
+        Ok(all) => separated_elements(all, least, greatest, link, input),
+        Err(_) => Err(E::no_memory(input)),
+    }
+}
+
+/// Reads the first element and links behind it into an accumulator, at least `least` and at most
+/// `greatest` elements.
+fn separated_elements<
+    P: Parser<I, O, E>,
+    S: Parser<I, D, E>,
+    I: Stream,
+    O: Drop,
+    D: Drop,
+    C: Accumulate<O, A>,
+    E: ParserError<I>,
+    A: Allocator + Copy,
+>(
+    all: C,
+    least: usize,
+    greatest: Option<usize>,
+    link: &mut Link<P, S, D>,
+    input: &mut I,
+) -> Result<C, E>
+    requires parser { P.can_parse link.old.parser }
+    requires separator { S.can_parse link.old.separator }
+    requires range { IsWithin greatest least }
+    ensures again { P.can_parse link.new.parser × S.can_parse link.new.separator }
+    ensures ran { ElementsRun (P.meaning E.form) (S.meaning E.form) C.accumulator
+        (assert_kind E.form) (from_to least greatest) all
+        (P.state link.old.parser, S.state link.old.separator) (I.view input.old)
+        (answer_by E.kind result) (P.state link.new.parser, S.state link.new.separator)
+        (I.view input.new) }
+    ensures ends { IsEndOf I.reading (I.view input.new) (I.view input.old) }
+{
+    if greatest == Some(0) {
+        return Ok(all);
+    }
+    let start = input.checkpoint();
+    match link.parser.parse_next(input) {
+        Ok(output) => {
+            let mut all = all;
+            match all.accumulate(output) {
+                Ok(()) => {
+                    let room = greatest.map(|n: usize| n.saturating_sub(1));
+                    repeat_items(all, least.saturating_sub(1), room, link, input)
+                }
+                Err(_) => Err(E::no_memory(input)),
+            }
+        }
+        Err(error) => {
+            if least == 0 && error.is_backtrack() {
+                input.reset(&start);
+                return Ok(all);
+            }
+            Err(error)
+        }
+    }
+}

@@ -1,0 +1,126 @@
+//! Elements with separators between them, folded to the right.
+ghost use Rattle.std.specs.Prelude.{◌≡◌};
+ghost use Rattle.stream_errors.specs.Form.{assert_kind};
+ghost use Rattle.winnow_separated.specs.SeparatedFoldr1.{FoldsRight, SeparatedFoldr1Runs};
+ghost use Rattle.winnow_separated.specs.SeparatedFoldr1.{foldr1_closure, foldr1_parser};
+ghost use Rattle.winnow_separated.specs.SeparatedFoldr1.{foldr1_separator};
+ghost use Rattle.winnow_separated.specs.SeparatedFoldr1.Laws.{foldr1_ends};
+ghost use Rattle.winnow_core.specs.Agrees.Beside.{agrees2_with};
+
+use std::alloc::Allocator;
+use std::marker::PhantomData;
+use stream_errors::parser_error::ParserError;
+use streams::stream::Stream;
+use winnow_core::agrees_with::AgreesWith;
+use winnow_core::parser::Parser;
+use winnow_repeat::combinator::items::repeat_many;
+
+/// The parser that [`separated_foldr1`](crate::combinator::separated_foldr1) makes.
+///
+/// ```text
+/// separated_foldr1(alloc, number, b'-', |left: u32, _, right: u32| left - right)
+///     is a SeparatedFoldr1
+/// ```
+#[derive(Drop)]
+pub struct SeparatedFoldr1<P, S, H, I, O, D, E, A> {
+    pub(crate) alloc: A,
+    pub(crate) pair: (S, P),
+    pub(crate) op: H,
+    pub(crate) marker: PhantomData<(I, O, D, E)>,
+}
+
+impl<P, S, H, I, O, D, E, A> SeparatedFoldr1<P, S, H, I, O, D, E, A> {
+    #[inline(always)]
+    pub(crate) fn new(
+        alloc: A,
+        parser: P,
+        separator: S,
+        op: H,
+    ) -> SeparatedFoldr1<P, S, H, I, O, D, E, A>
+        ensures parser { foldr1_parser result ≡ parser }
+        ensures separator { foldr1_separator result ≡ separator }
+        ensures op { foldr1_closure result ≡ op }
+    {
+        SeparatedFoldr1 {
+            alloc,
+            pair: (separator, parser),
+            op,
+            marker: PhantomData,
+        }
+    }
+}
+
+impl<
+    P: Parser<I, O, E>,
+    S: Parser<I, D, E>,
+    H: FnMut(O, D, O) -> O,
+    I: Stream,
+    O: Drop,
+    D: Drop,
+    E: ParserError<I>,
+    A: Allocator + Copy,
+> Parser<I, O, E> for SeparatedFoldr1<P, S, H, I, O, D, E, A> {
+    ghost can_parse = { λ s. P.can_parse s.pair.1 × S.can_parse s.pair.0
+        × H.IsAlwaysCallable s.op };
+
+    ghost State = { P.State × S.State × H };
+
+    ghost state = { λ s. (P.state s.pair.1, S.state s.pair.0, s.op) };
+
+    ghost meaning = { λ form. SeparatedFoldr1Runs A H.step (P.meaning form)
+        (S.meaning form) (assert_kind form) };
+
+    ghost leaves_ends = { λ form. foldr1_ends A I.reading H.step (P.meaning form) (S.meaning form)
+        (assert_kind form) (P.leaves_ends form) (S.leaves_ends form) };
+
+    fn parse_next(&mut self, input: &mut I) -> Result<O, E> {
+        let first = self.pair.1.parse_next(input)?;
+        let links: Vec<(D, O), A> = repeat_many(self.alloc, 0, None, &mut self.pair, input)?;
+        Ok(join_right(first, links, &mut self.op))
+    }
+}
+
+impl<
+    P: AgreesWith<I, O, E, Q, J, F>,
+    Q: Parser<J, O, F>,
+    S: AgreesWith<I, D, E, W, J, F>,
+    W: Parser<J, D, F>,
+    H: FnMut(O, D, O) -> O,
+    I: Stream,
+    J: Stream<Token = I::Token, Seen = I::Seen, Slice = I::Slice>,
+    O: Drop,
+    D: Drop,
+    E: ParserError<I>,
+    F: ParserError<J>,
+    A: Allocator + Copy,
+> AgreesWith<I, O, E, SeparatedFoldr1<Q, W, H, J, O, D, F, A>, J, F>
+    for SeparatedFoldr1<P, S, H, I, O, D, E, A> {
+    ghost like = { λ p q. P.like p.pair.1 q.pair.1 × S.like p.pair.0 q.pair.0
+        × (p.op ≡ q.op) };
+
+    ghost agrees = { agrees2_with (λ p. p.pair.1) (λ q. q.pair.1) (λ p. p.pair.0)
+        (λ q. q.pair.0) (λ p. p.op) (λ q. q.op)
+        (λ X Y m n form. SeparatedFoldr1Runs A H.step (m form) (n form)
+        (assert_kind form)) P.agrees S.agrees };
+}
+
+/// Joins a first element and links behind it, from the last one on.
+fn join_right<H: FnMut(O, D, O) -> O, O: Drop, D: Drop, A: Allocator>(
+    first: O,
+    links: Vec<(D, O), A>,
+    op: &mut H,
+) -> O
+    requires { H.IsAlwaysCallable op.old }
+    ensures again { H.IsAlwaysCallable op.new }
+    ensures folded { FoldsRight H.step op.old first links.items result op.new }
+{
+    let mut links = links;
+    let Some((mut separator, mut right)) = links.pop() else {
+        return first;
+    };
+    'links: while let Some((before, left)) = links.pop() {
+        right = op(left, separator, right);
+        separator = before;
+    }
+    op(first, separator, right)
+}

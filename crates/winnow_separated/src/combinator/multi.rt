@@ -1,0 +1,130 @@
+//! Elements and separators in turns.
+ghost use Rattle.std.specs.Prelude.{◌≡◌};
+ghost use Rattle.winnow_separated.specs.Separated.{separated_occurrences, separated_parser};
+ghost use Rattle.winnow_separated.specs.Separated.{separated_separator};
+ghost use Rattle.winnow_separated.specs.SeparatedFoldl1.{foldl1_closure, foldl1_parser};
+ghost use Rattle.winnow_separated.specs.SeparatedFoldl1.{foldl1_separator};
+ghost use Rattle.winnow_separated.specs.SeparatedFoldr1.{foldr1_closure, foldr1_parser};
+ghost use Rattle.winnow_separated.specs.SeparatedFoldr1.{foldr1_separator};
+
+use crate::combinator::impls::separated::Link;
+use crate::combinator::impls::{Separated, SeparatedFoldl1, SeparatedFoldr1};
+use std::alloc::Allocator;
+use std::marker::PhantomData;
+use stream_errors::parser_error::ParserError;
+use stream_sets::accumulate::Accumulate;
+use stream_sets::range::Range;
+use streams::stream::Stream;
+use winnow_core::parser::Parser;
+
+/// Runs `parser` and `separator` in turns, as many elements as `occurrences` says, and puts the
+/// outputs of `parser` into an accumulator, as [`repeat`](winnow_repeat::combinator::repeat) does.
+///
+/// It ends before a separator that backtracks, or whose element backtracks, where there are enough
+/// elements; before the first element, where that backtracks and none is needed. What fails too
+/// early, or by another kind, is handed on. Each separator must consume, else it is an assert
+/// error; elements need not. A count of 0 reads nothing. A greatest count below the least is an
+/// assert error, and nothing is run. Memory is taken by the accumulator alone.
+///
+/// Known as `separated_list0` and `separated_list1` in nom.
+///
+/// ```text
+/// separated(alloc, Range::from(0..), Digit1, b',').parse_next(&mut b"1,2,".as_slice())
+///     is Ok of two slices in a Vec, and b"," is left
+/// ```
+#[inline(always)]
+pub fn separated<P, S, I, O, D, C, E, A>(
+    alloc: A,
+    occurrences: Range,
+    parser: P,
+    separator: S,
+) -> Separated<P, S, I, O, D, C, E, A>
+where
+    I: Stream,
+    C: Accumulate<O, A>,
+    E: ParserError<I>,
+    P: Parser<I, O, E>,
+    S: Parser<I, D, E>,
+    A: Allocator + Copy,
+    ensures occurrences { separated_occurrences result ≡ occurrences }
+    ensures parser { separated_parser result ≡ parser }
+    ensures separator { separated_separator result ≡ separator }
+{
+    Separated {
+        alloc,
+        occurrences,
+        link: Link {
+            parser,
+            separator,
+            output: PhantomData,
+        },
+        marker: PhantomData,
+    }
+}
+
+/// Runs `parser` and `separator` in turns, one element or more, and joins them by `op`, nested to
+/// the left: `9-5-2` is `(9-5)-2`.
+///
+/// It ends before a separator that backtracks, or whose element backtracks. A first element that
+/// fails, and other failures, are handed on. Each separator must consume, else it is an assert
+/// error; elements need not. It takes no memory.
+///
+/// Known as `chainl1` elsewhere.
+///
+/// ```text
+/// separated_foldl1(number, b'-', |left: u32, _, right: u32| left - right)
+///     on b"9-5-2;" is Ok(2), and b";" is left
+/// ```
+#[inline(always)]
+pub fn separated_foldl1<P, S, H, I, O, D, E>(
+    parser: P,
+    separator: S,
+    op: H,
+) -> SeparatedFoldl1<P, S, H, I, O, D, E>
+where
+    I: Stream,
+    E: ParserError<I>,
+    P: Parser<I, O, E>,
+    S: Parser<I, D, E>,
+    H: FnMut(O, D, O) -> O,
+    ensures parser { foldl1_parser result ≡ parser }
+    ensures separator { foldl1_separator result ≡ separator }
+    ensures op { foldl1_closure result ≡ op }
+{
+    SeparatedFoldl1::new(parser, separator, op)
+}
+
+/// Runs `parser` and `separator` in turns, one element or more, and joins them by `op`, nested to
+/// the right: `9-5-2` is `9-(5-2)`.
+///
+/// It ends before a separator that backtracks, or whose element backtracks. A first element that
+/// fails, and other failures, are handed on. A separator and its element must consume together,
+/// else it is an assert error. The separators and elements behind the first are kept in a list,
+/// which takes memory; `op` is called from the last separator on.
+///
+/// Known as `chainr1` elsewhere.
+///
+/// ```text
+/// separated_foldr1(alloc, number, b'-', |left: u32, _, right: u32| left - right)
+///     on b"9-5-2;" is Ok(6), and b";" is left
+/// ```
+#[inline(always)]
+pub fn separated_foldr1<P, S, H, I, O, D, E, A>(
+    alloc: A,
+    parser: P,
+    separator: S,
+    op: H,
+) -> SeparatedFoldr1<P, S, H, I, O, D, E, A>
+where
+    I: Stream,
+    E: ParserError<I>,
+    P: Parser<I, O, E>,
+    S: Parser<I, D, E>,
+    H: FnMut(O, D, O) -> O,
+    A: Allocator + Copy,
+    ensures parser { foldr1_parser result ≡ parser }
+    ensures separator { foldr1_separator result ≡ separator }
+    ensures op { foldr1_closure result ≡ op }
+{
+    SeparatedFoldr1::new(alloc, parser, separator, op)
+}

@@ -1,0 +1,49 @@
+//! Laws of elements with separators, each proved by a function that does nothing.
+ghost use Rattle.stream_errors.specs.Form.{assert_kind};
+ghost use Rattle.winnow_separated.specs.FoldLaws.{Consumes, Decides, FoldTheSame};
+ghost use Rattle.winnow_separated.specs.SeparatedLaws.{LeavesTheSeparator};
+
+use crate::combinator::impls::{Separated, SeparatedFoldl1, SeparatedFoldr1};
+use std::alloc::Allocator;
+use stream_errors::parser_error::ParserError;
+use stream_sets::accumulate::Accumulate;
+use streams::stream::Stream;
+use winnow_core::parser::Parser;
+
+/// Where [`separated`](crate::combinator::separated) reads any number of elements, or one and more,
+/// it leaves a separator unread whose element backtracks.
+pub fn separated_leaves_a_separator_without_an_element<
+    P: Parser<I, O, E>,
+    S: Parser<I, D, E>,
+    I: Stream,
+    O: Drop,
+    D: Drop,
+    C: Accumulate<O, A>,
+    E: ParserError<I>,
+    A: Allocator + Copy,
+>()
+    ensures { LeavesTheSeparator (P.meaning E.form) (S.meaning E.form) (assert_kind E.form)
+        (⟦<Separated<P, S, I, O, D, C, E, A> as Parser<I, C, E>>⟧.meaning E.form) }
+{}
+
+/// Where each separator consumes, and one state and one input decide how elements and separators
+/// end, [`separated_foldl1`](crate::combinator::separated_foldl1) and
+/// [`separated_foldr1`](crate::combinator::separated_foldr1) fold the same elements: from one state
+/// and input, where both succeed, these are the outputs of one list of runs, and both leave the
+/// same.
+pub fn separated_folds_fold_the_same<
+    P: Parser<I, O, E>,
+    S: Parser<I, D, E>,
+    H: FnMut(O, D, O) -> O,
+    I: Stream,
+    O: Drop,
+    D: Drop,
+    E: ParserError<I>,
+    A: Allocator + Copy,
+>()
+    ensures { Decides (P.meaning E.form) → Decides (S.meaning E.form)
+        → Consumes (S.meaning E.form)
+        → FoldTheSame H.step (P.meaning E.form) (S.meaning E.form)
+        (⟦<SeparatedFoldl1<P, S, H, I, O, D, E> as Parser<I, O, E>>⟧.meaning E.form)
+        (⟦<SeparatedFoldr1<P, S, H, I, O, D, E, A> as Parser<I, O, E>>⟧.meaning E.form) }
+{}
