@@ -4,7 +4,8 @@ ghost use Rattle.std.specs.Prelude.{◌≡◌, length};
 ghost use Rattle.stream_errors.specs.Form.{answer_by, assert_kind};
 ghost use Rattle.streams.specs.Input.{IsEndOf};
 ghost use Rattle.winnow_repeat.specs.Iterator.{IteratorNext, finish_answer, iterator_input};
-ghost use Rattle.winnow_repeat.specs.Iterator.{iterator_input_name, iterator_parser, iterator_state};
+ghost use Rattle.winnow_repeat.specs.Iterator.{iterator_input_name, iterator_parser};
+ghost use Rattle.winnow_repeat.specs.Iterator.{iterator_state};
 ghost use Rattle.winnow_repeat.specs.Iterator.{iterator_standing};
 
 use std::marker::PhantomData;

@@ -4,7 +4,8 @@ ghost use Rattle.stream_errors.specs.Form.{answer_by, assert_kind};
 ghost use Rattle.stream_sets.specs.Range.{IsWithin, from_to};
 ghost use Rattle.stream_sets.specs.declared.range.Range.{Range};
 ghost use Rattle.streams.specs.Input.{IsEndOf};
-ghost use Rattle.winnow_separated.specs.Separated.{ElementsRun, LinkRuns, RangedElements, SeparatedRuns};
+ghost use Rattle.winnow_separated.specs.Separated.{ElementsRun, LinkRuns, RangedElements};
+ghost use Rattle.winnow_separated.specs.Separated.{SeparatedRuns};
 ghost use Rattle.winnow_separated.specs.Separated.Laws.{link_ends, separated_ends};
 ghost use Rattle.winnow_core.specs.Agrees.Beside.{agrees2_with};
 

@@ -2,7 +2,8 @@
 ghost use Rattle.std.specs.Prelude.{◌≡◌};
 ghost use Rattle.stream_errors.specs.Form.{assert_kind};
 ghost use Rattle.streams.specs.Kind.{backtrack};
-ghost use Rattle.winnow_separated.specs.SeparatedFoldl1.{JoinsLink, PairLinkRuns, SeparatedFoldl1Runs};
+ghost use Rattle.winnow_separated.specs.SeparatedFoldl1.{JoinsLink, PairLinkRuns};
+ghost use Rattle.winnow_separated.specs.SeparatedFoldl1.{SeparatedFoldl1Runs};
 ghost use Rattle.winnow_separated.specs.SeparatedFoldl1.{foldl1_closure, foldl1_parser};
 ghost use Rattle.winnow_separated.specs.SeparatedFoldl1.{foldl1_separator};
 ghost use Rattle.winnow_separated.specs.SeparatedFoldl1.Laws.{foldl1_ends, pair_link_ends};
