@@ -10,15 +10,103 @@ use stream_sets::range::Range;
 use streams::partial::Partial;
 use streams::stream::{Stream, StreamIsPartial};
 use winnow_comb::combinator;
-use winnow_comb::combinator::impls::{Empty, Fail};
+use winnow_comb::combinator::impls::{
+    AltParser, Cond, Empty, Fail, Not, Opt, Preceded, SeparatedPair,
+};
 use winnow_core::agrees_with::AgreesWith;
 use winnow_core::parser::Parser;
 use winnow_repeat::combinator::impls::{Repeat, RepeatTill};
 use winnow_token::token::impls::TakeWhile;
 
-/// Both end so.
-fn both(ending: Ending) -> (Ending, Ending) {
-    (ending, ending)
+/// The parser of a letter.
+type Letter<I, E> = TakeWhile<char, I, E>;
+
+/// A parser and the like one end so on a text.
+fn like_ends<I, O, E, P, Q>(
+    rt: &impl Abort,
+    name: &str,
+    text: &'static str,
+    parsers: (P, Q),
+    want: Ending,
+)
+where
+    I: OfText,
+    O: Drop,
+    E: ParserError<I> + ParserError<Partial<I>>,
+    P: AgreesWith<I, O, E, Q, Partial<I>, E> + Drop,
+    Q: Parser<Partial<I>, O, E> + Drop,
+    requires first { P.can_parse parsers.0 }
+    requires like { Q.can_parse parsers.1 }
+{
+    let (first, like) = parsers;
+    let got = endings_alike::<I, O, E, P, Q>(first, like, text);
+    same(rt, name, text, got, (want, want));
+}
+
+/// A letter or none.
+fn maybe_letter<I: StreamIsPartial<Token = char>, E: ParserError<I>>() -> Opt<
+    Letter<I, E>,
+    I,
+    I::Slice,
+    E,
+> {
+    combinator::opt(letter('a'))
+}
+
+/// A letter on a condition that holds.
+fn letter_on_condition<I: StreamIsPartial<Token = char>, E: ParserError<I>>() -> Cond<
+    Letter<I, E>,
+    I,
+    I::Slice,
+    E,
+> {
+    combinator::cond(true, letter('a'))
+}
+
+/// No such letter.
+fn no_letter<I: StreamIsPartial<Token = char>, E: ParserError<I>>() -> Not<
+    Letter<I, E>,
+    I,
+    I::Slice,
+    E,
+> {
+    combinator::not(letter('a'))
+}
+
+/// A letter behind another.
+fn preceded_letter<I: StreamIsPartial<Token = char>, E: ParserError<I>>() -> Preceded<
+    Letter<I, E>,
+    Letter<I, E>,
+    I,
+    I::Slice,
+    I::Slice,
+    E,
+> {
+    combinator::preceded(letter('a'), letter('b'))
+}
+
+/// Two letters with a third between them.
+fn pair_of_letters<I: StreamIsPartial<Token = char>, E: ParserError<I>>() -> SeparatedPair<
+    Letter<I, E>,
+    Letter<I, E>,
+    Letter<I, E>,
+    I,
+    I::Slice,
+    I::Slice,
+    I::Slice,
+    E,
+> {
+    combinator::separated_pair(letter('a'), letter('b'), letter('a'))
+}
+
+/// One of two letters.
+fn some_letter<I: StreamIsPartial<Token = char>, E: ParserError<I>>() -> AltParser<
+    (Letter<I, E>, Fail, Letter<I, E>),
+    I,
+    I::Slice,
+    E,
+> {
+    combinator::alt((letter('c'), Fail, letter('a')))
 }
 
 /// With one child or none.
@@ -27,18 +115,16 @@ where
     I: OfText + Stream<Token = char>,
     E: ParserError<I> + ParserError<Partial<I>>,
 {
-    let text = "aba;";
-    let first = combinator::opt(letter::<I, E>('a'));
-    let got = endings_alike::<I, _, E, _, _>(first, combinator::opt(letter('a')), text);
-    same(rt, "opt", text, got, both(Takes(1)));
-    let first = combinator::cond(true, letter::<I, E>('a'));
-    let got = endings_alike::<I, _, E, _, _>(first, combinator::cond(true, letter('a')), text);
-    same(rt, "cond", text, got, both(Takes(1)));
-    let first = combinator::not(letter::<I, E>('a'));
-    let got = endings_alike::<I, (), E, _, _>(first, combinator::not(letter('a')), text);
-    same(rt, "not", text, got, both(BACKTRACKS));
-    let got = endings_alike::<I, (), E, _, _>(Empty, Empty, text);
-    same(rt, "empty", text, got, both(Takes(0)));
+    let parsers = (maybe_letter::<I, E>(), maybe_letter::<Partial<I>, E>());
+    like_ends::<I, _, E, _, _>(rt, "opt", "aba;", parsers, Takes(1));
+    let parsers = (
+        letter_on_condition::<I, E>(),
+        letter_on_condition::<Partial<I>, E>(),
+    );
+    like_ends::<I, _, E, _, _>(rt, "cond", "aba;", parsers, Takes(1));
+    let parsers = (no_letter::<I, E>(), no_letter::<Partial<I>, E>());
+    like_ends::<I, (), E, _, _>(rt, "not", "aba;", parsers, BACKTRACKS);
+    like_ends::<I, (), E, _, _>(rt, "empty", "aba;", (Empty, Empty), Takes(0));
 }
 
 /// With two children or three.
@@ -47,24 +133,18 @@ where
     I: OfText + Stream<Token = char>,
     E: ParserError<I> + ParserError<Partial<I>>,
 {
-    let text = "aba;";
-    let first = combinator::preceded(letter::<I, E>('a'), letter::<I, E>('b'));
-    let like = combinator::preceded(letter('a'), letter('b'));
-    let got = endings_alike::<I, I::Slice, E, _, _>(first, like, text);
-    same(rt, "preceded", text, got, both(Takes(2)));
-    let (one, two, three) = (
-        letter::<I, E>('a'),
-        letter::<I, E>('b'),
-        letter::<I, E>('a'),
+    let parsers = (
+        preceded_letter::<I, E>(),
+        preceded_letter::<Partial<I>, E>(),
     );
-    let first = combinator::separated_pair(one, two, three);
-    let like = combinator::separated_pair(letter('a'), letter('b'), letter('a'));
-    let got = endings_alike::<I, (I::Slice, I::Slice), E, _, _>(first, like, text);
-    same(rt, "separated_pair", text, got, both(Takes(3)));
-    let first = combinator::alt((letter::<I, E>('c'), Fail, letter::<I, E>('a')));
-    let like = combinator::alt((letter('c'), Fail, letter('a')));
-    let got = endings_alike::<I, I::Slice, E, _, _>(first, like, text);
-    same(rt, "alt of a tuple", text, got, both(Takes(1)));
+    like_ends::<I, _, E, _, _>(rt, "preceded", "aba;", parsers, Takes(2));
+    let parsers = (
+        pair_of_letters::<I, E>(),
+        pair_of_letters::<Partial<I>, E>(),
+    );
+    like_ends::<I, _, E, _, _>(rt, "separated_pair", "aba;", parsers, Takes(3));
+    let parsers = (some_letter::<I, E>(), some_letter::<Partial<I>, E>());
+    like_ends::<I, _, E, _, _>(rt, "alt of a tuple", "aba;", parsers, Takes(1));
 }
 
 /// How a parser ends on a stream, and the like one on the partial stream. That neither comes from a
@@ -107,26 +187,29 @@ where
         I::of_text("aba;"),
         whole("aba;"),
     );
-    same(rt, "alt of a slice", "aba;", got, both(Takes(1)));
-    let first = letters::<I, E, A>(alloc);
-    let got = endings_alike::<I, (), E, _, _>(first, letters::<Partial<I>, E, A>(alloc), "aab");
-    same(rt, "repeat", "aab", got, both(Takes(2)));
-    let first = letters_till::<I, E, A>(alloc);
-    let like = letters_till::<Partial<I>, E, A>(alloc);
-    let got = endings_alike::<I, ((), I::Slice), E, _, _>(first, like, "aab");
-    same(rt, "repeat_till", "aab", got, both(Takes(3)));
+    same(rt, "alt of a slice", "aba;", got, (Takes(1), Takes(1)));
+    let parsers = (
+        letters::<I, E, A>(alloc),
+        letters::<Partial<I>, E, A>(alloc),
+    );
+    like_ends::<I, (), E, _, _>(rt, "repeat", "aab", parsers, Takes(2));
+    let parsers = (
+        letters_till::<I, E, A>(alloc),
+        letters_till::<Partial<I>, E, A>(alloc),
+    );
+    like_ends::<I, _, E, _, _>(rt, "repeat_till", "aab", parsers, Takes(3));
 }
 
 /// A repetition of a letter that keeps nothing.
 fn letters<I: StreamIsPartial<Token = char>, E: ParserError<I>, A: Allocator + Copy>(
     alloc: A,
-) -> Repeat<TakeWhile<char, I, E>, I, I::Slice, (), E, A> {
+) -> Repeat<Letter<I, E>, I, I::Slice, (), E, A> {
     winnow_repeat::combinator::repeat(alloc, Range::from(0..), letter('a'))
 }
 
 /// A repetition of a letter until another one, that keeps nothing.
 fn letters_till<I: StreamIsPartial<Token = char>, E: ParserError<I>, A: Allocator + Copy>(
     alloc: A,
-) -> RepeatTill<TakeWhile<char, I, E>, TakeWhile<char, I, E>, I, I::Slice, I::Slice, (), E, A> {
+) -> RepeatTill<Letter<I, E>, Letter<I, E>, I, I::Slice, I::Slice, (), E, A> {
     winnow_repeat::combinator::repeat_till(alloc, Range::from(0..), letter('a'), letter('b'))
 }
