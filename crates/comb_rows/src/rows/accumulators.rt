@@ -179,6 +179,22 @@ fn entries<A: Allocator>(
     }
 }
 
+/// The entries of the pairs of a text.
+fn paired<I, E, A>(alloc: A, text: &'static str) -> Held<(Option<char>, Option<char>, usize)>
+where
+    I: OfText + Stream<Token = char>,
+    E: ParserError<I>,
+    A: Allocator + Copy,
+{
+    let got = repeated::<I, (char, char), BTreeMap<char, char, A>, E, _, A>(
+        alloc,
+        Range::from(0..),
+        (Any, Any),
+        text,
+    );
+    entries(got)
+}
+
 /// Pairs by their keys: the last value of a key stands.
 fn into_a_map<I, E, A>(rt: &impl Abort, alloc: A)
 where
@@ -192,18 +208,12 @@ where
         ("a1a2a1", Ok((Some('1'), None, 1)), 0),
         ("a", Ok((None, None, 0)), 1),
     ] {
-        let pairs = (Any, Any);
-        let got = repeated::<I, (char, char), BTreeMap<char, char, A>, E, _, A>(
-            alloc,
-            Range::from(0..),
-            pairs,
-            text,
-        );
+        let got = paired::<I, E, A>(alloc, text);
         same(
             rt,
             "repeat((any, any)) into BTreeMap",
             text,
-            entries(got),
+            got,
             (want, left),
         );
     }
@@ -309,14 +319,7 @@ where
     let mut is_done = false;
     for n in 0..40u64 {
         let heap = Refusing::once(alloc, n);
-        let pairs = (Any, Any);
-        let got = repeated::<I, (char, char), BTreeMap<char, char, _>, E, _, _>(
-            &heap,
-            Range::from(0..),
-            pairs,
-            text,
-        );
-        let (answer, left) = entries(got);
+        let (answer, left) = paired::<I, E, _>(&heap, text);
         if !heap.met() {
             let all = (Ok((Some('1'), Some('2'), 26)), 0);
             same(rt, "BTreeMap, with memory", text, (answer, left), all);
@@ -338,14 +341,13 @@ where
 {
     let text = "a1a2a3a4";
     let heap = Refusing::always_from(alloc, 1);
-    let pairs = (Any, Any);
-    let got = repeated::<I, (char, char), BTreeMap<char, char, _>, E, _, _>(
-        &heap,
-        Range::from(0..),
-        pairs,
-        text,
-    );
     let want = (Ok((Some('4'), None, 1)), 0);
-    same(rt, "BTreeMap of one key", text, entries(got), want);
+    same(
+        rt,
+        "BTreeMap of one key",
+        text,
+        paired::<I, E, _>(&heap, text),
+        want,
+    );
     same(rt, "BTreeMap of one key asks once", text, heap.met(), false);
 }

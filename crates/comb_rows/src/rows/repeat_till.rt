@@ -239,6 +239,20 @@ pub(crate) fn repeat_till_without_memory<I: OfText + Compare<u8>, E: ParserError
     }
 }
 
+/// How many letters stand before a semicolon.
+fn letters_before<I, E, A>(
+    alloc: A,
+    range: Range,
+    text: &'static str,
+) -> (Result<usize, Kind>, usize)
+where
+    I: OfText + Compare<u8>,
+    E: ParserError<I>,
+    A: Allocator + Copy,
+{
+    counted(listed::<I, u8, u8, E, _, _, _>(alloc, range, b'a', b';', text))
+}
+
 /// Each request of one range is refused in turn.
 fn repeat_till_refused<I: OfText + Compare<u8>, E: ParserError<I>>(
     rt: &impl Abort,
@@ -250,8 +264,7 @@ fn repeat_till_refused<I: OfText + Compare<u8>, E: ParserError<I>>(
     let mut is_done = false;
     for n in 0..20u64 {
         let heap = Refusing::once(alloc, n);
-        let run = listed::<I, u8, u8, E, _, _, _>(&heap, range, b'a', b';', text);
-        let (answer, left) = counted(run);
+        let (answer, left) = letters_before::<I, E, _>(&heap, range, text);
         if !heap.met() {
             let got = (answer, left);
             same(rt, "repeat_till, with memory", text, got, (Ok(16), 1));
