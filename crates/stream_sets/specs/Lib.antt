@@ -1,13 +1,6 @@
 pub mod AsBStr
 pub mod AsChar
-pub mod Compare
-pub mod TextCompare
-pub mod Caseless
-pub mod TokenCompare
 pub mod Range
 pub mod Sets
-pub mod Three
-pub mod FindSlice
 pub mod Accumulator
-pub mod FirstMatch
 pub mod ParseSlice

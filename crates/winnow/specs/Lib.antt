@@ -26,20 +26,21 @@ pub use Rattle.streams.specs.declared.token_slice.TokenSlice.{TokenSlice}
 -- Sets, comparisons, searches, numbers of occurrences and accumulators.
 pub use Rattle.stream_sets.specs.Range
 pub use Rattle.stream_sets.specs.Sets
-pub use Rattle.stream_sets.specs.Three
+pub use Rattle.stream_searches.specs.Three
 pub use Rattle.stream_sets.specs.AsChar
 pub use Rattle.stream_sets.specs.AsBStr
 pub use Rattle.stream_sets.specs.ParseSlice
-pub use Rattle.stream_sets.specs.Compare
-pub use Rattle.stream_sets.specs.TextCompare
-pub use Rattle.stream_sets.specs.TokenCompare
-pub use Rattle.stream_sets.specs.Caseless
-pub use Rattle.stream_sets.specs.FindSlice
-pub use Rattle.stream_sets.specs.FirstMatch
+pub use Rattle.stream_searches.specs.Compare
+pub use Rattle.stream_searches.specs.TextCompare
+pub use Rattle.stream_searches.specs.TokenCompare
+pub use Rattle.stream_searches.specs.Caseless
+pub use Rattle.stream_searches.specs.FindSlice
+pub use Rattle.stream_searches.specs.FirstMatch
 pub use Rattle.stream_sets.specs.Accumulator
 pub use Rattle.stream_sets.specs.declared.range.Range.{Range}
-pub use Rattle.stream_sets.specs.declared.compare.CompareResult.{CompareResult}
-pub use Rattle.stream_sets.specs.declared.compare.CompareResult.TheVariants as CompareResultCases
+pub use Rattle.stream_searches.specs.declared.compare.CompareResult.{CompareResult}
+pub use Rattle.stream_searches.specs.declared.compare.CompareResult.TheVariants as
+      CompareResultCases
 -- Errors: their kinds and forms.
 pub use Rattle.stream_errors.specs.Form
 pub use Rattle.stream_errors.specs.Mode

@@ -1,7 +1,7 @@
 //! Parsers of ASCII characters, and literals without regard to case.
 pub mod impls;
 
-pub use stream_sets::caseless::Caseless;
+pub use stream_searches::caseless::Caseless;
 pub use winnow_ascii::ascii::{
     alpha0, alpha1, alphanumeric0, alphanumeric1, crlf, digit0, digit1, hex_digit0, hex_digit1,
     line_ending, multispace0, multispace1, newline, oct_digit0, oct_digit1, space0, space1, tab,

@@ -4,9 +4,9 @@ use Rattle.streams.specs.Input.{Input}
 use Rattle.streams.specs.Kind.{Kind, backtrack}
 use Rattle.streams.specs.Reading.{Reading}
 use Rattle.stream_errors.specs.Form.{Answer, ErrorForm}
-use Rattle.stream_sets.specs.Compare.{ComparesAs, StandsFirst}
-use Rattle.stream_sets.specs.declared.compare.CompareResult.{CompareResult}
-use Rattle.stream_sets.specs.declared.compare.CompareResult.TheVariants.{Ok, Incomplete, Error}
+use Rattle.stream_searches.specs.Compare.{ComparesAs, StandsFirst}
+use Rattle.stream_searches.specs.declared.compare.CompareResult.{CompareResult}
+use Rattle.stream_searches.specs.declared.compare.CompareResult.TheVariants.{Ok, Incomplete, Error}
 use Rattle.winnow_core.specs.Literal.{LiteralRuns}
 use Rattle.winnow_ascii.specs.Crlf.{CrlfRuns}
 use Rattle.winnow_ascii.specs.LineEnding.{LineEndingRuns}

@@ -5,8 +5,8 @@ use Rattle.streams.specs.Input.{Input, Takes}
 use Rattle.streams.specs.Kind.{Kind, backtrack}
 use Rattle.streams.specs.Reading.{Reading}
 use Rattle.stream_errors.specs.Form.{ErrorForm, Answer}
-use Rattle.stream_sets.specs.Compare.{IsShort, StandsFirst}
-use Rattle.stream_sets.specs.FindSlice.{Stands, IsFirstMatch}
+use Rattle.stream_searches.specs.Compare.{IsShort, StandsFirst}
+use Rattle.stream_searches.specs.FindSlice.{Stands, IsFirstMatch}
 use Rattle.winnow_core.specs.Short.{ShortKind}
 pub mod Known
 pub mod Laws

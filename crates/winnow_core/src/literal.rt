@@ -7,7 +7,7 @@ ghost use Rattle.winnow_core.specs.Literal.{LiteralRuns};
 
 use crate::short::short;
 use stream_errors::parser_error::ParserError;
-use stream_sets::compare::{Compare, CompareResult};
+use stream_searches::compare::{Compare, CompareResult};
 use streams::needed::Needed;
 use streams::stream::StreamIsPartial;
 

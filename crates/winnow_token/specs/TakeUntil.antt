@@ -3,7 +3,7 @@ use Rattle.std.specs.Prelude.{◌≡◌, ◌<◌, ◌≤◌, ℕ, List, length, 
 use Rattle.streams.specs.Input.{Input, Takes}
 use Rattle.streams.specs.Kind.{Kind, backtrack}
 use Rattle.streams.specs.Reading.{Reading}
-use Rattle.stream_sets.specs.FindSlice.{Stands, IsFirstMatch}
+use Rattle.stream_searches.specs.FindSlice.{Stands, IsFirstMatch}
 use Rattle.stream_sets.specs.Range.{Bounds, IsWithin}
 use Rattle.stream_errors.specs.Form.{ErrorForm, Answer, assert_kind}
 use Rattle.winnow_core.specs.Short.{ShortKind}

@@ -8,7 +8,7 @@ use std::process::Abort;
 use stream_errors::empty::EmptyError;
 use stream_errors::mode::ErrMode;
 use stream_errors::parser_error::ParserError;
-use stream_sets::compare::Compare;
+use stream_searches::compare::Compare;
 use streams::locating::LocatingSlice;
 use streams::partial::Partial;
 use streams::stream::{Location, Stream, UpdateSlice};

@@ -6,7 +6,7 @@ use std::fmt::Debug;
 use std::process::Abort;
 use stream_errors::external::FromExternalError;
 use stream_errors::parser_error::ParserError;
-use stream_sets::compare::Compare;
+use stream_searches::compare::Compare;
 use stream_sets::range::Range;
 use streams::stream::Stream;
 use winnow_ascii::ascii::impls::Digit1;

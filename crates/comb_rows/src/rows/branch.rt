@@ -6,7 +6,7 @@ use outcomes::{ending_of, outcome_of};
 use std::process::Abort;
 use stream_errors::modal::ModalError;
 use stream_errors::parser_error::ParserError;
-use stream_sets::compare::Compare;
+use stream_searches::compare::Compare;
 use streams::needed::Needed;
 use streams::stream::Stream;
 use winnow_comb::combinator;

@@ -7,7 +7,7 @@ use std::fmt::Debug;
 use std::process::Abort;
 use stream_errors::modal::ModalError;
 use stream_errors::parser_error::ParserError;
-use stream_sets::compare::Compare;
+use stream_searches::compare::Compare;
 use streams::needed::Needed;
 use streams::stream::Stream;
 use winnow_comb::combinator;

@@ -4,7 +4,7 @@ use outcomes::Kind::Backtrack;
 use outcomes::texts::OfText;
 use std::process::Abort;
 use stream_errors::parser_error::ParserError;
-use stream_sets::compare::Compare;
+use stream_searches::compare::Compare;
 use streams::stream::Stream;
 use winnow_comb::combinator;
 

@@ -2,9 +2,9 @@
 use crate::rows::{OfText, same};
 use std::process::Abort;
 use std::test::Fail;
-use stream_sets::caseless::Caseless;
-use stream_sets::compare::{Compare, CompareResult};
-use stream_sets::slice_len::SliceLen;
+use stream_searches::caseless::Caseless;
+use stream_searches::compare::{Compare, CompareResult};
+use stream_searches::slice_len::SliceLen;
 use streams::partial::Partial;
 
 /// The rows: an input, a literal, and the answer.

@@ -1,7 +1,7 @@
 //! Comparisons of a stream with a literal.
 use crate::rows::{OfText, same};
 use std::process::Abort;
-use stream_sets::compare::{Compare, CompareResult};
+use stream_searches::compare::{Compare, CompareResult};
 use streams::partial::Partial;
 use streams::token_slice::TokenSlice;
 

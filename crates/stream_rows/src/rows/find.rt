@@ -1,7 +1,7 @@
 //! Searches of a literal, or of one of a few.
 use crate::rows::{OfText, same};
 use std::process::Abort;
-use stream_sets::find::FindSlice;
+use stream_searches::find::FindSlice;
 use streams::partial::Partial;
 
 /// The first range at which something stands in the input.

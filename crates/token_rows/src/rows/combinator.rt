@@ -7,7 +7,7 @@ use outcomes::{BACKTRACKS, outcome_with};
 use std::fmt::Debug;
 use std::process::Abort;
 use stream_errors::parser_error::ParserError;
-use stream_sets::compare::Compare;
+use stream_searches::compare::Compare;
 use streams::stream::Stream;
 use winnow_core::combinator;
 use winnow_core::combinator::impls::Eof;

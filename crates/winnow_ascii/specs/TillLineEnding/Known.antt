@@ -13,8 +13,8 @@ use Rattle.streams.specs.Kind.{Kind, backtrack}
 use Rattle.streams.specs.Reading.{Reading}
 use Rattle.stream_errors.specs.Form.{ErrorForm}
 use Rattle.stream_errors.specs.Form.Known.{ok_is_err, same_err, same_ok}
-use Rattle.stream_sets.specs.Compare.{StandsFirst}
-use Rattle.stream_sets.specs.FindSlice.{IsFirstMatch}
+use Rattle.stream_searches.specs.Compare.{StandsFirst}
+use Rattle.stream_searches.specs.FindSlice.{IsFirstMatch}
 use Rattle.winnow_core.specs.Short.{ShortKind}
 use Rattle.winnow_ascii.specs.Crlf.Known.{SpellsAscii, crlf_ascii, return_ascii}
 use Rattle.winnow_ascii.specs.TillLineEnding.{HasNoLineEnd, LineRuns, TillLineEndingRuns}

@@ -9,8 +9,8 @@ ghost use Rattle.winnow_ascii.specs.Tab.{TabRuns};
 ghost use Rattle.winnow_ascii.specs.TillLineEnding.{LacksLineEnd, LineRuns, TillLineEndingRuns};
 
 use stream_errors::parser_error::ParserError;
-use stream_sets::compare::{Compare, CompareResult};
-use stream_sets::find::FindSlice;
+use stream_searches::compare::{Compare, CompareResult};
+use stream_searches::find::FindSlice;
 use streams::needed::Needed;
 use streams::stream::StreamIsPartial;
 use winnow_core::literal::take_literal;

@@ -7,7 +7,7 @@ use Rattle.streams.specs.Kind.{Kind, backtrack}
 use Rattle.streams.specs.Reading.{Reading}
 use Rattle.stream_errors.specs.Form.{Answer, ErrorForm, answer_by}
 use Rattle.stream_errors.specs.Form.Known.{ok_is_err, same_err, same_ok}
-use Rattle.stream_sets.specs.Compare.{StandsFirst}
+use Rattle.stream_searches.specs.Compare.{StandsFirst}
 use Rattle.winnow_core.specs.Literal.{LiteralRuns}
 
 -- A literal that was taken: tokens that it spells, and the slice of them.

@@ -9,9 +9,9 @@ use crate::agrees_with::AgreesWith;
 use crate::literal::take_literal;
 use crate::parser::Parser;
 use stream_errors::parser_error::ParserError;
-use stream_sets::caseless::Caseless;
-use stream_sets::compare::Compare;
-use stream_sets::compare::like::ComparesLike;
+use stream_searches::caseless::Caseless;
+use stream_searches::compare::Compare;
+use stream_searches::compare::like::ComparesLike;
 use streams::stream::{Stream, StreamIsPartial};
 
 /// A byte stands for itself, and is its own output.

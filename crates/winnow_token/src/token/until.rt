@@ -7,7 +7,7 @@ ghost use Rattle.winnow_token.specs.Before.{SaysAtLeast, SaysAtMost};
 ghost use Rattle.winnow_token.specs.TakeUntil.{TakeUntilRuns};
 
 use stream_errors::parser_error::ParserError;
-use stream_sets::find::FindSlice;
+use stream_searches::find::FindSlice;
 use stream_sets::range::Range;
 use streams::needed::Needed;
 use streams::stream::{Stream, StreamIsPartial};

@@ -7,8 +7,8 @@ use outcomes::{BACKTRACKS, LACKS};
 use std::fmt::Debug;
 use std::process::Abort;
 use stream_errors::parser_error::ParserError;
-use stream_sets::caseless::Caseless;
-use stream_sets::compare::Compare;
+use stream_searches::caseless::Caseless;
+use stream_searches::compare::Compare;
 use winnow_token::token;
 
 /// Texts.

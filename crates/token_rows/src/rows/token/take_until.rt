@@ -5,7 +5,7 @@ use outcomes::texts::{OfText, endings_at, endings_in_text};
 use outcomes::{BACKTRACKS, CUTS, LACKS};
 use std::process::Abort;
 use stream_errors::parser_error::ParserError;
-use stream_sets::find::FindSlice;
+use stream_searches::find::FindSlice;
 use stream_sets::range::Range;
 use winnow_token::token;
 

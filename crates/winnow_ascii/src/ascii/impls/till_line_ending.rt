@@ -8,10 +8,10 @@ ghost use Rattle.winnow_core.specs.Runs.{Keeps};
 
 use crate::ascii::till_line_ending;
 use stream_errors::parser_error::ParserError;
-use stream_sets::compare::Compare;
-use stream_sets::compare::like::ComparesLike;
-use stream_sets::find::FindSlice;
-use stream_sets::find::like::FindsLike;
+use stream_searches::compare::Compare;
+use stream_searches::compare::like::ComparesLike;
+use stream_searches::find::FindSlice;
+use stream_searches::find::like::FindsLike;
 use streams::stream::{Stream, StreamIsPartial};
 use winnow_core::agrees_with::AgreesWith;
 use winnow_core::parser::Parser;

@@ -7,8 +7,8 @@ ghost use Rattle.winnow_core.specs.Runs.{Keeps};
 
 use std::marker::PhantomData;
 use stream_errors::parser_error::ParserError;
-use stream_sets::compare::Compare;
-use stream_sets::compare::like::ComparesLike;
+use stream_searches::compare::Compare;
+use stream_searches::compare::like::ComparesLike;
 use streams::stream::{Stream, StreamIsPartial};
 use winnow_core::agrees_with::AgreesWith;
 use winnow_core::literal::take_literal;

@@ -10,8 +10,8 @@ ghost use Rattle.winnow_token.specs.TakeUntil.Laws.{take_until_alike, take_until
 use crate::token::until::take_before;
 use std::marker::PhantomData;
 use stream_errors::parser_error::ParserError;
-use stream_sets::find::FindSlice;
-use stream_sets::find::like::FindsLike;
+use stream_searches::find::FindSlice;
+use stream_searches::find::like::FindsLike;
 use stream_sets::range::Range;
 use streams::stream::{Stream, StreamIsPartial};
 use winnow_core::agrees_with::AgreesWith;

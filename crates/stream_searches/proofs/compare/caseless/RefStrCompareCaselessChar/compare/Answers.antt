@@ -1,0 +1,23 @@
+use Rattle.std.proofs.Common.{List, ℕ, ap, subst, ◌∙◌}
+use Rattle.std.specs.Str.{chars}
+use Rattle.streams.specs.Text.{width}
+use Rattle.stream_searches.specs.Caseless.{IsCaseless, caseless_text}
+use Rattle.stream_searches.specs.Compare.{ComparesAs}
+use Rattle.stream_searches.proofs.TextFindLemmas.{chars-one}
+use Rattle.stream_searches.proofs.compare.caseless.RefStrCompareCaselessChar.compare.Goals as goal
+
+pub returns : goal.returns
+returns c =
+    let all = c.as_bytes in
+    let literal = c.as_bytes-2 in
+    let P : List ℕ → Type 0 =
+    λ l. ComparesAs width (IsCaseless (chars literal.result.now)) (chars l)
+    c.compare_caseless.result in
+    let Q : List ℕ → Type 0 =
+    λ l. ComparesAs width (IsCaseless l) (chars c.args.self.now.now)
+    c.compare_caseless.result in
+    subst Q (ap chars (literal.ensures.value ∙ c.encode_utf8.ensures.value)
+    ∙ chars-one c.args.literal.0)
+    (subst P all.ensures.value
+    (caseless_text all.result.now literal.result.now all.ensures.utf8
+    literal.ensures.utf8 c.compare_caseless.result c.compare_caseless.ensures))

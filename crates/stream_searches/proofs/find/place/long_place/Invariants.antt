@@ -1,0 +1,8 @@
+use Rattle.std.proofs.Common.{◌≤◌, length}
+use Rattle.memchr.specs.Find.{Nowhere, OccursAt}
+use Rattle.stream_searches.proofs.find.place.long_place.Given as goal
+
+abbrev pub invariant-loop : goal.invariant-loop
+invariant-loop l =
+    (l.fn.start ≤ l.from) × (l.from ≤ length l.fn.all)
+    × Nowhere (OccursAt l.fn.all l.fn.literal) l.fn.start l.from

@@ -1,0 +1,144 @@
+//! Comparisons of the input with a literal.
+//!
+//! Those of bytes stand here, those of other streams in the files below.
+ghost use Rattle.std.specs.Prelude.{◌≡◌, ℕ, List, [], ◌∷◌, length};
+ghost use Rattle.std.proofs.Common.{ap, sym, ◌∙◌};
+ghost use Rattle.std.specs.Char.{encode_utf8};
+ghost use Rattle.stream_searches.specs.Compare.{ComparesAs, StandsFirst, IsShort, same-length};
+
+mod caseless;
+pub mod like;
+mod text;
+mod tokens;
+mod wrapped;
+
+use streams::stream::Stream;
+
+/// What a comparison of the input with a literal answers.
+#[derive(Clone, Copy, Debug, PartialEq, Eq)]
+pub enum CompareResult {
+    /// The literal stands first, and takes so many units.
+    Ok(usize),
+    /// The input is a proper beginning of the literal.
+    Incomplete,
+    /// Neither.
+    Error,
+}
+
+/// A stream that can be compared with a literal of type `T`.
+///
+/// ```text
+/// b"abc".as_slice().compare(b"ab".as_slice())   is CompareResult::Ok(2)
+/// b"a".as_slice().compare(b"ab".as_slice())     is CompareResult::Incomplete
+/// b"b".as_slice().compare(b'a')                 is CompareResult::Error
+/// ```
+pub trait Compare<T>: Stream {
+    // The lists of tokens that a literal stands for.
+    ghost spells: { T → List Self.Seen → Type 0 };
+
+    /// Compares the first tokens with `literal`. Nothing is consumed.
+    fn compare(&self, literal: T) -> CompareResult
+        ensures { ComparesAs Self.reading.units (spells literal)
+            (Self.view self.now).left.tokens result };
+
+    // All lists that a literal stands for take the same units.
+    ghost same_units: { (t : T) (xs ys : List Self.Seen) → spells t xs → spells t ys
+        → Self.reading.units xs ≡ Self.reading.units ys };
+}
+
+/// Compares bytes with bytes; each is looked at once.
+#[inline(always)]
+pub(crate) fn compare_bytes(all: &[u8], literal: &[u8]) -> CompareResult
+    ensures { ComparesAs length (λ xs. xs ≡ literal.now) all.now result }
+{
+    if literal.len() <= all.len() {
+        if all.starts_with(literal) {
+            CompareResult::Ok(literal.len())
+        } else {
+            CompareResult::Error
+        }
+    } else if literal.starts_with(all) {
+        CompareResult::Incomplete
+    } else {
+        CompareResult::Error
+    }
+}
+
+impl<'a> Compare<u8> for &'a [u8] {
+    ghost spells = { λ b xs. xs ≡ b ∷ [] };
+
+    #[inline(always)]
+    fn compare(&self, literal: u8) -> CompareResult {
+        let all = *self;
+        match all {
+            [] => CompareResult::Incomplete,
+            [first, ..] => {
+                if *first == literal {
+                    CompareResult::Ok(1)
+                } else {
+                    CompareResult::Error
+                }
+            }
+        }
+    }
+
+    ghost same_units = { λ t xs ys p q. same-length p q };
+}
+
+impl<'a, 'b> Compare<&'b [u8]> for &'a [u8] {
+    ghost spells = { λ s xs. xs ≡ s.now };
+
+    #[inline(always)]
+    fn compare(&self, literal: &'b [u8]) -> CompareResult {
+        compare_bytes(*self, literal)
+    }
+
+    ghost same_units = { λ t xs ys p q. same-length p q };
+}
+
+impl<'a, const N: usize> Compare<[u8; N]> for &'a [u8] {
+    ghost spells = { λ s xs. xs ≡ s };
+
+    #[inline(always)]
+    fn compare(&self, literal: [u8; N]) -> CompareResult {
+        compare_bytes(*self, literal.as_slice())
+    }
+
+    ghost same_units = { λ t xs ys p q. same-length p q };
+}
+
+impl<'a, 'b, const N: usize> Compare<&'b [u8; N]> for &'a [u8] {
+    ghost spells = { λ s xs. xs ≡ s.now };
+
+    #[inline(always)]
+    fn compare(&self, literal: &'b [u8; N]) -> CompareResult {
+        compare_bytes(*self, literal.as_slice())
+    }
+
+    ghost same_units = { λ t xs ys p q. same-length p q };
+}
+
+/// A character stands for the bytes of its UTF-8.
+impl<'a> Compare<char> for &'a [u8] {
+    ghost spells = { λ c xs. xs ≡ encode_utf8 c };
+
+    #[inline(always)]
+    fn compare(&self, literal: char) -> CompareResult {
+        let mut buffer = [0; 4];
+        compare_bytes(*self, literal.encode_utf8(&mut buffer).as_bytes())
+    }
+
+    ghost same_units = { λ t xs ys p q. same-length p q };
+}
+
+/// A text stands for its bytes.
+impl<'a, 'b> Compare<&'b str> for &'a [u8] {
+    ghost spells = { λ s xs. xs ≡ s.now };
+
+    #[inline(always)]
+    fn compare(&self, literal: &'b str) -> CompareResult {
+        compare_bytes(*self, literal.as_bytes())
+    }
+
+    ghost same_units = { λ t xs ys p q. same-length p q };
+}

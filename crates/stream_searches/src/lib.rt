@@ -1,0 +1,7 @@
+//! Literals beside the beginning of a stream, and searches of a stream for them.
+#![tactic(auto)]
+
+pub mod caseless;
+pub mod compare;
+pub mod find;
+pub mod slice_len;
