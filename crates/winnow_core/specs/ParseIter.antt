@@ -7,6 +7,7 @@ use Rattle.winnow_core.specs.Chain.{IsItem}
 use Rattle.winnow_core.specs.Runs.{Runs}
 use Rattle.winnow_core.specs.declared.combinator.impls.parse_iter.ParseIter.{ParseIter}
 use Rattle.winnow_core.specs.declared.combinator.impls.parse_iter.Unread.{Unread}
+pub mod Laws
 
 -- Where an iterator stands: it reads on in an input that began here, of which so much is left; or
 -- it has ended.
