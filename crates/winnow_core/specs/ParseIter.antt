@@ -7,6 +7,7 @@ use Rattle.winnow_core.specs.Chain.{IsItem}
 use Rattle.winnow_core.specs.Runs.{Runs}
 use Rattle.winnow_core.specs.declared.combinator.impls.parse_iter.ParseIter.{ParseIter}
 use Rattle.winnow_core.specs.declared.combinator.impls.parse_iter.Unread.{Unread}
+pub mod Known
 pub mod Laws
 
 -- Where an iterator stands: it reads on in an input that began here, of which so much is left; or
@@ -50,10 +51,10 @@ parse_iter_parser s = s.parser.now
 abbrev pub parse_iter_name : {P I O E K T L N C : Type 0} → ParseIter P I O E K T L N C → ℕ
 parse_iter_name s = s.parser.ghost_name
 
--- What is left is an end of what it began on.
-abbrev pub IsWithin : {T L : Type 0} → Reading T L → Standing T → Type 0
-IsWithin reading (reads start i) = Ends reading i.left start
-IsWithin reading ended = ⊤
+-- Where it stands is reached from its start: what is left is an end of what it began on.
+abbrev pub IsReached : {T L : Type 0} → Reading T L → Standing T → Type 0
+IsReached reading (reads start i) = Ends reading i.left start
+IsReached reading ended = ⊤
 
 -- how many tokens are left to be read
 abbrev pub tokens_to_read : {T : Type 0} → Standing T → ℕ

@@ -16,7 +16,7 @@ ghost use Rattle.winnow_core.specs.Map.{map_closure, map_parser};
 ghost use Rattle.winnow_core.specs.MapErr.{map_err_closure, map_err_parser};
 ghost use Rattle.winnow_core.specs.OutputInto.{output_into_parser};
 ghost use Rattle.winnow_core.specs.Parse.{ParsesWhole};
-ghost use Rattle.winnow_core.specs.ParseIter.{parse_iter_name, parse_iter_parser};
+ghost use Rattle.winnow_core.specs.ParseIter.{IsReached, parse_iter_name, parse_iter_parser};
 ghost use Rattle.winnow_core.specs.ParseIter.{parse_iter_standing, reads};
 ghost use Rattle.winnow_core.specs.ParsePeek.{PeekAnswers};
 ghost use Rattle.winnow_core.specs.ParseTo.{parse_to_parser};
@@ -39,7 +39,8 @@ mod tuples;
 
 use crate::combinator::impls::{
     AndThen, ByRef, CompleteErr, Context, ContextWith, DefaultValue, ErrInto, FlatMap, Map, MapErr,
-    OutputInto, ParseIter, ParseTo, Span, Take, TryMap, Value, Verify, VerifyMap, Void, WithSpan, WithTaken,
+    OutputInto, ParseIter, ParseTo, Span, Take, TryMap, Value, Verify, VerifyMap, Void, WithSpan,
+    WithTaken,
 };
 use crate::parser::fault::fault_at;
 pub use crate::parser::func::Func;
@@ -140,6 +141,7 @@ pub trait Parser<I: Stream, O, E: ParserError<I>>: Sized {
         ensures behind { parse_iter_name result ≡ self.entry.ghost_name }
         ensures reads { parse_iter_standing I.view I.seen result
             ≡ reads (I.view input).left (I.view input) }
+        ensures reached { IsReached I.reading (parse_iter_standing I.view I.seen result) }
     {
         ParseIter::new(self, input)
     }

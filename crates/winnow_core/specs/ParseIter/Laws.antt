@@ -3,7 +3,7 @@ use Rattle.std.specs.Prelude.{◌≡◌, List, [], Option, Some}
 use Rattle.std.proofs.Common.{ap, subst, sym, ◌∙◌}
 use Rattle.streams.specs.Input.{Ends, Input, IsEndOf, Remaining, Remains, ends_remain, ends_trans}
 use Rattle.streams.specs.Reading.{Reading, units-nil}
-use Rattle.winnow_core.specs.ParseIter.{IsWithin, NothingToRead, Standing, reads, standing_by}
+use Rattle.winnow_core.specs.ParseIter.{IsReached, NothingToRead, Standing, reads, standing_by}
 use Rattle.winnow_core.specs.declared.combinator.impls.parse_iter.Unread.{Unread}
 
 -- an iterator with something unread stands there
@@ -13,16 +13,16 @@ pub reads_unread : {I C T : Type 0} (view : I → Input T) (seen : C → Remaini
 reads_unread view seen e = ap (λ x. standing_by view seen x) e
 
 -- what a run leaves is an end of what the iterator began on
-pub within_behind : {T L : Type 0} {reading : Reading T L} {standing : Standing T}
-    {start : Remaining T} {i j : Input T} → standing ≡ reads start i → IsWithin reading standing
+pub reached_behind : {T L : Type 0} {reading : Reading T L} {standing : Standing T}
+    {start : Remaining T} {i j : Input T} → standing ≡ reads start i → IsReached reading standing
     → IsEndOf reading j i → Ends reading j.left start
-within_behind {reading = reading} on within end =
-    let P : Standing _ → Type 0 = λ s. IsWithin reading s in ends_trans end.ends (subst P on within)
+reached_behind {reading = reading} on reached end =
+    let P : Standing _ → Type 0 = λ s. IsReached reading s in ends_trans end.ends (subst P on reached)
 
-pub within_remains : {T L : Type 0} {reading : Reading T L} {standing : Standing T}
-    {start : Remaining T} {i j : Input T} → standing ≡ reads start i → IsWithin reading standing
+pub reached_remains : {T L : Type 0} {reading : Reading T L} {standing : Standing T}
+    {start : Remaining T} {i j : Input T} → standing ≡ reads start i → IsReached reading standing
     → IsEndOf reading j i → Remains j.left start
-within_remains on within end = ends_remain (within_behind on within end)
+reached_remains on reached end = ends_remain (reached_behind on reached end)
 
 -- where no token is left, nothing is left to be read
 pub nothing_to_read : {T : Type 0} {standing : Standing T} {start : Remaining T} {i : Input T}

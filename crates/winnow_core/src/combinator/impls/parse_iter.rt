@@ -5,7 +5,7 @@ ghost use Rattle.stream_errors.specs.Form.{assert_kind};
 ghost use Rattle.winnow_core.specs.Parse.{IsFaultAt};
 ghost use Rattle.winnow_core.specs.ParseIter.{ParseIterNext, parse_iter_name, parse_iter_parser};
 ghost use Rattle.winnow_core.specs.ParseIter.{parse_iter_state, parse_iter_standing};
-ghost use Rattle.winnow_core.specs.ParseIter.{IsWithin, reads, tokens_to_read};
+ghost use Rattle.winnow_core.specs.ParseIter.{IsReached, reads, tokens_to_read};
 
 use crate::parser::Parser;
 use crate::parser::fault::fault_at;
@@ -40,7 +40,7 @@ impl<'p, P: Parser<I, O, E>, I: Stream, O, E: ParserError<I>> ParseIter<'p, P, I
         ensures behind { parse_iter_name result ≡ parser.entry.ghost_name }
         ensures reads { parse_iter_standing I.view I.seen result
             ≡ reads (I.view input).left (I.view input) }
-        ensures within { IsWithin I.reading (parse_iter_standing I.view I.seen result) }
+        ensures reached { IsReached I.reading (parse_iter_standing I.view I.seen result) }
     {
         let start = input.checkpoint();
         ParseIter {
@@ -55,9 +55,9 @@ impl<'p, P: Parser<I, O, E>, I: Stream, O: Drop, E: ParserError<I>> ParseIter<'p
     /// The next item: one run of the parser, where something is left to be read.
     fn run(&mut self) -> Option<Result<O, ParseFault<I, E::Inner>>>
         requires callable { P.can_parse (parse_iter_parser self.old) }
-        requires within { IsWithin I.reading (parse_iter_standing I.view I.seen self.old) }
+        requires reached { IsReached I.reading (parse_iter_standing I.view I.seen self.old) }
         ensures again { P.can_parse (parse_iter_parser self.new) }
-        ensures within { IsWithin I.reading (parse_iter_standing I.view I.seen self.new) }
+        ensures reached { IsReached I.reading (parse_iter_standing I.view I.seen self.new) }
         ensures ran { ParseIterNext (P.meaning E.form) (assert_kind E.form)
             (IsFaultAt I.view I.reading.units E.inner_kind)
             (parse_iter_state P.state I.view I.seen self.old) result
@@ -91,13 +91,13 @@ impl<'p, P: Parser<I, O, E>, I: Stream, O: Drop, E: ParserError<I>> Iterator
     type Item = Result<O, ParseFault<I, E::Inner>>;
 
     ghost can_next = { λ s. P.can_parse s.parser.now
-        × IsWithin I.reading (parse_iter_standing I.view I.seen s) };
+        × IsReached I.reading (parse_iter_standing I.view I.seen s) };
 
     ghost next_gives = { λ s item t. ParseIterNext (P.meaning E.form) (assert_kind E.form)
         (IsFaultAt I.view I.reading.units E.inner_kind)
         (parse_iter_state P.state I.view I.seen s) item (parse_iter_state P.state I.view I.seen t)
         × P.can_parse t.parser.now
-        × IsWithin I.reading (parse_iter_standing I.view I.seen t)
+        × IsReached I.reading (parse_iter_standing I.view I.seen t)
         × (t.parser.ghost_name ≡ s.parser.ghost_name) };
 
     ghost remaining = { λ s. at_most (tokens_to_read (parse_iter_standing I.view I.seen s)) };

@@ -2,7 +2,7 @@ use Rattle.std.proofs.Common.{rules, refl, inl, inr, arith, ◌≡◌, [], sym, 
 use Rattle.streams.specs.Reading.{units-zero}
 use Rattle.winnow_core.specs.Ends.{same_units}
 use Rattle.winnow_core.specs.ParseIter.Laws.{nothing_to_read, reads_unread, some_to_read}
-use Rattle.winnow_core.specs.ParseIter.Laws.{within_remains}
+use Rattle.winnow_core.specs.ParseIter.Laws.{reached_remains}
 use Rattle.winnow_core.proofs.combinator.impls.parse_iter.ParseIter.run.Goals as goal
 
 pub returns-then-left-eq0-clause-ran : goal.returns-then-left-eq0-clause-ran
@@ -17,7 +17,7 @@ pub fault_at-requires : goal.fault_at-requires
 fault_at-requires g c =
     let on = reads_unread g.I.Stream.view g.I.Stream.seen {unread = c.args.self.now.unread}
     {u = c.in-Some.field-0} (search rules) in
-    within_remains on c.requires.within c.parse_next.ensures.ends
+    reached_remains on c.requires.reached c.parse_next.ensures.ends
 
 pub returns-then-eof_offset-left-clause-ran : goal.returns-then-eof_offset-left-clause-ran
 returns-then-eof_offset-left-clause-ran g c =
@@ -42,7 +42,7 @@ pub fault_at-requires-in-Err : goal.fault_at-requires-in-Err
 fault_at-requires-in-Err g c =
     let on = reads_unread g.I.Stream.view g.I.Stream.seen {unread = c.args.self.now.unread}
     {u = c.in-Some.field-0} (search rules) in
-    within_remains on c.requires.within c.parse_next.ensures.ends
+    reached_remains on c.requires.reached c.parse_next.ensures.ends
 
 pub returns-in-Err-clause-ran : goal.returns-in-Err-clause-ran
 returns-in-Err-clause-ran g c =
