@@ -95,22 +95,22 @@ same_start : {T : Type 0} {standing : Standing T} {a b : Remaining T} {i j : Inp
     → standing ≡ reads a i → standing ≡ reads b j → (a ≡ b) × (i ≡ j)
 same_start p q = (cc, cc)
 
--- an item more behind those of a chain
+-- an item more behind those of a chain, as a loop needs it
 pub parse_iter_more : {S T O F : Type 0} (run : Runs S T O) (assert_kind : Kind)
     (is_fault : Remaining T → Input T → Kind → F → Type 0) (s : S) (i : Input T)
-    (outputs : List O) (u : ParseIterState S T) (o : O) (t : ParseIterState S T)
-    → HasRead run s i outputs u → ParseIterNext run assert_kind is_fault u (Some (Ok o)) t
-    → HasRead run s i (outputs ++ o ∷ []) t
-parse_iter_more {T = T} run assert_kind is_fault s i outputs u o t (m, at, chain) step =
-    let (start, from, to, on, goes, item) = parse_iter_item run assert_kind is_fault u o t step in
+    (outputs : List O) (u : ParseIterState S T) (item : Result O F) (t : ParseIterState S T)
+    → HasRead run s i outputs u → ParseIterNext run assert_kind is_fault u (Some item) t
+    → (o : O) → item ≡ Ok o → HasRead run s i (outputs ++ o ∷ []) t
+parse_iter_more {T = T} {O = O} {F = F} run assert_kind is_fault s i outputs u item t
+    (m, at, chain) step o is =
+    let N : Result O F → Type 0 = λ x. ParseIterNext run assert_kind is_fault u (Some x) t in
+    let (start, from, to, on, goes, one) =
+    parse_iter_item run assert_kind is_fault u o t (subst N is step) in
     let same = same_start at on in
     let P : Input T → Type 0 = λ x. Items run s i outputs u.parser x in
-    let Q : Remaining T → Type 0 = λ x. t.standing ≡ reads x to in (
-      to,
-      subst Q (sym same.0) goes,
-      FoldsTo-push (λ p x q. IsItem run p x q) (s, i) outputs
-          (u.parser, from) o (t.parser, to) (subst P same.1 chain) item,
-    )
+    let Q : Remaining T → Type 0 = λ x. t.standing ≡ reads x to in
+    (to, subst Q (sym same.0) goes, FoldsTo-push (λ p x q. IsItem run p x q) (s, i) outputs
+    (u.parser, from) o (t.parser, to) (subst P same.1 chain) one)
 
 -- no item behind those of a chain: all is read
 pub parse_iter_all : {S T O F : Type 0} (run : Runs S T O) (assert_kind : Kind)
@@ -139,16 +139,17 @@ pub record IsRefused {S T O F : Type 0} (run : Runs S T O) (assert_kind : Kind)
   -- its fault, of which the place is counted from the start
   pub is : is_fault i.left at kind fault
 
--- a fault behind the items of a chain
+-- a fault behind the items of a chain, as a loop needs it
 pub parse_iter_refused : {S T O F : Type 0} (run : Runs S T O) (assert_kind : Kind)
     (is_fault : Remaining T → Input T → Kind → F → Type 0) (s : S) (i : Input T)
-    (outputs : List O) (u : ParseIterState S T) (fault : F) (t : ParseIterState S T)
-    → HasRead run s i outputs u → ParseIterNext run assert_kind is_fault u (Some (Err fault)) t
-    → IsRefused run assert_kind is_fault s i outputs fault
-parse_iter_refused {T = T} {F = F} run assert_kind is_fault s i outputs u fault t
-    (m, at, chain) step =
+    (outputs : List O) (u : ParseIterState S T) (item : Result O F) (t : ParseIterState S T)
+    → HasRead run s i outputs u → ParseIterNext run assert_kind is_fault u (Some item) t
+    → (fault : F) → item ≡ Err fault → IsRefused run assert_kind is_fault s i outputs fault
+parse_iter_refused {T = T} {O = O} {F = F} run assert_kind is_fault s i outputs u item t
+    (m, at, chain) step fault is =
+    let N : Result O F → Type 0 = λ x. ParseIterNext run assert_kind is_fault u (Some x) t in
     let (start, from, j, k, on, some, ends, refuses, to) =
-    parse_iter_fault run assert_kind is_fault u fault t step in
+    parse_iter_fault run assert_kind is_fault u fault t (subst N is step) in
     let same = same_start at on in
     let P : Input T → Type 0 = λ x. Items run s i outputs u.parser x in
     let Q : Remaining T → Type 0 = λ x. is_fault x j k fault in
@@ -225,15 +226,15 @@ parse_iter_drained {O = O} {X = X} run assert_kind is_fault state gives steps s 
     ([], inl (refl, subst Q (sym (append-nil before)) ((state a).parser, all.0, all.1, all.2)))
 parse_iter_drained run assert_kind is_fault state gives steps s i (Ok o ∷ items) before a
     read (u, (t, (c, step, more), last)) =
-    let longer = parse_iter_more run assert_kind is_fault s i before (state a) o (state c) read
-    (steps a (Some (Ok o)) c step) in
+    let longer = parse_iter_more run assert_kind is_fault s i before (state a) (Ok o) (state c)
+    read (steps a (Some (Ok o)) c step) o refl in
     one_before run assert_kind is_fault s i before o items
     (parse_iter_drained run assert_kind is_fault state gives steps s i items (before ++ o ∷ []) c
     longer (u, (t, more, last)))
 parse_iter_drained {O = O} run assert_kind is_fault state gives steps s i (Err fault ∷ []) before a
     read (u, (t, (c, step, more), last)) =
-    let refused = parse_iter_refused run assert_kind is_fault s i before (state a) fault (state c)
-    read (steps a (Some (Err fault)) c step) in
+    let refused = parse_iter_refused run assert_kind is_fault s i before (state a) (Err fault)
+    (state c) read (steps a (Some (Err fault)) c step) fault refl in
     let Q : List O → Type 0 = λ l. IsRefused run assert_kind is_fault s i l fault in
     ([], inr (fault, refl, subst Q (sym (append-nil before)) refused))
 parse_iter_drained run assert_kind is_fault state gives steps s i (Err fault ∷ item ∷ items)
