@@ -108,9 +108,12 @@ parse_iter_more {T = T} {O = O} {F = F} run assert_kind is_fault s i outputs u i
     parse_iter_item run assert_kind is_fault u o t (subst N is step) in
     let same = same_start at on in
     let P : Input T → Type 0 = λ x. Items run s i outputs u.parser x in
-    let Q : Remaining T → Type 0 = λ x. t.standing ≡ reads x to in
-    (to, subst Q (sym same.0) goes, FoldsTo-push (λ p x q. IsItem run p x q) (s, i) outputs
-    (u.parser, from) o (t.parser, to) (subst P same.1 chain) one)
+    let Q : Remaining T → Type 0 = λ x. t.standing ≡ reads x to in (
+      to,
+      subst Q (sym same.0) goes,
+      FoldsTo-push (λ p x q. IsItem run p x q) (s, i) outputs
+          (u.parser, from) o (t.parser, to) (subst P same.1 chain) one,
+    )
 
 -- no item behind those of a chain: all is read
 pub parse_iter_all : {S T O F : Type 0} (run : Runs S T O) (assert_kind : Kind)

@@ -17,7 +17,8 @@ pub reached_behind : {T L : Type 0} {reading : Reading T L} {standing : Standing
     {start : Remaining T} {i j : Input T} → standing ≡ reads start i → IsReached reading standing
     → IsEndOf reading j i → Ends reading j.left start
 reached_behind {reading = reading} on reached end =
-    let P : Standing _ → Type 0 = λ s. IsReached reading s in ends_trans end.ends (subst P on reached)
+    let P : Standing _ → Type 0 =
+    λ s. IsReached reading s in ends_trans end.ends (subst P on reached)
 
 pub reached_remains : {T L : Type 0} {reading : Reading T L} {standing : Standing T}
     {start : Remaining T} {i j : Input T} → standing ≡ reads start i → IsReached reading standing

@@ -9,7 +9,8 @@ pub returns-then-left-eq0-clause-ran : goal.returns-then-left-eq0-clause-ran
 returns-then-left-eq0-clause-ran g c =
     let on = reads_unread g.I.Stream.view g.I.Stream.seen {unread = c.args.self.now.unread}
     {u = c.in-Some.field-0} (search rules) in
-    let nothing = units-zero g.I.Stream.reading _ (sym c.eof_offset-left.ensures ∙ c.if-left-eq0.true)
+    let nothing = units-zero g.I.Stream.reading _
+    (sym c.eof_offset-left.ensures ∙ c.if-left-eq0.true)
     in
     inr (inr (nothing_to_read on nothing, refl, refl, search rules))
 
