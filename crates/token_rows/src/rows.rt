@@ -2,6 +2,7 @@
 //! the name of the parser; a test runs all of them at one stream and error.
 mod ascii;
 mod combinator;
+mod parse_iter;
 mod parser;
 mod token;
 
@@ -21,6 +22,7 @@ use stream_searches::compare::Compare;
 use stream_searches::find::FindSlice;
 use stream_sets::as_bstr::{AsBStr, SlicesAsBytes};
 use stream_sets::as_char::AsChar;
+use streams::locating::LocatingSlice;
 use streams::partial::Partial;
 use streams::stream::{Location, Stream};
 use streams::token_slice::TokenSlice;
@@ -241,6 +243,9 @@ where
 fn text(rt: HostRuntime) {
     at_text::<&str, Modal>(&rt);
     ascii::at_places::<&str>(&rt);
+    parse_iter::parse_iter::<&str, Modal>(&rt);
+    parse_iter::parse_iter_of_text(&rt);
+    parse_iter::parse_iter_with_state(&rt);
 }
 
 #[test]
@@ -252,6 +257,8 @@ fn cut_text(rt: HostRuntime) {
 fn bytes(rt: HostRuntime) {
     at_bytes::<&[u8], ModalAtBytes>(&rt, Kind::Cut);
     parser::parse::<&[u8], EmptyError>(&rt);
+    parse_iter::parse_iter::<&[u8], EmptyError>(&rt);
+    parse_iter::parse_iter_of_needs(&rt);
     parser::func(&rt);
     ascii::at_places::<&[u8]>(&rt);
 }
@@ -282,6 +289,8 @@ fn cut_bytes_under_plain_errors(rt: HostRuntime) {
 #[test]
 fn located_text(rt: HostRuntime) {
     ascii::at_located::<&str>(&rt);
+    parse_iter::parse_iter::<LocatingSlice<&str>, Modal>(&rt);
+    parse_iter::parse_iter_behind_a_token(&rt);
 }
 
 #[test]

@@ -88,6 +88,7 @@ pub use Rattle.winnow_core.specs.ContextWith
 pub use Rattle.winnow_core.specs.Func
 pub use Rattle.winnow_core.specs.Parse
 pub use Rattle.winnow_core.specs.ParsePeek
+pub use Rattle.winnow_core.specs.ParseIter
 pub use Rattle.winnow_core.specs.Ends as EndsOfRuns
 pub use Rattle.winnow_core.specs.Take as TakeAdapter
 pub use Rattle.winnow_core.specs.Laws as ParserLaws

@@ -10,6 +10,7 @@ pub use Rattle.winnow_core.specs.MakesError.Known.{known_errors}
 pub use Rattle.winnow_core.specs.MakesOutput.Known.{known_outputs}
 pub use Rattle.winnow_core.specs.Map.Known.{known_maps}
 pub use Rattle.winnow_core.specs.Parse.Known.{known_parses}
+pub use Rattle.winnow_core.specs.ParseIter.Known.{known_parse_iters}
 pub use Rattle.winnow_core.specs.Sequence.Known.{known_sequences}
 pub use Rattle.winnow_core.specs.Splits.{known_splits}
 pub use Rattle.winnow_core.specs.ParseTo.Known.{known_texts}

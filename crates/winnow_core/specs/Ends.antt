@@ -1,8 +1,8 @@
 -- Ends of the input, as the runs of parsers leave them.
-use Rattle.std.specs.Prelude.{◌≡◌}
-use Rattle.std.proofs.Common.{refl, sym, subst}
+use Rattle.std.specs.Prelude.{◌≡◌, ◌++◌}
+use Rattle.std.proofs.Common.{refl, sym, subst, ap, ◌∙◌, arith}
 use Rattle.streams.specs.Input.{Input, IsEndOf, back_at, is_end_of_back, is_end_of_refl}
-use Rattle.streams.specs.Reading.{Reading}
+use Rattle.streams.specs.Reading.{Reading, units-zero}
 
 -- an input that is the same is an end
 pub same_ends : {T L : Type 0} (reading : Reading T L) (i j : Input T) → j ≡ i → IsEndOf reading j i
@@ -16,3 +16,16 @@ pub back_ends : {T L : Type 0} (reading : Reading T L) (i a j : Input T) → j �
 back_ends reading i a j same ends =
     let P : Input _ → Type 0 = λ x. IsEndOf reading x i
     in subst P (sym same) (is_end_of_back refl ends)
+
+-- an end with as many units left has dropped nothing
+pub same_units : {T L : Type 0} (reading : Reading T L) (j i : Input T) → IsEndOf reading j i
+    → reading.units j.left.tokens ≡ reading.units i.left.tokens → j.left.tokens ≡ i.left.tokens
+same_units reading j i e same =
+    let none : reading.units e.ends.dropped ≡ 0 =
+    omega (
+      arith,
+      same,
+      ap reading.units e.ends.tokens,
+      reading.units_add e.ends.dropped j.left.tokens,
+    ) in
+    sym (e.ends.tokens ∙ ap (λ l. l ++ j.left.tokens) (units-zero reading e.ends.dropped none))

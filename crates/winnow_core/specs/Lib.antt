@@ -33,6 +33,8 @@ pub mod ContextWith
 pub mod Func
 pub mod Parse
 pub mod Splits
+pub mod Chain
+pub mod ParseIter
 pub mod ParsePeek
 pub mod Laws
 pub mod Reads

@@ -3,7 +3,7 @@
 
 ghost use Rattle.std.specs.Prelude.{⊤, ◌≡◌, false};
 ghost use Rattle.stream_errors.specs.Form.{ErrorForm, answer_by};
-ghost use Rattle.streams.specs.Input.{IsEndOf, Remains};
+ghost use Rattle.streams.specs.Input.{IsEndOf};
 ghost use Rattle.winnow_core.specs.AndThen.{and_then_inner, and_then_outer};
 ghost use Rattle.winnow_core.specs.ByRef.{by_ref_name, by_ref_parser};
 ghost use Rattle.winnow_core.specs.CompleteErr.{complete_err_parser};
@@ -15,7 +15,9 @@ ghost use Rattle.winnow_core.specs.FlatMap.{flat_map_closure, flat_map_parser};
 ghost use Rattle.winnow_core.specs.Map.{map_closure, map_parser};
 ghost use Rattle.winnow_core.specs.MapErr.{map_err_closure, map_err_parser};
 ghost use Rattle.winnow_core.specs.OutputInto.{output_into_parser};
-ghost use Rattle.winnow_core.specs.Parse.{IsFaultAt, ParsesWhole};
+ghost use Rattle.winnow_core.specs.Parse.{ParsesWhole};
+ghost use Rattle.winnow_core.specs.ParseIter.{IsReached, parse_iter_name, parse_iter_parser};
+ghost use Rattle.winnow_core.specs.ParseIter.{parse_iter_standing, reads};
 ghost use Rattle.winnow_core.specs.ParsePeek.{PeekAnswers};
 ghost use Rattle.winnow_core.specs.ParseTo.{parse_to_parser};
 ghost use Rattle.winnow_core.specs.Runs.{LeaveEnds, Meaning};
@@ -29,6 +31,7 @@ ghost use Rattle.winnow_core.specs.Void.{void_parser};
 ghost use Rattle.winnow_core.specs.WithSpan.{with_span_parser};
 ghost use Rattle.winnow_core.specs.WithTaken.{with_taken_parser};
 
+pub(crate) mod fault;
 mod func;
 mod literals;
 mod modal;
@@ -36,18 +39,19 @@ mod tuples;
 
 use crate::combinator::impls::{
     AndThen, ByRef, CompleteErr, Context, ContextWith, DefaultValue, ErrInto, FlatMap, Map, MapErr,
-    OutputInto, ParseTo, Span, Take, TryMap, Value, Verify, VerifyMap, Void, WithSpan, WithTaken,
+    OutputInto, ParseIter, ParseTo, Span, Take, TryMap, Value, Verify, VerifyMap, Void, WithSpan,
+    WithTaken,
 };
+use crate::parser::fault::fault_at;
 pub use crate::parser::func::Func;
 pub use crate::parser::modal::ModalParser;
 use std::alloc::Allocator;
 use std::marker::PhantomData;
 use stream_errors::context::AddContext;
 use stream_errors::external::FromExternalError;
-use stream_errors::fault::{ParseError, ParseFault};
+use stream_errors::fault::ParseFault;
 use stream_errors::parser_error::ParserError;
 use stream_sets::parse_slice::ParseSlice;
-use streams::needed::Needed;
 use streams::stream::{Location, Stream, StreamIsPartial};
 
 /// A parser: it takes tokens from an input and makes an output of them, as winnow's documentation
@@ -116,6 +120,30 @@ pub trait Parser<I: Stream, O, E: ParserError<I>>: Sized {
             }
             Err(error) => Err(fault_at(input, start, error)),
         }
+    }
+
+    /// Parses all of `input`, an item a run: an iterator over the outputs.
+    ///
+    /// Where no unit is left it gives `None`, and the parser is not run. A run that fails, or that
+    /// consumes nothing, gives one fault, as [`parse`](Parser::parse) has it, of which the place is
+    /// counted from the start of `input`; then it gives `None` for good. The caller owes a stream
+    /// type that is not partial.
+    ///
+    /// ```text
+    /// b'a'.parse_iter(b"aab")   gives Ok(b'a') twice, and then Refused at offset 2
+    /// ```
+    #[inline(always)]
+    final fn parse_iter(&mut self, input: I) -> ParseIter<'_, Self, I, O, E>
+    where
+        I: StreamIsPartial,
+        requires whole { I.supports_partial ≡ false }
+        ensures parser { parse_iter_parser result ≡ self.old }
+        ensures behind { parse_iter_name result ≡ self.entry.ghost_name }
+        ensures reads { parse_iter_standing I.view I.seen result
+            ≡ reads (I.view input).left (I.view input) }
+        ensures reached { IsReached I.reading (parse_iter_standing I.view I.seen result) }
+    {
+        ParseIter::new(self, input)
     }
 
     /// Runs the parser on a stream that is handed over: the rest and the output, or the error.
@@ -368,20 +396,4 @@ pub trait Parser<I: Stream, O, E: ParserError<I>>: Sized {
 
     // Each run leaves an end of its input.
     ghost leaves_ends: { (form : ErrorForm) → LeaveEnds I.reading (meaning form) };
-}
-
-/// The fault of an error that arose where `input` stands.
-fn fault_at<I: Stream, E: ParserError<I>>(
-    input: I,
-    start: I::Checkpoint,
-    error: E,
-) -> ParseFault<I, E::Inner>
-    requires { Remains (I.view input).left (I.seen start) }
-    ensures { IsFaultAt I.view I.reading.units E.inner_kind (I.seen start) (I.view input)
-        (E.kind error) result }
-{
-    match error.into_inner() {
-        Ok(inner) => ParseFault::Refused(ParseError::new(input, start, inner)),
-        Err(error) => ParseFault::Incomplete(error.needed().unwrap_or(Needed::Unknown)),
-    }
 }

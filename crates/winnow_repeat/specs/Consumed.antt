@@ -2,20 +2,7 @@
 use Rattle.std.proofs.Common.{◌≡◌, ◌<◌, ◌∙◌, List, [], ◌∷◌, ◌++◌, length, sym, ap, arith}
 use Rattle.std.proofs.Common.{length-append}
 use Rattle.streams.specs.Input.{Input, IsEndOf, ends-length}
-use Rattle.streams.specs.Reading.{Reading, units-zero}
-
--- an end with as many units left has dropped nothing
-pub same_units : {T S : Type 0} (reading : Reading T S) (j i : Input T) → IsEndOf reading j i
-    → reading.units j.left.tokens ≡ reading.units i.left.tokens → j.left.tokens ≡ i.left.tokens
-same_units reading j i e same =
-    let none : reading.units e.ends.dropped ≡ 0 =
-    omega (
-      arith,
-      same,
-      ap reading.units e.ends.tokens,
-      reading.units_add e.ends.dropped j.left.tokens,
-    ) in
-    sym (e.ends.tokens ∙ ap (λ l. l ++ j.left.tokens) (units-zero reading e.ends.dropped none))
+use Rattle.streams.specs.Reading.{Reading}
 
 -- an end with fewer units left has fewer tokens left
 pub fewer_tokens : {T S : Type 0} (reading : Reading T S) (j i : Input T) → IsEndOf reading j i

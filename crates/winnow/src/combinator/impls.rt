@@ -5,8 +5,8 @@ pub use winnow_comb::combinator::impls::{
 };
 pub use winnow_core::combinator::impls::{
     AndThen, ByRef, CompleteErr, Context, ContextWith, DefaultValue, Eof, ErrInto, FlatMap, Map,
-    MapErr, OutputInto, ParseTo, Span, Take, TryMap, Value, Verify, VerifyMap, Void, WithSpan,
-    WithTaken,
+    MapErr, OutputInto, ParseIter, ParseTo, Span, Take, TryMap, Value, Verify, VerifyMap, Void,
+    WithSpan, WithTaken,
 };
 pub use winnow_repeat::combinator::impls::{
     Fill, ParserIterator, Repeat, RepeatFold, RepeatTill, RepeatTryFold, RepeatVerifyFold,

@@ -15,15 +15,11 @@ use Rattle.stream_sets.specs.Accumulator.{Accumulator, list_kept}
 use Rattle.stream_sets.specs.Accumulator.Known.{list_of_outputs}
 use Rattle.stream_sets.specs.Range.{IsWithin, bounds_of, from_to, greatest_of}
 use Rattle.stream_sets.specs.declared.range.Range.{Range}
+pub use Rattle.winnow_core.specs.Chain.{Items}
 use Rattle.winnow_core.specs.Runs.{Runs}
-use Rattle.winnow_repeat.specs.Chain.{IsItem}
 use Rattle.winnow_repeat.specs.Repeat.{RepeatEnds, RepeatRuns, capacity_of}
 
 -- ---- chains of items
-
--- Items in a chain, from a state and an input to a state and an input.
-abbrev pub Items : {S T O : Type 0} → Runs S T O → S → Input T → List O → S → Input T → Type 0
-Items run s i outputs u m = FoldsTo (λ p o q. IsItem run p o q) (s, i) outputs (u, m)
 
 -- What holds before the first item, and of an item more where it held of those before, holds of a
 -- chain: of its state, its input and its items.

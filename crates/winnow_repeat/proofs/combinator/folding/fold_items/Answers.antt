@@ -1,4 +1,5 @@
-use Rattle.winnow_repeat.specs.Consumed.{fewer_tokens, same_units, units_fall}
+use Rattle.winnow_core.specs.Ends.{same_units}
+use Rattle.winnow_repeat.specs.Consumed.{fewer_tokens, units_fall}
 use Rattle.winnow_repeat.specs.Room.{no_room, room_behind_more, room_behind_none, some_room}
 use Rattle.std.proofs.Common.{rules, arith, length, ◌<◌, ◌≡◌, []}
 use Rattle.std.proofs.Common.{◌∷◌, ◌++◌, length-append}

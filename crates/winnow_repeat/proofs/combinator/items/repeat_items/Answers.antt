@@ -1,4 +1,5 @@
-use Rattle.winnow_repeat.specs.Consumed.{fewer_tokens, same_units}
+use Rattle.winnow_core.specs.Ends.{same_units}
+use Rattle.winnow_repeat.specs.Consumed.{fewer_tokens}
 use Rattle.winnow_repeat.specs.Room.{room_behind_more, room_behind_none, some_room}
 use Rattle.std.proofs.Common.{rules, arith, inl, inr, [], ◌∷◌, ◌++◌, length-append}
 use Rattle.streams.specs.Input.{is_end_of_refl, is_end_of_trans}

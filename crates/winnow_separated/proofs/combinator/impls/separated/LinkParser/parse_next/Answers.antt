@@ -1,4 +1,4 @@
-use Rattle.winnow_repeat.specs.Consumed.{same_units}
+use Rattle.winnow_core.specs.Ends.{same_units}
 use Rattle.std.proofs.Common.{rules, refl, inl, inr, arith}
 use Rattle.winnow_separated.proofs.combinator.impls.separated.LinkParser.parse_next.Goals as goal
 

@@ -1,0 +1,24 @@
+//! The faults of whole parses.
+ghost use Rattle.streams.specs.Input.{Remains};
+ghost use Rattle.winnow_core.specs.Parse.{IsFaultAt};
+
+use stream_errors::fault::{ParseError, ParseFault};
+use stream_errors::parser_error::ParserError;
+use streams::needed::Needed;
+use streams::stream::Stream;
+
+/// The fault of an error that arose where `input` stands.
+pub(crate) fn fault_at<I: Stream, E: ParserError<I>>(
+    input: I,
+    start: I::Checkpoint,
+    error: E,
+) -> ParseFault<I, E::Inner>
+    requires { Remains (I.view input).left (I.seen start) }
+    ensures { IsFaultAt I.view I.reading.units E.inner_kind (I.seen start) (I.view input)
+        (E.kind error) result }
+{
+    match error.into_inner() {
+        Ok(inner) => ParseFault::Refused(ParseError::new(input, start, inner)),
+        Err(error) => ParseFault::Incomplete(error.needed().unwrap_or(Needed::Unknown)),
+    }
+}
