@@ -257,7 +257,6 @@ fn cut_text(rt: HostRuntime) {
 fn bytes(rt: HostRuntime) {
     at_bytes::<&[u8], ModalAtBytes>(&rt, Kind::Cut);
     parser::parse::<&[u8], EmptyError>(&rt);
-    parse_iter::parse_iter::<&[u8], EmptyError>(&rt);
     parse_iter::parse_iter_of_needs(&rt);
     parser::func(&rt);
     ascii::at_places::<&[u8]>(&rt);
@@ -290,7 +289,6 @@ fn cut_bytes_under_plain_errors(rt: HostRuntime) {
 fn located_text(rt: HostRuntime) {
     ascii::at_located::<&str>(&rt);
     parse_iter::parse_iter::<LocatingSlice<&str>, Modal>(&rt);
-    parse_iter::parse_iter_behind_a_token(&rt);
 }
 
 #[test]

@@ -9,10 +9,8 @@ use stream_errors::empty::EmptyError;
 use stream_errors::fault::ParseFault;
 use stream_errors::mode::ErrMode;
 use stream_errors::parser_error::ParserError;
-use stream_sets::as_char::AsChar;
 use stream_sets::range::Range;
 use stream_sets::sets::Pred;
-use streams::locating::LocatingSlice;
 use streams::needed::Needed;
 use streams::stream::{Stream, StreamIsPartial};
 use winnow_core::combinator::impls::ParseIter;
@@ -72,34 +70,30 @@ where
 
 /// Slices of two tokens, and of digits: the place of a fault is counted from the first start, in
 /// units, and an item that consumes nothing is a fault.
-pub(crate) fn parse_iter<I: OfText + Copy, E: ParserError<I>>(rt: &impl Abort)
+pub(crate) fn parse_iter<I, E: ParserError<I>>(rt: &impl Abort)
 where
-    I::Token: AsChar + Copy,
-    I::Slice: PartialEq + Debug + Copy,
+    I: OfText + Copy + Stream<Token = char, Slice = &'static str>,
     requires { I.supports_partial ≡ false }
 {
-    let slice = I::slice_of_text;
-    let two = [slice("ab"), slice("cd")];
-    let one = [slice("ab")];
-    let pair = token::take::<_, I, E>(2usize);
-    gives::<I, I::Slice, E, _>(rt, "abc", pair, I::of_text("abc"), &one, End::Refused(2));
-    let pair = token::take::<_, I, E>(2usize);
-    gives::<I, I::Slice, E, _>(rt, "abcd", pair, I::of_text("abcd"), &two, End::Read);
-    let pair = token::take::<_, I, E>(2usize);
-    gives::<I, I::Slice, E, _>(rt, "", pair, I::of_text(""), &[], End::Read);
-    let digits = token::take_while::<_, I, E>(
-        Range::from(0..),
-        Pred(|token: I::Token| token.is_dec_digit()),
-    );
-    let number = [slice("12")];
-    gives::<I, I::Slice, E, _>(
-        rt,
-        "12a3",
-        digits,
-        I::of_text("12a3"),
-        &number,
-        End::Refused(2),
-    );
+    for (text, items, end) in [
+        ("abc", ["ab"].as_slice(), End::Refused(2)),
+        ("abcd", ["ab", "cd"].as_slice(), End::Read),
+        ("", [].as_slice(), End::Read),
+    ] {
+        let pair = token::take::<_, I, E>(2usize);
+        gives::<I, &str, E, _>(rt, text, pair, I::of_text(text), items, end);
+    }
+    for (text, items, end) in [
+        ("12a3", ["12"].as_slice(), End::Refused(2)),
+        ("12", ["12"].as_slice(), End::Read),
+        ("a", [].as_slice(), End::Refused(0)),
+    ] {
+        let digits = token::take_while::<_, I, E>(
+            Range::from(0..),
+            Pred(|c: char| c.is_ascii_digit()),
+        );
+        gives::<I, &str, E, _>(rt, text, digits, I::of_text(text), items, end);
+    }
     gives::<I, usize, E, _>(
         rt,
         "nothing",
@@ -109,6 +103,34 @@ where
         End::Refused(0),
     );
     gives::<I, usize, E, _>(rt, "nothing", RestLen, I::of_text(""), &[], End::Read);
+    behind_a_token::<I, E>(rt);
+    in_a_loop::<I, E>(rt);
+}
+
+/// The start is where the input stood when it was handed over.
+fn behind_a_token<I, E: ParserError<I>>(rt: &impl Abort)
+where
+    I: OfText + Copy + Stream<Token = char, Slice = &'static str>,
+    requires { I.supports_partial ≡ false }
+{
+    let mut input = I::of_text("xabc");
+    let _x = input.next_token();
+    let pair = token::take::<_, I, E>(2usize);
+    gives::<I, &str, E, _>(rt, "behind x", pair, input, &["ab"], End::Refused(2));
+}
+
+/// All items of a text.
+fn in_a_loop<I: OfText + Stream<Token = char>, E: ParserError<I>>(rt: &impl Abort)
+    requires { I.supports_partial ≡ false }
+{
+    let mut any = Any;
+    let all: ParseIter<'_, Any, I, char, E> = any.parse_iter(I::of_text("éab"));
+    let mut count = 0u8;
+    for item in all {
+        same(rt, "parse_iter", "éab", item.is_ok(), true);
+        count = count.saturating_add(1);
+    }
+    same(rt, "parse_iter", "éab", count, 3);
 }
 
 /// The place is where the failing run left the input, and units of text are bytes.
@@ -147,13 +169,4 @@ pub(crate) fn parse_iter_with_state(rt: &impl Abort) {
     gives::<&str, u8, EmptyError, _>(rt, "", more, "", &[], End::Read);
     let more = counted.by_ref();
     gives::<&str, u8, EmptyError, _>(rt, "c", more, "c", &[3], End::Read);
-}
-
-/// On a stream that knows its place the start is where the input stood when it was handed over.
-pub(crate) fn parse_iter_behind_a_token(rt: &impl Abort) {
-    let mut input = LocatingSlice::new("xabc");
-    let _x = input.next_token();
-    let pair = token::take::<_, LocatingSlice<&str>, EmptyError>(2usize);
-    let end = End::Refused(2);
-    gives::<LocatingSlice<&str>, &str, EmptyError, _>(rt, "abc", pair, input, &["ab"], end);
 }

@@ -1,5 +1,6 @@
 use Rattle.std.proofs.Common.{◌≡◌, List, [], ◌∷◌, ◌++◌, MatchOption}
-use Rattle.winnow.specs.ParseIter.{IsReached, parse_iter_standing, parse_iter_state}
+use Rattle.winnow.specs.ParseIter.{IsReached, parse_iter_parser, parse_iter_standing}
+use Rattle.winnow.specs.ParseIter.{parse_iter_state}
 use Rattle.winnow.specs.ParseIter.Known.{HasRead}
 use Rattle.uses.proofs.items.last_of_all.Given as goal
 
@@ -10,7 +11,7 @@ invariant-loop-item g l = record {
       (g.I.Stream.view l.fn.input) outputs
       (parse_iter_state g.P.Parser.state g.I.Stream.view g.I.Stream.seen l.items)
       × MatchOption l.last (outputs ≡ []) (λ o. (before : List _) × (outputs ≡ before ++ o ∷ []));
-  callable : g.P.Parser.can_parse l.items.parser.now;
+  callable : g.P.Parser.can_parse (parse_iter_parser l.items);
   reached : IsReached g.I.Stream.reading
       (parse_iter_standing g.I.Stream.view g.I.Stream.seen l.items);
 }
