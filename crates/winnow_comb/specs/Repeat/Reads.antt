@@ -34,7 +34,7 @@ chain_reads {shown = shown} {P = P} reads (o ∷ os) s i u m is (p, item, rest) 
     )
 
 -- the list of the items behind those that it has, and what is left behind them
-items_read : {S T O A : Type 0} {run : Runs S T O} {known : S → Type 0} {shown : O → List T}
+pub items_read : {S T O A : Type 0} {run : Runs S T O} {known : S → Type 0} {shown : O → List T}
     {P : O → Type 0} (assert_kind : Kind) (least : ℕ) (greatest : Option ℕ) (before : Vec O A)
     (s : S) (i : Input T) (all : Vec O A) (t : S) (j : Input T) → Reads run known shown P
     → known s → ItemsRun run list_kept assert_kind (from_to least greatest) before s i (Ok all) t j
@@ -79,7 +79,7 @@ items_read assert_kind least greatest before s i all t j reads is (
     ok_is_err refl e
 
 -- whatever ended them, the state is known again
-items_again : {S T O C : Type 0} {run : Runs S T O} {known : S → Type 0} {shown : O → List T}
+pub items_again : {S T O C : Type 0} {run : Runs S T O} {known : S → Type 0} {shown : O → List T}
     {P : O → Type 0} (into : Accumulator C O) (assert_kind : Kind) (least : ℕ)
     (greatest : Option ℕ) (before : C) (s : S) (i : Input T) (answer : Answer C) (t : S)
     (j : Input T) → Reads run known shown P → known s
