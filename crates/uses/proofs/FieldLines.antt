@@ -21,7 +21,8 @@ use Rattle.winnow.specs.Separated.Reads.{separated_reads}
 use Rattle.winnow.specs.TakeWhile.Known.{Took, TakesOf, never_too_few, take_reads, tells_of}
 use Rattle.winnow.specs.TakeWhile.Known.{too_few_by, took_by, took_stops}
 use Rattle.winnow.specs.{Range}
-use Rattle.uses.specs.Csv.{IsFieldByte, IsLine, any_number, one_or_more}
+use Rattle.uses.specs.Csv.{IsFieldByte, IsLine}
+use Rattle.uses.specs.Ranges.{any_number, one_or_more}
 
 -- what the parsers of a field, of a comma and a field, and of a line mean, and the states in which
 -- `csv_line` makes them

@@ -1,20 +1,11 @@
 -- Lines of comma separated values, without quotes.
-use Rattle.std.specs.Prelude.{◌≡◌, ◌<◌, ℕ, List, [], ◌∷◌, ◌++◌, length, None}
+use Rattle.std.specs.Prelude.{◌≡◌, ◌<◌, ℕ, List, [], ◌∷◌, ◌++◌, length}
 use Rattle.std.specs.Borrow.{Bor}
 use Rattle.std.specs.List.{All, join_by}
-use Rattle.winnow.specs.{Range}
 
 -- A byte of a field: neither a comma nor a line feed.
 abbrev pub IsFieldByte : ℕ → Type 0
 IsFieldByte b = (b ≡ 44 → ⊥) × (b ≡ 10 → ⊥)
-
--- none or more
-abbrev pub any_number : Range
-any_number = record { start_inclusive = 0; end_inclusive = None }
-
--- one or more
-abbrev pub one_or_more : Range
-one_or_more = record { start_inclusive = 1; end_inclusive = None }
 
 -- The bytes are these fields, joined by commas, and then the rest: the line feed, or nothing.
 pub record IsLine (fields : List (Bor (List ℕ))) (bytes rest : List ℕ) : Type 0 where

@@ -4,7 +4,8 @@
 ghost use Rattle.std.specs.Prelude.{◌≡◌, ◌↔◌, IsTrue, IfErr, IfOk};
 ghost use Rattle.winnow.specs.Kind.{memory};
 ghost use Rattle.winnow.specs.TakeWhile.{take_while_occurrences};
-ghost use Rattle.uses.specs.Csv.{IsFieldByte, IsLine, any_number};
+ghost use Rattle.uses.specs.Csv.{IsFieldByte, IsLine};
+ghost use Rattle.uses.specs.Ranges.{any_number};
 
 use std::alloc::Allocator;
 use winnow::combinator::separated;

@@ -18,7 +18,7 @@ use Rattle.winnow_comb.specs.Repeat.{ItemsRun, RangedRuns, RepeatRuns}
 use Rattle.winnow_comb.specs.Repeat.Known.{Items}
 
 -- a chain of items shows what they show, in order
-chain_reads : {S T O : Type 0} {run : Runs S T O} {known : S → Type 0} {shown : O → List T}
+pub chain_reads : {S T O : Type 0} {run : Runs S T O} {known : S → Type 0} {shown : O → List T}
     {P : O → Type 0} → Reads run known shown P → (outputs : List O) (s : S) (i : Input T) (u : S)
     (m : Input T) → known s → Items run s i outputs u m
     → (i.left.tokens ≡ flat_map shown outputs ++ m.left.tokens) × All P outputs × known u
