@@ -10,8 +10,7 @@ use Rattle.winnow.specs.Counted.{counted_reading}
 use Rattle.winnow.specs.DecUint.Known.{dec_uint_err, dec_uint_ok}
 use Rattle.winnow.specs.DecUint.Reads.{NumbersOf, dec_uint_leaves, dec_uint_reads}
 use Rattle.winnow.specs.Fold.{FoldTakes, RangedFolds}
-use Rattle.winnow.specs.Fold.Known.{FoldedAll, FoldedTo, fold_any_err, fold_any_ok, fold_of_any}
-use Rattle.winnow.specs.Fold.Known.{folded_by, folds_by}
+use Rattle.winnow.specs.Fold.Known.{fold_any_err, fold_any_ok, fold_of_any, folded_by, folds_by}
 use Rattle.winnow.specs.Form.{answer_by, assert_kind, plain}
 use Rattle.winnow.specs.Form.Known.{ok_is_err}
 use Rattle.winnow.specs.InOrder.Known.{both_err, both_leaves}
@@ -63,9 +62,9 @@ lines_whole : (numbers : List ℕ) (s : ⊤ × ℕ) (i : Input ℕ) (u : ⊤ × 
 lines_whole numbers s i u m whole chain =
     chain_keeps LineMeans (λ s i _. i.status.cut ≡ false)
     (λ s i before n t j is ran consumes.
-        let (d, x, number, feed) = terminated_ok n ran in
-        token_whole (token_taken counted_reading plain s.1 (λ _. s.1) x d j feed.0)
-        (number_whole s.0 i n t.0 x is number)) numbers [] s i u m whole chain
+    let (d, x, number, feed) = terminated_ok n ran in
+    token_whole (token_taken counted_reading plain s.1 (λ _. s.1) x d j feed.0)
+    (number_whole s.0 i n t.0 x is number)) numbers [] s i u m whole chain
 
 -- a line that fails backtracks
 line_fails : (s : ⊤ × ℕ) (i : Input ℕ) (k : Kind) (t : ⊤ × ℕ) (j : Input ℕ)

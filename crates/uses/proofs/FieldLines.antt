@@ -10,7 +10,8 @@ use Rattle.winnow.specs.Counted.{counted_reading}
 use Rattle.winnow.specs.Form.{answer_by, assert_kind, modal}
 use Rattle.winnow.specs.Input.{Input}
 use Rattle.winnow.specs.Kind.{Kind, memory}
-use Rattle.winnow.specs.Literal.Known.{token_missing, token_taken, token_whole}
+use Rattle.winnow.specs.Literal.Known.{TokenMissing, TokenTaken, token_missing, token_taken}
+use Rattle.winnow.specs.Literal.Known.{token_whole}
 use Rattle.winnow.specs.Reads.Known.{TokenRuns, reads_less, token_reads}
 use Rattle.winnow.specs.Repeat.Known.{Items, RepeatedTo, chain_keeps}
 use Rattle.winnow.specs.Runs.{Runs}
@@ -18,7 +19,7 @@ use Rattle.winnow.specs.Separated.{LinkRuns, RangedElements}
 use Rattle.winnow.specs.Separated.Known.{SomeElements, link_backtracked, link_err, link_ok}
 use Rattle.winnow.specs.Separated.Known.{separated_any_err, separated_any_ok, separated_by}
 use Rattle.winnow.specs.Separated.Reads.{separated_reads}
-use Rattle.winnow.specs.TakeWhile.Known.{Took, TakesOf, never_too_few, take_reads, tells_of}
+use Rattle.winnow.specs.TakeWhile.Known.{TakesOf, never_too_few, take_reads, tells_of}
 use Rattle.winnow.specs.TakeWhile.Known.{too_few_by, took_by, took_stops}
 use Rattle.winnow.specs.{Range}
 use Rattle.uses.specs.Csv.{IsFieldByte, IsLine}
@@ -67,21 +68,30 @@ field_fails x i k y j is whole ran =
     never_too_few _ None i k j (too_few_by counted_reading modal _ x.0 0 None i k j is whole tt
     ran.0)
 
--- so it is behind links, where it is before them
+-- a comma is taken, or it is missing
+comma_taken : (b : ℕ) (i : Input ℕ) (d c : ℕ) (j : Input ℕ) → TokenRuns modal b i (Ok d) c j
+    → TokenTaken b i j
+comma_taken b i d c j ran = token_taken counted_reading modal b (λ _. b) i d j ran.0
+
+comma_missing : (b : ℕ) (i : Input ℕ) (k : Kind) (c : ℕ) (j : Input ℕ) → i.status.cut ≡ false
+    → TokenRuns modal b i (Err k) c j → TokenMissing b i k j
+comma_missing b i k c j whole ran =
+    token_missing counted_reading modal b (λ _. b) i k j whole ran.0
+
+-- behind links it is as behind a field
 links_read : {A : Type 0} (fields : List (Bor (List ℕ))) (s : (Range × A) × ℕ) (i : Input ℕ)
     (u : (Range × A) × ℕ) (m : Input ℕ) → IsReady s i × NoneOfField i
     → Items LinkMeans s i fields u m → IsReady u m × NoneOfField m
 links_read fields s i u m ready chain =
     chain_keeps LinkMeans (λ s i _. IsReady s i × NoneOfField i)
     (λ s i before field t j is ran consumes.
-        let (d, x, comma, shorter, read) =
-        link_ok FieldMeans (TokenRuns modal) (assert_kind modal) s i field t j ran in
-        let whole = token_whole (token_taken counted_reading modal s.1 (λ _. s.1) i d x comma.0)
-        is.0.2 in
-        let it = field_read s.0 x field t.0 j is.0.0 whole read in
-        ((it.0, comma.1 ∙ is.0.1, it.1), it.2)) fields [] s i u m ready chain
+    let (d, x, comma, shorter, read) =
+    link_ok FieldMeans (TokenRuns modal) (assert_kind modal) s i field t j ran in
+    let whole = token_whole (comma_taken s.1 i d t.1 x comma) is.0.2 in
+    let it = field_read s.0 x field t.0 j is.0.0 whole read in
+    ((it.0, comma.1 ∙ is.0.1, it.1), it.2)) fields [] s i u m ready chain
 
--- neither a byte of a field nor a comma is a line feed
+-- what is neither a comma nor a byte of a field is a line feed
 line_feed : (b : ℕ) → (b ≡ 44 → ⊥) → (IsFieldByte b → ⊥) → b ≡ 10
 line_feed b no_comma no_field = by (cases_order b 10)
   where
@@ -104,14 +114,12 @@ fields_end s i all t j ready told b more begins =
     elim (link_backtracked FieldMeans (TokenRuns modal) (assert_kind modal) told.state told.input t
     told.last (λ e. absurd (cc)) told.ended) [
       | inl (comma, same) ↦
-          let missing = token_missing counted_reading modal told.state.1 (λ _. told.state.1)
-          told.input _ told.last still.2 comma.0 in
+          let missing = comma_missing told.state.1 told.input _ t.1 told.last still.2 comma in
           line_feed b (λ e. missing.other more (left ∙ ap (λ x. x ∷ more) (e ∙ sym still.1)))
           (none b more left)
       | inr (d, x, comma, field) ↦
-          let whole = token_whole (token_taken counted_reading modal told.state.1
-          (λ _. told.state.1) told.input d x comma.0) still.2 in
-          field_fails told.state.0 x _ t.0 told.last still.0 whole field
+          let it = comma_taken told.state.1 told.input d t.1 x comma in
+          field_fails told.state.0 x _ t.0 told.last still.0 (token_whole it still.2) field
     ]
 
 -- what it answers is a line
@@ -131,12 +139,12 @@ line_read s i all t j made whole ran =
       ended = elim (separated_any_ok FieldMeans (TokenRuns modal) list_kept (assert_kind modal) 1
           (s.0, s.1) i all (t.0, t.1) j (separated_by FieldMeans (TokenRuns modal) list_kept
           (assert_kind modal) s.2 1 None (s.0, s.1) i (Ok all) (t.0, t.1) j made.2 ran.0)) [
-        | inl none ↦ field_fails s.0 i _ t.0 none.last made.0 whole none.ended
-        | inr told ↦ fields_end (s.0, s.1) i all (t.0, t.1) j (made.0, made.1, whole) told
-      ];
+            | inl none ↦ field_fails s.0 i _ t.0 none.last made.0 whole none.ended
+            | inr told ↦ fields_end (s.0, s.1) i all (t.0, t.1) j (made.0, made.1, whole) told
+          ];
     }
 
--- a link fails for want of memory alone
+-- a link behind others fails for want of memory alone
 links_fail : {A B : Type 0} (s : (Range × A) × ℕ) (i : Input ℕ) (k : Kind) (t : (Range × A) × ℕ)
     (j : Input ℕ) → IsReady s i × NoneOfField i
     → RepeatedTo LinkMeans (list_kept {A = B}) (assert_kind modal) s i k t j → k ≡ memory
@@ -147,28 +155,23 @@ links_fail s i k t j ready told =
           elim (link_err FieldMeans (TokenRuns modal) (assert_kind modal) told.state told.input k t
           j ran) [
             | inl comma ↦
-                let missing = token_missing counted_reading modal told.state.1
-                (λ _. told.state.1) told.input k j still.2 comma.0 in
-                absurd (other missing.kind)
+                absurd (other (comma_missing told.state.1 told.input k t.1 j still.2 comma).kind)
             | inr (inl (d, comma, same, e)) ↦
-                let it = token_taken counted_reading modal told.state.1 (λ _. told.state.1)
-                told.input d j comma.0 in
+                let it = comma_taken told.state.1 told.input d t.1 j comma in
                 absurd (omega (
                   arith,
                   ap (λ l. length l) it.splits,
                   ap (λ l. length l) same,
                 ))
             | inr (inr (d, x, comma, field)) ↦
-                let it = token_taken counted_reading modal told.state.1 (λ _. told.state.1)
-                told.input d x comma.0 in
+                let it = comma_taken told.state.1 told.input d t.1 x comma in
                 field_fails told.state.0 x k t.0 j still.0 (token_whole it still.2) field
           ]
       | inr (inl (field, ran, same, e)) ↦
           let (d, x, comma, shorter, read) =
           link_ok FieldMeans (TokenRuns modal) (assert_kind modal) told.state told.input field t j
           ran in
-          let it = token_taken counted_reading modal told.state.1 (λ _. told.state.1) told.input d
-          x comma.0 in
+          let it = comma_taken told.state.1 told.input d t.1 x comma in
           let all = field_read told.state.0 x field t.0 j still.0 (token_whole it still.2) read in
           absurd (omega (
             arith,

@@ -26,6 +26,9 @@ pub fn column_sum<'i, A: Allocator + Copy>(
     ensures { MatchResult result (λ total. IsColumn total input.old.now input.new.now) (λ _. ⊥) }
 {
     repeat(alloc, Range::from(0..), terminated(DecUint, b'\n'))
-        .fold(|| 0u64, |sum: u64, number: u32| sum.wrapping_add(number as u64))
+        .fold(
+            || 0u64,
+            |sum: u64, number: u32| sum.wrapping_add(number as u64),
+        )
         .parse_next(input)
 }

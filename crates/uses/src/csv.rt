@@ -2,6 +2,8 @@
 #![tactic(auto)]
 
 ghost use Rattle.std.specs.Prelude.{◌≡◌, ◌↔◌, IsTrue, IfErr, IfOk};
+ghost use Rattle.winnow.specs.Bytes.{bytes_input, bytes_reading};
+ghost use Rattle.winnow.specs.Input.{IsEndOf};
 ghost use Rattle.winnow.specs.Kind.{memory};
 ghost use Rattle.winnow.specs.TakeWhile.{take_while_occurrences};
 ghost use Rattle.uses.specs.Csv.{IsFieldByte, IsLine};
@@ -49,6 +51,7 @@ pub fn csv_line<'i, A: Allocator + Copy>(
     input: &mut &'i [u8],
 ) -> Result<Vec<&'i [u8], A>, ErrMode<EmptyError>>
     ensures line { IfOk result (λ fields. IsLine fields.items input.old.now input.new.now) }
+    ensures ends { IsEndOf bytes_reading (bytes_input input.new.now) (bytes_input input.old.now) }
     ensures fails { IfErr result (λ error. ⟦<ErrMode<EmptyError> as HasKind>⟧.kind error ≡ memory) }
 {
     separated(alloc, Range::from(1..), field(), b',').parse_next(input)

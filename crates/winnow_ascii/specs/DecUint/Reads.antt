@@ -1,11 +1,10 @@
 -- The parser of a decimal unsigned number as a part of what a composition reads, over bytes and
 -- text: what `{}` writes of its number.
-use Rattle.std.specs.Prelude.{◌≡◌, ◌<◌, ◌≤◌, ⊤, ℕ, List, [], ◌∷◌, ◌++◌, Ok, Err, ◌^◌}
+use Rattle.std.specs.Prelude.{◌≡◌, ◌<◌, ◌≤◌, ⊤, ℕ, List, ◌∷◌, ◌++◌, Ok, Err, ◌^◌}
 use Rattle.std.specs.Fmt.{decimal}
-use Rattle.std.proofs.Common.{ap, arith, inr, refl, sym, ◌∙◌}
+use Rattle.std.proofs.Common.{arith, inr, refl, sym, ◌∙◌}
 use Rattle.streams.specs.Equal.{same_rest}
 use Rattle.streams.specs.Input.{Input, Passes}
-use Rattle.streams.specs.Kind.{Kind}
 use Rattle.streams.specs.Reading.{Reading}
 use Rattle.stream_errors.specs.Form.{Answer, ErrorForm}
 use Rattle.stream_errors.specs.Form.Known.{ok_is_err}

@@ -214,8 +214,13 @@ fold_items_err folds run assert_kind s i k t j
       input = m;
       chain = both.0;
       folded = both.1;
-      failure = inr (inr (o, x, ran, at_kind (λ y. folds u.1.0 u.1.1 o (Err y) t.1) e refused,
-      back));
+      failure = inr (inr (
+        o,
+        x,
+        ran,
+        at_kind (λ y. folds u.1.0 u.1.1 o (Err y) t.1) e refused,
+        back,
+      ));
     }
 
 -- by a value that is made first

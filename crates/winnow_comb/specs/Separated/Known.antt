@@ -118,9 +118,9 @@ separated_any_ok {S} {W} {T} {O} {D} {C} run separator into assert_kind least s 
             ok_is_err refl e
 
 -- What makes any number of elements fail.
-abbrev pub ElementsFail : {S W T O D C : Type 0} → Runs S T O → Runs W T D → Accumulator C O → Kind
+abbrev pub SeparatedFailure : {S W T O D C : Type 0} → Runs S T O → Runs W T D → Accumulator C O → Kind
     → ℕ → S × W → Input T → Kind → S × W → Input T → Type 0
-ElementsFail {S} {W} {T} {O} {D} {C} run separator into assert_kind least s i k t j =
+SeparatedFailure {S} {W} {T} {O} {D} {C} run separator into assert_kind least s i k t j =
     -- the first element, which may backtrack where none is needed
     (run s.0 i (Err k) t.0 j × (k ≡ backtrack → 0 < least))
     -- there is no memory for it
@@ -135,7 +135,7 @@ pub separated_any_err : {S W T O D C : Type 0} (run : Runs S T O) (separator : R
     (into : Accumulator C O) (assert_kind : Kind) (least : ℕ) (s : S × W) (i : Input T) (k : Kind)
     (t : S × W) (j : Input T) → (into.start_grows None → ⊥) → least ≤ 1
     → SeparatedRuns run separator into assert_kind (from_to least None) s i (Err k) t j
-    → ElementsFail run separator into assert_kind least s i k t j
+    → SeparatedFailure run separator into assert_kind least s i k t j
 separated_any_err run separator into assert_kind least s i k t j free few
     (inl (most, is, below, e, a, b)) = none_is_some is
 separated_any_err run separator into assert_kind least s i k t j free few
@@ -163,7 +163,7 @@ separated_any_err {S} {W} {T} {O} {D} {C} run separator into assert_kind least s
 
     of_elements : ElementsRun run separator into assert_kind (from_to least None) empty s i
         (Err k) t j
-        → ElementsFail run separator into assert_kind least s i k t j
+        → SeparatedFailure run separator into assert_kind least s i k t j
     of_elements (inl (none, e, a, b)) = none_is_some none
     of_elements (inr (inl (x, below, needed, r, kept, e, back))) = ok_is_err e refl
     of_elements (inr (inr (inl (l, below, r, kept, early, e)))) =

@@ -1,7 +1,7 @@
 -- What elements with separators into a list read, where elements and separators read: what the
 -- elements show, in order, and between each two of them what the separator always takes.
 use Rattle.std.specs.Prelude.{◌≡◌, ◌≤◌, ◌-◌, ℕ, List, [], ◌∷◌, ◌++◌, length, Option, Some, None}
-use Rattle.std.specs.Prelude.{Ok, Err}
+use Rattle.std.specs.Prelude.{Ok}
 use Rattle.std.specs.List.{All, join_by}
 use Rattle.std.specs.declared.vec.Vec.{Vec}
 use Rattle.std.proofs.Common.{ap, append_assoc, arith, inl, inr, refl, subst, sym, ◌∙◌}
@@ -10,7 +10,7 @@ use Rattle.streams.specs.Input.{Input}
 use Rattle.streams.specs.Kind.{Kind}
 use Rattle.stream_errors.specs.Form.{Answer}
 use Rattle.stream_errors.specs.Form.Known.{ok_is_err, same_output}
-use Rattle.stream_sets.specs.Accumulator.{Accumulator, list_kept}
+use Rattle.stream_sets.specs.Accumulator.{list_kept}
 use Rattle.stream_sets.specs.Range.{IsWithin, from_to}
 use Rattle.stream_sets.specs.declared.range.Range.{Range}
 use Rattle.winnow_core.specs.Reads.{Reads}
