@@ -1,7 +1,7 @@
 -- The runs of the fold that adds up a column of numbers, in any input of bytes.
-use Rattle.std.proofs.Common.{◌≡◌, ◌∙◌, ◌<◌, ◌+◌, ◌%◌, ◌^◌, ap, arith, inl, inr, length, length-append}
+use Rattle.std.proofs.Common.{◌≡◌, ◌∙◌, ◌<◌, ◌+◌, ◌%◌, ◌^◌, ap, append_assoc, arith, inl, inr}
 use Rattle.std.proofs.Common.{ℕ, false, List, [], ◌∷◌, ◌++◌, None, Result, Ok, Err, MatchResult}
-use Rattle.std.proofs.Common.{append_assoc, refl, subst, sym}
+use Rattle.std.proofs.Common.{length, length-append, refl, subst, sym}
 use Rattle.std.proofs.Math.Nat.{mod-add-mod}
 use Rattle.std.specs.Bool.{⊤}
 use Rattle.std.specs.Fmt.{decimal}

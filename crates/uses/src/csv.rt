@@ -44,7 +44,7 @@ fn field<I: StreamIsPartial<Token = u8>, E: ParserError<I>>() -> TakeWhile<Field
 /// alone.
 ///
 /// ```text
-/// csv_line(alloc, &mut b"a,,b\nc".as_slice())   is Ok of "a", "" and "b", and b"\nc" is left
+/// csv_line(alloc, &mut b"a,,b\nc".as_slice())   is Ok of b"a", b"" and b"b", and b"\nc" is left
 /// ```
 pub fn csv_line<'i, A: Allocator + Copy>(
     alloc: A,

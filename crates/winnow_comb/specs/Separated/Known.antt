@@ -118,8 +118,8 @@ separated_any_ok {S} {W} {T} {O} {D} {C} run separator into assert_kind least s 
             ok_is_err refl e
 
 -- What makes any number of elements fail.
-abbrev pub SeparatedFailure : {S W T O D C : Type 0} → Runs S T O → Runs W T D → Accumulator C O → Kind
-    → ℕ → S × W → Input T → Kind → S × W → Input T → Type 0
+abbrev pub SeparatedFailure : {S W T O D C : Type 0} → Runs S T O → Runs W T D → Accumulator C O
+    → Kind → ℕ → S × W → Input T → Kind → S × W → Input T → Type 0
 SeparatedFailure {S} {W} {T} {O} {D} {C} run separator into assert_kind least s i k t j =
     -- the first element, which may backtrack where none is needed
     (run s.0 i (Err k) t.0 j × (k ≡ backtrack → 0 < least))
