@@ -1,1 +1,3 @@
+pub mod ColumnLines
+pub mod FieldLines
 pub mod RequestLines

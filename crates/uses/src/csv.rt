@@ -1,13 +1,17 @@
 //! A line of comma separated values, without quotes.
 #![tactic(auto)]
 
-ghost use Rattle.std.specs.Prelude.{◌≡◌, ◌↔◌, IsTrue, IfOk};
+ghost use Rattle.std.specs.Prelude.{◌≡◌, ◌↔◌, IsTrue, IfErr, IfOk};
+ghost use Rattle.winnow.specs.Bytes.{bytes_input, bytes_reading};
+ghost use Rattle.winnow.specs.Input.{IsEndOf};
+ghost use Rattle.winnow.specs.Kind.{memory};
 ghost use Rattle.winnow.specs.TakeWhile.{take_while_occurrences};
-ghost use Rattle.uses.specs.Csv.{AreOthers, IsFieldByte, IsLine, any_number};
+ghost use Rattle.uses.specs.Csv.{IsFieldByte, IsLine};
+ghost use Rattle.uses.specs.Ranges.{any_number};
 
 use std::alloc::Allocator;
-use winnow::combinator::{preceded, repeat};
-use winnow::error::{EmptyError, ErrMode};
+use winnow::combinator::separated;
+use winnow::error::{EmptyError, ErrMode, HasKind};
 use winnow::prelude::*;
 use winnow::stream::{ContainsToken, Range};
 use winnow::token::impls::TakeWhile;
@@ -33,25 +37,22 @@ fn field<I: StreamIsPartial<Token = u8>, E: ParserError<I>>() -> TakeWhile<Field
     take_while(Range::from(0..), FieldBytes)
 }
 
-/// The fields of a line behind the first, each behind a comma.
-fn others<'i, A: Allocator + Copy>(
-    alloc: A,
-    input: &mut &'i [u8],
-) -> Result<Vec<&'i [u8], A>, ErrMode<EmptyError>>
-    ensures { IfOk result (λ fields. AreOthers fields.items input.old.now input.new.now) }
-{
-    repeat(alloc, Range::from(0..), preceded(b',', field())).parse_next(input)
-}
-
-/// The first field of a line, and the others.
+/// The fields of a line, one or more, with a comma between each two. A field may be empty, so the
+/// empty line has one.
+///
+/// It reads to the end of the line: a line feed is left, or nothing. It fails for want of memory
+/// alone.
+///
+/// ```text
+/// csv_line(alloc, &mut b"a,,b\nc".as_slice())   is Ok of b"a", b"" and b"b", and b"\nc" is left
+/// ```
 pub fn csv_line<'i, A: Allocator + Copy>(
     alloc: A,
     input: &mut &'i [u8],
-) -> Result<(&'i [u8], Vec<&'i [u8], A>), ErrMode<EmptyError>>
-    ensures { IfOk result (λ fields.
-        IsLine fields.0 fields.1.items input.old.now input.new.now) }
+) -> Result<Vec<&'i [u8], A>, ErrMode<EmptyError>>
+    ensures line { IfOk result (λ fields. IsLine fields.items input.old.now input.new.now) }
+    ensures ends { IsEndOf bytes_reading (bytes_input input.new.now) (bytes_input input.old.now) }
+    ensures fails { IfErr result (λ error. ⟦<ErrMode<EmptyError> as HasKind>⟧.kind error ≡ memory) }
 {
-    let first = field().parse_next(input)?;
-    let others = others(alloc, input)?;
-    Ok((first, others))
+    separated(alloc, Range::from(1..), field(), b',').parse_next(input)
 }

@@ -2,6 +2,7 @@
 #![tactic(auto)]
 
 pub mod choices;
+pub mod columns;
 pub mod complete_streams;
 pub mod csv;
 pub mod functions;

@@ -11,6 +11,7 @@ use Rattle.winnow_repeat.specs.Repeat.{ItemsRun, capacity_of}
 use Rattle.winnow_separated.specs.declared.combinator.impls.separated.Separated.{Separated}
 pub mod Known
 pub mod Laws
+pub mod Reads
 
 -- how many elements are read
 abbrev pub separated_occurrences : {P S I O D C E A : Type 0} → Separated P S I O D C E A → Range

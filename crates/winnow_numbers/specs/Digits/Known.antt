@@ -37,6 +37,11 @@ same_characters (t ∷ ts) [] chars = absurd chars
 same_characters (t ∷ ts) (c ∷ cs) ((x, is, e), chars) =
     ap (λ y. y ∷ ts) (sym is ∙ e) ∙ ap (λ l. c ∷ l) (same_characters ts cs chars)
 
+-- and tokens are the characters of themselves
+pub own_characters : (tokens : List ℕ) → AreCharacters (λ x. x) (λ x. x) tokens tokens
+own_characters [] = tt
+own_characters (t ∷ ts) = ((t, refl, refl), own_characters ts)
+
 module _ {K T : Type 0} (seen : K → T) (code : K → ℕ) where
   -- characters, and then more
   pub characters_two : (xs ys : List T) (cs ds : List ℕ) → AreCharacters seen code xs cs

@@ -1,15 +1,16 @@
 -- What a caller knows of one fold that answered: its items, in a chain, the value that they are
 -- folded into, and what ended them.
-use Rattle.std.specs.Prelude.{◌≡◌, ◌<◌, List, [], ◌∷◌, length, None, Ok, Err}
+use Rattle.std.specs.Prelude.{◌≡◌, ◌<◌, ℕ, List, [], ◌∷◌, length, Option, None, Ok, Err, ◌⊎◌}
 use Rattle.std.specs.List.{FoldsTo, fold}
 use Rattle.std.proofs.Common.{refl, sym, ap, ◌∙◌, subst, inl, inr, arith}
 use Rattle.streams.specs.Equal.{none_is_some}
 use Rattle.streams.specs.Input.{Input, back_at}
 use Rattle.streams.specs.Kind.{Kind, backtrack}
 use Rattle.stream_errors.specs.Form.{Answer}
-use Rattle.stream_errors.specs.Form.Known.{at_kind, at_output, ok_is_err}
+use Rattle.stream_errors.specs.Form.Known.{at_kind, at_output, ok_is_err, same_kind}
 use Rattle.stream_sets.specs.Accumulator.{nothing_kept}
-use Rattle.stream_sets.specs.Range.{from_to}
+use Rattle.stream_sets.specs.Range.{bounds_of, from_to, greatest_of}
+use Rattle.stream_sets.specs.declared.range.Range.{Range}
 use Rattle.winnow_core.specs.Runs.{Runs}
 use Rattle.winnow_repeat.specs.Fold.{FoldItemsRun, FoldManyRuns, FoldRuns, FoldTakes, FoldedRuns}
 use Rattle.winnow_repeat.specs.Repeat.{RepeatEnds}
@@ -140,6 +141,117 @@ fold_any_ok starts folds run assert_kind s i value t j (inr (empty, within, bega
   fold_items_ok folds run assert_kind (s.0, (s.1.1, empty)) i value (t.0, t.1.1) j items,
 )
 
+-- What makes a fold of any number fail behind some items.
+abbrev pub FoldFailure : {S Q R T O : Type 0} → (Q → R → O → Answer R → Q → Type 0) → Runs S T O
+    → Kind → S × (Q × R) → Input T → Kind → S × Q → Input T → Type 0
+FoldFailure {S} {Q} {R} {T} {O} folds run assert_kind u m k t j =
+    -- an item that fails, and does not backtrack
+    (run u.0 m (Err k) t.0 j × (k ≡ backtrack → ⊥))
+    -- one that consumes nothing
+    ⊎ (((o : O) × run u.0 m (Ok o) t.0 j × (j.left.tokens ≡ m.left.tokens) × (k ≡ assert_kind))
+    -- one that is refused: back before it
+    ⊎ ((o : O) × (x : Input T) × run u.0 m (Ok o) t.0 x × folds u.1.0 u.1.1 o (Err k) t.1
+    × (j ≡ back_at m.left x)))
+
+-- An error of a fold of any number of items: those before it, and what made it fail.
+pub record FoldedTo {S Q R T O : Type 0} (folds : Q → R → O → Answer R → Q → Type 0)
+    (run : Runs S T O) (assert_kind : Kind) (s : S × (Q × R)) (i : Input T) (k : Kind)
+    (t : S × Q) (j : Input T) : Type 0 where
+  pub outputs : List O
+  pub state : S × (Q × R)
+  pub input : Input T
+  pub chain : Items run s.0 i outputs state.0 input
+  pub folded : Folds folds s.1.0 s.1.1 outputs state.1.0 state.1.1
+  pub failure : FoldFailure folds run assert_kind state input k t j
+
+fold_items_err : {S Q R T O : Type 0} (folds : Q → R → O → Answer R → Q → Type 0)
+    (run : Runs S T O) (assert_kind : Kind) (s : S × (Q × R)) (i : Input T) (k : Kind)
+    (t : S × Q) (j : Input T)
+    → FoldItemsRun folds run assert_kind (from_to 0 None) s i (Err k) t j
+    → FoldedTo folds run assert_kind s i k t j
+fold_items_err folds run assert_kind s i k t j (inl (value, items, e)) = ok_is_err e refl
+fold_items_err {S} {Q} {R} {T} {O} folds run assert_kind s i k t j
+    (inr (inl (l, value, (outputs, u, m, chain, ends), e))) =
+    let both = folded_items folds run outputs s i u m chain.runs in
+    record {
+      outputs = outputs;
+      state = u;
+      input = m;
+      chain = both.0;
+      folded = both.1;
+      failure = at_kind (λ x. FoldFailure folds run assert_kind u m x t j) e (of_end ends);
+    }
+  where
+    failed : (h : Kind) → FoldedRuns folds run u m (Err h) (t.0, (t.1, value)) j
+        → run u.0 m (Err h) t.0 j
+    failed h (inl (x, r, same, f)) = at_kind (λ y. run u.0 m (Err y) t.0 j) f r
+    failed h (inr (inl (o, r, nothing, same, f))) = ok_is_err f refl
+    failed h (inr (inr (o, r, fewer, taken, f))) = ok_is_err f refl
+
+    stayed : (o : O) → FoldedRuns folds run u m (Ok o) (t.0, (t.1, value)) j
+        → run u.0 m (Ok o) t.0 j
+    stayed o (inl (x, r, same, f)) = ok_is_err refl f
+    stayed o (inr (inl (p, r, nothing, same, f))) = at_output (λ y. run u.0 m (Ok y) t.0 j) f r
+    stayed o (inr (inr (p, r, fewer, taken, f))) = at_output (λ y. run u.0 m (Ok y) t.0 j) f r
+
+    of_end : RepeatEnds (FoldedRuns folds run) nothing_kept assert_kind (from_to 0 None) tt outputs
+        u m (Err l) (t.0, (t.1, value)) j
+        → FoldFailure folds run assert_kind u m l t j
+    of_end (inl (c, full, taken, f, a, b)) = none_is_some full
+    of_end (inr (inl (c, x, below, enough, ran, taken, f, back))) = ok_is_err f refl
+    of_end (inr (inr (inl (h, c, below, ran, few, taken, f)))) =
+        inl (at_kind (λ x. run u.0 m (Err x) t.0 j × (x ≡ backtrack → ⊥)) f
+        (failed h ran, λ is. omega (arith, few is)))
+    of_end (inr (inr (inr (inl (o, c, below, ran, nothing, taken, f))))) =
+        inr (inl (o, stayed o ran, nothing, same_kind f))
+    of_end (inr (inr (inr (inr (o, c, below, ran, fewer, taken, grows, f))))) = absurd grows
+fold_items_err folds run assert_kind s i k t j
+    (inr (inr (outputs, u, m, o, l, x, chain, below, ran, fewer, refused, e, back))) =
+    let both = folded_items folds run outputs s i u m chain.runs in
+    record {
+      outputs = outputs;
+      state = u;
+      input = m;
+      chain = both.0;
+      folded = both.1;
+      failure = inr (inr (
+        o,
+        x,
+        ran,
+        at_kind (λ y. folds u.1.0 u.1.1 o (Err y) t.1) e refused,
+        back,
+      ));
+    }
+
+-- by a value that is made first
+pub fold_any_err : {S G Q R T O : Type 0} (starts : G → R → G → Type 0)
+    (folds : Q → R → O → Answer R → Q → Type 0) (run : Runs S T O) (assert_kind : Kind)
+    (s : S × (G × Q)) (i : Input T) (k : Kind) (t : S × (G × Q)) (j : Input T)
+    → FoldManyRuns starts folds run assert_kind (from_to 0 None) s i (Err k) t j
+    → (empty : R) × starts s.1.0 empty t.1.0
+    × FoldedTo folds run assert_kind (s.0, (s.1.1, empty)) i k (t.0, t.1.1) j
+fold_any_err starts folds run assert_kind s i k t j (inl (most, is, below, e, kept, same)) =
+    none_is_some is
+fold_any_err starts folds run assert_kind s i k t j (inr (empty, within, began, items)) = (
+  empty,
+  began.made,
+  fold_items_err folds run assert_kind (s.0, (s.1.1, empty)) i k (t.0, t.1.1) j items,
+)
+
+-- the runs of a fold by a range that is known
+pub folded_by : {S G Q R T O : Type 0} (starts : G → R → G → Type 0)
+    (folds : Q → R → O → Answer R → Q → Type 0) (run : Runs S T O) (assert_kind : Kind)
+    (range : Range) (least : ℕ) (last : Option ℕ) (s : S × (G × Q)) (i : Input T)
+    (answer : Answer R) (t : S × (G × Q)) (j : Input T)
+    → range ≡ record { start_inclusive = least; end_inclusive = last }
+    → FoldRuns starts folds run assert_kind (bounds_of range) s i answer t j
+    → FoldRuns starts folds run assert_kind (from_to least (greatest_of least last)) s i answer t
+    j
+folded_by starts folds run assert_kind range least last s i answer t j e ran =
+    let P : Range → Type 0 =
+    λ r. FoldRuns starts folds run assert_kind (bounds_of r) s i answer t j in
+    subst P e ran
+
 -- ---- one item or more, in a fold that refuses none
 
 -- The first output is folded into the value that is made behind it, and those behind it as those of
@@ -169,4 +281,12 @@ fold_some_ok starts folds run assert_kind s i value t j
 fold_some_ok starts folds run assert_kind s i value t j (inr (other, r)) =
     absurd (other (refl, refl))
 
-pub ruleset known_folds = (fold_items_ok, fold_of_any, fold_any_ok, fold_some_ok, folded_items)
+pub ruleset known_folds = (
+  fold_items_ok,
+  fold_of_any,
+  fold_any_ok,
+  fold_any_err,
+  folded_by,
+  fold_some_ok,
+  folded_items,
+)

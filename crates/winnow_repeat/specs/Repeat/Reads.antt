@@ -18,7 +18,7 @@ use Rattle.winnow_repeat.specs.Repeat.{ItemsRun, RangedRuns, RepeatRuns}
 use Rattle.winnow_repeat.specs.Repeat.Known.{Items}
 
 -- a chain of items shows what they show, in order
-chain_reads : {S T O : Type 0} {run : Runs S T O} {known : S → Type 0} {shown : O → List T}
+pub chain_reads : {S T O : Type 0} {run : Runs S T O} {known : S → Type 0} {shown : O → List T}
     {P : O → Type 0} → Reads run known shown P → (outputs : List O) (s : S) (i : Input T) (u : S)
     (m : Input T) → known s → Items run s i outputs u m
     → (i.left.tokens ≡ flat_map shown outputs ++ m.left.tokens) × All P outputs × known u
@@ -34,7 +34,7 @@ chain_reads {shown = shown} {P = P} reads (o ∷ os) s i u m is (p, item, rest) 
     )
 
 -- the list of the items behind those that it has, and what is left behind them
-items_read : {S T O A : Type 0} {run : Runs S T O} {known : S → Type 0} {shown : O → List T}
+pub items_read : {S T O A : Type 0} {run : Runs S T O} {known : S → Type 0} {shown : O → List T}
     {P : O → Type 0} (assert_kind : Kind) (least : ℕ) (greatest : Option ℕ) (before : Vec O A)
     (s : S) (i : Input T) (all : Vec O A) (t : S) (j : Input T) → Reads run known shown P
     → known s → ItemsRun run list_kept assert_kind (from_to least greatest) before s i (Ok all) t j
@@ -79,7 +79,7 @@ items_read assert_kind least greatest before s i all t j reads is (
     ok_is_err refl e
 
 -- whatever ended them, the state is known again
-items_again : {S T O C : Type 0} {run : Runs S T O} {known : S → Type 0} {shown : O → List T}
+pub items_again : {S T O C : Type 0} {run : Runs S T O} {known : S → Type 0} {shown : O → List T}
     {P : O → Type 0} (into : Accumulator C O) (assert_kind : Kind) (least : ℕ)
     (greatest : Option ℕ) (before : C) (s : S) (i : Input T) (answer : Answer C) (t : S)
     (j : Input T) → Reads run known shown P → known s

@@ -1,17 +1,19 @@
 -- What a caller knows of one run of elements with separators that answered: the first element, the
 -- links behind it in a chain, and what ended them.
-use Rattle.std.specs.Prelude.{◌≡◌, ◌-◌, ℕ, List, None, Ok, Err, ◌⊎◌}
+use Rattle.std.specs.Prelude.{◌≡◌, ◌<◌, ◌≤◌, ◌-◌, ℕ, List, length, Option, None, Ok, Err, ◌⊎◌}
 use Rattle.std.specs.List.{FoldsTo}
-use Rattle.std.proofs.Common.{refl, sym, inl, inr}
+use Rattle.std.proofs.Common.{refl, sym, subst, inl, inr, arith}
 use Rattle.streams.specs.Equal.{none_is_some}
 use Rattle.streams.specs.Input.{Input, back_at}
-use Rattle.streams.specs.Kind.{Kind, backtrack}
+use Rattle.streams.specs.Kind.{Kind, backtrack, memory}
+use Rattle.stream_errors.specs.Form.{Answer}
 use Rattle.stream_errors.specs.Form.Known.{at_kind, at_output, ok_is_err, same_kind}
 use Rattle.stream_sets.specs.Accumulator.{Accumulator}
-use Rattle.stream_sets.specs.Range.{from_to}
+use Rattle.stream_sets.specs.Range.{bounds_of, from_to, greatest_of}
+use Rattle.stream_sets.specs.declared.range.Range.{Range}
 use Rattle.winnow_core.specs.Runs.{Runs}
 use Rattle.winnow_repeat.specs.Repeat.{RepeatEnds}
-use Rattle.winnow_repeat.specs.Repeat.Known.{Items}
+use Rattle.winnow_repeat.specs.Repeat.Known.{Items, RepeatFailure, RepeatedTo}
 use Rattle.winnow_separated.specs.Separated.{ElementsRun, LinkRuns, SeparatedRuns}
 
 -- No element: the first backtracked, and the input is back before it.
@@ -115,6 +117,109 @@ separated_any_ok {S} {W} {T} {O} {D} {C} run separator into assert_kind least s 
         of_end (inr (inr (inr (inr (d, some, room, ran, consumes, taken, grows, e))))) =
             ok_is_err refl e
 
+-- What makes any number of elements fail.
+abbrev pub SeparatedFailure : {S W T O D C : Type 0} → Runs S T O → Runs W T D → Accumulator C O
+    → Kind → ℕ → S × W → Input T → Kind → S × W → Input T → Type 0
+SeparatedFailure {S} {W} {T} {O} {D} {C} run separator into assert_kind least s i k t j =
+    -- the first element, which may backtrack where none is needed
+    (run s.0 i (Err k) t.0 j × (k ≡ backtrack → 0 < least))
+    -- there is no memory for it
+    ⊎ (((o : O) × (empty : C) × run s.0 i (Ok o) t.0 j × into.grows empty o × (k ≡ memory))
+    -- behind it, a link
+    ⊎ ((o : O) × (v : S) × (n : Input T) × run s.0 i (Ok o) v n
+    × RepeatedTo (LinkRuns run separator assert_kind) into assert_kind (v, s.1) n k t j))
+
+-- an error of any number of elements, or of one and more, where the accumulator is made without
+-- memory
+pub separated_any_err : {S W T O D C : Type 0} (run : Runs S T O) (separator : Runs W T D)
+    (into : Accumulator C O) (assert_kind : Kind) (least : ℕ) (s : S × W) (i : Input T) (k : Kind)
+    (t : S × W) (j : Input T) → (into.start_grows None → ⊥) → least ≤ 1
+    → SeparatedRuns run separator into assert_kind (from_to least None) s i (Err k) t j
+    → SeparatedFailure run separator into assert_kind least s i k t j
+separated_any_err run separator into assert_kind least s i k t j free few
+    (inl (most, is, below, e, a, b)) = none_is_some is
+separated_any_err run separator into assert_kind least s i k t j free few
+    (inr (inl (within, grows, e, a, b))) = absurd (free grows)
+separated_any_err {S} {W} {T} {O} {D} {C} run separator into assert_kind least s i k t j free few
+    (inr (inr (empty, within, starts, elements))) = of_elements elements
+  where
+    link : Runs (S × W) T O
+    link = LinkRuns run separator assert_kind
+
+    of_end : (one : C) (outputs : List O) (u : S × W) (m : Input T)
+        → RepeatEnds link into assert_kind (from_to (least - 1) None) one outputs u m (Err k) t j
+        → RepeatFailure link into assert_kind u m k t j
+    of_end one outputs u m (inl (c, full, taken, e, a, b)) = none_is_some full
+    of_end one outputs u m (inr (inl (c, last, room, enough, ran, taken, e, back))) =
+        ok_is_err e refl
+    of_end one outputs u m (inr (inr (inl (l, some, room, ran, early, taken, e)))) =
+        inl (at_kind (λ x. link u m (Err x) t j × (x ≡ backtrack → ⊥)) e
+        (ran, λ is. omega (arith, early is, few)))
+    of_end one outputs u m (inr (inr (inr (inl (o, some, room, ran, same, taken, e))))) =
+        inr (inl (o, ran, same, same_kind e))
+    of_end one outputs u m
+        (inr (inr (inr (inr (o, some, room, ran, consumes, taken, grows, e))))) =
+        inr (inr (o, some, ran, grows, same_kind e))
+
+    of_elements : ElementsRun run separator into assert_kind (from_to least None) empty s i
+        (Err k) t j
+        → SeparatedFailure run separator into assert_kind least s i k t j
+    of_elements (inl (none, e, a, b)) = none_is_some none
+    of_elements (inr (inl (x, below, needed, r, kept, e, back))) = ok_is_err e refl
+    of_elements (inr (inr (inl (l, below, r, kept, early, e)))) =
+        inl (at_kind (λ x. run s.0 i (Err x) t.0 j × (x ≡ backtrack → 0 < least)) e (r, early))
+    of_elements (inr (inr (inr (inl (o, below, r, kept, grows, e))))) =
+        inr (inl (o, empty, r, grows, same_kind e))
+    of_elements (inr (inr (inr (inr (
+      o,
+      v,
+      n,
+      one,
+      below,
+      r,
+      takes,
+      (outputs, u, m, chain, ends),
+    ))))) = inr (inr (
+      o,
+      v,
+      n,
+      r,
+      record {
+        outputs = outputs;
+        state = u;
+        input = m;
+        chain = chain.runs;
+        failure = of_end one outputs u m ends;
+      },
+    ))
+
+-- a link that succeeded: its separator did, and consumed, and then the element behind it
+pub link_ok : {S W T O D : Type 0} (run : Runs S T O) (separator : Runs W T D)
+    (assert_kind : Kind) (s : S × W) (i : Input T) (o : O) (t : S × W) (j : Input T)
+    → LinkRuns run separator assert_kind s i (Ok o) t j
+    → (d : D) × (m : Input T) × separator s.1 i (Ok d) t.1 m
+    × (length m.left.tokens < length i.left.tokens) × run s.0 m (Ok o) t.0 j
+link_ok run separator assert_kind s i o t j (inl (k, r, same, e)) = ok_is_err refl e
+link_ok run separator assert_kind s i o t j (inr (inl (d, r, nothing, same, e))) =
+    ok_is_err refl e
+link_ok run separator assert_kind s i o t j (inr (inr (d, m, r, consumes, q))) =
+    (d, m, r, consumes, q)
+
+-- a link that failed: its separator did, or consumed nothing, or the element behind it failed
+pub link_err : {S W T O D : Type 0} (run : Runs S T O) (separator : Runs W T D)
+    (assert_kind : Kind) (s : S × W) (i : Input T) (k : Kind) (t : S × W) (j : Input T)
+    → LinkRuns run separator assert_kind s i (Err k) t j
+    → separator s.1 i (Err k) t.1 j
+    ⊎ (((d : D) × separator s.1 i (Ok d) t.1 j × (j.left.tokens ≡ i.left.tokens)
+    × (k ≡ assert_kind))
+    ⊎ ((d : D) × (m : Input T) × separator s.1 i (Ok d) t.1 m × run s.0 m (Err k) t.0 j))
+link_err run separator assert_kind s i k t j (inl (l, r, same, e)) =
+    inl (at_kind (λ x. separator s.1 i (Err x) t.1 j) e r)
+link_err run separator assert_kind s i k t j (inr (inl (d, r, nothing, same, e))) =
+    inr (inl (d, r, nothing, same_kind e))
+link_err run separator assert_kind s i k t j (inr (inr (d, m, r, consumes, q))) =
+    inr (inr (d, m, r, q))
+
 -- a link that backtracked: its separator did, or the element behind it
 pub link_backtracked : {S W T O D : Type 0} (run : Runs S T O) (separator : Runs W T D)
     (assert_kind : Kind) (s : S × W) (i : Input T) (t : S × W) (j : Input T)
@@ -130,4 +235,24 @@ link_backtracked run separator assert_kind s i t j other (inr (inl (d, r, nothin
 link_backtracked run separator assert_kind s i t j other (inr (inr (d, m, r, consumes, q))) =
     inr (d, m, r, q)
 
-pub ruleset known_elements = (separated_any_ok, link_backtracked)
+-- the runs of elements by a range that is known
+pub separated_by : {S W T O D C : Type 0} (run : Runs S T O) (separator : Runs W T D)
+    (into : Accumulator C O) (assert_kind : Kind) (range : Range) (least : ℕ) (last : Option ℕ)
+    (s : S × W) (i : Input T) (answer : Answer C) (t : S × W) (j : Input T)
+    → range ≡ record { start_inclusive = least; end_inclusive = last }
+    → SeparatedRuns run separator into assert_kind (bounds_of range) s i answer t j
+    → SeparatedRuns run separator into assert_kind (from_to least (greatest_of least last)) s i
+    answer t j
+separated_by run separator into assert_kind range least last s i answer t j e ran =
+    let P : Range → Type 0 =
+    λ r. SeparatedRuns run separator into assert_kind (bounds_of r) s i answer t j in
+    subst P e ran
+
+pub ruleset known_elements = (
+  separated_any_ok,
+  separated_any_err,
+  separated_by,
+  link_ok,
+  link_err,
+  link_backtracked,
+)

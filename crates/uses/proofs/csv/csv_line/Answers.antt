@@ -1,16 +1,13 @@
-use Rattle.winnow.specs.Form.{modal}
-use Rattle.winnow.specs.Splits.{splits_on}
-use Rattle.winnow.specs.TakeWhile.Known.{take_reads}
-use Rattle.uses.specs.Csv.{IsFieldByte, any_number}
+use Rattle.std.proofs.Common.{rules, refl}
+use Rattle.uses.proofs.FieldLines.{line_told}
 use Rattle.uses.proofs.csv.csv_line.Goals as goal
 
-pub returns : goal.returns
-returns g c =
-    let reads = take_reads modal IsFieldByte any_number in
-    let (splits, first) = reads.reads _ _ _ _ _ c.field.ensures c.in_ok-first.ensures.ran in
-    let others = c.in_ok-others.ensures in
-    record {
-      splits = splits_on _ _ _ _ splits others.splits;
-      is_first = first.0;
-      are_others = others.are;
-    }
+pub returns-clause-line : goal.returns-clause-line
+returns-clause-line g c =
+    (line_told _ c.parse_next.result _ _ _ _ (search rules, search rules, search rules) refl
+    c.parse_next.ensures.ran).0
+
+pub returns-clause-fails : goal.returns-clause-fails
+returns-clause-fails g c =
+    (line_told _ c.parse_next.result _ _ _ _ (search rules, search rules, search rules) refl
+    c.parse_next.ensures.ran).1

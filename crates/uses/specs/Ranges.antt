@@ -1,0 +1,11 @@
+-- How many times parsers are run.
+use Rattle.std.specs.Prelude.{None}
+use Rattle.winnow.specs.{Range}
+
+-- none or more
+abbrev pub any_number : Range
+any_number = record { start_inclusive = 0; end_inclusive = None }
+
+-- one or more
+abbrev pub one_or_more : Range
+one_or_more = record { start_inclusive = 1; end_inclusive = None }
