@@ -40,7 +40,7 @@ pub use Rattle.stream_sets.specs.Accumulator
 pub use Rattle.stream_sets.specs.declared.range.Range.{Range}
 pub use Rattle.stream_searches.specs.declared.compare.CompareResult.{CompareResult}
 pub use Rattle.stream_searches.specs.declared.compare.CompareResult.TheVariants as
-      CompareResultCases
+    CompareResultCases
 -- Errors: their kinds and forms.
 pub use Rattle.stream_errors.specs.Form
 pub use Rattle.stream_errors.specs.Mode
