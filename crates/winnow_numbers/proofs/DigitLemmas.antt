@@ -55,23 +55,24 @@ module _ {K T S : Type 0} (seen : K → T) (code : K → ℕ) (reading : Reading
         value = ap (λ r. r - 48) e ∙ sym (digit_is (code x) is) ∙ omega arith;
       }
 
-  pub begun_more : (i j k : Input T) (n : ℕ) (x : K) (c : ℕ) → Begun seen code reading i j n
-      → c ≡ code x → IsDecDigit (code x) → Passes reading (seen x ∷ []) j k
-      → Begun seen code reading i k (n * 10 + (c - 48))
-  begun_more i j k n x c begun e is p =
+  pub begun_more : (i j k : Input T) (n : ℕ) (x : K) (c d : ℕ)
+      → Begun seen code reading i j n → c ≡ code x → IsDecDigit c → d ≡ c - 48
+      → Passes reading (seen x ∷ []) j k → Begun seen code reading i k (n * 10 + d)
+  begun_more i j k n x c d begun e is value p =
       let all = begun.first ∷ begun.others in
+      let member : IsDecDigit (code x) = subst IsDecDigit e is in
       record {
         front = begun.front ++ seen x ∷ [];
         first = begun.first;
         others = begun.others ++ code x ∷ [];
         leads = begun.leads;
-        are = all_more begun.others (code x) begun.are is;
+        are = all_more begun.others (code x) begun.are member;
         passes = passes_two begun.passes p;
         characters = characters_two seen code begun.front (seen x ∷ []) all (code x ∷ [])
             begun.characters ((x, refl, refl), tt);
-        value = ap (λ r. n * 10 + (r - 48)) e
-            ∙ ap (λ v. v * 10 + (code x - 48)) begun.value
-            ∙ ap (λ v. digits_value 10 all * 10 + v) (sym (digit_is (code x) is))
+        value = ap (λ v. v * 10 + d) begun.value
+            ∙ ap (λ v. digits_value 10 all * 10 + v) (value ∙ ap (λ r. r - 48) e
+            ∙ sym (digit_is (code x) member))
             ∙ sym (after_more 0 all (code x));
       }
 

@@ -1,5 +1,6 @@
 //! The numbers of short numerals, in one pass over their tokens.
-ghost use Rattle.std.specs.Prelude.{◌≡◌, IfSome, ℕ, List, true};
+ghost use Rattle.std.specs.Prelude.{◌≡◌, ◌≤◌, ◌-◌, IfSome, ℕ, List, true};
+ghost use Rattle.stream_sets.specs.AsChar.{IsDecDigit};
 ghost use Rattle.streams.specs.Input.{IsEndOf};
 ghost use Rattle.winnow_numbers.specs.Digits.{value_in};
 ghost use Rattle.winnow_numbers.specs.Numeral.{DigitsRuns};
@@ -31,17 +32,27 @@ where
     loop {
         let behind = input.checkpoint();
         let digit = match input.next_token() {
-            Some(token) => token.as_char(),
+            Some(token) => digit_of(token.as_char()),
             None if input.is_partial() => return None,
             None => return Some(number),
         };
-        if digit < '0' || digit > '9' {
+        if digit > 9 {
             input.reset(&behind);
             return Some(number);
         }
         if number > MOST {
             return None;
         }
-        number = number * 10 + (digit as u64 - '0' as u64);
+        number = number * 10 + u64::from(digit);
     }
+}
+
+/// The value of a decimal digit, and a number above 9 for another character. One comparison tells
+/// which, and the value is at hand.
+#[inline(always)]
+fn digit_of(character: char) -> u32
+    ensures value { IsDecDigit character → result ≡ character - 48 }
+    ensures digit { result ≤ 9 → IsDecDigit character }
+{
+    (character as u32).wrapping_sub('0' as u32)
 }

@@ -1,12 +1,7 @@
 use Rattle.std.proofs.Common.{arith, inl, refl, sym, ◌∙◌}
-use Rattle.stream_sets.specs.AsChar.{IsDecDigit}
 use Rattle.winnow_numbers.proofs.DigitLemmas.{begun_ended, begun_more, begun_one, begun_stopped}
 use Rattle.winnow_numbers.proofs.DigitLemmas.{passes_fewer}
 use Rattle.winnow_numbers.proofs.ascii.digits.small_numeral.Goals as goal
-use Rattle.winnow_numbers.proofs.ascii.digits.small_numeral.Goals.{
-  then-digit-lt48-via-then-digit-lt48,
-  then-digit-lt48-via-else-digit-lt48+then-digit-gt57,
-}
 
 pub returns-in-0-clause-ran : goal.returns-in-0-clause-ran
 returns-in-0-clause-ran g c = (
@@ -34,16 +29,16 @@ returns-in-None-2-clause-ran g c =
     c.loop-token.invariant c.in-None.ensures.passes.0 c.in-None.ensures.passes.1
     c.is_partial.ensures c.if-is_partial.false
 
-pub returns-then-digit-lt48-clause-ran : goal.returns-then-digit-lt48-clause-ran
-returns-then-digit-lt48-clause-ran g c =
-    let other : IsDecDigit c.as_char-digit.result → ⊥ = λ is. elim c.then-digit-lt48.branch [
-      | then-digit-lt48-via-then-digit-lt48 w ↦ absurd (omega (arith, is, w.if-digit-lt48.true))
-      | then-digit-lt48-via-else-digit-lt48+then-digit-gt57 w ↦
-          absurd (omega (arith, is, w.if-digit-gt57.true))
-    ] in
+pub returns-then-digit-gt9-clause-ran : goal.returns-then-digit-gt9-clause-ran
+returns-then-digit-gt9-clause-ran g c =
     begun_stopped g.I.Stream.seen_as g.I.Token.AsChar.code g.I.Stream.reading _ _ _ _ _
-    c.in-Some.token _ _ c.loop-token.invariant c.in-Some.ensures.passes c.as_char-digit.ensures
-    other c.checkpoint-behind.ensures c.reset.ensures
+    c.in-Some.token _ _ c.loop-token.invariant c.in-Some.ensures.passes
+    c.as_char-in-Some.ensures (λ is. absurd (omega (
+      arith,
+      is,
+      c.digit_of-digit.ensures.value is,
+      c.if-digit-gt9.true,
+    ))) c.checkpoint-behind.ensures c.reset.ensures
 
 pub loop-token-smaller : goal.loop-token-smaller
 loop-token-smaller g c =
@@ -52,7 +47,7 @@ loop-token-smaller g c =
 
 pub loop-token-preserved : goal.loop-token-preserved
 loop-token-preserved g c =
+    let is = c.digit_of-digit.ensures.digit c.if-digit-gt9.false in
     begun_more g.I.Stream.seen_as g.I.Token.AsChar.code g.I.Stream.reading _ _ _ _
-    c.in-Some.token _ c.loop-token.invariant c.as_char-digit.ensures
-    (omega (arith, c.as_char-digit.ensures), omega (arith, c.as_char-digit.ensures))
-    c.in-Some.ensures.passes
+    c.in-Some.token _ _ c.loop-token.invariant c.as_char-in-Some.ensures is
+    (c.from.ensures ∙ c.digit_of-digit.ensures.value is) c.in-Some.ensures.passes
