@@ -22,7 +22,6 @@ use stream_sets::as_char::AsChar;
 use stream_sets::caseless::Caseless;
 use stream_sets::compare::Compare;
 use stream_sets::find::FindSlice;
-use streams::locating::LocatingSlice;
 use streams::partial::Partial;
 use streams::stream::{Location, Stream};
 use streams::token_slice::TokenSlice;
@@ -288,7 +287,7 @@ fn cut_bytes_under_plain_errors(rt: HostRuntime) {
 #[test]
 fn located_text(rt: HostRuntime) {
     ascii::at_located::<&str>(&rt);
-    parse_iter::parse_iter::<LocatingSlice<&str>, Modal>(&rt);
+    parse_iter::parse_iter_located::<&str>(&rt);
 }
 
 #[test]
