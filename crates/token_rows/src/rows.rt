@@ -22,7 +22,6 @@ use stream_searches::compare::Compare;
 use stream_searches::find::FindSlice;
 use stream_sets::as_bstr::{AsBStr, SlicesAsBytes};
 use stream_sets::as_char::AsChar;
-use streams::locating::LocatingSlice;
 use streams::partial::Partial;
 use streams::stream::{Location, Stream};
 use streams::token_slice::TokenSlice;
@@ -243,9 +242,6 @@ where
 fn text(rt: HostRuntime) {
     at_text::<&str, Modal>(&rt);
     ascii::at_places::<&str>(&rt);
-    parse_iter::parse_iter::<&str, Modal>(&rt);
-    parse_iter::parse_iter_of_text(&rt);
-    parse_iter::parse_iter_with_state(&rt);
 }
 
 #[test]
@@ -257,7 +253,6 @@ fn cut_text(rt: HostRuntime) {
 fn bytes(rt: HostRuntime) {
     at_bytes::<&[u8], ModalAtBytes>(&rt, Kind::Cut);
     parser::parse::<&[u8], EmptyError>(&rt);
-    parse_iter::parse_iter_of_needs(&rt);
     parser::func(&rt);
     ascii::at_places::<&[u8]>(&rt);
 }
@@ -288,7 +283,6 @@ fn cut_bytes_under_plain_errors(rt: HostRuntime) {
 #[test]
 fn located_text(rt: HostRuntime) {
     ascii::at_located::<&str>(&rt);
-    parse_iter::parse_iter::<LocatingSlice<&str>, Modal>(&rt);
 }
 
 #[test]
@@ -305,4 +299,13 @@ fn token_list(rt: HostRuntime) {
 #[test]
 fn numbers_by_types(rt: HostRuntime) {
     ascii::numbers::by_types(&rt);
+}
+
+#[test]
+fn parses_by_items(rt: HostRuntime) {
+    parse_iter::parse_iter::<&str, Modal>(&rt);
+    parse_iter::parse_iter_located::<&str>(&rt);
+    parse_iter::parse_iter_of_text(&rt);
+    parse_iter::parse_iter_of_needs(&rt);
+    parse_iter::parse_iter_with_state(&rt);
 }

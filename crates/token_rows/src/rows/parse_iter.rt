@@ -11,6 +11,7 @@ use stream_errors::mode::ErrMode;
 use stream_errors::parser_error::ParserError;
 use stream_sets::range::Range;
 use stream_sets::sets::Pred;
+use streams::locating::LocatingSlice;
 use streams::needed::Needed;
 use streams::stream::{Stream, StreamIsPartial};
 use winnow_core::combinator::impls::ParseIter;
@@ -105,6 +106,15 @@ where
     gives::<I, usize, E, _>(rt, "nothing", RestLen, I::of_text(""), &[], End::Read);
     behind_a_token::<I, E>(rt);
     in_a_loop::<I, E>(rt);
+}
+
+/// The same on a stream that knows its place.
+pub(crate) fn parse_iter_located<I>(rt: &impl Abort)
+where
+    I: OfText + Copy + Stream<Token = char, Slice = &'static str>,
+    requires { I.supports_partial ≡ false }
+{
+    parse_iter::<LocatingSlice<I>, ErrMode<EmptyError>>(rt);
 }
 
 /// The start is where the input stood when it was handed over.

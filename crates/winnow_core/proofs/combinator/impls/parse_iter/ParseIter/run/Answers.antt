@@ -1,4 +1,4 @@
-use Rattle.std.proofs.Common.{rules, refl, inl, inr, arith, ◌≡◌, [], sym, ◌∙◌}
+use Rattle.std.proofs.Common.{rules, refl, inl, inr, arith, sym, ◌∙◌}
 use Rattle.streams.specs.Reading.{units-zero}
 use Rattle.winnow_core.specs.Ends.{same_units}
 use Rattle.winnow_core.specs.ParseIter.Laws.{nothing_to_read, reads_unread, some_to_read}
