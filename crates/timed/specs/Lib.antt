@@ -1,4 +1,6 @@
+pub mod Fields
 pub mod Numbers
 pub mod Outcome
 pub mod Searches
 pub mod Tally
+pub mod Values

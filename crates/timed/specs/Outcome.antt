@@ -1,5 +1,5 @@
 -- What a workload tells of a run.
-use Rattle.std.specs.Prelude.{◌≡◌, ◌⊎◌, ℕ, List, length, MatchResult, vec_len}
+use Rattle.std.specs.Prelude.{◌≡◌, ◌⊎◌, ◌%◌, ◌^◌, ℕ, List, length, MatchResult, vec_len}
 use Rattle.std.proofs.Common.{Global}
 use Rattle.std.specs.declared.vec.Vec.{Vec}
 use Rattle.winnow.specs.Form.{Answer}
@@ -7,6 +7,7 @@ use Rattle.winnow.specs.Input.{Input}
 use Rattle.readers.specs.Document.{HasSections, IsDocumentFault, SectionText}
 use Rattle.readers.specs.declared.fault.Fault.{Fault}
 use Rattle.timed.specs.declared.outcome.Outcome.{Outcome}
+use Rattle.timed.specs.Values.{AreValues}
 use Rattle.timed.specs.declared.tally.Count.{Count}
 
 -- how many outputs the list of a run has, and how many bytes are left; nothing of a run that fails
@@ -35,6 +36,13 @@ TellsSum run told =
     (λ all. (told.count ≡ all.0) × (told.sum ≡ all.1)
     × (told.left ≡ length j.left.tokens))
     (λ _. (told.count ≡ 0) × (told.left ≡ 0))
+
+-- how many values are read, modulo 2 to the 64, and how many units the tokens take that are left
+abbrev pub TellsValues : {V : Type 0} → (List ℕ → V → List ℕ → Type 0) → (List ℕ → ℕ) → List ℕ
+    → Outcome → Type 0
+TellsValues {V} first units tokens told =
+    (values : List V) × (rest : List ℕ) × AreValues first tokens values rest
+    × (told.count ≡ length values % 2 ^ 64) × (told.sum ≡ 0) × (told.left ≡ units rest)
 
 -- how many sections a document has; nothing of a text that is none
 abbrev pub TellsDocument : List ℕ → Outcome → Type 0

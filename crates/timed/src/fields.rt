@@ -1,4 +1,9 @@
 //! Comma separated values, without quotes.
+ghost use Rattle.std.specs.Prelude.{length, MatchResult};
+ghost use Rattle.timed.specs.Fields.{IsFirstField};
+ghost use Rattle.timed.specs.Outcome.{TellsValues};
+ghost use Rattle.timed.specs.Values.{CountsValues};
+
 use crate::outcome::Outcome;
 use crate::tally::Count;
 use std::alloc::{Allocator, Global};
@@ -61,10 +66,12 @@ pub extern "C" fn timed_rows(alloc: Global, input: &[u8], out: &mut Outcome) {
     out.left = rest.len() as u64;
 }
 
-fn counted<'i>(
-    alloc: Global,
-    input: &mut &'i [u8],
-) -> Result<Count, ErrMode<InputError<&'i [u8]>>> {
+/// How many fields have a comma or a line feed behind them.
+fn counted<'i>(alloc: Global, input: &mut &'i [u8]) -> Result<Count, ErrMode<InputError<&'i [u8]>>>
+    ensures { MatchResult result
+        (λ all. CountsValues IsFirstField input.old.now all input.new.now)
+        (λ _. ⊥) }
+{
     repeat(
         alloc,
         Range::from(0..),
@@ -78,7 +85,9 @@ fn counted<'i>(
 
 /// How many fields there are.
 #[unsafe(no_mangle)]
-pub extern "C" fn timed_fields(alloc: Global, input: &[u8], out: &mut Outcome) {
+pub extern "C" fn timed_fields(alloc: Global, input: &[u8], out: &mut Outcome)
+    ensures { TellsValues IsFirstField length input.now out.new }
+{
     let mut rest = input;
     *out = Outcome {
         count: 0,
