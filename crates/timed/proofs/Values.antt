@@ -81,18 +81,20 @@ repeat_counts {run = run} {value = value} {first = first} it s i (Ok all) t j is
     λ l. AreValues first i.left.tokens (map value told.outputs) l in (
       all,
       refl,
-      (map value told.outputs,
-      subst Q (sym back) (record {
-        are = are;
-        ended = (it.fails told.state told.input backtrack t.0 told.last known_u whole_m
-            told.ended).1;
-      }),
-      omega (
-        arith,
-        begun,
-        counted_up told.outputs told.empty all (omega (arith, begun)) told.takes,
-        length-map value told.outputs,
-      )),
+      (
+        map value told.outputs,
+        subst Q (sym back) (record {
+          are = are;
+          ended = (it.fails told.state told.input backtrack t.0 told.last known_u whole_m
+              told.ended).1;
+        }),
+        omega (
+          arith,
+          begun,
+          counted_up told.outputs told.empty all (omega (arith, begun)) told.takes,
+          length-map value told.outputs,
+        ),
+      ),
     )
 repeat_counts {run = run} {value = value} {first = first} it s i (Err k) t j is range whole ran =
     let P : Range → Type 0 =

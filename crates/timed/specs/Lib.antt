@@ -4,3 +4,4 @@ pub mod Outcome
 pub mod Searches
 pub mod Tally
 pub mod Values
+pub mod Words

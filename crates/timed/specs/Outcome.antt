@@ -1,9 +1,11 @@
 -- What a workload tells of a run.
 use Rattle.std.specs.Prelude.{◌≡◌, ◌⊎◌, ◌%◌, ◌^◌, ℕ, List, length, MatchResult, vec_len}
 use Rattle.std.proofs.Common.{Global}
+use Rattle.std.specs.Str.{IsUtf8, chars}
 use Rattle.std.specs.declared.vec.Vec.{Vec}
 use Rattle.winnow.specs.Form.{Answer}
 use Rattle.winnow.specs.Input.{Input}
+use Rattle.winnow.specs.Text.{width}
 use Rattle.readers.specs.Document.{HasSections, IsDocumentFault, SectionText}
 use Rattle.readers.specs.declared.fault.Fault.{Fault}
 use Rattle.timed.specs.declared.outcome.Outcome.{Outcome}
@@ -43,6 +45,16 @@ abbrev pub TellsValues : {V : Type 0} → (List ℕ → V → List ℕ → Type 
 TellsValues {V} first units tokens told =
     (values : List V) × (rest : List ℕ) × AreValues first tokens values rest
     × (told.count ≡ length values % 2 ^ 64) × (told.sum ≡ 0) × (told.left ≡ units rest)
+
+-- nothing at all
+abbrev pub TellsNothing : Outcome → Type 0
+TellsNothing told = (told.count ≡ 0) × (told.sum ≡ 0) × (told.left ≡ 0)
+
+-- the same of the characters of bytes that are UTF-8, whose units are bytes; nothing of other bytes
+abbrev pub TellsText : {V : Type 0} → (List ℕ → V → List ℕ → Type 0) → List ℕ → Outcome → Type 0
+TellsText first bytes told =
+    (IsUtf8 bytes × TellsValues first width (chars bytes) told)
+    ⊎ ((IsUtf8 bytes → ⊥) × TellsNothing told)
 
 -- how many sections a document has; nothing of a text that is none
 abbrev pub TellsDocument : List ℕ → Outcome → Type 0

@@ -1,4 +1,10 @@
 //! Words: keywords, and words of text.
+ghost use Rattle.std.specs.Prelude.{MatchResult};
+ghost use Rattle.std.specs.Str.{chars};
+ghost use Rattle.timed.specs.Outcome.{TellsText};
+ghost use Rattle.timed.specs.Values.{CountsValues};
+ghost use Rattle.timed.specs.Words.{IsFirstWord};
+
 use crate::outcome::Outcome;
 use crate::tally::Count;
 use std::alloc::Global;
@@ -85,12 +91,10 @@ pub extern "C" fn timed_any_case(input: &[u8], out: &mut Outcome) {
 }
 
 /// How many words have a space behind them.
-fn words<I: StreamIsPartial + Compare<char>, E: ParserError<I>>(
-    alloc: Global,
-    input: &mut I,
-) -> Result<Count, E>
-where
-    I::Token: AsChar,
+fn words<'i>(alloc: Global, input: &mut &'i str) -> Result<Count, ErrMode<EmptyError>>
+    ensures { MatchResult result
+        (λ all. CountsValues IsFirstWord (chars input.old.now) all (chars input.new.now))
+        (λ _. ⊥) }
 {
     repeat(
         alloc,
@@ -102,7 +106,9 @@ where
 
 /// Words of text, a space behind each.
 #[unsafe(no_mangle)]
-pub extern "C" fn timed_words(alloc: Global, input: &[u8], out: &mut Outcome) {
+pub extern "C" fn timed_words(alloc: Global, input: &[u8], out: &mut Outcome)
+    ensures { TellsText IsFirstWord input.now out.new }
+{
     *out = Outcome {
         count: 0,
         sum: 0,
@@ -110,9 +116,9 @@ pub extern "C" fn timed_words(alloc: Global, input: &[u8], out: &mut Outcome) {
     };
     if let Ok(text) = str::from_utf8(input) {
         let mut rest = text;
-        if let Ok(all) = words::<&str, ErrMode<EmptyError>>(alloc, &mut rest) {
+        if let Ok(all) = words(alloc, &mut rest) {
             out.count = all.number;
-            out.left = rest.len() as u64;
+            out.left = rest.as_bytes().len() as u64;
         }
     }
 }
