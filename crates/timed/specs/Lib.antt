@@ -1,4 +1,5 @@
 pub mod Fields
+pub mod Keywords
 pub mod Numbers
 pub mod Outcome
 pub mod Searches

@@ -1,7 +1,8 @@
 //! Words: keywords, and words of text.
-ghost use Rattle.std.specs.Prelude.{MatchResult};
+ghost use Rattle.std.specs.Prelude.{length, MatchResult};
 ghost use Rattle.std.specs.Str.{chars};
-ghost use Rattle.timed.specs.Outcome.{TellsText};
+ghost use Rattle.timed.specs.Keywords.{IsFirstBeforeSpace, IsKeyword};
+ghost use Rattle.timed.specs.Outcome.{TellsText, TellsValues};
 ghost use Rattle.timed.specs.Values.{CountsValues};
 ghost use Rattle.timed.specs.Words.{IsFirstWord};
 
@@ -16,41 +17,38 @@ use winnow::prelude::*;
 use winnow::stream::{AsChar, Compare, Range};
 use winnow::token::{literal, take_till};
 
-/// One of six keywords.
-fn keyword<I: StreamIsPartial + Compare<&'static [u8]>, E: ParserError<I>>(
-    input: &mut I,
-) -> Result<I::Slice, E> {
-    alt((
+/// How many of six keywords have a space behind them.
+fn keywords<'i>(alloc: Global, input: &mut &'i [u8]) -> Result<Count, ErrMode<EmptyError>>
+    ensures { MatchResult result
+        (λ all. CountsValues (IsFirstBeforeSpace IsKeyword) input.old.now all input.new.now)
+        (λ _. ⊥) }
+{
+    let keyword = alt((
         literal(b"select".as_slice()),
         literal(b"from".as_slice()),
         literal(b"where".as_slice()),
         literal(b"group".as_slice()),
         literal(b"order".as_slice()),
         literal(b"limit".as_slice()),
-    ))
-    .parse_next(input)
+    ));
+    repeat(alloc, Range::from(0..), terminated(keyword, b' ')).parse_next(input)
 }
 
 /// Six keywords, a space behind each.
 #[unsafe(no_mangle)]
-pub extern "C" fn timed_keywords(input: &[u8], out: &mut Outcome) {
+pub extern "C" fn timed_keywords(alloc: Global, input: &[u8], out: &mut Outcome)
+    ensures { TellsValues (IsFirstBeforeSpace IsKeyword) length input.now out.new }
+{
     let mut rest = input;
     *out = Outcome {
         count: 0,
         sum: 0,
         left: 0,
     };
-    for _ in 0..input.len() {
-        if keyword::<&[u8], ErrMode<EmptyError>>(&mut rest).is_err() {
-            break;
-        }
-        match rest {
-            [b' ', more @ ..] => rest = more,
-            _ => break,
-        }
-        out.count = out.count.wrapping_add(1);
+    if let Ok(all) = keywords(alloc, &mut rest) {
+        out.count = all.number;
+        out.left = rest.len() as u64;
     }
-    out.left = rest.len() as u64;
 }
 
 /// One of six keywords, in upper or lower case.
