@@ -1,7 +1,7 @@
 //! Words: keywords, and words of text.
 ghost use Rattle.std.specs.Prelude.{length, MatchResult};
 ghost use Rattle.std.specs.Str.{chars};
-ghost use Rattle.timed.specs.Keywords.{IsFirstBeforeSpace, IsKeyword};
+ghost use Rattle.timed.specs.Keywords.{IsFirstBeforeSpace, IsKeyword, IsKeywordOfAnyCase};
 ghost use Rattle.timed.specs.Outcome.{TellsText, TellsValues};
 ghost use Rattle.timed.specs.Values.{CountsValues};
 ghost use Rattle.timed.specs.Words.{IsFirstWord};
@@ -51,41 +51,42 @@ pub extern "C" fn timed_keywords(alloc: Global, input: &[u8], out: &mut Outcome)
     }
 }
 
-/// One of six keywords, in upper or lower case.
-fn keyword_of_any_case<I: StreamIsPartial + Compare<Caseless<&'static [u8]>>, E: ParserError<I>>(
-    input: &mut I,
-) -> Result<I::Slice, E> {
-    alt((
+/// How many of six keywords, in upper or lower case, have a space behind them.
+fn keywords_of_any_case<'i>(
+    alloc: Global,
+    input: &mut &'i [u8],
+) -> Result<Count, ErrMode<EmptyError>>
+    ensures { MatchResult result
+        (λ all. CountsValues (IsFirstBeforeSpace IsKeywordOfAnyCase) input.old.now all
+        input.new.now)
+        (λ _. ⊥) }
+{
+    let keyword = alt((
         literal(Caseless(b"select".as_slice())),
         literal(Caseless(b"from".as_slice())),
         literal(Caseless(b"where".as_slice())),
         literal(Caseless(b"group".as_slice())),
         literal(Caseless(b"order".as_slice())),
         literal(Caseless(b"limit".as_slice())),
-    ))
-    .parse_next(input)
+    ));
+    repeat(alloc, Range::from(0..), terminated(keyword, b' ')).parse_next(input)
 }
 
 /// The same in upper or lower case.
 #[unsafe(no_mangle)]
-pub extern "C" fn timed_any_case(input: &[u8], out: &mut Outcome) {
+pub extern "C" fn timed_any_case(alloc: Global, input: &[u8], out: &mut Outcome)
+    ensures { TellsValues (IsFirstBeforeSpace IsKeywordOfAnyCase) length input.now out.new }
+{
     let mut rest = input;
     *out = Outcome {
         count: 0,
         sum: 0,
         left: 0,
     };
-    for _ in 0..input.len() {
-        if keyword_of_any_case::<&[u8], ErrMode<EmptyError>>(&mut rest).is_err() {
-            break;
-        }
-        match rest {
-            [b' ', more @ ..] => rest = more,
-            _ => break,
-        }
-        out.count = out.count.wrapping_add(1);
+    if let Ok(all) = keywords_of_any_case(alloc, &mut rest) {
+        out.count = all.number;
+        out.left = rest.len() as u64;
     }
-    out.left = rest.len() as u64;
 }
 
 /// How many words have a space behind them.

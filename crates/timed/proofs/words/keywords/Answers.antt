@@ -15,8 +15,19 @@ returns c =
     ap (λ p. alt_alternatives (terminated_parser p)) parser
     ∙ ap alt_alternatives c.terminated.ensures.parser ∙ c.alt-keyword.ensures in
     let made =
-    ap (λ a. (literal_value a.0, (literal_value a.1, (literal_value a.2, (literal_value a.3,
-    (literal_value a.4, literal_value a.5)))))) chosen
+    ap (λ a. (
+      literal_value a.0,
+      (
+        literal_value a.1,
+        (
+          literal_value a.2,
+          (
+            literal_value a.3,
+            (literal_value a.4, literal_value a.5),
+          ),
+        ),
+      ),
+    )) chosen
     ∙ both c.literal.ensures (both c.literal-2.ensures (both c.literal-3.ensures
     (both c.literal-4.ensures (both c.literal-5.ensures c.literal-6.ensures)))) in
     let behind = ap terminated_ignored parser ∙ c.terminated.ensures.ignored in
