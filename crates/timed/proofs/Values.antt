@@ -57,7 +57,7 @@ counted_up (o ∷ os) before after small (one, taken, rest) =
     counted_up os one after (omega (arith, up)) rest in
     omega (arith, up, then)
 
-length-map : {A B : Type 0} (f : A → B) (xs : List A) → length (map f xs) ≡ length xs
+pub length-map : {A B : Type 0} (f : A → B) (xs : List A) → length (map f xs) ≡ length xs
 length-map f [] = refl
 length-map f (x ∷ xs) = ap (λ n. suc n) (length-map f xs)
 

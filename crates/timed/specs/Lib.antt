@@ -1,4 +1,6 @@
 pub mod Fields
+pub mod HeadRuns
+pub mod Heads
 pub mod Keywords
 pub mod Numbers
 pub mod Outcome

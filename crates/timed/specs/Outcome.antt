@@ -9,7 +9,7 @@ use Rattle.winnow.specs.Text.{width}
 use Rattle.readers.specs.Document.{HasSections, IsDocumentFault, SectionText}
 use Rattle.readers.specs.declared.fault.Fault.{Fault}
 use Rattle.timed.specs.declared.outcome.Outcome.{Outcome}
-use Rattle.timed.specs.Values.{AreValues}
+use Rattle.timed.specs.Values.{AreValues, SumsValues}
 use Rattle.timed.specs.declared.tally.Count.{Count}
 
 -- how many outputs the list of a run has, and how many bytes are left; nothing of a run that fails
@@ -55,6 +55,14 @@ abbrev pub TellsText : {V : Type 0} → (List ℕ → V → List ℕ → Type 0)
 TellsText first bytes told =
     (IsUtf8 bytes × TellsValues first width (chars bytes) told)
     ⊎ ((IsUtf8 bytes → ⊥) × TellsNothing told)
+
+-- how many numbers are read and their sum, and how many units are left; or nothing of a run that
+-- fails
+abbrev pub TellsSums : (List ℕ → ℕ → List ℕ → Type 0) → (List ℕ → ℕ) → List ℕ → Outcome → Type 0
+TellsSums first units tokens told =
+    ((all : ℕ × ℕ) × (rest : List ℕ) × SumsValues first tokens all rest × (told.count ≡ all.0)
+    × (told.sum ≡ all.1) × (told.left ≡ units rest))
+    ⊎ TellsNothing told
 
 -- how many sections a document has; nothing of a text that is none
 abbrev pub TellsDocument : List ℕ → Outcome → Type 0

@@ -1,6 +1,7 @@
 -- Values that are read one behind the other.
 use Rattle.std.specs.Prelude.{◌≡◌, ◌%◌, ◌^◌, ℕ, List, length}
-use Rattle.std.specs.List.{FoldsTo}
+use Rattle.std.specs.List.{FoldsTo, fold}
+use Rattle.timed.specs.Numbers.{summed}
 use Rattle.timed.specs.declared.tally.Count.{Count}
 
 -- Each value stands first in the tokens that those before it leave; they leave the rest, in which
@@ -15,3 +16,8 @@ abbrev pub CountsValues : {V : Type 0} → (List ℕ → V → List ℕ → Type
     → Type 0
 CountsValues {V} first tokens all rest =
     (values : List V) × AreValues first tokens values rest × (all.number ≡ length values % 2 ^ 64)
+
+-- how many numbers they are, and their sum, both modulo 2 to the 64
+abbrev pub SumsValues : (List ℕ → ℕ → List ℕ → Type 0) → List ℕ → ℕ × ℕ → List ℕ → Type 0
+SumsValues first tokens all rest =
+    (values : List ℕ) × AreValues first tokens values rest × (all ≡ fold summed (0, 0) values)

@@ -1,0 +1,138 @@
+-- Runs of the reader of a header.
+use Rattle.std.specs.Prelude.{◌≡◌, ◌<◌, ◌≤◌, ℕ, List, [], ◌∷◌, ◌++◌, length, map, Ok, Err}
+use Rattle.std.specs.Prelude.{MatchResult}
+use Rattle.std.specs.Borrow.{Bor}
+use Rattle.std.specs.List.{All}
+use Rattle.std.specs.declared.vec.Vec.{Vec}
+use Rattle.std.proofs.Common.{Global, ◌∙◌, ap, append_assoc, arith, inl, inr, refl, subst, sym}
+use Rattle.std.proofs.lemmas.List.Elements.{All-head, All-tail}
+use Rattle.winnow.specs.Equal.{same_first, same_others}
+use Rattle.winnow.specs.Accumulator.{list_kept}
+use Rattle.winnow.specs.Form.{Answer, assert_kind, modal}
+use Rattle.winnow.specs.InOrder.Known.{both_leaves, three_leaves}
+use Rattle.winnow.specs.Input.{Input}
+use Rattle.winnow.specs.Kind.{backtrack, cut, memory}
+use Rattle.winnow.specs.Range.{bounds_of}
+use Rattle.winnow.specs.Repeat.{RangedRuns, RepeatRuns}
+use Rattle.winnow.specs.Repeat.Known.{repeat_any_err, repeat_any_ok, repeated_list}
+use Rattle.winnow.specs.Reads.Known.{SliceRuns, slice_leaves, slice_reads}
+use Rattle.winnow.specs.Runs.{Runs}
+use Rattle.winnow.specs.SeparatedPair.{SeparatedPairRuns}
+use Rattle.winnow.specs.SeparatedPair.Known.{separated_pair_reads}
+use Rattle.winnow.specs.TakeWhile.Known.{TakesOf, take_leaves, take_reads}
+use Rattle.winnow.specs.Terminated.{TerminatedRuns}
+use Rattle.winnow.specs.Terminated.Known.{terminated_reads}
+use Rattle.winnow.specs.{Range}
+use Rattle.timed.specs.Heads.{IsFirstHeader, IsNameByte, IsValueByte}
+use Rattle.timed.specs.Numbers.{any_number}
+use Rattle.timed.specs.Words.{some_number}
+use Rattle.timed.specs.Values.{AreValues}
+use Rattle.timed.proofs.Listed.{ReadsFirst, chain_values}
+use Rattle.timed.proofs.Values.{length-map}
+
+-- what its parts mean, and the states in which they are made
+abbrev pub States : Type 0 → Type 0 → Type 0
+States A B = ((Range × A) × Bor (List ℕ) × (Range × B)) × Bor (List ℕ)
+
+abbrev pub HeaderMeans : {A B : Type 0} → Runs (States A B) ℕ (Bor (List ℕ) × Bor (List ℕ))
+HeaderMeans = TerminatedRuns (SeparatedPairRuns (TakesOf modal IsNameByte) (SliceRuns modal)
+    (TakesOf modal IsValueByte)) (SliceRuns modal)
+
+abbrev colon : List ℕ
+colon = 58 ∷ 32 ∷ []
+
+abbrev pub line_end : List ℕ
+line_end = 13 ∷ 10 ∷ []
+
+abbrev pub IsMade : {A B : Type 0} → States A B → Type 0
+IsMade s =
+    ((s.0.0.0 ≡ some_number) × (s.0.1.now ≡ colon) × (s.0.2.0 ≡ any_number))
+    × (s.1.now ≡ line_end)
+
+-- the bytes of a name and a value
+abbrev pub bytes_of : Bor (List ℕ) × Bor (List ℕ) → List ℕ × List ℕ
+bytes_of header = (header.0.now, header.1.now)
+
+pub header_read : {A B : Type 0} → ReadsFirst (HeaderMeans {A = A} {B = B}) IsMade
+    bytes_of IsFirstHeader
+header_read = record {
+  reads = λ s i o t j made ran.
+      let it = terminated_reads (separated_pair_reads (take_reads modal IsNameByte some_number)
+      (slice_reads modal colon) (take_reads modal IsValueByte any_number))
+      (slice_reads modal line_end) in
+      let (splits, (name, value)) = it.reads s i o t j made ran in (
+        (simp append_assoc at splits, name.0, name.1, value.0),
+        it.again s i (Ok o) t j made ran,
+      );
+  ended = λ s i t j made ran v more (splits, is_name, some_name, is_value).
+      let must = both_leaves (three_leaves
+      (take_leaves modal IsNameByte some_number s.0.0 v.0 58 _ refl made.0.0 is_name
+      (λ h. omega (arith, h)) some_name)
+      (slice_leaves modal colon (v.1 ++ (13 ∷ 10 ∷ more)) s.0.1 made.0.1)
+      (take_leaves modal IsValueByte any_number s.0.2 v.1 13 _ refl made.0.2 is_value
+      (λ h. h refl) (omega arith)))
+      (slice_leaves modal line_end more s.1 made.1) in
+      must.answers i _ t j splits ran;
+}
+
+-- members before a stranger are one list
+pub until : (P : ℕ → Type 0) (xs ys : List ℕ) (x y : ℕ) (as_x as_y : List ℕ) → All P xs
+    → (P x → ⊥) → All P ys → (P y → ⊥) → xs ++ (x ∷ as_x) ≡ ys ++ (y ∷ as_y)
+    → x ∷ as_x ≡ y ∷ as_y
+until P [] [] x y as_x as_y all not_x all_too not_y e = e
+until P [] (z ∷ ys) x y as_x as_y all not_x all_too not_y e =
+    absurd (not_x (subst P (sym (same_first e)) (All-head P z ys all_too)))
+until P (z ∷ xs) [] x y as_x as_y all not_x all_too not_y e =
+    absurd (not_y (subst P (same_first e) (All-head P z xs all)))
+until P (z ∷ xs) (w ∷ ys) x y as_x as_y all not_x all_too not_y e =
+    until P xs ys x y as_x as_y (All-tail P z xs all) not_x (All-tail P w ys all_too) not_y
+    (same_others e)
+
+-- what is behind a header is one
+pub header_once : (tokens : List ℕ) (v w : List ℕ × List ℕ) (rest other : List ℕ)
+    → IsFirstHeader tokens v rest → IsFirstHeader tokens w other → rest ≡ other
+header_once tokens v w rest other (splits, name, some, value) (splits2, name2, some2, value2) =
+    let behind = until IsNameByte v.0 w.0 58 58 _ _ name (λ h. omega (arith, h)) name2
+    (λ h. omega (arith, h)) (sym splits ∙ splits2) in
+    same_others (same_others (until IsValueByte v.1 w.1 13 13 _ _ value (λ h. h refl) value2
+    (λ h. h refl) (same_others (same_others behind))))
+
+cut_is_other : cut ≡ backtrack → ⊥
+cut_is_other e = absurd (cc)
+
+memory_is_other : memory ≡ backtrack → ⊥
+memory_is_other e = absurd (cc)
+
+-- a repetition of headers reads all that are there, and does not backtrack
+pub headers_read : {A B : Type 0} (s : States A B × Range) (i : Input ℕ)
+    (answer : Answer (Vec (Bor (List ℕ) × Bor (List ℕ)) Global)) (t : States A B × Range)
+    (j : Input ℕ) → IsMade s.0 → s.1 ≡ any_number
+    → RangedRuns HeaderMeans list_kept (assert_kind modal) s i answer t j
+    → MatchResult answer
+    (λ all. (headers : List (List ℕ × List ℕ))
+    × AreValues IsFirstHeader i.left.tokens headers j.left.tokens
+    × (length all.items ≡ length headers))
+    (λ k. k ≡ backtrack → ⊥)
+headers_read {A} {B} s i (Ok all) t j made range ran =
+    let P : Range → Type 0 = λ r. RepeatRuns (HeaderMeans {A = A} {B = B}) list_kept
+    (assert_kind modal) (bounds_of r) s.0 i (Ok all) t.0 j in
+    let told = repeat_any_ok HeaderMeans list_kept (assert_kind modal) s.0 i all t.0 j
+    (subst P range ran.0) in
+    let Q : List ℕ → Type 0 = λ l. AreValues IsFirstHeader i.left.tokens
+    (map bytes_of told.outputs) l in (
+      map bytes_of told.outputs,
+      subst Q (sym (ap (λ x. x.left.tokens) told.back)) (chain_values header_read told.outputs s.0 i
+          told.state told.input t.0 told.last made told.chain told.ended),
+      ap (λ l. length l) (repeated_list HeaderMeans s.0 i all t.0 j told)
+          ∙ sym (length-map bytes_of told.outputs),
+    )
+headers_read {A} {B} s i (Err k) t j made range ran =
+    let P : Range → Type 0 = λ r. RepeatRuns (HeaderMeans {A = A} {B = B})
+    (list_kept {A = Global}) (assert_kind modal) (bounds_of r) s.0 i (Err k) t.0 j in
+    let told = repeat_any_err HeaderMeans (list_kept {A = Global}) (assert_kind modal) s.0 i k t.0 j (λ x. x)
+    (subst P range ran.0) in
+    elim told.failure [
+      | inl (failed, other) ↦ other
+      | inr (inl (o, r, same, e)) ↦ λ is. cut_is_other (sym e ∙ is)
+      | inr (inr (o, c, r, grows, e)) ↦ λ is. memory_is_other (sym e ∙ is)
+    ]
