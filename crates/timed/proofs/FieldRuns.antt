@@ -35,7 +35,7 @@ abbrev pub marks : ℕ × ℕ
 marks = (44, 10)
 
 -- the others, as a take sees them
-abbrev Others : ℕ × ℕ → ℕ → Bool → Type 0
+abbrev pub Others : ℕ × ℕ → ℕ → Bool → Type 0
 Others s = AnswersSeen (λ b. b) (λ b a. PairTells s b (not a))
 
 -- what the two parsers mean, and the states in which they are made
@@ -57,12 +57,17 @@ lacks b (inl (member, e)) is = absurd (cc)
 lacks b (inr (other, another)) (inl is) = true_is_false (sym (other.1 is))
 lacks b (inr (other, another)) (inr is) = true_is_false (sym (another.1 is))
 
-others : Tells (Others marks) (λ b. EndsField b → ⊥)
+pub others : Tells (Others marks) (λ b. EndsField b → ⊥)
 others = record {
   yes = λ b told. let P : ℕ → Type 0 = λ x. EndsField x → ⊥ in subst P told.1 (lacks told.0 told.2);
   no = λ b told not_end. let P : ℕ → Type 0 = λ x. EndsField x in
       absurd (not_end (subst P told.1 (has told.0 told.2)));
 }
+
+-- what ends a take of the others ends a field
+pub stranger_ends : (b : ℕ) → Others marks b false → EndsField b
+stranger_ends b told = let P : ℕ → Type 0 = λ x. EndsField x in
+    subst P told.1 (has told.0 told.2)
 
 pub field_read : ReadsValue FieldMeans (λ s. s ≡ made) (λ field. field.now) IsFirstField
 field_read = record {

@@ -64,6 +64,12 @@ TellsSums first units tokens told =
     × (told.sum ≡ all.1) × (told.left ≡ units rest))
     ⊎ TellsNothing told
 
+-- the same of the characters of bytes that are UTF-8, whose units are bytes; nothing of other bytes
+abbrev pub TellsTextSums : (List ℕ → ℕ → List ℕ → Type 0) → List ℕ → Outcome → Type 0
+TellsTextSums first bytes told =
+    (IsUtf8 bytes × TellsSums first width (chars bytes) told)
+    ⊎ ((IsUtf8 bytes → ⊥) × TellsNothing told)
+
 -- how many sections a document has; nothing of a text that is none
 abbrev pub TellsDocument : List ℕ → Outcome → Type 0
 TellsDocument text told =

@@ -3,7 +3,8 @@ use Rattle.winnow.specs.SeparatedPair.{separated_pair_first, separated_pair_seco
 use Rattle.winnow.specs.SeparatedPair.{separated_pair_separator}
 use Rattle.winnow.specs.TakeWhile.{take_while_occurrences}
 use Rattle.winnow.specs.Terminated.{terminated_ignored, terminated_parser}
-use Rattle.timed.proofs.Headers.{headers_read}
+use Rattle.timed.proofs.Headers.{header_read}
+use Rattle.timed.proofs.Listed.{list_counted}
 use Rattle.timed.proofs.heads.headers.Goals as goal
 
 pub returns : goal.returns
@@ -15,7 +16,7 @@ returns c =
     let value = ap separated_pair_second pair ∙ c.separated_pair.ensures.second in
     let behind = ap terminated_ignored parser ∙ c.terminated.ensures.ignored in (
       c.parse_next.ensures.ends,
-      headers_read _ _ _ _ _ (
+      list_counted header_read _ _ _ _ _ (
         (
           ap take_while_occurrences name ∙ c.take_while.ensures.occurrences ∙ c.from-2.ensures,
           ap (λ s. s.now) colon ∙ c.as_slice.ensures,
