@@ -1,15 +1,12 @@
 -- Runs of the reader of a field with what ends it.
-use Rattle.std.specs.Prelude.{◌≡◌, ◌⊎◌, ◌↔◌, ℕ, Bool, true, false, not, IsTrue, List, [], ◌∷◌}
+use Rattle.std.specs.Prelude.{◌≡◌, ◌↔◌, ℕ, Bool, true, false, not, IsTrue, List, ◌∷◌}
 use Rattle.std.specs.Prelude.{◌++◌, None, Ok, Err}
 use Rattle.std.specs.Borrow.{Bor}
-use Rattle.std.specs.List.{All}
 use Rattle.std.proofs.Common.{◌∙◌, ap, arith, inl, inr, length, length-append, refl, subst, sym}
 use Rattle.winnow.specs.Bytes.{bytes_reading}
 use Rattle.winnow.specs.Equal.{same_first, true_is_false}
 use Rattle.winnow.specs.Form.{modal}
 use Rattle.winnow.specs.InOrder.Known.{both_err}
-use Rattle.winnow.specs.Input.{Input}
-use Rattle.winnow.specs.Kind.{Kind, backtrack}
 use Rattle.winnow.specs.OneOf.{OneOfRuns}
 use Rattle.winnow.specs.OneOf.Known.{one_of_err, one_of_ok}
 use Rattle.winnow.specs.Range.{bounds_of}
@@ -17,7 +14,7 @@ use Rattle.winnow.specs.Runs.{Keeps, Runs}
 use Rattle.winnow.specs.Sets.{EitherTells}
 use Rattle.winnow.specs.Stream.{AnswersSeen}
 use Rattle.winnow.specs.TakeWhile.{TakeWhileRuns}
-use Rattle.winnow.specs.TakeWhile.Known.{Tells, never_too_few, take_must_answer, take_must_leave}
+use Rattle.winnow.specs.TakeWhile.Known.{Tells, never_too_few, take_must_leave}
 use Rattle.winnow.specs.TakeWhile.Known.{too_few, took_all, took_counted}
 use Rattle.winnow.specs.Terminated.{TerminatedRuns}
 use Rattle.winnow.specs.Terminated.Known.{terminated_ok}

@@ -1,20 +1,12 @@
 -- Runs of the reader of a header.
-use Rattle.std.specs.Prelude.{◌≡◌, ◌<◌, ◌≤◌, ℕ, List, [], ◌∷◌, ◌++◌, length, map, Ok, Err}
-use Rattle.std.specs.Prelude.{MatchResult}
+use Rattle.std.specs.Prelude.{◌≡◌, ℕ, List, [], ◌∷◌, ◌++◌, Ok}
 use Rattle.std.specs.Borrow.{Bor}
 use Rattle.std.specs.List.{All}
-use Rattle.std.specs.declared.vec.Vec.{Vec}
-use Rattle.std.proofs.Common.{Global, ◌∙◌, ap, append_assoc, arith, inl, inr, refl, subst, sym}
+use Rattle.std.proofs.Common.{◌∙◌, append_assoc, arith, refl, subst, sym}
 use Rattle.std.proofs.lemmas.List.Elements.{All-head, All-tail}
 use Rattle.winnow.specs.Equal.{same_first, same_others}
-use Rattle.winnow.specs.Accumulator.{list_kept}
-use Rattle.winnow.specs.Form.{Answer, assert_kind, modal}
+use Rattle.winnow.specs.Form.{modal}
 use Rattle.winnow.specs.InOrder.Known.{both_leaves, three_leaves}
-use Rattle.winnow.specs.Input.{Input}
-use Rattle.winnow.specs.Kind.{backtrack, cut, memory}
-use Rattle.winnow.specs.Range.{bounds_of}
-use Rattle.winnow.specs.Repeat.{RangedRuns, RepeatRuns}
-use Rattle.winnow.specs.Repeat.Known.{repeat_any_err, repeat_any_ok, repeated_list}
 use Rattle.winnow.specs.Reads.Known.{SliceRuns, slice_leaves, slice_reads}
 use Rattle.winnow.specs.Runs.{Runs}
 use Rattle.winnow.specs.SeparatedPair.{SeparatedPairRuns}
@@ -26,9 +18,7 @@ use Rattle.winnow.specs.{Range}
 use Rattle.timed.specs.Heads.{IsFirstHeader, IsNameByte, IsValueByte}
 use Rattle.timed.specs.Numbers.{any_number}
 use Rattle.timed.specs.Words.{some_number}
-use Rattle.timed.specs.Values.{AreValues}
-use Rattle.timed.proofs.Listed.{ReadsFirst, chain_values}
-use Rattle.timed.proofs.Values.{length-map}
+use Rattle.timed.proofs.Listed.{ReadsFirst}
 
 -- what its parts mean, and the states in which they are made
 abbrev pub States : Type 0 → Type 0 → Type 0

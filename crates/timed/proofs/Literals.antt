@@ -8,7 +8,7 @@ use Rattle.winnow.specs.Equal.{same_first, same_others, same_rest, true_is_false
 use Rattle.winnow.specs.Form.{Answer, modal}
 use Rattle.winnow.specs.InOrder.Known.{both_err}
 use Rattle.winnow.specs.Input.{Input, back_at}
-use Rattle.winnow.specs.Kind.{Kind, backtrack}
+use Rattle.winnow.specs.Kind.{backtrack}
 use Rattle.winnow.specs.Literal.{LiteralRuns}
 use Rattle.winnow.specs.Literal.Known.{literal_missing, literal_taken, token_missing, token_taken}
 use Rattle.winnow.specs.Literal.Known.{token_whole}

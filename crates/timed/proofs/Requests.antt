@@ -1,8 +1,7 @@
 -- Runs of the reader of a request line.
-use Rattle.std.specs.Prelude.{◌≡◌, ◌<◌, ◌≤◌, ℕ, List, [], ◌∷◌, ◌++◌, length, Ok, Err}
+use Rattle.std.specs.Prelude.{◌≡◌, ℕ, List, ◌++◌, Ok, Err}
 use Rattle.std.specs.Borrow.{Bor}
-use Rattle.std.specs.List.{All}
-use Rattle.std.proofs.Common.{◌∙◌, ap, append_assoc, arith, refl, subst, sym}
+use Rattle.std.proofs.Common.{◌∙◌, append_assoc, arith, refl, sym}
 use Rattle.winnow.specs.Equal.{same_others, same_rest}
 use Rattle.winnow.specs.Form.{modal}
 use Rattle.winnow.specs.Input.{Input}

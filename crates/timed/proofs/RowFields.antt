@@ -1,11 +1,11 @@
 -- Runs of the readers of a field of text, and of a comma with a field.
-use Rattle.std.specs.Prelude.{◌≡◌, ℕ, List, [], ◌∷◌, ◌++◌, length, None, Ok, Err}
+use Rattle.std.specs.Prelude.{◌≡◌, ℕ, List, [], ◌∷◌, ◌++◌, None, Ok, Err}
 use Rattle.std.specs.Borrow.{Bor}
 use Rattle.std.specs.List.{All}
 use Rattle.std.specs.Str.{chars}
 use Rattle.std.proofs.Common.{◌∙◌, ap, arith, inl, inr, refl, subst, sym}
 use Rattle.std.proofs.lemmas.List.Elements.{All-head, All-tail}
-use Rattle.winnow.specs.Equal.{none_is_some, same_first, same_others}
+use Rattle.winnow.specs.Equal.{none_is_some, same_others}
 use Rattle.winnow.specs.Form.{modal}
 use Rattle.winnow.specs.InOrder.Known.{both_err}
 use Rattle.winnow.specs.Input.{Input}
@@ -77,7 +77,8 @@ pub field_never : (s : Range × (ℕ × ℕ)) (i : Input ℕ) (k : Kind) (t : Ra
     (j : Input ℕ) → s ≡ till_made → TillMarks s i (Err k) t j → k ≡ backtrack → ⊥
 field_never s i k t j is ran soft =
     let P : Kind → Type 0 = λ l. TillMarks s i (Err l) t j in
-    backtracks_not i j (ran_from TillMarks s till_made is i (Err backtrack) t j (subst P soft ran)).0
+    backtracks_not i j
+    (ran_from TillMarks s till_made is i (Err backtrack) t j (subst P soft ran)).0
 
 -- a comma, and a field
 abbrev pub NextMeans : Runs (ℕ × (Range × (ℕ × ℕ))) ℕ (Bor (List ℕ))

@@ -1,9 +1,9 @@
 -- A fold that counts and sums numbers.
-use Rattle.std.specs.Prelude.{◌≡◌, ℕ, List, [], ◌∷◌, map, ⊤, None, Result, Ok, Err, MatchResult}
+use Rattle.std.specs.Prelude.{◌≡◌, ℕ, List, [], ◌∷◌, map, ⊤, Result, Ok, Err, MatchResult}
 use Rattle.std.specs.List.{fold}
 use Rattle.std.proofs.Common.{◌∙◌, ap, refl, subst, sym}
 use Rattle.winnow.specs.Fold.{FoldRuns, FoldTakes, RangedFolds}
-use Rattle.winnow.specs.Fold.Known.{FoldedAll, fold_any_ok, fold_of_any, folds_by}
+use Rattle.winnow.specs.Fold.Known.{fold_any_ok, fold_of_any, folds_by}
 use Rattle.winnow.specs.Form.{Answer, answer_by, assert_kind, modal}
 use Rattle.winnow.specs.Input.{Input}
 use Rattle.winnow.specs.Kind.{Kind}
@@ -80,7 +80,8 @@ sums_told {run = run} {first = first} it starts step kind s t i (Ok told) j is r
     let back = ap (λ x. x.left.tokens) all.back in (
       all.outputs,
       subst (Q all.outputs) (sym back) (subst R (map_itself all.outputs)
-          (chain_values it all.outputs s.0 i all.state all.input t.0 all.last is all.chain all.ended)),
+          (chain_values it all.outputs s.0 i all.state all.input t.0 all.last is all.chain
+          all.ended)),
       folds_by step summed adds all.outputs s.1.1.1 empty t.1.1.1 told all.folded
           ∙ ap (λ e. fold summed e all.outputs) (begins s.1.1.0 empty t.1.1.0 began),
     )

@@ -1,15 +1,12 @@
 -- Runs of the reader of a word with a space behind it.
-use Rattle.std.specs.Prelude.{◌≡◌, ◌↔◌, ℕ, Bool, true, false, not, IsTrue, List, [], ◌∷◌, ◌++◌}
+use Rattle.std.specs.Prelude.{◌≡◌, ◌↔◌, ℕ, Bool, not, IsTrue, List, [], ◌∷◌, ◌++◌}
 use Rattle.std.specs.Prelude.{None, Ok, Err}
 use Rattle.std.specs.Borrow.{Bor}
-use Rattle.std.specs.List.{All}
 use Rattle.std.specs.Str.{chars}
 use Rattle.std.proofs.Common.{◌∙◌, ap, arith, inl, inr, length, length-append, refl, subst, sym}
 use Rattle.winnow.specs.Equal.{true_is_false}
 use Rattle.winnow.specs.Form.{modal}
 use Rattle.winnow.specs.InOrder.Known.{both_err}
-use Rattle.winnow.specs.Input.{Input}
-use Rattle.winnow.specs.Kind.{Kind, backtrack}
 use Rattle.winnow.specs.Literal.{LiteralRuns}
 use Rattle.winnow.specs.Literal.Known.{token_missing, token_taken, token_whole}
 use Rattle.winnow.specs.Range.{bounds_of}

@@ -1,6 +1,5 @@
 -- What the readers of a head's parts answer.
 use Rattle.std.specs.Prelude.{◌≡◌, ℕ, List, length, MatchResult}
-use Rattle.std.specs.Borrow.{Bor}
 use Rattle.std.proofs.Common.{Global}
 use Rattle.std.specs.declared.vec.Vec.{Vec}
 use Rattle.winnow.specs.Bytes.{bytes_reading}

@@ -12,22 +12,26 @@ use Rattle.timed.specs.declared.outcome.Outcome.{Outcome}
 use Rattle.timed.specs.Values.{AreValues, SumsValues}
 use Rattle.timed.specs.declared.tally.Count.{Count}
 
+-- nothing at all
+abbrev pub TellsNothing : Outcome → Type 0
+TellsNothing told = (told.count ≡ 0) × (told.sum ≡ 0) × (told.left ≡ 0)
+
 -- how many outputs the list of a run has, and how many bytes are left; nothing of a run that fails
 abbrev pub TellsList : {O : Type 0} → (Answer (Vec O Global) → Input ℕ → Type 0) → Outcome
     → Type 0
 TellsList {O} run told =
     (answer : Answer (Vec O Global)) × (j : Input ℕ) × run answer j
     × MatchResult answer
-    (λ all. (told.count ≡ vec_len all) × (told.left ≡ length j.left.tokens))
-    (λ _. (told.count ≡ 0) × (told.left ≡ 0))
+    (λ all. (told.count ≡ vec_len all) × (told.sum ≡ 0) × (told.left ≡ length j.left.tokens))
+    (λ _. TellsNothing told)
 
 -- how many outputs a run counts, and how many bytes are left; nothing of a run that fails
 abbrev pub TellsCount : (Answer Count → Input ℕ → Type 0) → Outcome → Type 0
 TellsCount run told =
     (answer : Answer Count) × (j : Input ℕ) × run answer j
     × MatchResult answer
-    (λ all. (told.count ≡ all.number) × (told.left ≡ length j.left.tokens))
-    (λ _. (told.count ≡ 0) × (told.left ≡ 0))
+    (λ all. (told.count ≡ all.number) × (told.sum ≡ 0) × (told.left ≡ length j.left.tokens))
+    (λ _. TellsNothing told)
 
 -- how many numbers a run adds up, their sum, and how many bytes are left; nothing of a run that
 -- fails
@@ -37,7 +41,7 @@ TellsSum run told =
     × MatchResult answer
     (λ all. (told.count ≡ all.0) × (told.sum ≡ all.1)
     × (told.left ≡ length j.left.tokens))
-    (λ _. (told.count ≡ 0) × (told.left ≡ 0))
+    (λ _. TellsNothing told)
 
 -- how many values are read, modulo 2 to the 64, and how many units the tokens take that are left
 abbrev pub TellsValues : {V : Type 0} → (List ℕ → V → List ℕ → Type 0) → (List ℕ → ℕ) → List ℕ
@@ -45,10 +49,6 @@ abbrev pub TellsValues : {V : Type 0} → (List ℕ → V → List ℕ → Type 
 TellsValues {V} first units tokens told =
     (values : List V) × (rest : List ℕ) × AreValues first tokens values rest
     × (told.count ≡ length values % 2 ^ 64) × (told.sum ≡ 0) × (told.left ≡ units rest)
-
--- nothing at all
-abbrev pub TellsNothing : Outcome → Type 0
-TellsNothing told = (told.count ≡ 0) × (told.sum ≡ 0) × (told.left ≡ 0)
 
 -- the same of the characters of bytes that are UTF-8, whose units are bytes; nothing of other bytes
 abbrev pub TellsText : {V : Type 0} → (List ℕ → V → List ℕ → Type 0) → List ℕ → Outcome → Type 0

@@ -1,5 +1,5 @@
 use Rattle.std.specs.Str.{chars}
-use Rattle.std.proofs.Common.{rules, List, ℕ, [], ◌∷◌, ◌++◌, ◌∙◌, ap, refl, subst, sym}
+use Rattle.std.proofs.Common.{rules, List, ℕ, [], ◌∷◌, ◌++◌, ◌∙◌, ap, subst, sym}
 use Rattle.winnow.specs.Form.{modal}
 use Rattle.winnow.specs.Input.{is_end_of_trans}
 use Rattle.winnow.specs.Literal.Known.{literal_must_answer, token_taken}

@@ -1,4 +1,3 @@
-use Rattle.std.specs.Prelude.{⊤, Ok}
 use Rattle.std.proofs.Common.{◌∙◌}
 use Rattle.timed.proofs.Listed.{list_told}
 use Rattle.timed.proofs.RowReading.{row_read}

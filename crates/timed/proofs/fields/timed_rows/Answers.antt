@@ -1,7 +1,7 @@
 use Rattle.std.specs.List.{fold}
 use Rattle.std.specs.Prelude.{map}
 use Rattle.std.specs.Str.{IsUtf8, chars}
-use Rattle.std.proofs.Common.{List, ℕ, ◌≡◌, ◌∙◌, ap, inl, length, refl, subst, sym}
+use Rattle.std.proofs.Common.{List, ℕ, ◌∙◌, ap, inl, length, refl, subst, sym}
 use Rattle.winnow.specs.Text.{width_chars}
 use Rattle.timed.specs.Fields.{IsFirstRow}
 use Rattle.timed.specs.Numbers.{summed}

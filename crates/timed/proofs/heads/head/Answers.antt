@@ -1,8 +1,8 @@
-use Rattle.std.proofs.Common.{rules, List, ℕ, ◌∷◌, ◌∙◌, refl, subst, sym}
+use Rattle.std.proofs.Common.{rules, List, ℕ, ◌∷◌, subst}
 use Rattle.winnow.specs.Form.{modal}
 use Rattle.winnow.specs.Input.{is_end_of_trans}
 use Rattle.winnow.specs.Reads.Known.{slice_leaves, slice_reads}
-use Rattle.timed.specs.Heads.{IsFirstHeader, IsFirstRequest}
+use Rattle.timed.specs.Heads.{IsFirstHeader}
 use Rattle.timed.specs.Values.{AreValues}
 use Rattle.timed.proofs.Headers.{header_once, line_end}
 use Rattle.timed.proofs.Listed.{all_once}

@@ -1,4 +1,4 @@
-use Rattle.std.proofs.Common.{of_calls, rules, ◌∙◌, refl}
+use Rattle.std.proofs.Common.{of_calls, rules, ◌∙◌}
 use Rattle.timed.proofs.HeadReading.{head_read}
 use Rattle.timed.proofs.Sums.{sums_told}
 use Rattle.timed.proofs.heads.heads.Goals as goal

@@ -1,5 +1,5 @@
 use Rattle.std.specs.Str.{IsUtf8, chars}
-use Rattle.std.proofs.Common.{List, ℕ, ◌≡◌, ◌∙◌, ap, inl, length, refl, subst, sym}
+use Rattle.std.proofs.Common.{List, ℕ, ◌∙◌, ap, inl, length, refl, subst, sym}
 use Rattle.winnow.specs.Text.{width_chars}
 use Rattle.timed.specs.Values.{CountsValues}
 use Rattle.timed.specs.Words.{IsFirstWord}
