@@ -1,4 +1,11 @@
+pub mod Fields
+pub mod HeadRuns
+pub mod Heads
+pub mod Keywords
 pub mod Numbers
 pub mod Outcome
+pub mod RowRuns
 pub mod Searches
 pub mod Tally
+pub mod Values
+pub mod Words

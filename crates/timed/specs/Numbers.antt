@@ -1,7 +1,6 @@
 -- Runs of the parser of numbers with a comma behind each.
 use Rattle.std.specs.Prelude.{◌≡◌, ◌+◌, ◌%◌, ◌^◌, ℕ, List, [], ◌∷◌, ⊤, None, Err, MatchResult}
 use Rattle.std.specs.List.{fold}
-use Rattle.std.specs.Borrow.{Bor}
 use Rattle.winnow.specs.Accumulator.{Accumulator}
 use Rattle.winnow.specs.Bytes.{bytes_reading}
 use Rattle.winnow.specs.DecUint.{DecUintRuns}

@@ -1,13 +1,20 @@
 -- What a workload tells of a run.
-use Rattle.std.specs.Prelude.{◌≡◌, ◌⊎◌, ℕ, List, length, MatchResult, vec_len}
+use Rattle.std.specs.Prelude.{◌≡◌, ◌⊎◌, ◌%◌, ◌^◌, ℕ, List, length, MatchResult, vec_len}
 use Rattle.std.proofs.Common.{Global}
+use Rattle.std.specs.Str.{IsUtf8, chars}
 use Rattle.std.specs.declared.vec.Vec.{Vec}
 use Rattle.winnow.specs.Form.{Answer}
 use Rattle.winnow.specs.Input.{Input}
+use Rattle.winnow.specs.Text.{width}
 use Rattle.readers.specs.Document.{HasSections, IsDocumentFault, SectionText}
 use Rattle.readers.specs.declared.fault.Fault.{Fault}
 use Rattle.timed.specs.declared.outcome.Outcome.{Outcome}
+use Rattle.timed.specs.Values.{AreValues, SumsValues}
 use Rattle.timed.specs.declared.tally.Count.{Count}
+
+-- nothing at all
+abbrev pub TellsNothing : Outcome → Type 0
+TellsNothing told = (told.count ≡ 0) × (told.sum ≡ 0) × (told.left ≡ 0)
 
 -- how many outputs the list of a run has, and how many bytes are left; nothing of a run that fails
 abbrev pub TellsList : {O : Type 0} → (Answer (Vec O Global) → Input ℕ → Type 0) → Outcome
@@ -15,16 +22,16 @@ abbrev pub TellsList : {O : Type 0} → (Answer (Vec O Global) → Input ℕ →
 TellsList {O} run told =
     (answer : Answer (Vec O Global)) × (j : Input ℕ) × run answer j
     × MatchResult answer
-    (λ all. (told.count ≡ vec_len all) × (told.left ≡ length j.left.tokens))
-    (λ _. (told.count ≡ 0) × (told.left ≡ 0))
+    (λ all. (told.count ≡ vec_len all) × (told.sum ≡ 0) × (told.left ≡ length j.left.tokens))
+    (λ _. TellsNothing told)
 
 -- how many outputs a run counts, and how many bytes are left; nothing of a run that fails
 abbrev pub TellsCount : (Answer Count → Input ℕ → Type 0) → Outcome → Type 0
 TellsCount run told =
     (answer : Answer Count) × (j : Input ℕ) × run answer j
     × MatchResult answer
-    (λ all. (told.count ≡ all.number) × (told.left ≡ length j.left.tokens))
-    (λ _. (told.count ≡ 0) × (told.left ≡ 0))
+    (λ all. (told.count ≡ all.number) × (told.sum ≡ 0) × (told.left ≡ length j.left.tokens))
+    (λ _. TellsNothing told)
 
 -- how many numbers a run adds up, their sum, and how many bytes are left; nothing of a run that
 -- fails
@@ -34,7 +41,34 @@ TellsSum run told =
     × MatchResult answer
     (λ all. (told.count ≡ all.0) × (told.sum ≡ all.1)
     × (told.left ≡ length j.left.tokens))
-    (λ _. (told.count ≡ 0) × (told.left ≡ 0))
+    (λ _. TellsNothing told)
+
+-- how many values are read, modulo 2 to the 64, and how many units the tokens take that are left
+abbrev pub TellsValues : {V : Type 0} → (List ℕ → V → List ℕ → Type 0) → (List ℕ → ℕ) → List ℕ
+    → Outcome → Type 0
+TellsValues {V} first units tokens told =
+    (values : List V) × (rest : List ℕ) × AreValues first tokens values rest
+    × (told.count ≡ length values % 2 ^ 64) × (told.sum ≡ 0) × (told.left ≡ units rest)
+
+-- the same of the characters of bytes that are UTF-8, whose units are bytes; nothing of other bytes
+abbrev pub TellsText : {V : Type 0} → (List ℕ → V → List ℕ → Type 0) → List ℕ → Outcome → Type 0
+TellsText first bytes told =
+    (IsUtf8 bytes × TellsValues first width (chars bytes) told)
+    ⊎ ((IsUtf8 bytes → ⊥) × TellsNothing told)
+
+-- how many numbers are read and their sum, and how many units are left; or nothing of a run that
+-- fails
+abbrev pub TellsSums : (List ℕ → ℕ → List ℕ → Type 0) → (List ℕ → ℕ) → List ℕ → Outcome → Type 0
+TellsSums first units tokens told =
+    ((all : ℕ × ℕ) × (rest : List ℕ) × SumsValues first tokens all rest × (told.count ≡ all.0)
+    × (told.sum ≡ all.1) × (told.left ≡ units rest))
+    ⊎ TellsNothing told
+
+-- the same of the characters of bytes that are UTF-8, whose units are bytes; nothing of other bytes
+abbrev pub TellsTextSums : (List ℕ → ℕ → List ℕ → Type 0) → List ℕ → Outcome → Type 0
+TellsTextSums first bytes told =
+    (IsUtf8 bytes × TellsSums first width (chars bytes) told)
+    ⊎ ((IsUtf8 bytes → ⊥) × TellsNothing told)
 
 -- how many sections a document has; nothing of a text that is none
 abbrev pub TellsDocument : List ℕ → Outcome → Type 0

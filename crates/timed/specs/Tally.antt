@@ -1,5 +1,5 @@
 -- What accumulators that keep no list are to a repetition.
-use Rattle.std.specs.Prelude.{◌≡◌, ◌+◌, ◌%◌, ◌^◌, ℕ}
+use Rattle.std.specs.Prelude.{◌≡◌, ◌+◌, ◌%◌, ◌^◌}
 use Rattle.winnow.specs.Accumulator.{Accumulator}
 use Rattle.timed.specs.declared.tally.Count.{Count}
 

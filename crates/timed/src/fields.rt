@@ -1,19 +1,37 @@
 //! Comma separated values, without quotes.
+ghost use Rattle.std.specs.Prelude.{◌≡◌, length, map, MatchResult, ⊤};
+ghost use Rattle.std.specs.List.{fold};
+ghost use Rattle.std.specs.Str.{chars};
+ghost use Rattle.winnow.specs.Form.{answer_by};
+ghost use Rattle.winnow.specs.Text.{text_input};
+ghost use Rattle.timed.specs.Fields.{IsFirstField, IsFirstRow};
+ghost use Rattle.timed.specs.Numbers.{summed};
+ghost use Rattle.timed.specs.Outcome.{TellsTextSums, TellsValues};
+ghost use Rattle.timed.specs.RowRuns.{OthersRuns, RowRuns, fields_of};
+ghost use Rattle.timed.specs.Values.{AreValues, CountsValues};
+
 use crate::outcome::Outcome;
 use crate::tally::Count;
-use std::alloc::{Allocator, Global};
+use std::alloc::Global;
 use std::str;
 use winnow::Parser;
 use winnow::combinator::{preceded, repeat, terminated};
-use winnow::error::{ErrMode, InputError};
+use winnow::error::{ErrMode, HasKind, InputError};
 use winnow::stream::Range;
 use winnow::token::{one_of, take_till};
 
-/// The fields of a line behind the first, each behind a comma.
+/// A row: its first field, and the others.
+type Row<'i> = (&'i str, Vec<&'i str, Global>);
+
+/// The fields of a row behind the first, each behind a comma.
 fn others<'i>(
     alloc: Global,
     input: &mut &'i str,
-) -> Result<Vec<&'i str, Global>, ErrMode<InputError<&'i str>>> {
+) -> Result<Vec<&'i str, Global>, ErrMode<InputError<&'i str>>>
+    ensures { OthersRuns (text_input input.old.now)
+        (answer_by ⟦<ErrMode<InputError<&'i str>> as HasKind>⟧.kind result)
+        (text_input input.new.now) }
+{
     repeat(
         alloc,
         Range::from(0..),
@@ -22,20 +40,78 @@ fn others<'i>(
     .parse_next(input)
 }
 
-/// A line: its first field, and the others.
-fn line<'i>(
-    alloc: Global,
-    input: &mut &'i str,
-) -> Result<(&'i str, Vec<&'i str, Global>), ErrMode<InputError<&'i str>>> {
-    let first = take_till(Range::from(0..), (',', '\n')).parse_next(input)?;
-    let others = others(alloc, input)?;
-    '\n'.parse_next(input)?;
-    Ok((first, others))
+/// A row, and the line feed behind it.
+fn row<'i>(alloc: Global, input: &mut &'i str) -> Result<Row<'i>, ErrMode<InputError<&'i str>>>
+    ensures { RowRuns (text_input input.old.now)
+        (answer_by ⟦<ErrMode<InputError<&'i str>> as HasKind>⟧.kind result)
+        (text_input input.new.now) }
+{
+    let first = match take_till(Range::from(0..), (',', '\n')).parse_next(input) {
+        Ok(first) => first,
+        Err(error) => return Err(error),
+    };
+    let others = match others(alloc, input) {
+        Ok(others) => others,
+        Err(error) => return Err(error),
+    };
+    match '\n'.parse_next(input) {
+        Ok(_) => Ok((first, others)),
+        Err(error) => Err(error),
+    }
 }
 
-/// Lines of fields, as a list of lists of text.
+/// The parser of a row.
+#[derive(Clone, Copy, Drop)]
+struct RowReader {
+    alloc: Global,
+}
+
+impl<'i> Parser<&'i str, Row<'i>, ErrMode<InputError<&'i str>>> for RowReader {
+    ghost State = { ⊤ };
+
+    ghost state = { λ _. tt };
+
+    ghost meaning = { λ _ _ i answer _ j. RowRuns i answer j };
+
+    ghost leaves_ends = { λ form s i answer t j r. r.0 };
+
+    #[inline(always)]
+    fn parse_next(&mut self, input: &mut &'i str) -> Result<Row<'i>, ErrMode<InputError<&'i str>>> {
+        row(self.alloc, input)
+    }
+}
+
+/// All rows that are there.
+fn rows<'i>(
+    alloc: Global,
+    input: &mut &'i str,
+) -> Result<Vec<Row<'i>, Global>, ErrMode<InputError<&'i str>>>
+    ensures { MatchResult result
+        (λ all. AreValues IsFirstRow (chars input.old.now) (map fields_of all.items)
+        (chars input.new.now))
+        (λ _. ⊤) }
+{
+    repeat(alloc, Range::from(0..), RowReader { alloc }).parse_next(input)
+}
+
+/// How many rows there are, and how many fields they have.
+fn totals(rows: &[Row<'_>]) -> (u64, u64)
+    ensures { result ≡ fold summed (0, 0) (map fields_of rows.now) }
+{
+    let mut count: u64 = 0;
+    let mut sum: u64 = 0;
+    for row in rows {
+        count = count.wrapping_add(1);
+        sum = sum.wrapping_add(1).wrapping_add(row.1.len() as u64);
+    }
+    (count, sum)
+}
+
+/// Rows of fields, as a list of lists of text: how many they are, and how many fields they have.
 #[unsafe(no_mangle)]
-pub extern "C" fn timed_rows(alloc: Global, input: &[u8], out: &mut Outcome) {
+pub extern "C" fn timed_rows(alloc: Global, input: &[u8], out: &mut Outcome)
+    ensures { TellsTextSums IsFirstRow input.now out.new }
+{
     *out = Outcome {
         count: 0,
         sum: 0,
@@ -44,27 +120,21 @@ pub extern "C" fn timed_rows(alloc: Global, input: &[u8], out: &mut Outcome) {
     let Ok(text) = str::from_utf8(input) else {
         return;
     };
-    let mut rows: Vec<(&str, Vec<&str, Global>), Global> = Vec::new(alloc);
     let mut rest = text;
-    for _ in 0..text.len() {
-        match line(alloc, &mut rest) {
-            Ok(row) => {
-                out.sum = out.sum.wrapping_add(1).wrapping_add(row.1.len() as u64);
-                if rows.push(row).is_err() {
-                    return;
-                }
-            }
-            Err(_) => break,
-        }
+    if let Ok(all) = rows(alloc, &mut rest) {
+        let (count, sum) = totals(&all);
+        out.count = count;
+        out.sum = sum;
+        out.left = rest.as_bytes().len() as u64;
     }
-    out.count = rows.len() as u64;
-    out.left = rest.len() as u64;
 }
 
-fn counted<'i>(
-    alloc: Global,
-    input: &mut &'i [u8],
-) -> Result<Count, ErrMode<InputError<&'i [u8]>>> {
+/// How many fields have a comma or a line feed behind them.
+fn counted<'i>(alloc: Global, input: &mut &'i [u8]) -> Result<Count, ErrMode<InputError<&'i [u8]>>>
+    ensures { MatchResult result
+        (λ all. CountsValues IsFirstField input.old.now all input.new.now)
+        (λ _. ⊥) }
+{
     repeat(
         alloc,
         Range::from(0..),
@@ -78,7 +148,9 @@ fn counted<'i>(
 
 /// How many fields there are.
 #[unsafe(no_mangle)]
-pub extern "C" fn timed_fields(alloc: Global, input: &[u8], out: &mut Outcome) {
+pub extern "C" fn timed_fields(alloc: Global, input: &[u8], out: &mut Outcome)
+    ensures { TellsValues IsFirstField length input.now out.new }
+{
     let mut rest = input;
     *out = Outcome {
         count: 0,

@@ -1,24 +1,72 @@
 //! The heads of HTTP requests.
+ghost use Rattle.std.specs.Prelude.{length, ◌≡◌, ◌↔◌, IsTrue, MatchResult, ⊤};
+ghost use Rattle.winnow.specs.Bytes.{bytes_input};
+ghost use Rattle.winnow.specs.Form.{answer_by};
+ghost use Rattle.timed.specs.HeadRuns.{HeadRuns, HeadersRuns, RequestRuns};
+ghost use Rattle.timed.specs.Heads.{IsFirstHead, IsNameByte, IsTargetByte, IsValueByte};
+ghost use Rattle.timed.specs.Outcome.{TellsSums};
+ghost use Rattle.timed.specs.Values.{SumsValues};
+
 use crate::outcome::Outcome;
 use std::alloc::Global;
 use winnow::Parser;
 use winnow::combinator::{repeat, separated_pair, terminated};
-use winnow::error::{ErrMode, InputError};
-use winnow::stream::{Pred, Range};
-use winnow::token::{take_till, take_while};
+use winnow::error::{ErrMode, HasKind, InputError};
+use winnow::stream::{ContainsToken, Range};
+use winnow::token::take_while;
 
 /// A header: its name and its value.
 type Header<'i> = (&'i [u8], &'i [u8]);
 
+/// The bytes of names and methods.
+#[derive(Clone, Copy, Drop)]
+struct NameBytes;
+
+impl ContainsToken<u8> for NameBytes {
+    ghost tells = { λ s b answer. IsTrue answer ↔ IsNameByte b };
+
+    #[inline(always)]
+    fn contains_token(&self, b: u8) -> bool {
+        b.is_ascii_alphanumeric() || b == b'-'
+    }
+}
+
+/// The bytes of targets.
+#[derive(Clone, Copy, Drop)]
+struct TargetBytes;
+
+impl ContainsToken<u8> for TargetBytes {
+    ghost tells = { λ s b answer. IsTrue answer ↔ IsTargetByte b };
+
+    #[inline(always)]
+    fn contains_token(&self, b: u8) -> bool {
+        b > b' ' && b < 127
+    }
+}
+
+/// The bytes of values.
+#[derive(Clone, Copy, Drop)]
+struct ValueBytes;
+
+impl ContainsToken<u8> for ValueBytes {
+    ghost tells = { λ s b answer. IsTrue answer ↔ IsValueByte b };
+
+    #[inline(always)]
+    fn contains_token(&self, b: u8) -> bool {
+        b != b'\r'
+    }
+}
+
 /// The method and the target of a request line.
-fn request<'i>(input: &mut &'i [u8]) -> Result<Header<'i>, ErrMode<InputError<&'i [u8]>>> {
+fn request<'i>(input: &mut &'i [u8]) -> Result<Header<'i>, ErrMode<InputError<&'i [u8]>>>
+    ensures { RequestRuns (bytes_input input.old.now)
+        (answer_by ⟦<ErrMode<InputError<&'i [u8]>> as HasKind>⟧.kind result)
+        (bytes_input input.new.now) }
+{
     let mut line = (
-        take_while(
-            Range::from(1..),
-            Pred(|b: u8| b.is_ascii_alphanumeric() || b == b'-'),
-        ),
+        take_while(Range::from(1..), NameBytes),
         b' ',
-        take_while(Range::from(1..), Pred(|b: u8| b > b' ' && b < 127)),
+        take_while(Range::from(1..), TargetBytes),
         b" HTTP/1.1\r\n".as_slice(),
     );
     match line.parse_next(input) {
@@ -31,50 +79,97 @@ fn request<'i>(input: &mut &'i [u8]) -> Result<Header<'i>, ErrMode<InputError<&'
 fn headers<'i>(
     alloc: Global,
     input: &mut &'i [u8],
-) -> Result<Vec<Header<'i>, Global>, ErrMode<InputError<&'i [u8]>>> {
+) -> Result<Vec<Header<'i>, Global>, ErrMode<InputError<&'i [u8]>>>
+    ensures { HeadersRuns (bytes_input input.old.now)
+        (answer_by ⟦<ErrMode<InputError<&'i [u8]>> as HasKind>⟧.kind result)
+        (bytes_input input.new.now) }
+{
     repeat(
         alloc,
         Range::from(0..),
         terminated(
             separated_pair(
-                take_while(
-                    Range::from(1..),
-                    Pred(|b: u8| b.is_ascii_alphanumeric() || b == b'-'),
-                ),
-                b": ",
-                take_till(Range::from(0..), b'\r'),
+                take_while(Range::from(1..), NameBytes),
+                b": ".as_slice(),
+                take_while(Range::from(0..), ValueBytes),
             ),
-            b"\r\n",
+            b"\r\n".as_slice(),
         ),
     )
     .parse_next(input)
 }
 
 /// A head: the request line, the headers and an empty line. It answers how many headers there are.
-fn head<'i>(alloc: Global, input: &mut &'i [u8]) -> Result<usize, ErrMode<InputError<&'i [u8]>>> {
-    request(input)?;
-    let headers = headers(alloc, input)?;
-    b"\r\n".as_slice().parse_next(input)?;
-    Ok(headers.len())
+fn head<'i>(alloc: Global, input: &mut &'i [u8]) -> Result<usize, ErrMode<InputError<&'i [u8]>>>
+    ensures { HeadRuns (bytes_input input.old.now)
+        (answer_by ⟦<ErrMode<InputError<&'i [u8]>> as HasKind>⟧.kind result)
+        (bytes_input input.new.now) }
+{
+    if let Err(error) = request(input) {
+        return Err(error);
+    }
+    let headers = match headers(alloc, input) {
+        Ok(headers) => headers,
+        Err(error) => return Err(error),
+    };
+    match b"\r\n".as_slice().parse_next(input) {
+        Ok(_) => Ok(headers.len()),
+        Err(error) => Err(error),
+    }
 }
 
-/// Heads, one behind the other.
+/// The parser of a head.
+#[derive(Clone, Copy, Drop)]
+struct HeadReader {
+    alloc: Global,
+}
+
+impl<'i> Parser<&'i [u8], usize, ErrMode<InputError<&'i [u8]>>> for HeadReader {
+    ghost State = { ⊤ };
+
+    ghost state = { λ _. tt };
+
+    ghost meaning = { λ _ _ i answer _ j. HeadRuns i answer j };
+
+    ghost leaves_ends = { λ form s i answer t j r. r.0 };
+
+    #[inline(always)]
+    fn parse_next(&mut self, input: &mut &'i [u8]) -> Result<usize, ErrMode<InputError<&'i [u8]>>> {
+        head(self.alloc, input)
+    }
+}
+
+/// How many heads there are, and how many headers they have.
+fn heads<'i>(
+    alloc: Global,
+    input: &mut &'i [u8],
+) -> Result<(u64, u64), ErrMode<InputError<&'i [u8]>>>
+    ensures { MatchResult result
+        (λ all. SumsValues IsFirstHead input.old.now all input.new.now)
+        (λ _. ⊤) }
+{
+    repeat(alloc, Range::from(0..), HeadReader { alloc })
+        .fold(
+            || (0u64, 0u64),
+            |all: (u64, u64), n: usize| (all.0.wrapping_add(1), all.1.wrapping_add(n as u64)),
+        )
+        .parse_next(input)
+}
+
+/// Heads, one behind the other: how many they are, and how many headers they have.
 #[unsafe(no_mangle)]
-pub extern "C" fn timed_heads(alloc: Global, input: &[u8], out: &mut Outcome) {
+pub extern "C" fn timed_heads(alloc: Global, input: &[u8], out: &mut Outcome)
+    ensures { TellsSums IsFirstHead length input.now out.new }
+{
     let mut rest = input;
     *out = Outcome {
         count: 0,
         sum: 0,
         left: 0,
     };
-    for _ in 0..input.len() {
-        match head(alloc, &mut rest) {
-            Ok(headers) => {
-                out.count = out.count.wrapping_add(1);
-                out.sum = out.sum.wrapping_add(headers as u64);
-            }
-            Err(_) => break,
-        }
+    if let Ok(all) = heads(alloc, &mut rest) {
+        out.count = all.0;
+        out.sum = all.1;
+        out.left = rest.len() as u64;
     }
-    out.left = rest.len() as u64;
 }

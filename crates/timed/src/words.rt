@@ -1,4 +1,11 @@
 //! Words: keywords, and words of text.
+ghost use Rattle.std.specs.Prelude.{length, MatchResult};
+ghost use Rattle.std.specs.Str.{chars};
+ghost use Rattle.timed.specs.Keywords.{IsFirstBeforeSpace, IsKeyword, IsKeywordOfAnyCase};
+ghost use Rattle.timed.specs.Outcome.{TellsText, TellsValues};
+ghost use Rattle.timed.specs.Values.{CountsValues};
+ghost use Rattle.timed.specs.Words.{IsFirstWord};
+
 use crate::outcome::Outcome;
 use crate::tally::Count;
 use std::alloc::Global;
@@ -10,87 +17,83 @@ use winnow::prelude::*;
 use winnow::stream::{AsChar, Compare, Range};
 use winnow::token::{literal, take_till};
 
-/// One of six keywords.
-fn keyword<I: StreamIsPartial + Compare<&'static [u8]>, E: ParserError<I>>(
-    input: &mut I,
-) -> Result<I::Slice, E> {
-    alt((
+/// How many of six keywords have a space behind them.
+fn keywords<'i>(alloc: Global, input: &mut &'i [u8]) -> Result<Count, ErrMode<EmptyError>>
+    ensures { MatchResult result
+        (λ all. CountsValues (IsFirstBeforeSpace IsKeyword) input.old.now all input.new.now)
+        (λ _. ⊥) }
+{
+    let keyword = alt((
         literal(b"select".as_slice()),
         literal(b"from".as_slice()),
         literal(b"where".as_slice()),
         literal(b"group".as_slice()),
         literal(b"order".as_slice()),
         literal(b"limit".as_slice()),
-    ))
-    .parse_next(input)
+    ));
+    repeat(alloc, Range::from(0..), terminated(keyword, b' ')).parse_next(input)
 }
 
 /// Six keywords, a space behind each.
 #[unsafe(no_mangle)]
-pub extern "C" fn timed_keywords(input: &[u8], out: &mut Outcome) {
+pub extern "C" fn timed_keywords(alloc: Global, input: &[u8], out: &mut Outcome)
+    ensures { TellsValues (IsFirstBeforeSpace IsKeyword) length input.now out.new }
+{
     let mut rest = input;
     *out = Outcome {
         count: 0,
         sum: 0,
         left: 0,
     };
-    for _ in 0..input.len() {
-        if keyword::<&[u8], ErrMode<EmptyError>>(&mut rest).is_err() {
-            break;
-        }
-        match rest {
-            [b' ', more @ ..] => rest = more,
-            _ => break,
-        }
-        out.count = out.count.wrapping_add(1);
+    if let Ok(all) = keywords(alloc, &mut rest) {
+        out.count = all.number;
+        out.left = rest.len() as u64;
     }
-    out.left = rest.len() as u64;
 }
 
-/// One of six keywords, in upper or lower case.
-fn keyword_of_any_case<I: StreamIsPartial + Compare<Caseless<&'static [u8]>>, E: ParserError<I>>(
-    input: &mut I,
-) -> Result<I::Slice, E> {
-    alt((
+/// How many of six keywords, in upper or lower case, have a space behind them.
+fn keywords_of_any_case<'i>(
+    alloc: Global,
+    input: &mut &'i [u8],
+) -> Result<Count, ErrMode<EmptyError>>
+    ensures { MatchResult result
+        (λ all. CountsValues (IsFirstBeforeSpace IsKeywordOfAnyCase) input.old.now all
+        input.new.now)
+        (λ _. ⊥) }
+{
+    let keyword = alt((
         literal(Caseless(b"select".as_slice())),
         literal(Caseless(b"from".as_slice())),
         literal(Caseless(b"where".as_slice())),
         literal(Caseless(b"group".as_slice())),
         literal(Caseless(b"order".as_slice())),
         literal(Caseless(b"limit".as_slice())),
-    ))
-    .parse_next(input)
+    ));
+    repeat(alloc, Range::from(0..), terminated(keyword, b' ')).parse_next(input)
 }
 
 /// The same in upper or lower case.
 #[unsafe(no_mangle)]
-pub extern "C" fn timed_any_case(input: &[u8], out: &mut Outcome) {
+pub extern "C" fn timed_any_case(alloc: Global, input: &[u8], out: &mut Outcome)
+    ensures { TellsValues (IsFirstBeforeSpace IsKeywordOfAnyCase) length input.now out.new }
+{
     let mut rest = input;
     *out = Outcome {
         count: 0,
         sum: 0,
         left: 0,
     };
-    for _ in 0..input.len() {
-        if keyword_of_any_case::<&[u8], ErrMode<EmptyError>>(&mut rest).is_err() {
-            break;
-        }
-        match rest {
-            [b' ', more @ ..] => rest = more,
-            _ => break,
-        }
-        out.count = out.count.wrapping_add(1);
+    if let Ok(all) = keywords_of_any_case(alloc, &mut rest) {
+        out.count = all.number;
+        out.left = rest.len() as u64;
     }
-    out.left = rest.len() as u64;
 }
 
 /// How many words have a space behind them.
-fn words<I: StreamIsPartial + Compare<char>, E: ParserError<I>>(
-    alloc: Global,
-    input: &mut I,
-) -> Result<Count, E>
-where
-    I::Token: AsChar,
+fn words<'i>(alloc: Global, input: &mut &'i str) -> Result<Count, ErrMode<EmptyError>>
+    ensures { MatchResult result
+        (λ all. CountsValues IsFirstWord (chars input.old.now) all (chars input.new.now))
+        (λ _. ⊥) }
 {
     repeat(
         alloc,
@@ -102,7 +105,9 @@ where
 
 /// Words of text, a space behind each.
 #[unsafe(no_mangle)]
-pub extern "C" fn timed_words(alloc: Global, input: &[u8], out: &mut Outcome) {
+pub extern "C" fn timed_words(alloc: Global, input: &[u8], out: &mut Outcome)
+    ensures { TellsText IsFirstWord input.now out.new }
+{
     *out = Outcome {
         count: 0,
         sum: 0,
@@ -110,9 +115,9 @@ pub extern "C" fn timed_words(alloc: Global, input: &[u8], out: &mut Outcome) {
     };
     if let Ok(text) = str::from_utf8(input) {
         let mut rest = text;
-        if let Ok(all) = words::<&str, ErrMode<EmptyError>>(alloc, &mut rest) {
+        if let Ok(all) = words(alloc, &mut rest) {
             out.count = all.number;
-            out.left = rest.len() as u64;
+            out.left = rest.as_bytes().len() as u64;
         }
     }
 }

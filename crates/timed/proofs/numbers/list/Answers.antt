@@ -1,4 +1,4 @@
-use Rattle.std.proofs.Common.{◌∙◌, ap, refl}
+use Rattle.std.proofs.Common.{◌∙◌, refl}
 use Rattle.winnow.specs.Accumulator.{list_kept}
 use Rattle.winnow.specs.Form.{assert_kind, modal}
 use Rattle.winnow.specs.Separated.{RangedElements}

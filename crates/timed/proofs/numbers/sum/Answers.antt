@@ -1,5 +1,4 @@
 use Rattle.std.proofs.Common.{of_calls, rules, ◌∙◌, ap, refl}
-use Rattle.winnow.specs.Fold.{fold_occurrences, fold_parser}
 use Rattle.winnow.specs.Terminated.{terminated_ignored}
 use Rattle.timed.proofs.Runs.{both}
 use Rattle.timed.proofs.Sums.{sum_told}

@@ -1,0 +1,27 @@
+use Rattle.std.proofs.Common.{◌∙◌, ap}
+use Rattle.winnow.specs.SeparatedPair.{separated_pair_first, separated_pair_second}
+use Rattle.winnow.specs.SeparatedPair.{separated_pair_separator}
+use Rattle.winnow.specs.TakeWhile.{take_while_occurrences}
+use Rattle.winnow.specs.Terminated.{terminated_ignored, terminated_parser}
+use Rattle.timed.proofs.Headers.{header_read}
+use Rattle.timed.proofs.Listed.{list_counted}
+use Rattle.timed.proofs.heads.headers.Goals as goal
+
+pub returns : goal.returns
+returns c =
+    let parser = c.repeat.ensures.parser in
+    let pair = ap terminated_parser parser ∙ c.terminated.ensures.parser in
+    let name = ap separated_pair_first pair ∙ c.separated_pair.ensures.first in
+    let colon = ap separated_pair_separator pair ∙ c.separated_pair.ensures.separator in
+    let value = ap separated_pair_second pair ∙ c.separated_pair.ensures.second in
+    let behind = ap terminated_ignored parser ∙ c.terminated.ensures.ignored in (
+      c.parse_next.ensures.ends,
+      list_counted header_read _ _ _ _ _ (
+        (
+          ap take_while_occurrences name ∙ c.take_while.ensures.occurrences ∙ c.from-2.ensures,
+          ap (λ s. s.now) colon ∙ c.as_slice.ensures,
+          ap take_while_occurrences value ∙ c.take_while-2.ensures.occurrences ∙ c.from-3.ensures,
+        ),
+        ap (λ s. s.now) behind ∙ c.as_slice-2.ensures,
+      ) (c.repeat.ensures.occurrences ∙ c.from.ensures) c.parse_next.ensures.ran,
+    )

@@ -1,0 +1,31 @@
+-- What the readers of a head's parts answer.
+use Rattle.std.specs.Prelude.{◌≡◌, ℕ, List, length, MatchResult}
+use Rattle.std.proofs.Common.{Global}
+use Rattle.std.specs.declared.vec.Vec.{Vec}
+use Rattle.winnow.specs.Bytes.{bytes_reading}
+use Rattle.winnow.specs.Form.{Answer}
+use Rattle.winnow.specs.Input.{Input, IsEndOf}
+use Rattle.winnow.specs.Kind.{backtrack}
+use Rattle.timed.specs.Heads.{IsFirstHead, IsFirstHeader, IsFirstRequest}
+use Rattle.timed.specs.Values.{AreValues}
+
+-- A run of the reader of a request line, which fails where none stands first.
+abbrev pub RequestRuns : {O : Type 0} → Input ℕ → Answer O → Input ℕ → Type 0
+RequestRuns i answer j = IsEndOf bytes_reading j i × MatchResult answer
+    (λ line. IsFirstRequest i.left.tokens j.left.tokens)
+    (λ k. (rest : List ℕ) → IsFirstRequest i.left.tokens rest → ⊥)
+
+-- A run of the reader of all headers that are there, which does not backtrack.
+abbrev pub HeadersRuns : {O : Type 0} → Input ℕ → Answer (Vec O Global) → Input ℕ → Type 0
+HeadersRuns i answer j = IsEndOf bytes_reading j i × MatchResult answer
+    (λ all. (headers : List (List ℕ × List ℕ))
+    × AreValues IsFirstHeader i.left.tokens headers j.left.tokens
+    × (length all.items ≡ length headers))
+    (λ k. k ≡ backtrack → ⊥)
+
+-- A run of the reader of a head, which backtracks where none stands first.
+abbrev pub HeadRuns : Input ℕ → Answer ℕ → Input ℕ → Type 0
+HeadRuns i answer j = IsEndOf bytes_reading j i × MatchResult answer
+    (λ number. IsFirstHead i.left.tokens number j.left.tokens)
+    (λ k. k ≡ backtrack → (number : ℕ) (rest : List ℕ)
+    → IsFirstHead i.left.tokens number rest → ⊥)
