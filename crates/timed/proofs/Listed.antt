@@ -2,7 +2,7 @@
 use Rattle.std.specs.Prelude.{◌≡◌, ℕ, List, [], ◌∷◌, length, map, ⊤, Result, Ok, Err, MatchResult}
 use Rattle.std.specs.List.{FoldsTo}
 use Rattle.std.specs.declared.vec.Vec.{Vec}
-use Rattle.std.proofs.Common.{Global, ◌∙◌, ap, inl, inr, refl, subst, sym}
+use Rattle.std.proofs.Common.{Global, ◌∙◌, ap, inl, inr, subst, sym}
 use Rattle.winnow.specs.Accumulator.{list_kept}
 use Rattle.winnow.specs.Form.{Answer, answer_by, assert_kind, modal}
 use Rattle.winnow.specs.Input.{Input}
@@ -14,7 +14,7 @@ use Rattle.winnow.specs.Runs.{Runs}
 use Rattle.winnow.specs.{Range}
 use Rattle.timed.specs.Numbers.{any_number}
 use Rattle.timed.specs.Values.{AreValues}
-use Rattle.timed.proofs.Values.{length-map}
+use Rattle.timed.proofs.Values.{chain_reads, length-map}
 
 -- Runs that read the value that stands first, and backtrack only where none does.
 pub record ReadsFirst {S O V : Type 0} (run : Runs S ℕ O) (known : S → Type 0) (value : O → V)
@@ -25,29 +25,16 @@ pub record ReadsFirst {S O V : Type 0} (run : Runs S ℕ O) (known : S → Type 
       → run s i (Err backtrack) t j
       → (v : V) (more : List ℕ) → first i.left.tokens v more → ⊥
 
--- a chain of them reads one value behind the other
-chain_of : {S O V : Type 0} {run : Runs S ℕ O} {known : S → Type 0} {value : O → V}
-    {first : List ℕ → V → List ℕ → Type 0} → ReadsFirst run known value first
-    → (outputs : List O) (s : S) (i : Input ℕ) (u : S) (m : Input ℕ) → known s
-    → Items run s i outputs u m
-    → FoldsTo first i.left.tokens (map value outputs) m.left.tokens × known u
-chain_of {S} {known = known} {first = first} it [] s i u m is e =
-    let P : S × Input ℕ → Type 0 =
-    λ p. FoldsTo first i.left.tokens [] p.1.left.tokens × known p.0 in
-    subst P e (refl, is)
-chain_of it (o ∷ os) s i u m is (p, item, rest) =
-    let (one, kept) = it.reads s i o p.0 p.1 is item.0 in
-    let (more, known_u) = chain_of it os p.0 p.1 u m kept rest in
-    ((p.1.left.tokens, one, more), known_u)
-
--- and a run that backtracked behind it says that they are all
+-- a chain of them, behind which one backtracked, reads all values that are there
 pub chain_values : {S O V : Type 0} {run : Runs S ℕ O} {known : S → Type 0} {value : O → V}
     {first : List ℕ → V → List ℕ → Type 0} → ReadsFirst run known value first
     → (outputs : List O) (s : S) (i : Input ℕ) (u : S) (m : Input ℕ) (t : S) (last : Input ℕ)
     → known s → Items run s i outputs u m → run u m (Err backtrack) t last
     → AreValues first i.left.tokens (map value outputs) m.left.tokens
-chain_values it outputs s i u m t last is chain failed =
-    let (are, known_u) = chain_of it outputs s i u m is chain in
+chain_values {run = run} {known = known} {value = value} {first = first} it outputs s i u m t
+    last is chain failed =
+    let (are, known_u) =
+    chain_reads run value first (λ u m. known u) it.reads outputs s i u m is chain in
     record { are = are; ended = it.ended u m t last known_u failed }
 
 -- where what is behind a first value is one, what is behind all of them is one

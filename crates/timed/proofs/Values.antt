@@ -29,21 +29,36 @@ pub record ReadsValue {S O V : Type 0} (run : Runs S ℕ O) (known : S → Type 
       → (k ≡ backtrack) × ((v : V) (more : List ℕ) → first i.left.tokens v more → ⊥)
   pub some : (v : V) (tokens : List ℕ) → first tokens v tokens → ⊥
 
--- a chain of them reads one value behind the other
-pub chain_reads : {S O V : Type 0} {run : Runs S ℕ O} {known : S → Type 0} {value : O → V}
+-- A chain of runs that each read a value reads one behind the other, where they keep what is known
+-- of the state and the input.
+pub chain_reads : {S O V : Type 0} (run : Runs S ℕ O) (value : O → V)
+    (first : List ℕ → V → List ℕ → Type 0) (known : S → Input ℕ → Type 0)
+    → ((s : S) (i : Input ℕ) (o : O) (t : S) (j : Input ℕ) → known s i → run s i (Ok o) t j
+    → first i.left.tokens (value o) j.left.tokens × known t j)
+    → (outputs : List O) (s : S) (i : Input ℕ) (u : S) (m : Input ℕ) → known s i
+    → Items run s i outputs u m
+    → FoldsTo first i.left.tokens (map value outputs) m.left.tokens × known u m
+chain_reads {S} run value first known reads [] s i u m is e =
+    let P : S × Input ℕ → Type 0 =
+    λ p. FoldsTo first i.left.tokens [] p.1.left.tokens × known p.0 p.1 in
+    subst P e (refl, is)
+chain_reads run value first known reads (o ∷ os) s i u m is (p, item, rest) =
+    let (one, kept) = reads s i o p.0 p.1 is item.0 in
+    let (more, known_u) = chain_reads run value first known reads os p.0 p.1 u m kept rest in
+    ((p.1.left.tokens, one, more), known_u)
+
+-- ... as these do
+whole_chain : {S O V : Type 0} {run : Runs S ℕ O} {known : S → Type 0} {value : O → V}
     {first : List ℕ → V → List ℕ → Type 0} → ReadsValue run known value first
     → (outputs : List O) (s : S) (i : Input ℕ) (u : S) (m : Input ℕ) → known s
     → i.status.cut ≡ false → Items run s i outputs u m
-    → FoldsTo first i.left.tokens (map value outputs) m.left.tokens × known u
-    × (m.status.cut ≡ false)
-chain_reads {S} {known = known} {first = first} it [] s i u m is whole e =
-    let P : S × Input ℕ → Type 0 =
-    λ p. FoldsTo first i.left.tokens [] p.1.left.tokens × known p.0 × (p.1.status.cut ≡ false) in
-    subst P e (refl, is, whole)
-chain_reads it (o ∷ os) s i u m is whole (p, item, rest) =
-    let (one, kept, still) = it.reads s i o p.0 p.1 is whole item.0 in
-    let (more, known_u, whole_m) = chain_reads it os p.0 p.1 u m kept still rest in
-    ((p.1.left.tokens, one, more), known_u, whole_m)
+    → FoldsTo first i.left.tokens (map value outputs) m.left.tokens
+    × (known u × (m.status.cut ≡ false))
+whole_chain {run = run} {known = known} {value = value} {first = first} it outputs s i u m is
+    whole chain =
+    chain_reads run value first (λ t j. known t × (j.status.cut ≡ false))
+    (λ t j o u k kept ran. let h = it.reads t j o u k kept.0 kept.1 ran in (h.0, (h.1, h.2)))
+    outputs s i u m (is, whole) chain
 
 -- a count that was below 2 to the 64 goes up by the number of outputs
 counted_up : {O : Type 0} (outputs : List O) (before after : Count) → before.number < 2 ^ 64
@@ -73,8 +88,8 @@ repeat_counts {run = run} {value = value} {first = first} it s i (Ok all) t j is
     let P : Range → Type 0 =
     λ r. RepeatRuns run counts (assert_kind modal) (bounds_of r) s.0 i (Ok all) t.0 j in
     let told = repeat_any_ok run counts (assert_kind modal) s.0 i all t.0 j (subst P range ran.0) in
-    let (are, known_u, whole_m) =
-    chain_reads it told.outputs s.0 i told.state told.input is whole told.chain in
+    let (are, (known_u, whole_m)) =
+    whole_chain it told.outputs s.0 i told.state told.input is whole told.chain in
     let back = ap (λ x. x.left.tokens) told.back in
     let begun : told.empty.number ≡ 0 = told.starts in
     let Q : List ℕ → Type 0 =
@@ -101,8 +116,8 @@ repeat_counts {run = run} {value = value} {first = first} it s i (Err k) t j is 
     λ r. RepeatRuns run counts (assert_kind modal) (bounds_of r) s.0 i (Err k) t.0 j in
     let told = repeat_any_err run counts (assert_kind modal) s.0 i k t.0 j (λ x. x)
     (subst P range ran.0) in
-    let (are, known_u, whole_m) =
-    chain_reads it told.outputs s.0 i told.state told.input is whole told.chain in
+    let (are, (known_u, whole_m)) =
+    whole_chain it told.outputs s.0 i told.state told.input is whole told.chain in
     elim told.failure [
       | inl (failed, other) ↦ absurd (other
           (it.fails told.state told.input k t.0 j known_u whole_m failed).0)

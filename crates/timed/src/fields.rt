@@ -108,6 +108,7 @@ fn totals(rows: &[Row<'_>]) -> (u64, u64)
 }
 
 /// Rows of fields, as a list of lists of text: how many they are, and how many fields they have.
+/// Nothing is told of bytes that are no text, or where a request for memory was refused.
 #[unsafe(no_mangle)]
 pub extern "C" fn timed_rows(alloc: Global, input: &[u8], out: &mut Outcome)
     ensures { TellsTextSums IsFirstRow input.now out.new }

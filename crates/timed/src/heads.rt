@@ -156,7 +156,8 @@ fn heads<'i>(
         .parse_next(input)
 }
 
-/// Heads, one behind the other: how many they are, and how many headers they have.
+/// Heads, one behind the other: how many they are, and how many headers they have. Nothing is told
+/// where a request for memory was refused.
 #[unsafe(no_mangle)]
 pub extern "C" fn timed_heads(alloc: Global, input: &[u8], out: &mut Outcome)
     ensures { TellsSums IsFirstHead length input.now out.new }
