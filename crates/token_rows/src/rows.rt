@@ -7,8 +7,8 @@ mod parser;
 mod token;
 
 use outcomes::texts::{
-    OfText, completed, endings_at, endings_in_text, outcome_at, outcome_in_text, slice_in_text,
-    whole,
+    OfText, completed, endings_alike, endings_at, endings_in_text, outcome_at, outcome_in_text,
+    slice_in_text, whole,
 };
 use outcomes::{Ending, Kind, ending_by_place, ending_of};
 use std::fmt::Debug;
@@ -25,6 +25,7 @@ use stream_sets::as_char::AsChar;
 use streams::partial::Partial;
 use streams::stream::{Location, Stream};
 use streams::token_slice::TokenSlice;
+use winnow_core::agrees_with::AgreesWith;
 use winnow_core::parser::Parser;
 
 /// Errors with a mode.
@@ -35,6 +36,9 @@ type ModalAtBytes = ErrMode<InputError<&'static [u8]>>;
 
 /// A text, and how a parser ends on it where it is whole, and where it is cut.
 type Row = (&'static str, Ending, Ending);
+
+/// A text, what a parser answers where it is whole, and what it leaves of it.
+type Answer<O> = (&'static str, Result<O, Kind>, &'static str);
 
 /// What was got at a row of a parser is what the row says.
 fn same<T: PartialEq + Debug + Drop>(rt: &impl Abort, name: &str, row: &str, got: T, want: T) {
@@ -78,7 +82,7 @@ fn answers_each<I: OfText, E: ParserError<I>, P: Parser<I, I::Slice, E> + Drop>(
     rt: &impl Abort,
     name: &str,
     parser: P,
-    rows: &[(&'static str, Result<&'static str, Kind>, &'static str)],
+    rows: &[Answer<&'static str>],
 )
 where
     I::Slice: PartialEq + Debug,
@@ -160,6 +164,29 @@ fn moves_each<I: OfText + Location, O: Drop, E: ParserError<I>, P: Parser<I, O, 
     }
 }
 
+/// A parser ends so on a text, and so does the like one on the partial stream that is marked
+/// complete.
+fn like_ends<I, O, E, P, Q>(
+    rt: &impl Abort,
+    name: &str,
+    text: &'static str,
+    parsers: (P, Q),
+    want: Ending,
+)
+where
+    I: OfText,
+    O: Drop,
+    E: ParserError<I> + ParserError<Partial<I>>,
+    P: AgreesWith<I, O, E, Q, Partial<I>, E> + Drop,
+    Q: Parser<Partial<I>, O, E> + Drop,
+    requires first { P.can_parse parsers.0 }
+    requires like { Q.can_parse parsers.1 }
+{
+    let (first, like) = parsers;
+    let got = endings_alike::<I, O, E, P, Q>(first, like, text);
+    same(rt, name, text, got, (want, want));
+}
+
 /// Each beginning of a sample, from none of its tokens on, ends so where it is whole, and so where
 /// it is cut; cut it is incomplete, or ends as the whole sample does.
 fn sweep<I: OfText, O: Drop, E: ParserError<I>, P: Parser<I, O, E> + Drop>(
@@ -238,6 +265,25 @@ where
     ascii::at_stream::<I, E>(rt);
 }
 
+/// The rows at streams of characters, under two errors that are plain.
+fn text_at_plain_errors<
+    I: OfText
+        + SlicesAsBytes
+        + Compare<char>
+        + Compare<&'static str>
+        + FindSlice<char>
+        + FindSlice<(char, char)>,
+    E: ParserError<I>,
+    F: ParserError<I>,
+>(rt: &impl Abort)
+where
+    I::Token: AsChar + Copy,
+    I::Slice: AsBStr,
+{
+    token::at_plain_errors::<I, E>(rt);
+    ascii::at_plain_errors::<I, E, F>(rt);
+}
+
 #[test]
 fn text(rt: HostRuntime) {
     at_text::<&str, Modal>(&rt);
@@ -269,15 +315,12 @@ fn bytes_under_plain_errors(rt: HostRuntime) {
 
 #[test]
 fn cut_text_under_plain_errors(rt: HostRuntime) {
-    token::at_plain_errors::<Partial<&str>, EmptyError>(&rt);
-    ascii::at_plain_errors::<Partial<&str>, EmptyError>(&rt);
-    ascii::at_plain_errors::<Partial<&str>, InputError<Partial<&'static str>>>(&rt);
+    text_at_plain_errors::<Partial<&str>, EmptyError, InputError<Partial<&'static str>>>(&rt);
 }
 
 #[test]
 fn cut_bytes_under_plain_errors(rt: HostRuntime) {
-    ascii::at_plain_errors::<Partial<&[u8]>, EmptyError>(&rt);
-    ascii::at_plain_errors::<Partial<&[u8]>, InputError<Partial<&'static [u8]>>>(&rt);
+    ascii::at_plain_errors::<Partial<&[u8]>, EmptyError, InputError<Partial<&'static [u8]>>>(&rt);
 }
 
 #[test]
@@ -305,7 +348,8 @@ fn numbers_by_types(rt: HostRuntime) {
 fn parses_by_items(rt: HostRuntime) {
     parse_iter::parse_iter::<&str, Modal>(&rt);
     parse_iter::parse_iter_located::<&str>(&rt);
-    parse_iter::parse_iter_of_text(&rt);
+    parse_iter::parse_iter_of_text::<&str, EmptyError>(&rt);
+    parse_iter::parse_iter_of_text::<&str, Modal>(&rt);
     parse_iter::parse_iter_of_needs(&rt);
-    parse_iter::parse_iter_with_state(&rt);
+    parse_iter::parse_iter_with_state::<&str, EmptyError>(&rt);
 }

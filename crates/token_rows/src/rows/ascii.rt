@@ -3,7 +3,7 @@ mod classes;
 mod line_ends;
 pub(crate) mod numbers;
 
-use crate::rows::{Modal, answers_each, ends_each, same};
+use crate::rows::{Answer, Modal, Row, answers_each, ends_each, same};
 use outcomes::Ending::Takes;
 use outcomes::Kind::Backtrack;
 use outcomes::texts::{OfText, outcome_in_text, slice_in_text, whole};
@@ -30,9 +30,20 @@ where
     I::Slice: AsBStr,
 {
     classes::places::<LocatingSlice<I>, Modal>(rt);
-    classes::complete_streams::<I, Modal>(rt);
-    line_ends::complete_streams::<I, Modal>(rt);
-    numbers::complete_streams::<I, Modal>(rt);
+    complete_streams::<I, Modal>(rt);
+}
+
+/// The rows of the stream beside its partial one that is marked complete.
+fn complete_streams<I, E>(rt: &impl Abort)
+where
+    I: OfText + SlicesAsBytes + Compare<char> + Compare<&'static str> + FindSlice<(char, char)>,
+    I::Token: AsChar,
+    I::Slice: AsBStr,
+    E: ParserError<I> + ParserError<Partial<I>>,
+{
+    classes::complete_streams::<I, E>(rt);
+    line_ends::complete_streams::<I, E>(rt);
+    numbers::complete_streams::<I, E>(rt);
 }
 
 /// The rows at a stream.
@@ -89,8 +100,22 @@ where
     numbers::at_places::<I, E>(rt);
 }
 
-/// The rows of line ends and numbers at a stream under an error that is plain.
+/// The rows of line ends and numbers at a stream under two errors that are plain.
 pub(crate) fn at_plain_errors<
+    I: OfText + SlicesAsBytes + Compare<char> + Compare<&'static str> + FindSlice<(char, char)>,
+    E: ParserError<I>,
+    F: ParserError<I>,
+>(rt: &impl Abort)
+where
+    I::Token: AsChar,
+    I::Slice: AsBStr,
+{
+    at_plain_error::<I, E>(rt);
+    at_plain_error::<I, F>(rt);
+}
+
+/// The rows of line ends and numbers at a stream under an error that is plain.
+fn at_plain_error<
     I: OfText + SlicesAsBytes + Compare<char> + Compare<&'static str> + FindSlice<(char, char)>,
     E: ParserError<I>,
 >(rt: &impl Abort)
@@ -125,12 +150,9 @@ where
     );
 }
 
-fn digit1<I: OfText, E: ParserError<I>>(rt: &impl Abort)
-where
-    I::Token: AsChar,
-    I::Slice: PartialEq + Debug,
-{
-    let rows = [
+/// What `digit1` answers.
+fn digit1_answers() -> [Answer<&'static str>; 9] {
+    [
         ("12;", Ok("12"), ";"),
         ("0", Ok("0"), ""),
         ("9:", Ok("9"), ":"),
@@ -140,7 +162,15 @@ where
         (":", Err(Backtrack), ":"),
         ("", Err(Backtrack), ""),
         ("٣", Err(Backtrack), "٣"),
-    ];
+    ]
+}
+
+fn digit1<I: OfText, E: ParserError<I>>(rt: &impl Abort)
+where
+    I::Token: AsChar,
+    I::Slice: PartialEq + Debug,
+{
+    let rows = digit1_answers();
     answers_each::<I, E, _>(rt, "Digit1", Digit1, &rows);
     for (text, want, rest) in rows {
         let mut input = whole::<I>(text);
@@ -149,11 +179,9 @@ where
     }
 }
 
-fn digit1_on_cut_input<I: OfText, E: ParserError<I>>(rt: &impl Abort)
-where
-    I::Token: AsChar,
-{
-    let rows = [
+/// How `digit1` ends.
+fn digit1_endings() -> [Row; 10] {
+    [
         ("12;", Takes(2), Takes(2)),
         ("12", Takes(2), lacks(1)),
         ("", BACKTRACKS, lacks(1)),
@@ -164,16 +192,19 @@ where
         ("٣", BACKTRACKS, BACKTRACKS),
         ("7€", Takes(1), Takes(1)),
         ("𝟗1", BACKTRACKS, BACKTRACKS),
-    ];
-    ends_each::<I, _, E, _>(rt, "digit1", Digit1, &rows);
+    ]
 }
 
-fn alphanumeric1<I: OfText, E: ParserError<I>>(rt: &impl Abort)
+fn digit1_on_cut_input<I: OfText, E: ParserError<I>>(rt: &impl Abort)
 where
     I::Token: AsChar,
-    I::Slice: PartialEq + Debug,
 {
-    let rows = [
+    ends_each::<I, _, E, _>(rt, "digit1", Digit1, &digit1_endings());
+}
+
+/// What `alphanumeric1` answers.
+fn alphanumeric1_answers() -> [Answer<&'static str>; 11] {
+    [
         ("a1Z;", Ok("a1Z"), ";"),
         ("AZaz09_", Ok("AZaz09"), "_"),
         ("z", Ok("z"), ""),
@@ -185,7 +216,15 @@ where
         ("{", Err(Backtrack), "{"),
         ("", Err(Backtrack), ""),
         ("é", Err(Backtrack), "é"),
-    ];
+    ]
+}
+
+fn alphanumeric1<I: OfText, E: ParserError<I>>(rt: &impl Abort)
+where
+    I::Token: AsChar,
+    I::Slice: PartialEq + Debug,
+{
+    let rows = alphanumeric1_answers();
     answers_each::<I, E, _>(rt, "Alphanumeric1", Alphanumeric1, &rows);
     for (text, want, rest) in rows {
         let mut input = whole::<I>(text);
@@ -194,11 +233,9 @@ where
     }
 }
 
-fn alphanumeric1_on_cut_input<I: OfText, E: ParserError<I>>(rt: &impl Abort)
-where
-    I::Token: AsChar,
-{
-    let rows = [
+/// How `alphanumeric1` ends.
+fn alphanumeric1_endings() -> [Row; 9] {
+    [
         ("aZ9;", Takes(3), Takes(3)),
         ("Az0", Takes(3), lacks(1)),
         ("", BACKTRACKS, lacks(1)),
@@ -208,16 +245,19 @@ where
         ("é", BACKTRACKS, BACKTRACKS),
         ("z漢", Takes(1), Takes(1)),
         ("𝐚a", BACKTRACKS, BACKTRACKS),
-    ];
-    ends_each::<I, _, E, _>(rt, "alphanumeric1", Alphanumeric1, &rows);
+    ]
 }
 
-fn space0<I: OfText, E: ParserError<I>>(rt: &impl Abort)
+fn alphanumeric1_on_cut_input<I: OfText, E: ParserError<I>>(rt: &impl Abort)
 where
     I::Token: AsChar,
-    I::Slice: PartialEq + Debug,
 {
-    let rows = [
+    ends_each::<I, _, E, _>(rt, "alphanumeric1", Alphanumeric1, &alphanumeric1_endings());
+}
+
+/// What `space0` answers.
+fn space0_answers() -> [Answer<&'static str>; 7] {
+    [
         (" \ta", Ok(" \t"), "a"),
         ("  ", Ok("  "), ""),
         (" \n", Ok(" "), "\n"),
@@ -225,7 +265,15 @@ where
         ("\r", Ok(""), "\r"),
         ("", Ok(""), ""),
         ("\u{a0}", Ok(""), "\u{a0}"),
-    ];
+    ]
+}
+
+fn space0<I: OfText, E: ParserError<I>>(rt: &impl Abort)
+where
+    I::Token: AsChar,
+    I::Slice: PartialEq + Debug,
+{
+    let rows = space0_answers();
     answers_each::<I, E, _>(rt, "Space0", Space0, &rows);
     for (text, want, rest) in rows {
         let mut input = whole::<I>(text);
@@ -234,11 +282,9 @@ where
     }
 }
 
-fn space0_on_cut_input<I: OfText, E: ParserError<I>>(rt: &impl Abort)
-where
-    I::Token: AsChar,
-{
-    let rows = [
+/// How `space0` ends.
+fn space0_endings() -> [Row; 8] {
+    [
         (" \ta", Takes(2), Takes(2)),
         (" \t", Takes(2), lacks(1)),
         ("", Takes(0), lacks(1)),
@@ -247,16 +293,19 @@ where
         ("\u{a0}", Takes(0), Takes(0)),
         (" \u{2003}", Takes(1), Takes(1)),
         ("\t😀", Takes(1), Takes(1)),
-    ];
-    ends_each::<I, _, E, _>(rt, "space0", Space0, &rows);
+    ]
 }
 
-fn multispace1<I: OfText, E: ParserError<I>>(rt: &impl Abort)
+fn space0_on_cut_input<I: OfText, E: ParserError<I>>(rt: &impl Abort)
 where
     I::Token: AsChar,
-    I::Slice: PartialEq + Debug,
 {
-    let rows = [
+    ends_each::<I, _, E, _>(rt, "space0", Space0, &space0_endings());
+}
+
+/// What `multispace1` answers.
+fn multispace1_answers() -> [Answer<&'static str>; 8] {
+    [
         (" \t\r\na", Ok(" \t\r\n"), "a"),
         ("\n", Ok("\n"), ""),
         ("\r\n ;", Ok("\r\n "), ";"),
@@ -265,7 +314,15 @@ where
         ("\u{c}", Err(Backtrack), "\u{c}"),
         ("", Err(Backtrack), ""),
         ("\u{a0}", Err(Backtrack), "\u{a0}"),
-    ];
+    ]
+}
+
+fn multispace1<I: OfText, E: ParserError<I>>(rt: &impl Abort)
+where
+    I::Token: AsChar,
+    I::Slice: PartialEq + Debug,
+{
+    let rows = multispace1_answers();
     answers_each::<I, E, _>(rt, "Multispace1", Multispace1, &rows);
     for (text, want, rest) in rows {
         let mut input = whole::<I>(text);
@@ -274,11 +331,9 @@ where
     }
 }
 
-fn multispace1_on_cut_input<I: OfText, E: ParserError<I>>(rt: &impl Abort)
-where
-    I::Token: AsChar,
-{
-    let rows = [
+/// How `multispace1` ends.
+fn multispace1_endings() -> [Row; 8] {
+    [
         (" \t\r\na", Takes(4), Takes(4)),
         ("\r\n", Takes(2), lacks(1)),
         ("", BACKTRACKS, lacks(1)),
@@ -287,6 +342,12 @@ where
         ("\u{a0} ", BACKTRACKS, BACKTRACKS),
         (" \u{2028}", Takes(1), Takes(1)),
         ("\n😀", Takes(1), Takes(1)),
-    ];
-    ends_each::<I, _, E, _>(rt, "multispace1", Multispace1, &rows);
+    ]
+}
+
+fn multispace1_on_cut_input<I: OfText, E: ParserError<I>>(rt: &impl Abort)
+where
+    I::Token: AsChar,
+{
+    ends_each::<I, _, E, _>(rt, "multispace1", Multispace1, &multispace1_endings());
 }

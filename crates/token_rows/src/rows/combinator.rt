@@ -34,6 +34,14 @@ where
     for (text, want) in [("", Takes(0)), ("é", BACKTRACKS), ("éa", BACKTRACKS)] {
         ends::<I, _, E, _>(rt, "eof", Eof, text, want, want);
     }
+    eof_as_function::<I, E>(rt);
+}
+
+/// The function that is the parser.
+fn eof_as_function<I: OfText, E: ParserError<I>>(rt: &impl Abort)
+where
+    I::Slice: PartialEq + Debug,
+{
     let mut input = whole::<I>("a");
     let answer: Result<I::Slice, E> = combinator::eof(&mut input);
     let got = outcome_with::<I, _, E>(answer, input);

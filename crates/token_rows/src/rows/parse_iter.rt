@@ -144,12 +144,14 @@ fn in_a_loop<I: OfText + Stream<Token = char>, E: ParserError<I>>(rt: &impl Abor
 }
 
 /// The place is where the failing run left the input, and units of text are bytes.
-pub(crate) fn parse_iter_of_text(rt: &impl Abort) {
-    let pair = (Any, Any);
-    let items = [('é', 'a')];
-    gives::<&str, (char, char), EmptyError, _>(rt, "éab", pair, "éab", &items, End::Refused(4));
+pub(crate) fn parse_iter_of_text<I, E: ParserError<I>>(rt: &impl Abort)
+where
+    I: OfText + Copy + Stream<Token = char>,
+    requires { I.supports_partial ≡ false }
+{
     let ends = End::Refused(4);
-    gives::<&str, (char, char), ErrMode<EmptyError>, _>(rt, "éab", pair, "éab", &items, ends);
+    let input = I::of_text("éab");
+    gives::<I, (char, char), E, _>(rt, "éab", (Any, Any), input, &[('é', 'a')], ends);
 }
 
 /// A need ends it too.
@@ -167,16 +169,20 @@ pub(crate) fn parse_iter_of_needs(rt: &impl Abort) {
 }
 
 /// The state of the parser goes on from item to item, and to the next parse.
-pub(crate) fn parse_iter_with_state(rt: &impl Abort) {
+pub(crate) fn parse_iter_with_state<I, E: ParserError<I>>(rt: &impl Abort)
+where
+    I: OfText + Copy + Stream<Token = char>,
+    requires { I.supports_partial ≡ false }
+{
     let mut calls = 0u8;
     let mut counted = Any.map(move |_: char| {
         calls = calls.saturating_add(1);
         calls
     });
     let all = counted.by_ref();
-    gives::<&str, u8, EmptyError, _>(rt, "ab", all, "ab", &[1, 2], End::Read);
+    gives::<I, u8, E, _>(rt, "ab", all, I::of_text("ab"), &[1, 2], End::Read);
     let more = counted.by_ref();
-    gives::<&str, u8, EmptyError, _>(rt, "", more, "", &[], End::Read);
+    gives::<I, u8, E, _>(rt, "", more, I::of_text(""), &[], End::Read);
     let more = counted.by_ref();
-    gives::<&str, u8, EmptyError, _>(rt, "c", more, "c", &[3], End::Read);
+    gives::<I, u8, E, _>(rt, "c", more, I::of_text("c"), &[3], End::Read);
 }

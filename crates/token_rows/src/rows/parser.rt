@@ -37,15 +37,35 @@ pub(crate) fn at_bytes<I: OfText + Compare<u8>, E: ParserError<I>>(rt: &impl Abo
     tuples::<I, E>(rt);
 }
 
+/// Three bytes.
+fn three_bytes() -> (u8, u8, u8) {
+    (b'a', b'b', b'c')
+}
+
+/// Four bytes.
+fn four_bytes() -> (u8, u8, u8, u8) {
+    (b'a', b'b', b'c', b'd')
+}
+
+/// Five bytes.
+fn five_bytes() -> (u8, u8, u8, u8, u8) {
+    (b'a', b'b', b'c', b'd', b'e')
+}
+
+/// Six bytes.
+fn six_bytes() -> (u8, u8, u8, u8, u8, u8) {
+    (b'a', b'b', b'c', b'd', b'e', b'f')
+}
+
 /// Tuples of none to six: the first failure is handed on, and the input stands there.
 fn tuples<I: OfText + Compare<u8>, E: ParserError<I>>(rt: &impl Abort) {
-    let four = (b'a', b'b', b'c', b'd');
-    answers::<I, (u8, u8, u8, u8), E, _>(rt, "four", four, "abcd;", Ok(four), ";");
-    let three = (b'a', b'b', b'c');
+    let want = Ok(four_bytes());
+    answers::<I, (u8, u8, u8, u8), E, _>(rt, "four", four_bytes(), "abcd;", want, ";");
+    let three = three_bytes();
     answers::<I, (u8, u8, u8), E, _>(rt, "three", three, "abx", Err(Backtrack), "x");
-    let six = (b'a', b'b', b'c', b'd', b'e', b'f');
-    answers::<I, (u8, u8, u8, u8, u8, u8), E, _>(rt, "six", six, "abcdefg", Ok(six), "g");
-    let five = (b'a', b'b', b'c', b'd', b'e');
+    let want = Ok(six_bytes());
+    answers::<I, (u8, u8, u8, u8, u8, u8), E, _>(rt, "six", six_bytes(), "abcdefg", want, "g");
+    let five = five_bytes();
     answers::<I, (u8, u8, u8, u8, u8), E, _>(rt, "five", five, "abcdx", Err(Backtrack), "x");
     answers::<I, (u8,), E, _>(rt, "one", (b'a',), "abc", Ok((b'a',)), "bc");
     answers::<I, (), E, _>(rt, "none", (), "abxsbsh", Ok(()), "abxsbsh");
@@ -141,6 +161,17 @@ where
     );
 }
 
+/// The output of one run of a parser that is let go behind it.
+fn output_of<I: Stream, O, E: ParserError<I>, P: Parser<I, O, E> + Drop>(
+    parser: P,
+    input: &mut I,
+) -> Option<O>
+    requires { P.can_parse parser }
+{
+    let mut parser = parser;
+    parser.parse_next(input).ok()
+}
+
 /// The state of a parser goes on behind a reference.
 fn by_ref<I: OfText + Stream<Token = char>, E: ParserError<I>>(rt: &impl Abort) {
     let mut calls = 0u8;
@@ -149,12 +180,11 @@ fn by_ref<I: OfText + Stream<Token = char>, E: ParserError<I>>(rt: &impl Abort) 
         calls
     });
     let mut input = whole::<I>("abc");
-    let first: Result<u8, E> = counted.by_ref().parse_next(&mut input);
-    same(rt, "by_ref", "abc", first.ok(), Some(1));
-    let second: Result<(u8, u8), E> = (counted.by_ref(), Any.map(|_: char| 0)).parse_next(
-        &mut input,
-    );
-    same(rt, "by_ref", "bc", second.ok(), Some((2, 0)));
-    let third: Result<u8, E> = counted.parse_next(&mut input);
-    same(rt, "by_ref", "", third.is_err(), true);
+    let first = output_of::<I, u8, E, _>(counted.by_ref(), &mut input);
+    same(rt, "by_ref", "abc", first, Some(1));
+    let both = (counted.by_ref(), Any.map(|_: char| 0));
+    let second = output_of::<I, (u8, u8), E, _>(both, &mut input);
+    same(rt, "by_ref", "bc", second, Some((2, 0)));
+    let third = output_of::<I, u8, E, _>(counted, &mut input);
+    same(rt, "by_ref", "", third.is_none(), true);
 }

@@ -172,15 +172,23 @@ where
     I::Slice: PartialEq + Debug,
 {
     for (text, units) in [("", 0), ("é", 2), ("éa", 3), ("ab", 2)] {
-        ends::<I, _, E, _>(rt, "rest", Rest, text, Takes(units), Takes(units));
-        answers::<I, _, E, _>(rt, "rest", Rest, text, Ok(I::slice_of_text(text)), "");
-        ends::<I, _, E, _>(rt, "rest_len", RestLen, text, Takes(0), Takes(0));
-        answers::<I, usize, E, _>(rt, "rest_len", RestLen, text, Ok(units), text);
-        let both = Ok((I::slice_of_text(text), 0));
-        answers::<I, (I::Slice, usize), E, _>(rt, "rest", (Rest, RestLen), text, both, "");
-        let both = (Rest, RestLen);
-        ends::<I, _, E, _>(rt, "rest", both, text, Takes(units), Takes(units));
+        rest_of::<I, E>(rt, text, units);
     }
+}
+
+/// The rest of a text of so many units, and how much that is, alone and behind one another.
+fn rest_of<I: OfText, E: ParserError<I>>(rt: &impl Abort, text: &'static str, units: usize)
+where
+    I::Slice: PartialEq + Debug,
+{
+    ends::<I, _, E, _>(rt, "rest", Rest, text, Takes(units), Takes(units));
+    answers::<I, _, E, _>(rt, "rest", Rest, text, Ok(I::slice_of_text(text)), "");
+    ends::<I, _, E, _>(rt, "rest_len", RestLen, text, Takes(0), Takes(0));
+    answers::<I, usize, E, _>(rt, "rest_len", RestLen, text, Ok(units), text);
+    let both = Ok((I::slice_of_text(text), 0));
+    answers::<I, (I::Slice, usize), E, _>(rt, "rest", (Rest, RestLen), text, both, "");
+    let both = (Rest, RestLen);
+    ends::<I, _, E, _>(rt, "rest", both, text, Takes(units), Takes(units));
 }
 
 /// Where a cut text may go on, under an error that is plain.

@@ -1,7 +1,7 @@
 //! All classes beside one another, the places behind members, and complete streams.
-use crate::rows::same;
+use crate::rows::{like_ends, same};
 use outcomes::Ending::{self, Takes};
-use outcomes::texts::{OfText, endings_alike, endings_at, endings_in_text};
+use outcomes::texts::{OfText, endings_at, endings_in_text};
 use outcomes::{BACKTRACKS, ending_by_place, lacks};
 use std::process::Abort;
 use stream_errors::parser_error::ParserError;
@@ -71,12 +71,28 @@ pub(crate) fn classes<I: OfText, E: ParserError<I>>(rt: &impl Abort)
 where
     I::Token: AsChar,
 {
+    classes_of_any_number::<I, E>(rt);
+    classes_of_one_or_more::<I, E>(rt);
+}
+
+/// The classes of any number of members.
+fn classes_of_any_number<I: OfText, E: ParserError<I>>(rt: &impl Abort)
+where
+    I::Token: AsChar,
+{
     class::<I, _, E, _>(rt, "alpha0", Alpha0, 0, 0);
     class::<I, _, E, _>(rt, "digit0", Digit0, 0, 1);
     class::<I, _, E, _>(rt, "hex_digit0", HexDigit0, 0, 2);
     class::<I, _, E, _>(rt, "oct_digit0", OctDigit0, 0, 3);
     class::<I, _, E, _>(rt, "alphanumeric0", Alphanumeric0, 0, 4);
     class::<I, _, E, _>(rt, "multispace0", Multispace0, 0, 6);
+}
+
+/// The classes of one member or more.
+fn classes_of_one_or_more<I: OfText, E: ParserError<I>>(rt: &impl Abort)
+where
+    I::Token: AsChar,
+{
     class::<I, _, E, _>(rt, "alpha1", Alpha1, 1, 0);
     class::<I, _, E, _>(rt, "hex_digit1", HexDigit1, 1, 2);
     class::<I, _, E, _>(rt, "oct_digit1", OctDigit1, 1, 3);
@@ -141,17 +157,10 @@ where
     E: ParserError<I> + ParserError<Partial<I>>,
 {
     let text = "1a; ";
-    let got = [
-        endings_alike::<I, _, E, _, _>(Digit1, Digit1, text),
-        endings_alike::<I, _, E, _, _>(Alphanumeric1, Alphanumeric1, text),
-        endings_alike::<I, _, E, _, _>(Space0, Space0, text),
-        endings_alike::<I, _, E, _, _>(Multispace1, Multispace1, text),
-    ];
-    let want = [
-        (Takes(1), Takes(1)),
-        (Takes(2), Takes(2)),
-        (Takes(0), Takes(0)),
-        (BACKTRACKS, BACKTRACKS),
-    ];
-    same(rt, "complete", text, got, want);
+    like_ends::<I, _, E, _, _>(rt, "digit1", text, (Digit1, Digit1), Takes(1));
+    let parsers = (Alphanumeric1, Alphanumeric1);
+    like_ends::<I, _, E, _, _>(rt, "alphanumeric1", text, parsers, Takes(2));
+    like_ends::<I, _, E, _, _>(rt, "space0", text, (Space0, Space0), Takes(0));
+    let parsers = (Multispace1, Multispace1);
+    like_ends::<I, _, E, _, _>(rt, "multispace1", text, parsers, BACKTRACKS);
 }

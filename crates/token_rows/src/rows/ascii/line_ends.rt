@@ -1,8 +1,10 @@
 //! Line ends, and what stands before one.
-use crate::rows::{Row, answers, answers_at, answers_each, ends_each, moves_each, same, sweep};
+use crate::rows::{
+    Row, answers, answers_at, answers_each, ends_each, like_ends, moves_each, sweep,
+};
 use outcomes::Ending::{Fails, Takes};
 use outcomes::Kind::{self, Backtrack, Incomplete};
-use outcomes::texts::{OfText, endings_alike};
+use outcomes::texts::OfText;
 use outcomes::{BACKTRACKS, LACKS};
 use std::fmt::Debug;
 use std::process::Abort;
@@ -200,6 +202,38 @@ where
     answers_at::<I, _, E, _>(rt, name, TillLineEnding, "é\rb", Err(Backtrack), 2);
 }
 
+/// How `crlf` ends under an error that is plain.
+fn crlf_plain_endings() -> [Row; 3] {
+    [
+        ("", BACKTRACKS, BACKTRACKS),
+        ("\r", BACKTRACKS, BACKTRACKS),
+        ("\r\n", Takes(2), Takes(2)),
+    ]
+}
+
+/// How `line_ending` ends under an error that is plain.
+fn line_ending_plain_endings() -> [Row; 4] {
+    [
+        ("", BACKTRACKS, BACKTRACKS),
+        ("\r", BACKTRACKS, BACKTRACKS),
+        ("\n", Takes(1), Takes(1)),
+        ("\r\n", Takes(2), Takes(2)),
+    ]
+}
+
+/// How `till_line_ending` ends under an error that is plain.
+fn till_plain_endings() -> [Row; 6] {
+    let lone = Fails(Backtrack, 2);
+    [
+        ("ab", Takes(2), Takes(2)),
+        ("", Takes(0), Takes(0)),
+        ("ab\r", lone, lone),
+        ("ab\rc", lone, lone),
+        ("ab\r\n", Takes(2), Takes(2)),
+        ("ab\n", Takes(2), Takes(2)),
+    ]
+}
+
 /// The rows at a stream under an error that is plain.
 pub(crate) fn at_plain_errors<
     I: OfText + Compare<char> + Compare<&'static str> + FindSlice<(char, char)>,
@@ -208,29 +242,14 @@ pub(crate) fn at_plain_errors<
     let none = BACKTRACKS;
     ends_each::<I, _, E, _>(rt, "newline", Newline, &[("", none, none)]);
     ends_each::<I, _, E, _>(rt, "tab", Tab, &[("", none, none)]);
-    let rows = [
-        ("", none, none),
-        ("\r", none, none),
-        ("\r\n", Takes(2), Takes(2)),
-    ];
-    ends_each::<I, _, E, _>(rt, "crlf", Crlf, &rows);
-    let rows = [
-        ("", none, none),
-        ("\r", none, none),
-        ("\n", Takes(1), Takes(1)),
-        ("\r\n", Takes(2), Takes(2)),
-    ];
-    ends_each::<I, _, E, _>(rt, "line_ending", LineEnding, &rows);
-    let lone = Fails(Backtrack, 2);
-    let rows = [
-        ("ab", Takes(2), Takes(2)),
-        ("", Takes(0), Takes(0)),
-        ("ab\r", lone, lone),
-        ("ab\rc", lone, lone),
-        ("ab\r\n", Takes(2), Takes(2)),
-        ("ab\n", Takes(2), Takes(2)),
-    ];
-    ends_each::<I, _, E, _>(rt, "till_line_ending", TillLineEnding, &rows);
+    ends_each::<I, _, E, _>(rt, "crlf", Crlf, &crlf_plain_endings());
+    ends_each::<I, _, E, _>(rt, "line_ending", LineEnding, &line_ending_plain_endings());
+    ends_each::<I, _, E, _>(
+        rt,
+        "till_line_ending",
+        TillLineEnding,
+        &till_plain_endings(),
+    );
 }
 
 /// How the parsers end, and on the partial stream that is marked complete.
@@ -240,12 +259,11 @@ where
     E: ParserError<I> + ParserError<Partial<I>>,
 {
     let text = "\r";
-    let got = [
-        endings_alike::<I, _, E, _, _>(Crlf, Crlf, text),
-        endings_alike::<I, char, E, _, _>(Newline, Newline, text),
-        endings_alike::<I, char, E, _, _>(Tab, Tab, text),
-        endings_alike::<I, _, E, _, _>(LineEnding, LineEnding, text),
-        endings_alike::<I, _, E, _, _>(TillLineEnding, TillLineEnding, text),
-    ];
-    same(rt, "complete", text, got, [(BACKTRACKS, BACKTRACKS); 5]);
+    like_ends::<I, _, E, _, _>(rt, "crlf", text, (Crlf, Crlf), BACKTRACKS);
+    like_ends::<I, char, E, _, _>(rt, "newline", text, (Newline, Newline), BACKTRACKS);
+    like_ends::<I, char, E, _, _>(rt, "tab", text, (Tab, Tab), BACKTRACKS);
+    let parsers = (LineEnding, LineEnding);
+    like_ends::<I, _, E, _, _>(rt, "line_ending", text, parsers, BACKTRACKS);
+    let parsers = (TillLineEnding, TillLineEnding);
+    like_ends::<I, _, E, _, _>(rt, "till_line_ending", text, parsers, BACKTRACKS);
 }

@@ -1,8 +1,10 @@
 //! Numbers as text.
-use crate::rows::{Row, answers, answers_at, ends_each, moves_each, same, sweep};
+use crate::rows::{
+    Answer, Row, answers, answers_at, ends_each, like_ends, moves_each, same, sweep,
+};
 use outcomes::Ending::{Fails, Takes};
-use outcomes::Kind::{self, Backtrack, Incomplete};
-use outcomes::texts::{OfText, endings_alike};
+use outcomes::Kind::{Backtrack, Incomplete};
+use outcomes::texts::OfText;
 use outcomes::{BACKTRACKS, Ending, lacks};
 use std::process::Abort;
 use stream_errors::parser_error::ParserError;
@@ -43,12 +45,9 @@ where
     hex_uint_on_cut_input::<I, E>(rt);
 }
 
-fn dec_uint<I: OfText + SlicesAsBytes, E: ParserError<I>>(rt: &impl Abort)
-where
-    I::Token: AsChar,
-    I::Slice: AsBStr,
-{
-    let rows: [(&str, Result<u8, Kind>, &str); 9] = [
+/// What `dec_uint` of a byte answers.
+fn dec_uint_answers() -> [Answer<u8>; 9] {
+    [
         ("0", Ok(0), ""),
         ("01", Ok(0), "1"),
         ("12;", Ok(12), ";"),
@@ -58,25 +57,26 @@ where
         ("+1", Err(Backtrack), "+1"),
         ("", Err(Backtrack), ""),
         ("٣", Err(Backtrack), "٣"),
-    ];
-    for (text, want, rest) in rows {
-        answers::<I, u8, E, _>(rt, "dec_uint", DecUint, text, want, rest);
-    }
-    for (text, want) in [
-        ("18446744073709551615", Ok(u64::MAX)),
-        ("18446744073709551616", Err(Backtrack)),
-    ] {
-        let rest = if want == Err(Backtrack) { text } else { "" };
-        answers::<I, u64, E, _>(rt, "dec_uint", DecUint, text, want, rest);
-    }
+    ]
 }
 
-fn dec_int<I: OfText + SlicesAsBytes, E: ParserError<I>>(rt: &impl Abort)
+fn dec_uint<I: OfText + SlicesAsBytes, E: ParserError<I>>(rt: &impl Abort)
 where
     I::Token: AsChar,
     I::Slice: AsBStr,
 {
-    let rows: [(&str, Result<i8, Kind>, &str); 10] = [
+    for (text, want, rest) in dec_uint_answers() {
+        answers::<I, u8, E, _>(rt, "dec_uint", DecUint, text, want, rest);
+    }
+    let most = "18446744073709551615";
+    answers::<I, u64, E, _>(rt, "dec_uint", DecUint, most, Ok(u64::MAX), "");
+    let more = "18446744073709551616";
+    answers::<I, u64, E, _>(rt, "dec_uint", DecUint, more, Err(Backtrack), more);
+}
+
+/// What `dec_int` of a signed byte answers.
+fn dec_int_answers() -> [Answer<i8>; 10] {
+    [
         ("+127", Ok(127), ""),
         ("-128", Ok(-128), ""),
         ("128", Err(Backtrack), "128"),
@@ -87,19 +87,23 @@ where
         ("+-1", Err(Backtrack), "+-1"),
         ("-", Err(Backtrack), "-"),
         ("", Err(Backtrack), ""),
-    ];
-    for (text, want, rest) in rows {
+    ]
+}
+
+fn dec_int<I: OfText + SlicesAsBytes, E: ParserError<I>>(rt: &impl Abort)
+where
+    I::Token: AsChar,
+    I::Slice: AsBStr,
+{
+    for (text, want, rest) in dec_int_answers() {
         answers::<I, i8, E, _>(rt, "dec_int", DecInt, text, want, rest);
     }
     answers::<I, i32, E, _>(rt, "dec_int", DecInt, "-0", Err(Backtrack), "-0");
 }
 
-fn hex_uint<I: OfText + SlicesAsBytes, E: ParserError<I>>(rt: &impl Abort)
-where
-    I::Token: AsChar,
-    I::Slice: AsBStr,
-{
-    let rows: [(&str, Result<u8, Kind>, &str); 7] = [
+/// What `hex_uint` of a byte answers.
+fn hex_uint_answers() -> [Answer<u8>; 7] {
+    [
         ("fA;", Ok(0xFA), ";"),
         ("0", Ok(0), ""),
         ("9g", Ok(9), "g"),
@@ -107,8 +111,15 @@ where
         ("fff", Err(Backtrack), "fff"),
         (";", Err(Backtrack), ";"),
         ("", Err(Backtrack), ""),
-    ];
-    for (text, want, rest) in rows {
+    ]
+}
+
+fn hex_uint<I: OfText + SlicesAsBytes, E: ParserError<I>>(rt: &impl Abort)
+where
+    I::Token: AsChar,
+    I::Slice: AsBStr,
+{
+    for (text, want, rest) in hex_uint_answers() {
         answers::<I, u8, E, _>(rt, "hex_uint", HexUintParser, text, want, rest);
     }
     let all = "0123456789aBcDeF";
@@ -201,6 +212,18 @@ where
     sweep::<I, u8, E, _>(rt, "hex_uint", HexUintParser, "1f;", &as_whole, &as_cut);
 }
 
+/// How `dec_int` of a signed byte ends behind a token.
+fn dec_int_endings_behind_one() -> [Row; 5] {
+    let behind_one = Fails(Backtrack, 1);
+    [
+        (";-12.", Takes(4), Takes(4)),
+        (";-0", behind_one, behind_one),
+        (";-1", Takes(3), stops(3)),
+        (";128", behind_one, stops(2)),
+        (";", behind_one, stops(1)),
+    ]
+}
+
 /// The rows at a stream that knows its place.
 pub(crate) fn at_places<I: OfText + Location + SlicesAsBytes, E: ParserError<I>>(rt: &impl Abort)
 where
@@ -210,15 +233,17 @@ where
     moves_each::<I, u8, E, _>(rt, "dec_uint", DecUint, &dec_uint_endings());
     moves_each::<I, i8, E, _>(rt, "dec_int", DecInt, &dec_int_endings());
     moves_each::<I, u8, E, _>(rt, "hex_uint", HexUintParser, &hex_uint_endings());
-    let behind_one = Fails(Backtrack, 1);
-    let rows = [
-        (";-12.", Takes(4), Takes(4)),
-        (";-0", behind_one, behind_one),
-        (";-1", Takes(3), stops(3)),
-        (";128", behind_one, stops(2)),
-        (";", behind_one, stops(1)),
-    ];
+    let rows = dec_int_endings_behind_one();
     moves_each::<I, (I::Token, i8), E, _>(rt, "dec_int behind one", (Any, DecInt), &rows);
+    answers_at_places::<I, E>(rt);
+}
+
+/// The answers at a stream that knows its place.
+fn answers_at_places<I: OfText + Location + SlicesAsBytes, E: ParserError<I>>(rt: &impl Abort)
+where
+    I::Token: AsChar,
+    I::Slice: AsBStr,
+{
     answers_at::<I, u8, E, _>(rt, "dec_uint", DecUint, "12;", Ok(12), 2);
     answers_at::<I, u8, E, _>(rt, "dec_uint", DecUint, "256", Err(Backtrack), 0);
     answers_at::<I, i8, E, _>(rt, "dec_int", DecInt, "-7é", Ok(-7), 2);
@@ -227,14 +252,10 @@ where
     answers_at::<I, u8, E, _>(rt, "hex_uint", HexUintParser, "fff", Err(Backtrack), 0);
 }
 
-/// The rows at a stream under an error that is plain.
-pub(crate) fn at_plain_errors<I: OfText + SlicesAsBytes, E: ParserError<I>>(rt: &impl Abort)
-where
-    I::Token: AsChar,
-    I::Slice: AsBStr,
-{
+/// How `dec_uint` of a byte ends under an error that is plain.
+fn dec_uint_plain_endings() -> [Row; 7] {
     let none = BACKTRACKS;
-    let rows = [
+    [
         ("", none, none),
         ("0", Takes(1), Takes(1)),
         ("9", Takes(1), none),
@@ -242,9 +263,13 @@ where
         ("12;", Takes(2), Takes(2)),
         ("999", none, none),
         (";", none, none),
-    ];
-    ends_each::<I, u8, E, _>(rt, "dec_uint", DecUint, &rows);
-    let rows = [
+    ]
+}
+
+/// How `dec_int` of a signed byte ends under an error that is plain.
+fn dec_int_plain_endings() -> [Row; 9] {
+    let none = BACKTRACKS;
+    [
         ("", none, none),
         ("-", none, none),
         ("+", none, none),
@@ -254,17 +279,31 @@ where
         ("-1;", Takes(2), Takes(2)),
         ("0", Takes(1), Takes(1)),
         ("-0", none, none),
-    ];
-    ends_each::<I, i8, E, _>(rt, "dec_int", DecInt, &rows);
-    let rows = [
+    ]
+}
+
+/// How `hex_uint` of a byte ends under an error that is plain.
+fn hex_uint_plain_endings() -> [Row; 6] {
+    let none = BACKTRACKS;
+    [
         ("", none, none),
         ("f", Takes(1), none),
         ("f;", Takes(1), Takes(1)),
         ("ff", Takes(2), Takes(2)),
         ("fff", none, none),
         (";", none, none),
-    ];
-    ends_each::<I, u8, E, _>(rt, "hex_uint", HexUintParser, &rows);
+    ]
+}
+
+/// The rows at a stream under an error that is plain.
+pub(crate) fn at_plain_errors<I: OfText + SlicesAsBytes, E: ParserError<I>>(rt: &impl Abort)
+where
+    I::Token: AsChar,
+    I::Slice: AsBStr,
+{
+    ends_each::<I, u8, E, _>(rt, "dec_uint", DecUint, &dec_uint_plain_endings());
+    ends_each::<I, i8, E, _>(rt, "dec_int", DecInt, &dec_int_plain_endings());
+    ends_each::<I, u8, E, _>(rt, "hex_uint", HexUintParser, &hex_uint_plain_endings());
 }
 
 /// How the parsers end, and on the partial stream that is marked complete.
@@ -276,12 +315,10 @@ where
     E: ParserError<I> + ParserError<Partial<I>>,
 {
     let text = "12";
-    let got = [
-        endings_alike::<I, u8, E, _, _>(DecUint, DecUint, text),
-        endings_alike::<I, i8, E, _, _>(DecInt, DecInt, text),
-        endings_alike::<I, u16, E, _, _>(HexUintParser, HexUintParser, text),
-    ];
-    same(rt, "complete", text, got, [(Takes(2), Takes(2)); 3]);
+    like_ends::<I, u8, E, _, _>(rt, "dec_uint", text, (DecUint, DecUint), Takes(2));
+    like_ends::<I, i8, E, _, _>(rt, "dec_int", text, (DecInt, DecInt), Takes(2));
+    let parsers = (HexUintParser, HexUintParser);
+    like_ends::<I, u16, E, _, _>(rt, "hex_uint", text, parsers, Takes(2));
 }
 
 /// What the types read of texts, by their own readers, and a digit more.

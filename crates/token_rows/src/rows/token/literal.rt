@@ -9,7 +9,9 @@ use std::process::Abort;
 use stream_errors::parser_error::ParserError;
 use stream_searches::caseless::Caseless;
 use stream_searches::compare::Compare;
+use streams::stream::StreamIsPartial;
 use winnow_token::token;
+use winnow_token::token::impls::Literal;
 
 /// Texts.
 pub(crate) fn literal<I: OfText + Compare<&'static str>, E: ParserError<I>>(rt: &impl Abort) {
@@ -72,6 +74,16 @@ pub(crate) fn literal_inside_of_a_character<I: OfText + Compare<char>, E: Parser
     );
 }
 
+/// A literal of this type.
+fn literal_of<I, T, E>(text: T) -> Literal<T, I, E>
+where
+    I: StreamIsPartial + Compare<T>,
+    T: Copy,
+    E: ParserError<I>,
+{
+    token::literal(text)
+}
+
 /// Bytes, and slices and arrays of them.
 pub(crate) fn literal_of_bytes<
     I: OfText + Compare<u8> + Compare<&'static [u8]> + Compare<&'static [u8; 2]>,
@@ -88,8 +100,8 @@ where
     let slice = b"ab".as_slice();
     answers_each::<I, E, _>(rt, "an array", b"ab", &rows);
     answers_each::<I, E, _>(rt, "a slice", slice, &rows);
-    answers_each::<I, E, _>(rt, "literal", token::literal(slice), &rows);
-    let empty = token::literal(b"".as_slice());
+    answers_each::<I, E, _>(rt, "literal", literal_of::<I, _, E>(slice), &rows);
+    let empty = literal_of::<I, &[u8], E>(b"");
     answers::<I, _, E, _>(rt, "literal", empty, "abc", Ok(I::slice_of_text("")), "abc");
     answers::<I, u8, E, _>(rt, "a byte", b'a', "ab", Ok(b'a'), "b");
 }
@@ -109,6 +121,6 @@ where
         ("help", Err(Backtrack), "help"),
     ];
     answers_each::<I, E, _>(rt, "Caseless", Caseless("hello"), &rows);
-    let accent = token::literal(Caseless("é"));
+    let accent = literal_of::<I, _, E>(Caseless("é"));
     ends::<I, _, E, _>(rt, "literal", accent, "É", BACKTRACKS, BACKTRACKS);
 }
