@@ -1,9 +1,10 @@
 //! Numbers with a comma behind each.
-ghost use Rattle.std.specs.Prelude.{◌≡◌, length, ⊤};
+ghost use Rattle.std.specs.Prelude.{◌≡◌, length, MatchResult, ⊤};
 ghost use Rattle.winnow.specs.Bytes.{bytes_input};
 ghost use Rattle.winnow.specs.Form.{answer_by};
-ghost use Rattle.timed.specs.Numbers.{NumbersBetweenRun, SumRun};
-ghost use Rattle.timed.specs.Outcome.{TellsList, TellsSum};
+ghost use Rattle.timed.specs.Numbers.{IsFirstNumber, NumbersBetweenRun};
+ghost use Rattle.timed.specs.Outcome.{TellsList, TellsSums};
+ghost use Rattle.timed.specs.Values.{SumsValues};
 ghost use Rattle.winnow.specs.Accumulator.{list_kept};
 
 use crate::outcome::Outcome;
@@ -44,9 +45,9 @@ pub extern "C" fn timed_number_list(alloc: Global, input: &[u8], out: &mut Outco
 
 /// How many numbers there are, and their sum.
 fn sum<'i>(alloc: Global, input: &mut &'i [u8]) -> Result<(u64, u64), ErrMode<InputError<&'i [u8]>>>
-    ensures { SumRun (bytes_input input.old.now)
-        (answer_by ⟦<ErrMode<InputError<&'i [u8]>> as HasKind>⟧.kind result)
-        (bytes_input input.new.now) }
+    ensures { MatchResult result
+        (λ all. SumsValues IsFirstNumber input.old.now all input.new.now)
+        (λ _. ⊥) }
 {
     repeat(alloc, Range::from(0..), terminated(DecUint, b','))
         .fold(
@@ -59,7 +60,7 @@ fn sum<'i>(alloc: Global, input: &mut &'i [u8]) -> Result<(u64, u64), ErrMode<In
 /// The sum of numbers.
 #[unsafe(no_mangle)]
 pub extern "C" fn timed_number_sum(alloc: Global, input: &[u8], out: &mut Outcome)
-    ensures { TellsSum (SumRun (bytes_input input.now)) out.new }
+    ensures { TellsSums IsFirstNumber length input.now out.new }
 {
     let mut rest = input;
     *out = Outcome {
