@@ -1,5 +1,5 @@
 -- Runs of the reader of a number and its comma over any stream, as the loop over a piece has them.
-use Rattle.std.specs.Prelude.{◌≡◌, ◌<◌, ◌^◌, ℕ, List, [], ◌∷◌, ◌++◌, ⊤, Ok}
+use Rattle.std.specs.Prelude.{◌<◌, ◌^◌, ℕ, List, [], ◌∷◌, ◌++◌, Ok}
 use Rattle.std.proofs.Common.{ap, arith, length, length-append}
 use Rattle.std.proofs.lemmas.Fn.{FoldsTo-push}
 use Rattle.winnow.specs.DecUint.Known.{dec_uint_ok}
