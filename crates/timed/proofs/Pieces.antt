@@ -153,10 +153,10 @@ number_in_piece rest size n more large (fits, splits) =
       ),
     )
 
--- Where such a piece leaves all of itself, none stands first.
+-- Where nothing is read of such a piece, none stands first.
 pub piece_ends : (rest piece : List ℕ) (size left : ℕ) (before after : Outcome)
     → size ≤ length rest → (length rest ≤ size) ⊎ (11 ≤ size) → piece ≡ take size rest
-    → ReadsNumbers ByteRuns length (piece_input piece) before left after → left ≡ size
+    → ReadsNumbers ByteRuns length (piece_input piece) before left after → size - left ≡ 0
     → (n : ℕ) (more : List ℕ) → IsFirstNumber rest n more → ⊥
 piece_ends rest piece size left before after le large is
     (numbers, m, k, last, chain, (t, ended), leaves, adds) all n more stands =

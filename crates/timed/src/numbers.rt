@@ -140,10 +140,11 @@ pub extern "C" fn timed_number_pieces(input: &[u8], out: &mut Outcome)
     loop {
         let size = rest.len().min(4096);
         let left = read_piece(&rest[..size], out);
-        if left == size {
+        let read = size - left;
+        if read == 0 {
             break;
         }
-        rest = &rest[size - left..];
+        rest = &rest[read..];
     }
     out.left = rest.len() as u64;
 }

@@ -15,8 +15,8 @@ within size long is = omega (arith, is)
 large : (size long : ℕ) → size ≡ min long 4096 → (long ≤ size) ⊎ (11 ≤ size)
 large size long is = search (rules, is)
 
--- where it leaves less than itself, less is left
-fewer : (rest : List ℕ) (size left : ℕ) → size ≤ length rest → left ≤ size → (left ≡ size → ⊥)
+-- where some of it is read, less is left
+fewer : (rest : List ℕ) (size left : ℕ) → size ≤ length rest → left ≤ size → (size - left ≡ 0 → ⊥)
     → length (take (length rest - (size - left)) (drop (size - left) rest)) < length rest
 fewer rest size left small leaves some = omega (
   arith,
@@ -27,8 +27,8 @@ fewer rest size left small leaves some = omega (
   some,
 )
 
-pub overflow_sub-rest : goal.overflow_sub-rest
-overflow_sub-rest c =
+pub overflow_sub-read : goal.overflow_sub-read
+overflow_sub-read c =
     let rest = c.loop-size.rest.now in
     let size = c.min-size.result in
     (piece_read c.args.input.now rest (take size rest) size c.read_piece-left.result
@@ -44,7 +44,7 @@ loop-size-smaller c =
     fewer rest size left small
     (piece_read c.args.input.now rest (take size rest) size left c.loop-size.out
     c.read_piece-left.new.out c.loop-size.invariant small refl c.read_piece-left.ensures).1
-    c.if-left-size.false
+    c.if-read-eq0.false
 
 pub loop-size-preserved : goal.loop-size-preserved
 loop-size-preserved c =
@@ -65,17 +65,16 @@ returns c =
     let small = within size (length rest) c.min-size.ensures in
     let all = (piece_read c.args.input.now rest (take size rest) size left c.loop-size.out
     c.read_piece-left.new.out c.loop-size.invariant small refl c.read_piece-left.ensures).0 in
-    let none : size - left ≡ 0 = omega (arith, c.if-left-size.true) in
     let P : ℕ → Type 0 = λ n. FoldsTo IsFirstNumber c.args.input.now all.numbers (drop n rest) in (
       totals c.read_piece-left.new.out,
       rest,
       (
         all.numbers,
         record {
-          are = subst P none all.are;
+          are = subst P c.if-read-eq0.true all.are;
           ended = piece_ends rest (take size rest) size left c.loop-size.out
               c.read_piece-left.new.out small (large size (length rest) c.min-size.ensures) refl
-              c.read_piece-left.ensures c.if-left-size.true;
+              c.read_piece-left.ensures c.if-read-eq0.true;
         },
         all.adds,
       ),
