@@ -48,7 +48,7 @@ chain_reads run value first known reads (o ∷ os) s i u m is (p, item, rest) =
     ((p.1.left.tokens, one, more), known_u)
 
 -- ... as these do
-whole_chain : {S O V : Type 0} {run : Runs S ℕ O} {known : S → Type 0} {value : O → V}
+pub whole_chain : {S O V : Type 0} {run : Runs S ℕ O} {known : S → Type 0} {value : O → V}
     {first : List ℕ → V → List ℕ → Type 0} → ReadsValue run known value first
     → (outputs : List O) (s : S) (i : Input ℕ) (u : S) (m : Input ℕ) → known s
     → i.status.cut ≡ false → Items run s i outputs u m

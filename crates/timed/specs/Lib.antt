@@ -4,6 +4,7 @@ pub mod Heads
 pub mod Keywords
 pub mod Numbers
 pub mod Outcome
+pub mod Pieces
 pub mod RowRuns
 pub mod Searches
 pub mod Tally

@@ -1,17 +1,14 @@
--- Runs of the parser of numbers with a comma behind each.
-use Rattle.std.specs.Prelude.{◌≡◌, ◌+◌, ◌%◌, ◌^◌, ℕ, List, [], ◌∷◌, ⊤, None, Err, MatchResult}
-use Rattle.std.specs.List.{fold}
+-- Numbers with a comma behind each; and runs of the parser of numbers with a comma between them.
+use Rattle.std.specs.Prelude.{◌≡◌, ◌<◌, ◌+◌, ◌%◌, ◌^◌, ℕ, List, [], ◌∷◌, ◌++◌, ⊤, None}
+use Rattle.std.specs.Fmt.{decimal}
 use Rattle.winnow.specs.Accumulator.{Accumulator}
 use Rattle.winnow.specs.Bytes.{bytes_reading}
 use Rattle.winnow.specs.DecUint.{DecUintRuns}
 use Rattle.winnow.specs.Form.{Answer, assert_kind, modal}
-use Rattle.winnow.specs.Input.{Input, back_at}
-use Rattle.winnow.specs.Kind.{backtrack}
+use Rattle.winnow.specs.Input.{Input}
 use Rattle.winnow.specs.Literal.{LiteralRuns}
-use Rattle.winnow.specs.Repeat.Known.{Items}
 use Rattle.winnow.specs.Runs.{Keeps, Runs}
 use Rattle.winnow.specs.Separated.{RangedElements}
-use Rattle.winnow.specs.Terminated.{TerminatedRuns}
 use Rattle.winnow.specs.{Range}
 
 -- none or more
@@ -27,22 +24,14 @@ DecimalMeans =
 abbrev pub ByteMeans : Runs ℕ ℕ ℕ
 ByteMeans = Keeps (λ b. LiteralRuns bytes_reading modal (λ xs. xs ≡ b ∷ []) (λ _. b))
 
--- a number, and a byte behind it
-abbrev pub NumberMeans : Runs (⊤ × ℕ) ℕ ℕ
-NumberMeans = TerminatedRuns DecimalMeans ByteMeans
-
 -- how many numbers there are, and their sum, both modulo 2 to the 64, with one number more
 abbrev pub summed : ℕ × ℕ → ℕ → ℕ × ℕ
 summed all n = ((all.0 + 1) % 2 ^ 64, (all.1 + n) % 2 ^ 64)
 
--- Numbers with a comma behind each, in a chain, until none follows: how many they are, and their
--- sum. Of a run that fails nothing is said.
-abbrev pub SumRun : Input ℕ → Answer (ℕ × ℕ) → Input ℕ → Type 0
-SumRun i answer j = MatchResult answer
-    (λ told. (numbers : List ℕ) × (u : ⊤ × ℕ) × (t : ⊤ × ℕ) × (m : Input ℕ) × (last : Input ℕ)
-    × Items NumberMeans (tt, 44) i numbers u m × NumberMeans u m (Err backtrack) t last
-    × (j ≡ back_at m.left last) × (told ≡ fold summed (0, 0) numbers))
-    (λ _. ⊤)
+-- A number of 32 bits stands first, as `{}` writes it, with a comma behind it; and the rest is
+-- behind that.
+abbrev pub IsFirstNumber : List ℕ → ℕ → List ℕ → Type 0
+IsFirstNumber tokens n rest = (n < 2 ^ 32) × (tokens ≡ decimal n ++ 44 ∷ rest)
 
 -- numbers with a comma between them, into an accumulator
 abbrev pub NumbersBetweenRun : {C : Type 0} → Accumulator C ℕ → Input ℕ → Answer C → Input ℕ

@@ -33,16 +33,6 @@ TellsCount run told =
     (λ all. (told.count ≡ all.number) × (told.sum ≡ 0) × (told.left ≡ length j.left.tokens))
     (λ _. TellsNothing told)
 
--- how many numbers a run adds up, their sum, and how many bytes are left; nothing of a run that
--- fails
-abbrev pub TellsSum : (Answer (ℕ × ℕ) → Input ℕ → Type 0) → Outcome → Type 0
-TellsSum run told =
-    (answer : Answer (ℕ × ℕ)) × (j : Input ℕ) × run answer j
-    × MatchResult answer
-    (λ all. (told.count ≡ all.0) × (told.sum ≡ all.1)
-    × (told.left ≡ length j.left.tokens))
-    (λ _. TellsNothing told)
-
 -- how many values are read, modulo 2 to the 64, and how many units the tokens take that are left
 abbrev pub TellsValues : {V : Type 0} → (List ℕ → V → List ℕ → Type 0) → (List ℕ → ℕ) → List ℕ
     → Outcome → Type 0
@@ -56,18 +46,21 @@ TellsText first bytes told =
     (IsUtf8 bytes × TellsValues first width (chars bytes) told)
     ⊎ ((IsUtf8 bytes → ⊥) × TellsNothing told)
 
--- how many numbers are read and their sum, and how many units are left; or nothing of a run that
--- fails
+-- how many numbers are read and their sum, and how many units the tokens take that are left
 abbrev pub TellsSums : (List ℕ → ℕ → List ℕ → Type 0) → (List ℕ → ℕ) → List ℕ → Outcome → Type 0
 TellsSums first units tokens told =
-    ((all : ℕ × ℕ) × (rest : List ℕ) × SumsValues first tokens all rest × (told.count ≡ all.0)
-    × (told.sum ≡ all.1) × (told.left ≡ units rest))
-    ⊎ TellsNothing told
+    (all : ℕ × ℕ) × (rest : List ℕ) × SumsValues first tokens all rest × (told.count ≡ all.0)
+    × (told.sum ≡ all.1) × (told.left ≡ units rest)
+
+-- the same; or nothing of a run that fails
+abbrev pub TellsSumsOrNothing : (List ℕ → ℕ → List ℕ → Type 0) → (List ℕ → ℕ) → List ℕ → Outcome
+    → Type 0
+TellsSumsOrNothing first units tokens told = TellsSums first units tokens told ⊎ TellsNothing told
 
 -- the same of the characters of bytes that are UTF-8, whose units are bytes; nothing of other bytes
 abbrev pub TellsTextSums : (List ℕ → ℕ → List ℕ → Type 0) → List ℕ → Outcome → Type 0
 TellsTextSums first bytes told =
-    (IsUtf8 bytes × TellsSums first width (chars bytes) told)
+    (IsUtf8 bytes × TellsSumsOrNothing first width (chars bytes) told)
     ⊎ ((IsUtf8 bytes → ⊥) × TellsNothing told)
 
 -- how many sections a document has; nothing of a text that is none

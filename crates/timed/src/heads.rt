@@ -4,7 +4,7 @@ ghost use Rattle.winnow.specs.Bytes.{bytes_input};
 ghost use Rattle.winnow.specs.Form.{answer_by};
 ghost use Rattle.timed.specs.HeadRuns.{HeadRuns, HeadersRuns, RequestRuns};
 ghost use Rattle.timed.specs.Heads.{IsFirstHead, IsNameByte, IsTargetByte, IsValueByte};
-ghost use Rattle.timed.specs.Outcome.{TellsSums};
+ghost use Rattle.timed.specs.Outcome.{TellsSumsOrNothing};
 ghost use Rattle.timed.specs.Values.{SumsValues};
 
 use crate::outcome::Outcome;
@@ -160,7 +160,7 @@ fn heads<'i>(
 /// where a request for memory was refused.
 #[unsafe(no_mangle)]
 pub extern "C" fn timed_heads(alloc: Global, input: &[u8], out: &mut Outcome)
-    ensures { TellsSums IsFirstHead length input.now out.new }
+    ensures { TellsSumsOrNothing IsFirstHead length input.now out.new }
 {
     let mut rest = input;
     *out = Outcome {

@@ -1,10 +1,13 @@
 //! Numbers with a comma behind each.
-ghost use Rattle.std.specs.Prelude.{◌≡◌, length, ⊤};
+ghost use Rattle.std.specs.Prelude.{◌≡◌, length, true, MatchResult, ⊤};
 ghost use Rattle.winnow.specs.Bytes.{bytes_input};
-ghost use Rattle.winnow.specs.Form.{answer_by};
-ghost use Rattle.timed.specs.Numbers.{NumbersBetweenRun, SumRun};
-ghost use Rattle.timed.specs.Outcome.{TellsList, TellsSum};
+ghost use Rattle.winnow.specs.Form.{answer_by, modal};
+ghost use Rattle.timed.specs.Numbers.{IsFirstNumber, NumbersBetweenRun};
+ghost use Rattle.timed.specs.Outcome.{TellsList, TellsSums};
+ghost use Rattle.timed.specs.Pieces.{NumberRuns, ReadsNumbers};
+ghost use Rattle.timed.specs.Values.{SumsValues};
 ghost use Rattle.winnow.specs.Accumulator.{list_kept};
+ghost use Rattle.winnow.specs.Partial.{with_flag};
 
 use crate::outcome::Outcome;
 use std::alloc::Global;
@@ -44,9 +47,9 @@ pub extern "C" fn timed_number_list(alloc: Global, input: &[u8], out: &mut Outco
 
 /// How many numbers there are, and their sum.
 fn sum<'i>(alloc: Global, input: &mut &'i [u8]) -> Result<(u64, u64), ErrMode<InputError<&'i [u8]>>>
-    ensures { SumRun (bytes_input input.old.now)
-        (answer_by ⟦<ErrMode<InputError<&'i [u8]>> as HasKind>⟧.kind result)
-        (bytes_input input.new.now) }
+    ensures { MatchResult result
+        (λ all. SumsValues IsFirstNumber input.old.now all input.new.now)
+        (λ _. ⊥) }
 {
     repeat(alloc, Range::from(0..), terminated(DecUint, b','))
         .fold(
@@ -59,7 +62,7 @@ fn sum<'i>(alloc: Global, input: &mut &'i [u8]) -> Result<(u64, u64), ErrMode<In
 /// The sum of numbers.
 #[unsafe(no_mangle)]
 pub extern "C" fn timed_number_sum(alloc: Global, input: &[u8], out: &mut Outcome)
-    ensures { TellsSum (SumRun (bytes_input input.now)) out.new }
+    ensures { TellsSums IsFirstNumber length input.now out.new }
 {
     let mut rest = input;
     *out = Outcome {
@@ -81,11 +84,33 @@ fn item<I: StreamIsPartial + SlicesAsBytes + Compare<u8>, E: ParserError<I>>(
 where
     I::Token: AsChar,
     I::Slice: AsBStr,
+    ensures { NumberRuns I.seen_as I.Token.code I.reading E.form I.spells tt (I.view input.old)
+        (answer_by E.kind result) tt (I.view input.new) }
 {
     terminated(DecUint, b',').parse_next(input)
 }
 
-/// Adds up the numbers of a piece, and answers how many units they take with their commas.
+/// Adds up the numbers that stand first, and answers how many units are left behind them.
+fn read_numbers<I: StreamIsPartial + SlicesAsBytes + Compare<u8>>(
+    input: &mut I,
+    out: &mut Outcome,
+) -> usize
+where
+    I::Token: AsChar,
+    I::Slice: AsBStr,
+    ensures { ReadsNumbers (NumberRuns I.seen_as I.Token.code I.reading modal I.spells)
+        I.reading.units (I.view input.old) out.old result out.new }
+{
+    let mut left = input.eof_offset();
+    while let Ok(number) = item::<I, ErrMode<EmptyError>>(input) {
+        out.count = out.count.wrapping_add(1);
+        out.sum = out.sum.wrapping_add(number as u64);
+        left = input.eof_offset();
+    }
+    left
+}
+
+/// The same of a piece, behind which more may come.
 fn read_piece<I: StreamIsPartial + SlicesAsBytes + Compare<u8>>(
     piece: I,
     out: &mut Outcome,
@@ -93,39 +118,33 @@ fn read_piece<I: StreamIsPartial + SlicesAsBytes + Compare<u8>>(
 where
     I::Token: AsChar,
     I::Slice: AsBStr,
+    ensures { ReadsNumbers (NumberRuns I.seen_as I.Token.code I.reading modal I.spells)
+        I.reading.units (with_flag (I.view piece) true) out.old result out.new }
 {
-    let size = piece.eof_offset();
     let mut input = Partial::new(piece);
-    let mut left = size;
-    for _ in 0..size {
-        match item::<Partial<I>, ErrMode<EmptyError>>(&mut input) {
-            Ok(number) => {
-                out.count = out.count.wrapping_add(1);
-                out.sum = out.sum.wrapping_add(number as u64);
-                left = input.eof_offset();
-            }
-            Err(_) => break,
-        }
-    }
-    size.saturating_sub(left)
+    read_numbers(&mut input, out)
 }
 
 /// The sum of numbers that come in pieces of 4 KiB: each piece begins where the last one asked for
 /// more.
 #[unsafe(no_mangle)]
-pub extern "C" fn timed_number_pieces(input: &[u8], out: &mut Outcome) {
+pub extern "C" fn timed_number_pieces(input: &[u8], out: &mut Outcome)
+    ensures { TellsSums IsFirstNumber length input.now out.new }
+{
     let mut rest = input;
     *out = Outcome {
         count: 0,
         sum: 0,
         left: 0,
     };
-    for _ in 0..input.len() {
-        let read = read_piece(&rest[..rest.len().min(4096)], out);
-        match rest.get(read..) {
-            Some(more) if read > 0 => rest = more,
-            _ => break,
+    loop {
+        let size = rest.len().min(4096);
+        let left = read_piece(&rest[..size], out);
+        let read = size - left;
+        if read == 0 {
+            break;
         }
+        rest = &rest[read..];
     }
     out.left = rest.len() as u64;
 }
