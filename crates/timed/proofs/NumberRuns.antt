@@ -54,7 +54,7 @@ number_missing s i k t j made ran n more (fits, splits) =
     (number_leaves s n more made.1 fits).answers i k t j splits ran
 
 -- behind a number an input is whole where it was
-digits_whole : (s : ⊤) (i : Input ℕ) (n : ℕ) (t : ⊤) (j : Input ℕ) → i.status.cut ≡ false
+pub digits_whole : (s : ⊤) (i : Input ℕ) (n : ℕ) (t : ⊤) (j : Input ℕ) → i.status.cut ≡ false
     → DecimalMeans s i (Ok n) t j → j.status.cut ≡ false
 digits_whole s i n t j whole ran =
     let read = dec_uint_ok (λ n. n) (2 ^ 32) (λ x. x) (λ x. x) bytes_reading modal i n j ran.0 in

@@ -15,12 +15,3 @@ pair a x = (a, x)
 -- pairs of what is the same
 pub both : {A B : Type 0} {a b : A} {x y : B} → a ≡ b → x ≡ y → pair a x ≡ pair b y
 both {A} {B} {a} {b} {x} {y} e f = ap (λ c. pair c x) e ∙ ap (λ z. pair b z) f
-
-abbrev triple : {A B C : Type 0} → A → B → C → A × B × C
-triple a x m = (a, x, m)
-
--- triples of what is the same
-pub beside : {A B C : Type 0} {a b : A} {x y : B} {m n : C} → a ≡ b → x ≡ y → m ≡ n
-    → triple a x m ≡ triple b y n
-beside {a = a} {b = b} {x = x} {y = y} {m = m} {n = n} e f g =
-    ap (λ c. triple c x m) e ∙ ap (λ z. triple b z m) f ∙ ap (λ o. triple b y o) g

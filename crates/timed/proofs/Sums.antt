@@ -62,7 +62,7 @@ adds_up run starts step s t i told j range (ran, kept) begins adds =
           ∙ ap (λ e. fold summed e all.outputs) (begins s.1.1.0 empty t.1.1.0 began);
     }
 
-map_itself : (xs : List ℕ) → map (λ n. n) xs ≡ xs
+pub map_itself : (xs : List ℕ) → map (λ n. n) xs ≡ xs
 map_itself [] = refl
 map_itself (x ∷ xs) = ap (λ l. x ∷ l) (map_itself xs)
 

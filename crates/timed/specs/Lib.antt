@@ -2,6 +2,7 @@ pub mod Fields
 pub mod HeadRuns
 pub mod Heads
 pub mod Keywords
+pub mod NumberLists
 pub mod Numbers
 pub mod Outcome
 pub mod Pieces

@@ -1,14 +1,11 @@
--- Numbers with a comma behind each; and runs of the parser of numbers with a comma between them.
+-- Numbers with a comma behind each, and their sum; and runs of the parsers of a number and a byte.
 use Rattle.std.specs.Prelude.{◌≡◌, ◌<◌, ◌+◌, ◌%◌, ◌^◌, ℕ, List, [], ◌∷◌, ◌++◌, ⊤, None}
 use Rattle.std.specs.Fmt.{decimal}
-use Rattle.winnow.specs.Accumulator.{Accumulator}
 use Rattle.winnow.specs.Bytes.{bytes_reading}
 use Rattle.winnow.specs.DecUint.{DecUintRuns}
-use Rattle.winnow.specs.Form.{Answer, assert_kind, modal}
-use Rattle.winnow.specs.Input.{Input}
+use Rattle.winnow.specs.Form.{modal}
 use Rattle.winnow.specs.Literal.{LiteralRuns}
 use Rattle.winnow.specs.Runs.{Keeps, Runs}
-use Rattle.winnow.specs.Separated.{RangedElements}
 use Rattle.winnow.specs.{Range}
 
 -- none or more
@@ -32,11 +29,3 @@ summed all n = ((all.0 + 1) % 2 ^ 64, (all.1 + n) % 2 ^ 64)
 -- behind that.
 abbrev pub IsFirstNumber : List ℕ → ℕ → List ℕ → Type 0
 IsFirstNumber tokens n rest = (n < 2 ^ 32) × (tokens ≡ decimal n ++ 44 ∷ rest)
-
--- numbers with a comma between them, into an accumulator
-abbrev pub NumbersBetweenRun : {C : Type 0} → Accumulator C ℕ → Input ℕ → Answer C → Input ℕ
-    → Type 0
-NumbersBetweenRun into i answer j =
-    (t : ⊤ × ℕ × Range)
-    × RangedElements DecimalMeans ByteMeans into (assert_kind modal) (tt, 44, any_number) i answer
-    t j

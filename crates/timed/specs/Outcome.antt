@@ -1,13 +1,12 @@
 -- What a workload tells of a run.
-use Rattle.std.specs.Prelude.{◌≡◌, ◌⊎◌, ◌%◌, ◌^◌, ℕ, List, length, MatchResult, vec_len}
-use Rattle.std.proofs.Common.{Global}
+use Rattle.std.specs.Prelude.{◌≡◌, ◌⊎◌, ◌%◌, ◌^◌, ℕ, List, length, MatchResult}
 use Rattle.std.specs.Str.{IsUtf8, chars}
-use Rattle.std.specs.declared.vec.Vec.{Vec}
 use Rattle.winnow.specs.Form.{Answer}
 use Rattle.winnow.specs.Input.{Input}
 use Rattle.winnow.specs.Text.{width}
 use Rattle.readers.specs.Document.{HasSections, IsDocumentFault, SectionText}
 use Rattle.readers.specs.declared.fault.Fault.{Fault}
+use Rattle.timed.specs.NumberLists.{AreListed}
 use Rattle.timed.specs.declared.outcome.Outcome.{Outcome}
 use Rattle.timed.specs.Values.{AreValues, SumsValues}
 use Rattle.timed.specs.declared.tally.Count.{Count}
@@ -16,14 +15,12 @@ use Rattle.timed.specs.declared.tally.Count.{Count}
 abbrev pub TellsNothing : Outcome → Type 0
 TellsNothing told = (told.count ≡ 0) × (told.sum ≡ 0) × (told.left ≡ 0)
 
--- how many outputs the list of a run has, and how many bytes are left; nothing of a run that fails
-abbrev pub TellsList : {O : Type 0} → (Answer (Vec O Global) → Input ℕ → Type 0) → Outcome
-    → Type 0
-TellsList {O} run told =
-    (answer : Answer (Vec O Global)) × (j : Input ℕ) × run answer j
-    × MatchResult answer
-    (λ all. (told.count ≡ vec_len all) × (told.sum ≡ 0) × (told.left ≡ length j.left.tokens))
-    (λ _. TellsNothing told)
+-- how many numbers are listed, and how many bytes are left; or nothing of a run that fails
+abbrev pub TellsList : List ℕ → Outcome → Type 0
+TellsList bytes told =
+    ((numbers : List ℕ) × (rest : List ℕ) × AreListed bytes numbers rest
+    × (told.count ≡ length numbers) × (told.sum ≡ 0) × (told.left ≡ length rest))
+    ⊎ TellsNothing told
 
 -- how many outputs a run counts, and how many bytes are left; nothing of a run that fails
 abbrev pub TellsCount : (Answer Count → Input ℕ → Type 0) → Outcome → Type 0

@@ -1,12 +1,11 @@
-//! Numbers with a comma behind each.
+//! Numbers with a comma between them, or behind each.
 ghost use Rattle.std.specs.Prelude.{◌≡◌, length, true, MatchResult, ⊤};
-ghost use Rattle.winnow.specs.Bytes.{bytes_input};
 ghost use Rattle.winnow.specs.Form.{answer_by, modal};
-ghost use Rattle.timed.specs.Numbers.{IsFirstNumber, NumbersBetweenRun};
+ghost use Rattle.timed.specs.NumberLists.{AreListed};
+ghost use Rattle.timed.specs.Numbers.{IsFirstNumber};
 ghost use Rattle.timed.specs.Outcome.{TellsList, TellsSums};
 ghost use Rattle.timed.specs.Pieces.{NumberRuns, ReadsNumbers};
 ghost use Rattle.timed.specs.Values.{SumsValues};
-ghost use Rattle.winnow.specs.Accumulator.{list_kept};
 ghost use Rattle.winnow.specs.Partial.{with_flag};
 
 use crate::outcome::Outcome;
@@ -21,17 +20,17 @@ fn list<'i>(
     alloc: Global,
     input: &mut &'i [u8],
 ) -> Result<Vec<u32, Global>, ErrMode<InputError<&'i [u8]>>>
-    ensures { NumbersBetweenRun list_kept (bytes_input input.old.now)
-        (answer_by ⟦<ErrMode<InputError<&'i [u8]>> as HasKind>⟧.kind result)
-        (bytes_input input.new.now) }
+    ensures { MatchResult result
+        (λ all. AreListed input.old.now all.items input.new.now)
+        (λ _. ⊤) }
 {
     separated(alloc, Range::from(0..), DecUint, b',').parse_next(input)
 }
 
-/// A list of numbers.
+/// A list of numbers. Nothing is told where a request for memory was refused.
 #[unsafe(no_mangle)]
 pub extern "C" fn timed_number_list(alloc: Global, input: &[u8], out: &mut Outcome)
-    ensures { TellsList (NumbersBetweenRun list_kept (bytes_input input.now)) out.new }
+    ensures { TellsList input.now out.new }
 {
     let mut rest = input;
     *out = Outcome {
