@@ -1,0 +1,5 @@
+use Rattle.std.proofs.Common.{rules}
+use Rattle.winnow_repeat.proofs.combinator.impls.try_fold.RepeatTryFoldParser.parse_next.Goals as goal
+
+pub returns-clause-ran : goal.returns-clause-ran
+returns-clause-ran g c = search rules
