@@ -85,7 +85,11 @@ pub(super) fn key<'i>(input: &mut &'i [u8]) -> Result<&'i str, ErrMode<InputErro
         (answer_by ⟦<ErrMode<InputError<&'i [u8]>> as HasKind>⟧.kind result)
         (bytes_input input.new.now) }
 {
-    Alphanumeric1.verify_map(text).parse_next(input)
+    match Alphanumeric1.parse_next(input) {
+        // SAFETY: ASCII letters and digits are UTF-8.
+        Ok(key) => Ok(unsafe { str::from_utf8_unchecked(key) }),
+        Err(error) => Err(error),
+    }
 }
 
 /// `=`, with spaces and tabs round it.
