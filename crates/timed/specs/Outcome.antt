@@ -1,5 +1,6 @@
 -- What a workload tells of a run.
-use Rattle.std.specs.Prelude.{◌≡◌, ◌⊎◌, ◌%◌, ◌^◌, ℕ, List, length, MatchResult}
+use Rattle.std.specs.Prelude.{◌≡◌, ◌⊎◌, ◌+◌, ◌%◌, ◌^◌, ℕ, List, length, MatchResult}
+use Rattle.std.specs.List.{fold}
 use Rattle.std.specs.Str.{IsUtf8, chars}
 use Rattle.winnow.specs.Form.{Answer}
 use Rattle.winnow.specs.Input.{Input}
@@ -60,8 +61,17 @@ TellsTextSums first bytes told =
     (IsUtf8 bytes × TellsSumsOrNothing first width (chars bytes) told)
     ⊎ ((IsUtf8 bytes → ⊥) × TellsNothing told)
 
--- how many sections a document has; nothing of a text that is none
+-- how many bytes a value has, and so many more, modulo 2 to the 64
+abbrev pub and_value : ℕ → List ℕ × List ℕ → ℕ
+and_value more pair = (more + length pair.1) % 2 ^ 64
+
+-- how many bytes the values of a section have, and so many more
+abbrev pub and_values : ℕ → SectionText → ℕ
+and_values more section = fold and_value more section.1
+
+-- how many sections a document has, and how many bytes its values; nothing of a text that is none
 abbrev pub TellsDocument : List ℕ → Outcome → Type 0
 TellsDocument text told =
-    ((sections : List SectionText) × HasSections text sections × (told.count ≡ length sections))
-    ⊎ ((fault : Fault) × IsDocumentFault text fault × (told.count ≡ 0))
+    ((sections : List SectionText) × HasSections text sections × (told.count ≡ length sections)
+    × (told.sum ≡ fold and_values 0 sections) × (told.left ≡ 0))
+    ⊎ ((fault : Fault) × IsDocumentFault text fault × TellsNothing told)

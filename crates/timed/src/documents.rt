@@ -1,19 +1,33 @@
 //! INI documents.
-ghost use Rattle.timed.specs.Outcome.{TellsDocument};
+ghost use Rattle.std.specs.Prelude.{◌≡◌, map};
+ghost use Rattle.std.specs.List.{fold};
+ghost use Rattle.readers.specs.Sections.{pair_text, section_text};
+ghost use Rattle.timed.specs.Outcome.{TellsDocument, and_value, and_values};
 
 use crate::outcome::Outcome;
 use readers::ini;
 use readers::ini::Section;
 use std::alloc::Global;
 
+/// How many bytes the pairs' values have, and so many more.
+fn with_values(more: u64, pairs: &[(&str, &str)]) -> u64
+    ensures { result ≡ fold and_value more (map pair_text pairs.now) }
+{
+    let mut sum = more;
+    for pair in pairs {
+        sum = sum.wrapping_add(pair.1.len() as u64);
+    }
+    sum
+}
+
 /// How many bytes all values have.
 #[inline(never)]
-fn value_bytes(sections: &[Section<'_, Global>]) -> u64 {
+fn value_bytes(sections: &[Section<'_, Global>]) -> u64
+    ensures { result ≡ fold and_values 0 (map section_text sections.now) }
+{
     let mut sum: u64 = 0;
     for section in sections {
-        for pair in &section.pairs {
-            sum = sum.wrapping_add(pair.1.len() as u64);
-        }
+        sum = with_values(sum, &section.pairs);
     }
     sum
 }
