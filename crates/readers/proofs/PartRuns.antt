@@ -1,21 +1,26 @@
 -- What the runs of the parsers of a document's parts say of the bytes.
-use Rattle.std.proofs.Common.{◌≡◌, ◌<◌, ◌∙◌, ℕ, Bool, true, false, List, [], ◌∷◌, ◌++◌}
+use Rattle.std.proofs.Common.{◌≡◌, ◌⊎◌, ◌<◌, ◌∙◌, ℕ, Bool, true, false, List, [], ◌∷◌, ◌++◌}
 use Rattle.std.proofs.Common.{length, None, refl, sym, ap, subst, arith, inl, inr, append_assoc}
 use Rattle.std.proofs.Common.{length-append}
 use Rattle.std.specs.List.{All}
 use Rattle.std.specs.Prelude.{IsTrue, ◌↔◌}
+use Rattle.std.specs.Borrow.{Bor}
 use Rattle.std.specs.Str.{IsUtf8}
 use Rattle.std.proofs.lemmas.Bool.{cases_eq}
 use Rattle.std.proofs.lemmas.List.Elements.{All-head, All-weaker}
 use Rattle.std.proofs.lemmas.Str.{IsUtf8-from_ascii}
 use Rattle.std.proofs.lemmas.Str.Ascii.{IsAscii-from_all}
 use Rattle.winnow.specs.Equal.{same_first, same_others}
-use Rattle.winnow.specs.Input.{Input}
+use Rattle.winnow.specs.Bytes.{bytes_reading}
+use Rattle.winnow.specs.Input.{Input, Takes}
 use Rattle.winnow.specs.Kind.{Kind}
 use Rattle.winnow.specs.AsChar.{IsAlphanum}
 use Rattle.winnow.specs.TakeWhile.Known.{TooFew, Took, none_first, took_all, took_stops}
+use Rattle.winnow.specs.TakeUntil.Known.{NothingBefore, TookBefore, none_taken, none_there}
+use Rattle.winnow.specs.TakeUntil.Known.{nothing_stands}
 use Rattle.readers.specs.Pair.{IsKeyByte}
-use Rattle.readers.specs.Document.{IsWhite, IsCommentByte, IsNameByte, NotFirst, EndsLine, Part}
+use Rattle.readers.specs.Document.{IsWhite, IsCommentByte, IsNameByte, IsValueByte, NotFirst}
+use Rattle.readers.specs.Document.{EndsLine, Part}
 use Rattle.readers.specs.Document.{white, comment, section, pair, bytes_of, FitsBefore, Begins}
 use Rattle.readers.specs.Document.{NoSectionBegins}
 use Rattle.readers.specs.DocumentRuns.{NoGapBegins, IsFront}
@@ -50,6 +55,59 @@ pub no_front : (P : ℕ → Type 0) (member : ℕ → Bool → Type 0) (i : Inpu
     → NotFirst P i.left.tokens
 no_front P member i k j none other =
     not_first P i.left.tokens (none_first (λ b. P b → ⊥) member i k j other none)
+
+-- a take up to the first byte that is not of P takes the longest front
+pub front_before : (P : ℕ → Type 0) (sought : List ℕ → Type 0) (i : Input ℕ)
+    (slice : Bor (List ℕ)) (j : Input ℕ) → ((b : ℕ) → (sought (b ∷ []) → ⊥) → P b)
+    → ((xs : List ℕ) → sought xs → (b : ℕ) × (xs ≡ b ∷ []) × (P b → ⊥))
+    → TookBefore bytes_reading sought 0 i slice j
+    → IsFront P i.left.tokens slice.now j.left.tokens
+front_before P sought i slice j is marks told =
+    let (b, e, other) = marks told.found told.is in
+    let all =
+    All-weaker (λ x. sought (x ∷ []) → ⊥) P is told.taken
+    (none_taken bytes_reading sought told.taken j.left.tokens told.first) in
+    let first : (x : ℕ) (more : List ℕ) → j.left.tokens ≡ x ∷ more → P x → ⊥ =
+    λ x more e' p. other
+    (subst P (same_first (sym e' ∙ told.left ∙ ap (λ l. l ++ told.rest) e)) p) in
+    let F : List ℕ → Type 0 = λ l. IsFront P i.left.tokens l j.left.tokens in
+    subst F (sym told.takes.shown)
+    (told.takes.passed.tokens, all, not_first P j.left.tokens first)
+
+-- where none stands that is not of P, a take of all is the longest front
+pub front_of_all : (P : ℕ → Type 0) (sought : List ℕ → Type 0) (i : Input ℕ) (k : Kind)
+    (a : Input ℕ) (slice : Bor (List ℕ)) (j : Input ℕ) → ((b : ℕ) → (sought (b ∷ []) → ⊥) → P b)
+    → NothingBefore bytes_reading sought 0 i k a → Takes bytes_reading a.left.tokens a slice j
+    → j.left.tokens ≡ [] → IsFront P i.left.tokens slice.now j.left.tokens
+front_of_all P sought i k a slice j is none takes nothing =
+    let all =
+    All-weaker (λ x. sought (x ∷ []) → ⊥) P is i.left.tokens
+    (none_there sought i.left.tokens (nothing_stands bytes_reading sought i k a none)) in
+    let F : List ℕ → Type 0 = λ l. IsFront P i.left.tokens l j.left.tokens in
+    let N : List ℕ → Type 0 = λ l. NotFirst P l in
+    let A : Input ℕ → Type 0 = λ x. Takes bytes_reading x.left.tokens x slice j in
+    let all_taken = subst A none.stays takes in
+    subst F (sym all_taken.shown) (all_taken.passed.tokens, all, subst N (sym nothing) tt)
+
+-- the marks that end a value, and the line feed that ends a comment
+pub is_value : (t : ℕ × ℕ) → t ≡ (59, 10) → (b : ℕ)
+    → ((b ∷ [] ≡ t.0 ∷ []) ⊎ (b ∷ [] ≡ t.1 ∷ []) → ⊥) → IsValueByte b
+is_value t e b other = (
+  (λ is. other (inl (ap (λ x. x ∷ []) (is ∙ sym (ap (λ p. p.0) e))))),
+  (λ is. other (inr (ap (λ x. x ∷ []) (is ∙ sym (ap (λ p. p.1) e))))),
+)
+
+pub ends_value : (t : ℕ × ℕ) → t ≡ (59, 10) → (xs : List ℕ)
+    → (xs ≡ t.0 ∷ []) ⊎ (xs ≡ t.1 ∷ []) → (b : ℕ) × (xs ≡ b ∷ []) × (IsValueByte b → ⊥)
+ends_value t e xs (inl is) = (59, is ∙ ap (λ p. p.0 ∷ []) e, (λ p. p.0 refl))
+ends_value t e xs (inr is) = (10, is ∙ ap (λ p. p.1 ∷ []) e, (λ p. p.1 refl))
+
+pub is_comment : (t : ℕ) → t ≡ 10 → (b : ℕ) → (b ∷ [] ≡ t ∷ [] → ⊥) → IsCommentByte b
+is_comment t e b other is = other (ap (λ x. x ∷ []) (is ∙ sym e))
+
+pub ends_comment : (t : ℕ) → t ≡ 10 → (xs : List ℕ) → xs ≡ t ∷ []
+    → (b : ℕ) × (xs ≡ b ∷ []) × (IsCommentByte b → ⊥)
+ends_comment t e xs is = (10, is ∙ ap (λ x. x ∷ []) e, (λ p. p refl))
 
 -- only a line feed stops a comment
 ends_line : (rest : List ℕ) → NotFirst IsCommentByte rest → EndsLine rest

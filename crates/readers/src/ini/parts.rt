@@ -1,9 +1,11 @@
 //! The parts of a document: sections' names, pairs, and what stands between them.
 ghost use Rattle.std.specs.Prelude.{◌≡◌, MatchOption, List, ℕ};
 ghost use Rattle.std.specs.Str.{IsUtf8};
-ghost use Rattle.winnow.specs.Bytes.{bytes_input};
+ghost use Rattle.winnow.specs.Bytes.{bytes_input, bytes_reading};
 ghost use Rattle.winnow.specs.Form.{answer_by};
-ghost use Rattle.readers.specs.DocumentRuns.{CategoryRuns, CommentRuns, GapRuns, KeyRuns};
+ghost use Rattle.winnow.specs.Input.{IsEndOf};
+ghost use Rattle.readers.specs.Document.{IsCommentByte, IsValueByte};
+ghost use Rattle.readers.specs.DocumentRuns.{CategoryRuns, CommentRuns, GapRuns, IsFront, KeyRuns};
 ghost use Rattle.readers.specs.DocumentRuns.{KeyValueRuns, MarkRuns, ValueRuns, IsWithoutTrailing};
 
 use crate::ini::impls::{Comment, Key, Mark, Value};
@@ -12,9 +14,9 @@ use std::str;
 use winnow::Parser;
 use winnow::ascii::impls::{Alphanumeric1, Multispace1, Space0};
 use winnow::combinator::{alt, delimited, opt, repeat, separated_pair, terminated};
-use winnow::error::{ErrMode, HasKind, InputError};
-use winnow::stream::{Pred, Range};
-use winnow::token::take_while;
+use winnow::error::{EmptyError, ErrMode, HasKind, InputError, ParserError};
+use winnow::stream::{Pred, Range, Stream};
+use winnow::token::{take_until, take_while};
 
 /// The bytes as text, where they are UTF-8.
 fn text(bytes: &[u8]) -> Option<&str>
@@ -101,15 +103,39 @@ pub(super) fn mark<'i>(input: &mut &'i [u8]) -> Result<(), ErrMode<InputError<&'
     (Space0, b'=', Space0).void().parse_next(input)
 }
 
+/// Takes the bytes before `;` and the end of the line.
+fn value_bytes<'i>(input: &mut &'i [u8]) -> &'i [u8]
+    ensures front { IsFront IsValueByte input.old.now result.now input.new.now }
+    ensures ends { IsEndOf bytes_reading (bytes_input input.new.now) (bytes_input input.old.now) }
+{
+    match take_until::<_, _, EmptyError>(Range::from(0..), (b';', b'\n')).parse_next(input) {
+        Ok(bytes) => bytes,
+        // the last line has no end
+        Err(_) => input.finish(),
+    }
+}
+
+/// Takes the bytes before the next line feed.
+fn line_bytes<'i>(input: &mut &'i [u8]) -> &'i [u8]
+    ensures front { IsFront IsCommentByte input.old.now result.now input.new.now }
+    ensures ends { IsEndOf bytes_reading (bytes_input input.new.now) (bytes_input input.old.now) }
+{
+    match take_until::<_, _, EmptyError>(Range::from(0..), b'\n').parse_next(input) {
+        Ok(bytes) => bytes,
+        Err(_) => input.finish(),
+    }
+}
+
 /// The value of a pair: the bytes before `;` and the end of the line, without what trails.
 pub(super) fn value<'i>(input: &mut &'i [u8]) -> Result<&'i str, ErrMode<InputError<&'i [u8]>>>
     ensures { ValueRuns (bytes_input input.old.now)
         (answer_by ⟦<ErrMode<InputError<&'i [u8]>> as HasKind>⟧.kind result)
         (bytes_input input.new.now) }
 {
-    take_while(Range::from(0..), Pred(|b: u8| b != b';' && b != b'\n'))
-        .verify_map(value_text)
-        .parse_next(input)
+    match value_text(value_bytes(input)) {
+        Some(value) => Ok(value),
+        None => Err(ErrMode::from_input(input)),
+    }
 }
 
 /// A key and its value: one or more ASCII letters or digits, spaces and tabs, `=`, spaces and tabs,
@@ -149,9 +175,13 @@ pub(super) fn comment<'i>(input: &mut &'i [u8]) -> Result<(), ErrMode<InputError
         (answer_by ⟦<ErrMode<InputError<&'i [u8]>> as HasKind>⟧.kind result)
         (bytes_input input.new.now) }
 {
-    (b';', take_while(Range::from(0..), Pred(|b: u8| b != b'\n')))
-        .void()
-        .parse_next(input)
+    match b';'.parse_next(input) {
+        Ok(_) => {
+            line_bytes(input);
+            Ok(())
+        }
+        Err(error) => Err(error),
+    }
 }
 
 /// What stands between sections and pairs: any number of white space and comments, to the first
