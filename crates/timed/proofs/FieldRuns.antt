@@ -1,11 +1,14 @@
 -- Runs of the reader of a field with what ends it.
-use Rattle.std.specs.Prelude.{◌≡◌, ◌↔◌, ℕ, Bool, true, false, not, IsTrue, List, ◌∷◌}
+use Rattle.std.specs.Prelude.{◌≡◌, ◌⊎◌, ◌↔◌, ℕ, Bool, true, false, not, IsTrue, List, [], ◌∷◌}
 use Rattle.std.specs.Prelude.{◌++◌, None, Ok, Err}
 use Rattle.std.specs.Borrow.{Bor}
+use Rattle.std.specs.List.{All}
 use Rattle.std.proofs.Common.{◌∙◌, ap, arith, inl, inr, length, length-append, refl, subst, sym}
+use Rattle.std.proofs.lemmas.List.Elements.{All-weaker}
 use Rattle.winnow.specs.Bytes.{bytes_reading}
 use Rattle.winnow.specs.Equal.{same_first, true_is_false}
 use Rattle.winnow.specs.Form.{modal}
+use Rattle.winnow.specs.Input.{Input}
 use Rattle.winnow.specs.InOrder.Known.{both_err}
 use Rattle.winnow.specs.OneOf.{OneOfRuns}
 use Rattle.winnow.specs.OneOf.Known.{one_of_err, one_of_ok}
@@ -13,9 +16,10 @@ use Rattle.winnow.specs.Range.{bounds_of}
 use Rattle.winnow.specs.Runs.{Keeps, Runs}
 use Rattle.winnow.specs.Sets.{EitherTells}
 use Rattle.winnow.specs.Stream.{AnswersSeen}
-use Rattle.winnow.specs.TakeWhile.{TakeWhileRuns}
-use Rattle.winnow.specs.TakeWhile.Known.{Tells, never_too_few, take_must_leave}
-use Rattle.winnow.specs.TakeWhile.Known.{too_few, took_all, took_counted}
+use Rattle.winnow.specs.TakeUntil.{TakeUntilRuns}
+use Rattle.winnow.specs.TakeUntil.Known.{TookBefore, none_taken, nothing_before, nothing_stands}
+use Rattle.winnow.specs.TakeUntil.Known.{took_before}
+use Rattle.winnow.specs.TakeWhile.Known.{Tells}
 use Rattle.winnow.specs.Terminated.{TerminatedRuns}
 use Rattle.winnow.specs.Terminated.Known.{terminated_ok}
 use Rattle.winnow.specs.{Range}
@@ -35,10 +39,14 @@ marks = (44, 10)
 abbrev pub Others : ℕ × ℕ → ℕ → Bool → Type 0
 Others s = AnswersSeen (λ b. b) (λ b a. PairTells s b (not a))
 
+-- what a search for one of the two bytes seeks
+abbrev pub Sought : ℕ × ℕ → List ℕ → Type 0
+Sought s bytes = (bytes ≡ s.0 ∷ []) ⊎ (bytes ≡ s.1 ∷ [])
+
 -- what the two parsers mean, and the states in which they are made
 abbrev pub FieldMeans : Runs ((Range × (ℕ × ℕ)) × (ℕ × ℕ)) ℕ (Bor (List ℕ))
 FieldMeans = TerminatedRuns
-    (Keeps (λ x. TakeWhileRuns bytes_reading modal (Others x.1) (bounds_of x.0)))
+    (Keeps (λ x. TakeUntilRuns bytes_reading modal (Sought x.1) (bounds_of x.0)))
     (Keeps (λ x. OneOfRuns (λ b. b) bytes_reading modal (PairTells x)))
 
 abbrev pub made : (Range × (ℕ × ℕ)) × (ℕ × ℕ)
@@ -66,43 +74,74 @@ pub stranger_ends : (b : ℕ) → Others marks b false → EndsField b
 stranger_ends b told = let P : ℕ → Type 0 = λ x. EndsField x in
     subst P told.1 (has told.0 told.2)
 
+-- a byte that is not sought ends no field, and one that ends a field is sought
+unsought : (b : ℕ) → (Sought marks (b ∷ []) → ⊥) → EndsField b → ⊥
+unsought b other (inl is) = other (inl (ap (λ x. x ∷ []) is))
+unsought b other (inr is) = other (inr (ap (λ x. x ∷ []) is))
+
+sought : (b : ℕ) → EndsField b → Sought marks (b ∷ [])
+sought b (inl is) = inl (ap (λ x. x ∷ []) is)
+sought b (inr is) = inr (ap (λ x. x ∷ []) is)
+
+-- what is found ends a field
+found_ends : (found : List ℕ) → Sought marks found → (b : ℕ) × (found ≡ b ∷ []) × EndsField b
+found_ends found (inl e) = (44, e, inl refl)
+found_ends found (inr e) = (10, e, inr refl)
+
+-- behind a take up to a byte that ends a field, a member of the pair stands
+ended : (i : Input ℕ) (o : Bor (List ℕ)) (a : Input ℕ)
+    → TookBefore bytes_reading (Sought marks) 0 i o a
+    → (b : ℕ) × (rest : List ℕ) × (a.left.tokens ≡ b ∷ rest) × EndsField b
+ended i o a took =
+    let (b, e, ends) = found_ends took.found took.is in
+    (b, took.rest, took.left ∙ ap (λ l. l ++ took.rest) e, ends)
+
+-- and nothing in the field ends it
+all_before : (i : Input ℕ) (o : Bor (List ℕ)) (a : Input ℕ)
+    → TookBefore bytes_reading (Sought marks) 0 i o a → All (λ b. EndsField b → ⊥) o.now
+all_before i o a took =
+    let P : List ℕ → Type 0 = λ l. All (λ b. EndsField b → ⊥) l in
+    subst P (sym took.takes.shown)
+    (All-weaker (λ b. Sought marks (b ∷ []) → ⊥) (λ b. EndsField b → ⊥) unsought took.taken
+    (none_taken bytes_reading (Sought marks) took.taken a.left.tokens took.first))
+
 pub field_read : ReadsValue FieldMeans (λ s. s ≡ made) (λ field. field.now) IsFirstField
 field_read = record {
   reads = λ s i o t j is whole ran.
       let (end, a, r1, r2) = terminated_ok o (ran_from FieldMeans s made is i (Ok o) t j ran) in
-      let took = took_counted modal (Others marks) 0 None i o a r1.0 in
+      let took = took_before bytes_reading modal (Sought marks) 0 None i o a r1.0 in
       let (passed, member) = one_of_ok (λ b. b) bytes_reading modal (PairTells marks) a end j
       r2.0 in (
         (
           end,
-          took.longest.splits ∙ ap (λ l. o.now ++ l) passed.tokens,
-          took_all (λ b. EndsField b → ⊥) (Others marks) 0 None i o.now a others.yes took,
+          took.takes.passed.tokens ∙ ap (λ l. l ++ a.left.tokens) (sym took.takes.shown)
+              ∙ ap (λ l. o.now ++ l) passed.tokens,
+          all_before i o a took,
           has end member,
         ),
         both r1.1 r2.1,
-        ap (λ x. x.cut) passed.status ∙ took.whole whole,
+        ap (λ x. x.cut) passed.status ∙ ap (λ x. x.cut) took.takes.passed.status ∙ whole,
       );
   fails = λ s i k t j is whole ran.
       elim (both_err k (ran_from FieldMeans s made is i (Err k) t j ran)) [
         | inl (r1, kept) ↦
-            never_too_few (Others marks) None i k j
-            (too_few bytes_reading modal (Others marks) 0 None i k j whole tt r1.0)
-        | inr (o, a, r1, r2) ↦
-            let took = took_counted modal (Others marks) 0 None i o a r1.0 in
-            let none = one_of_err (λ b. b) bytes_reading modal (PairTells marks) a k j
-            (took.whole whole) r2.0 in (
+            let none = nothing_before bytes_reading modal (Sought marks) 0 i k j whole r1.0 in (
               none.kind,
               λ v more (end, splits, all, ends).
-                  let left = take_must_leave bytes_reading modal (Others marks)
-                  (λ b. EndsField b → ⊥) 0 v end more i o a others splits all
-                  (λ not_end. not_end ends) (omega arith) r1.0 in
-                  elim none.first [
-                    | inl nothing ↦ absurd (cc)
-                    | inr (x, rest, split, stranger) ↦
-                        let P : ℕ → Type 0 = λ y. EndsField y in
-                        absurd (lacks x stranger (subst P (same_first (sym left ∙ split)) ends))
-                  ],
+                  nothing_stands bytes_reading (Sought marks) i k j none v (end ∷ []) more
+                  (record { splits = splits; is = sought end ends }),
             )
+        | inr (o, a, r1, r2) ↦
+            let took = took_before bytes_reading modal (Sought marks) 0 None i o a r1.0 in
+            let (b, rest, there, ends) = ended i o a took in
+            let none = one_of_err (λ b. b) bytes_reading modal (PairTells marks) a k j
+            (ap (λ x. x.cut) took.takes.passed.status ∙ whole) r2.0 in
+            elim none.first [
+              | inl nothing ↦ absurd (cc)
+              | inr (x, others, split, stranger) ↦
+                  let P : ℕ → Type 0 = λ y. EndsField y in
+                  absurd (lacks x stranger (subst P (same_first (sym there ∙ split)) ends))
+            ]
       ];
   some = λ v tokens (end, splits, all, ends). absurd (omega (
     arith,

@@ -18,7 +18,7 @@ use winnow::Parser;
 use winnow::combinator::{preceded, repeat, terminated};
 use winnow::error::{ErrMode, HasKind, InputError};
 use winnow::stream::Range;
-use winnow::token::{one_of, take_till};
+use winnow::token::{one_of, take_till, take_until};
 
 /// A row: its first field, and the others.
 type Row<'i> = (&'i str, Vec<&'i str, Global>);
@@ -140,7 +140,7 @@ fn counted<'i>(alloc: Global, input: &mut &'i [u8]) -> Result<Count, ErrMode<Inp
         alloc,
         Range::from(0..),
         terminated(
-            take_till(Range::from(0..), (b',', b'\n')),
+            take_until(Range::from(0..), (b',', b'\n')),
             one_of((b',', b'\n')),
         ),
     )

@@ -15,7 +15,7 @@ use winnow::combinator::{alt, repeat, terminated};
 use winnow::error::{EmptyError, ErrMode};
 use winnow::prelude::*;
 use winnow::stream::{AsChar, Compare, Range};
-use winnow::token::{literal, take_till};
+use winnow::token::{literal, take_until};
 
 /// How many of six keywords have a space behind them.
 fn keywords<'i>(alloc: Global, input: &mut &'i [u8]) -> Result<Count, ErrMode<EmptyError>>
@@ -98,7 +98,7 @@ fn words<'i>(alloc: Global, input: &mut &'i str) -> Result<Count, ErrMode<EmptyE
     repeat(
         alloc,
         Range::from(0..),
-        terminated(take_till(Range::from(1..), ' '), ' '),
+        terminated(take_until(Range::from(1..), ' '), ' '),
     )
     .parse_next(input)
 }

@@ -1,6 +1,6 @@
 use Rattle.std.proofs.Common.{◌∙◌, ap, refl}
 use Rattle.winnow.specs.OneOf.{one_of_set}
-use Rattle.winnow.specs.TakeTill.{take_till_occurrences, take_till_set}
+use Rattle.winnow.specs.TakeUntil.{take_until_literal, take_until_occurrences}
 use Rattle.winnow.specs.Terminated.{terminated_ignored, terminated_parser}
 use Rattle.timed.proofs.FieldRuns.{field_read}
 use Rattle.timed.proofs.Runs.{both}
@@ -12,10 +12,10 @@ returns c =
     let parser = c.repeat.ensures.parser in
     let before = ap terminated_parser parser ∙ c.terminated.ensures.parser in
     let often =
-    ap take_till_occurrences before ∙ c.take_till.ensures.occurrences ∙ c.from-2.ensures in
-    let set = ap take_till_set before ∙ c.take_till.ensures.set in
+    ap take_until_occurrences before ∙ c.take_until.ensures.occurrences ∙ c.from-2.ensures in
+    let ends = ap take_until_literal before ∙ c.take_until.ensures.literal in
     let behind =
     ap (λ p. one_of_set (terminated_ignored p)) parser
     ∙ ap one_of_set c.terminated.ensures.ignored ∙ c.one_of.ensures in
-    repeat_told field_read _ _ _ c.parse_next.result _ _ (both (both often set) behind)
+    repeat_told field_read _ _ _ c.parse_next.result _ _ (both (both often ends) behind)
     (c.repeat.ensures.occurrences ∙ c.from.ensures) refl c.parse_next.ensures.ran

@@ -1,5 +1,5 @@
 use Rattle.std.proofs.Common.{◌∙◌, ap, refl}
-use Rattle.winnow.specs.TakeTill.{take_till_occurrences, take_till_set}
+use Rattle.winnow.specs.TakeUntil.{take_until_literal, take_until_occurrences}
 use Rattle.winnow.specs.Terminated.{terminated_ignored, terminated_parser}
 use Rattle.timed.proofs.Runs.{both}
 use Rattle.timed.proofs.Values.{repeat_told}
@@ -11,8 +11,8 @@ returns c =
     let parser = c.repeat.ensures.parser in
     let before = ap terminated_parser parser ∙ c.terminated.ensures.parser in
     let often =
-    ap take_till_occurrences before ∙ c.take_till.ensures.occurrences ∙ c.from-2.ensures in
-    let set = ap take_till_set before ∙ c.take_till.ensures.set in
+    ap take_until_occurrences before ∙ c.take_until.ensures.occurrences ∙ c.from-2.ensures in
+    let space = ap take_until_literal before ∙ c.take_until.ensures.literal in
     let behind = ap terminated_ignored parser ∙ c.terminated.ensures.ignored in
-    repeat_told word_read _ _ _ c.parse_next.result _ _ (both (both often set) behind)
+    repeat_told word_read _ _ _ c.parse_next.result _ _ (both (both often space) behind)
     (c.repeat.ensures.occurrences ∙ c.from.ensures) refl c.parse_next.ensures.ran
