@@ -11,6 +11,7 @@ use Rattle.winnow.specs.Reads.Known.{SliceRuns, slice_leaves, slice_reads}
 use Rattle.winnow.specs.Runs.{Runs}
 use Rattle.winnow.specs.SeparatedPair.{SeparatedPairRuns}
 use Rattle.winnow.specs.SeparatedPair.Known.{separated_pair_reads}
+use Rattle.winnow.specs.TakeUntil.Known.{BeforeToken, before_leaves, before_reads}
 use Rattle.winnow.specs.TakeWhile.Known.{TakesOf, take_leaves, take_reads}
 use Rattle.winnow.specs.Terminated.{TerminatedRuns}
 use Rattle.winnow.specs.Terminated.Known.{terminated_reads}
@@ -21,12 +22,12 @@ use Rattle.timed.specs.Words.{some_number}
 use Rattle.timed.proofs.Listed.{ReadsFirst}
 
 -- what its parts mean, and the states in which they are made
-abbrev pub States : Type 0 → Type 0 → Type 0
-States A B = ((Range × A) × Bor (List ℕ) × (Range × B)) × Bor (List ℕ)
+abbrev pub States : Type 0 → Type 0
+States A = ((Range × A) × Bor (List ℕ) × (Range × ℕ)) × Bor (List ℕ)
 
-abbrev pub HeaderMeans : {A B : Type 0} → Runs (States A B) ℕ (Bor (List ℕ) × Bor (List ℕ))
+abbrev pub HeaderMeans : {A : Type 0} → Runs (States A) ℕ (Bor (List ℕ) × Bor (List ℕ))
 HeaderMeans = TerminatedRuns (SeparatedPairRuns (TakesOf modal IsNameByte) (SliceRuns modal)
-    (TakesOf modal IsValueByte)) (SliceRuns modal)
+    (BeforeToken modal)) (SliceRuns modal)
 
 abbrev colon : List ℕ
 colon = 58 ∷ 32 ∷ []
@@ -34,21 +35,20 @@ colon = 58 ∷ 32 ∷ []
 abbrev pub line_end : List ℕ
 line_end = 13 ∷ 10 ∷ []
 
-abbrev pub IsMade : {A B : Type 0} → States A B → Type 0
+abbrev pub IsMade : {A : Type 0} → States A → Type 0
 IsMade s =
-    ((s.0.0.0 ≡ some_number) × (s.0.1.now ≡ colon) × (s.0.2.0 ≡ any_number))
+    ((s.0.0.0 ≡ some_number) × (s.0.1.now ≡ colon) × ((s.0.2.0 ≡ any_number) × (s.0.2.1 ≡ 13)))
     × (s.1.now ≡ line_end)
 
 -- the bytes of a name and a value
 abbrev pub bytes_of : Bor (List ℕ) × Bor (List ℕ) → List ℕ × List ℕ
 bytes_of header = (header.0.now, header.1.now)
 
-pub header_read : {A B : Type 0} → ReadsFirst (HeaderMeans {A = A} {B = B}) IsMade
-    bytes_of IsFirstHeader
+pub header_read : {A : Type 0} → ReadsFirst (HeaderMeans {A = A}) IsMade bytes_of IsFirstHeader
 header_read = record {
   reads = λ s i o t j made ran.
       let it = terminated_reads (separated_pair_reads (take_reads modal IsNameByte some_number)
-      (slice_reads modal colon) (take_reads modal IsValueByte any_number))
+      (slice_reads modal colon) (before_reads modal any_number 13))
       (slice_reads modal line_end) in
       let (splits, (name, value)) = it.reads s i o t j made ran in (
         (simp append_assoc at splits, name.0, name.1, value.0),
@@ -59,8 +59,8 @@ header_read = record {
       (take_leaves modal IsNameByte some_number s.0.0 v.0 58 _ refl made.0.0 is_name
       (λ h. omega (arith, h)) some_name)
       (slice_leaves modal colon (v.1 ++ (13 ∷ 10 ∷ more)) s.0.1 made.0.1)
-      (take_leaves modal IsValueByte any_number s.0.2 v.1 13 _ refl made.0.2 is_value
-      (λ h. h refl) (omega arith)))
+      (before_leaves modal any_number 13 s.0.2 v.1 _ refl made.0.2.0 made.0.2.1 is_value
+      (omega arith)))
       (slice_leaves modal line_end more s.1 made.1) in
       must.answers i _ t j splits ran;
 }

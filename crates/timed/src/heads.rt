@@ -3,7 +3,7 @@ ghost use Rattle.std.specs.Prelude.{length, ◌≡◌, ◌↔◌, IsTrue, MatchR
 ghost use Rattle.winnow.specs.Bytes.{bytes_input};
 ghost use Rattle.winnow.specs.Form.{answer_by};
 ghost use Rattle.timed.specs.HeadRuns.{HeadRuns, HeadersRuns, RequestRuns};
-ghost use Rattle.timed.specs.Heads.{IsFirstHead, IsNameByte, IsTargetByte, IsValueByte};
+ghost use Rattle.timed.specs.Heads.{IsFirstHead, IsNameByte, IsTargetByte};
 ghost use Rattle.timed.specs.Outcome.{TellsSumsOrNothing};
 ghost use Rattle.timed.specs.Values.{SumsValues};
 
@@ -13,7 +13,7 @@ use winnow::Parser;
 use winnow::combinator::{repeat, separated_pair, terminated};
 use winnow::error::{ErrMode, HasKind, InputError};
 use winnow::stream::{ContainsToken, Range};
-use winnow::token::take_while;
+use winnow::token::{take_until, take_while};
 
 /// A header: its name and its value.
 type Header<'i> = (&'i [u8], &'i [u8]);
@@ -41,19 +41,6 @@ impl ContainsToken<u8> for TargetBytes {
     #[inline(always)]
     fn contains_token(&self, b: u8) -> bool {
         b > b' ' && b < 127
-    }
-}
-
-/// The bytes of values.
-#[derive(Clone, Copy, Drop)]
-struct ValueBytes;
-
-impl ContainsToken<u8> for ValueBytes {
-    ghost tells = { λ s b answer. IsTrue answer ↔ IsValueByte b };
-
-    #[inline(always)]
-    fn contains_token(&self, b: u8) -> bool {
-        b != b'\r'
     }
 }
 
@@ -91,7 +78,7 @@ fn headers<'i>(
             separated_pair(
                 take_while(Range::from(1..), NameBytes),
                 b": ".as_slice(),
-                take_while(Range::from(0..), ValueBytes),
+                take_until(Range::from(0..), b'\r'),
             ),
             b"\r\n".as_slice(),
         ),

@@ -208,7 +208,7 @@ tells_of P = record {
 }
 
 -- where a stranger to P follows xs, the longest beginning of P is xs
-same_front : {X : Type 0} (P : X → Type 0) (xs ys : List X) (x : X) (more rest : List X)
+pub same_front : {X : Type 0} (P : X → Type 0) (xs ys : List X) (x : X) (more rest : List X)
     → All P xs → (P x → ⊥) → All P ys
     → ((y : X) (others : List X) → rest ≡ y ∷ others → P y → ⊥)
     → xs ++ x ∷ more ≡ ys ++ rest → xs ≡ ys

@@ -1,6 +1,7 @@
 use Rattle.std.proofs.Common.{◌∙◌, ap}
 use Rattle.winnow.specs.SeparatedPair.{separated_pair_first, separated_pair_second}
 use Rattle.winnow.specs.SeparatedPair.{separated_pair_separator}
+use Rattle.winnow.specs.TakeUntil.{take_until_literal, take_until_occurrences}
 use Rattle.winnow.specs.TakeWhile.{take_while_occurrences}
 use Rattle.winnow.specs.Terminated.{terminated_ignored, terminated_parser}
 use Rattle.timed.proofs.Headers.{header_read}
@@ -20,7 +21,10 @@ returns c =
         (
           ap take_while_occurrences name ∙ c.take_while.ensures.occurrences ∙ c.from-2.ensures,
           ap (λ s. s.now) colon ∙ c.as_slice.ensures,
-          ap take_while_occurrences value ∙ c.take_while-2.ensures.occurrences ∙ c.from-3.ensures,
+          (
+            ap take_until_occurrences value ∙ c.take_until.ensures.occurrences ∙ c.from-3.ensures,
+            ap take_until_literal value ∙ c.take_until.ensures.literal,
+          ),
         ),
         ap (λ s. s.now) behind ∙ c.as_slice-2.ensures,
       ) (c.repeat.ensures.occurrences ∙ c.from.ensures) c.parse_next.ensures.ran,
