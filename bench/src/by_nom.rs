@@ -145,7 +145,7 @@ fn is_token(b: u8) -> bool {
 
 fn header(i: In<'_>) -> IResult<In<'_>, Header<'_>> {
     let name = take_while1(is_token);
-    terminated(separated_pair(name, tag(": "), take_till(|b| b == b'\r')), tag("\r\n"))(i)
+    terminated(separated_pair(name, tag(": "), take_until("\r")), tag("\r\n"))(i)
 }
 
 fn head(i: In<'_>) -> IResult<In<'_>, (Header<'_>, Vec<Header<'_>>)> {
