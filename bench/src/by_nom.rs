@@ -4,7 +4,7 @@ use nom::branch::alt;
 use nom::bytes::complete::{tag, tag_no_case, take_till, take_until, take_while, take_while1};
 use nom::character::complete::{alphanumeric1, char, multispace1, one_of, space0, u32 as number};
 use nom::character::streaming;
-use nom::combinator::{map_res, opt, recognize, value};
+use nom::combinator::{map_res, opt, recognize, rest, value};
 use nom::multi::{fold_many0, many0, many0_count, separated_list0};
 use nom::sequence::{delimited, pair, preceded, separated_pair, terminated, tuple};
 use nom::{IResult, InputLength, Parser};
@@ -26,7 +26,7 @@ struct Section<'i> {
 }
 
 fn comment(i: In<'_>) -> IResult<In<'_>, ()> {
-    value((), pair(char(';'), take_while(|b| b != b'\n')))(i)
+    value((), pair(char(';'), alt((take_until("\n"), rest))))(i)
 }
 
 fn gap(i: In<'_>) -> IResult<In<'_>, ()> {

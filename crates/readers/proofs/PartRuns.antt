@@ -16,8 +16,8 @@ use Rattle.winnow.specs.Input.{Input, Takes}
 use Rattle.winnow.specs.Kind.{Kind}
 use Rattle.winnow.specs.AsChar.{IsAlphanum}
 use Rattle.winnow.specs.TakeWhile.Known.{TooFew, Took, none_first, took_all, took_stops}
-use Rattle.winnow.specs.TakeUntil.Known.{NothingBefore, TookBefore, none_taken, none_there}
-use Rattle.winnow.specs.TakeUntil.Known.{nothing_stands}
+use Rattle.winnow.specs.TakeUntil.Known.{NothingBefore, TookBefore, before_all, nothing_stands}
+use Rattle.winnow.specs.TakeUntil.Known.{there_all}
 use Rattle.readers.specs.Pair.{IsKeyByte}
 use Rattle.readers.specs.Document.{IsWhite, IsCommentByte, IsNameByte, IsValueByte, NotFirst}
 use Rattle.readers.specs.Document.{EndsLine, Part}
@@ -64,9 +64,7 @@ pub front_before : (P : ℕ → Type 0) (sought : List ℕ → Type 0) (i : Inpu
     → IsFront P i.left.tokens slice.now j.left.tokens
 front_before P sought i slice j is marks told =
     let (b, e, other) = marks told.found told.is in
-    let all =
-    All-weaker (λ x. sought (x ∷ []) → ⊥) P is told.taken
-    (none_taken bytes_reading sought told.taken j.left.tokens told.first) in
+    let all = before_all bytes_reading sought P told.taken j.left.tokens is told.first in
     let first : (x : ℕ) (more : List ℕ) → j.left.tokens ≡ x ∷ more → P x → ⊥ =
     λ x more e' p. other
     (subst P (same_first (sym e' ∙ told.left ∙ ap (λ l. l ++ told.rest) e)) p) in
@@ -81,8 +79,7 @@ pub front_of_all : (P : ℕ → Type 0) (sought : List ℕ → Type 0) (i : Inpu
     → j.left.tokens ≡ [] → IsFront P i.left.tokens slice.now j.left.tokens
 front_of_all P sought i k a slice j is none takes nothing =
     let all =
-    All-weaker (λ x. sought (x ∷ []) → ⊥) P is i.left.tokens
-    (none_there sought i.left.tokens (nothing_stands bytes_reading sought i k a none)) in
+    there_all sought P i.left.tokens is (nothing_stands bytes_reading sought i k a none) in
     let F : List ℕ → Type 0 = λ l. IsFront P i.left.tokens l j.left.tokens in
     let N : List ℕ → Type 0 = λ l. NotFirst P l in
     let A : Input ℕ → Type 0 = λ x. Takes bytes_reading x.left.tokens x slice j in

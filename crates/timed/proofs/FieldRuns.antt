@@ -1,10 +1,9 @@
 -- Runs of the reader of a field with what ends it.
-use Rattle.std.specs.Prelude.{◌≡◌, ◌⊎◌, ◌↔◌, ℕ, Bool, true, false, not, IsTrue, List, [], ◌∷◌}
+use Rattle.std.specs.Prelude.{◌≡◌, ◌⊎◌, ◌↔◌, ℕ, Bool, true, false, IsTrue, List, [], ◌∷◌}
 use Rattle.std.specs.Prelude.{◌++◌, None, Ok, Err}
 use Rattle.std.specs.Borrow.{Bor}
 use Rattle.std.specs.List.{All}
 use Rattle.std.proofs.Common.{◌∙◌, ap, arith, inl, inr, length, length-append, refl, subst, sym}
-use Rattle.std.proofs.lemmas.List.Elements.{All-weaker}
 use Rattle.winnow.specs.Bytes.{bytes_reading}
 use Rattle.winnow.specs.Equal.{same_first, true_is_false}
 use Rattle.winnow.specs.Form.{modal}
@@ -13,17 +12,16 @@ use Rattle.winnow.specs.InOrder.Known.{both_err}
 use Rattle.winnow.specs.OneOf.{OneOfRuns}
 use Rattle.winnow.specs.OneOf.Known.{one_of_err, one_of_ok}
 use Rattle.winnow.specs.Range.{bounds_of}
+use Rattle.winnow.specs.Reading.{Reading}
 use Rattle.winnow.specs.Runs.{Keeps, Runs}
 use Rattle.winnow.specs.Sets.{EitherTells}
-use Rattle.winnow.specs.Stream.{AnswersSeen}
 use Rattle.winnow.specs.TakeUntil.{TakeUntilRuns}
-use Rattle.winnow.specs.TakeUntil.Known.{TookBefore, none_taken, nothing_before, nothing_stands}
+use Rattle.winnow.specs.TakeUntil.Known.{TookBefore, before_all, nothing_before, nothing_stands}
 use Rattle.winnow.specs.TakeUntil.Known.{took_before}
-use Rattle.winnow.specs.TakeWhile.Known.{Tells}
 use Rattle.winnow.specs.Terminated.{TerminatedRuns}
 use Rattle.winnow.specs.Terminated.Known.{terminated_ok}
 use Rattle.winnow.specs.{Range}
-use Rattle.timed.specs.Fields.{EndsField, IsFirstField}
+use Rattle.timed.specs.Fields.{EndStands, EndsField, IsFirstField}
 use Rattle.timed.specs.Numbers.{any_number}
 use Rattle.timed.proofs.Runs.{both, ran_from}
 use Rattle.timed.proofs.Values.{ReadsValue}
@@ -34,10 +32,6 @@ PairTells s = EitherTells (λ b a. IsTrue a ↔ (b ≡ s.0)) (λ b a. IsTrue a �
 
 abbrev pub marks : ℕ × ℕ
 marks = (44, 10)
-
--- the others, as a take sees them
-abbrev pub Others : ℕ × ℕ → ℕ → Bool → Type 0
-Others s = AnswersSeen (λ b. b) (λ b a. PairTells s b (not a))
 
 -- what a search for one of the two bytes seeks
 abbrev pub Sought : ℕ × ℕ → List ℕ → Type 0
@@ -62,24 +56,12 @@ lacks b (inl (member, e)) is = absurd (cc)
 lacks b (inr (other, another)) (inl is) = true_is_false (sym (other.1 is))
 lacks b (inr (other, another)) (inr is) = true_is_false (sym (another.1 is))
 
-pub others : Tells (Others marks) (λ b. EndsField b → ⊥)
-others = record {
-  yes = λ b told. let P : ℕ → Type 0 = λ x. EndsField x → ⊥ in subst P told.1 (lacks told.0 told.2);
-  no = λ b told not_end. let P : ℕ → Type 0 = λ x. EndsField x in
-      absurd (not_end (subst P told.1 (has told.0 told.2)));
-}
-
--- what ends a take of the others ends a field
-pub stranger_ends : (b : ℕ) → Others marks b false → EndsField b
-stranger_ends b told = let P : ℕ → Type 0 = λ x. EndsField x in
-    subst P told.1 (has told.0 told.2)
-
 -- a byte that is not sought ends no field, and one that ends a field is sought
 unsought : (b : ℕ) → (Sought marks (b ∷ []) → ⊥) → EndsField b → ⊥
 unsought b other (inl is) = other (inl (ap (λ x. x ∷ []) is))
 unsought b other (inr is) = other (inr (ap (λ x. x ∷ []) is))
 
-sought : (b : ℕ) → EndsField b → Sought marks (b ∷ [])
+pub sought : (b : ℕ) → EndsField b → Sought marks (b ∷ [])
 sought b (inl is) = inl (ap (λ x. x ∷ []) is)
 sought b (inr is) = inr (ap (λ x. x ∷ []) is)
 
@@ -89,21 +71,19 @@ found_ends found (inl e) = (44, e, inl refl)
 found_ends found (inr e) = (10, e, inr refl)
 
 -- behind a take up to a byte that ends a field, a member of the pair stands
-ended : (i : Input ℕ) (o : Bor (List ℕ)) (a : Input ℕ)
-    → TookBefore bytes_reading (Sought marks) 0 i o a
-    → (b : ℕ) × (rest : List ℕ) × (a.left.tokens ≡ b ∷ rest) × EndsField b
-ended i o a took =
+pub ended : {S : Type 0} (reading : Reading ℕ S) (i : Input ℕ) (o : S) (a : Input ℕ)
+    → TookBefore reading (Sought marks) 0 i o a → EndStands a.left.tokens
+ended reading i o a took =
     let (b, e, ends) = found_ends took.found took.is in
     (b, took.rest, took.left ∙ ap (λ l. l ++ took.rest) e, ends)
 
 -- and nothing in the field ends it
-all_before : (i : Input ℕ) (o : Bor (List ℕ)) (a : Input ℕ)
-    → TookBefore bytes_reading (Sought marks) 0 i o a → All (λ b. EndsField b → ⊥) o.now
-all_before i o a took =
-    let P : List ℕ → Type 0 = λ l. All (λ b. EndsField b → ⊥) l in
-    subst P (sym took.takes.shown)
-    (All-weaker (λ b. Sought marks (b ∷ []) → ⊥) (λ b. EndsField b → ⊥) unsought took.taken
-    (none_taken bytes_reading (Sought marks) took.taken a.left.tokens took.first))
+pub all_before : {S : Type 0} (reading : Reading ℕ S) (i : Input ℕ) (o : S) (a : Input ℕ)
+    → (took : TookBefore reading (Sought marks) 0 i o a)
+    → All (λ b. EndsField b → ⊥) took.taken
+all_before reading i o a took =
+    before_all reading (Sought marks) (λ b. EndsField b → ⊥) took.taken a.left.tokens unsought
+    took.first
 
 pub field_read : ReadsValue FieldMeans (λ s. s ≡ made) (λ field. field.now) IsFirstField
 field_read = record {
@@ -111,12 +91,13 @@ field_read = record {
       let (end, a, r1, r2) = terminated_ok o (ran_from FieldMeans s made is i (Ok o) t j ran) in
       let took = took_before bytes_reading modal (Sought marks) 0 None i o a r1.0 in
       let (passed, member) = one_of_ok (λ b. b) bytes_reading modal (PairTells marks) a end j
-      r2.0 in (
+      r2.0 in
+      let P : List ℕ → Type 0 = λ l. All (λ b. EndsField b → ⊥) l in (
         (
           end,
           took.takes.passed.tokens ∙ ap (λ l. l ++ a.left.tokens) (sym took.takes.shown)
               ∙ ap (λ l. o.now ++ l) passed.tokens,
-          all_before i o a took,
+          subst P (sym took.takes.shown) (all_before bytes_reading i o a took),
           has end member,
         ),
         both r1.1 r2.1,
@@ -133,7 +114,7 @@ field_read = record {
             )
         | inr (o, a, r1, r2) ↦
             let took = took_before bytes_reading modal (Sought marks) 0 None i o a r1.0 in
-            let (b, rest, there, ends) = ended i o a took in
+            let (b, rest, there, ends) = ended bytes_reading i o a took in
             let none = one_of_err (λ b. b) bytes_reading modal (PairTells marks) a k j
             (ap (λ x. x.cut) took.takes.passed.status ∙ whole) r2.0 in
             elim none.first [

@@ -3,7 +3,6 @@ use Rattle.std.specs.Prelude.{◌≡◌, ℕ, List, [], ◌∷◌, ◌++◌, Ok}
 use Rattle.std.specs.Borrow.{Bor}
 use Rattle.std.specs.List.{All}
 use Rattle.std.proofs.Common.{◌∙◌, append_assoc, arith, refl, subst, sym}
-use Rattle.std.proofs.lemmas.List.Elements.{All-head, All-tail}
 use Rattle.winnow.specs.Equal.{same_first, same_others}
 use Rattle.winnow.specs.Form.{modal}
 use Rattle.winnow.specs.InOrder.Known.{both_leaves, three_leaves}
@@ -12,10 +11,11 @@ use Rattle.winnow.specs.Runs.{Runs}
 use Rattle.winnow.specs.SeparatedPair.{SeparatedPairRuns}
 use Rattle.winnow.specs.SeparatedPair.Known.{separated_pair_reads}
 use Rattle.winnow.specs.TakeUntil.Known.{BeforeToken, before_leaves, before_reads}
-use Rattle.winnow.specs.TakeWhile.Known.{TakesOf, take_leaves, take_reads}
+use Rattle.winnow.specs.TakeWhile.Known.{TakesOf, same_behind, take_leaves, take_reads}
 use Rattle.winnow.specs.Terminated.{TerminatedRuns}
 use Rattle.winnow.specs.Terminated.Known.{terminated_reads}
 use Rattle.winnow.specs.{Range}
+use Rattle.timed.specs.HeadRuns.{bytes_of}
 use Rattle.timed.specs.Heads.{IsFirstHeader, IsNameByte, IsValueByte}
 use Rattle.timed.specs.Numbers.{any_number}
 use Rattle.timed.specs.Words.{some_number}
@@ -40,10 +40,6 @@ IsMade s =
     ((s.0.0.0 ≡ some_number) × (s.0.1.now ≡ colon) × ((s.0.2.0 ≡ any_number) × (s.0.2.1 ≡ 13)))
     × (s.1.now ≡ line_end)
 
--- the bytes of a name and a value
-abbrev pub bytes_of : Bor (List ℕ) × Bor (List ℕ) → List ℕ × List ℕ
-bytes_of header = (header.0.now, header.1.now)
-
 pub header_read : {A : Type 0} → ReadsFirst (HeaderMeans {A = A}) IsMade bytes_of IsFirstHeader
 header_read = record {
   reads = λ s i o t j made ran.
@@ -65,18 +61,13 @@ header_read = record {
       must.answers i _ t j splits ran;
 }
 
--- members before a stranger are one list
+-- what stands behind members, where none does, is one
 pub until : (P : ℕ → Type 0) (xs ys : List ℕ) (x y : ℕ) (as_x as_y : List ℕ) → All P xs
     → (P x → ⊥) → All P ys → (P y → ⊥) → xs ++ (x ∷ as_x) ≡ ys ++ (y ∷ as_y)
     → x ∷ as_x ≡ y ∷ as_y
-until P [] [] x y as_x as_y all not_x all_too not_y e = e
-until P [] (z ∷ ys) x y as_x as_y all not_x all_too not_y e =
-    absurd (not_x (subst P (sym (same_first e)) (All-head P z ys all_too)))
-until P (z ∷ xs) [] x y as_x as_y all not_x all_too not_y e =
-    absurd (not_y (subst P (same_first e) (All-head P z xs all)))
-until P (z ∷ xs) (w ∷ ys) x y as_x as_y all not_x all_too not_y e =
-    until P xs ys x y as_x as_y (All-tail P z xs all) not_x (All-tail P w ys all_too) not_y
-    (same_others e)
+until P xs ys x y as_x as_y all not_x all_too not_y e =
+    sym (same_behind P xs ys x as_x (y ∷ as_y) all not_x all_too
+    (λ z others begins is. not_y (subst P (sym (same_first begins)) is)) e)
 
 -- what is behind a header is one
 pub header_once : (tokens : List ℕ) (v w : List ℕ × List ℕ) (rest other : List ℕ)

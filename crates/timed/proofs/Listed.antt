@@ -2,18 +2,19 @@
 use Rattle.std.specs.Prelude.{◌≡◌, ℕ, List, [], ◌∷◌, length, map, ⊤, Result, Ok, Err, MatchResult}
 use Rattle.std.specs.List.{FoldsTo}
 use Rattle.std.specs.declared.vec.Vec.{Vec}
-use Rattle.std.proofs.Common.{Global, ◌∙◌, ap, inl, inr, subst, sym}
+use Rattle.std.proofs.Common.{Global, ◌∙◌, ap, inl, inr, refl, subst, sym}
 use Rattle.winnow.specs.Accumulator.{list_kept}
 use Rattle.winnow.specs.Form.{Answer, answer_by, assert_kind, modal}
 use Rattle.winnow.specs.Input.{Input}
 use Rattle.winnow.specs.Kind.{Kind, backtrack, cut, memory}
 use Rattle.winnow.specs.Range.{bounds_of}
+use Rattle.winnow.specs.Reading.{Reading}
 use Rattle.winnow.specs.Repeat.{RangedRuns, RepeatRuns}
 use Rattle.winnow.specs.Repeat.Known.{Items, repeat_any_err, repeat_any_ok, repeated_list}
 use Rattle.winnow.specs.Runs.{Runs}
 use Rattle.winnow.specs.{Range}
 use Rattle.timed.specs.Numbers.{any_number}
-use Rattle.timed.specs.Values.{AreValues}
+use Rattle.timed.specs.Values.{AreValues, FirstRuns}
 use Rattle.timed.proofs.Values.{chain_reads, length-map}
 
 -- Runs that read the value that stands first, and backtrack only where none does.
@@ -24,6 +25,27 @@ pub record ReadsFirst {S O V : Type 0} (run : Runs S ℕ O) (known : S → Type 
   pub ended : (s : S) (i : Input ℕ) (t : S) (j : Input ℕ) → known s
       → run s i (Err backtrack) t j
       → (v : V) (more : List ℕ) → first i.left.tokens v more → ⊥
+
+-- what a run of them answers, and the runs that are said so
+pub first_told : {S O V : Type 0} {run : Runs S ℕ O} {known : S → Type 0} {value : O → V}
+    {first : List ℕ → V → List ℕ → Type 0} → ReadsFirst run known value first
+    → (s : S) (i : Input ℕ) (answer : Answer O) (t : S) (j : Input ℕ) → known s
+    → run s i answer t j
+    → MatchResult answer (λ o. first i.left.tokens (value o) j.left.tokens)
+    (λ k. k ≡ backtrack → (v : V) (more : List ℕ) → first i.left.tokens v more → ⊥)
+first_told it s i (Ok o) t j is ran = (it.reads s i o t j is ran).0
+first_told {run = run} it s i (Err k) t j is ran = λ soft.
+    let P : Kind → Type 0 = λ l. run s i (Err l) t j in
+    it.ended s i t j is (subst P soft ran)
+
+pub first_read : {D O V : Type 0} (reading : Reading ℕ D) (value : O → V)
+    (first : List ℕ → V → List ℕ → Type 0)
+    → ReadsFirst {S = ⊤} (λ _ i answer _ j. FirstRuns reading value first i answer j) (λ _. ⊤)
+    value first
+first_read reading value first = record {
+  reads = λ s i o t j is ran. (ran.1, tt);
+  ended = λ s i t j is ran. ran.1 refl;
+}
 
 -- a chain of them, behind which one backtracked, reads all values that are there
 pub chain_values : {S O V : Type 0} {run : Runs S ℕ O} {known : S → Type 0} {value : O → V}

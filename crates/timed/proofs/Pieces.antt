@@ -3,23 +3,23 @@
 use Rattle.std.specs.Prelude.{◌≡◌, ◌<◌, ◌≤◌, ◌+◌, ◌-◌, ◌^◌, ◌⊎◌, ℕ, true, List, [], ◌∷◌, ◌++◌}
 use Rattle.std.specs.Prelude.{drop, length, take, ⊤}
 use Rattle.std.specs.Fmt.{decimal}
-use Rattle.std.specs.List.{FoldsTo, fold}
+use Rattle.std.specs.List.{FoldsTo}
 use Rattle.std.proofs.Common.{◌∙◌, ap, append_assoc, arith, inl, inr, length-append, refl, subst}
 use Rattle.std.proofs.Common.{sym}
 use Rattle.std.proofs.Math.Seq.{drop-append_seam, take-append-add}
 use Rattle.std.proofs.lemmas.Fmt.{length-decimal-le}
 use Rattle.std.proofs.lemmas.List.{length-take-le, take-append-drop}
-use Rattle.std.proofs.lemmas.List.Sums.{fold-append}
 use Rattle.winnow.specs.Bytes.{bytes_input, bytes_reading}
 use Rattle.winnow.specs.Form.{modal}
 use Rattle.winnow.specs.Input.{Input}
 use Rattle.winnow.specs.Partial.{with_flag}
 use Rattle.winnow.specs.Repeat.Known.{Items}
 use Rattle.winnow.specs.Runs.{Runs}
-use Rattle.timed.specs.Numbers.{IsFirstNumber, summed}
+use Rattle.timed.specs.Numbers.{IsFirstNumber, and_numbers}
 use Rattle.timed.specs.Pieces.{NumberRuns, ReadsNumbers, totals}
 use Rattle.timed.specs.declared.outcome.Outcome.{Outcome}
 use Rattle.timed.proofs.NumberRuns.{number_missing, number_stands}
+use Rattle.timed.proofs.Totals.{added_behind}
 
 -- runs over bytes
 abbrev pub ByteRuns : Runs ⊤ ℕ ℕ
@@ -33,7 +33,7 @@ piece_input piece = with_flag (bytes_input piece) true
 pub record HasRead (input rest : List ℕ) (told : Outcome) : Type 0 where
   pub numbers : List ℕ
   pub are : FoldsTo IsFirstNumber input numbers rest
-  pub adds : totals told ≡ fold summed (0, 0) numbers
+  pub adds : totals told ≡ and_numbers (0, 0) numbers
 
 -- a chain of runs reads numbers that stand one behind the other
 chain_numbers : (numbers : List ℕ) (i m : Input ℕ) → Items ByteRuns tt i numbers tt m
@@ -115,8 +115,7 @@ piece_read input rest piece size left before after it le is
         are = subst Q (sym to_end) (then_others input it.numbers rest numbers (end ++ more) it.are
             (subst P (ap (λ l. l ++ more) is ∙ take-append-drop size rest)
             (with_behind piece numbers end more are)));
-        adds = adds ∙ ap (λ all. fold summed all numbers) it.adds
-            ∙ sym (fold-append summed (0, 0) it.numbers numbers);
+        adds = added_behind (totals before) (totals after) it.numbers numbers it.adds adds;
       },
       omega (arith, leaves, fits),
     )

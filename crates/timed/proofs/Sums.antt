@@ -1,7 +1,7 @@
 -- A fold that counts and sums numbers.
 use Rattle.std.specs.Prelude.{◌≡◌, ℕ, false, List, [], ◌∷◌, map, ⊤, Result, Ok, Err, MatchResult}
 use Rattle.std.specs.List.{fold}
-use Rattle.std.proofs.Common.{◌∙◌, ap, inl, inr, refl, subst, sym}
+use Rattle.std.proofs.Common.{◌∙◌, ap, arith, inl, inr, refl, subst, sym}
 use Rattle.winnow.specs.Fold.{FoldRuns, FoldTakes, RangedFolds}
 use Rattle.winnow.specs.Fold.Known.{fold_any_err, fold_any_ok, fold_of_any, folds_by}
 use Rattle.winnow.specs.Form.{answer_by, assert_kind, modal}
@@ -12,9 +12,10 @@ use Rattle.winnow.specs.Range.{bounds_of}
 use Rattle.winnow.specs.Repeat.Known.{Items}
 use Rattle.winnow.specs.Runs.{Runs}
 use Rattle.winnow.specs.{Range}
-use Rattle.timed.specs.Numbers.{any_number, summed}
+use Rattle.timed.specs.Numbers.{and_numbers, any_number}
 use Rattle.timed.specs.Values.{AreValues, SumsValues}
 use Rattle.timed.proofs.Listed.{ReadsFirst, chain_values}
+use Rattle.timed.proofs.Totals.{folded_numbers, summed}
 use Rattle.timed.proofs.Values.{ReadsValue, whole_chain}
 
 -- The numbers that such a fold of any number adds up: those of a chain of runs, behind which one
@@ -29,7 +30,7 @@ pub record AddsUp {S : Type 0} (run : Runs S ℕ ℕ) (s : S) (i : Input ℕ) (t
   pub chain : Items run s i numbers state input
   pub ended : run state input (Err backtrack) failed last
   pub back : j.left.tokens ≡ input.left.tokens
-  pub is : told ≡ fold summed (0, 0) numbers
+  pub is : told ≡ and_numbers (0, 0) numbers
 
 -- where its closures begin with nothing and add, the fold is the sum
 pub adds_up : {S G H : Type 0} (run : Runs S ℕ ℕ) (starts : G → ℕ × ℕ → G → Type 0)
@@ -59,7 +60,8 @@ adds_up run starts step s t i told j range (ran, kept) begins adds =
       ended = all.ended;
       back = ap (λ x. x.left.tokens) all.back;
       is = folds_by step summed adds all.outputs s.1.1.1 empty t.1.1.1 told all.folded
-          ∙ ap (λ e. fold summed e all.outputs) (begins s.1.1.0 empty t.1.1.0 began);
+          ∙ ap (λ e. fold summed e all.outputs) (begins s.1.1.0 empty t.1.1.0 began)
+          ∙ folded_numbers all.outputs 0 0 (omega arith) (omega arith);
     }
 
 pub map_itself : (xs : List ℕ) → map (λ n. n) xs ≡ xs

@@ -5,7 +5,7 @@ use Rattle.std.specs.Borrow.{Bor}
 use Rattle.std.specs.List.{All}
 use Rattle.std.specs.Str.{chars}
 use Rattle.std.proofs.Common.{◌∙◌, ap, arith, inl, inr, length, length-append, refl, subst, sym}
-use Rattle.std.proofs.lemmas.List.Elements.{All-head, All-weaker}
+use Rattle.std.proofs.lemmas.List.Elements.{All-head}
 use Rattle.winnow.specs.Equal.{same_first}
 use Rattle.winnow.specs.Form.{modal}
 use Rattle.winnow.specs.Input.{Input}
@@ -15,7 +15,7 @@ use Rattle.winnow.specs.Literal.Known.{token_missing, token_taken, token_whole}
 use Rattle.winnow.specs.Range.{bounds_of}
 use Rattle.winnow.specs.Runs.{Keeps, Runs}
 use Rattle.winnow.specs.TakeUntil.{TakeUntilRuns}
-use Rattle.winnow.specs.TakeUntil.Known.{TookBefore, none_taken, nothing_before, took_before}
+use Rattle.winnow.specs.TakeUntil.Known.{TookBefore, before_all, nothing_before, took_before}
 use Rattle.winnow.specs.Terminated.{TerminatedRuns}
 use Rattle.winnow.specs.Terminated.Known.{terminated_ok}
 use Rattle.winnow.specs.Text.{shown_chars, text_reading}
@@ -42,9 +42,8 @@ all_before : (i : Input ℕ) (o : Bor (List ℕ)) (a : Input ℕ)
     → (took : TookBefore text_reading (Sought 32) 1 i o a)
     → All (λ c. c ≡ 32 → ⊥) took.taken
 all_before i o a took =
-    All-weaker (λ c. Sought 32 (c ∷ []) → ⊥) (λ c. c ≡ 32 → ⊥)
-    (λ c other is. other (ap (λ x. x ∷ []) is)) took.taken
-    (none_taken text_reading (Sought 32) took.taken a.left.tokens took.first)
+    before_all text_reading (Sought 32) (λ c. c ≡ 32 → ⊥) took.taken a.left.tokens
+    (λ c other is. other (ap (λ x. x ∷ []) is)) took.first
 
 -- a word that stands first begins with no space
 no_space_first : (v more front found rest : List ℕ) → length front < 1

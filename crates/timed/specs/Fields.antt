@@ -12,14 +12,14 @@ abbrev pub IsFirstField : List ℕ → List ℕ → List ℕ → Type 0
 IsFirstField tokens field rest =
     (end : ℕ) × (tokens ≡ field ++ end ∷ rest) × All (λ b. EndsField b → ⊥) field × EndsField end
 
--- nothing, or what ends a field
-abbrev pub StopsField : List ℕ → Type 0
-StopsField rest = (b : ℕ) (more : List ℕ) → rest ≡ b ∷ more → EndsField b
+-- what ends a field stands first
+abbrev pub EndStands : List ℕ → Type 0
+EndStands rest = (end : ℕ) × (more : List ℕ) × (rest ≡ end ∷ more) × EndsField end
 
--- A comma and a field stand first, and the rest is what ends the field.
+-- A comma and a field stand first, and the rest is what ends the field, with all behind it.
 abbrev pub IsNextField : List ℕ → List ℕ → List ℕ → Type 0
 IsNextField tokens field rest =
-    (tokens ≡ 44 ∷ (field ++ rest)) × All (λ b. EndsField b → ⊥) field × StopsField rest
+    (tokens ≡ 44 ∷ (field ++ rest)) × All (λ b. EndsField b → ⊥) field × EndStands rest
 
 -- A row of so many fields stands first, with commas between them and a line feed behind the last;
 -- and the rest is behind that.

@@ -9,5 +9,6 @@ pub mod Pieces
 pub mod RowRuns
 pub mod Searches
 pub mod Tally
+pub mod Total
 pub mod Values
 pub mod Words

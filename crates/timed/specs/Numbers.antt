@@ -1,5 +1,5 @@
 -- Numbers with a comma behind each, and their sum; and runs of the parsers of a number and a byte.
-use Rattle.std.specs.Prelude.{◌≡◌, ◌<◌, ◌+◌, ◌%◌, ◌^◌, ℕ, List, [], ◌∷◌, ◌++◌, ⊤, None}
+use Rattle.std.specs.Prelude.{◌≡◌, ◌<◌, ◌+◌, ◌%◌, ◌^◌, ℕ, List, [], ◌∷◌, ◌++◌, length, ⊤, None}
 use Rattle.std.specs.Fmt.{decimal}
 use Rattle.winnow.specs.Bytes.{bytes_reading}
 use Rattle.winnow.specs.DecUint.{DecUintRuns}
@@ -7,6 +7,7 @@ use Rattle.winnow.specs.Form.{modal}
 use Rattle.winnow.specs.Literal.{LiteralRuns}
 use Rattle.winnow.specs.Runs.{Keeps, Runs}
 use Rattle.winnow.specs.{Range}
+use Rattle.timed.specs.Total.{total}
 
 -- none or more
 abbrev pub any_number : Range
@@ -21,9 +22,11 @@ DecimalMeans =
 abbrev pub ByteMeans : Runs ℕ ℕ ℕ
 ByteMeans = Keeps (λ b. LiteralRuns bytes_reading modal (λ xs. xs ≡ b ∷ []) (λ _. b))
 
--- how many numbers there are, and their sum, both modulo 2 to the 64, with one number more
-abbrev pub summed : ℕ × ℕ → ℕ → ℕ × ℕ
-summed all n = ((all.0 + 1) % 2 ^ 64, (all.1 + n) % 2 ^ 64)
+-- how many numbers there are with so many before them, and the sum of all with that of those
+-- before them, both modulo 2 to the 64
+abbrev pub and_numbers : ℕ × ℕ → List ℕ → ℕ × ℕ
+and_numbers before numbers =
+    ((before.0 + length numbers) % 2 ^ 64, (before.1 + total (λ n. n) numbers) % 2 ^ 64)
 
 -- A number of 32 bits stands first, as `{}` writes it, with a comma behind it; and the rest is
 -- behind that.

@@ -1,6 +1,5 @@
 -- What a workload tells of a run.
-use Rattle.std.specs.Prelude.{◌≡◌, ◌⊎◌, ◌+◌, ◌%◌, ◌^◌, ℕ, List, length, MatchResult}
-use Rattle.std.specs.List.{fold}
+use Rattle.std.specs.Prelude.{◌≡◌, ◌⊎◌, ◌%◌, ◌^◌, ℕ, List, length, MatchResult}
 use Rattle.std.specs.Str.{IsUtf8, chars}
 use Rattle.winnow.specs.Form.{Answer}
 use Rattle.winnow.specs.Input.{Input}
@@ -8,6 +7,7 @@ use Rattle.winnow.specs.Text.{width}
 use Rattle.readers.specs.Document.{HasSections, IsDocumentFault, SectionText}
 use Rattle.readers.specs.declared.fault.Fault.{Fault}
 use Rattle.timed.specs.NumberLists.{AreListed}
+use Rattle.timed.specs.Total.{total}
 use Rattle.timed.specs.declared.outcome.Outcome.{Outcome}
 use Rattle.timed.specs.Values.{AreValues, SumsValues}
 use Rattle.timed.specs.declared.tally.Count.{Count}
@@ -61,17 +61,18 @@ TellsTextSums first bytes told =
     (IsUtf8 bytes × TellsSumsOrNothing first width (chars bytes) told)
     ⊎ ((IsUtf8 bytes → ⊥) × TellsNothing told)
 
--- how many bytes a value has, and so many more, modulo 2 to the 64
-abbrev pub and_value : ℕ → List ℕ × List ℕ → ℕ
-and_value more pair = (more + length pair.1) % 2 ^ 64
+-- how many bytes the values of pairs have
+abbrev pub value_lengths : List (List ℕ × List ℕ) → ℕ
+value_lengths pairs = total (λ pair. length pair.1) pairs
 
--- how many bytes the values of a section have, and so many more
-abbrev pub and_values : ℕ → SectionText → ℕ
-and_values more section = fold and_value more section.1
+-- and those of sections
+abbrev pub all_value_lengths : List SectionText → ℕ
+all_value_lengths sections = total (λ section. value_lengths section.1) sections
 
--- how many sections a document has, and how many bytes its values; nothing of a text that is none
+-- how many sections a document has, and how many bytes its values have, modulo 2 to the 64; nothing
+-- of a text that is none
 abbrev pub TellsDocument : List ℕ → Outcome → Type 0
 TellsDocument text told =
     ((sections : List SectionText) × HasSections text sections × (told.count ≡ length sections)
-    × (told.sum ≡ fold and_values 0 sections) × (told.left ≡ 0))
+    × (told.sum ≡ all_value_lengths sections % 2 ^ 64) × (told.left ≡ 0))
     ⊎ ((fault : Fault) × IsDocumentFault text fault × TellsNothing told)

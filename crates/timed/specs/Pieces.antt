@@ -1,6 +1,5 @@
 -- Numbers with a comma behind each, in pieces.
-use Rattle.std.specs.Prelude.{◌≡◌, ◌^◌, ℕ, List, ⊤, Err}
-use Rattle.std.specs.List.{fold}
+use Rattle.std.specs.Prelude.{◌≡◌, ◌⊎◌, ◌^◌, ℕ, List, [], ⊤, Err}
 use Rattle.winnow.specs.DecUint.{DecUintRuns}
 use Rattle.winnow.specs.Form.{ErrorForm}
 use Rattle.winnow.specs.Input.{Input}
@@ -10,7 +9,7 @@ use Rattle.winnow.specs.Reading.{Reading}
 use Rattle.winnow.specs.Repeat.Known.{Items}
 use Rattle.winnow.specs.Runs.{Keeps, Runs}
 use Rattle.winnow.specs.Terminated.{TerminatedRuns}
-use Rattle.timed.specs.Numbers.{summed}
+use Rattle.timed.specs.Numbers.{and_numbers}
 use Rattle.timed.specs.declared.outcome.Outcome.{Outcome}
 
 -- A run of the parser of a number of 32 bits and its comma, over any stream of characters.
@@ -25,6 +24,12 @@ NumberRuns seen code reading form spells s i answer u j =
 abbrev pub totals : Outcome → ℕ × ℕ
 totals told = (told.count, told.sum)
 
+-- With these numbers there are so many and such a sum, where there were so many and such a sum
+-- before; where these are none, as before.
+abbrev pub AddedTo : ℕ × ℕ → List ℕ → ℕ × ℕ → Type 0
+AddedTo before numbers after =
+    ((numbers ≡ []) × (after ≡ before)) ⊎ (after ≡ and_numbers before numbers)
+
 -- Numbers in a chain of runs, up to one that fails, come to those that were read before; and so
 -- many units are left behind the last of them.
 abbrev pub ReadsNumbers : {T : Type 0} → Runs ⊤ T ℕ → (List T → ℕ) → Input T → Outcome → ℕ
@@ -32,4 +37,4 @@ abbrev pub ReadsNumbers : {T : Type 0} → Runs ⊤ T ℕ → (List T → ℕ) �
 ReadsNumbers {T} run units i before left after =
     (numbers : List ℕ) × (m : Input T) × (k : Kind) × (last : Input T)
     × Items run tt i numbers tt m × run tt m (Err k) tt last
-    × (left ≡ units m.left.tokens) × (totals after ≡ fold summed (totals before) numbers)
+    × (left ≡ units m.left.tokens) × AddedTo (totals before) numbers (totals after)

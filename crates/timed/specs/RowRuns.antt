@@ -8,7 +8,7 @@ use Rattle.winnow.specs.Input.{Input, IsEndOf}
 use Rattle.winnow.specs.Kind.{backtrack}
 use Rattle.winnow.specs.Text.{text_reading}
 use Rattle.timed.specs.Fields.{IsFirstRow, IsNextField}
-use Rattle.timed.specs.Values.{AreValues}
+use Rattle.timed.specs.Values.{AreValues, FirstRuns}
 
 -- a row as it is read: its first field, and the list of the others
 abbrev pub Row : Type 0
@@ -27,7 +27,4 @@ OthersRuns i answer j = IsEndOf text_reading j i × MatchResult answer
 
 -- A run of the reader of a row, which backtracks where none stands first.
 abbrev pub RowRuns : Input ℕ → Answer Row → Input ℕ → Type 0
-RowRuns i answer j = IsEndOf text_reading j i × MatchResult answer
-    (λ row. IsFirstRow i.left.tokens (fields_of row) j.left.tokens)
-    (λ k. k ≡ backtrack → (number : ℕ) (rest : List ℕ)
-    → IsFirstRow i.left.tokens number rest → ⊥)
+RowRuns = FirstRuns text_reading fields_of IsFirstRow

@@ -1,8 +1,7 @@
 //! INI documents.
-ghost use Rattle.std.specs.Prelude.{◌≡◌, map};
-ghost use Rattle.std.specs.List.{fold};
+ghost use Rattle.std.specs.Prelude.{◌≡◌, ◌+◌, ◌%◌, ◌^◌, map};
 ghost use Rattle.readers.specs.Sections.{pair_text, section_text};
-ghost use Rattle.timed.specs.Outcome.{TellsDocument, and_value, and_values};
+ghost use Rattle.timed.specs.Outcome.{TellsDocument, all_value_lengths, value_lengths};
 
 use crate::outcome::Outcome;
 use readers::ini;
@@ -11,7 +10,7 @@ use std::alloc::Global;
 
 /// How many bytes the pairs' values have, and so many more.
 fn with_values(more: u64, pairs: &[(&str, &str)]) -> u64
-    ensures { result ≡ fold and_value more (map pair_text pairs.now) }
+    ensures { result ≡ (more + value_lengths (map pair_text pairs.now)) % 2 ^ 64 }
 {
     let mut sum = more;
     for pair in pairs {
@@ -23,7 +22,7 @@ fn with_values(more: u64, pairs: &[(&str, &str)]) -> u64
 /// How many bytes all values have.
 #[inline(never)]
 fn value_bytes(sections: &[Section<'_, Global>]) -> u64
-    ensures { result ≡ fold and_values 0 (map section_text sections.now) }
+    ensures { result ≡ all_value_lengths (map section_text sections.now) % 2 ^ 64 }
 {
     let mut sum: u64 = 0;
     for section in sections {

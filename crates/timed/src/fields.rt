@@ -1,11 +1,10 @@
 //! Comma separated values, without quotes.
 ghost use Rattle.std.specs.Prelude.{◌≡◌, length, map, MatchResult, ⊤};
-ghost use Rattle.std.specs.List.{fold};
 ghost use Rattle.std.specs.Str.{chars};
 ghost use Rattle.winnow.specs.Form.{answer_by};
 ghost use Rattle.winnow.specs.Text.{text_input};
 ghost use Rattle.timed.specs.Fields.{IsFirstField, IsFirstRow};
-ghost use Rattle.timed.specs.Numbers.{summed};
+ghost use Rattle.timed.specs.Numbers.{and_numbers};
 ghost use Rattle.timed.specs.Outcome.{TellsTextSums, TellsValues};
 ghost use Rattle.timed.specs.RowRuns.{OthersRuns, RowRuns, fields_of};
 ghost use Rattle.timed.specs.Values.{AreValues, CountsValues};
@@ -18,7 +17,7 @@ use winnow::Parser;
 use winnow::combinator::{preceded, repeat, terminated};
 use winnow::error::{ErrMode, HasKind, InputError};
 use winnow::stream::Range;
-use winnow::token::{one_of, take_till, take_until};
+use winnow::token::{one_of, take_until};
 
 /// A row: its first field, and the others.
 type Row<'i> = (&'i str, Vec<&'i str, Global>);
@@ -35,7 +34,7 @@ fn others<'i>(
     repeat(
         alloc,
         Range::from(0..),
-        preceded(',', take_till(Range::from(0..), (',', '\n'))),
+        preceded(',', take_until(Range::from(0..), (',', '\n'))),
     )
     .parse_next(input)
 }
@@ -46,7 +45,7 @@ fn row<'i>(alloc: Global, input: &mut &'i str) -> Result<Row<'i>, ErrMode<InputE
         (answer_by ⟦<ErrMode<InputError<&'i str>> as HasKind>⟧.kind result)
         (text_input input.new.now) }
 {
-    let first = match take_till(Range::from(0..), (',', '\n')).parse_next(input) {
+    let first = match take_until(Range::from(0..), (',', '\n')).parse_next(input) {
         Ok(first) => first,
         Err(error) => return Err(error),
     };
@@ -96,7 +95,7 @@ fn rows<'i>(
 
 /// How many rows there are, and how many fields they have.
 fn totals(rows: &[Row<'_>]) -> (u64, u64)
-    ensures { result ≡ fold summed (0, 0) (map fields_of rows.now) }
+    ensures { result ≡ and_numbers (0, 0) (map fields_of rows.now) }
 {
     let mut count: u64 = 0;
     let mut sum: u64 = 0;

@@ -2,7 +2,7 @@
 ghost use Rattle.std.specs.Prelude.{length, ◌≡◌, ◌↔◌, IsTrue, MatchResult, ⊤};
 ghost use Rattle.winnow.specs.Bytes.{bytes_input};
 ghost use Rattle.winnow.specs.Form.{answer_by};
-ghost use Rattle.timed.specs.HeadRuns.{HeadRuns, HeadersRuns, RequestRuns};
+ghost use Rattle.timed.specs.HeadRuns.{HeadRuns, HeaderRuns, HeadersRuns, RequestRuns};
 ghost use Rattle.timed.specs.Heads.{IsFirstHead, IsNameByte, IsTargetByte};
 ghost use Rattle.timed.specs.Outcome.{TellsSumsOrNothing};
 ghost use Rattle.timed.specs.Values.{SumsValues};
@@ -62,6 +62,45 @@ fn request<'i>(input: &mut &'i [u8]) -> Result<Header<'i>, ErrMode<InputError<&'
     }
 }
 
+/// A header: its name, a colon and a space, its value, and the end of its line.
+fn header<'i>(input: &mut &'i [u8]) -> Result<Header<'i>, ErrMode<InputError<&'i [u8]>>>
+    ensures { HeaderRuns (bytes_input input.old.now)
+        (answer_by ⟦<ErrMode<InputError<&'i [u8]>> as HasKind>⟧.kind result)
+        (bytes_input input.new.now) }
+{
+    terminated(
+        separated_pair(
+            take_while(Range::from(1..), NameBytes),
+            b": ".as_slice(),
+            take_until(Range::from(0..), b'\r'),
+        ),
+        b"\r\n".as_slice(),
+    )
+    .parse_next(input)
+}
+
+/// The parser of a header.
+#[derive(Clone, Copy)]
+struct HeaderReader;
+
+impl<'i> Parser<&'i [u8], Header<'i>, ErrMode<InputError<&'i [u8]>>> for HeaderReader {
+    ghost State = { ⊤ };
+
+    ghost state = { λ _. tt };
+
+    ghost meaning = { λ _ _ i answer _ j. HeaderRuns i answer j };
+
+    ghost leaves_ends = { λ form s i answer t j r. r.0 };
+
+    #[inline(always)]
+    fn parse_next(
+        &mut self,
+        input: &mut &'i [u8],
+    ) -> Result<Header<'i>, ErrMode<InputError<&'i [u8]>>> {
+        header(input)
+    }
+}
+
 /// The headers behind a request line.
 fn headers<'i>(
     alloc: Global,
@@ -71,19 +110,7 @@ fn headers<'i>(
         (answer_by ⟦<ErrMode<InputError<&'i [u8]>> as HasKind>⟧.kind result)
         (bytes_input input.new.now) }
 {
-    repeat(
-        alloc,
-        Range::from(0..),
-        terminated(
-            separated_pair(
-                take_while(Range::from(1..), NameBytes),
-                b": ".as_slice(),
-                take_until(Range::from(0..), b'\r'),
-            ),
-            b"\r\n".as_slice(),
-        ),
-    )
-    .parse_next(input)
+    repeat(alloc, Range::from(0..), HeaderReader).parse_next(input)
 }
 
 /// A head: the request line, the headers and an empty line. It answers how many headers there are.

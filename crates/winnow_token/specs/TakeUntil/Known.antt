@@ -125,6 +125,21 @@ nothing_stands reading sought i k j none =
     elim none.why
     [ inl nowhere ↦ nowhere | inr (start, end, m, few) ↦ absurd (omega (arith, few)) ]
 
+-- as it does too where the input is not known to be whole
+pub nowhere_before : {T S : Type 0} (reading : Reading T S) (form : ErrorForm)
+    (sought : List T → Type 0) (i : Input T) (k : Kind) (j : Input T)
+    → TakeUntilRuns reading form sought (from_to 0 None) i (Err k) j
+    → StandsNowhere sought i.left.tokens
+nowhere_before reading form sought i k j (inl (most, is, below, e, same)) = none_is_some is
+nowhere_before reading form sought i k j (inr (inl (k', within, nowhere, kind, e, same))) = nowhere
+nowhere_before reading form sought i k j
+    (inr (inr (inl (start, end, m, s, enough, within, takes, e)))) = ok_is_err e refl
+nowhere_before reading form sought i k j
+    (inr (inr (inr (inl (start, end, m, k', within, few, why, e, same))))) =
+    absurd (omega (arith, few))
+nowhere_before reading form sought i k j
+    (inr (inr (inr (inr (start, end, m, most, is, le, many, e, same))))) = none_is_some is
+
 -- where one token is sought, none of those that were taken is one
 pub none_taken : {T S : Type 0} (reading : Reading T S) (sought : List T → Type 0)
     (taken rest : List T)
@@ -157,6 +172,21 @@ none_there sought (x ∷ more) nowhere =
     nowhere (x ∷ front) hit rest
     (record { splits = ap (λ l. x ∷ l) h.splits; is = h.is })))
 
+-- so what holds of each token that is not sought holds of all that were taken, or are there
+pub before_all : {T S : Type 0} (reading : Reading T S) (sought : List T → Type 0)
+    (good : T → Type 0) (taken rest : List T) → ((x : T) → (sought (x ∷ []) → ⊥) → good x)
+    → ((other hit behind : List T) → Stands sought (taken ++ rest) other hit behind
+    → reading.units taken ≤ reading.units other)
+    → All good taken
+before_all reading sought good taken rest is first =
+    All-weaker (λ x. sought (x ∷ []) → ⊥) good is taken
+    (none_taken reading sought taken rest first)
+
+pub there_all : {T : Type 0} (sought : List T → Type 0) (good : T → Type 0) (tokens : List T)
+    → ((x : T) → (sought (x ∷ []) → ⊥) → good x) → StandsNowhere sought tokens → All good tokens
+there_all sought good tokens is nowhere =
+    All-weaker (λ x. sought (x ∷ []) → ⊥) good is tokens (none_there sought tokens nowhere)
+
 -- the same by a range that is known
 pub took_before_by : {T S : Type 0} (reading : Reading T S) (form : ErrorForm)
     (sought : List T → Type 0) (range : Range) (least : ℕ) (last : Option ℕ) (i : Input T)
@@ -183,7 +213,16 @@ nothing_before_by reading form sought range least i k j e few whole ran =
     nothing_before reading form sought least i k j whole
     (subst Q (sym (greatest_of-few least few)) (subst P e ran))
 
-pub ruleset known_searches = (took_before, nothing_before, nothing_stands, none_taken, none_there)
+pub ruleset known_searches = (
+  took_before,
+  nothing_before,
+  nothing_stands,
+  nowhere_before,
+  none_taken,
+  none_there,
+  before_all,
+  there_all,
+)
 
 -- ---- takes up to one token as parts of what a composition reads
 
@@ -198,9 +237,8 @@ none_is_mark : {T : Type 0} (mark sought : T) (taken rest : List T) → sought �
     → Stands (λ xs. xs ≡ sought ∷ []) (taken ++ rest) other hit behind
     → length taken ≤ length other) → All (λ t. t ≡ mark → ⊥) taken
 none_is_mark mark sought taken rest is first =
-    All-weaker (λ t. t ∷ [] ≡ sought ∷ [] → ⊥) (λ t. t ≡ mark → ⊥)
-    (λ t other e. other (ap (λ x. x ∷ []) (e ∙ sym is))) taken
-    (none_taken counted_reading (λ xs. xs ≡ sought ∷ []) taken rest first)
+    before_all counted_reading (λ xs. xs ≡ sought ∷ []) (λ t. t ≡ mark → ⊥) taken rest
+    (λ t other e. other (ap (λ x. x ∷ []) (e ∙ sym is))) first
 
 -- it reads its slice, which has no mark, and enough tokens
 pub before_reads : {T : Type 0} (form : ErrorForm) (range : Range) (mark : T)

@@ -222,6 +222,15 @@ same_front P (z ∷ xs) (y ∷ ys) x more rest a not_p b stops e =
     ∙ ap (λ l. y ∷ l) (same_front P xs ys x more rest (All-tail P z xs a) not_p (All-tail P y ys b)
     stops (same_others e))
 
+-- and so is what stands behind it
+pub same_behind : {X : Type 0} (P : X → Type 0) (xs ys : List X) (x : X) (more rest : List X)
+    → All P xs → (P x → ⊥) → All P ys
+    → ((y : X) (others : List X) → rest ≡ y ∷ others → P y → ⊥)
+    → xs ++ x ∷ more ≡ ys ++ rest → rest ≡ x ∷ more
+same_behind P xs ys x more rest a not_p b stops e =
+    let same = same_front P xs ys x more rest a not_p b stops e in
+    sym (same_rest xs (x ∷ more) rest (e ∙ ap (λ l. l ++ rest) (sym same)))
+
 in_middle : {X : Type 0} (P : X → Type 0) (xs : List X) (y : X) (ys : List X)
     → All P (xs ++ y ∷ ys) → P y
 in_middle P [] y ys all = All-head P y ys all

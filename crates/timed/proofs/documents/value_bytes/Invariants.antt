@@ -3,7 +3,7 @@ use Rattle.std.proofs.Common.{◌≡◌, drop}
 use Rattle.std.specs.List.{fold}
 use Rattle.std.specs.Prelude.{map}
 use Rattle.readers.specs.Sections.{section_text}
-use Rattle.timed.specs.Outcome.{and_values}
+use Rattle.timed.proofs.Totals.{and_values}
 use Rattle.timed.proofs.documents.value_bytes.Given as goal
 
 abbrev pub invariant-loop-section : goal.invariant-loop-section

@@ -3,7 +3,7 @@ use Rattle.std.proofs.Common.{◌≡◌, drop}
 use Rattle.std.specs.List.{fold}
 use Rattle.std.specs.Prelude.{map}
 use Rattle.readers.specs.Sections.{pair_text}
-use Rattle.timed.specs.Outcome.{and_value}
+use Rattle.timed.proofs.Totals.{and_value}
 use Rattle.timed.proofs.documents.with_values.Given as goal
 
 abbrev pub invariant-loop-pair : goal.invariant-loop-pair

@@ -1,10 +1,9 @@
-use Rattle.std.specs.List.{fold}
 use Rattle.std.specs.Prelude.{map}
 use Rattle.std.specs.Str.{IsUtf8, chars}
 use Rattle.std.proofs.Common.{List, ℕ, ◌∙◌, ap, inl, length, refl, subst, sym}
 use Rattle.winnow.specs.Text.{width_chars}
 use Rattle.timed.specs.Fields.{IsFirstRow}
-use Rattle.timed.specs.Numbers.{summed}
+use Rattle.timed.specs.Numbers.{and_numbers}
 use Rattle.timed.specs.RowRuns.{fields_of}
 use Rattle.timed.specs.Values.{AreValues}
 use Rattle.timed.proofs.fields.timed_rows.Goals as goal
@@ -25,7 +24,7 @@ returns-in-Ok-rows c =
           numbers,
           subst P c.in-Ok.ensures.cases.0 c.in-Ok-rows.ensures,
           c.totals-count.ensures
-              ∙ ap (λ rows. fold summed (0, 0) (map fields_of rows)) c.deref.ensures.value,
+              ∙ ap (λ rows. and_numbers (0, 0) (map fields_of rows)) c.deref.ensures.value,
         ),
         refl,
         refl,

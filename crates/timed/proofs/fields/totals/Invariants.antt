@@ -2,8 +2,8 @@
 use Rattle.std.proofs.Common.{◌≡◌, drop}
 use Rattle.std.specs.List.{fold}
 use Rattle.std.specs.Prelude.{map}
-use Rattle.timed.specs.Numbers.{summed}
 use Rattle.timed.specs.RowRuns.{fields_of}
+use Rattle.timed.proofs.Totals.{summed}
 use Rattle.timed.proofs.fields.totals.Given as goal
 
 abbrev pub invariant-loop-row : goal.invariant-loop-row

@@ -1,31 +1,13 @@
-use Rattle.std.proofs.Common.{◌∙◌, ap}
-use Rattle.winnow.specs.SeparatedPair.{separated_pair_first, separated_pair_second}
-use Rattle.winnow.specs.SeparatedPair.{separated_pair_separator}
-use Rattle.winnow.specs.TakeUntil.{take_until_literal, take_until_occurrences}
-use Rattle.winnow.specs.TakeWhile.{take_while_occurrences}
-use Rattle.winnow.specs.Terminated.{terminated_ignored, terminated_parser}
-use Rattle.timed.proofs.Headers.{header_read}
-use Rattle.timed.proofs.Listed.{list_counted}
+use Rattle.std.proofs.Common.{◌∙◌}
+use Rattle.winnow.specs.Bytes.{bytes_reading}
+use Rattle.timed.specs.HeadRuns.{bytes_of}
+use Rattle.timed.specs.Heads.{IsFirstHeader}
+use Rattle.timed.proofs.Listed.{first_read, list_counted}
 use Rattle.timed.proofs.heads.headers.Goals as goal
 
 pub returns : goal.returns
-returns c =
-    let parser = c.repeat.ensures.parser in
-    let pair = ap terminated_parser parser ∙ c.terminated.ensures.parser in
-    let name = ap separated_pair_first pair ∙ c.separated_pair.ensures.first in
-    let colon = ap separated_pair_separator pair ∙ c.separated_pair.ensures.separator in
-    let value = ap separated_pair_second pair ∙ c.separated_pair.ensures.second in
-    let behind = ap terminated_ignored parser ∙ c.terminated.ensures.ignored in (
-      c.parse_next.ensures.ends,
-      list_counted header_read _ _ _ _ _ (
-        (
-          ap take_while_occurrences name ∙ c.take_while.ensures.occurrences ∙ c.from-2.ensures,
-          ap (λ s. s.now) colon ∙ c.as_slice.ensures,
-          (
-            ap take_until_occurrences value ∙ c.take_until.ensures.occurrences ∙ c.from-3.ensures,
-            ap take_until_literal value ∙ c.take_until.ensures.literal,
-          ),
-        ),
-        ap (λ s. s.now) behind ∙ c.as_slice-2.ensures,
-      ) (c.repeat.ensures.occurrences ∙ c.from.ensures) c.parse_next.ensures.ran,
-    )
+returns c = (
+  c.parse_next.ensures.ends,
+  list_counted (first_read bytes_reading bytes_of IsFirstHeader) _ _ _ _ _ tt
+      (c.repeat.ensures.occurrences ∙ c.from.ensures) c.parse_next.ensures.ran,
+)

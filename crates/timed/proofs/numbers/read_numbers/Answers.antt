@@ -1,9 +1,8 @@
-use Rattle.std.proofs.Common.{[], ◌∷◌, ◌++◌, ◌∙◌, ap, sym}
-use Rattle.std.proofs.lemmas.List.Sums.{fold-append}
+use Rattle.std.proofs.Common.{[], ◌∷◌, ◌++◌}
 use Rattle.winnow.specs.Form.{modal}
-use Rattle.timed.specs.Numbers.{summed}
 use Rattle.timed.specs.Pieces.{totals}
 use Rattle.timed.proofs.PieceRuns.{number_consumes, numbers_more}
+use Rattle.timed.proofs.Totals.{added_one}
 use Rattle.timed.proofs.numbers.read_numbers.Goals as goal
 
 pub loop-number-preserved : goal.loop-number-preserved
@@ -15,8 +14,7 @@ loop-number-preserved g c =
         numbers ++ n ∷ [],
         numbers_more g.I.Stream.seen_as g.I.Token.AsChar.code g.I.Stream.reading modal
             g.I.Compare.spells numbers _ _ n _ chain c.in-Ok.ensures,
-        ap (λ all. summed all n) adds
-            ∙ sym (fold-append summed (totals c.args.out.now) numbers (n ∷ [])),
+        added_one (totals c.args.out.now) _ numbers n adds,
       );
       left = c.eof_offset-left-in-Ok.ensures;
     }

@@ -1,9 +1,7 @@
 use Rattle.std.specs.Prelude.{◌≡◌, ℕ, List, length}
-use Rattle.std.specs.List.{fold}
 use Rattle.winnow.specs.Form.{modal}
 use Rattle.winnow.specs.Repeat.Known.{Items}
-use Rattle.timed.specs.Numbers.{summed}
-use Rattle.timed.specs.Pieces.{NumberRuns, totals}
+use Rattle.timed.specs.Pieces.{AddedTo, NumberRuns, totals}
 use Rattle.timed.proofs.numbers.read_numbers.Given as goal
 
 abbrev pub invariant-loop-number : goal.invariant-loop-number
@@ -11,7 +9,7 @@ invariant-loop-number g l = record {
   numbers : (numbers : List ℕ)
       × Items (NumberRuns g.I.Stream.seen_as g.I.Token.AsChar.code g.I.Stream.reading modal
       g.I.Compare.spells) tt (g.I.Stream.view l.fn.input) numbers tt (g.I.Stream.view l.input)
-      × (totals l.out ≡ fold summed (totals l.fn.out) numbers);
+      × AddedTo (totals l.fn.out) numbers (totals l.out);
   left : l.left ≡ g.I.Stream.reading.units (g.I.Stream.view l.input).left.tokens;
 }
 
