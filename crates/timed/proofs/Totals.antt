@@ -42,7 +42,8 @@ folded_total measure (x ∷ xs) n small =
 pub folded_of_none : {A : Type 0} (measure : A → ℕ) (xs : List A)
     → fold (λ more x. (more + measure x) % 2 ^ 64) 0 xs ≡ total measure xs % 2 ^ 64
 folded_of_none measure xs =
-    folded_total measure xs 0 (omega arith) ∙ ap (λ n. n % 2 ^ 64) (sym (none_more (total measure xs)))
+    folded_total measure xs 0 (omega arith)
+    ∙ ap (λ n. n % 2 ^ 64) (sym (none_more (total measure xs)))
 
 -- number by number they come to the numbers and their sum
 pub folded_numbers : (numbers : List ℕ) (count sum : ℕ) → count < 2 ^ 64 → sum < 2 ^ 64

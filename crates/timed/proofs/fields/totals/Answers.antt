@@ -8,5 +8,6 @@ use Rattle.timed.proofs.fields.totals.Goals as goal
 pub returns : goal.returns
 returns c =
     let numbers = map fields_of c.args.rows.now in
-    let all : (c.loop-row.count, c.loop-row.sum) ≡ fold summed (0, 0) numbers = grind (arith, common_steps) in
+    let all : (c.loop-row.count, c.loop-row.sum) ≡ fold summed (0, 0) numbers =
+    grind (arith, common_steps) in
     all ∙ folded_numbers numbers 0 0 (omega arith) (omega arith)
