@@ -233,29 +233,35 @@ def sequence_ran(n, failing):
     if failing:
         parts.append("c.in_err-%s.ensures.ran" % ORDINAL[failing])
     parts += ["refl"] * (n - ran)
-    parts.append("search rules" if failing else "refl")
+    parts.append("search rules depth 1" if failing else "refl")
     goal = "returns-in_err-%s-clause-ran" % ORDINAL[failing] if failing else "returns-clause-ran"
     return "pub {0} : goal.{0}\n{0} g c = {1}".format(goal, injected(failing, n + 1, ", ".join(parts)))
 
 
 def sequence_ends(n, failing):
-    """What answers the clause `ends` at a return of n children, the last of which fails or not."""
-    last = "c.in_%s-%s.ensures.ends" % ("err" if failing else "ok", ORDINAL[n])
-    steps = [last] + ["c.in_ok-%s.ensures.ends" % ORDINAL[k] for k in range(n - 1, 0, -1)]
-    goal = "returns-in_err-%s-clause-ends" % ORDINAL[n] if failing else "returns-clause-ends"
-    return "pub {0} : goal.{0}\n{0} g c = is_end_of_trans{1} {2}".format(goal, n, " ".join(steps))
+    """What answers the clause `ends` at a return of n children."""
+    ran = failing or n
+    last = "c.in_%s-%s.ensures.ends" % ("err" if failing else "ok", ORDINAL[ran])
+    steps = [last] + ["c.in_ok-%s.ensures.ends" % ORDINAL[k] for k in range(ran - 1, 0, -1)]
+    goal = "returns-in_err-%s-clause-ends" % ORDINAL[failing] if failing else "returns-clause-ends"
+    chain = [trans(ran)] if ran > 1 else []
+    return "pub {0} : goal.{0}\n{0} g c = {1}".format(goal, " ".join(chain + steps))
+
+
+def trans(steps):
+    """The lemma by which an end of an end, so many steps far, is an end."""
+    return "is_end_of_trans%s" % (steps if steps > 2 else "")
 
 
 def sequence_answers(n):
-    """The answers of the goals that the check leaves: at many children, the late returns."""
-    failing = [sequence_ran(n, k) for k in range(4, n + 1)]
-    if n < MOST:
-        return failing
-    return failing + [sequence_ran(n, 0), sequence_ends(n, True), sequence_ends(n, False)]
+    """The answers of all clauses of n children, at each failure and behind the last success."""
+    returns = [*upto(n), 0]
+    return [sequence_ran(n, k) for k in returns] + [sequence_ends(n, k) for k in returns]
 
 
 SEQUENCE_ANSWERS = """-- {head}
-use Rattle.std.proofs.Common.{{rules, refl, inl, inr}}{ends}
+use Rattle.std.proofs.Common.{{rules, refl, inl, inr}}
+use Rattle.streams.specs.Input.{{{ends}}}
 use Rattle.winnow_core.proofs.parser.tuples.Tuple{n}Parser.parse_next.Goals as goal
 
 {answers}
@@ -368,7 +374,7 @@ def write_sequences():
         family="\n\n".join("%s\n\n%s" % (sequence_impl(n), sequence_agrees(n)) for n in every),
     )
     write(core + "specs/Agrees/Sizes.antt", AGREEMENTS, family="\n\n".join(agreement(n) for n in every if n > 1))
-    for n in (5, 6):
-        ends = "\nuse Rattle.streams.specs.Input.{is_end_of_trans6}" if n == MOST else ""
+    for n in every[1:]:
+        ends = ", ".join(trans(k) for k in range(2, n + 1))
         path = core + "proofs/parser/tuples/Tuple%dParser/parse_next/Answers.antt" % n
         write(path, SEQUENCE_ANSWERS, n=n, ends=ends, answers="\n\n".join(sequence_answers(n)))

@@ -38,7 +38,7 @@ use winnow_token::token::take_while;
 type ModalAtBytes = ErrMode<InputError<&'static [u8]>>;
 
 /// A parser that takes a token and fails so.
-#[derive(Clone, Copy, Debug, PartialEq, Eq)]
+#[derive(Clone, Copy)]
 struct Failing(Kind);
 
 impl<I: Stream, E: ParserError<I>> Parser<I, u8, E> for Failing {
@@ -213,15 +213,13 @@ where
 /// The rows on a stream, on the partial one of it, and of the like parsers on the two.
 fn at_streams<I, E, A>(rt: &impl Abort, alloc: A)
 where
-    I: OfText + Stream<Token = char>,
+    I: OfText + Stream<Token = char> + Compare<char>,
     E: ParserError<I> + ParserError<Partial<I>>,
     A: Allocator + Copy,
 {
     at_text::<I, E, A>(rt, alloc);
     at_text::<Partial<I>, E, A>(rt, alloc);
-    complete::of_one::<I, E>(rt);
-    complete::of_several::<I, E>(rt);
-    complete::of_many::<I, E, A>(rt, alloc);
+    complete::at_text::<I, Partial<I>, E, A>(rt, alloc);
     iterators::at_text::<I, E>(rt);
     iterators::at_text::<Partial<I>, E>(rt);
     iterators::iterator_on_cut_input::<Partial<I>, E>(rt);
@@ -250,12 +248,6 @@ fn text(rt: HostRuntime) {
 
 #[test]
 fn values(rt: HostRuntime) {
-    folds::fold(&rt, rt.alloc());
-    folds::verify_fold(&rt, rt.alloc());
-    folds::try_fold(&rt, rt.alloc());
-    folds::calls(&rt, rt.alloc());
-    folds::ends(&rt, rt.alloc());
-    folds::foldl1(&rt);
-    folds::foldr1(&rt, rt.alloc());
-    folds::foldr1_without_memory(&rt, rt.alloc());
+    folds::at_text::<&str, ErrMode<EmptyError>>(&rt, rt.alloc());
+    folds::fold_on_cut_input::<Partial<&str>, ErrMode<EmptyError>>(&rt, rt.alloc());
 }

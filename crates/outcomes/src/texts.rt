@@ -15,7 +15,6 @@ use stream_errors::parser_error::ParserError;
 use streams::locating::LocatingSlice;
 use streams::partial::Partial;
 use streams::stream::{Stream, StreamIsPartial};
-use winnow_core::agrees_with::AgreesWith;
 use winnow_core::parser::Parser;
 
 /// A stream that the rows of a test run on.
@@ -182,28 +181,4 @@ pub fn slice_in_text<I: OfText>(answer: Result<&'static str, Kind>) -> Result<I:
         Ok(text) => Ok(I::slice_of_text(text)),
         Err(kind) => Err(kind),
     }
-}
-
-/// How a parser ends on a text, and how the like one does on the partial stream of it that is
-/// marked complete.
-pub fn endings_alike<I, O, E, P, Q>(parser: P, like: Q, text: &'static str) -> (Ending, Ending)
-where
-    I: OfText,
-    O: Drop,
-    E: ParserError<I> + ParserError<Partial<I>>,
-    P: AgreesWith<I, O, E, Q, Partial<I>, E> + Drop,
-    Q: Parser<Partial<I>, O, E> + Drop,
-    requires parser { P.can_parse parser }
-    requires like { Q.can_parse like }
-    ensures plain { (last : P.State) × EndsOnce (P.meaning ⟦<E as ParserError<I>>⟧.form)
-        I.reading.units (P.state parser) (I.input_of text.now) result.0 last }
-    ensures like { (last : Q.State) × EndsOnce (Q.meaning ⟦<E as ParserError<Partial<I>>>⟧.form)
-        I.reading.units (Q.state like) (with_flag (I.input_of text.now) false) result.1 last }
-{
-    let mut parser = parser;
-    let mut like = like;
-    (
-        ending_of::<I, O, E, P>(&mut parser, I::of_text(text)),
-        ending_of::<Partial<I>, O, E, Q>(&mut like, whole(text)),
-    )
 }

@@ -6,7 +6,5 @@ pub mod fault;
 pub mod ini;
 pub mod laws;
 pub mod program;
-#[cfg(test)]
-mod rows;
 
 pub use crate::program::run;

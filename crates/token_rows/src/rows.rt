@@ -7,8 +7,8 @@ mod parser;
 mod token;
 
 use outcomes::texts::{
-    OfText, completed, endings_alike, endings_at, endings_in_text, outcome_at, outcome_in_text,
-    slice_in_text, whole,
+    OfText, completed, endings_at, endings_in_text, outcome_at, outcome_in_text, slice_in_text,
+    whole,
 };
 use outcomes::{Ending, Kind, ending_by_place, ending_of};
 use std::fmt::Debug;
@@ -164,9 +164,9 @@ fn moves_each<I: OfText + Location, O: Drop, E: ParserError<I>, P: Parser<I, O, 
     }
 }
 
-/// A parser ends so on a text, and so does the like one on the partial stream that is marked
-/// complete.
-fn like_ends<I, O, E, P, Q>(
+/// A parser ends so on a text, and so does the like one on the whole text at a stream that is read
+/// alike.
+fn like_ends<I, J, O, E, P, Q>(
     rt: &impl Abort,
     name: &str,
     text: &'static str,
@@ -175,15 +175,19 @@ fn like_ends<I, O, E, P, Q>(
 )
 where
     I: OfText,
+    J: OfText + Stream<Token = I::Token, Seen = I::Seen, Slice = I::Slice>,
     O: Drop,
-    E: ParserError<I> + ParserError<Partial<I>>,
-    P: AgreesWith<I, O, E, Q, Partial<I>, E> + Drop,
-    Q: Parser<Partial<I>, O, E> + Drop,
+    E: ParserError<I> + ParserError<J>,
+    P: AgreesWith<I, O, E, Q, J, E> + Drop,
+    Q: Parser<J, O, E> + Drop,
     requires first { P.can_parse parsers.0 }
     requires like { Q.can_parse parsers.1 }
 {
-    let (first, like) = parsers;
-    let got = endings_alike::<I, O, E, P, Q>(first, like, text);
+    let (mut first, mut like) = parsers;
+    let got = (
+        ending_of::<I, O, E, P>(&mut first, I::of_text(text)),
+        ending_of::<J, O, E, Q>(&mut like, whole(text)),
+    );
     same(rt, name, text, got, (want, want));
 }
 

@@ -24,6 +24,7 @@ pub use Rattle.winnow_core.specs.Void.Known.{known_voids}
 pub use Rattle.winnow_token.specs.Any.Known.{known_tokens}
 pub use Rattle.winnow_token.specs.OneOf.Known.{known_members}
 pub use Rattle.winnow_token.specs.Rest.Known.{known_rests}
+pub use Rattle.winnow_token.specs.Take.Known.{known_counts}
 pub use Rattle.winnow_token.specs.TakeUntil.Known.{known_searches}
 pub use Rattle.winnow_token.specs.TakeWhile.Known.{known_takes}
 pub use Rattle.winnow_numbers.specs.DecInt.Known.{known_signed_numbers}

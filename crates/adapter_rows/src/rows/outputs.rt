@@ -33,8 +33,7 @@ pub(crate) fn located<I: OfText + Stream<Token = char>>(rt: &impl Abort)
 where
     I::Slice: PartialEq + Debug,
 {
-    at_places::<LocatingSlice<I>, ErrMode<EmptyError>>(rt);
-    at_places::<Partial<LocatingSlice<I>>, ErrMode<EmptyError>>(rt);
+    at_place::<LocatingSlice<I>>(rt);
 }
 
 /// The rows at parts of a stream that knows its place, and inside a partial one.
@@ -42,8 +41,25 @@ pub(crate) fn located_parts<I: OfText + UpdateSlice + Copy>(rt: &impl Abort)
 where
     I::Slice: PartialEq + Debug + Copy,
 {
-    with_span_inside::<LocatingSlice<I>>(rt);
-    with_span_inside::<Partial<LocatingSlice<I>>>(rt);
+    parts_at_place::<LocatingSlice<I>>(rt);
+}
+
+/// The rows at a stream, and inside a partial one.
+fn at_place<I: OfText + Location + Stream<Token = char>>(rt: &impl Abort)
+where
+    I::Slice: PartialEq + Debug,
+{
+    at_places::<I, ErrMode<EmptyError>>(rt);
+    at_places::<Partial<I>, ErrMode<EmptyError>>(rt);
+}
+
+/// The rows at parts of a stream, and inside a partial one.
+fn parts_at_place<I: OfText + Location + UpdateSlice + Copy>(rt: &impl Abort)
+where
+    I::Slice: PartialEq + Debug + Copy,
+{
+    with_span_inside::<I, EmptyError>(rt);
+    with_span_inside::<Partial<I>, EmptyError>(rt);
 }
 
 /// The rows at streams of characters that know their place.
@@ -59,6 +75,11 @@ where
 fn value<I: OfText + Compare<char>, E: ParserError<I>>(rt: &impl Abort) {
     let seven: Value<char, I, char, u8, E> = 'a'.value(7);
     answers::<I, u8, E, _>(rt, "value", seven, "ab", Ok(7), "b");
+    value_of_pair::<I, E>(rt);
+}
+
+/// A pair fails behind its first.
+fn value_of_pair<I: OfText + Compare<char>, E: ParserError<I>>(rt: &impl Abort) {
     let seven: Value<(char, char), I, (char, char), u8, E> = ('a', 'b').value(7);
     answers::<I, u8, E, _>(rt, "value", seven, "ac", Err(Backtrack), "c");
 }
@@ -90,18 +111,23 @@ where
 
 /// The places are in bytes.
 fn span<I: OfText + Location + Stream<Token = char>, E: ParserError<I>>(rt: &impl Abort) {
-    let two: Span<(Any, Any), I, (char, char), E> = (Any, Any).span();
-    let got = places::<I, E, _>(two, "éab");
-    same(rt, "span", "éab", got, Some((0, 3)));
-    let behind = (Any, (Any, Any).span()).map(|pair: (char, Range<usize>)| pair.1);
-    let got = places::<I, E, _>(behind, "éab");
+    for (text, want) in [("éab", Some((0, 3))), ("é", None)] {
+        let two: Span<(Any, Any), I, (char, char), E> = (Any, Any).span();
+        same(rt, "span", text, places::<I, E, _>(two, text), want);
+    }
+    let got = places_behind::<I, E>("éab");
     same(rt, "span", "éab", got, Some((2, 4)));
     let none: Span<(), I, (), E> = ().span();
     let got = places::<I, E, _>(none, "ab");
     same(rt, "span", "ab", got, Some((0, 0)));
-    let two: Span<(Any, Any), I, (char, char), E> = (Any, Any).span();
-    let got = places::<I, E, _>(two, "é");
-    same(rt, "span", "é", got, None);
+}
+
+/// The ends of the places of the two tokens behind the first.
+fn places_behind<I: OfText + Location + Stream<Token = char>, E: ParserError<I>>(
+    text: &'static str,
+) -> Option<(usize, usize)> {
+    let behind = (Any, (Any, Any).span()).map(|pair: (char, Range<usize>)| pair.1);
+    places::<I, E, _>(behind, text)
 }
 
 /// The ends of the places that a parser answers on a whole text.
@@ -127,38 +153,46 @@ where
     let mut input = whole::<I>("éab");
     let first: Result<char, E> = Any.parse_next(&mut input);
     same(rt, "with_span", "éab", first.is_ok(), true);
+    rest_at_places::<I, E>(rt, "éab", input, "ab", (2, 4));
+}
+
+/// The rest of a stream is the text, and stands at these places.
+fn rest_at_places<I: OfText + Location, E: ParserError<I>>(
+    rt: &impl Abort,
+    row: &str,
+    input: I,
+    text: &'static str,
+    ends: (usize, usize),
+)
+where
+    I::Slice: PartialEq + Debug,
+{
+    let mut input = input;
     let mut rest: WithSpan<Rest, I, I::Slice, E> = Rest.with_span();
     match rest.parse_next(&mut input) {
         Ok(both) => {
             let (slice, places) = both;
-            same(rt, "with_span", "éab", (places.start, places.end), (2, 4));
-            same(rt, "with_span", "éab", slice, I::slice_of_text("ab"));
+            same(rt, "with_span", row, (places.start, places.end), ends);
+            same(rt, "with_span", row, slice, I::slice_of_text(text));
         }
-        Err(_) => same(rt, "with_span", "éab", "an error", "a slice"),
+        Err(_) => same(rt, "with_span", row, "an error", "a slice"),
     }
 }
 
 /// The places of a stream over a part, made as a length prefix makes one: they count from the start
 /// of the whole.
-fn with_span_inside<I: OfText + Location + UpdateSlice + Copy>(rt: &impl Abort)
+fn with_span_inside<I, E: ParserError<I>>(rt: &impl Abort)
 where
+    I: OfText + Location + UpdateSlice + Copy,
     I::Slice: PartialEq + Debug + Copy,
 {
     let mut input = whole::<I>("\u{2}ABC");
-    let mut taken: (Any, Take<I, EmptyError>) = (Any, token::take(2usize));
-    let part: Result<(I::Token, I::Slice), EmptyError> = taken.parse_next(&mut input);
+    let mut taken: (Any, Take<I, E>) = (Any, token::take(2usize));
+    let part: Result<(I::Token, I::Slice), E> = taken.parse_next(&mut input);
     match part {
         Ok(both) => {
-            let mut inner = input.update_slice(both.1);
-            let mut rest: WithSpan<Rest, I, I::Slice, EmptyError> = Rest.with_span();
-            match rest.parse_next(&mut inner) {
-                Ok(both) => {
-                    let (slice, places) = both;
-                    same(rt, "with_span", "AB", (places.start, places.end), (1, 3));
-                    same(rt, "with_span", "AB", slice, I::slice_of_text("AB"));
-                }
-                Err(_) => same(rt, "with_span", "AB", "an error", "a slice"),
-            }
+            let inner = input.update_slice(both.1);
+            rest_at_places::<I, E>(rt, "AB", inner, "AB", (1, 3));
         }
         Err(_) => same(rt, "with_span", "AB", "an error", "a part"),
     }

@@ -74,11 +74,16 @@ fn joined<I: Stream, E: ParserError<I>>(rt: &impl Abort, input: I) {
     same(rt, "two incomplete", short.needed(), Some(Needed::new(1)));
 }
 
+/// The kinds of each type of errors at one stream.
+fn kinds<I: Stream + Copy>(rt: &impl Abort, input: I) {
+    is_plain::<I, EmptyError>(rt, input);
+    is_plain::<I, InputError<I>>(rt, input);
+    is_modal::<I, ErrMode<EmptyError>>(rt, input);
+    joined::<I, ErrMode<EmptyError>>(rt, input);
+}
+
 #[test]
 fn parser_error(rt: HostRuntime) {
-    is_plain::<&[u8], EmptyError>(&rt, b"ab".as_slice());
-    is_plain::<&[u8], InputError<&[u8]>>(&rt, b"ab".as_slice());
-    is_modal::<&[u8], ErrMode<EmptyError>>(&rt, b"ab".as_slice());
-    joined::<&[u8], ErrMode<EmptyError>>(&rt, b"ab".as_slice());
+    kinds::<&[u8]>(&rt, b"ab".as_slice());
     same(&rt, "InputError::at", InputError::at(7u8).input, 7);
 }

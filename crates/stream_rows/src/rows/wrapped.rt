@@ -51,23 +51,48 @@ fn located<I: Location + Stream<Token = char>>(rt: &impl Abort, mut input: I) {
     same(rt, "previous_token_end", input.previous_token_end(), 4);
 }
 
+/// The flag of a stream, in the wrapper that has one.
+fn flagged_around<I: Stream>(rt: &impl Abort, input: I) {
+    flagged(rt, Partial::new(input));
+}
+
+/// The flag of a stream, behind its place.
+fn flagged_inside<I: StreamIsPartial + Copy>(rt: &impl Abort, input: I) {
+    flagged(rt, LocatingSlice::new(input));
+    let located = LocatingSlice::new(input);
+    same(rt, "a located partial stream", located.is_partial(), true);
+}
+
+/// The place of a stream, behind a flag.
+fn goes_back_inside<I: Location>(rt: &impl Abort, input: I) {
+    goes_back(rt, Partial::new(input));
+}
+
 /// A stream in both wrappers, one in the other.
 fn both<I: StreamIsPartial + Copy>(rt: &impl Abort, input: I) {
-    flagged(rt, Partial::new(LocatingSlice::new(input)));
-    flagged(rt, LocatingSlice::new(Partial::new(input)));
+    flagged_around(rt, LocatingSlice::new(input));
+    flagged_inside(rt, Partial::new(input));
     goes_back(rt, LocatingSlice::new(input));
-    goes_back(rt, Partial::new(LocatingSlice::new(input)));
-    let located = LocatingSlice::new(Partial::new(input));
-    same(rt, "a located partial stream", located.is_partial(), true);
+    goes_back_inside(rt, LocatingSlice::new(input));
     let inner = Partial::new(input).into_inner();
     same(rt, "into_inner", inner.eof_offset(), input.eof_offset());
 }
 
+/// The places in a text, behind a flag.
+fn located_inside<I: Location + Stream<Token = char>>(rt: &impl Abort, input: I) {
+    located(rt, Partial::new(input));
+}
+
+/// The places in a text, around a stream.
+fn located_around<I: Stream<Token = char>>(rt: &impl Abort, input: I) {
+    located(rt, LocatingSlice::new(input));
+}
+
 /// The places in a text, in each nesting.
 fn places_in<I: Stream<Token = char> + Copy>(rt: &impl Abort, input: I) {
-    located(rt, Partial::new(LocatingSlice::new(input)));
-    located(rt, LocatingSlice::new(Partial::new(input)));
-    located(rt, LocatingSlice::new(LocatingSlice::new(input)));
+    located_inside(rt, LocatingSlice::new(input));
+    located_around(rt, Partial::new(input));
+    located_around(rt, LocatingSlice::new(input));
 }
 
 #[test]
@@ -124,13 +149,20 @@ fn over_more<I: UpdateSlice>(rt: &impl Abort, input: I, slice: I::Slice) {
     same(rt, "longer", longer.eof_offset() > 1, true);
 }
 
+/// What was taken, behind a flag.
+fn taken_inside<I: Location + UpdateSlice + Copy>(rt: &impl Abort, input: I) {
+    taken_again(rt, Partial::new(input));
+}
+
+/// What was taken, around a stream and behind a flag.
+fn taken_around<I: UpdateSlice + Copy>(rt: &impl Abort, input: I) {
+    taken_inside(rt, LocatingSlice::new(input));
+}
+
 /// Slices of a stream of bytes, in wrappers.
 fn over_bytes<I: ByteStream + UpdateSlice + Copy>(rt: &impl Abort, input: I) {
     of_bytes(input);
-    taken_again(
-        rt,
-        Partial::new(LocatingSlice::new(LocatingSlice::new(input))),
-    );
+    taken_around(rt, LocatingSlice::new(input));
 }
 
 #[test]

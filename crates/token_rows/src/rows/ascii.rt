@@ -12,12 +12,14 @@ use std::fmt::Debug;
 use std::process::Abort;
 use stream_errors::parser_error::ParserError;
 use stream_searches::compare::Compare;
+use stream_searches::compare::like::ComparesLike;
 use stream_searches::find::FindSlice;
+use stream_searches::find::like::FindsLike;
 use stream_sets::as_bstr::{AsBStr, SlicesAsBytes};
 use stream_sets::as_char::AsChar;
 use streams::locating::LocatingSlice;
 use streams::partial::Partial;
-use streams::stream::Location;
+use streams::stream::{Location, Stream};
 use winnow_ascii::ascii;
 use winnow_ascii::ascii::impls::{Alphanumeric1, Digit1, Multispace1, Space0};
 
@@ -30,20 +32,30 @@ where
     I::Slice: AsBStr,
 {
     classes::places::<LocatingSlice<I>, Modal>(rt);
-    complete_streams::<I, Modal>(rt);
+    complete_streams::<I, Partial<I>, Modal>(rt);
 }
 
-/// The rows of the stream beside its partial one that is marked complete.
-fn complete_streams<I, E>(rt: &impl Abort)
+/// The rows of the stream beside one that is read alike.
+fn complete_streams<I, J, E>(rt: &impl Abort)
 where
-    I: OfText + SlicesAsBytes + Compare<char> + Compare<&'static str> + FindSlice<(char, char)>,
+    I: OfText
+        + SlicesAsBytes
+        + ComparesLike<char, J>
+        + ComparesLike<&'static str, J>
+        + FindsLike<(char, char), J>,
+    J: OfText
+        + SlicesAsBytes
+        + Compare<char>
+        + Compare<&'static str>
+        + FindSlice<(char, char)>
+        + Stream<Token = I::Token, Seen = I::Seen, Slice = I::Slice>,
     I::Token: AsChar,
     I::Slice: AsBStr,
-    E: ParserError<I> + ParserError<Partial<I>>,
+    E: ParserError<I> + ParserError<J>,
 {
-    classes::complete_streams::<I, E>(rt);
-    line_ends::complete_streams::<I, E>(rt);
-    numbers::complete_streams::<I, E>(rt);
+    classes::complete_streams::<I, J, E>(rt);
+    line_ends::complete_streams::<I, J, E>(rt);
+    numbers::complete_streams::<I, J, E>(rt);
 }
 
 /// The rows at a stream.

@@ -7,7 +7,7 @@ use Rattle.std.specs.List.{AllByRecursion}
 use Rattle.std.proofs.Common.{refl, sym, ap, subst, ◌∙◌, inl, inr, arith, append_assoc}
 use Rattle.std.proofs.lemmas.Bool.{cases_order}
 use Rattle.std.proofs.lemmas.Str.{encode_ascii}
-use Rattle.streams.specs.Equal.{same_rest, true_is_false}
+use Rattle.streams.specs.Equal.{same_rest}
 use Rattle.streams.specs.Input.{Input, Takes}
 use Rattle.streams.specs.Kind.{Kind, backtrack}
 use Rattle.streams.specs.Reading.{Reading}
@@ -15,7 +15,7 @@ use Rattle.stream_errors.specs.Form.{ErrorForm}
 use Rattle.stream_errors.specs.Form.Known.{ok_is_err, same_err, same_ok}
 use Rattle.stream_searches.specs.Compare.{StandsFirst}
 use Rattle.stream_searches.specs.FindSlice.{IsFirstMatch}
-use Rattle.winnow_core.specs.Short.{ShortKind}
+use Rattle.winnow_core.specs.Short.Known.{short_whole}
 use Rattle.winnow_ascii.specs.Crlf.Known.{SpellsAscii, crlf_ascii, return_ascii}
 use Rattle.winnow_ascii.specs.TillLineEnding.{HasNoLineEnd, LineRuns, TillLineEndingRuns}
 
@@ -221,10 +221,6 @@ module _ {S : Type 0} (spells : Bor (List ℕ) → List ℕ → Type 0) (lists :
   whole_behind i slice j ran whole =
       ap (λ s. s.cut) (line_taken i slice j ran).takes.passed.status ∙ whole
 
-  backs : (x : Input ℕ) (k : Kind) → x.status.cut ≡ false → ShortKind form None x k → k ≡ backtrack
-  backs x k whole (inl (cut, kind)) = true_is_false (sym cut ∙ whole)
-  backs x k whole (inr (is, kind)) = kind
-
   pub till_line_ending_err : (i : Input ℕ) (k : Kind) (j : Input ℕ) → i.status.cut ≡ false
       → TillLineEndingRuns spells sought reading form i (Err k) j → LoneReturn i k j
   till_line_ending_err i k j whole (inl (s, return, is, ran, none, e)) = ok_is_err e refl
@@ -232,11 +228,11 @@ module _ {S : Type 0} (spells : Bor (List ℕ) → List ℕ → Type 0) (lists :
   till_line_ending_err i k j whole
       (inr (inr (inl (s, return, both, l, is, was, ran, first, short, none, kind, e)))) =
       lone_return i k j s return both is was ran first none
-      (same_err refl e ∙ backs j l (whole_behind i s j ran whole) kind)
+      (same_err refl e ∙ short_whole form None j l (whole_behind i s j ran whole) kind)
   till_line_ending_err i k j whole
       (inr (inr (inr (inl (s, return, both, is, was, ran, first, long, none, e))))) =
       lone_return i k j s return both is was ran first none (same_err refl e)
   till_line_ending_err i k j whole (inr (inr (inr (inr (l, (none, kind, other, same), e))))) =
-      absurd (other (backs i l whole kind))
+      absurd (other (short_whole form None i l whole kind))
 
 pub ruleset known_lines = (till_line_ending_ok, till_line_ending_err)

@@ -1,12 +1,12 @@
 -- What a caller knows of one run of the parser of one token that answered.
-use Rattle.std.specs.Prelude.{◌≡◌, false, [], ◌∷◌, Result, Ok, Err, IfOk}
+use Rattle.std.specs.Prelude.{◌≡◌, false, [], ◌∷◌, Some, Result, Ok, Err, IfOk}
 use Rattle.std.proofs.Common.{refl, sym, subst, ◌∙◌, inl, inr}
-use Rattle.streams.specs.Equal.{true_is_false}
 use Rattle.streams.specs.Input.{Input, Passes}
 use Rattle.streams.specs.Kind.{Kind, backtrack}
 use Rattle.streams.specs.Reading.{Reading}
 use Rattle.stream_errors.specs.Form.{ErrorForm, answer_by}
 use Rattle.stream_errors.specs.Form.Known.{ok_is_err, same_err, same_ok}
+use Rattle.winnow_core.specs.Short.Known.{short_whole}
 use Rattle.winnow_token.specs.Any.{AnyRuns, NoTokenRuns}
 
 -- A whole input of which nothing is left: it stays.
@@ -17,9 +17,12 @@ pub record NoToken {T : Type 0} (i : Input T) (k : Kind) (j : Input T) : Type 0 
 
 pub no_token : {T O : Type 0} (form : ErrorForm) (i : Input T) (k : Kind) (j : Input T)
     → i.status.cut ≡ false → NoTokenRuns {O = O} form i (Err k) j → NoToken i k j
-no_token form i k j whole (l, nothing, inl (cut, kind), e, same) = true_is_false (sym cut ∙ whole)
-no_token form i k j whole (l, nothing, inr (not_cut, kind), e, same) =
-    record { stays = same; kind = same_err refl e ∙ kind; nothing = nothing }
+no_token form i k j whole (l, nothing, kind, e, same) =
+    record {
+      stays = same;
+      kind = same_err refl e ∙ short_whole form (Some 1) i l whole kind;
+      nothing = nothing;
+    }
 
 -- an output: the first token
 pub any_ok : {K T S : Type 0} (seen : K → T) (reading : Reading T S) (form : ErrorForm)

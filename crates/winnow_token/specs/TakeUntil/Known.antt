@@ -6,7 +6,7 @@ use Rattle.std.specs.List.{All}
 use Rattle.std.proofs.Common.{refl, sym, ap, subst, ◌∙◌, inl, inr, arith}
 use Rattle.std.proofs.lemmas.List.Elements.{All-cons, All-nil, All-weaker}
 use Rattle.streams.specs.Counted.{counted_reading}
-use Rattle.streams.specs.Equal.{none_is_some, same_first, same_rest, true_is_false}
+use Rattle.streams.specs.Equal.{none_is_some, same_first, same_rest}
 use Rattle.streams.specs.Input.{Input, Takes}
 use Rattle.streams.specs.Kind.{Kind, backtrack}
 use Rattle.streams.specs.Reading.{Reading}
@@ -17,7 +17,7 @@ use Rattle.stream_errors.specs.Form.{Answer, ErrorForm}
 use Rattle.stream_errors.specs.Form.Known.{ok_is_err, same_err, same_ok}
 use Rattle.winnow_core.specs.Reads.{MustLeave, Reads}
 use Rattle.winnow_core.specs.Runs.{Keeps, Runs}
-use Rattle.winnow_core.specs.Short.{ShortKind}
+use Rattle.winnow_core.specs.Short.Known.{short_whole}
 use Rattle.winnow_token.specs.TakeUntil.{TakeUntilRuns}
 use Rattle.winnow_token.specs.TakeWhile.Known.{same_front}
 
@@ -81,12 +81,6 @@ pub record NothingBefore {T S : Type 0} (reading : Reading T S) (sought : List T
       ⊎ ((start : ℕ) × (end : ℕ)
       × (m : IsFirstMatch reading.units sought i.left.tokens start end)
       × (length m.front < least))
-
--- a whole input that is too short fails
-short_whole : {T : Type 0} (form : ErrorForm) (need : Option ℕ) (i : Input T) (k : Kind)
-    → i.status.cut ≡ false → ShortKind form need i k → k ≡ backtrack
-short_whole form need i k whole (inl (cut, is)) = true_is_false (sym cut ∙ whole)
-short_whole form need i k whole (inr (cut, is)) = is
 
 pub nothing_before : {T S : Type 0} (reading : Reading T S) (form : ErrorForm)
     (sought : List T → Type 0) (least : ℕ) (i : Input T) (k : Kind) (j : Input T)

@@ -6,8 +6,8 @@ use outcomes::{BACKTRACKS, ending_by_place, lacks};
 use std::process::Abort;
 use stream_errors::parser_error::ParserError;
 use stream_sets::as_char::AsChar;
-use streams::partial::Partial;
-use streams::stream::Location;
+use streams::reads_like::ReadsLike;
+use streams::stream::{Location, Stream};
 use winnow_ascii::ascii::impls::{
     Alpha0, Alpha1, Alphanumeric0, Alphanumeric1, Digit0, Digit1, HexDigit0, HexDigit1,
     Multispace0, Multispace1, OctDigit0, OctDigit1, Space0, Space1,
@@ -149,18 +149,19 @@ where
     place::<I, I::Slice, E, _>(rt, "multispace1", Multispace1, 3);
 }
 
-/// How the same four end, and on the partial stream that is marked complete.
-pub(crate) fn complete_streams<I, E>(rt: &impl Abort)
+/// How the same four end, and the like ones at a stream that is read alike.
+pub(crate) fn complete_streams<I, J, E>(rt: &impl Abort)
 where
-    I: OfText,
+    I: OfText + ReadsLike<J>,
+    J: OfText + Stream<Token = I::Token, Seen = I::Seen, Slice = I::Slice>,
     I::Token: AsChar,
-    E: ParserError<I> + ParserError<Partial<I>>,
+    E: ParserError<I> + ParserError<J>,
 {
     let text = "1a; ";
-    like_ends::<I, _, E, _, _>(rt, "digit1", text, (Digit1, Digit1), Takes(1));
+    like_ends::<I, J, I::Slice, E, _, _>(rt, "digit1", text, (Digit1, Digit1), Takes(1));
     let parsers = (Alphanumeric1, Alphanumeric1);
-    like_ends::<I, _, E, _, _>(rt, "alphanumeric1", text, parsers, Takes(2));
-    like_ends::<I, _, E, _, _>(rt, "space0", text, (Space0, Space0), Takes(0));
+    like_ends::<I, J, I::Slice, E, _, _>(rt, "alphanumeric1", text, parsers, Takes(2));
+    like_ends::<I, J, I::Slice, E, _, _>(rt, "space0", text, (Space0, Space0), Takes(0));
     let parsers = (Multispace1, Multispace1);
-    like_ends::<I, _, E, _, _>(rt, "multispace1", text, parsers, BACKTRACKS);
+    like_ends::<I, J, I::Slice, E, _, _>(rt, "multispace1", text, parsers, BACKTRACKS);
 }

@@ -10,10 +10,11 @@ use std::fmt::Debug;
 use std::process::Abort;
 use stream_errors::parser_error::ParserError;
 use stream_searches::compare::Compare;
+use stream_searches::compare::like::ComparesLike;
 use stream_searches::find::FindSlice;
+use stream_searches::find::like::FindsLike;
 use streams::needed::Needed;
-use streams::partial::Partial;
-use streams::stream::Location;
+use streams::stream::{Location, Stream};
 use winnow_ascii::ascii::impls::{Crlf, LineEnding, Newline, Tab, TillLineEnding};
 
 /// The rows at a stream.
@@ -252,18 +253,23 @@ pub(crate) fn at_plain_errors<
     );
 }
 
-/// How the parsers end, and on the partial stream that is marked complete.
-pub(crate) fn complete_streams<I, E>(rt: &impl Abort)
+/// How the parsers end, and the like ones at a stream that is read alike.
+pub(crate) fn complete_streams<I, J, E>(rt: &impl Abort)
 where
-    I: OfText + Compare<char> + Compare<&'static str> + FindSlice<(char, char)>,
-    E: ParserError<I> + ParserError<Partial<I>>,
+    I: OfText + ComparesLike<char, J> + ComparesLike<&'static str, J> + FindsLike<(char, char), J>,
+    J: OfText
+        + Compare<char>
+        + Compare<&'static str>
+        + FindSlice<(char, char)>
+        + Stream<Token = I::Token, Seen = I::Seen, Slice = I::Slice>,
+    E: ParserError<I> + ParserError<J>,
 {
     let text = "\r";
-    like_ends::<I, _, E, _, _>(rt, "crlf", text, (Crlf, Crlf), BACKTRACKS);
-    like_ends::<I, char, E, _, _>(rt, "newline", text, (Newline, Newline), BACKTRACKS);
-    like_ends::<I, char, E, _, _>(rt, "tab", text, (Tab, Tab), BACKTRACKS);
+    like_ends::<I, J, I::Slice, E, _, _>(rt, "crlf", text, (Crlf, Crlf), BACKTRACKS);
+    like_ends::<I, J, char, E, _, _>(rt, "newline", text, (Newline, Newline), BACKTRACKS);
+    like_ends::<I, J, char, E, _, _>(rt, "tab", text, (Tab, Tab), BACKTRACKS);
     let parsers = (LineEnding, LineEnding);
-    like_ends::<I, _, E, _, _>(rt, "line_ending", text, parsers, BACKTRACKS);
+    like_ends::<I, J, I::Slice, E, _, _>(rt, "line_ending", text, parsers, BACKTRACKS);
     let parsers = (TillLineEnding, TillLineEnding);
-    like_ends::<I, _, E, _, _>(rt, "till_line_ending", text, parsers, BACKTRACKS);
+    like_ends::<I, J, I::Slice, E, _, _>(rt, "till_line_ending", text, parsers, BACKTRACKS);
 }

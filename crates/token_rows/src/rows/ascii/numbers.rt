@@ -11,7 +11,7 @@ use stream_errors::parser_error::ParserError;
 use stream_sets::as_bstr::{AsBStr, SlicesAsBytes};
 use stream_sets::as_char::AsChar;
 use streams::needed::Needed;
-use streams::partial::Partial;
+use streams::reads_like::ReadsLike;
 use streams::stream::{Location, Stream};
 use winnow_numbers::ascii::impls::{DecInt, DecUint, HexUintParser};
 use winnow_numbers::ascii::{HexUint, Int, Uint};
@@ -306,19 +306,20 @@ where
     ends_each::<I, u8, E, _>(rt, "hex_uint", HexUintParser, &hex_uint_plain_endings());
 }
 
-/// How the parsers end, and on the partial stream that is marked complete.
-pub(crate) fn complete_streams<I, E>(rt: &impl Abort)
+/// How the parsers end, and the like ones at a stream that is read alike.
+pub(crate) fn complete_streams<I, J, E>(rt: &impl Abort)
 where
-    I: OfText + SlicesAsBytes,
+    I: OfText + SlicesAsBytes + ReadsLike<J>,
+    J: OfText + SlicesAsBytes + Stream<Token = I::Token, Seen = I::Seen, Slice = I::Slice>,
     I::Token: AsChar,
     I::Slice: AsBStr,
-    E: ParserError<I> + ParserError<Partial<I>>,
+    E: ParserError<I> + ParserError<J>,
 {
     let text = "12";
-    like_ends::<I, u8, E, _, _>(rt, "dec_uint", text, (DecUint, DecUint), Takes(2));
-    like_ends::<I, i8, E, _, _>(rt, "dec_int", text, (DecInt, DecInt), Takes(2));
+    like_ends::<I, J, u8, E, _, _>(rt, "dec_uint", text, (DecUint, DecUint), Takes(2));
+    like_ends::<I, J, i8, E, _, _>(rt, "dec_int", text, (DecInt, DecInt), Takes(2));
     let parsers = (HexUintParser, HexUintParser);
-    like_ends::<I, u16, E, _, _>(rt, "hex_uint", text, parsers, Takes(2));
+    like_ends::<I, J, u16, E, _, _>(rt, "hex_uint", text, parsers, Takes(2));
 }
 
 /// What the types read of texts, by their own readers, and a digit more.

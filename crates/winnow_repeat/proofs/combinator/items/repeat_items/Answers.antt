@@ -20,14 +20,14 @@ items-init g c = (
 pub returns-then-eof_offset-left-clause-ran : goal.returns-then-eof_offset-left-clause-ran
 returns-then-eof_offset-left-clause-ran g c =
     let inv = c.items.invariant in
-    let below = some_room _ _ _ _ _ inv.3 (λ e. search rules) in
+    let below = some_room _ _ _ _ _ inv.3 (λ e. search rules depth 1) in
     let same = same_units g.I.Stream.reading _ _ c.in-Ok.ensures.ends (omega arith) in (
       inv.0,
       _,
       _,
       inv.1,
       inr (inr (inr (inl
-          (c.in-Ok.output, _, below, c.in-Ok.ensures.ran, same, inv.2, search rules)))),
+          (c.in-Ok.output, _, below, c.in-Ok.ensures.ran, same, inv.2, search rules depth 1)))),
     )
 
 pub items-preserved : goal.items-preserved
@@ -37,9 +37,10 @@ items-preserved g c =
     (λ e. absurd (omega (arith, e))) in (
       inv.0 ++ (c.in-Ok.output ∷ []),
       chain_more inv.1 c.in-Ok.ensures.ran fewer,
-      accumulates_more inv.2 (search rules),
-      room_behind_more _ _ _ _ _ _ _ _ inv.3 (λ e. search rules) c.saturating_sub-missing.ensures
-          (search rules) (length-append inv.0 (c.in-Ok.output ∷ [])),
+      accumulates_more inv.2 (search rules depth 1),
+      room_behind_more _ _ _ _ _ _ _ _ inv.3 (λ e. search rules depth 1)
+          c.saturating_sub-missing.ensures
+          (search rules depth 1) (length-append inv.0 (c.in-Ok.output ∷ [])),
       is_end_of_trans c.in-Ok.ensures.ends inv.4,
       c.in-Ok.ensures.again,
     )

@@ -19,7 +19,7 @@ items-preserved g c =
     let inv = c.items.invariant in (
       inv.0 ++ (c.in_ok-output.output ∷ []),
       successes_more inv.1 c.in_ok-output.ensures.ran,
-      accumulates_more inv.2 (search rules),
+      accumulates_more inv.2 (search rules depth 1),
       omega (
         arith,
         inv.3,

@@ -33,7 +33,7 @@ returns-in-Ok-clause-ran g c =
         within_room _ _ _ _ _ inv.3,
         c.in-Ok.ensures.ran,
         refl {a = g.P.Parser.state c.turns.parser},
-        search rules,
+        search rules depth 1,
       ),
     )
 
@@ -53,17 +53,17 @@ returns-then-eq-clause-ran g c =
         c.in-Err.ensures.ran,
         refl {a = g.P.Parser.state c.turns.parser},
         elim c.then-eq.branch [
-          | goal.then-eq-via-then-eq w ↦ λ is. no_room _ _ _ _ _ inv.3 (search rules)
-          | goal.then-eq-via-else-eq+then-not-is_backtrack w ↦ λ is. search rules
+          | goal.then-eq-via-then-eq w ↦ λ is. no_room _ _ _ _ _ inv.3 (search rules depth 1)
+          | goal.then-eq-via-else-eq+then-not-is_backtrack w ↦ λ is. search rules depth 1
         ],
-        search rules,
+        search rules depth 1,
       )),
     )
 
 pub returns-in_err-output-clause-ran : goal.returns-in_err-output-clause-ran
 returns-in_err-output-clause-ran g c =
     let inv = c.turns.invariant in
-    let below = some_room _ _ _ _ _ inv.3 (λ e. search rules) in (
+    let below = some_room _ _ _ _ _ inv.3 (λ e. search rules depth 1) in (
       inv.0,
       _,
       _,
@@ -75,15 +75,16 @@ returns-in_err-output-clause-ran g c =
         below,
         turn (g.P.Parser.meaning g.E.HasKind.form) (g.G.Parser.meaning g.E.HasKind.form) _ _ _ _
             _ _ _ (Err (g.E.HasKind.kind c.in_err-output.field-0.0)) _ _ _ c.in-Err.ensures.ran
-            (search rules) c.reset.ensures c.checkpoint-start.ensures c.in_err-output.ensures.ran,
-        search rules,
+            (search rules depth 1) c.reset.ensures c.checkpoint-start.ensures
+            c.in_err-output.ensures.ran,
+        search rules depth 1,
       ))),
     )
 
 pub returns-then-eof_offset-left-clause-ran : goal.returns-then-eof_offset-left-clause-ran
 returns-then-eof_offset-left-clause-ran g c =
     let inv = c.turns.invariant in
-    let below = some_room _ _ _ _ _ inv.3 (λ e. search rules) in
+    let below = some_room _ _ _ _ _ inv.3 (λ e. search rules depth 1) in
     let ended = turn_end g.I.Stream.reading _ _ _ _ _ c.in-Err.ensures.ends c.reset.ensures
     c.checkpoint-start.ensures c.in_ok-output.ensures.ends in
     let same = same_units g.I.Stream.reading _ _ ended (omega arith) in (
@@ -97,17 +98,17 @@ returns-then-eof_offset-left-clause-ran g c =
         c.in_ok-output.output,
         below,
         turn (g.P.Parser.meaning g.E.HasKind.form) (g.G.Parser.meaning g.E.HasKind.form) _ _ _ _
-            _ _ _ (Ok c.in_ok-output.output) _ _ _ c.in-Err.ensures.ran (search rules)
+            _ _ _ (Ok c.in_ok-output.output) _ _ _ c.in-Err.ensures.ran (search rules depth 1)
             c.reset.ensures c.checkpoint-start.ensures c.in_ok-output.ensures.ran,
         same,
-        search rules,
+        search rules depth 1,
       )))),
     )
 
 pub returns-in-Err-accumulate-clause-ran : goal.returns-in-Err-accumulate-clause-ran
 returns-in-Err-accumulate-clause-ran g c =
     let inv = c.turns.invariant in
-    let below = some_room _ _ _ _ _ inv.3 (λ e. search rules) in
+    let below = some_room _ _ _ _ _ inv.3 (λ e. search rules depth 1) in
     let ended = turn_end g.I.Stream.reading _ _ _ _ _ c.in-Err.ensures.ends c.reset.ensures
     c.checkpoint-start.ensures c.in_ok-output.ensures.ends in
     let fewer = fewer_tokens g.I.Stream.reading _ _ ended (λ e. absurd (omega (arith, e))) in (
@@ -121,11 +122,11 @@ returns-in-Err-accumulate-clause-ran g c =
         c.in_ok-output.output,
         below,
         turn (g.P.Parser.meaning g.E.HasKind.form) (g.G.Parser.meaning g.E.HasKind.form) _ _ _ _
-            _ _ _ (Ok c.in_ok-output.output) _ _ _ c.in-Err.ensures.ran (search rules)
+            _ _ _ (Ok c.in_ok-output.output) _ _ _ c.in-Err.ensures.ran (search rules depth 1)
             c.reset.ensures c.checkpoint-start.ensures c.in_ok-output.ensures.ran,
         fewer,
-        search rules,
-        search rules,
+        search rules depth 1,
+        search rules depth 1,
       )))),
     )
 
@@ -138,12 +139,12 @@ turns-preserved g c =
       inv.0 ++ (c.in_ok-output.output ∷ []),
       chain_more inv.1
           (turn (g.P.Parser.meaning g.E.HasKind.form) (g.G.Parser.meaning g.E.HasKind.form) _ _ _ _
-          _ _ _ (Ok c.in_ok-output.output) _ _ _ c.in-Err.ensures.ran (search rules)
+          _ _ _ (Ok c.in_ok-output.output) _ _ _ c.in-Err.ensures.ran (search rules depth 1)
           c.reset.ensures c.checkpoint-start.ensures c.in_ok-output.ensures.ran)
           fewer,
-      accumulates_more inv.2 (search rules),
-      room_behind_more _ _ _ _ _ _ _ _ inv.3 (λ e. search rules) (omega arith)
-          (search rules) (length-append inv.0 (c.in_ok-output.output ∷ [])),
+      accumulates_more inv.2 (search rules depth 1),
+      room_behind_more _ _ _ _ _ _ _ _ inv.3 (λ e. search rules depth 1) (omega arith)
+          (search rules depth 1) (length-append inv.0 (c.in_ok-output.output ∷ [])),
       is_end_of_trans ended inv.4,
       c.in_ok-output.ensures.again,
       c.in-Err.ensures.again,

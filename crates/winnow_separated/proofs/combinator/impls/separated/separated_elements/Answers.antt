@@ -26,8 +26,10 @@ returns-in-Ok-accumulate-clause-ran g c =
       _,
       _,
       _,
-      some_room _ _ _ _ _ (room_behind_none c.args.least c.args.greatest) (λ e. search rules),
+      some_room _ _ _ _ _ (room_behind_none c.args.least c.args.greatest)
+          (λ e. search rules depth 1),
       c.in-Ok.ensures.ran,
-      search rules,
-      fewer_links links _ _ _ _ c.saturating_sub.ensures (search rules) c.repeat_items.ensures.ran,
+      search rules depth 1,
+      fewer_links links _ _ _ _ c.saturating_sub.ensures (search rules depth 1)
+          c.repeat_items.ensures.ran,
     ))))

@@ -7,6 +7,6 @@ links-preserved g c =
       c.in-Some-pop.left,
       (c.links.separator, inv.0) ∷ inv.1,
       search (rules, append_assoc),
-      (c.links.right, c.links.op, inv.3, search rules),
+      (c.links.right, c.links.op, inv.3, search rules depth 1),
       search of_calls,
     )

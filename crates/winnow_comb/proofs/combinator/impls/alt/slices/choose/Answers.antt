@@ -42,7 +42,7 @@ loop-k-preserved g c =
 
 pub returns-clause-ran : goal.returns-clause-ran
 returns-clause-ran g c =
-    let some : 0 < length c.args.branches.now = search rules in
+    let some : 0 < length c.args.branches.now = search rules depth 1 in
     let end : c.loop-k.k ≡ length c.args.branches.now - 1 = omega arith in
     let earlier = subst
     (λ k. Earlier (By g.P.Parser.state (g.P.Parser.meaning g.E.HasKind.form))

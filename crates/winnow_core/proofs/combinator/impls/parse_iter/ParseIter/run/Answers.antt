@@ -8,23 +8,23 @@ use Rattle.winnow_core.proofs.combinator.impls.parse_iter.ParseIter.run.Goals as
 pub returns-then-left-eq0-clause-ran : goal.returns-then-left-eq0-clause-ran
 returns-then-left-eq0-clause-ran g c =
     let on = reads_unread g.I.Stream.view g.I.Stream.seen {unread = c.args.self.now.unread}
-    {u = c.in-Some.field-0} (search rules) in
+    {u = c.in-Some.field-0} (search rules depth 1) in
     let nothing = units-zero g.I.Stream.reading _
     (sym c.eof_offset-left.ensures ∙ c.if-left-eq0.true)
     in
-    inr (inr (nothing_to_read on nothing, refl, refl, search rules))
+    inr (inr (nothing_to_read on nothing, refl, refl, search rules depth 1))
 
 pub fault_at-requires : goal.fault_at-requires
 fault_at-requires g c =
     let on = reads_unread g.I.Stream.view g.I.Stream.seen {unread = c.args.self.now.unread}
-    {u = c.in-Some.field-0} (search rules) in
+    {u = c.in-Some.field-0} (search rules depth 1) in
     reached_remains on c.requires.reached c.parse_next.ensures.ends
 
 pub returns-then-eof_offset-left-clause-ran : goal.returns-then-eof_offset-left-clause-ran
 returns-then-eof_offset-left-clause-ran g c =
     let same = same_units g.I.Stream.reading _ _ c.in-Ok.ensures.ends (omega arith) in
     let on = reads_unread g.I.Stream.view g.I.Stream.seen {unread = c.args.self.now.unread}
-    {u = c.in-Some.field-0} (search rules) in
+    {u = c.in-Some.field-0} (search rules depth 1) in
     inr (inl (
       g.I.Stream.seen c.in-Some.field-0.start,
       g.I.Stream.view c.in-Some.field-0.input,
@@ -36,19 +36,19 @@ returns-then-eof_offset-left-clause-ran g c =
       inr (c.in-Ok.output, c.in-Ok.ensures.ran, same, c.assert-error.ensures),
       c.fault_at.ensures,
       refl,
-      search rules,
+      search rules depth 1,
     ))
 
 pub fault_at-requires-in-Err : goal.fault_at-requires-in-Err
 fault_at-requires-in-Err g c =
     let on = reads_unread g.I.Stream.view g.I.Stream.seen {unread = c.args.self.now.unread}
-    {u = c.in-Some.field-0} (search rules) in
+    {u = c.in-Some.field-0} (search rules depth 1) in
     reached_remains on c.requires.reached c.parse_next.ensures.ends
 
 pub returns-in-Err-clause-ran : goal.returns-in-Err-clause-ran
 returns-in-Err-clause-ran g c =
     let on = reads_unread g.I.Stream.view g.I.Stream.seen {unread = c.args.self.now.unread}
-    {u = c.in-Some.field-0} (search rules) in
+    {u = c.in-Some.field-0} (search rules depth 1) in
     inr (inl (
       g.I.Stream.seen c.in-Some.field-0.start,
       g.I.Stream.view c.in-Some.field-0.input,
@@ -60,5 +60,5 @@ returns-in-Err-clause-ran g c =
       inl c.in-Err.ensures.ran,
       c.fault_at-in-Err.ensures,
       refl,
-      search rules,
+      search rules depth 1,
     ))

@@ -10,5 +10,5 @@ returns-clause-ran g c =
       c.in_ok-output.ensures.ran,
       (refl, inr (c.in-Err.error, _, c.in-Err.ensures, c.from_external_error.ensures, refl)),
       refl,
-      search rules,
+      search rules depth 1,
     ))

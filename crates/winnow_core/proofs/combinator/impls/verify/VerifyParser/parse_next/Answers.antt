@@ -18,7 +18,7 @@ returns-clause-ran g c =
       _,
       _,
       c.in_ok-output.ensures.ran,
-      inr (record { shown = _; shows = refl; called = c.if-filter.ensures }, search rules),
+      inr (record { shown = _; shows = refl; called = c.if-filter.ensures }, search rules depth 1),
       refl,
-      search rules,
+      search rules depth 1,
     ))

@@ -7,6 +7,6 @@ returns-clause-ran g c =
       c.in_ok-output.output,
       _,
       c.in_ok-output.ensures.ran,
-      (refl, search rules),
+      (refl, search rules depth 1),
       refl,
     )

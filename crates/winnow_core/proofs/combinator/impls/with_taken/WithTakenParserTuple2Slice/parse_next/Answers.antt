@@ -3,4 +3,4 @@ use Rattle.winnow_core.proofs.combinator.impls.with_taken.WithTakenParserTuple2S
 
 pub returns-clause-ran : goal.returns-clause-ran
 returns-clause-ran g c =
-    inl (c.in_ok-output.output, _, search rules, (refl, search rules), refl)
+    inl (c.in_ok-output.output, _, search rules depth 1, (refl, search rules depth 1), refl)

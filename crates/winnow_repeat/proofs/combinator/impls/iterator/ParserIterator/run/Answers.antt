@@ -6,7 +6,7 @@ pub returns-then-eof_offset-left-clause-ran : goal.returns-then-eof_offset-left-
 returns-then-eof_offset-left-clause-ran g c =
     let same = same_units g.I.Stream.reading _ _ c.in-Ok.ensures.ends (omega arith) in
     inr (inl (
-      search rules,
-      inr (inr (c.in-Ok.output, c.in-Ok.ensures.ran, same, search rules)),
+      search rules depth 1,
+      inr (inr (c.in-Ok.output, c.in-Ok.ensures.ran, same, search rules depth 1)),
       refl,
     ))

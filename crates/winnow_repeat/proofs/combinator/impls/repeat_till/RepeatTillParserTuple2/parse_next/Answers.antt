@@ -6,7 +6,8 @@ pub returns-in_ok-all-in-Ok-clause-ran : goal.returns-in_ok-all-in-Ok-clause-ran
 returns-in_ok-all-in-Ok-clause-ran g c = (
   turns_follow (g.P.Parser.meaning g.E.HasKind.form) (g.G.Parser.meaning g.E.HasKind.form)
       g.C.Accumulate.accumulator _ _ _ _ _ _ _ _ _ _ _ _ _ _ _ _
-      c.greatest-greatest.ensures.value (search rules) (search rules) (search rules)
+      c.greatest-greatest.ensures.value (search rules depth 1) (search rules depth 1)
+      (search rules depth 1)
       c.in-Ok.ensures c.in_ok-all-in-Ok.ensures.ran c.turns.ensures.ran,
   refl,
 )

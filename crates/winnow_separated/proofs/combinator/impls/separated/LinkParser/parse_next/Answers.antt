@@ -10,5 +10,5 @@ returns-then-eof_offset-left-clause-ran g c =
       c.in_ok-_separator.ensures.ran,
       same,
       refl,
-      search rules,
+      search rules depth 1,
     ))

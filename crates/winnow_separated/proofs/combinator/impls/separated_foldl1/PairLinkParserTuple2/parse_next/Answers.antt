@@ -5,4 +5,10 @@ use Rattle.winnow_separated.proofs.combinator.impls.separated_foldl1.PairLinkPar
 pub returns-then-eof_offset-left-clause-ran : goal.returns-then-eof_offset-left-clause-ran
 returns-then-eof_offset-left-clause-ran g c =
     let same = same_units g.I.Stream.reading _ _ c.in_ok-separator.ensures.ends (omega arith) in
-    inr (inl (c.in_ok-separator.separator, c.in_ok-separator.ensures.ran, same, refl, search rules))
+    inr (inl (
+      c.in_ok-separator.separator,
+      c.in_ok-separator.ensures.ran,
+      same,
+      refl,
+      search rules depth 1,
+    ))

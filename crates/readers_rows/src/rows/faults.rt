@@ -1,6 +1,6 @@
 //! Faults of reading and writing.
-use crate::program::{Outcome, run_and_tell};
 use crate::rows::{USAGE, same};
+use readers::program::{Outcome, run_and_tell};
 use std::alloc::Global;
 use std::io;
 use std::io::{ErrorKind, Read, Write};

@@ -1,6 +1,6 @@
 //! Arguments, and refused memory.
-use crate::program::serve;
 use crate::rows::{USAGE, same};
+use readers::program::serve;
 use refusing::Refusing;
 use std::alloc::Global;
 use std::env::{Env, FillError};

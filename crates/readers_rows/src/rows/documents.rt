@@ -1,7 +1,7 @@
 //! Tables of documents.
-use crate::fault::Fault;
-use crate::ini::{category, document, key_value};
 use crate::rows::{answers, ran, same};
+use readers::fault::Fault;
+use readers::ini::{category, document, key_value};
 use refusing::Refusing;
 use std::alloc::Global;
 use std::process::Abort;

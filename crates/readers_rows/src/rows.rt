@@ -3,7 +3,7 @@ mod arguments;
 mod documents;
 mod faults;
 
-use crate::run;
+use readers::run;
 use std::alloc::Global;
 use std::fmt::Debug;
 use std::process::Abort;

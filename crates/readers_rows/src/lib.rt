@@ -1,0 +1,5 @@
+//! The rows that the readers and their program are tested by.
+#![tactic(auto)]
+
+#[cfg(test)]
+mod rows;
