@@ -128,6 +128,11 @@ def bounds(n, output):
     return ", ".join("P%d: Parser<I, %s, E>" % (k, output(k)) for k in upto(n))
 
 
+def output_name(n, k):
+    """What the k-th output of n is called."""
+    return "only" if n == 1 else ORDINAL[k]
+
+
 def sequence_impl(n):
     outputs = rust_tuple(["O%d" % k for k in upto(n)])
     parsers = rust_tuple(["P%d" % k for k in upto(n)])
@@ -148,8 +153,9 @@ def sequence_impl(n):
         "    #[inline(always)]",
         "    fn parse_next(&mut self, input: &mut I) -> Result<%s, E> {" % outputs,
     ]
-    lines += ["        let %s = self.%d.parse_next(input)?;" % (ORDINAL[k], k - 1) for k in upto(n)]
-    lines += ["        Ok(%s)" % rust_tuple([ORDINAL[k] for k in upto(n)]), "    }", "}"]
+    names = [output_name(n, k) for k in upto(n)]
+    lines += ["        let %s = self.%d.parse_next(input)?;" % named for named in zip(names, range(n))]
+    lines += ["        Ok(%s)" % rust_tuple(names), "    }", "}"]
     return "\n".join(lines)
 
 
@@ -227,23 +233,23 @@ def sequence_ran(n, failing):
     succeeding = ran - 1 if failing else n
     parts = ["_"] * succeeding
     if failing:
-        parts.append("g.E.HasKind.kind c.in_err-%s.field-0.0" % ORDINAL[failing])
+        parts.append("g.E.HasKind.kind c.in_err-%s.field-0.0" % output_name(n, failing))
     parts += ["_"] * (ran - 1)
-    parts += ["c.in_ok-%s.ensures.ran" % ORDINAL[k] for k in upto(succeeding)]
+    parts += ["c.in_ok-%s.ensures.ran" % output_name(n, k) for k in upto(succeeding)]
     if failing:
-        parts.append("c.in_err-%s.ensures.ran" % ORDINAL[failing])
+        parts.append("c.in_err-%s.ensures.ran" % output_name(n, failing))
     parts += ["refl"] * (n - ran)
     parts.append("search rules depth 1" if failing else "refl")
-    goal = "returns-in_err-%s-clause-ran" % ORDINAL[failing] if failing else "returns-clause-ran"
+    goal = "returns-in_err-%s-clause-ran" % output_name(n, failing) if failing else "returns-clause-ran"
     return "pub {0} : goal.{0}\n{0} g c = {1}".format(goal, injected(failing, n + 1, ", ".join(parts)))
 
 
 def sequence_ends(n, failing):
     """What answers the clause `ends` at a return of n children."""
     ran = failing or n
-    last = "c.in_%s-%s.ensures.ends" % ("err" if failing else "ok", ORDINAL[ran])
-    steps = [last] + ["c.in_ok-%s.ensures.ends" % ORDINAL[k] for k in range(ran - 1, 0, -1)]
-    goal = "returns-in_err-%s-clause-ends" % ORDINAL[failing] if failing else "returns-clause-ends"
+    last = "c.in_%s-%s.ensures.ends" % ("err" if failing else "ok", output_name(n, ran))
+    steps = [last] + ["c.in_ok-%s.ensures.ends" % output_name(n, k) for k in range(ran - 1, 0, -1)]
+    goal = "returns-in_err-%s-clause-ends" % output_name(n, failing) if failing else "returns-clause-ends"
     chain = [trans(ran)] if ran > 1 else []
     return "pub {0} : goal.{0}\n{0} g c = {1}".format(goal, " ".join(chain + steps))
 
@@ -261,8 +267,7 @@ def sequence_answers(n):
 
 SEQUENCE_ANSWERS = """-- {head}
 use Rattle.std.proofs.Common.{{rules, refl, inl, inr}}
-use Rattle.streams.specs.Input.{{{ends}}}
-use Rattle.winnow_core.proofs.parser.tuples.Tuple{n}Parser.parse_next.Goals as goal
+{ends}use Rattle.winnow_core.proofs.parser.tuples.Tuple{n}Parser.parse_next.Goals as goal
 
 {answers}
 """
@@ -374,7 +379,8 @@ def write_sequences():
         family="\n\n".join("%s\n\n%s" % (sequence_impl(n), sequence_agrees(n)) for n in every),
     )
     write(core + "specs/Agrees/Sizes.antt", AGREEMENTS, family="\n\n".join(agreement(n) for n in every if n > 1))
-    for n in every[1:]:
-        ends = ", ".join(trans(k) for k in range(2, n + 1))
+    for n in every:
+        chains = ", ".join(trans(k) for k in range(2, n + 1))
+        ends = "use Rattle.streams.specs.Input.{%s}\n" % chains if chains else ""
         path = core + "proofs/parser/tuples/Tuple%dParser/parse_next/Answers.antt" % n
         write(path, SEQUENCE_ANSWERS, n=n, ends=ends, answers="\n\n".join(sequence_answers(n)))

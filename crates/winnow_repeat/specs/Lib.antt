@@ -1,5 +1,4 @@
 pub mod Chain
-pub mod Consumed
 pub mod Fill
 pub mod Fold
 pub mod Iterator

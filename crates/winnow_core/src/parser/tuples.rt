@@ -59,8 +59,8 @@ impl<I: Stream, O1, E: ParserError<I>, P1: Parser<I, O1, E>> Parser<I, (O1,), E>
 
     #[inline(always)]
     fn parse_next(&mut self, input: &mut I) -> Result<(O1,), E> {
-        let first = self.0.parse_next(input)?;
-        Ok((first,))
+        let only = self.0.parse_next(input)?;
+        Ok((only,))
     }
 }
 

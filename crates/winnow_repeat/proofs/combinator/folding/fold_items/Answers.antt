@@ -1,5 +1,4 @@
-use Rattle.winnow_core.specs.Ends.{same_units}
-use Rattle.winnow_repeat.specs.Consumed.{fewer_tokens, units_fall}
+use Rattle.winnow_core.specs.Ends.{fewer_tokens, same_units, units_fall}
 use Rattle.winnow_repeat.specs.Room.{no_room, room_behind_more, room_behind_none, some_room}
 use Rattle.std.proofs.Common.{rules, arith, length, ◌<◌, ◌≡◌, []}
 use Rattle.std.proofs.Common.{◌∷◌, ◌++◌, length-append}

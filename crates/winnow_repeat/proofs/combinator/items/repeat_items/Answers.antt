@@ -1,5 +1,4 @@
-use Rattle.winnow_core.specs.Ends.{same_units}
-use Rattle.winnow_repeat.specs.Consumed.{fewer_tokens}
+use Rattle.winnow_core.specs.Ends.{fewer_tokens, same_units}
 use Rattle.winnow_repeat.specs.Room.{room_behind_more, room_behind_none, some_room}
 use Rattle.std.proofs.Common.{rules, arith, inl, inr, [], ◌∷◌, ◌++◌, length-append}
 use Rattle.streams.specs.Input.{is_end_of_refl, is_end_of_trans}
@@ -44,3 +43,6 @@ items-preserved g c =
       is_end_of_trans c.in-Ok.ensures.ends inv.4,
       c.in-Ok.ensures.again,
     )
+
+pub returns-then-is_backtrack-clause-ran : goal.returns-then-is_backtrack-clause-ran
+returns-then-is_backtrack-clause-ran g c = search rules depth 1

@@ -1,5 +1,4 @@
-use Rattle.winnow_core.specs.Ends.{same_units}
-use Rattle.winnow_repeat.specs.Consumed.{fewer_tokens}
+use Rattle.winnow_core.specs.Ends.{fewer_tokens, same_units}
 use Rattle.winnow_repeat.specs.Room.{no_room, room_behind_more, room_behind_none, some_room}
 use Rattle.std.proofs.Common.{rules, arith, inl, inr, refl, Ok, Err, [], ◌∷◌, ◌++◌, length-append}
 use Rattle.streams.specs.Input.{is_end_of_refl, is_end_of_trans}

@@ -1,6 +1,6 @@
 use Rattle.std.proofs.Common.{rules, refl, inl, inr, arith, sym, ◌∙◌}
 use Rattle.streams.specs.Reading.{units-zero}
-use Rattle.winnow_core.specs.Ends.{same_units}
+use Rattle.winnow_core.specs.Ends.{fewer_tokens, same_units}
 use Rattle.winnow_core.specs.ParseIter.Laws.{nothing_to_read, reads_unread, some_to_read}
 use Rattle.winnow_core.specs.ParseIter.Laws.{reached_remains}
 use Rattle.winnow_core.proofs.combinator.impls.parse_iter.ParseIter.run.Goals as goal
@@ -62,3 +62,20 @@ returns-in-Err-clause-ran g c =
       refl,
       search rules depth 1,
     ))
+
+pub returns-else-eof_offset-left-clause-ran : goal.returns-else-eof_offset-left-clause-ran
+returns-else-eof_offset-left-clause-ran g c =
+    let on = reads_unread g.I.Stream.view g.I.Stream.seen {unread = c.args.self.now.unread}
+    {u = c.in-Some.field-0} (search rules depth 1) in
+    let fewer = fewer_tokens g.I.Stream.reading _ _ c.in-Ok.ensures.ends
+    (λ e. absurd (omega (arith, e))) in
+    inl (
+      g.I.Stream.seen c.in-Some.field-0.start,
+      g.I.Stream.view c.in-Some.field-0.input,
+      g.I.Stream.view c.parse_next.new.input,
+      c.in-Ok.output,
+      on,
+      (c.in-Ok.ensures.ran, fewer),
+      refl,
+      refl,
+    )

@@ -10,3 +10,6 @@ returns-then-eof_offset-left-clause-ran g c =
       inr (inr (c.in-Ok.output, c.in-Ok.ensures.ran, same, search rules depth 1)),
       refl,
     ))
+
+pub returns-clause-ran : goal.returns-clause-ran
+returns-clause-ran g c = search rules depth 1
