@@ -8,7 +8,8 @@ use Rattle.winnow.specs.Bytes.{bytes_reading}
 use Rattle.winnow.specs.Form.{Answer}
 use Rattle.std.specs.Str.{IsUtf8}
 use Rattle.readers.specs.Pair.{IsKeyByte}
-use Rattle.readers.specs.Document.{IsBlank, IsValueByte, IsTrailing, NotFirst, NotLast, Part}
+use Rattle.readers.specs.Document.{IsBlank, IsNameByte, IsValueByte, IsTrailing, NotFirst, NotLast}
+use Rattle.readers.specs.Document.{Part}
 use Rattle.readers.specs.Document.{PairBytes, white, comment, section, pair, Begins, BeginsWith}
 use Rattle.readers.specs.Document.{BeginsDocument, NoPairBeforeSections, SectionText, pairs_of}
 use Rattle.readers.specs.Document.{sections_of, NoSectionBegins, NoPairBegins, SectionBegins}
@@ -63,6 +64,19 @@ CommentRuns i answer j = IsEndOf bytes_reading j i × (
     ((text : List ℕ) × Begins (comment text) i.left.tokens j.left.tokens × (answer ≡ Ok tt))
     -- no `;` does
     ⊎ (NotFirst (λ b. b ≡ 59) i.left.tokens × (answer ≡ Err backtrack)))
+
+-- A run of the reader of the bytes of a name in brackets.
+abbrev pub BracketsRuns : Input ℕ → Answer (Bor (List ℕ)) → Input ℕ → Type 0
+BracketsRuns i answer j = IsEndOf bytes_reading j i × (
+    -- `[`, the bytes of a name, as many as there are, and `]`
+    ((name : Bor (List ℕ)) × (a : List ℕ) × (i.left.tokens ≡ 91 ∷ a)
+    × IsFront IsNameByte a name.now (93 ∷ j.left.tokens) × (answer ≡ Ok name))
+    -- no `[` stands first
+    ⊎ ((((rest : List ℕ) → i.left.tokens ≡ 91 ∷ rest → ⊥) × (answer ≡ Err backtrack))
+    -- no `]` stands behind them
+    ⊎ ((name : List ℕ) × (a : List ℕ) × (b : List ℕ) × (i.left.tokens ≡ 91 ∷ a)
+    × IsFront IsNameByte a name b × ((rest : List ℕ) → b ≡ 93 ∷ rest → ⊥)
+    × (answer ≡ Err backtrack))))
 
 -- A run of the reader of a section's name.
 abbrev pub CategoryRuns : Input ℕ → Answer (Bor (List ℕ)) → Input ℕ → Type 0

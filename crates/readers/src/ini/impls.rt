@@ -1,9 +1,9 @@
 //! The parsers of a document's parts, as structs.
 ghost use Rattle.std.specs.Prelude.{⊤, ◌≡◌};
-ghost use Rattle.readers.specs.DocumentRuns.{CategoryRuns, CommentRuns, GapRuns, KeyRuns};
-ghost use Rattle.readers.specs.DocumentRuns.{KeyValueRuns, MarkRuns, ValueRuns};
+ghost use Rattle.readers.specs.DocumentRuns.{BracketsRuns, CategoryRuns, CommentRuns, GapRuns};
+ghost use Rattle.readers.specs.DocumentRuns.{KeyRuns, KeyValueRuns, MarkRuns, ValueRuns};
 
-use crate::ini::parts::{category, comment, gap, key, key_value, mark, value};
+use crate::ini::parts::{brackets, category, comment, gap, key, key_value, mark, value};
 use std::alloc::Allocator;
 use winnow::Parser;
 use winnow::error::{ErrMode, InputError};
@@ -55,6 +55,28 @@ impl<'i> Parser<&'i [u8], (&'i str, &'i str), ErrMode<InputError<&'i [u8]>>> for
         input: &mut &'i [u8],
     ) -> Result<(&'i str, &'i str), ErrMode<InputError<&'i [u8]>>> {
         key_value(input)
+    }
+}
+
+/// The parser of the bytes of a section's name, in brackets.
+#[derive(Clone, Copy)]
+pub(super) struct Brackets;
+
+impl<'i> Parser<&'i [u8], &'i [u8], ErrMode<InputError<&'i [u8]>>> for Brackets {
+    ghost State = { ⊤ };
+
+    ghost state = { λ _. tt };
+
+    ghost meaning = { λ _ _ i answer _ j. BracketsRuns i answer j };
+
+    ghost leaves_ends = { λ form s i answer t j r. r.0 };
+
+    #[inline(always)]
+    fn parse_next(
+        &mut self,
+        input: &mut &'i [u8],
+    ) -> Result<&'i [u8], ErrMode<InputError<&'i [u8]>>> {
+        brackets(input)
     }
 }
 

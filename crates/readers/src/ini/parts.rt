@@ -5,10 +5,11 @@ ghost use Rattle.winnow.specs.Bytes.{bytes_input, bytes_reading};
 ghost use Rattle.winnow.specs.Form.{answer_by};
 ghost use Rattle.winnow.specs.Input.{IsEndOf};
 ghost use Rattle.readers.specs.Document.{IsCommentByte, IsValueByte};
-ghost use Rattle.readers.specs.DocumentRuns.{CategoryRuns, CommentRuns, GapRuns, IsFront, KeyRuns};
+ghost use Rattle.readers.specs.DocumentRuns.{BracketsRuns, CategoryRuns, CommentRuns, GapRuns};
+ghost use Rattle.readers.specs.DocumentRuns.{IsFront, KeyRuns};
 ghost use Rattle.readers.specs.DocumentRuns.{KeyValueRuns, MarkRuns, ValueRuns, IsWithoutTrailing};
 
-use crate::ini::impls::{Comment, Key, Mark, Value};
+use crate::ini::impls::{Brackets, Comment, Key, Mark, Value};
 use std::alloc::Allocator;
 use std::str;
 use winnow::Parser;
@@ -48,6 +49,23 @@ fn value_text(bytes: &[u8]) -> Option<&str>
     text(without_trailing(bytes))
 }
 
+/// The bytes of a section's name, between `[` and `]`.
+pub(super) fn brackets<'i>(input: &mut &'i [u8]) -> Result<&'i [u8], ErrMode<InputError<&'i [u8]>>>
+    ensures { BracketsRuns (bytes_input input.old.now)
+        (answer_by ⟦<ErrMode<InputError<&'i [u8]>> as HasKind>⟧.kind result)
+        (bytes_input input.new.now) }
+{
+    let mut name = delimited(
+        b'[',
+        take_while(Range::from(0..), Pred(|b: u8| b != b']' && b != b'\n')),
+        b']',
+    );
+    match name.parse_next(input) {
+        Ok(name) => Ok(name),
+        Err(error) => Err(error),
+    }
+}
+
 /// The name of a section: `[`, bytes other than `]` and a line feed, `]`. The name is UTF-8, may be
 /// empty, and is a slice of the input; what follows `]` is left.
 ///
@@ -66,13 +84,7 @@ pub fn category<'i>(input: &mut &'i [u8]) -> Result<&'i str, ErrMode<InputError<
         (bytes_input input.new.now) }
 {
     let at_name = *input;
-    let mut name = delimited(
-        b'[',
-        take_while(Range::from(0..), Pred(|b: u8| b != b']' && b != b'\n')),
-        b']',
-    )
-    .verify_map(text);
-    match name.parse_next(input) {
+    match Brackets.verify_map(text).parse_next(input) {
         Ok(name) => Ok(name),
         Err(error) => {
             *input = at_name;
