@@ -52,7 +52,8 @@ returns-in-Err c =
       | inr (inr (k, (ends, inl (name, a, begins, front, is)), same, e)) ↦ ok_is_err is refl
       | inr (inr (k, (ends, inr (inl (none, is))), same, e)) ↦
           (is_end_of_refl bytes_reading _, inr (no_open _ none, refl, e ∙ is))
-      | inr (inr (k, (ends, inr (inr (name, a, b, begins, front, none, is))), same, e)) ↦
-          (is_end_of_refl bytes_reading _,
-                inr (no_close _ a name b begins front none, refl, e ∙ is))
+      | inr (inr (k, (ends, inr (inr (name, a, b, begins, front, none, is))), same, e)) ↦ (
+        is_end_of_refl bytes_reading _,
+        inr (no_close _ a name b begins front none, refl, e ∙ is),
+      )
     ]
