@@ -1,8 +1,10 @@
 //! Slices that are seen as bytes.
-ghost use Rattle.std.specs.Prelude.{◌≡◌, ◌<◌, ℕ, List, [], ◌∷◌, ◌++◌, refl};
+ghost use Rattle.std.specs.Prelude.{◌≡◌, ◌<◌, ℕ, List, [], ◌∷◌, ◌++◌, length, refl};
 ghost use Rattle.std.specs.Str.{encode_utf8_all};
+ghost use Rattle.std.proofs.Common.{sym};
 ghost use Rattle.std.proofs.lemmas.Str.{encodes-append};
-ghost use Rattle.stream_sets.specs.AsBStr.{encodes_ascii};
+ghost use Rattle.stream_sets.specs.AsBStr.{FirstByte, encodes_ascii, own_first, utf8_first};
+ghost use Rattle.streams.specs.Text.{length_encodes};
 
 use crate::as_char::AsChar;
 use streams::locating::LocatingSlice;
@@ -69,6 +71,13 @@ where
     ghost ascii_byte: { (token : Self.Token) → Self.Token.code token < 128
         → bytes_of (Self.seen_as token ∷ []) ≡ Self.Token.code token ∷ [] };
 
+    // The bytes of a token begin with one that says whether it is an ASCII character, and which.
+    ghost first_byte: { (seen : Self.Seen) → FirstByte Self.seen_as Self.Token.code bytes_of seen };
+
+    // Units are bytes.
+    ghost units_bytes: { (tokens : List Self.Seen)
+        → Self.reading.units tokens ≡ length (bytes_of tokens) };
+
     // Tokens that are seen alike are one character.
     ghost one_code: { (token other : Self.Token) → Self.seen_as token ≡ Self.seen_as other
         → Self.Token.code token ≡ Self.Token.code other };
@@ -83,6 +92,10 @@ impl<'a> SlicesAsBytes for &'a [u8] {
 
     ghost ascii_byte = { λ token small. refl };
 
+    ghost first_byte = { own_first };
+
+    ghost units_bytes = { λ tokens. refl };
+
     ghost one_code = { λ token other same. same };
 }
 
@@ -94,6 +107,10 @@ impl<'a> SlicesAsBytes for &'a str {
     ghost bytes_add = { encodes-append };
 
     ghost ascii_byte = { encodes_ascii };
+
+    ghost first_byte = { utf8_first };
+
+    ghost units_bytes = { λ tokens. sym (length_encodes tokens) };
 
     ghost one_code = { λ token other same. same };
 }
@@ -111,6 +128,10 @@ where
 
     ghost ascii_byte = { I.ascii_byte };
 
+    ghost first_byte = { I.first_byte };
+
+    ghost units_bytes = { I.units_bytes };
+
     ghost one_code = { I.one_code };
 }
 
@@ -126,6 +147,10 @@ where
     ghost bytes_add = { I.bytes_add };
 
     ghost ascii_byte = { I.ascii_byte };
+
+    ghost first_byte = { I.first_byte };
+
+    ghost units_bytes = { I.units_bytes };
 
     ghost one_code = { I.one_code };
 }
