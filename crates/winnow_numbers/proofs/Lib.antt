@@ -1,5 +1,8 @@
 mod DecimalLemmas
 mod DecimalRuns
 mod DigitLemmas
+mod FirstLemmas
+mod FirstNumeral
 mod HexLemmas
+mod LaneLemmas
 mod NumeralLemmas

@@ -4,5 +4,6 @@ pub mod Decimal
 pub mod DecimalText
 pub mod Digits
 pub mod HexUint
+pub mod Lanes
 pub mod NumberLaws
 pub mod Numeral

@@ -5,6 +5,7 @@ mod digits;
 mod hex;
 pub mod impls;
 mod int;
+mod lanes;
 mod numeral;
 mod uint;
 

@@ -1,10 +1,13 @@
-//! The numbers of short numerals, in one pass over their tokens.
-ghost use Rattle.std.specs.Prelude.{◌≡◌, ◌≤◌, ◌-◌, IfSome, ℕ, List, true};
+//! The numbers of short numerals.
+ghost use Rattle.std.specs.Prelude.{◌≡◌, ◌≤◌, ◌-◌, IfSome, ℕ, List, length, true};
 ghost use Rattle.stream_sets.specs.AsChar.{IsDecDigit};
 ghost use Rattle.streams.specs.Input.{IsEndOf};
 ghost use Rattle.winnow_numbers.specs.Digits.{value_in};
+ghost use Rattle.winnow_numbers.specs.Lanes.{BeginsNumeral};
 ghost use Rattle.winnow_numbers.specs.Numeral.{DigitsRuns};
 
+use crate::ascii::lanes::first_numeral;
+use stream_sets::as_bstr::{AsBStr, SlicesAsBytes};
 use stream_sets::as_char::AsChar;
 use streams::stream::StreamIsPartial;
 
@@ -15,7 +18,46 @@ const MOST: u64 = 1_844_674_407_370_955_160;
 /// and stand anywhere, where there is none, where it has many digits, or where a cut input ends in
 /// it.
 #[inline(always)]
-pub(crate) fn small_numeral<I: StreamIsPartial>(input: &mut I) -> Option<u64>
+pub(crate) fn small_numeral<I: StreamIsPartial + SlicesAsBytes>(input: &mut I) -> Option<u64>
+where
+    I::Token: AsChar,
+    I::Slice: AsBStr,
+    ensures ran { IfSome result (λ number. (digits : List ℕ)
+        × DigitsRuns I.seen_as I.Token.code I.reading true (I.view input.old) digits
+        (I.view input.new) × (number ≡ value_in 10 digits)) }
+    ensures status { (I.view input.new).status ≡ (I.view input.old).status }
+    ensures ends { IsEndOf I.reading (I.view input.new) (I.view input.old) }
+{
+    match numeral_left(input) {
+        Some((length, number)) => {
+            input.next_slice(length);
+            Some(number)
+        }
+        None => numeral_by_tokens(input),
+    }
+}
+
+/// How many bytes the digits of the numeral that stands first are, and its number. It may answer
+/// none; nothing is consumed.
+#[inline(always)]
+fn numeral_left<I: StreamIsPartial + SlicesAsBytes>(input: &mut I) -> Option<(usize, u64)>
+where
+    I::Token: AsChar,
+    I::Slice: AsBStr,
+    ensures begins { IfSome result (λ found. (digits rest : List ℕ)
+        × BeginsNumeral (I.bytes_of (I.view input.old).left.tokens) digits rest
+        × (found.0 ≡ length digits) × (found.1 ≡ value_in 10 digits)) }
+    ensures same { I.view input.new ≡ I.view input.old }
+{
+    let start = input.checkpoint();
+    let left = input.finish();
+    input.reset(&start);
+    first_numeral(left.as_bstr())
+}
+
+/// The same as [`small_numeral`], in one pass over the tokens.
+#[inline(always)]
+fn numeral_by_tokens<I: StreamIsPartial>(input: &mut I) -> Option<u64>
 where
     I::Token: AsChar,
     ensures ran { IfSome result (λ number. (digits : List ℕ)

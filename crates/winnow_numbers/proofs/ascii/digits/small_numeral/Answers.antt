@@ -1,53 +1,25 @@
-use Rattle.std.proofs.Common.{arith, inl, refl, sym, ◌∙◌}
-use Rattle.winnow_numbers.proofs.DigitLemmas.{begun_ended, begun_more, begun_one, begun_stopped}
-use Rattle.winnow_numbers.proofs.DigitLemmas.{passes_fewer}
+use Rattle.winnow_numbers.proofs.FirstNumeral.{bounded, numeral_ran, numeral_status}
 use Rattle.winnow_numbers.proofs.ascii.digits.small_numeral.Goals as goal
 
-pub returns-in-0-clause-ran : goal.returns-in-0-clause-ran
-returns-in-0-clause-ran g c = (
-  _,
-  inl (
-    c.in_ok-next_token.field-0,
-    refl,
-    sym c.as_char.ensures ∙ c.in-0.is,
-    c.in_ok-next_token.ensures.passes,
-    refl,
-  ),
-  refl,
-)
+pub next_slice-requires : goal.next_slice-requires
+next_slice-requires g c =
+    bounded g.I.Stream.seen_as g.I.Token.AsChar.code g.I.Stream.reading
+    g.I.SlicesAsBytes.bytes_of g.I.SlicesAsBytes.bytes_add g.met.I.SlicesAsBytes.ascii_byte
+    g.met.I.SlicesAsBytes.first_byte g.met.I.SlicesAsBytes.units_bytes
+    _ _ c.in-Some.length c.in-Some.number c.in-Some.ensures.same c.in-Some.ensures.begins
 
-pub loop-token-init : goal.loop-token-init
-loop-token-init g c =
-    begun_one g.I.Stream.seen_as g.I.Token.AsChar.code g.I.Stream.reading _ _
-    c.in_ok-next_token.field-0 _ c.as_char.ensures
-    (omega (arith, c.as_char.ensures, c.in-1-to-9), omega (arith, c.as_char.ensures, c.in-1-to-9))
-    c.in_ok-next_token.ensures.passes
+pub returns-in-Some-clause-ran : goal.returns-in-Some-clause-ran
+returns-in-Some-clause-ran g c =
+    numeral_ran g.I.Stream.seen_as g.I.Token.AsChar.code g.I.Stream.reading
+    g.I.SlicesAsBytes.bytes_of g.I.SlicesAsBytes.bytes_add g.met.I.SlicesAsBytes.ascii_byte
+    g.met.I.SlicesAsBytes.first_byte g.met.I.SlicesAsBytes.units_bytes
+    _ _ _ _ c.in-Some.length c.in-Some.number c.in-Some.ensures.same
+    c.in-Some.ensures.begins c.next_slice.ensures.cuts
 
-pub returns-in-None-2-clause-ran : goal.returns-in-None-2-clause-ran
-returns-in-None-2-clause-ran g c =
-    begun_ended g.I.Stream.seen_as g.I.Token.AsChar.code g.I.Stream.reading _ _ _ _ _
-    c.loop-token.invariant c.in-None.ensures.passes.0 c.in-None.ensures.passes.1
-    c.is_partial.ensures c.if-is_partial.false
-
-pub returns-then-digit-gt9-clause-ran : goal.returns-then-digit-gt9-clause-ran
-returns-then-digit-gt9-clause-ran g c =
-    begun_stopped g.I.Stream.seen_as g.I.Token.AsChar.code g.I.Stream.reading _ _ _ _ _
-    c.in-Some.token _ _ c.loop-token.invariant c.in-Some.ensures.passes
-    c.as_char-in-Some.ensures (λ is. absurd (omega (
-      arith,
-      is,
-      c.digit_of-digit.ensures.value is,
-      c.if-digit-gt9.true,
-    ))) c.checkpoint-behind.ensures c.reset.ensures
-
-pub loop-token-smaller : goal.loop-token-smaller
-loop-token-smaller g c =
-    passes_fewer g.I.Stream.seen_as g.I.Token.AsChar.code g.I.Stream.reading _ _ _
-    c.in-Some.ensures.passes
-
-pub loop-token-preserved : goal.loop-token-preserved
-loop-token-preserved g c =
-    let is = c.digit_of-digit.ensures.digit c.if-digit-gt9.false in
-    begun_more g.I.Stream.seen_as g.I.Token.AsChar.code g.I.Stream.reading _ _ _ _
-    c.in-Some.token _ _ c.loop-token.invariant c.as_char-in-Some.ensures is
-    (c.from.ensures ∙ c.digit_of-digit.ensures.value is) c.in-Some.ensures.passes
+pub returns-in-Some-clause-status : goal.returns-in-Some-clause-status
+returns-in-Some-clause-status g c =
+    numeral_status g.I.Stream.seen_as g.I.Token.AsChar.code g.I.Stream.reading
+    g.I.SlicesAsBytes.bytes_of g.I.SlicesAsBytes.bytes_add g.met.I.SlicesAsBytes.ascii_byte
+    g.met.I.SlicesAsBytes.first_byte g.met.I.SlicesAsBytes.units_bytes
+    _ _ _ _ c.in-Some.length c.in-Some.number c.in-Some.ensures.same
+    c.in-Some.ensures.begins c.next_slice.ensures.cuts

@@ -1,5 +1,5 @@
 use Rattle.winnow_numbers.proofs.DigitLemmas.{Begun}
-use Rattle.winnow_numbers.proofs.ascii.digits.small_numeral.Given as goal
+use Rattle.winnow_numbers.proofs.ascii.digits.numeral_by_tokens.Given as goal
 
 abbrev pub invariant-loop-token : goal.invariant-loop-token
 invariant-loop-token g l =
