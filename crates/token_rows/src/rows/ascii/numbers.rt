@@ -46,7 +46,7 @@ where
 }
 
 /// What `dec_uint` of a byte answers.
-fn dec_uint_answers() -> [Answer<u8>; 9] {
+fn dec_uint_answers() -> [Answer<u8>; 14] {
     [
         ("0", Ok(0), ""),
         ("01", Ok(0), "1"),
@@ -57,6 +57,24 @@ fn dec_uint_answers() -> [Answer<u8>; 9] {
         ("+1", Err(Backtrack), "+1"),
         ("", Err(Backtrack), ""),
         ("٣", Err(Backtrack), "٣"),
+        ("7,8,9,10,11,12,13", Ok(7), ",8,9,10,11,12,13"),
+        ("255:255:255:255:255", Ok(255), ":255:255:255:255"),
+        ("256/256/256/256/256", Err(Backtrack), "256/256/256/256/256"),
+        ("0800 is not octal", Ok(0), "800 is not octal"),
+        ("12é has an accent", Ok(12), "é has an accent"),
+    ]
+}
+
+/// What `dec_uint` of 64 bits answers where 16 bytes and more are there.
+fn dec_uint_long_answers() -> [Answer<u64>; 7] {
+    [
+        ("1;00000000000000", Ok(1), ";00000000000000"),
+        ("12345678;12345678", Ok(12_345_678), ";12345678"),
+        ("987654321012345;", Ok(987_654_321_012_345), ";"),
+        ("999999999999999:", Ok(999_999_999_999_999), ":"),
+        ("9876543210123456;", Ok(9_876_543_210_123_456), ";"),
+        ("1000000000000000000000", Err(Backtrack), "1000000000000000000000"),
+        ("+123456789012345", Err(Backtrack), "+123456789012345"),
     ]
 }
 
@@ -67,6 +85,9 @@ where
 {
     for (text, want, rest) in dec_uint_answers() {
         answers::<I, u8, E, _>(rt, "dec_uint", DecUint, text, want, rest);
+    }
+    for (text, want, rest) in dec_uint_long_answers() {
+        answers::<I, u64, E, _>(rt, "dec_uint", DecUint, text, want, rest);
     }
     let most = "18446744073709551615";
     answers::<I, u64, E, _>(rt, "dec_uint", DecUint, most, Ok(u64::MAX), "");
@@ -130,7 +151,7 @@ where
 }
 
 /// How `dec_uint` of a byte ends.
-fn dec_uint_endings() -> [Row; 11] {
+fn dec_uint_endings() -> [Row; 12] {
     [
         ("", BACKTRACKS, lacks(1)),
         ("0", Takes(1), Takes(1)),
@@ -141,6 +162,7 @@ fn dec_uint_endings() -> [Row; 11] {
         ("255", Takes(3), stops(1)),
         ("999", BACKTRACKS, stops(1)),
         ("999;", BACKTRACKS, BACKTRACKS),
+        ("128; and so forth", Takes(3), Takes(3)),
         ("+1", BACKTRACKS, BACKTRACKS),
         (";", BACKTRACKS, BACKTRACKS),
     ]
