@@ -55,7 +55,7 @@ ends_at (x ∷ xs) some = by (cases_lt 9 x) (λ more. ends_at xs more)
     by (inl above) ends =
         let more = prefix_len (λ y. not (ltb 9 y)) xs in
         let none : prefix_len (λ y. not (ltb 9 y)) (x ∷ xs) ≡ 0 =
-            ap {B = ℕ} (λ b. cond (not b) (1 + more) 0) (lt-ltb 9 x above) in
+        ap {B = ℕ} (λ b. cond (not b) (1 + more) 0) (lt-ltb 9 x above) in
         ([], x, xs, refl, sym none, tt, above)
     by (inr most) ends =
         let is = le-ltb 9 x most in
