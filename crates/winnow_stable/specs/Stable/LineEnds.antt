@@ -1,0 +1,155 @@
+-- What stands before a line end is stable.
+use Rattle.std.specs.Prelude.{◌≡◌, ℕ, Bool, true, List, [], ◌∷◌, ◌++◌, length}
+use Rattle.std.specs.Prelude.{Err}
+use Rattle.std.specs.Borrow.{Bor}
+use Rattle.std.proofs.Common.{refl, sym, ap, subst, inl, inr, ◌∙◌, append_assoc, arith}
+use Rattle.std.proofs.Common.{length-append}
+use Rattle.streams.specs.Equal.{same_rest}
+use Rattle.streams.specs.Input.{Input, Takes, with_more}
+use Rattle.streams.specs.Kind.{backtrack}
+use Rattle.streams.specs.Reading.{Reading}
+use Rattle.stream_errors.specs.Form.{modal}
+use Rattle.stream_searches.specs.Compare.{StandsFirst, IsShort}
+use Rattle.stream_searches.specs.FirstMatch.{StaysFirst}
+use Rattle.winnow_ascii.specs.Crlf.{CrlfRuns}
+use Rattle.winnow_ascii.specs.LineEnding.{LineEndingRuns}
+use Rattle.winnow_ascii.specs.Crlf.Known.{SpellsAscii, return_ascii}
+use Rattle.winnow_ascii.specs.TillLineEnding.Known.{SeeksEnds}
+use Rattle.winnow_ascii.specs.TillLineEnding.{LineRuns, TillLineEndingRuns}
+use Rattle.winnow_stable.specs.Stable.Leaves.{literal_stays, match_more, still_not_first}
+use Rattle.winnow_stable.specs.Stable.Leaves.{still_not_short}
+use Rattle.winnow_stable.specs.Stable.Longer.{passes_cut, takes_more, short_final}
+use Rattle.winnow_stable.specs.Stable.Grows.{Stays, final_by}
+
+module _ {T L : Type 0} (spells : Bor (List ℕ) → List T → Type 0) (reading : Reading T L) where
+  pub crlf_stays : Stays (CrlfRuns spells reading modal)
+  crlf_stays more flag i answer j is_cut final (text, is, r) =
+      let q = literal_stays reading (spells text) (λ slice. slice) more flag i answer j is_cut
+      final r
+      in (text, is, q)
+
+  pub line_ending_stays : Stays (LineEndingRuns spells reading modal)
+  line_ending_stays more flag i answer j is_cut final (inl (text, is, r, other)) =
+      let q = literal_stays reading (spells text) (λ slice. slice) more flag i answer j is_cut
+      final r
+      in inl (text, is, q, other)
+  line_ending_stays more flag i answer j is_cut final (inr (text, is, r, both)) =
+      let q =
+      literal_stays reading (spells text) (λ slice. slice) more flag i (Err backtrack) i is_cut tt r
+      in inr (text, is, q, crlf_stays more flag i answer j is_cut final both)
+
+-- The two characters that end a line are not sought by an empty list.
+abbrev pub SeeksSome : {T : Type 0} → (ℕ × ℕ → List T → Type 0) → Type 0
+SeeksSome {T} sought = (xs : List T) → sought (13, 10) xs → xs ≡ [] → ⊥
+
+-- A text of a carriage return stands for one token.
+abbrev pub SpellsOne : {T : Type 0} → (Bor (List ℕ) → List T → Type 0) → Type 0
+SpellsOne {T} spells =
+    (text : Bor (List ℕ)) (xs : List T) → text.now ≡ 13 ∷ [] → spells text xs → length xs ≡ 1
+
+-- a list that more stand behind stands first still
+stands_more : {T : Type 0} (spelled : List T → Type 0) (tokens more : List T)
+    → StandsFirst spelled tokens → StandsFirst spelled (tokens ++ more)
+stands_more spelled tokens more (front, rest, is, splits) =
+    (front, rest ++ more, is, ap (λ l. l ++ more) splits ∙ append_assoc front rest more)
+
+nothing_first : {T : Type 0} (xs ys : List T) → xs ++ ys ≡ [] → xs ≡ []
+nothing_first [] ys e = refl
+nothing_first (x ∷ xs) ys e = absurd (cc)
+
+module _ {T L : Type 0} (spells : Bor (List ℕ) → List T → Type 0)
+    (sought : ℕ × ℕ → List T → Type 0) (reading : Reading T L)
+    (stays_first : StaysFirst reading.units (sought (13, 10))) (some : SeeksSome sought)
+    (one : SpellsOne spells) where
+  line_cut : (i : Input T) (slice : L) (j : Input T) → i.status.cut ≡ true
+      → LineRuns sought reading modal i slice j → j.status.cut ≡ true
+  line_cut i slice j is_cut (inl (start, end, m, takes)) = passes_cut takes.passed is_cut
+  line_cut i slice j is_cut (inr (none, short, takes, nothing)) = short_final i is_cut short tt
+
+  line_some : (i : Input T) (slice : L) (j : Input T) → i.status.cut ≡ true
+      → LineRuns sought reading modal i slice j → j.left.tokens ≡ [] → ⊥
+  line_some i slice j is_cut (inl (start, end, m, takes)) nothing =
+      let same = same_rest m.front (m.found ++ m.rest) j.left.tokens
+      (sym m.stands.splits ∙ takes.passed.tokens) in
+      some m.found m.stands.is (nothing_first m.found m.rest (same ∙ nothing))
+  line_some i slice j is_cut (inr (none, short, takes, empty)) nothing =
+      short_final i is_cut short tt
+
+  line_more : (more : List T) (flag : Bool) (i : Input T) (slice : L) (j : Input T)
+      → i.status.cut ≡ true → LineRuns sought reading modal i slice j
+      → LineRuns sought reading modal (with_more i more flag) slice (with_more j more flag)
+  line_more more flag i slice j is_cut (inl (start, end, m, takes)) =
+      let (n, front) =
+      match_more reading (sought (13, 10)) stays_first i.left.tokens more start end m in
+      let Taken : List T → Type 0 =
+      λ l. Takes reading l (with_more i more flag) slice (with_more j more flag) in
+      inl (start, end, n, subst Taken front (takes_more more flag takes))
+  line_more more flag i slice j is_cut (inr (none, short, takes, nothing)) =
+      short_final i is_cut short tt
+
+  -- where something is left, it is not a proper beginning of one token
+  not_short : (text : Bor (List ℕ)) → text.now ≡ 13 ∷ [] → (tokens : List T)
+      → (tokens ≡ [] → ⊥) → IsShort (spells text) tokens → ⊥
+  not_short text is [] there short = there refl
+  not_short text is (t ∷ ts) there (x, others, spelled) =
+      absurd (omega (
+        arith,
+        one text (t ∷ (ts ++ x ∷ others)) is spelled,
+        length-append ts (x ∷ others),
+      ))
+
+  pub till_line_ending_stays : Stays (TillLineEndingRuns spells sought reading modal)
+  till_line_ending_stays more flag i answer j is_cut final
+      (inl (slice, return, is, line, none, e)) =
+      let short = not_short return is j.left.tokens (line_some i slice j is_cut line) in
+      inl (
+        slice,
+        return,
+        is,
+        line_more more flag i slice j is_cut line,
+        still_not_first (spells return) j.left.tokens more none short,
+        e,
+      )
+  till_line_ending_stays more flag i answer j is_cut final
+      (inr (inl (slice, both, is, line, stands, e))) =
+      inr (inl (
+        slice,
+        both,
+        is,
+        line_more more flag i slice j is_cut line,
+        stands_more (spells both) j.left.tokens more stands,
+        e,
+      ))
+  till_line_ending_stays more flag i answer j is_cut final
+      (inr (inr (inl (slice, return, both, k, is, are, line, first, lacks, none, short, e)))) =
+      short_final j (line_cut i slice j is_cut line) short (final_by (Err k) e final)
+  till_line_ending_stays more flag i answer j is_cut final
+      (inr (inr (inr (inl (slice, return, both, is, are, line, first, lacks, none, e))))) =
+      inr (inr (inr (inl (
+        slice,
+        return,
+        both,
+        is,
+        are,
+        line_more more flag i slice j is_cut line,
+        stands_more (spells return) j.left.tokens more first,
+        (λ short. absurd (still_not_short (spells both) j.left.tokens more lacks short)),
+        still_not_first (spells both) j.left.tokens more none lacks,
+        e,
+      ))))
+  till_line_ending_stays more flag i answer j is_cut final
+      (inr (inr (inr (inr (k, (none, short, other, same), e))))) =
+      short_final i is_cut short (final_by (Err k) e final)
+
+-- over bytes and over text they are so
+pub seeks_some : {sought : ℕ × ℕ → List ℕ → Type 0} → SeeksEnds sought → SeeksSome sought
+seeks_some seeks xs is nothing =
+    let (c, ends, one) = seeks.list xs is in absurd (some_is_none (sym one ∙ nothing))
+  where
+    some_is_none : {x : ℕ} {xs : List ℕ} → x ∷ xs ≡ [] → ⊥
+    some_is_none e = absurd (cc)
+
+pub spells_one : {spells : Bor (List ℕ) → List ℕ → Type 0} → SpellsAscii spells
+    → SpellsOne spells
+spells_one spells text xs is spelled =
+    ap (λ l. length l) (spells.list text (13 ∷ []) xs return_ascii is spelled)

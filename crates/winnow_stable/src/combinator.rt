@@ -1,0 +1,2 @@
+//! An adapter of stable parsers.
+pub mod impls;
