@@ -1,0 +1,21 @@
+-- A length, and so many tokens.
+use Rattle.std.specs.Prelude.{ℕ, Bool, ⊤}
+use Rattle.streams.specs.Reading.{Reading}
+use Rattle.stream_errors.specs.Form.{ErrorForm}
+use Rattle.winnow_binary.specs.Length.{LengthRuns}
+use Rattle.winnow_binary.specs.declared.binary.impls.length_take.LengthTake.{LengthTake}
+use Rattle.winnow_core.specs.Runs.{Keeps, Runs}
+use Rattle.winnow_token.specs.Take.{TakeRuns}
+pub mod Laws
+pub mod Reads
+
+-- the parser of the length
+abbrev pub length_take_count : {P I N E : Type 0} → LengthTake P I N E → P
+length_take_count s = s.count
+
+-- A run of the parser of a length, and a take of so many tokens.
+abbrev pub LengthTakeRuns : {S T N L : Type 0} → (N → ℕ) → Reading T L → ErrorForm → Bool
+    → Runs S T N → Runs S T L
+LengthTakeRuns number reading form counts count s i answer t j =
+    LengthRuns number count (λ n. Keeps {S = ⊤} (λ _. TakeRuns reading form counts n)) (s, tt) i
+    answer (t, tt) j

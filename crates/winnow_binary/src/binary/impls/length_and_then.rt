@@ -1,0 +1,128 @@
+//! A length, and a parser of so many tokens.
+
+ghost use Rattle.stream_errors.specs.Form.{answer_by};
+ghost use Rattle.streams.specs.Input.{IsEndOf};
+ghost use Rattle.winnow_binary.specs.LengthAndThen.{LengthAndThenRuns, TakenRuns};
+ghost use Rattle.winnow_binary.specs.LengthAndThen.Laws.{length_and_then_agrees};
+ghost use Rattle.winnow_binary.specs.LengthAndThen.Laws.{length_and_then_ends};
+ghost use Rattle.winnow_core.specs.CompleteErr.{CompleteErrRuns};
+
+use std::marker::PhantomData;
+use stream_errors::parser_error::ParserError;
+use stream_sets::numbers::ToUsize;
+use streams::reads_like::ReadsLike;
+use streams::stream::{Stream, StreamIsPartial, UpdateSlice};
+use winnow_core::agrees_with::AgreesWith;
+use winnow_core::parser::Parser;
+use winnow_core::short::short;
+
+/// The parser that [`length_and_then`](crate::binary::length_and_then) makes.
+///
+/// ```
+/// let mut parser: LengthAndThen<_, _, _, _, _, _> = length_and_then(U8, Any);
+/// let answer = parser.parse_peek(b"\x02abc".as_slice());
+/// assert_eq!(rt; answer, Ok::<_, EmptyError>((b"c".as_slice(), b'a')));
+/// ```
+#[derive(Drop)]
+pub struct LengthAndThen<P, G, I, N, O, E> {
+    pub(crate) count: P,
+    pub(crate) parser: G,
+    pub(crate) marker: PhantomData<(I, N, O, E)>,
+}
+
+impl<
+    P: Parser<I, N, E>,
+    G: Parser<I, O, E>,
+    I: StreamIsPartial + UpdateSlice + Copy,
+    N: ToUsize + Drop,
+    O,
+    E: ParserError<I>,
+> Parser<I, O, E> for LengthAndThen<P, G, I, N, O, E> {
+    ghost can_parse = { λ s. P.can_parse s.count × G.can_parse s.parser };
+
+    ghost State = { P.State × G.State };
+
+    ghost state = { λ s. (P.state s.count, G.state s.parser) };
+
+    ghost meaning = { λ form. LengthAndThenRuns N.number I.reading form I.counts_missing
+        (P.meaning form) (G.meaning form) };
+
+    ghost leaves_ends = { λ form. length_and_then_ends N.number I.reading form I.counts_missing
+        (P.meaning form) (G.meaning form) (P.leaves_ends form) };
+
+    #[inline]
+    fn parse_next(&mut self, input: &mut I) -> Result<O, E> {
+        let count = self.count.parse_next(input)?;
+        parse_taken(count.to_usize(), &mut self.parser, input)
+    }
+}
+
+/// Runs a parser on so many tokens, which are taken, as an input of their own to which no more
+/// comes.
+#[inline]
+fn parse_taken<P: Parser<I, O, E>, I: StreamIsPartial + UpdateSlice + Copy, O, E: ParserError<I>>(
+    count: usize,
+    parser: &mut P,
+    input: &mut I,
+) -> Result<O, E>
+    requires { P.can_parse parser.old }
+    ensures again { P.can_parse parser.new }
+    ensures ran { TakenRuns I.reading E.form I.counts_missing (P.meaning E.form) count
+        (P.state parser.old) (I.view input.old) (answer_by E.kind result) (P.state parser.new)
+        (I.view input.new) }
+    ensures ends { IsEndOf I.reading (I.view input.new) (I.view input.old) }
+{
+    match input.offset_at(count) {
+        Ok(offset) => {
+            let taken = input.next_slice(offset);
+            let mut only = (*input).update_slice(taken);
+            let _state = only.complete();
+            parse_complete(parser, &mut only)
+        }
+        Err(needed) => Err(short(input, needed)),
+    }
+}
+
+/// Runs a parser, of which an error that asks for more input backtracks.
+#[inline(always)]
+fn parse_complete<P: Parser<I, O, E>, I: Stream, O, E: ParserError<I>>(
+    parser: &mut P,
+    input: &mut I,
+) -> Result<O, E>
+    requires { P.can_parse parser.old }
+    ensures again { P.can_parse parser.new }
+    ensures ran { CompleteErrRuns (P.meaning E.form) (P.state parser.old) (I.view input.old)
+        (answer_by E.kind result) (P.state parser.new) (I.view input.new) }
+{
+    match parser.parse_next(input) {
+        Ok(output) => Ok(output),
+        Err(error) => {
+            if error.is_incomplete() {
+                Err(E::from_input(input))
+            } else {
+                Err(error)
+            }
+        }
+    }
+}
+
+impl<
+    P: AgreesWith<I, N, E, Q, J, F>,
+    Q: Parser<J, N, F>,
+    G: AgreesWith<I, O, E, H, J, F>,
+    H: Parser<J, O, F>,
+    I: StreamIsPartial + UpdateSlice + Copy + ReadsLike<J>,
+    J: StreamIsPartial
+        + UpdateSlice
+        + Copy
+        + Stream<Token = I::Token, Seen = I::Seen, Slice = I::Slice>,
+    N: ToUsize + Drop,
+    O,
+    E: ParserError<I>,
+    F: ParserError<J>,
+> AgreesWith<I, O, E, LengthAndThen<Q, H, J, N, O, F>, J, F> for LengthAndThen<P, G, I, N, O, E> {
+    ghost like = { λ p q. P.like p.count q.count × G.like p.parser q.parser };
+
+    ghost agrees = { length_and_then_agrees N.number (λ p. p.count) (λ q. q.count)
+        (λ p. p.parser) (λ q. q.parser) I.same_reading I.same_missing P.agrees G.agrees };
+}

@@ -1,0 +1,81 @@
+//! A length, and so many items.
+ghost use Rattle.stream_errors.specs.Form.{assert_kind};
+ghost use Rattle.winnow_binary.specs.LengthRepeat.{LengthRepeatRuns};
+ghost use Rattle.winnow_binary.specs.LengthRepeat.Laws.{length_repeat_ends};
+ghost use Rattle.winnow_core.specs.Agrees.Sizes.{agrees2};
+
+use std::alloc::Allocator;
+use std::marker::PhantomData;
+use stream_errors::parser_error::ParserError;
+use stream_sets::accumulate::Accumulate;
+use stream_sets::numbers::ToUsize;
+use streams::stream::Stream;
+use winnow_core::agrees_with::AgreesWith;
+use winnow_core::parser::Parser;
+use winnow_repeat::combinator::items::repeat_many;
+
+/// The parser that [`length_repeat`](crate::binary::length_repeat) makes.
+///
+/// ```
+/// let mut parser = length_repeat(rt.alloc(), U8, Any);
+/// let read: Result<(&[u8], usize), EmptyError> = parser.parse_peek(b"\x01ab".as_slice());
+/// assert_eq!(rt; read, Ok((b"b".as_slice(), 1)));
+/// ```
+#[derive(Drop)]
+pub struct LengthRepeat<P, G, I, N, O, C, E, A> {
+    pub(crate) alloc: A,
+    pub(crate) count: P,
+    pub(crate) parser: G,
+    pub(crate) marker: PhantomData<(I, N, O, C, E)>,
+}
+
+impl<
+    P: Parser<I, N, E>,
+    G: Parser<I, O, E>,
+    I: Stream,
+    N: ToUsize + Drop,
+    O: Drop,
+    C: Accumulate<O, A>,
+    E: ParserError<I>,
+    A: Allocator + Copy,
+> Parser<I, C, E> for LengthRepeat<P, G, I, N, O, C, E, A> {
+    ghost can_parse = { λ s. P.can_parse s.count × G.can_parse s.parser };
+
+    ghost State = { P.State × G.State };
+
+    ghost state = { λ s. (P.state s.count, G.state s.parser) };
+
+    ghost meaning = { λ form. LengthRepeatRuns N.number C.accumulator (assert_kind form)
+        (P.meaning form) (G.meaning form) };
+
+    ghost leaves_ends = { λ form. length_repeat_ends I.reading N.number C.accumulator
+        (assert_kind form) (P.meaning form) (G.meaning form) (P.leaves_ends form)
+        (G.leaves_ends form) };
+
+    fn parse_next(&mut self, input: &mut I) -> Result<C, E> {
+        let count = self.count.parse_next(input)?.to_usize();
+        repeat_many(self.alloc, count, Some(count), &mut self.parser, input)
+    }
+}
+
+impl<
+    P: AgreesWith<I, N, E, Q, J, F>,
+    Q: Parser<J, N, F>,
+    G: AgreesWith<I, O, E, H, J, F>,
+    H: Parser<J, O, F>,
+    I: Stream,
+    J: Stream<Token = I::Token, Seen = I::Seen, Slice = I::Slice>,
+    N: ToUsize + Drop,
+    O: Drop,
+    C: Accumulate<O, A>,
+    E: ParserError<I>,
+    F: ParserError<J>,
+    A: Allocator + Copy,
+> AgreesWith<I, C, E, LengthRepeat<Q, H, J, N, O, C, F, A>, J, F>
+    for LengthRepeat<P, G, I, N, O, C, E, A> {
+    ghost like = { λ p q. P.like p.count q.count × G.like p.parser q.parser };
+
+    ghost agrees = { agrees2 (λ p. p.count) (λ q. q.count) (λ p. p.parser) (λ q. q.parser)
+        (λ X Y m n form. LengthRepeatRuns N.number C.accumulator (assert_kind form) (m form)
+        (n form)) P.agrees G.agrees };
+}

@@ -1,0 +1,64 @@
+//! A length, and so many tokens.
+ghost use Rattle.winnow_binary.specs.LengthTake.{LengthTakeRuns};
+ghost use Rattle.winnow_binary.specs.LengthTake.Laws.{length_take_agrees, length_take_ends};
+
+use std::marker::PhantomData;
+use stream_errors::parser_error::ParserError;
+use stream_sets::numbers::ToUsize;
+use streams::reads_like::ReadsLike;
+use streams::stream::{Stream, StreamIsPartial};
+use winnow_core::agrees_with::AgreesWith;
+use winnow_core::parser::Parser;
+use winnow_token::token::take;
+
+/// The parser that [`length_take`](crate::binary::length_take) makes.
+///
+/// ```
+/// let mut parser: LengthTake<_, _, _, _> = length_take(U8);
+/// let answer = parser.parse_peek(b"\x01ab".as_slice());
+/// assert_eq!(rt; answer, Ok::<_, EmptyError>((b"b".as_slice(), b"a".as_slice())));
+/// ```
+#[derive(Drop)]
+pub struct LengthTake<P, I, N, E> {
+    pub(crate) count: P,
+    pub(crate) marker: PhantomData<(I, N, E)>,
+}
+
+impl<P: Parser<I, N, E>, I: StreamIsPartial, N: ToUsize + Drop, E: ParserError<I>> Parser<
+    I,
+    I::Slice,
+    E,
+> for LengthTake<P, I, N, E> {
+    ghost can_parse = { λ s. P.can_parse s.count };
+
+    ghost State = { P.State };
+
+    ghost state = { λ s. P.state s.count };
+
+    ghost meaning = { λ form. LengthTakeRuns N.number I.reading form I.counts_missing
+        (P.meaning form) };
+
+    ghost leaves_ends = { λ form. length_take_ends N.number I.reading form I.counts_missing
+        (P.meaning form) (P.leaves_ends form) };
+
+    #[inline]
+    fn parse_next(&mut self, input: &mut I) -> Result<I::Slice, E> {
+        let count = self.count.parse_next(input)?;
+        take(count).parse_next(input)
+    }
+}
+
+impl<
+    P: AgreesWith<I, N, E, Q, J, F>,
+    Q: Parser<J, N, F>,
+    I: StreamIsPartial + ReadsLike<J>,
+    J: StreamIsPartial + Stream<Token = I::Token, Seen = I::Seen, Slice = I::Slice>,
+    N: ToUsize + Drop,
+    E: ParserError<I>,
+    F: ParserError<J>,
+> AgreesWith<I, I::Slice, E, LengthTake<Q, J, N, F>, J, F> for LengthTake<P, I, N, E> {
+    ghost like = { λ p q. P.like p.count q.count };
+
+    ghost agrees = { length_take_agrees N.number (λ p. p.count) (λ q. q.count) I.same_reading
+        I.same_missing P.agrees };
+}

@@ -1,0 +1,63 @@
+//! An unsigned integer of 2 bytes, which stand in an order that is chosen.
+//!
+//! Written by scripts/families.py: do not edit.
+ghost use Rattle.std.specs.Prelude.{◌≡◌};
+ghost use Rattle.winnow_binary.specs.Chosen.{ChosenRuns};
+ghost use Rattle.winnow_integers.specs.Integer.{unsigned_value};
+ghost use Rattle.winnow_integers.specs.Integer.Laws.{integer_alike, integer_ends};
+ghost use Rattle.winnow_integers.specs.declared.binary.endianness.Endianness.{Endianness};
+ghost use Rattle.winnow_core.specs.Agrees.{agrees_by};
+
+use std::marker::PhantomData;
+use stream_errors::parser_error::ParserError;
+use streams::byte_stream::ByteStream;
+use streams::reads_like::ReadsLike;
+use streams::stream::{Stream, StreamIsPartial};
+use winnow_core::agrees_with::AgreesWith;
+use winnow_core::parser::Parser;
+use winnow_integers::binary::{Endianness, be_u16, le_u16};
+
+/// The parser that [`u16`](crate::binary::u16) makes.
+///
+/// ```
+/// let mut parser: U16<_, _> = u16(Endianness::Big);
+/// let input = b"\x01\x02;".as_slice();
+/// assert_eq!(rt; parser.parse_peek(input), Ok::<_, EmptyError>((b";".as_slice(), 258)));
+/// ```
+#[derive(Drop)]
+pub struct U16<I, E> {
+    pub(crate) endian: Endianness,
+    pub(crate) input: PhantomData<I>,
+    pub(crate) error: PhantomData<E>,
+}
+
+impl<I: StreamIsPartial + ByteStream, E: ParserError<I>> Parser<I, u16, E> for U16<I, E> {
+    ghost State = { Endianness };
+
+    ghost state = { λ s. s.endian };
+
+    ghost meaning = { λ form. ChosenRuns 2 unsigned_value I.reading form };
+
+    ghost leaves_ends = { λ form x i answer y j r. integer_ends 2 (unsigned_value x) I.reading
+        form i answer j r.0 };
+
+    #[inline(always)]
+    fn parse_next(&mut self, input: &mut I) -> Result<u16, E> {
+        match self.endian {
+            Endianness::Big => be_u16(input),
+            Endianness::Little | Endianness::Native => le_u16(input),
+        }
+    }
+}
+
+impl<
+    I: StreamIsPartial + ByteStream + ReadsLike<J>,
+    J: StreamIsPartial + ByteStream + Stream<Token = u8, Seen = u8, Slice = I::Slice>,
+    E: ParserError<I>,
+    F: ParserError<J>,
+> AgreesWith<I, u16, E, U16<J, F>, J, F> for U16<I, E> {
+    ghost like = { λ p q. p.endian ≡ q.endian };
+
+    ghost agrees = { agrees_by (λ p. p.endian) (λ q. q.endian)
+        (integer_alike 2 unsigned_value I.same_reading) };
+}

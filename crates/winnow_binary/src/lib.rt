@@ -1,0 +1,6 @@
+//! The parsers of binary data: integers whose order of bytes is chosen, and data behind its length.
+//!
+//! Each is the definition of its name in `specs/`.
+#![tactic(auto)]
+
+pub mod binary;

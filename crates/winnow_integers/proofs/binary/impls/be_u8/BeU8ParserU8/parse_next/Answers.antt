@@ -1,0 +1,6 @@
+-- Written by scripts/families.py: do not edit.
+use Rattle.std.proofs.Common.{rules}
+use Rattle.winnow_integers.proofs.binary.impls.be_u8.BeU8ParserU8.parse_next.Goals as goal
+
+pub returns-clause-ran : goal.returns-clause-ran
+returns-clause-ran g c = search rules depth 1

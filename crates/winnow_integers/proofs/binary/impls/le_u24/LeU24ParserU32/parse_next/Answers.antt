@@ -1,0 +1,6 @@
+-- Written by scripts/families.py: do not edit.
+use Rattle.std.proofs.Common.{rules}
+use Rattle.winnow_integers.proofs.binary.impls.le_u24.LeU24ParserU32.parse_next.Goals as goal
+
+pub returns-clause-ran : goal.returns-clause-ran
+returns-clause-ran g c = search rules depth 1

@@ -1,0 +1,78 @@
+-- Integers as parts of what a composition reads.
+use Rattle.std.specs.Prelude.{◌≡◌, ℕ, List, [], ◌∷◌, ◌++◌, length, Ok, Err}
+use Rattle.std.proofs.Common.{refl, sym, ap, ◌∙◌, arith, inl, inr, length-append}
+use Rattle.streams.specs.Equal.{same_first, same_others}
+use Rattle.streams.specs.Input.{Input}
+use Rattle.streams.specs.Kind.{Kind}
+use Rattle.streams.specs.Reading.{Reading}
+use Rattle.stream_errors.specs.Form.{ErrorForm}
+use Rattle.stream_errors.specs.Form.Known.{ok_is_err}
+use Rattle.winnow_core.specs.Reads.{MustLeave, Reads}
+use Rattle.winnow_core.specs.Runs.{Keeps, Runs}
+use Rattle.winnow_integers.specs.Integer.{AreBytes, IntegerRuns}
+use Rattle.winnow_integers.specs.Integer.Known.{integer_ok}
+
+-- fronts of one length, of one list, are the same, and so is what follows them
+pub same_fronts : {T : Type 0} (front taken rest left : List T) → front ++ rest ≡ taken ++ left
+    → length front ≡ length taken → (taken ≡ front) × (left ≡ rest)
+same_fronts [] [] rest left same lengths = (refl, sym same)
+same_fronts [] (y ∷ taken) rest left same lengths = absurd (omega (arith, lengths))
+same_fronts (x ∷ front) [] rest left same lengths = absurd (omega (arith, lengths))
+same_fronts (x ∷ front) (y ∷ taken) rest left same lengths =
+    let others = same_fronts front taken rest left (same_others same) (omega (arith, lengths)) in
+    (ap (λ z. z ∷ taken) (sym (same_first same)) ∙ ap (λ l. x ∷ l) others.0, others.1)
+
+-- a value of so many bytes
+abbrev pub IsValueOf : {O : Type 0} → ℕ → (List ℕ → O) → O → Type 0
+IsValueOf width value o =
+    (bytes : List ℕ) × (o ≡ value bytes) × (length bytes ≡ width) × AreBytes bytes
+
+module _ {X S O : Type 0} (width : ℕ) (value : X → List ℕ → O) (reading : Reading ℕ S)
+    (form : ErrorForm) where
+  -- what an integer means, by what its value depends on
+  abbrev pub IntegerOf : Runs X ℕ O
+  IntegerOf = Keeps (λ x. IntegerRuns width (value x) reading form)
+
+  -- it reads the bytes of its output, where that tells them
+  pub integer_reads : (x : X) (bytes_of : O → List ℕ)
+      → ((o : O) (bytes : List ℕ) → o ≡ value x bytes → length bytes ≡ width → AreBytes bytes
+      → bytes_of o ≡ bytes)
+      → Reads IntegerOf (λ y. y ≡ x) bytes_of (IsValueOf width (value x))
+  integer_reads x bytes_of told = record {
+    reads = λ y i o t j is ran.
+        let read = integer_ok width (value y) reading form i o j ran.0 in
+        let value_is = read.value_is ∙ ap (λ z. value z read.bytes) is in
+        let same = told o read.bytes value_is read.as_many read.are in (
+          read.passes.tokens ∙ ap (λ l. l ++ j.left.tokens) (sym same),
+          (read.bytes, value_is, read.as_many, read.are),
+        );
+    again = λ y i answer t j is ran. ran.1 ∙ is;
+  }
+
+  -- where so many bytes stand first, it answers their value
+  pub integer_gives : (x : X) (front rest : List ℕ) → length front ≡ width
+      → (i : Input ℕ) (o : O) (t : X) (j : Input ℕ) → i.left.tokens ≡ front ++ rest
+      → IntegerOf x i (Ok o) t j → o ≡ value x front
+  integer_gives x front rest as_many i o t j begins ran =
+      let read = integer_ok width (value x) reading form i o j ran.0 in
+      let fronts = same_fronts front read.bytes rest j.left.tokens
+      (sym begins ∙ read.passes.tokens) (as_many ∙ sym read.as_many) in
+      read.value_is ∙ ap (value x) fronts.0
+
+  -- where so many bytes stand first, what follows them is left
+  pub integer_leaves : (x : X) (front rest : List ℕ) → length front ≡ width
+      → MustLeave IntegerOf x (front ++ rest) rest
+  integer_leaves x front rest as_many = record {
+    leaves = λ i o t j begins ran.
+        let read = integer_ok width (value x) reading form i o j ran.0 in
+        (same_fronts front read.bytes rest j.left.tokens (sym begins ∙ read.passes.tokens)
+        (as_many ∙ sym read.as_many)).1;
+    answers = λ i k t j begins ran. fails i k j begins ran.0;
+  }
+    where
+      fails : (i : Input ℕ) (k : Kind) (j : Input ℕ) → i.left.tokens ≡ front ++ rest
+          → IntegerRuns width (value x) reading form i (Err k) j → ⊥
+      fails i k j begins (inl (bytes, many, are, passes, e)) = ok_is_err e refl
+      fails i k j begins (inr (l, few, kind, e, same)) =
+          let total = length-append front rest in
+          absurd (omega (arith, few, as_many, ap (λ l. length l) begins, total))

@@ -1,0 +1,127 @@
+-- The bytes of an integer, as std's `to_be_bytes` and `to_le_bytes` write them.
+use Rattle.std.specs.Prelude.{◌≡◌, ◌<◌, ◌+◌, ◌-◌, ◌*◌, ◌/◌, ◌%◌, ◌^◌, ℕ, zero, suc, List, []}
+use Rattle.std.specs.Prelude.{◌∷◌, ◌++◌, length, reverse, ℤ}
+use Rattle.std.specs.Int.{Width, byte_at, byte_len, bytes_high_first, bytes_low_first}
+use Rattle.std.specs.Int.{cast_unsigned}
+use Rattle.std.proofs.Common.{refl, sym, ap, ◌∙◌, arith}
+use Rattle.std.proofs.lemmas.Int.{of_z-to_z}
+use Rattle.std.proofs.lemmas.List.{length-reverse, reverse-append, reverse-reverse}
+use Rattle.std.proofs.lemmas.List.Elements.{All-cons, All-head, All-nil, All-tail}
+use Rattle.std.proofs.lemmas.Nat.{div-mul-add}
+use Rattle.std.proofs.Math.Nat.{div-add-mod', div-lt_iff_lt-mul, div-one, mod-eq_of_lt, mod-lt}
+use Rattle.std.proofs.Math.Nat.{mul-add-div_right, mul-add-mod_self_right, mul_assoc}
+use Rattle.std.proofs.Math.Nat.{one-le-pow, pow-succ'}
+use Rattle.winnow_integers.specs.Integer.{AreBytes, signed_of, value_of}
+use Rattle.winnow_integers.specs.Integer.Std.{fits_width, signed_value_of}
+use Rattle.winnow_integers.specs.Integer.Values.{reverse_are_bytes, value_of_fits}
+
+positive : (n : ℕ) → 0 < 256 ^ n
+positive n = omega (arith, one-le-pow n 256 (omega arith))
+
+byte_is : (k x : ℕ) → byte_at k x ≡ x / 256 ^ k % 256
+byte_is zero x = ap (λ y. y % 256) (sym (div-one x))
+byte_is (suc k) x = refl
+
+-- the lowest bytes are those of what is below their place
+lowest : (k c v : ℕ) → bytes_high_first k (c * 256 ^ k + v) ≡ bytes_high_first k v
+lowest zero c v = refl
+lowest (suc k) c v =
+    let split : c * 256 ^ suc k + v ≡ c * 256 * 256 ^ k + v =
+    ap (λ p. c * p + v) (pow-succ' 256 k) ∙ ap (λ x. x + v) (sym (mul_assoc c 256 (256 ^ k))) in
+    let first : byte_at k (c * 256 * 256 ^ k + v) ≡ byte_at k v =
+    byte_is k (c * 256 * 256 ^ k + v)
+    ∙ ap (λ x. x % 256) (mul-add-div_right {m = 256 ^ k} (positive k) (c * 256) v)
+    ∙ mul-add-mod_self_right c 256 (v / 256 ^ k) ∙ sym (byte_is k v) in
+    ap (λ x. bytes_high_first (suc k) x) split
+    ∙ ap (λ x. x ∷ bytes_high_first k (c * 256 * 256 ^ k + v)) first
+    ∙ ap (λ l. byte_at k v ∷ l) (lowest k (c * 256) v)
+
+-- the bytes of the number that bytes stand for are those
+pub value_written : (bytes : List ℕ) → AreBytes bytes
+    → bytes_high_first (length bytes) (value_of bytes) ≡ bytes
+value_written [] are = refl
+value_written (b ∷ bytes) are =
+    let small = All-head (λ x. x < 256) b bytes are in
+    let others = All-tail (λ x. x < 256) b bytes are in
+    let first : byte_at (length bytes) (value_of (b ∷ bytes)) ≡ b =
+    byte_is (length bytes) (value_of (b ∷ bytes))
+    ∙ ap (λ x. x % 256) (div-mul-add b (256 ^ length bytes) (value_of bytes)
+    (value_of_fits bytes others)) ∙ mod-eq_of_lt small in
+    ap (λ x. x ∷ bytes_high_first (length bytes) (value_of (b ∷ bytes))) first
+    ∙ ap (λ l. b ∷ l) (lowest (length bytes) b (value_of bytes) ∙ value_written bytes others)
+
+-- the lowest first are the highest first in the other order
+last_of : (i k n : ℕ)
+    → bytes_low_first i (suc k) n ≡ bytes_low_first i k n ++ byte_at (i + k) n ∷ []
+last_of i zero n = ap (λ p. byte_at p n ∷ []) (omega arith)
+last_of i (suc k) n =
+    ap (λ l. byte_at i n ∷ l) (last_of (suc i) k n
+    ∙ ap (λ p. bytes_low_first (suc i) k n ++ byte_at p n ∷ []) (omega arith))
+
+pub low_is_high : (k n : ℕ) → bytes_low_first 0 k n ≡ reverse (bytes_high_first k n)
+low_is_high zero n = refl
+low_is_high (suc k) n =
+    last_of 0 k n ∙ ap (λ p. bytes_low_first 0 k n ++ byte_at p n ∷ []) (omega arith)
+    ∙ ap (λ l. l ++ byte_at k n ∷ []) (low_is_high k n)
+    ∙ sym (reverse-append (byte_at k n ∷ []) (bytes_high_first k n))
+
+-- an unsigned number of so many bytes, the highest first, and the lowest first
+pub be_written : (width n : ℕ) (bytes : List ℕ) → n ≡ value_of bytes → length bytes ≡ width
+    → AreBytes bytes → bytes_high_first width n ≡ bytes
+be_written width n bytes is as_many are =
+    ap (λ w. bytes_high_first w n) (sym as_many) ∙ ap (bytes_high_first (length bytes)) is
+    ∙ value_written bytes are
+
+pub le_written : (width n : ℕ) (bytes : List ℕ) → n ≡ value_of (reverse bytes)
+    → length bytes ≡ width → AreBytes bytes → bytes_low_first 0 width n ≡ bytes
+le_written width n bytes is as_many are =
+    low_is_high width n
+    ∙ ap reverse (be_written width n (reverse bytes) is (length-reverse bytes ∙ as_many)
+    (reverse_are_bytes bytes are)) ∙ reverse-reverse bytes
+
+-- so many bytes of a number that these hold stand for it
+pub length_written : (k n : ℕ) → length (bytes_high_first k n) ≡ k
+length_written zero n = refl
+length_written (suc k) n = omega (arith, length_written k n)
+
+pub written_are_bytes : (k n : ℕ) → AreBytes (bytes_high_first k n)
+written_are_bytes zero n = All-nil (λ x. x < 256)
+written_are_bytes (suc k) n =
+    All-cons (λ x. x < 256) (byte_at k n) (bytes_high_first k n)
+    (omega (arith, byte_is k n, mod-lt (n / 256 ^ k) {m = 256} (omega arith)))
+    (written_are_bytes k n)
+
+pub written_value : (k n : ℕ) → n < 256 ^ k → value_of (bytes_high_first k n) ≡ n
+written_value zero n fits = omega (arith, fits)
+written_value (suc k) n fits =
+    let split = div-add-mod' n (256 ^ k) in
+    let small : n / 256 ^ k < 256 =
+    (div-lt_iff_lt-mul (positive k)).1 (omega (arith, fits, pow-succ' 256 k)) in
+    let below = mod-lt n (positive k) in
+    let first : byte_at k n ≡ n / 256 ^ k = byte_is k n ∙ mod-eq_of_lt small in
+    let others : bytes_high_first k n ≡ bytes_high_first k (n % 256 ^ k) =
+    ap (bytes_high_first k) (sym split) ∙ lowest k (n / 256 ^ k) (n % 256 ^ k) in
+    ap (λ b. b * 256 ^ length (bytes_high_first k n) + value_of (bytes_high_first k n)) first
+    ∙ ap (λ w. n / 256 ^ k * 256 ^ w + value_of (bytes_high_first k n)) (length_written k n)
+    ∙ ap (λ v. n / 256 ^ k * 256 ^ k + v) (ap value_of others
+    ∙ written_value k (n % 256 ^ k) below)
+    ∙ split
+
+-- a signed number of a type of std
+pub signed_be_written : (w : Width) (z : ℤ) (bytes : List ℕ) → z ≡ signed_of bytes
+    → length bytes ≡ suc (byte_len w - 1) → AreBytes bytes
+    → bytes_high_first (suc (byte_len w - 1)) (cast_unsigned w z) ≡ bytes
+signed_be_written w z bytes is as_many are =
+    be_written (suc (byte_len w - 1)) (cast_unsigned w z) bytes
+    (ap (cast_unsigned w) (is ∙ sym (signed_value_of w bytes as_many are))
+    ∙ of_z-to_z w (value_of bytes) (fits_width w bytes as_many are)) as_many are
+
+pub signed_le_written : (w : Width) (z : ℤ) (bytes : List ℕ) → z ≡ signed_of (reverse bytes)
+    → length bytes ≡ suc (byte_len w - 1) → AreBytes bytes
+    → bytes_low_first 0 (suc (byte_len w - 1)) (cast_unsigned w z) ≡ bytes
+signed_le_written w z bytes is as_many are =
+    low_is_high (suc (byte_len w - 1)) (cast_unsigned w z)
+    ∙ ap reverse (signed_be_written w z (reverse bytes) is (length-reverse bytes ∙ as_many)
+    (reverse_are_bytes bytes are)) ∙ reverse-reverse bytes
+
+pub ruleset known_bytes = (be_written, le_written, signed_be_written, signed_le_written)

@@ -1,0 +1,58 @@
+//! So many bytes.
+#![tactic(auto, using(streams::specs::Ends::ends_follow))]
+
+ghost use Rattle.std.specs.Prelude.{◌≡◌, ◌≤◌, length};
+ghost use Rattle.stream_errors.specs.Form.{answer_by};
+ghost use Rattle.streams.specs.Input.{IsEndOf, Passes};
+ghost use Rattle.winnow_integers.specs.Integer.{IntegerRuns, signed_of};
+
+use stream_errors::parser_error::ParserError;
+use streams::byte_stream::ByteStream;
+use streams::needed::Needed;
+use streams::stream::StreamIsPartial;
+use winnow_core::short::short;
+
+/// Takes so many bytes.
+#[inline(always)]
+pub(crate) fn take_bytes<const N: usize, I: StreamIsPartial + ByteStream, E: ParserError<I>>(
+    input: &mut I,
+) -> Result<[u8; N], E>
+    ensures ran { IntegerRuns N (λ bytes. bytes) I.reading E.form (I.view input.old)
+        (answer_by E.kind result) (I.view input.new) }
+    ensures ends { IsEndOf I.reading (I.view input.new) (I.view input.old) }
+{
+    let left = input.eof_offset();
+    if left < N {
+        return Err(short(input, Needed::new(N - left)));
+    }
+    Ok(next_bytes(input))
+}
+
+/// The next bytes, of which so many are left.
+#[inline(always)]
+fn next_bytes<const N: usize, I: ByteStream>(input: &mut I) -> [u8; N]
+    requires { N ≤ length (I.view input.old).left.tokens }
+    ensures passes { Passes I.reading result (I.view input.old) (I.view input.new) }
+    ensures ends { IsEndOf I.reading (I.view input.new) (I.view input.old) }
+{
+    let mut bytes = [0; N];
+    for place in 0..N {
+        if let Some(byte) = input.next_token() {
+            bytes[place] = byte;
+        }
+    }
+    bytes
+}
+
+/// The number of 24 bits, of which the highest byte stands first, as two's complement.
+#[inline(always)]
+pub(crate) fn signed_24(bytes: [u8; 3]) -> i32
+    ensures { result ≡ signed_of bytes }
+{
+    let number = u32::from_be_bytes([0, bytes[0], bytes[1], bytes[2]]);
+    if number < 0x80_00_00 {
+        number.cast_signed()
+    } else {
+        number.cast_signed() - 0x1_00_00_00
+    }
+}

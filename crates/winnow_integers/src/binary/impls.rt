@@ -1,0 +1,56 @@
+//! The parsers of the module above, as structs.
+//!
+//! Written by scripts/registries.py: do not edit.
+mod be_i128;
+mod be_i16;
+mod be_i24;
+mod be_i32;
+mod be_i64;
+mod be_i8;
+mod be_u128;
+mod be_u16;
+mod be_u24;
+mod be_u32;
+mod be_u64;
+mod be_u8;
+mod i8;
+mod le_i128;
+mod le_i16;
+mod le_i24;
+mod le_i32;
+mod le_i64;
+mod le_i8;
+mod le_u128;
+mod le_u16;
+mod le_u24;
+mod le_u32;
+mod le_u64;
+mod le_u8;
+mod u8;
+
+pub use crate::binary::impls::be_i8::BeI8;
+pub use crate::binary::impls::be_i16::BeI16;
+pub use crate::binary::impls::be_i24::BeI24;
+pub use crate::binary::impls::be_i32::BeI32;
+pub use crate::binary::impls::be_i64::BeI64;
+pub use crate::binary::impls::be_i128::BeI128;
+pub use crate::binary::impls::be_u8::BeU8;
+pub use crate::binary::impls::be_u16::BeU16;
+pub use crate::binary::impls::be_u24::BeU24;
+pub use crate::binary::impls::be_u32::BeU32;
+pub use crate::binary::impls::be_u64::BeU64;
+pub use crate::binary::impls::be_u128::BeU128;
+pub use crate::binary::impls::i8::I8;
+pub use crate::binary::impls::le_i8::LeI8;
+pub use crate::binary::impls::le_i16::LeI16;
+pub use crate::binary::impls::le_i24::LeI24;
+pub use crate::binary::impls::le_i32::LeI32;
+pub use crate::binary::impls::le_i64::LeI64;
+pub use crate::binary::impls::le_i128::LeI128;
+pub use crate::binary::impls::le_u8::LeU8;
+pub use crate::binary::impls::le_u16::LeU16;
+pub use crate::binary::impls::le_u24::LeU24;
+pub use crate::binary::impls::le_u32::LeU32;
+pub use crate::binary::impls::le_u64::LeU64;
+pub use crate::binary::impls::le_u128::LeU128;
+pub use crate::binary::impls::u8::U8;

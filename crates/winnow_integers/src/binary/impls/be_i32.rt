@@ -1,0 +1,53 @@
+//! A signed integer of 4 bytes, of which the highest stands first.
+//!
+//! Written by scripts/families.py: do not edit.
+ghost use Rattle.std.specs.Prelude.{⊤};
+ghost use Rattle.winnow_integers.specs.Integer.{IntegerRuns, signed_value};
+ghost use Rattle.winnow_integers.specs.Integer.Laws.{integer_alike, integer_ends};
+ghost use Rattle.winnow_integers.specs.declared.binary.endianness.Endianness.TheVariants.{Big};
+ghost use Rattle.winnow_core.specs.Agrees.{agrees_plain};
+ghost use Rattle.winnow_core.specs.Runs.{Keeps};
+
+use crate::binary::be_i32;
+use stream_errors::parser_error::ParserError;
+use streams::byte_stream::ByteStream;
+use streams::reads_like::ReadsLike;
+use streams::stream::{Stream, StreamIsPartial};
+use winnow_core::agrees_with::AgreesWith;
+use winnow_core::parser::Parser;
+
+/// The parser [`be_i32`](crate::binary::be_i32).
+///
+/// ```
+/// let input = b"\xFF\xFF\xFF\xFE;".as_slice();
+/// assert_eq!(rt; BeI32.parse_peek(input), Ok::<_, EmptyError>((b";".as_slice(), -2)));
+/// ```
+#[derive(Clone, Copy, Debug)]
+pub struct BeI32;
+
+impl<I: StreamIsPartial + ByteStream, E: ParserError<I>> Parser<I, i32, E> for BeI32 {
+    ghost State = { ⊤ };
+
+    ghost state = { λ _. tt };
+
+    ghost meaning = { λ form. Keeps (λ _. IntegerRuns 4 (signed_value Big) I.reading form) };
+
+    ghost leaves_ends = { λ form x i answer y j r. integer_ends 4 (signed_value Big) I.reading
+        form i answer j r.0 };
+
+    #[inline(always)]
+    fn parse_next(&mut self, input: &mut I) -> Result<i32, E> {
+        be_i32(input)
+    }
+}
+
+impl<
+    I: StreamIsPartial + ByteStream + ReadsLike<J>,
+    J: StreamIsPartial + ByteStream + Stream<Token = u8, Seen = u8, Slice = I::Slice>,
+    E: ParserError<I>,
+    F: ParserError<J>,
+> AgreesWith<I, i32, E, BeI32, J, F> for BeI32 {
+    ghost like = { λ p q. ⊤ };
+
+    ghost agrees = { agrees_plain (integer_alike 4 (λ _. signed_value Big) I.same_reading) };
+}

@@ -1,0 +1,53 @@
+//! An unsigned integer of 2 bytes, of which the highest stands first.
+//!
+//! Written by scripts/families.py: do not edit.
+ghost use Rattle.std.specs.Prelude.{⊤};
+ghost use Rattle.winnow_integers.specs.Integer.{IntegerRuns, unsigned_value};
+ghost use Rattle.winnow_integers.specs.Integer.Laws.{integer_alike, integer_ends};
+ghost use Rattle.winnow_integers.specs.declared.binary.endianness.Endianness.TheVariants.{Big};
+ghost use Rattle.winnow_core.specs.Agrees.{agrees_plain};
+ghost use Rattle.winnow_core.specs.Runs.{Keeps};
+
+use crate::binary::be_u16;
+use stream_errors::parser_error::ParserError;
+use streams::byte_stream::ByteStream;
+use streams::reads_like::ReadsLike;
+use streams::stream::{Stream, StreamIsPartial};
+use winnow_core::agrees_with::AgreesWith;
+use winnow_core::parser::Parser;
+
+/// The parser [`be_u16`](crate::binary::be_u16).
+///
+/// ```
+/// let input = b"\x01\x02;".as_slice();
+/// assert_eq!(rt; BeU16.parse_peek(input), Ok::<_, EmptyError>((b";".as_slice(), 258)));
+/// ```
+#[derive(Clone, Copy, Debug)]
+pub struct BeU16;
+
+impl<I: StreamIsPartial + ByteStream, E: ParserError<I>> Parser<I, u16, E> for BeU16 {
+    ghost State = { ⊤ };
+
+    ghost state = { λ _. tt };
+
+    ghost meaning = { λ form. Keeps (λ _. IntegerRuns 2 (unsigned_value Big) I.reading form) };
+
+    ghost leaves_ends = { λ form x i answer y j r. integer_ends 2 (unsigned_value Big) I.reading
+        form i answer j r.0 };
+
+    #[inline(always)]
+    fn parse_next(&mut self, input: &mut I) -> Result<u16, E> {
+        be_u16(input)
+    }
+}
+
+impl<
+    I: StreamIsPartial + ByteStream + ReadsLike<J>,
+    J: StreamIsPartial + ByteStream + Stream<Token = u8, Seen = u8, Slice = I::Slice>,
+    E: ParserError<I>,
+    F: ParserError<J>,
+> AgreesWith<I, u16, E, BeU16, J, F> for BeU16 {
+    ghost like = { λ p q. ⊤ };
+
+    ghost agrees = { agrees_plain (integer_alike 2 (λ _. unsigned_value Big) I.same_reading) };
+}

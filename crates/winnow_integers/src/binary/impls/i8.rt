@@ -1,0 +1,53 @@
+//! A signed integer of 1 byte.
+//!
+//! Written by scripts/families.py: do not edit.
+ghost use Rattle.std.specs.Prelude.{⊤};
+ghost use Rattle.winnow_integers.specs.Integer.{IntegerRuns, signed_value};
+ghost use Rattle.winnow_integers.specs.Integer.Laws.{integer_alike, integer_ends};
+ghost use Rattle.winnow_integers.specs.declared.binary.endianness.Endianness.TheVariants.{Big};
+ghost use Rattle.winnow_core.specs.Agrees.{agrees_plain};
+ghost use Rattle.winnow_core.specs.Runs.{Keeps};
+
+use crate::binary::i8;
+use stream_errors::parser_error::ParserError;
+use streams::byte_stream::ByteStream;
+use streams::reads_like::ReadsLike;
+use streams::stream::{Stream, StreamIsPartial};
+use winnow_core::agrees_with::AgreesWith;
+use winnow_core::parser::Parser;
+
+/// The parser [`i8`](crate::binary::i8).
+///
+/// ```
+/// let input = b"\xFE;".as_slice();
+/// assert_eq!(rt; I8.parse_peek(input), Ok::<_, EmptyError>((b";".as_slice(), -2)));
+/// ```
+#[derive(Clone, Copy, Debug)]
+pub struct I8;
+
+impl<I: StreamIsPartial + ByteStream, E: ParserError<I>> Parser<I, i8, E> for I8 {
+    ghost State = { ⊤ };
+
+    ghost state = { λ _. tt };
+
+    ghost meaning = { λ form. Keeps (λ _. IntegerRuns 1 (signed_value Big) I.reading form) };
+
+    ghost leaves_ends = { λ form x i answer y j r. integer_ends 1 (signed_value Big) I.reading
+        form i answer j r.0 };
+
+    #[inline(always)]
+    fn parse_next(&mut self, input: &mut I) -> Result<i8, E> {
+        i8(input)
+    }
+}
+
+impl<
+    I: StreamIsPartial + ByteStream + ReadsLike<J>,
+    J: StreamIsPartial + ByteStream + Stream<Token = u8, Seen = u8, Slice = I::Slice>,
+    E: ParserError<I>,
+    F: ParserError<J>,
+> AgreesWith<I, i8, E, I8, J, F> for I8 {
+    ghost like = { λ p q. ⊤ };
+
+    ghost agrees = { agrees_plain (integer_alike 1 (λ _. signed_value Big) I.same_reading) };
+}

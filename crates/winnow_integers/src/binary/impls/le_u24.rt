@@ -1,0 +1,53 @@
+//! An unsigned integer of 3 bytes, of which the lowest stands first.
+//!
+//! Written by scripts/families.py: do not edit.
+ghost use Rattle.std.specs.Prelude.{⊤};
+ghost use Rattle.winnow_integers.specs.Integer.{IntegerRuns, unsigned_value};
+ghost use Rattle.winnow_integers.specs.Integer.Laws.{integer_alike, integer_ends};
+ghost use Rattle.winnow_integers.specs.declared.binary.endianness.Endianness.TheVariants.{Little};
+ghost use Rattle.winnow_core.specs.Agrees.{agrees_plain};
+ghost use Rattle.winnow_core.specs.Runs.{Keeps};
+
+use crate::binary::le_u24;
+use stream_errors::parser_error::ParserError;
+use streams::byte_stream::ByteStream;
+use streams::reads_like::ReadsLike;
+use streams::stream::{Stream, StreamIsPartial};
+use winnow_core::agrees_with::AgreesWith;
+use winnow_core::parser::Parser;
+
+/// The parser [`le_u24`](crate::binary::le_u24).
+///
+/// ```
+/// let input = b"\x02\x01\x00;".as_slice();
+/// assert_eq!(rt; LeU24.parse_peek(input), Ok::<_, EmptyError>((b";".as_slice(), 258)));
+/// ```
+#[derive(Clone, Copy, Debug)]
+pub struct LeU24;
+
+impl<I: StreamIsPartial + ByteStream, E: ParserError<I>> Parser<I, u32, E> for LeU24 {
+    ghost State = { ⊤ };
+
+    ghost state = { λ _. tt };
+
+    ghost meaning = { λ form. Keeps (λ _. IntegerRuns 3 (unsigned_value Little) I.reading form) };
+
+    ghost leaves_ends = { λ form x i answer y j r. integer_ends 3 (unsigned_value Little)
+        I.reading form i answer j r.0 };
+
+    #[inline(always)]
+    fn parse_next(&mut self, input: &mut I) -> Result<u32, E> {
+        le_u24(input)
+    }
+}
+
+impl<
+    I: StreamIsPartial + ByteStream + ReadsLike<J>,
+    J: StreamIsPartial + ByteStream + Stream<Token = u8, Seen = u8, Slice = I::Slice>,
+    E: ParserError<I>,
+    F: ParserError<J>,
+> AgreesWith<I, u32, E, LeU24, J, F> for LeU24 {
+    ghost like = { λ p q. ⊤ };
+
+    ghost agrees = { agrees_plain (integer_alike 3 (λ _. unsigned_value Little) I.same_reading) };
+}

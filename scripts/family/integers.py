@@ -1,0 +1,429 @@
+"""The parsers of integers as bytes, in the crates `winnow_integers` and `winnow_binary`."""
+from family.common import camel, documented, write
+
+FIXED = "crates/winnow_integers/"
+CHOSEN = "crates/winnow_binary/"
+WIDTHS = {8: 1, 16: 2, 24: 3, 32: 4, 64: 8, 128: 16}
+ORDERS = {"be": ("Big", "highest"), "le": ("Little", "lowest")}
+
+
+class Integer:
+    """An integer: the bits that it has, whether it is signed, and the order of its bytes."""
+
+    def __init__(self, sign, bits, order="be"):
+        self.sign, self.bits, self.order = sign, bits, order
+        self.width = WIDTHS[bits]
+        self.type = "%s%d" % (sign, 32 if bits == 24 else bits)
+        self.value = "signed_value" if sign == "i" else "unsigned_value"
+        self.constructor, self.first = ORDERS[order]
+
+    def kind(self):
+        return "A signed integer" if self.sign == "i" else "An unsigned integer"
+
+    def bytes(self):
+        return "%d byte%s" % (self.width, "" if self.width == 1 else "s")
+
+    def number(self):
+        """The body's last expression, of the bytes that were taken."""
+        if self.bits != 24:
+            return "%s::from_%s_bytes(bytes)" % (self.type, self.order)
+        if self.sign == "i":
+            return "signed_24(%s)" % ("bytes" if self.order == "be" else "[bytes[2], bytes[1], bytes[0]]")
+        row = "0, bytes[0], bytes[1], bytes[2]" if self.order == "be" else "bytes[0], bytes[1], bytes[2], 0"
+        return "u32::from_%s_bytes([%s])" % (self.order, row)
+
+    def sample(self):
+        """Bytes, as a text of Rust, and their value: -2 with a sign, and 258, or 2 where there is one
+        byte."""
+        if self.sign == "i":
+            row, number = [0xFF] * (self.width - 1) + [0xFE], -2
+        else:
+            row, number = ([0] * self.width + [1, 2])[-self.width :], 2 if self.width == 1 else 258
+        row = row if self.order == "be" else row[::-1]
+        return "".join("\\x%02X" % byte for byte in row), number
+
+
+def fixed():
+    """The integers of an order, each by its name."""
+    found = {"%s_%s%d" % (order, sign, bits): Integer(sign, bits, order) for order in ORDERS for sign in "ui" for bits in WIDTHS}
+    return found | {"u8": Integer("u", 8), "i8": Integer("i", 8)}
+
+
+def chosen():
+    """The integers of which the order is chosen, each by its name."""
+    return {"%s%d" % (sign, bits): Integer(sign, bits) for sign in "ui" for bits in WIDTHS if bits != 8}
+
+
+def about(one):
+    return one.kind() + " of " + one.bytes() + (", of which the %s stands first" % one.first if one.width > 1 else "") + "."
+
+
+FAILS = "Where fewer are left it fails, and consumes nothing; on a cut input it is incomplete: the need is how many bytes are missing."
+FAILS_ONE = "Where none is left it fails; on a cut input it is incomplete: the need is 1 byte."
+
+
+def function(name, one):
+    row, number = one.sample()
+    return "\n".join(
+        [
+            documented(about(one)),
+            "///",
+            documented(FAILS_ONE if one.width == 1 else FAILS),
+            "///",
+            "/// ```",
+            '/// let mut input = b"%s;".as_slice();' % row,
+            "/// assert_eq!(rt; %s(&mut input), Ok::<_, EmptyError>(%d));" % (name, number),
+            '/// assert_eq!(rt; input, b";".as_slice());',
+            "/// ```",
+            "#[inline(always)]",
+            "pub fn %s<Input, Error>(input: &mut Input) -> Result<%s, Error>" % (name, one.type),
+            "where",
+            "    Input: StreamIsPartial + ByteStream,",
+            "    Error: ParserError<Input>,",
+            "    ensures ran { IntegerRuns %d (%s %s) Input.reading Error.form (Input.view input.old) (answer_by Error.kind result) (Input.view input.new) }" % (one.width, one.value, one.constructor),
+            "    ensures ends { IsEndOf Input.reading (Input.view input.new) (Input.view input.old) }",
+            "{",
+            "    let bytes = take_bytes::<%d, Input, Error>(input)?;" % one.width,
+            "    Ok(%s)" % one.number(),
+            "}",
+        ]
+    )
+
+
+FUNCTIONS = """//! Parsers of integers whose bytes stand in one order.
+//!
+//! {head}
+#![tactic(auto, using(crate::specs::Integer::Std::integers))]
+ghost use Rattle.stream_errors.specs.Form.{{answer_by}};
+ghost use Rattle.streams.specs.Input.{{IsEndOf}};
+ghost use Rattle.winnow_integers.specs.Integer.{{IntegerRuns, signed_value, unsigned_value}};
+ghost use Rattle.winnow_integers.specs.declared.binary.endianness.Endianness.TheVariants.{{Big, Little}};
+
+use crate::binary::bytes::{{signed_24, take_bytes}};
+use stream_errors::parser_error::ParserError;
+use streams::byte_stream::ByteStream;
+use streams::stream::StreamIsPartial;
+
+{family}
+"""
+
+# What the proof of a function of a width of std takes, by its sign: what std reads is the value.
+ANSWERS = """-- {head}
+use Rattle.std.proofs.Common.{{{rules}}}
+use Rattle.std.specs.Int.{{w{bits}}}
+use Rattle.winnow_integers.specs.Integer.Laws.{{integer_made}}
+use Rattle.winnow_integers.specs.Integer.Std.{{{lemma}}}
+use Rattle.winnow_integers.proofs.binary.integers.{name}.Goals as goal
+
+pub returns-clause-ran : goal.returns-clause-ran
+returns-clause-ran g c =
+    let bytes = c.in_ok-bytes.bytes in
+    integer_made {width} _ _ _ _ bytes _ _ c.in_ok-bytes.ensures.ran
+    ({value})
+"""
+VALUES = {
+    "u": "c.from_{order}_bytes.ensures ∙ {lemma} w{bits} bytes (search rules)",
+    "i": "{lemma} w{bits} bytes _ c.from_{order}_bytes.ensures (search rules) (search rules)",
+}
+LEMMAS = {"u": "from_%s", "i": "signed_%s"}
+RULES = {"u": "rules, ◌∙◌", "i": "rules"}
+
+IMPORTS = """use stream_errors::parser_error::ParserError;
+use streams::byte_stream::ByteStream;
+use streams::reads_like::ReadsLike;
+use streams::stream::{{Stream, StreamIsPartial}};
+use winnow_core::agrees_with::AgreesWith;
+use winnow_core::parser::Parser;
+"""
+
+ALIKE = """impl<
+    I: StreamIsPartial + ByteStream + ReadsLike<J>,
+    J: StreamIsPartial + ByteStream + Stream<Token = u8, Seen = u8, Slice = I::Slice>,
+    E: ParserError<I>,
+    F: ParserError<J>,
+> AgreesWith<I, {type}, E, {other}, J, F> for {own} {{
+    ghost like = {{ λ p q. {like} }};
+
+    ghost agrees = {{ {agrees} }};
+}}
+"""
+
+STRUCT = (
+    """//! {about}
+//!
+//! {head}
+ghost use Rattle.std.specs.Prelude.{{⊤}};
+ghost use Rattle.winnow_integers.specs.Integer.{{IntegerRuns, {value}}};
+ghost use Rattle.winnow_integers.specs.Integer.Laws.{{integer_alike, integer_ends}};
+ghost use Rattle.winnow_integers.specs.declared.binary.endianness.Endianness.TheVariants.{{{constructor}}};
+ghost use Rattle.winnow_core.specs.Agrees.{{agrees_plain}};
+ghost use Rattle.winnow_core.specs.Runs.{{Keeps}};
+
+use crate::binary::{name};
+"""
+    + IMPORTS
+    + """
+/// The parser [`{name}`](crate::binary::{name}).
+///
+/// ```
+/// let input = b"{row};".as_slice();
+/// assert_eq!(rt; {own}.parse_peek(input), Ok::<_, EmptyError>((b";".as_slice(), {number})));
+/// ```
+#[derive(Clone, Copy, Debug)]
+pub struct {own};
+
+impl<I: StreamIsPartial + ByteStream, E: ParserError<I>> Parser<I, {type}, E> for {own} {{
+    ghost State = {{ ⊤ }};
+
+    ghost state = {{ λ _. tt }};
+
+    ghost meaning = {{ λ form. Keeps (λ _. IntegerRuns {width} ({value} {constructor}) I.reading form) }};
+
+    ghost leaves_ends = {{ λ form x i answer y j r. integer_ends {width} ({value} {constructor}) I.reading form i answer j r.0 }};
+
+    #[inline(always)]
+    fn parse_next(&mut self, input: &mut I) -> Result<{type}, E> {{
+        {name}(input)
+    }}
+}}
+
+"""
+    + ALIKE
+)
+
+
+def chosen_function(name, one):
+    row, number = one.sample()
+    own = camel(name)
+    return "\n".join(
+        [
+            documented("A parser of %s of %s, which stand in the order `endian`." % (one.kind().lower(), one.bytes())),
+            "///",
+            documented("Where fewer are left it fails, and consumes nothing; on a cut input it is incomplete: the need is how many bytes are missing."),
+            "///",
+            "/// ```",
+            '/// let input = b"%s;".as_slice();' % row,
+            "/// let mut parser = %s(Endianness::Big);" % name,
+            '/// assert_eq!(rt; parser.parse_peek(input), Ok::<_, EmptyError>((b";".as_slice(), %d)));' % number,
+            "/// ```",
+            "#[inline(always)]",
+            "pub fn %s<Input, Error>(endian: Endianness) -> %s<Input, Error>" % (name, own),
+            "where",
+            "    Input: StreamIsPartial + ByteStream,",
+            "    Error: ParserError<Input>,",
+            "    ensures { %s_endian result ≡ endian }" % name,
+            "{",
+            "    %s {" % own,
+            "        endian,",
+            "        input: PhantomData,",
+            "        error: PhantomData,",
+            "    }",
+            "}",
+        ]
+    )
+
+
+CHOSEN_FUNCTIONS = """//! Parsers of integers whose bytes stand in an order that is chosen.
+//!
+//! {head}
+ghost use Rattle.std.specs.Prelude.{{◌≡◌}};
+ghost use Rattle.winnow_binary.specs.Chosen.{{{projections}}};
+
+use crate::binary::impls::{{{structs}}};
+use std::marker::PhantomData;
+use stream_errors::parser_error::ParserError;
+use streams::byte_stream::ByteStream;
+use streams::stream::StreamIsPartial;
+use winnow_integers::binary::Endianness;
+
+{family}
+"""
+
+CHOSEN_STRUCT = (
+    """//! {about}
+//!
+//! {head}
+ghost use Rattle.std.specs.Prelude.{{◌≡◌}};
+ghost use Rattle.winnow_binary.specs.Chosen.{{ChosenRuns}};
+ghost use Rattle.winnow_integers.specs.Integer.{{{value}}};
+ghost use Rattle.winnow_integers.specs.Integer.Laws.{{integer_alike, integer_ends}};
+ghost use Rattle.winnow_integers.specs.declared.binary.endianness.Endianness.{{Endianness}};
+ghost use Rattle.winnow_core.specs.Agrees.{{agrees_by}};
+
+use std::marker::PhantomData;
+"""
+    + IMPORTS
+    + """use winnow_integers::binary::{{Endianness, be_{name}, le_{name}}};
+
+/// The parser that [`{name}`](crate::binary::{name}) makes.
+///
+/// ```
+/// let mut parser: {kind}<_, _> = {name}(Endianness::Big);
+/// let input = b"{row};".as_slice();
+/// assert_eq!(rt; parser.parse_peek(input), Ok::<_, EmptyError>((b";".as_slice(), {number})));
+/// ```
+#[derive(Drop)]
+pub struct {kind}<I, E> {{
+    pub(crate) endian: Endianness,
+    pub(crate) input: PhantomData<I>,
+    pub(crate) error: PhantomData<E>,
+}}
+
+impl<I: StreamIsPartial + ByteStream, E: ParserError<I>> Parser<I, {type}, E> for {own} {{
+    ghost State = {{ Endianness }};
+
+    ghost state = {{ λ s. s.endian }};
+
+    ghost meaning = {{ λ form. ChosenRuns {width} {value} I.reading form }};
+
+    ghost leaves_ends = {{ λ form x i answer y j r. integer_ends {width} ({value} x) I.reading form i answer j r.0 }};
+
+    #[inline(always)]
+    fn parse_next(&mut self, input: &mut I) -> Result<{type}, E> {{
+        match self.endian {{
+            Endianness::Big => be_{name}(input),
+            Endianness::Little | Endianness::Native => le_{name}(input),
+        }}
+    }}
+}}
+
+"""
+    + ALIKE
+)
+
+CHOSEN_SPECS = """-- Integers whose bytes stand in an order that is chosen.
+-- {head}
+use Rattle.std.specs.Prelude.{{ℕ, List}}
+use Rattle.streams.specs.Reading.{{Reading}}
+use Rattle.stream_errors.specs.Form.{{ErrorForm}}
+use Rattle.winnow_core.specs.Runs.{{Keeps, Runs}}
+use Rattle.winnow_integers.specs.Integer.{{IntegerRuns}}
+use Rattle.winnow_integers.specs.declared.binary.endianness.Endianness.{{Endianness}}
+{uses}
+
+-- A run of the parser of an integer of so many bytes, each list of which has a value in each order;
+-- the order that is chosen stays.
+abbrev pub ChosenRuns : {{S O : Type 0}} → ℕ → (Endianness → List ℕ → O) → Reading ℕ S → ErrorForm
+    → Runs Endianness ℕ O
+ChosenRuns width value reading form =
+    Keeps (λ order. IntegerRuns width (value order) reading form)
+
+-- the order in which the bytes stand
+{projections}
+"""
+
+
+LAWS = """//! Laws of integers, each proved by a function that does nothing.
+//!
+//! {head}
+ghost use Rattle.winnow_integers.specs.IntegerLaws.{{ReadsReversed}};
+
+use crate::binary::impls::{{{structs}}};
+use stream_errors::parser_error::ParserError;
+use streams::byte_stream::ByteStream;
+use streams::stream::StreamIsPartial;
+use winnow_core::parser::Parser;
+
+/// A little endian integer is the big endian one of the reversed bytes: where so many bytes are
+/// left, the one parser answers and leaves what the other does where these are left in the other
+/// order.
+pub fn little_endian_is_big_endian_of_the_reversed_bytes<I, E>()
+where
+    I: StreamIsPartial + ByteStream,
+    E: ParserError<I>,
+{clauses}
+{{}}
+"""
+
+
+def law_clause(one):
+    """What the law says of an integer of the two orders."""
+    name = "%s%d" % (one.sign, one.bits)
+    meanings = ["(⟦<%s%s as Parser<I, %s, E>>⟧.meaning E.form)" % (order, name.capitalize(), one.type) for order in ("Le", "Be")]
+    return "    ensures %s%d { ReadsReversed %d %s }" % ("signed_" if one.sign == "i" else "unsigned_", one.bits, one.width, " ".join(meanings))
+
+
+LAW_ANSWERS = """-- {head}
+use Rattle.winnow_integers.specs.Integer.{{signed_of, value_of}}
+use Rattle.winnow_integers.specs.IntegerLaws.{{reads_reversed}}
+use Rattle.winnow_integers.proofs.laws.{law}.Goals as goal
+
+{answers}
+"""
+LAW_ANSWER = """pub {0} : goal.{0}
+{0} g c = reads_reversed {1} g.I.Stream.reading g.met.I.ByteStream.counts_bytes g.E.HasKind.form {2}"""
+
+
+def law_answer(one):
+    """What answers the clause of an integer of the two orders."""
+    sign, value = ("signed", "signed_of") if one.sign == "i" else ("unsigned", "value_of")
+    return LAW_ANSWER.format("returns-clause-%s_%d" % (sign, one.bits), one.width, value)
+
+
+def write_laws():
+    structs = ", ".join(sorted(camel(name) for name in fixed() if "_" in name))
+    clauses = "\n".join(law_clause(Integer(sign, bits)) for sign in "ui" for bits in WIDTHS)
+    write(FIXED + "src/laws.rt", LAWS, structs=structs, clauses=clauses)
+    law = "little_endian_is_big_endian_of_the_reversed_bytes"
+    answers = "\n\n".join(law_answer(Integer(sign, bits)) for sign in "ui" for bits in WIDTHS)
+    write(FIXED + "proofs/laws/%s/Answers.antt" % law, LAW_ANSWERS, law=law, answers=answers)
+
+
+# What gives up soon where the clause is not so.
+STRUCT_ANSWERS = """-- {head}
+use Rattle.std.proofs.Common.{{rules}}
+use Rattle.winnow_integers.proofs.binary.impls.{at}.Goals as goal
+
+pub returns-clause-ran : goal.returns-clause-ran
+returns-clause-ran g c = search rules depth 1
+"""
+
+
+def struct_path(name, one):
+    """Where the proofs of a struct's `parse_next` stand."""
+    kind = "" if camel(name) == camel(one.type) else camel(one.type)
+    return [name, camel(name) + "Parser" + kind, "parse_next"]
+
+
+def write_fixed():
+    rows = fixed()
+    functions = "\n\n".join(function(name, one) for name, one in rows.items())
+    write(FIXED + "src/binary/integers.rt", FUNCTIONS, family=functions)
+    for name, one in rows.items():
+        row, number = one.sample()
+        own = camel(name)
+        agrees = "agrees_plain (integer_alike %d (λ _. %s %s) I.same_reading)" % (one.width, one.value, one.constructor)
+        parts = {"own": own, "other": own, "like": "⊤", "agrees": agrees, **vars(one)}
+        write(FIXED + "src/binary/impls/%s.rt" % name, STRUCT, about=about(one), name=name, row=row, number=number, **parts)
+        path = struct_path(name, one)
+        answers = FIXED + "proofs/binary/impls/%s/Answers.antt" % "/".join(path)
+        write(answers, STRUCT_ANSWERS, at=".".join(path))
+        if one.bits not in (8, 24):
+            lemma = LEMMAS[one.sign] % one.order
+            value = VALUES[one.sign].format(lemma=lemma, order=one.order, bits=one.bits)
+            parts = {"rules": RULES[one.sign], "lemma": lemma, "value": value}
+            answers = FIXED + "proofs/binary/integers/%s/Answers.antt" % name
+            write(answers, ANSWERS, name=name, bits=one.bits, width=one.width, **parts)
+
+
+def write_chosen():
+    rows = chosen()
+    functions = "\n\n".join(chosen_function(name, one) for name, one in rows.items())
+    kinds = [camel(name) for name in rows]
+    write(CHOSEN + "src/binary/chosen.rt", CHOSEN_FUNCTIONS, family=functions, projections=", ".join("%s_endian" % name for name in rows), structs=", ".join(kinds))
+    uses = "\n".join("use Rattle.winnow_binary.specs.declared.binary.impls.%s.%s.{%s}" % (name, camel(name), camel(name)) for name in rows)
+    projections = "\n\n".join("abbrev pub {0}_endian : {{I E : Type 0}} → {1} I E → Endianness\n{0}_endian s = s.endian".format(name, camel(name)) for name in rows)
+    write(CHOSEN + "specs/Chosen.antt", CHOSEN_SPECS, uses=uses, projections=projections)
+    for name, one in rows.items():
+        row, number = one.sample()
+        kind = camel(name)
+        text = "%s of %s, which stand in an order that is chosen." % (one.kind(), one.bytes())
+        agrees = "agrees_by (λ p. p.endian) (λ q. q.endian) (integer_alike %d %s I.same_reading)" % (one.width, one.value)
+        parts = {"kind": kind, "own": kind + "<I, E>", "other": kind + "<J, F>", "like": "p.endian ≡ q.endian", "agrees": agrees, **vars(one)}
+        write(CHOSEN + "src/binary/impls/%s.rt" % name, CHOSEN_STRUCT, about=text, name=name, row=row, number=number, **parts)
+
+
+def write_integers():
+    write_fixed()
+    write_laws()
+    write_chosen()
