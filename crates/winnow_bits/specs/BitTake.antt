@@ -1,0 +1,33 @@
+-- Takes of so many bits, as a number.
+use Rattle.std.specs.Prelude.{◌≡◌, ◌<◌, ◌≤◌, ℕ, Bool, true, false, length, Some, Ok, Err, ◌⊎◌}
+use Rattle.streams.specs.Input.{Input}
+use Rattle.streams.specs.Kind.{Kind}
+use Rattle.streams.specs.Reading.{Reading}
+use Rattle.stream_errors.specs.Form.{Answer, ErrorForm, assert_kind}
+use Rattle.stream_bits.specs.Within.{ReadsNumber}
+use Rattle.winnow_core.specs.Short.{ShortKind}
+use Rattle.winnow_bits.specs.declared.bits.impls.take.Take.{Take}
+pub mod Known
+pub mod Laws
+
+-- how many bits are taken
+abbrev pub bit_take_count : {I O E : Type 0} → Take I O E → ℕ
+bit_take_count s = s.count
+
+-- A take of some bits cannot be answered: the output does not hold so many, or the place cannot be
+-- read.
+abbrev pub CannotTake : ℕ → ℕ → Input Bool → Type 0
+CannotTake width n i = (0 < n) × ((width < n) ⊎ (i.left.possible ≡ false))
+
+-- A run of a take of n bits, as an output of `width` bits whose number is `number`.
+abbrev pub BitTakeRuns : {O S : Type 0} → (O → ℕ) → ℕ → Reading Bool S → ErrorForm → ℕ → Input Bool
+    → Answer O → Input Bool → Type 0
+BitTakeRuns {O} number width reading form n i answer j =
+    -- the first n bits are taken, and are the number, of which the first bit is the greatest
+    ((o : O) × (n ≤ width) × ((n ≡ 0) ⊎ (i.left.possible ≡ true))
+    × ReadsNumber reading n i (number o) j × (answer ≡ Ok o))
+    -- the take cannot be answered
+    ⊎ ((CannotTake width n i × (answer ≡ Err (assert_kind form)) × (j ≡ i))
+    -- there are too few bits, and a cut input lacks so many
+    ⊎ ((k : Kind) × (n ≤ width) × (i.left.possible ≡ true) × (length i.left.tokens < n)
+    × ShortKind form (Some n) i k × (answer ≡ Err k) × (j ≡ i)))

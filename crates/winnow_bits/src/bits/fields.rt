@@ -1,0 +1,70 @@
+//! What takes of bits share.
+#![tactic(auto, using(streams::specs::Ends::ends_follow))]
+
+ghost use Rattle.std.specs.Prelude.{◌≡◌, ◌≤◌, length, true};
+ghost use Rattle.stream_bits.specs.BitReading.{bits_reading};
+ghost use Rattle.stream_bits.specs.Within.{ReadsNumber};
+ghost use Rattle.stream_errors.specs.Form.{answer_by};
+ghost use Rattle.streams.specs.Input.{IsEndOf};
+ghost use Rattle.winnow_bits.specs.BitTake.{BitTakeRuns};
+
+use crate::bits::output::BitOutput;
+use stream_bits::bits::Bits;
+use stream_errors::parser_error::ParserError;
+use streams::byte_stream::ByteStream;
+use streams::needed::Needed;
+use streams::stream::{Stream, StreamIsPartial};
+use winnow_core::short::short;
+
+/// The next `count` bits as a number: those of a byte at once.
+#[inline(always)]
+fn take_number<I: ByteStream, O: BitOutput>(input: &mut Bits<I>, count: usize) -> O
+    requires possible { (⟦<Bits<I> as Stream>⟧.view input.old).left.possible ≡ true }
+    requires there { count ≤ length (⟦<Bits<I> as Stream>⟧.view input.old).left.tokens }
+    requires fits { count ≤ O.WIDTH }
+    ensures { ReadsNumber (bits_reading I.reading) count (⟦<Bits<I> as Stream>⟧.view input.old)
+        (O.number result) (⟦<Bits<I> as Stream>⟧.view input.new) }
+{
+    let mut number = O::default();
+    let mut missing = count;
+    while 0 < missing {
+        let here = (8 - input.1).min(missing);
+        match input.next_of_byte(here) {
+            Some(bits) => {
+                number = number.push_bits(bits, here);
+                missing -= here;
+            }
+            None => {
+                return number;
+            }
+        }
+    }
+    number
+}
+
+/// A run of a take of `count` bits.
+#[inline(always)]
+pub(crate) fn take_counted<I: ByteStream + StreamIsPartial, O: BitOutput, E: ParserError<Bits<I>>>(
+    input: &mut Bits<I>,
+    count: usize,
+) -> Result<O, E>
+    ensures ran { BitTakeRuns O.number O.WIDTH (bits_reading I.reading) E.form count
+        (⟦<Bits<I> as Stream>⟧.view input.old) (answer_by E.kind result)
+        (⟦<Bits<I> as Stream>⟧.view input.new) }
+    ensures ends { IsEndOf (bits_reading I.reading) (⟦<Bits<I> as Stream>⟧.view input.new)
+        (⟦<Bits<I> as Stream>⟧.view input.old) }
+{
+    if count == 0 {
+        return Ok(O::default());
+    }
+    if O::WIDTH < count {
+        return Err(E::assert(input, "the output holds fewer bits"));
+    }
+    if !input.is_possible() {
+        return Err(E::assert(input, "bits that cannot be read"));
+    }
+    if input.eof_offset() < count {
+        return Err(short(input, Needed::new(count)));
+    }
+    Ok(take_number(input, count))
+}

@@ -1,0 +1,87 @@
+//! A parser of bits, run on bytes.
+ghost use Rattle.stream_bits.specs.BitReading.{bits_reading};
+ghost use Rattle.winnow_bits.specs.BitAgree.{bits_agree};
+ghost use Rattle.winnow_bits.specs.BitsOfBytes.{BitsOfBytesRuns};
+ghost use Rattle.winnow_bits.specs.BitsOfBytes.Laws.{bits_of_bytes_ends};
+
+use crate::bits::whole::{in_bytes, whole_bytes};
+use std::marker::PhantomData;
+pub use stream_bits::bits::Bits;
+pub use stream_bits::offsets::BitOffsets;
+use stream_errors::convert::ErrorConvert;
+use stream_errors::parser_error::ParserError;
+use streams::byte_stream::ByteStream;
+use streams::reads_like::ReadsLike;
+use streams::stream::Stream;
+use winnow_core::agrees_with::AgreesWith;
+use winnow_core::parser::Parser;
+
+/// The parser that [`bits`](crate::bits::bits) makes.
+///
+/// ```
+/// use winnow::binary::bits::bits;
+/// use winnow::binary::bits::impls::{BitsParser, Bool};
+///
+/// let mut parser: BitsParser<_, _, bool, EmptyError, _> = bits(Bool);
+/// let mut input = b"\x80\x01".as_slice();
+/// assert_eq!(rt; parser.parse_next(&mut input), Ok::<_, EmptyError>(true));
+/// ```
+#[derive(Drop)]
+pub struct BitsParser<P, I, O, E, F> {
+    pub(crate) parser: P,
+    pub(crate) marker: PhantomData<(I, O, E, F)>,
+}
+
+impl<
+    I: ByteStream + Copy,
+    P: Parser<Bits<I>, O, E>,
+    O: Drop,
+    E: ParserError<Bits<I>> + ErrorConvert<F>,
+    F: ParserError<I>,
+> Parser<I, O, F> for BitsParser<P, I, O, E, F> {
+    ghost can_parse = { λ s. P.can_parse s.parser };
+
+    ghost State = { P.State };
+
+    ghost state = { λ s. P.state s.parser };
+
+    ghost meaning = { λ form. BitsOfBytesRuns I.reading form (P.meaning form) };
+
+    ghost leaves_ends = { λ form. bits_of_bytes_ends I.reading form (P.meaning form)
+        (P.leaves_ends form) };
+
+    #[inline]
+    fn parse_next(&mut self, input: &mut I) -> Result<O, F> {
+        input.shows_bytes();
+        let mut inner = Bits(*input, 0);
+        if !inner.is_possible() {
+            return Err(F::assert(input, "more bytes than their bits can be counted"));
+        }
+        match self.parser.parse_next(&mut inner) {
+            Ok(output) => {
+                if !inner.is_possible() {
+                    return Err(F::assert(input, "the parser left bits that cannot be read"));
+                }
+                *input = whole_bytes(inner);
+                Ok(output)
+            }
+            Err(error) => Err(in_bytes(input, error)),
+        }
+    }
+}
+
+impl<
+    I: ByteStream + Copy + ReadsLike<J>,
+    J: ByteStream + Copy + Stream<Token = u8, Seen = u8, Slice = I::Slice>,
+    P: AgreesWith<Bits<I>, O, E, Q, Bits<J>, D>,
+    Q: Parser<Bits<J>, O, D>,
+    O: Drop,
+    E: ParserError<Bits<I>> + ErrorConvert<F>,
+    D: ParserError<Bits<J>> + ErrorConvert<G>,
+    F: ParserError<I>,
+    G: ParserError<J>,
+> AgreesWith<I, O, F, BitsParser<Q, J, O, D, G>, J, G> for BitsParser<P, I, O, E, F> {
+    ghost like = { λ p q. P.like p.parser q.parser };
+
+    ghost agrees = { bits_agree (λ p. p.parser) (λ q. q.parser) I.same_reading P.agrees };
+}

@@ -1,0 +1,54 @@
+//! One bit.
+ghost use Rattle.std.specs.Prelude.{⊤};
+ghost use Rattle.stream_bits.specs.BitReading.{bits_alike, bits_reading};
+ghost use Rattle.winnow_bits.specs.BitBool.{BitBoolRuns};
+ghost use Rattle.winnow_bits.specs.BitBool.Laws.{bit_bool_alike, bit_bool_ends};
+ghost use Rattle.winnow_core.specs.Agrees.{agrees_plain};
+ghost use Rattle.winnow_core.specs.Runs.{Keeps};
+
+use crate::bits;
+use stream_bits::bits::Bits;
+use stream_errors::parser_error::ParserError;
+use streams::byte_stream::ByteStream;
+use streams::reads_like::ReadsLike;
+use streams::stream::{Stream, StreamIsPartial};
+use winnow_core::agrees_with::AgreesWith;
+use winnow_core::parser::Parser;
+
+/// The parser [`bool`](crate::bits::bool).
+///
+/// ```
+/// use winnow::binary::bits::impls::{Bits, Bool};
+///
+/// let mut input = Bits(b"\x80".as_slice(), 0);
+/// assert_eq!(rt; (Bool, Bool).parse_next(&mut input), Ok::<_, EmptyError>((true, false)));
+/// ```
+#[derive(Clone, Copy, Debug, PartialEq, Eq)]
+pub struct Bool;
+
+impl<I: ByteStream + StreamIsPartial, E: ParserError<Bits<I>>> Parser<Bits<I>, bool, E> for Bool {
+    ghost State = { ⊤ };
+
+    ghost state = { λ _. tt };
+
+    ghost meaning = { λ form. Keeps (λ _. BitBoolRuns (bits_reading I.reading) form) };
+
+    ghost leaves_ends = { λ form x i answer y j r.
+        bit_bool_ends (bits_reading I.reading) form i answer j r.0 };
+
+    #[inline(always)]
+    fn parse_next(&mut self, input: &mut Bits<I>) -> Result<bool, E> {
+        bits::bool(input)
+    }
+}
+
+impl<
+    I: ByteStream + StreamIsPartial + ReadsLike<J>,
+    J: ByteStream + StreamIsPartial + Stream<Token = u8, Seen = u8, Slice = I::Slice>,
+    E: ParserError<Bits<I>>,
+    F: ParserError<Bits<J>>,
+> AgreesWith<Bits<I>, bool, E, Bool, Bits<J>, F> for Bool {
+    ghost like = { λ p q. ⊤ };
+
+    ghost agrees = { agrees_plain (bit_bool_alike (bits_alike I.same_reading)) };
+}

@@ -1,0 +1,82 @@
+//! A parser of bytes, run on bits.
+ghost use Rattle.stream_bits.specs.BitReading.{bits_reading};
+ghost use Rattle.winnow_bits.specs.BitAgree.{bytes_agree};
+ghost use Rattle.winnow_bits.specs.BytesOfBits.{BytesOfBitsRuns};
+ghost use Rattle.winnow_bits.specs.BytesOfBits.Laws.{bytes_of_bits_ends};
+
+use crate::bits::whole::{in_bits, whole_bytes};
+use std::marker::PhantomData;
+use stream_bits::bits::Bits;
+use stream_errors::convert::ErrorConvert;
+use stream_errors::parser_error::ParserError;
+use streams::byte_stream::ByteStream;
+use streams::reads_like::ReadsLike;
+use streams::stream::Stream;
+use winnow_core::agrees_with::AgreesWith;
+use winnow_core::parser::Parser;
+
+/// The parser that [`bytes`](crate::bits::bytes) makes.
+///
+/// ```
+/// use winnow::binary::bits::bytes;
+/// use winnow::binary::bits::impls::{Bits, Bytes};
+///
+/// let mut parser: Bytes<_, _, _, EmptyError, _> = bytes(Rest);
+/// let mut input = Bits(b"\xAB\xCD".as_slice(), 4);
+/// assert_eq!(rt; parser.parse_next(&mut input), Ok::<_, EmptyError>(b"\xCD".as_slice()));
+/// ```
+#[derive(Drop)]
+pub struct Bytes<P, I, O, E, F> {
+    pub(crate) parser: P,
+    pub(crate) marker: PhantomData<(I, O, E, F)>,
+}
+
+impl<
+    P: Parser<I, O, E>,
+    I: ByteStream + Copy,
+    O,
+    E: ParserError<I> + ErrorConvert<F>,
+    F: ParserError<Bits<I>>,
+> Parser<Bits<I>, O, F> for Bytes<P, I, O, E, F> {
+    ghost can_parse = { λ s. P.can_parse s.parser };
+
+    ghost State = { P.State };
+
+    ghost state = { λ s. P.state s.parser };
+
+    ghost meaning = { λ form. BytesOfBitsRuns (bits_reading I.reading) form (P.meaning form) };
+
+    ghost leaves_ends = { λ form. bytes_of_bits_ends I.reading I.counts_bytes form
+        (P.meaning form) (P.leaves_ends form) };
+
+    #[inline]
+    fn parse_next(&mut self, input: &mut Bits<I>) -> Result<O, F> {
+        if !input.is_possible() {
+            return Err(F::assert(input, "bits that cannot be read"));
+        }
+        let mut bytes = whole_bytes(*input);
+        match self.parser.parse_next(&mut bytes) {
+            Ok(output) => {
+                *input = Bits(bytes, 0);
+                Ok(output)
+            }
+            Err(error) => Err(in_bits(input, error)),
+        }
+    }
+}
+
+impl<
+    I: ByteStream + Copy + ReadsLike<J>,
+    J: ByteStream + Copy + Stream<Token = u8, Seen = u8, Slice = I::Slice>,
+    P: AgreesWith<I, O, E, Q, J, D>,
+    Q: Parser<J, O, D>,
+    O,
+    E: ParserError<I> + ErrorConvert<F>,
+    D: ParserError<J> + ErrorConvert<G>,
+    F: ParserError<Bits<I>>,
+    G: ParserError<Bits<J>>,
+> AgreesWith<Bits<I>, O, F, Bytes<Q, J, O, D, G>, Bits<J>, G> for Bytes<P, I, O, E, F> {
+    ghost like = { λ p q. P.like p.parser q.parser };
+
+    ghost agrees = { bytes_agree (λ p. p.parser) (λ q. q.parser) I.same_reading P.agrees };
+}

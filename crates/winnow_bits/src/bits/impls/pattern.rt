@@ -1,0 +1,79 @@
+//! So many bits, which must be a number.
+ghost use Rattle.std.specs.Prelude.{◌≡◌, ℕ};
+ghost use Rattle.stream_bits.specs.BitReading.{bits_alike, bits_reading};
+ghost use Rattle.winnow_bits.specs.BitPattern.{BitPatternRuns};
+ghost use Rattle.winnow_bits.specs.BitPattern.Laws.{bit_pattern_alike, bit_pattern_ends};
+ghost use Rattle.winnow_core.specs.Agrees.{agrees_by_parts};
+ghost use Rattle.winnow_core.specs.Runs.{Keeps};
+
+use crate::bits::fields::take_counted;
+use crate::bits::output::BitOutput;
+use std::marker::PhantomData;
+use stream_bits::bits::Bits;
+use stream_errors::parser_error::ParserError;
+use streams::byte_stream::ByteStream;
+use streams::reads_like::ReadsLike;
+use streams::stream::{Stream, StreamIsPartial};
+use winnow_core::agrees_with::AgreesWith;
+use winnow_core::parser::Parser;
+
+/// The parser that [`pattern`](crate::bits::pattern) makes.
+///
+/// ```
+/// use winnow::binary::bits::impls::{Bits, Pattern};
+/// use winnow::binary::bits::pattern;
+///
+/// let mut parser: Pattern<_, u8, EmptyError> = pattern(0xA, 4u8);
+/// let mut input = Bits(b"\xAB".as_slice(), 0);
+/// assert_eq!(rt; parser.parse_next(&mut input), Ok(0xA));
+/// ```
+#[derive(Drop)]
+pub struct Pattern<I, O, E> {
+    pub(crate) value: O,
+    pub(crate) count: usize,
+    pub(crate) input: PhantomData<I>,
+    pub(crate) error: PhantomData<E>,
+}
+
+impl<I: ByteStream + StreamIsPartial, O: BitOutput, E: ParserError<Bits<I>>> Parser<Bits<I>, O, E>
+    for Pattern<I, O, E> {
+    ghost State = { ℕ × ℕ };
+
+    ghost state = { λ s. (O.number s.value, s.count) };
+
+    ghost meaning = { λ form. Keeps
+        (λ s. BitPatternRuns O.number O.WIDTH (bits_reading I.reading) form s.0 s.1) };
+
+    ghost leaves_ends = { λ form s i answer m j r.
+        bit_pattern_ends O.number O.WIDTH (bits_reading I.reading) form s.0 s.1 i answer j r.0 };
+
+    #[inline(always)]
+    fn parse_next(&mut self, input: &mut Bits<I>) -> Result<O, E> {
+        let start = input.checkpoint();
+        match take_counted::<I, O, E>(input, self.count) {
+            Ok(taken) => {
+                if taken == self.value {
+                    Ok(taken)
+                } else {
+                    input.reset(&start);
+                    Err(E::from_input(input))
+                }
+            }
+            Err(error) => Err(error),
+        }
+    }
+}
+
+impl<
+    I: ByteStream + StreamIsPartial + ReadsLike<J>,
+    J: ByteStream + StreamIsPartial + Stream<Token = u8, Seen = u8, Slice = I::Slice>,
+    O: BitOutput,
+    E: ParserError<Bits<I>>,
+    F: ParserError<Bits<J>>,
+> AgreesWith<Bits<I>, O, E, Pattern<J, O, F>, Bits<J>, F> for Pattern<I, O, E> {
+    ghost like = { λ p q. (O.number p.value ≡ O.number q.value) × (p.count ≡ q.count) };
+
+    ghost agrees = { agrees_by_parts (λ p. O.number p.value) (λ p. p.count)
+        (λ q. O.number q.value) (λ q. q.count)
+        (bit_pattern_alike O.number O.WIDTH (bits_alike I.same_reading)) };
+}

@@ -1,0 +1,67 @@
+//! So many bits, as a number.
+ghost use Rattle.std.specs.Prelude.{◌≡◌, ℕ};
+ghost use Rattle.stream_bits.specs.BitReading.{bits_alike, bits_reading};
+ghost use Rattle.winnow_bits.specs.BitTake.{BitTakeRuns};
+ghost use Rattle.winnow_bits.specs.BitTake.Laws.{bit_take_alike, bit_take_ends};
+ghost use Rattle.winnow_core.specs.Agrees.{agrees_by};
+ghost use Rattle.winnow_core.specs.Runs.{Keeps};
+
+use crate::bits::fields::take_counted;
+use crate::bits::output::BitOutput;
+use std::marker::PhantomData;
+use stream_bits::bits::Bits;
+use stream_errors::parser_error::ParserError;
+use streams::byte_stream::ByteStream;
+use streams::reads_like::ReadsLike;
+use streams::stream::{Stream, StreamIsPartial};
+use winnow_core::agrees_with::AgreesWith;
+use winnow_core::parser::Parser;
+
+/// The parser that [`take`](crate::bits::take) makes.
+///
+/// ```
+/// use winnow::binary::bits::impls::{Bits, Take};
+/// use winnow::binary::bits::take;
+///
+/// let mut parser: Take<_, u8, EmptyError> = take(4u8);
+/// let mut input = Bits(b"\xAB".as_slice(), 0);
+/// assert_eq!(rt; parser.parse_next(&mut input), Ok(0xA));
+/// ```
+#[derive(Drop)]
+pub struct Take<I, O, E> {
+    pub(crate) count: usize,
+    pub(crate) input: PhantomData<I>,
+    pub(crate) output: PhantomData<O>,
+    pub(crate) error: PhantomData<E>,
+}
+
+impl<I: ByteStream + StreamIsPartial, O: BitOutput, E: ParserError<Bits<I>>> Parser<Bits<I>, O, E>
+    for Take<I, O, E> {
+    ghost State = { ℕ };
+
+    ghost state = { λ s. s.count };
+
+    ghost meaning = { λ form. Keeps
+        (λ n. BitTakeRuns O.number O.WIDTH (bits_reading I.reading) form n) };
+
+    ghost leaves_ends = { λ form n i answer m j r.
+        bit_take_ends O.number O.WIDTH (bits_reading I.reading) form n i answer j r.0 };
+
+    #[inline(always)]
+    fn parse_next(&mut self, input: &mut Bits<I>) -> Result<O, E> {
+        take_counted(input, self.count)
+    }
+}
+
+impl<
+    I: ByteStream + StreamIsPartial + ReadsLike<J>,
+    J: ByteStream + StreamIsPartial + Stream<Token = u8, Seen = u8, Slice = I::Slice>,
+    O: BitOutput,
+    E: ParserError<Bits<I>>,
+    F: ParserError<Bits<J>>,
+> AgreesWith<Bits<I>, O, E, Take<J, O, F>, Bits<J>, F> for Take<I, O, E> {
+    ghost like = { λ p q. p.count ≡ q.count };
+
+    ghost agrees = { agrees_by (λ p. p.count) (λ q. q.count)
+        (bit_take_alike O.number O.WIDTH (bits_alike I.same_reading)) };
+}

@@ -1,0 +1,45 @@
+//! Laws of the parsers of bits, each proved by a function that does nothing.
+ghost use Rattle.stream_bits.specs.BitReading.{bits_reading};
+ghost use Rattle.winnow_bits.specs.BitLaws.{StaysOnError, TakesFirstBits};
+
+use crate::bits::BitOutput;
+use crate::bits::impls::{BitsParser, Bytes, Take};
+use stream_bits::bits::Bits;
+use stream_errors::convert::ErrorConvert;
+use stream_errors::parser_error::ParserError;
+use streams::byte_stream::ByteStream;
+use streams::stream::StreamIsPartial;
+use winnow_core::parser::Parser;
+
+/// After an error of [`bits`](crate::bits::bits) the input is as it was.
+pub fn bits_stays_on_an_error<
+    I: ByteStream + Copy,
+    P: Parser<Bits<I>, O, E>,
+    O: Drop,
+    E: ParserError<Bits<I>> + ErrorConvert<F>,
+    F: ParserError<I>,
+>()
+    ensures { StaysOnError (⟦<BitsParser<P, I, O, E, F> as Parser<I, O, F>>⟧.meaning F.form) }
+{}
+
+/// After an error of [`bytes`](crate::bits::bytes) the input is as it was.
+pub fn bytes_stays_on_an_error<
+    I: ByteStream + Copy,
+    P: Parser<I, O, E>,
+    O,
+    E: ParserError<I> + ErrorConvert<F>,
+    F: ParserError<Bits<I>>,
+>()
+    ensures { StaysOnError (⟦<Bytes<P, I, O, E, F> as Parser<Bits<I>, O, F>>⟧.meaning F.form) }
+{}
+
+/// The number that [`take`](crate::bits::take) answers is that of the first bits, as many as are
+/// asked for; they and then the rest are the bits that were there.
+pub fn taken_bits_and_the_rest_are_the_input<
+    I: ByteStream + StreamIsPartial,
+    O: BitOutput,
+    E: ParserError<Bits<I>>,
+>()
+    ensures { TakesFirstBits O.number (bits_reading I.reading)
+        (⟦<Take<I, O, E> as Parser<Bits<I>, O, E>>⟧.meaning E.form) }
+{}
