@@ -1,0 +1,5 @@
+//! Temporary.
+#![tactic(auto)]
+
+pub mod calc;
+pub mod fault;

@@ -1,0 +1,276 @@
+-- What the loop keeps is kept by each of its steps.
+use Rattle.std.proofs.Common.{◌≡◌, ◌∙◌, ◌≤◌, ◌<◌, ◌⊎◌, ℕ, ℤ, Option, Some, None, Ok, Err, Bool}
+use Rattle.std.proofs.Common.{true, false, List, [], ◌∷◌, ◌++◌, reverse, length, ap, subst, sym}
+use Rattle.std.proofs.Common.{inl, inr, refl, arith}
+use Rattle.std.proofs.lemmas.Bool.{cases_lt}
+use Rattle.stream_errors.specs.Form.{Answer}
+use Rattle.streams.specs.Input.{Input}
+use Rattle.streams.specs.Kind.{Kind}
+use Rattle.winnow_core.specs.Runs.{Runs}
+use Rattle.winnow_expression.specs.Units.{units_left}
+use Rattle.winnow_expression.specs.Calls.{Interrupts, call_at}
+use Rattle.winnow_expression.specs.Expression.{CallRuns, ExpressionRuns}
+use Rattle.winnow_expression.specs.Grammar.{Folding, Grammar, CallEnds, Closes, Infixes, Postfixes}
+use Rattle.winnow_expression.specs.Grammar.{TurnEnds}
+use Rattle.winnow_expression.specs.Machine.{AllEnd, OperandStep, TurnStep}
+use Rattle.winnow_expression.specs.Loop.{Leads, Nested, Falls, Stands, rank}
+use Rattle.winnow_expression.proofs.EndLemmas.{popped}
+use Rattle.winnow_expression.proofs.LeadsLemmas.{leads_operand, leads_prefix, leads_infix}
+use Rattle.winnow_expression.proofs.LeadsLemmas.{leads_postfix, leads_close, call_fails, turn_fails}
+use Rattle.winnow_expression.proofs.LeadsLemmas.{close_fails, call_done, all_done, expression_all}
+use Rattle.winnow_expression.proofs.LeadsLemmas.{expression_fails, of_all}
+use Rattle.winnow_expression.proofs.RankLemmas.{rank_consumed, rank_operand, rank_infix, rank_close}
+use Rattle.winnow_expression.specs.declared.combinator.places.Next.{Next}
+use Rattle.winnow_expression.specs.declared.combinator.calls.Call.{Call}
+use Rattle.winnow_expression.specs.declared.combinator.calls.Calls.{Calls}
+use Rattle.winnow_expression.specs.declared.combinator.calls.Operator.{Operator}
+use Rattle.winnow_expression.specs.declared.combinator.calls.Operator.TheVariants.{
+  Prefix as prefix_open,
+}
+use Rattle.winnow_expression.specs.declared.combinator.calls.Operator.TheVariants.{
+  Infix as infix_open,
+}
+use Rattle.winnow_expression.specs.declared.combinator.calls.Open.{Open}
+use Rattle.winnow_expression.specs.declared.combinator.machine.Turn.{Turn}
+use Rattle.winnow_expression.specs.declared.combinator.machine.Turn.TheVariants.{Ends, EndsAll}
+use Rattle.winnow_expression.specs.declared.combinator.machine.Turn.TheVariants.{Goes, Interrupted}
+use Rattle.winnow_expression.proofs.StepLemmas.{ends_of, goes_of, interrupted_of}
+
+-- fewer units, or as many
+pub fewer_or_same : (m n : ℕ) → m ≤ n → (m < n) ⊎ (m ≡ n)
+fewer_or_same m n le = elim (cases_lt m n) [
+  | inl less ↦ inl less
+  | inr more ↦ inr (omega (arith, le, more))
+]
+
+-- an operator is opened
+pushed : {S W T V F G H A : Type 0} (g : Grammar S W T V F G H) (whole : Call) (z : S × W)
+    (o : Input T) (calls after : Calls V F H A) (x : Open V F H) (power : ℤ) (t : S × W)
+    (j : Input T) → Interrupts calls x power (units_left g.folding.units j) after
+    → Leads g whole z o (call_at power (units_left g.folding.units j)) None
+    (x ∷ reverse calls.open.items) t j
+    → Nested (x ∷ reverse calls.open.items) (units_left g.folding.units j)
+    → Stands g whole z o after None t j
+pushed g whole z o calls after x power t j opened known nested =
+    let P : List (Open _ _ _) → Call → Type 0 = λ xs call. Leads g whole z o call None xs t j
+    × Nested xs call.began × (units_left g.folding.units j ≤ call.began)
+    × (call.turn ≡ call.began) in
+    subst (λ xs. P xs after.present) (sym (popped after.open.items calls.open.items x opened.0))
+    (subst (λ call. P (x ∷ reverse calls.open.items) call) (sym opened.1)
+    (known, nested, omega arith, refl))
+
+pub operand_kept : {S W T V F G H A : Type 0} (g : Grammar S W T V F G H) (whole : Call)
+    (z : S × W) (o : Input T) (calls after : Calls V F H A) (given left : Option V) (s : S × W)
+    (t : S) (i j : Input T) → Stands g whole z o calls given s i → given ≡ None
+    → OperandStep g.folding.units g.first g.folding.refusal calls s.0 i (Ok left) after t j
+    → units_left g.folding.units j ≤ units_left g.folding.units i
+    → Stands g whole z o after left (t, s.1) j
+    × (rank (units_left g.folding.units j) after.present (reverse after.open.items) left
+    < rank (units_left g.folding.units i) calls.present (reverse calls.open.items) given)
+operand_kept {V = V} g whole z o calls after given left s t i j stands none step ends =
+    let P : Option V → Type 0 = λ l. Stands g whole z o calls l s i in
+    let Q : Option V → Type 0 =
+    λ l. rank (units_left g.folding.units j) after.present (reverse after.open.items) left
+    < rank (units_left g.folding.units i) calls.present (reverse calls.open.items) l in
+    let both = kept g whole z o calls after left s t i j (subst P none stands) step ends in
+    (both.0, subst Q (sym none) both.1)
+  where
+    kept : {S W T V F G H A : Type 0} (g : Grammar S W T V F G H) (whole : Call)
+        (z : S × W) (o : Input T) (calls after : Calls V F H A) (left : Option V) (s : S × W)
+        (t : S) (i j : Input T) → Stands g whole z o calls None s i
+        → OperandStep g.folding.units g.first g.folding.refusal calls s.0 i (Ok left) after t j
+        → units_left g.folding.units j ≤ units_left g.folding.units i
+        → Stands g whole z o after left (t, s.1) j
+        × (rank (units_left g.folding.units j) after.present (reverse after.open.items) left
+        < rank (units_left g.folding.units i) calls.present (reverse calls.open.items) None)
+    kept g whole z o calls after left s t i j stands (inl (kind, failed, e)) ends = absurd (cc)
+    kept {V = V} g whole z o calls after left s t i j stands (inr (inl (v, read, e, same))) ends =
+        let R : Calls _ _ _ _ → Option V → Type 0 = λ c l. Stands g whole z o c l (t, s.1) j
+        × (rank (units_left g.folding.units j) c.present (reverse c.open.items) l
+        < rank (units_left g.folding.units i) calls.present (reverse calls.open.items) None) in
+        let is : left ≡ Some v = cc in
+        subst (λ c. R c left) (sym same) (subst (R calls) (sym is) (
+          (
+            leads_operand g whole calls.present z o (reverse calls.open.items) v s t i j
+                stands.0 read,
+            stands.1,
+            omega (arith, ends, stands.2),
+            tt,
+          ),
+          rank_operand (units_left g.folding.units i) (units_left g.folding.units j)
+              calls.present (reverse calls.open.items) v
+              (fewer_or_same (units_left g.folding.units j) (units_left g.folding.units i)
+              ends),
+        ))
+    kept {V = V} g whole z o calls after left s t i j stands
+        (inr (inr (x, power, read, e, opened))) ends =
+        let R : Option V → Type 0 = λ l. Stands g whole z o after l (t, s.1) j
+        × (rank (units_left g.folding.units j) after.present (reverse after.open.items) l
+        < rank (units_left g.folding.units i) calls.present (reverse calls.open.items) None) in
+        let is : left ≡ None = cc in
+        let N : Open _ _ _ → Type 0 =
+        λ y. Nested (y ∷ reverse calls.open.items) (units_left g.folding.units j) in
+        subst R (sym is) (
+          pushed g whole z o calls after x power (t, s.1) j opened
+              (leads_prefix g whole calls.present z o (reverse calls.open.items) x power s t i j
+              stands.0 read)
+              (subst N (sym read.3) (
+                omega (arith, read.2, stands.2, stands.3),
+                omega (arith, stands.3),
+                stands.1,
+              )),
+          rank_consumed (units_left g.folding.units i) (units_left g.folding.units j)
+              calls.present after.present
+              (reverse calls.open.items) (reverse after.open.items) None None read.2
+              (omega (arith, ap length (popped after.open.items calls.open.items x opened.0))),
+        )
+
+pub infix_kept : {S W T V F G H A : Type 0} (g : Grammar S W T V F G H) (whole : Call)
+    (z : S × W) (o : Input T) (calls after : Calls V F H A) (left : V) (s : S × W)
+    (t : W) (i j : Input T) → Stands g whole z o calls (Some left) s i
+    → TurnStep g.folding.units g.next g.behind g.folding.refusal calls left s.1 i
+    (Ok Interrupted) after t j
+    → units_left g.folding.units j ≤ units_left g.folding.units i
+    → Stands g whole z o after None (s.0, t) j
+    × (rank {V = V} (units_left g.folding.units j) after.present (reverse after.open.items) None
+    < rank (units_left g.folding.units i) calls.present (reverse calls.open.items) (Some left))
+infix_kept {V = V} g whole z o calls after left s t i j stands step ends =
+    let (x, power, read, opened) =
+    interrupted_of g.folding.units g.next g.behind g.folding.refusal calls after left s.1 t
+    i j step in
+    let N : Open _ _ _ → Type 0 =
+    λ y. Nested (y ∷ reverse calls.open.items) (units_left g.folding.units j) in
+    let Q : List (Open _ _ _) → Type 0 =
+    λ xs. rank {V = V} (units_left g.folding.units j) after.present xs None
+    < rank (units_left g.folding.units i) calls.present (reverse calls.open.items) (Some left) in (
+      pushed g whole z o calls after x power (s.0, t) j opened
+          (leads_infix g whole calls.present z o left (reverse calls.open.items) x power s t i j
+          stands.0 read)
+          (subst N (sym read.6) (ends, stands.2, stands.1)),
+      subst Q (sym (popped after.open.items calls.open.items x opened.0))
+          (rank_infix (units_left g.folding.units i) (units_left g.folding.units j)
+          calls.present after.present x
+          (reverse calls.open.items) left
+          (fewer_or_same (units_left g.folding.units j) (units_left g.folding.units i)
+          ends) stands.1 stands.2 read.4
+          (ap (λ y. y.call.turn) read.6) (ap (λ c. c.began) opened.1)),
+    )
+
+pub postfix_kept : {S W T V F G H A : Type 0} (g : Grammar S W T V F G H) (whole : Call)
+    (z : S × W) (o : Input T) (calls after : Calls V F H A) (left v : V) (s : S × W)
+    (t : W) (i j : Input T) → Stands g whole z o calls (Some left) s i
+    → TurnStep g.folding.units g.next g.behind g.folding.refusal calls left s.1 i (Ok (Goes v))
+    after t j
+    → units_left g.folding.units j ≤ units_left g.folding.units i
+    → Stands g whole z o after (Some v) (s.0, t) j
+    × (rank (units_left g.folding.units j) after.present (reverse after.open.items) (Some v)
+    < rank (units_left g.folding.units i) calls.present (reverse calls.open.items) (Some left))
+postfix_kept g whole z o calls after left v s t i j stands step ends =
+    let (read, same) =
+    goes_of g.folding.units g.next g.behind g.folding.refusal calls after left v s.1 t i j
+    step in
+    let (power, fold, m, ran, reaches, folded, moved) = read in
+    let R : Calls _ _ _ _ → Type 0 = λ c. Stands g whole z o c (Some v) (s.0, t) j
+    × (rank (units_left g.folding.units j) c.present (reverse c.open.items) (Some v)
+    < rank (units_left g.folding.units i) calls.present (reverse calls.open.items) (Some left)) in
+    subst R (sym same) (
+      (
+        leads_postfix g whole calls.present z o left v (reverse calls.open.items) s t i j
+            stands.0 read,
+        stands.1,
+        omega (arith, ends, stands.2),
+        tt,
+      ),
+      rank_consumed (units_left g.folding.units i) (units_left g.folding.units j) calls.present
+          calls.present
+          (reverse calls.open.items) (reverse calls.open.items) (Some left) (Some v)
+          (omega (arith, ends, moved)) (omega arith),
+    )
+
+-- a folded operator's turn began before the place, or something is consumed
+behind_turn : {T V F H : Type 0} (g : Folding T V F H) (x : Operator V F H) (turn began u : ℕ)
+    (v w : V) (m j : Input T) → Falls x began turn → u ≤ began → units_left g.units j ≤ u
+    → Closes g x turn m v (Ok w) j → (u < turn) ⊎ (units_left g.units j < u)
+behind_turn g (prefix_open fold) turn began u v w m j falls below less closes =
+    inl (omega (arith, falls, below))
+behind_turn g (infix_open left fold) turn began u v w m j falls below less (inl (kind, folded, e)) =
+    absurd (cc)
+behind_turn g (infix_open left fold) turn began u v w m j falls below less
+    (inr (inl (value, folded, still, e))) = absurd (cc)
+behind_turn g (infix_open left fold) turn began u v w m j falls below less
+    (inr (inr (value, folded, moved, e))) =
+    split u turn (units_left g.units j) (omega (arith, falls, below)) less moved
+  where
+    split : (u turn n : ℕ) → u ≤ turn → n ≤ u → (n ≡ turn → ⊥) → (u < turn) ⊎ (n < u)
+    split u turn n below less moved = elim (cases_lt u turn) [
+      | inl is ↦ inl is
+      | inr more ↦ inr (omega (arith, below, less, moved, more))
+    ]
+
+-- the operators above, the last of them first
+pub above_last : {V F H A : Type 0} (calls after : Calls V F H A) (rest : List (Open V F H))
+    (x : Open V F H) → after ≡ calls → after.open.items ≡ rest ++ (x ∷ [])
+    → reverse calls.open.items ≡ x ∷ reverse rest
+above_last calls after rest x same last =
+    ap (λ c. reverse c.open.items) (sym same) ∙ popped after.open.items rest x last
+
+pub close_kept : {S W T V F G H A : Type 0} (g : Grammar S W T V F G H) (whole : Call)
+    (z : S × W) (o : Input T) (calls after final : Calls V F H A) (left v w : V)
+    (x : Open V F H) (rest : List (Open V F H)) (s : S × W) (t : W) (i m j : Input T)
+    → Stands g whole z o calls (Some left) s i
+    → TurnStep g.folding.units g.next g.behind g.folding.refusal calls left s.1 i (Ok (Ends v))
+    after t m
+    → units_left g.folding.units m ≤ units_left g.folding.units i
+    → after.open.items ≡ rest ++ (x ∷ [])
+    → Closes g.folding x.operator x.call.turn m v (Ok w) j
+    → units_left g.folding.units j ≤ units_left g.folding.units m
+    → final.present ≡ x.call → final.open.items ≡ rest
+    → Stands g whole z o final (Some w) (s.0, t) j
+    × (rank (units_left g.folding.units j) final.present (reverse final.open.items) (Some w)
+    < rank (units_left g.folding.units i) calls.present (reverse calls.open.items) (Some left))
+close_kept {V = V} {F = F} {H = H} g whole z o calls after final left v w x rest s t i m j
+    stands step ends last closes
+    closed present items =
+    let (ended_, same) =
+    ends_of g.folding.units g.next g.behind g.folding.refusal calls after left v s.1 t i m
+    step in
+    let open_ = above_last calls after rest x same last in
+    let P : List (Open V F H) → Type 0 = λ xs. Leads g whole z o calls.present (Some left) xs s i in
+    let N : List (Open V F H) → Type 0 = λ xs. Nested xs calls.present.began in
+    let known = subst P open_ stands.0 in
+    let nested = subst N open_ stands.1 in
+    let R : Call → List (Open V F H) → List (Open V F H) → Type 0 = λ call ys xs.
+    (Leads g whole z o call (Some w) (reverse ys) (s.0, t) j
+    × Nested (reverse ys) call.began × (units_left g.folding.units j ≤ call.began) × Unit {0})
+    × (rank (units_left g.folding.units j) call (reverse ys) (Some w)
+    < rank (units_left g.folding.units i) calls.present xs (Some left)) in
+    subst (λ call. R call final.open.items (reverse calls.open.items)) (sym present)
+    (subst (λ ys. R x.call ys (reverse calls.open.items)) (sym items)
+    (subst (λ xs. R x.call rest xs) (sym open_) (
+      (
+        leads_close g whole calls.present z o left v w x (reverse rest) s t i m j known ended_
+            closes,
+        nested.2,
+        omega (
+          arith,
+          closed,
+          ends,
+          stands.2,
+          falls_least x.operator calls.present.began x.call.turn nested.0,
+          nested.1,
+        ),
+        tt,
+      ),
+      rank_close (units_left g.folding.units i) (units_left g.folding.units j) calls.present x
+          (reverse rest) left w
+          (fewer_or_same (units_left g.folding.units j) (units_left g.folding.units i)
+          (omega (arith, closed, ends)))
+          (behind_turn g.folding x.operator x.call.turn calls.present.began
+          (units_left g.folding.units i) v w m j
+          nested.0 stands.2 (omega (arith, closed, ends)) closes),
+    )))
+  where
+    falls_least : {V F H : Type 0} (x : Operator V F H) (began turn : ℕ) → Falls x began turn
+        → began ≤ turn
+    falls_least (prefix_open fold) began turn falls = omega (arith, falls)
+    falls_least (infix_open left fold) began turn falls = falls

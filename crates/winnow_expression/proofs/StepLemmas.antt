@@ -1,0 +1,134 @@
+-- What a step of the loop was, by its answer.
+use Rattle.std.proofs.Common.{◌≡◌, ◌∙◌, ◌≤◌, ◌<◌, ◌⊎◌, ℕ, ℤ, Option, Some, None, Ok, Err, Bool}
+use Rattle.std.proofs.Common.{true, false, List, [], ◌∷◌, ◌++◌, reverse, length, ap, subst, sym}
+use Rattle.std.proofs.Common.{inl, inr, refl, arith}
+use Rattle.std.proofs.lemmas.Bool.{cases_lt}
+use Rattle.stream_errors.specs.Form.{Answer}
+use Rattle.streams.specs.Input.{Input}
+use Rattle.streams.specs.Kind.{Kind}
+use Rattle.winnow_core.specs.Runs.{Runs}
+use Rattle.winnow_expression.specs.Units.{units_left}
+use Rattle.winnow_expression.specs.Calls.{Interrupts, call_at}
+use Rattle.winnow_expression.specs.Expression.{CallRuns, ExpressionRuns}
+use Rattle.winnow_expression.specs.Grammar.{Folding, Grammar, CallEnds, Closes, Infixes, Postfixes}
+use Rattle.winnow_expression.specs.Grammar.{TurnEnds}
+use Rattle.winnow_expression.specs.Machine.{AllEnd, OperandStep, TurnStep}
+use Rattle.winnow_expression.specs.Loop.{Leads, Nested, Falls, Stands, rank}
+use Rattle.winnow_expression.proofs.EndLemmas.{popped}
+use Rattle.winnow_expression.proofs.LeadsLemmas.{leads_operand, leads_prefix, leads_infix}
+use Rattle.winnow_expression.proofs.LeadsLemmas.{leads_postfix, leads_close, call_fails, turn_fails}
+use Rattle.winnow_expression.proofs.LeadsLemmas.{close_fails, call_done, all_done, expression_all}
+use Rattle.winnow_expression.proofs.LeadsLemmas.{expression_fails, of_all}
+use Rattle.winnow_expression.proofs.RankLemmas.{rank_consumed, rank_operand, rank_infix, rank_close}
+use Rattle.winnow_expression.specs.declared.combinator.places.Next.{Next}
+use Rattle.winnow_expression.specs.declared.combinator.calls.Call.{Call}
+use Rattle.winnow_expression.specs.declared.combinator.calls.Calls.{Calls}
+use Rattle.winnow_expression.specs.declared.combinator.calls.Operator.{Operator}
+use Rattle.winnow_expression.specs.declared.combinator.calls.Operator.TheVariants.{
+  Prefix as prefix_open,
+}
+use Rattle.winnow_expression.specs.declared.combinator.calls.Operator.TheVariants.{
+  Infix as infix_open,
+}
+use Rattle.winnow_expression.specs.declared.combinator.calls.Open.{Open}
+use Rattle.winnow_expression.specs.declared.combinator.machine.Turn.{Turn}
+use Rattle.winnow_expression.specs.declared.combinator.machine.Turn.TheVariants.{Ends, EndsAll}
+use Rattle.winnow_expression.specs.declared.combinator.machine.Turn.TheVariants.{Goes, Interrupted}
+
+-- what a step was, by its answer
+pub goes_of : {W T V F G H A : Type 0} (units : List T → ℕ) (next : Runs W T (Next G H))
+    (behind : G → Input T → V → Answer V → Input T → Type 0) (refusal : Kind)
+    (calls after : Calls V F H A) (left v : V) (s t : W) (i j : Input T)
+    → TurnStep units next behind refusal calls left s i (Ok (Goes v)) after t j
+    → Postfixes units next behind calls.present left s i v t j × (after ≡ calls)
+goes_of units next behind refusal calls after left v s t i j
+    (inl (Ok (w, true), ends, e, same)) = absurd (cc)
+goes_of units next behind refusal calls after left v s t i j
+    (inl (Ok (w, false), ends, e, same)) = absurd (cc)
+goes_of units next behind refusal calls after left v s t i j (inl (Err kind, ends, e, same)) =
+    absurd (cc)
+goes_of units next behind refusal calls after left v s t i j (inr (inl (w, read, e, same))) =
+    let P : _ → Type 0 = λ x. Postfixes units next behind calls.present left s i x t j in
+    let is : v ≡ w = cc in
+    (subst P (sym is) read, same)
+goes_of units next behind refusal calls after left v s t i j
+    (inr (inr (x, power, read, e, opened))) = absurd (cc)
+
+pub interrupted_of : {W T V F G H A : Type 0} (units : List T → ℕ) (next : Runs W T (Next G H))
+    (behind : G → Input T → V → Answer V → Input T → Type 0) (refusal : Kind)
+    (calls after : Calls V F H A) (left : V) (s t : W) (i j : Input T)
+    → TurnStep units next behind refusal calls left s i (Ok Interrupted) after t j
+    → (x : Open V F H) × (power : ℤ) × Infixes units next calls.present left s i x power t j
+    × Interrupts calls x power (units_left units j) after
+interrupted_of units next behind refusal calls after left s t i j
+    (inl (Ok (w, true), ends, e, same)) = absurd (cc)
+interrupted_of units next behind refusal calls after left s t i j
+    (inl (Ok (w, false), ends, e, same)) = absurd (cc)
+interrupted_of units next behind refusal calls after left s t i j
+    (inl (Err kind, ends, e, same)) = absurd (cc)
+interrupted_of units next behind refusal calls after left s t i j
+    (inr (inl (w, read, e, same))) = absurd (cc)
+interrupted_of units next behind refusal calls after left s t i j
+    (inr (inr (x, power, read, e, opened))) = (x, power, read, opened)
+
+pub ends_of : {W T V F G H A : Type 0} (units : List T → ℕ) (next : Runs W T (Next G H))
+    (behind : G → Input T → V → Answer V → Input T → Type 0) (refusal : Kind)
+    (calls after : Calls V F H A) (left v : V) (s t : W) (i j : Input T)
+    → TurnStep units next behind refusal calls left s i (Ok (Ends v)) after t j
+    → TurnEnds F units next behind refusal calls.present left s i (Ok (v, false)) t j
+    × (after ≡ calls)
+ends_of units next behind refusal calls after left v s t i j
+    (inl (Ok (w, true), ends, e, same)) = absurd (cc)
+ends_of {F = F} units next behind refusal calls after left v s t i j
+    (inl (Ok (w, false), ends, e, same)) =
+    let P : _ → Type 0 =
+    λ x. TurnEnds F units next behind refusal calls.present left s i (Ok (x, false)) t j in
+    let is : v ≡ w = cc in
+    (subst P (sym is) ends, same)
+ends_of units next behind refusal calls after left v s t i j (inl (Err kind, ends, e, same)) =
+    absurd (cc)
+ends_of units next behind refusal calls after left v s t i j (inr (inl (w, read, e, same))) =
+    absurd (cc)
+ends_of units next behind refusal calls after left v s t i j
+    (inr (inr (x, power, read, e, opened))) = absurd (cc)
+
+pub all_of : {W T V F G H A : Type 0} (units : List T → ℕ) (next : Runs W T (Next G H))
+    (behind : G → Input T → V → Answer V → Input T → Type 0) (refusal : Kind)
+    (calls after : Calls V F H A) (left v : V) (s t : W) (i j : Input T)
+    → TurnStep units next behind refusal calls left s i (Ok (EndsAll v)) after t j
+    → TurnEnds F units next behind refusal calls.present left s i (Ok (v, true)) t j
+    × (after ≡ calls)
+all_of {F = F} units next behind refusal calls after left v s t i j
+    (inl (Ok (w, true), ends, e, same)) =
+    let P : _ → Type 0 =
+    λ x. TurnEnds F units next behind refusal calls.present left s i (Ok (x, true)) t j in
+    let is : v ≡ w = cc in
+    (subst P (sym is) ends, same)
+all_of units next behind refusal calls after left v s t i j
+    (inl (Ok (w, false), ends, e, same)) = absurd (cc)
+all_of units next behind refusal calls after left v s t i j (inl (Err kind, ends, e, same)) =
+    absurd (cc)
+all_of units next behind refusal calls after left v s t i j (inr (inl (w, read, e, same))) =
+    absurd (cc)
+all_of units next behind refusal calls after left v s t i j
+    (inr (inr (x, power, read, e, opened))) = absurd (cc)
+
+pub failure_of : {W T V F G H A : Type 0} (units : List T → ℕ) (next : Runs W T (Next G H))
+    (behind : G → Input T → V → Answer V → Input T → Type 0) (refusal kind : Kind)
+    (calls after : Calls V F H A) (left : V) (s t : W) (i j : Input T)
+    → TurnStep units next behind refusal calls left s i (Err kind) after t j
+    → TurnEnds F units next behind refusal calls.present left s i (Err kind) t j
+failure_of units next behind refusal kind calls after left s t i j
+    (inl (Ok (w, true), ends, e, same)) = absurd (cc)
+failure_of units next behind refusal kind calls after left s t i j
+    (inl (Ok (w, false), ends, e, same)) = absurd (cc)
+failure_of {F = F} units next behind refusal kind calls after left s t i j
+    (inl (Err other, ends, e, same)) =
+    let P : _ → Type 0 =
+    λ k. TurnEnds F units next behind refusal calls.present left s i (Err k) t j in
+    let is : kind ≡ other = cc in
+    subst P (sym is) ends
+failure_of units next behind refusal kind calls after left s t i j
+    (inr (inl (w, read, e, same))) = absurd (cc)
+failure_of units next behind refusal kind calls after left s t i j
+    (inr (inr (x, power, read, e, opened))) = absurd (cc)

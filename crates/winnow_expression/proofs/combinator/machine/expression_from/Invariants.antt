@@ -1,0 +1,26 @@
+use Rattle.std.proofs.Common.{reverse}
+use Rattle.winnow_expression.specs.Grammar.{folding, grammar}
+use Rattle.streams.specs.Input.{IsEndOf}
+use Rattle.stream_errors.specs.Form.{assert_kind}
+use Rattle.winnow_expression.specs.Units.{units_left}
+use Rattle.winnow_expression.specs.Calls.{call_at}
+use Rattle.winnow_expression.specs.Loop.{Stands, rank}
+use Rattle.winnow_expression.proofs.combinator.machine.expression_from.Given as goal
+
+abbrev pub invariant-places : goal.invariant-places
+invariant-places g l =
+    Stands (grammar (g.P.Parser.meaning g.E.HasKind.form) (g.Q.Parser.meaning g.E.HasKind.form)
+    (g.G.FoldUnary.folds g.E.HasKind.form)
+    (folding (g.F.FoldUnary.folds g.E.HasKind.form)
+    (g.H.FoldBinary.folds g.E.HasKind.form) g.I.Stream.reading.units
+    (assert_kind g.E.HasKind.form)))
+    (call_at l.fn.level (units_left g.I.Stream.reading.units (g.I.Stream.view l.fn.input)))
+    (g.P.Parser.state l.fn.first, g.Q.Parser.state l.fn.next) (g.I.Stream.view l.fn.input)
+    l.calls l.left (g.P.Parser.state l.first, g.Q.Parser.state l.next) (g.I.Stream.view l.input)
+    × IsEndOf g.I.Stream.reading (g.I.Stream.view l.input) (g.I.Stream.view l.fn.input)
+    × g.P.Parser.can_parse l.first × g.Q.Parser.can_parse l.next
+
+abbrev pub decreases-places : goal.decreases-places
+decreases-places g l =
+    rank (units_left g.I.Stream.reading.units (g.I.Stream.view l.input)) l.calls.present
+    (reverse l.calls.open.items) l.left

@@ -1,0 +1,77 @@
+-- What the loop keeps.
+use Rattle.std.specs.Prelude.{◌≡◌, ◌+◌, ◌-◌, ◌*◌, ◌≤◌, ◌<◌, ℕ, min, Option, Some, None, Bool, List}
+use Rattle.std.specs.Prelude.{[], ◌∷◌, length, reverse}
+use Rattle.stream_errors.specs.Form.{Answer}
+use Rattle.streams.specs.Input.{Input}
+use Rattle.winnow_expression.specs.Units.{units_left}
+use Rattle.winnow_expression.specs.Expression.{CallRuns, TurnRuns, ResumeRuns}
+use Rattle.winnow_expression.specs.Grammar.{Grammar}
+use Rattle.winnow_expression.specs.declared.combinator.calls.Call.{Call}
+use Rattle.winnow_expression.specs.declared.combinator.calls.Operator.{Operator}
+use Rattle.winnow_expression.specs.declared.combinator.calls.Operator.TheVariants.{Prefix, Infix}
+use Rattle.winnow_expression.specs.declared.combinator.calls.Open.{Open}
+use Rattle.winnow_expression.specs.declared.combinator.calls.Calls.{Calls}
+
+-- What the outermost call does, by what the call below the open operators answered, the first of
+-- them the last that was opened.
+abbrev pub Resumed : {S W T V F G H : Type 0} → Grammar S W T V F G H → List (Open V F H)
+    → Answer (V × Bool) → S × W → Input T → Answer (V × Bool) → S × W → Input T → Type 0
+Resumed g [] b s i a t j = (a ≡ b) × (t ≡ s) × (j ≡ i)
+Resumed {S} {W} {T} {V} {F} {G} {H} g (x ∷ xs) b s i a t j =
+    (c : Answer (V × Bool)) × (u : S × W) × (m : Input T) × ResumeRuns g x b s i c u m
+    × Resumed g xs c u m a t j
+
+-- What the present call does: from its beginning, or behind a value.
+abbrev pub PresentRuns : {S W T V F G H : Type 0} → Grammar S W T V F G H → Call → Option V
+    → S × W → Input T → Answer (V × Bool) → S × W → Input T → Type 0
+PresentRuns g call None s i a t j = CallRuns g call s i a t j
+PresentRuns g call (Some v) s i a t j = TurnRuns g call v s i a t j
+
+-- Whatever the present call and the calls above it do from here on is what the whole does.
+pub record Leads {S W T V F G H : Type 0} (g : Grammar S W T V F G H) (whole : Call) (s : S × W)
+    (i : Input T) (call : Call) (left : Option V) (open_ : List (Open V F H)) (t : S × W)
+    (j : Input T) : Type 0 where
+  pub leads : (b a : Answer (V × Bool)) (u w : S × W) (m n : Input T)
+      → PresentRuns g call left t j b u m → Resumed g open_ b u m a w n → CallRuns g whole s i a w n
+
+-- A right operand begins behind its operator: that of a prefix behind the turn's beginning.
+abbrev pub Falls : {V F H : Type 0} → Operator V F H → ℕ → ℕ → Type 0
+Falls (Prefix fold) began turn = began < turn
+Falls (Infix left fold) began turn = began ≤ turn
+
+-- Calls begin and take their turns one behind another, the first of these operators the last.
+abbrev pub Nested : {V F H : Type 0} → List (Open V F H) → ℕ → Type 0
+Nested [] began = Unit {0}
+Nested (x ∷ xs) began =
+    Falls x.operator began x.call.turn × (x.call.turn ≤ x.call.began) × Nested xs x.call.began
+
+-- Where a call begins, its turn begins.
+abbrev pub Begun : {V : Type 0} → Option V → Call → Type 0
+Begun None call = call.turn ≡ call.began
+Begun (Some v) call = Unit {0}
+
+-- What the loop keeps.
+abbrev pub Stands : {S W T V F G H A : Type 0} → Grammar S W T V F G H → Call → S × W → Input T
+    → Calls V F H A → Option V → S × W → Input T → Type 0
+Stands g whole s i calls left t j =
+    Leads g whole s i calls.present left (reverse calls.open.items) t j
+    × Nested (reverse calls.open.items) calls.present.began
+    × (units_left g.folding.units j ≤ calls.present.began) × Begun left calls.present
+
+-- whether one number is above another, as a number
+abbrev pub above : ℕ → ℕ → ℕ
+above a b = min 1 (a - b)
+
+-- the open operators, less one whose turn has consumed nothing
+abbrev pub live : {V F H : Type 0} → ℕ → List (Open V F H) → ℕ
+live units [] = 0
+live units (x ∷ xs) = length xs + above x.call.turn units
+
+abbrev pub operand_due : {V : Type 0} → Option V → ℕ
+operand_due None = 1
+operand_due (Some v) = 0
+
+-- what falls with each turn of the loop
+abbrev pub rank : {V F H : Type 0} → ℕ → Call → List (Open V F H) → Option V → ℕ
+rank units call open_ left =
+    16 * units + 4 * live units open_ + 2 * above call.began units + operand_due left

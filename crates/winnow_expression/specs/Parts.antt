@@ -1,0 +1,24 @@
+-- The expression that four parts and their folds make.
+use Rattle.std.specs.Prelude.{ℕ, List}
+use Rattle.stream_errors.specs.Form.{Answer}
+use Rattle.streams.specs.Input.{Input}
+use Rattle.streams.specs.Kind.{Kind}
+use Rattle.winnow_core.specs.Runs.{Runs}
+use Rattle.winnow_expression.specs.Grammar.{Grammar, folding, grammar}
+use Rattle.winnow_expression.specs.Places.{FirstRuns, NextRuns}
+use Rattle.winnow_expression.specs.declared.combinator.operators.Infix.{Infix}
+use Rattle.winnow_expression.specs.declared.combinator.operators.Postfix.{Postfix}
+use Rattle.winnow_expression.specs.declared.combinator.operators.Prefix.{Prefix}
+
+-- Operands, prefixes, postfixes and infixes, and what the folds of prefixes, postfixes and infixes
+-- do. Of a list of tokens `units` says how many units they take, and `refusal` is the kind of the
+-- error where nothing is consumed.
+abbrev pub parts_grammar : {S1 S2 S3 S4 T V F G H : Type 0} → (List T → ℕ) → Kind → Runs S1 T V
+    → Runs S2 T (Prefix F) → Runs S3 T (Postfix G) → Runs S4 T (Infix H)
+    → (F → Input T → V → Answer V → Input T → Type 0)
+    → (G → Input T → V → Answer V → Input T → Type 0)
+    → (H → Input T → V → V → Answer V → Input T → Type 0)
+    → Grammar (S1 × S2) (S3 × S4) T V F G H
+parts_grammar units refusal operand prefix postfix infix_ before behind between =
+    grammar (FirstRuns operand prefix) (NextRuns units postfix infix_) behind
+    (folding before between units refusal)

@@ -1,0 +1,83 @@
+//! What operators do with their operands.
+ghost use Rattle.streams.specs.Input.{Input, IsEndOf};
+ghost use Rattle.stream_errors.specs.Form.{Answer, ErrorForm, answer_by};
+ghost use Rattle.winnow_core.specs.Ends.{same_ends};
+ghost use Rattle.winnow_expression.specs.Folds.{RefusesBinary, RefusesUnary};
+
+use stream_errors::parser_error::ParserError;
+use streams::stream::Stream;
+
+/// What a prefix or a postfix operator does with its operand.
+///
+/// The operand has been read, and `input` stands behind it. A fold may refuse, as where a sum is
+/// too large: its error is the expression's, and the input is left where the fold left it.
+///
+/// ```text
+/// impl FoldUnary<I, i64, E> for Negate: apply(&self, input, operand) is Ok(-operand)
+/// ```
+pub trait FoldUnary<I: Stream, O, E: ParserError<I>>: Drop {
+    // What it answers and leaves, by the form of the errors.
+    ghost folds: { ErrorForm → Self → Input I.Seen → O → Answer O → Input I.Seen → Type 0 };
+
+    /// Applies the operator.
+    fn apply(&self, input: &mut I, operand: O) -> Result<O, E>
+        ensures folded { folds E.form self.now (I.view input.old) operand
+            (answer_by E.kind result) (I.view input.new) }
+        ensures ends { IsEndOf I.reading (I.view input.new) (I.view input.old) };
+
+    // Whatever it answers, it leaves an end.
+    ghost leaves_ends: { (form : ErrorForm) (f : Self) (i : Input I.Seen) (v : O) (a : Answer O)
+        (j : Input I.Seen) → folds form f i v a j → IsEndOf I.reading j i };
+}
+
+/// What an infix operator does with its operands.
+///
+/// The operands have been read, and `input` stands behind the right one. A fold may refuse, as
+/// where a sum is too large: its error is the expression's, and the input is left where the fold
+/// left it.
+///
+/// ```text
+/// impl FoldBinary<I, i64, E> for Add: apply(&self, input, left, right) is Ok(left + right)
+/// ```
+pub trait FoldBinary<I: Stream, O, E: ParserError<I>>: Drop {
+    // What it answers and leaves, by the form of the errors.
+    ghost folds: { ErrorForm → Self → Input I.Seen → O → O → Answer O → Input I.Seen → Type 0 };
+
+    /// Applies the operator.
+    fn apply(&self, input: &mut I, left: O, right: O) -> Result<O, E>
+        ensures folded { folds E.form self.now (I.view input.old) left right
+            (answer_by E.kind result) (I.view input.new) }
+        ensures ends { IsEndOf I.reading (I.view input.new) (I.view input.old) };
+
+    // Whatever it answers, it leaves an end.
+    ghost leaves_ends: { (form : ErrorForm) (f : Self) (i : Input I.Seen) (v w : O) (a : Answer O)
+        (j : Input I.Seen) → folds form f i v w a j → IsEndOf I.reading j i };
+}
+
+/// The fold of an expression that has no such operators: it is never applied.
+///
+/// ```text
+/// expression(alloc, operand)   has NoFold three times
+/// ```
+#[derive(Clone, Copy, Debug, PartialEq, Eq)]
+pub struct NoFold;
+
+impl<I: Stream, O: Drop, E: ParserError<I>> FoldUnary<I, O, E> for NoFold {
+    ghost folds = { λ form f i v a j. RefusesUnary form i v a j };
+
+    ghost leaves_ends = { λ form f i v a j r. same_ends I.reading i j r.1 };
+
+    fn apply(&self, input: &mut I, operand: O) -> Result<O, E> {
+        Err(E::assert(input, "no operator was set"))
+    }
+}
+
+impl<I: Stream, O: Drop, E: ParserError<I>> FoldBinary<I, O, E> for NoFold {
+    ghost folds = { λ form f i v w a j. RefusesBinary form i v w a j };
+
+    ghost leaves_ends = { λ form f i v w a j r. same_ends I.reading i j r.1 };
+
+    fn apply(&self, input: &mut I, left: O, right: O) -> Result<O, E> {
+        Err(E::assert(input, "no operator was set"))
+    }
+}

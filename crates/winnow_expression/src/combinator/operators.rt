@@ -1,0 +1,177 @@
+//! Operators, as their parsers answer them.
+ghost use Rattle.std.specs.Prelude.{◌≡◌, MatchOption};
+ghost use Rattle.winnow_core.specs.Runs.{Keeps};
+ghost use Rattle.winnow_expression.specs.Operators.{IsInfixClone, IsPostfixClone, IsPrefixClone};
+ghost use Rattle.winnow_expression.specs.Operators.{OperatorRuns, fold_of, left_power};
+ghost use Rattle.winnow_expression.specs.Operators.{neither_power, right_power};
+ghost use Rattle.winnow_expression.specs.Operators.Laws.{operator_ends};
+
+use stream_errors::parser_error::ParserError;
+use streams::stream::Stream;
+use winnow_core::parser::Parser;
+
+/// A prefix operator: its power, and what it does with its operand.
+///
+/// The operand takes in all operators that are at least as strong as the power.
+///
+/// ```text
+/// b'-'.value(Prefix(12, Negate))   is a parser of prefix operators
+/// ```
+#[derive(Clone, Drop)]
+pub struct Prefix<F>(pub i64, pub F);
+
+/// A postfix operator: its power, and what it does with its operand.
+///
+/// ```text
+/// b'!'.value(Postfix(13, Factorial))   is a parser of postfix operators
+/// ```
+#[derive(Clone, Drop)]
+pub struct Postfix<F>(pub i64, pub F);
+
+/// An infix operator: its power, and what it does with its operands.
+///
+/// Where operators of one power follow one another, those that are `Left` are joined from the left
+/// and those that are `Right` from the right; behind a `Neither` another infix of its power ends
+/// the expression.
+///
+/// ```text
+/// alt((b'+'.value(Infix::Left(5, Add)), b'^'.value(Infix::Right(9, Power))))
+///     is a parser of infix operators
+/// ```
+#[derive(Clone, Drop)]
+pub enum Infix<F> {
+    /// Joined from the left.
+    Left(i64, F),
+    /// Joined from the right.
+    Right(i64, F),
+    /// Not joined with another of its power.
+    Neither(i64, F),
+}
+
+/// How strong an infix operator binds to its sides, and its fold.
+#[derive(Drop)]
+pub struct Binding<F> {
+    pub left: i64,
+    pub right: i128,
+    pub neither: Option<i64>,
+    pub fold: F,
+}
+
+impl<F> Infix<F> {
+    /// The powers and the fold.
+    ///
+    /// ```text
+    /// Infix::Left(5, Add).binding()   has the left power 5 and the right power 6
+    /// ```
+    #[inline(always)]
+    pub fn binding(self) -> Binding<F>
+        ensures left { result.left ≡ left_power self }
+        ensures right { result.right ≡ right_power self }
+        ensures neither { result.neither ≡ neither_power self }
+        ensures fold { result.fold ≡ fold_of self }
+    {
+        match self {
+            Infix::Left(power, fold) => Binding {
+                left: power,
+                right: i128::from(power) + 1,
+                neither: None,
+                fold,
+            },
+            Infix::Right(power, fold) => Binding {
+                left: power,
+                right: i128::from(power),
+                neither: None,
+                fold,
+            },
+            Infix::Neither(power, fold) => Binding {
+                left: power,
+                right: i128::from(power) + 1,
+                neither: Some(power),
+                fold,
+            },
+        }
+    }
+}
+
+impl<I: Stream, F: Clone, E: ParserError<I>> Parser<I, Prefix<F>, E> for Prefix<F> {
+    ghost State = { Self };
+
+    ghost state = { λ s. s };
+
+    ghost meaning = { λ _. Keeps
+        (OperatorRuns (IsPrefixClone F.is_clone) (λ s. F.is_infallible s.1)) };
+
+    ghost leaves_ends = { λ form s i answer t j r. operator_ends I.reading
+        (IsPrefixClone F.is_clone)
+        (λ s. F.is_infallible s.1) s i answer j r.0 };
+
+    #[inline(always)]
+    fn parse_next(&mut self, input: &mut I) -> Result<Prefix<F>, E> {
+        match self.1.clone() {
+            Ok(fold) => Ok(Prefix(self.0, fold)),
+            Err(_) => Err(E::no_memory(input)),
+        }
+    }
+}
+
+impl<I: Stream, F: Clone, E: ParserError<I>> Parser<I, Postfix<F>, E> for Postfix<F> {
+    ghost State = { Self };
+
+    ghost state = { λ s. s };
+
+    ghost meaning = { λ _. Keeps
+        (OperatorRuns (IsPostfixClone F.is_clone) (λ s. F.is_infallible s.1)) };
+
+    ghost leaves_ends = { λ form s i answer t j r. operator_ends I.reading
+        (IsPostfixClone F.is_clone)
+        (λ s. F.is_infallible s.1) s i answer j r.0 };
+
+    #[inline(always)]
+    fn parse_next(&mut self, input: &mut I) -> Result<Postfix<F>, E> {
+        match self.1.clone() {
+            Ok(fold) => Ok(Postfix(self.0, fold)),
+            Err(_) => Err(E::no_memory(input)),
+        }
+    }
+}
+
+impl<I: Stream, F: Clone, E: ParserError<I>> Parser<I, Infix<F>, E> for Infix<F> {
+    ghost State = { Self };
+
+    ghost state = { λ s. s };
+
+    ghost meaning = { λ _. Keeps
+        (OperatorRuns (IsInfixClone F.is_clone) (λ s. F.is_infallible (fold_of s))) };
+
+    ghost leaves_ends = { λ form s i answer t j r. operator_ends I.reading (IsInfixClone F.is_clone)
+        (λ s. F.is_infallible (fold_of s)) s i answer j r.0 };
+
+    #[inline(always)]
+    fn parse_next(&mut self, input: &mut I) -> Result<Infix<F>, E> {
+        match infix_clone(self) {
+            Some(operator) => Ok(operator),
+            None => Err(E::no_memory(input)),
+        }
+    }
+}
+
+/// A clone of an operator; none where a request for memory was refused to the clone of its fold.
+fn infix_clone<F: Clone>(operator: &Infix<F>) -> Option<Infix<F>>
+    ensures { MatchOption result (¬ (F.is_infallible (fold_of operator.now)))
+        (λ o. IsInfixClone F.is_clone operator.now o) }
+{
+    match operator {
+        Infix::Left(power, fold) => match fold.clone() {
+            Ok(fold) => Some(Infix::Left(*power, fold)),
+            Err(_) => None,
+        },
+        Infix::Right(power, fold) => match fold.clone() {
+            Ok(fold) => Some(Infix::Right(*power, fold)),
+            Err(_) => None,
+        },
+        Infix::Neither(power, fold) => match fold.clone() {
+            Ok(fold) => Some(Infix::Neither(*power, fold)),
+            Err(_) => None,
+        },
+    }
+}

@@ -1,0 +1,55 @@
+//! Operator expressions.
+ghost use Rattle.std.specs.Prelude.{◌≡◌, pos};
+ghost use Rattle.winnow_expression.specs.Expression.{level_of, operand_of};
+
+use crate::combinator::folds::NoFold;
+use crate::combinator::impls::Expression;
+use std::alloc::Allocator;
+use stream_errors::parser_error::ParserError;
+use streams::stream::Stream;
+use winnow_comb::combinator::impls::Fail;
+use winnow_core::parser::Parser;
+
+/// A parser of operands with prefix, postfix and infix operators between them, joined by the
+/// powers of the operators.
+///
+/// It has no operators until [`prefix`], [`postfix`] and [`infix`] set parsers of them, and joins
+/// all of power 0 and more until [`current_precedence_level`] sets another least power. What an
+/// operator does with its operands is its fold, a value with [`FoldUnary`] or [`FoldBinary`].
+///
+/// An operator that is weaker than asked for ends the expression and is left unread; so does an
+/// infix of the power of a `Neither` that was just joined. Where the operand backtracks a prefix
+/// is run, whose error is handed on. Other errors of the parts, and those of folds, are handed on,
+/// with the input where the part or the fold left it. It is an assert error where a prefix
+/// consumes nothing, where an infix comes and nothing was consumed before it, and where an
+/// operator with its operand consumed nothing. An open operator waits in a list of `alloc`: where
+/// that could not grow, the error is want of memory, and the input stands behind the operator.
+///
+/// Known as Pratt's method, or precedence climbing.
+///
+/// ```text
+/// expression(alloc, number).infix(b'-'.value(Infix::Left(5, Subtract)))
+///     on b"5-2-1" is 2, and nothing is left
+/// ```
+///
+/// [`prefix`]: crate::combinator::impls::Expression::prefix
+/// [`postfix`]: crate::combinator::impls::Expression::postfix
+/// [`infix`]: crate::combinator::impls::Expression::infix
+/// [`current_precedence_level`]: crate::combinator::impls::Expression::current_precedence_level
+/// [`FoldUnary`]: crate::combinator::FoldUnary
+/// [`FoldBinary`]: crate::combinator::FoldBinary
+#[inline(always)]
+pub fn expression<Input, Operand, Output, Error, A>(
+    alloc: A,
+    operand: Operand,
+) -> Expression<Input, Output, Operand, Fail, Fail, Fail, NoFold, NoFold, NoFold, Error, A>
+where
+    Input: Stream,
+    Operand: Parser<Input, Output, Error>,
+    Error: ParserError<Input>,
+    A: Allocator + Copy,
+    ensures operand { operand_of result ≡ operand }
+    ensures level { level_of result ≡ pos 0 }
+{
+    Expression::new(alloc, operand, Fail, Fail, Fail)
+}

@@ -1,0 +1,212 @@
+-- A call reads exactly the trees that keep the powers.
+use Rattle.std.specs.Prelude.{◌≡◌, ◌≤ℤ◌, ◌<ℤ◌, ◌⊎◌, ℤ, Bool, true, false, Some}
+use Rattle.std.proofs.Common.{refl, sym, ◌∙◌, ap, subst, inl, inr}
+use Rattle.winnow_expression.specs.Operators.{left_power, right_power}
+use Rattle.winnow_expression_trees.specs.Tree.{Tree, leaf, before, behind, between, top_neither}
+use Rattle.winnow_expression.specs.declared.combinator.places.First.{First}
+use Rattle.winnow_expression.specs.declared.combinator.places.First.TheVariants.{Operand}
+use Rattle.winnow_expression.specs.declared.combinator.places.First.TheVariants.{
+  Prefix as prefix_read,
+}
+use Rattle.winnow_expression.specs.declared.combinator.places.Next.{Next}
+use Rattle.winnow_expression.specs.declared.combinator.places.Next.TheVariants.{Nothing, Postfix}
+use Rattle.winnow_expression.specs.declared.combinator.places.Next.TheVariants.{Infix as infix_read}
+use Rattle.winnow_expression.specs.declared.combinator.operators.Infix.{Infix}
+use Rattle.winnow_expression_trees.specs.Reading.{Over, Below, power_of}
+use Rattle.winnow_expression_trees.proofs.TreeCalls.{Reads, Grows, reads_operand, reads_prefix}
+use Rattle.winnow_expression_trees.proofs.TreeCalls.{reads_ended, grows_stop, grows_block}
+use Rattle.winnow_expression_trees.proofs.TreeCalls.{grows_postfix, grows_infix, grows_ended}
+use Rattle.winnow_expression_trees.specs.Keeps.{Reaches, EdgeAbove, Binds, Meets, MeetsHere, Above}
+use Rattle.winnow_expression_trees.specs.Keeps.{Ends, EndsAll, Outcome, Keeps}
+use Rattle.winnow_expression_trees.proofs.Alike.{Decided, alike_power}
+
+-- completeness
+above_one : {V F G H : Type 0} (t : Tree V F G H) (p : ℤ) (x : Next G H) → power_of x ≡ Some p
+    → EdgeAbove t p → Above t x
+above_one t p x is e q other =
+    let same : p ≡ q = cc in subst (λ z. EdgeAbove t z) same e
+
+builds : {V F G H P : Type 0} (first : P → First V F → P → Type 0)
+    (next : P → Next G H → P → Type 0)
+    (t : Tree V F G H) (m : ℤ) (i j k n : P) (x : Next G H) (u : Tree V F G H) (b : Bool)
+    → Binds t → Reaches m t → Over first next t i j → next j x k → Above t x
+    → Grows first next m t j u n b → Reads first next m i u n b
+builds first next (leaf v) m i j k n x u b binds reaches over read above grows =
+    reads_operand m v i j n u b over grows
+builds first next (before p f t) m i j k n x u b binds reaches over read above grows =
+    reads_prefix m p f i over.0 j n t u b over.1
+    (builds first next t p over.0 j k j x t false binds.0 binds.1 over.2 read
+    (λ q is. (above q is).1)
+    (grows_stop p t j k x read (λ q is. (above q is).0))) grows
+builds first next (behind p g t) m i j k n x u b binds reaches over read above grows =
+    builds first next t m i over.0 j n (Postfix p g) u b binds.0 reaches.1 over.1 over.2
+    (above_one t p (Postfix p g) refl binds.1)
+    (grows_postfix m p g t u over.0 j n b over.2 reaches.0 grows)
+builds first next (between o l t) m i j k n x u b binds reaches over read above grows =
+    builds first next l m i over.0 over.1 n (infix_read o) u b binds.0 reaches.1 over.2 over.3
+    (above_one l (left_power o) (infix_read o) refl binds.2)
+    (grows_infix m o l t u over.0 over.1 j n b over.3 reaches.0 binds.3
+    (builds first next t (right_power o) over.1 j k j x t false binds.1 binds.4 over.4 read
+    (λ q is. (above q is).1)
+    (grows_stop (right_power o) t j k x read (λ q is. (above q is).0))) grows)
+
+builds_here : {V F G H P : Type 0} (first : P → First V F → P → Type 0)
+    (next : P → Next G H → P → Type 0) (t : Tree V F G H) (m : ℤ) (i j k : P) (c : Infix H)
+    → Binds t → Reaches m t → Over first next t i j → next j (infix_read c) k
+    → MeetsHere m t (left_power c) → Reads first next m i t j true
+builds_here first next t m i j k c binds reaches over read (above, reach, top) =
+    builds first next t m i j k j (infix_read c) t true binds reaches over read
+    (above_one t (left_power c) (infix_read c) refl above) (grows_block m c t j k read reach top)
+
+builds_met : {V F G H P : Type 0} (first : P → First V F → P → Type 0)
+    (next : P → Next G H → P → Type 0) (t : Tree V F G H) (m : ℤ) (i j k : P) (c : Infix H)
+    → Binds t → Reaches m t → Over first next t i j → next j (infix_read c) k
+    → Meets t (left_power c)
+    → Reads first next m i t j true
+builds_met first next (leaf v) m i j k c binds reaches over read e = absurd e
+builds_met first next (behind p g l) m i j k c binds reaches over read e = absurd e
+builds_met first next (before p f t) m i j k c binds reaches over read (inl e) =
+    reads_ended m p f i over.0 j t over.1
+    (builds_met first next t p over.0 j k c binds.0 binds.1 over.2 read e)
+builds_met first next (before p f t) m i j k c binds reaches over read (inr e) =
+    reads_ended m p f i over.0 j t over.1
+    (builds_here first next t p over.0 j k c binds.0 binds.1 over.2 read e)
+builds_met first next (between o l t) m i j k c binds reaches over read (inl e) =
+    builds first next l m i over.0 over.1 j (infix_read o) (between o l t) true binds.0
+    reaches.1 over.2
+    over.3 (above_one l (left_power o) (infix_read o) refl binds.2)
+    (grows_ended m o l t over.0 over.1 j over.3 reaches.0 binds.3
+    (builds_met first next t (right_power o) over.1 j k c binds.1 binds.4 over.4 read e))
+builds_met first next (between o l t) m i j k c binds reaches over read (inr e) =
+    builds first next l m i over.0 over.1 j (infix_read o) (between o l t) true binds.0
+    reaches.1 over.2
+    over.3 (above_one l (left_power o) (infix_read o) refl binds.2)
+    (grows_ended m o l t over.0 over.1 j over.3 reaches.0 binds.3
+    (builds_here first next t (right_power o) over.1 j k c binds.1 binds.4 over.4 read e))
+
+outcome_reads : {V F G H P : Type 0} (first : P → First V F → P → Type 0)
+    (next : P → Next G H → P → Type 0) (m : ℤ) (t : Tree V F G H) (i j k : P) (x : Next G H)
+    (b : Bool)
+    → Binds t → Reaches m t → Over first next t i j → next j x k → Outcome b m t x
+    → Reads first next m i t j b
+outcome_reads first next m t i j k x false binds reaches over read (below, above) =
+    builds first next t m i j k j x t false binds reaches over read above
+    (grows_stop m t j k x read below)
+outcome_reads first next m t i j k x true binds reaches over read (o, is, inl met) =
+    builds_met first next t m i j k o binds reaches over (subst (λ z. next j z k) is read) met
+outcome_reads first next m t i j k x true binds reaches over read (o, is, inr met) =
+    builds_here first next t m i j k o binds reaches over (subst (λ z. next j z k) is read) met
+
+-- a tree that keeps the powers is read
+pub complete : {V F G H P : Type 0} (first : P → First V F → P → Type 0)
+    (next : P → Next G H → P → Type 0) (m : ℤ) (t : Tree V F G H) (i j : P) (b : Bool)
+    → Over first next t i j → Keeps next m t j b → Reads first next m i t j b
+complete first next m t i j b over keeps =
+    outcome_reads first next m t i j keeps.then_at keeps.then_read b keeps.binds keeps.reaches
+    over keeps.reads keeps.ends
+
+-- soundness
+above_later : {V F G H P : Type 0} (av : V → V → Type 0) (af : F → F → Type 0) (ag : G → G → Type 0)
+    (ah : H → H → Type 0) (first : P → First V F → P → Type 0) (next : P → Next G H → P → Type 0)
+    → Decided av af ag ah first next → (p : ℤ) (r : Tree V F G H) (i k n : P) (x y : Next G H)
+    → next i x k → Ends p r x → next i y n
+    → (q : ℤ) → power_of y ≡ Some q → (q <ℤ p) × EdgeAbove r q
+above_later av af ag ah first next d p r i k n x y read ends later q is =
+    let same = alike_power ag ah x y (d.nexts i k n x y read later).0
+    ∙ is in (ends.0 q same, ends.1 q same)
+
+mutual
+  pub reads_sound : {V F G H P : Type 0} (av : V → V → Type 0) (af : F → F → Type 0)
+      (ag : G → G → Type 0)
+      (ah : H → H → Type 0) (first : P → First V F → P → Type 0) (next : P → Next G H → P → Type 0)
+      → Decided av af ag ah first next → (m : ℤ) (i : P) (t : Tree V F G H) (j : P) (b : Bool)
+      → Reads first next m i t j b → Over first next t i j × Keeps next m t j b
+  reads_sound av af ag ah first next d _ _ _ _ _ (reads_operand m v i j k t b read grows) =
+      grows_sound av af ag ah first next d m (leaf v) i j t k b read tt tt (λ x n r q is. tt) grows
+  reads_sound av af ag ah first next d _ _ _ _ _
+      (reads_prefix m p f i j k n r t b read inner grows) =
+      let s = reads_sound av af ag ah first next d p j r k false inner in
+      grows_sound av af ag ah first next d m (before p f r) i k t n b (j, read, s.0)
+      (s.1.binds, s.1.reaches) tt
+      (λ x q later. above_later av af ag ah first next d p r k s.1.then_at q s.1.then_read
+      x s.1.reads s.1.ends later)
+      grows
+  reads_sound av af ag ah first next d _ _ _ _ _ (reads_ended m p f i j k r read inner) =
+      let s = reads_sound av af ag ah first next d p j r k true inner in
+      let e = s.1.ends in (
+        (j, read, s.0),
+        record {
+          binds = (s.1.binds, s.1.reaches);
+          reaches = tt;
+          then_read = s.1.then_read;
+          then_at = s.1.then_at;
+          reads = s.1.reads;
+          ends = (e.0, e.1, inl e.2);
+        },
+      )
+
+  pub grows_sound : {V F G H P : Type 0} (av : V → V → Type 0) (af : F → F → Type 0)
+      (ag : G → G → Type 0)
+      (ah : H → H → Type 0) (first : P → First V F → P → Type 0) (next : P → Next G H → P → Type 0)
+      → Decided av af ag ah first next
+      → (m : ℤ) (l : Tree V F G H) (start i : P) (t : Tree V F G H) (j : P)
+      (b : Bool) → Over first next l start i → Binds l → Reaches m l
+      → ((x : Next G H) (k : P) → next i x k → Above l x) → Grows first next m l i t j b
+      → Over first next t start j × Keeps next m t j b
+  grows_sound av af ag ah first next d _ _ start _ _ _ _ over binds reaches above
+      (grows_stop m l i k x read below) = (
+        over,
+        record {
+          binds = binds;
+          reaches = reaches;
+          then_read = x;
+          then_at = k;
+          reads = read;
+          ends = (below, above x k read);
+        },
+      )
+  grows_sound av af ag ah first next d _ _ start _ _ _ _ over binds reaches above
+      (grows_block m o l i k read reach top) = (
+        over,
+        record {
+          binds = binds;
+          reaches = reaches;
+          then_read = infix_read o;
+          then_at = k;
+          reads = read;
+          ends = (o, refl, inr (above (infix_read o) k read (left_power o) refl, reach, top));
+        },
+      )
+  grows_sound av af ag ah first next d _ _ start _ _ _ _ over binds reaches above
+      (grows_postfix m p g l t i j k b read reach grows) =
+      grows_sound av af ag ah first next d m (behind p g l) start j t k b (i, over, read)
+      (binds, above (Postfix p g) j read p refl) (reach, reaches) (λ x n q r is. tt) grows
+  grows_sound av af ag ah first next d _ _ start _ _ _ _ over binds reaches above
+      (grows_infix m o l r t i j k n b read reach free inner grows) =
+      let s = reads_sound av af ag ah first next d (right_power o) j r k false inner in
+      grows_sound av af ag ah first next d m (between o l r) start k t n b (i, j, over, read, s.0)
+      (binds, s.1.binds, above (infix_read o) j read (left_power o) refl, free, s.1.reaches)
+      (reach, reaches)
+      (λ x q later. above_later av af ag ah first next d (right_power o) r k s.1.then_at q
+      s.1.then_read x s.1.reads s.1.ends later)
+      grows
+  grows_sound av af ag ah first next d _ _ start _ _ _ _ over binds reaches above
+      (grows_ended m o l r i j k read reach free inner) =
+      let s = reads_sound av af ag ah first next d (right_power o) j r k true inner in
+      let e = s.1.ends in (
+        (i, j, over, read, s.0),
+        record {
+          binds = (
+            binds,
+            s.1.binds,
+            above (infix_read o) j read (left_power o) refl,
+            free,
+            s.1.reaches,
+          );
+          reaches = (reach, reaches);
+          then_read = s.1.then_read;
+          then_at = s.1.then_at;
+          reads = s.1.reads;
+          ends = (e.0, e.1, inl e.2);
+        },
+      )

@@ -1,0 +1,15 @@
+pub mod Agree
+pub mod Alike
+pub mod Closing
+pub mod Exact
+pub mod Fails
+pub mod Finds
+pub mod FourParts
+pub mod NextParts
+pub mod Over
+pub mod Parts
+pub mod Plain
+pub mod TreeCalls
+pub mod Unique
+pub mod Views
+pub mod Whole

@@ -1,0 +1,78 @@
+-- Where failures come from.
+use Rattle.std.specs.Prelude.{◌≡◌, ◌⊎◌, ℤ, Bool, true, false, Some, Ok, Err}
+use Rattle.streams.specs.Input.{Input}
+use Rattle.streams.specs.Kind.{Kind}
+use Rattle.stream_errors.specs.Form.{Answer}
+use Rattle.winnow_expression.specs.Grammar.{Grammar}
+use Rattle.winnow_expression.specs.Operators.{fold_of}
+use Rattle.winnow_expression.specs.Units.{units_left}
+use Rattle.winnow_expression.specs.declared.combinator.operators.Infix.{Infix}
+use Rattle.winnow_expression_trees.specs.Reading.{FirstStep, NextStep, power_of}
+use Rattle.winnow_expression.specs.declared.combinator.places.First.{First}
+use Rattle.winnow_expression.specs.declared.combinator.places.First.TheVariants.{Operand}
+use Rattle.winnow_expression.specs.declared.combinator.places.First.TheVariants.{
+  Prefix as prefix_read,
+}
+use Rattle.winnow_expression.specs.declared.combinator.places.Next.{Next}
+use Rattle.winnow_expression.specs.declared.combinator.places.Next.TheVariants.{Nothing, Postfix}
+use Rattle.winnow_expression.specs.declared.combinator.places.Next.TheVariants.{Infix as infix_read}
+
+-- The reading that starts at an operand's place comes to a place: an operand's (true), or an
+-- operator's (false).
+pub data Comes {V F G H P : Type 0} (first : P → First V F → P → Type 0)
+    (next : P → Next G H → P → Type 0) (start : P) : Bool → P → Type 0 where
+  comes_start : Comes first next start true start
+  comes_operand : (j k : P) (v : V) → Comes first next start true j → first j (Operand v) k
+      → Comes first next start false k
+  comes_prefix : (j k : P) (p : ℤ) (f : F) → Comes first next start true j
+      → first j (prefix_read p f) k
+      → Comes first next start true k
+  comes_postfix : (j k : P) (p : ℤ) (f : G) → Comes first next start false j
+      → next j (Postfix p f) k
+      → Comes first next start false k
+  comes_infix : (j k : P) (o : Infix H) → Comes first next start false j → next j (infix_read o) k
+      → Comes first next start true k
+
+-- An answer ends the reading, and leaves j.
+abbrev pub EndedBy : {S W T V F G H : Type 0} → Grammar S W T V F G H → S × W → Input T → Kind
+    → Input T
+    → Type 0
+EndedBy {S} {W} {T} {V} {F} {G} {H} g s0 start kind j =
+    ((k : Input T) × (t : S) × Comes (FirstStep g s0) (NextStep g s0) start true k
+    × g.first s0.0 k (Err kind) t j)
+    ⊎ ((k : Input T) × (t : W) × Comes (FirstStep g s0) (NextStep g s0) start false k
+    × g.next s0.1 k (Err kind) t j)
+
+-- The fold of an operator that is read refuses.
+abbrev pub RefusedBy : {S W T V F G H : Type 0} → Grammar S W T V F G H → S × W → Input T → Kind
+    → Input T
+    → Type 0
+RefusedBy {S} {W} {T} {V} {F} {G} {H} g s0 start kind j =
+    ((k : Input T) × (n : Input T) × (p : ℤ) × (f : F) × (m : Input T) × (v : V)
+    × Comes (FirstStep g s0) (NextStep g s0) start true k × FirstStep g s0 k (prefix_read p f) n
+    × g.folding.before f m v (Err kind) j)
+    ⊎ (((k : Input T) × (n : Input T) × (p : ℤ) × (f : G) × (m : Input T) × (v : V)
+    × Comes (FirstStep g s0) (NextStep g s0) start false k × NextStep g s0 k (Postfix p f) n
+    × g.behind f m v (Err kind) j)
+    ⊎ ((k : Input T) × (n : Input T) × (o : Infix H) × (m : Input T) × (v : V) × (w : V)
+    × Comes (FirstStep g s0) (NextStep g s0) start false k × NextStep g s0 k (infix_read o) n
+    × g.folding.between (fold_of o) m v w (Err kind) j))
+
+-- An operator is read that consumes nothing: a prefix, which ends the reading, or another.
+abbrev pub Unmoved : {S W T V F G H : Type 0} → Grammar S W T V F G H → S × W → Input T → Type 0
+Unmoved {S} {W} {T} {V} {F} {G} {H} g s0 start =
+    ((k : Input T) × (n : Input T) × (p : ℤ) × (f : F)
+    × Comes (FirstStep g s0) (NextStep g s0) start true k
+    × g.first s0.0 k (Ok (prefix_read p f)) s0.0 n
+    × (units_left g.folding.units n ≡ units_left g.folding.units k))
+    ⊎ ((k : Input T) × (n : Input T) × (x : Next G H) × (p : ℤ)
+    × Comes (FirstStep g s0) (NextStep g s0) start false k × NextStep g s0 k x n
+    × (power_of x ≡ Some p)
+    × (units_left g.folding.units n ≡ units_left g.folding.units k))
+
+-- where a failure's kind and rest come from
+abbrev pub FailsBy : {S W T V F G H : Type 0} → Grammar S W T V F G H → S × W → Input T → Kind
+    → Input T
+    → Type 0
+FailsBy g s0 start kind j =
+    EndedBy g s0 start kind j ⊎ (RefusedBy g s0 start kind j ⊎ Unmoved g s0 start)

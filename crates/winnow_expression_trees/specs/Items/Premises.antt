@@ -1,0 +1,147 @@
+-- Parts that read items, and folds that give values, are as the premises ask; and they leave ends.
+use Rattle.std.specs.Prelude.{◌≡◌, ◌<◌, ◌⊎◌, ℕ, ℤ, Bool, List, ◌++◌, Ok, Err}
+use Rattle.std.proofs.lemmas.Bool.{cases_lt}
+use Rattle.std.proofs.Common.{refl, sym, ◌∙◌, ap, subst, inl, inr, arith}
+use Rattle.streams.specs.Input.{Input, IsEndOf, back_at}
+use Rattle.streams.specs.Kind.{Kind, backtrack}
+use Rattle.streams.specs.Place.{Place}
+use Rattle.streams.specs.Reading.{Reading}
+use Rattle.stream_errors.specs.Form.{Answer}
+use Rattle.winnow_core.specs.Ends.{same_ends}
+use Rattle.winnow_core.specs.Runs.{Keeps as KeepsState, Runs}
+use Rattle.winnow_expression.specs.Grammar.{Grammar, folding}
+use Rattle.winnow_expression.specs.Operators.{fold_of, left_power, neither_power, right_power}
+use Rattle.winnow_expression.specs.Parts.{parts_grammar}
+use Rattle.winnow_expression.specs.Units.{units_left}
+use Rattle.winnow_expression.specs.declared.combinator.operators.Infix.{Infix}
+use Rattle.winnow_expression.specs.declared.combinator.operators.Postfix.{Postfix}
+use Rattle.winnow_expression.specs.declared.combinator.operators.Prefix.{Prefix}
+use Rattle.winnow_expression.specs.declared.combinator.places.First.{First}
+use Rattle.winnow_expression.specs.declared.combinator.places.First.TheVariants.{Operand}
+use Rattle.winnow_expression.specs.declared.combinator.places.First.TheVariants.{
+  Prefix as prefix_read,
+}
+use Rattle.winnow_expression.specs.declared.combinator.places.Next.{Next}
+use Rattle.winnow_expression.specs.declared.combinator.places.Next.TheVariants.{Nothing}
+use Rattle.winnow_expression.specs.declared.combinator.places.Next.TheVariants.{
+  Postfix as postfix_read,
+}
+use Rattle.winnow_expression.specs.declared.combinator.places.Next.TheVariants.{Infix as infix_read}
+use Rattle.winnow_expression_trees.specs.Alike.{AlikeInfix}
+use Rattle.winnow_expression_trees.specs.Items.{AreItems, FirstItems, Gives, GivesOne, ItemRuns}
+use Rattle.winnow_expression_trees.specs.Items.{Items}
+use Rattle.winnow_expression_trees.specs.Items.{ItemsTree, NextItems, NoItem, ReadsItems, left_at}
+use Rattle.winnow_expression_trees.specs.Items.{HasValue}
+use Rattle.winnow_expression_trees.specs.Keeps.{Keeps}
+use Rattle.winnow_expression_trees.specs.OneTree.{IsExact, KeepsOver}
+use Rattle.winnow_expression_trees.specs.Premises.{AlikePostfix, AlikePrefix, FoldAlike, FoldsAlike}
+use Rattle.winnow_expression_trees.specs.Premises.{IsStateless, NotMemory, Premises, Same}
+use Rattle.winnow_expression_trees.specs.Reading.{FirstStep, NextStep, Over}
+use Rattle.winnow_expression_trees.specs.Tree.{Tree, leaf, before, behind, between}
+use Rattle.winnow_expression_trees.specs.Value.{Value}
+
+pub ok_is_not : {O X : Type 0} {a : Answer O} {v : O} {k : Kind} → a ≡ Ok v → a ≡ Err k → X
+ok_is_not e f = absurd (cc)
+
+pub same_ok : {O : Type 0} {a : Answer O} {v w : O} → a ≡ Ok v → a ≡ Ok w → v ≡ w
+same_ok e f = cc
+
+both : {O : Type 0} (alike : O → O → Type 0) (a b : Answer O) (v w : O) → a ≡ Ok v → b ≡ Ok w
+    → alike v w → Same alike a b
+both alike a b v w e f like =
+    subst (λ x. Same alike x b) (sym e) (subst (λ x. Same alike (Ok v) x) (sym f) like)
+
+neither : {O : Type 0} (alike : O → O → Type 0) (a b : Answer O) (k : Kind) → a ≡ Err k
+    → b ≡ Err k → Same alike a b
+neither alike a b k e f =
+    subst (λ x. Same alike x b) (sym e) (subst (λ x. Same alike (Err k) x) (sym f) refl)
+
+-- ---- the premises
+
+-- a part that reads items is stateless, as far as an item is like itself
+pub items_stateless : {S T O : Type 0} (units : List T → ℕ) (alike : O → O → Type 0)
+    (item : Items T O) (s : S) → AreItems units item → ((o : O) → alike o o)
+    → IsStateless alike (KeepsState (λ (_ : S). ItemRuns item)) s
+items_stateless {S} {T} {O} units alike item s are self = record {
+  keeps = λ i j a t r n. (r.1, status i j a r.0);
+  decided = λ i j k a b t u r q na nb. decide i j k a b r.0 q.0;
+}
+  where
+    status : (i j : Input T) (a : Answer O) → ItemRuns item i a j → j.status ≡ i.status
+    status i j a (inl (o, rest, is, e, place)) = ap (λ z. z.status) place
+    status i j a (inr (none, e, place)) = ap (λ z. z.status) place
+
+    decide : (i j k : Input T) (a b : Answer O) → ItemRuns item i a j → ItemRuns item i b k
+        → Same alike a b × (j ≡ k)
+    decide i j k a b (inl (o, rest, is, e, place)) (inl (p, more, was, f, other)) =
+        let same = are.one i.left.tokens o p rest more is was in (
+          both alike a b o p e f (subst (λ z. alike o z) same.0 (self o)),
+          place ∙ ap (λ z. left_at i z) same.1 ∙ sym other,
+        )
+    decide i j k a b (inl (o, rest, is, e, place)) (inr (none, f, other)) = absurd (none o rest is)
+    decide i j k a b (inr (none, e, place)) (inl (p, more, was, f, other)) =
+        absurd (none p more was)
+    decide i j k a b (inr (none, e, place)) (inr (none2, f, other)) =
+        (neither alike a b backtrack e f, place ∙ sym other)
+
+gives_same : {T V : Type 0} (given : V → Type 0) → GivesOne given → (i j k n : Input T)
+    (a b : Answer V) → Gives given i a j → Gives given k b n → Same (λ v w. v ≡ w) a b
+gives_same given single i j k n a b (inl (v, is, e, p)) (inl (w, was, f, q)) =
+    both (λ v w. v ≡ w) a b v w e f (single v w is was)
+gives_same given single i j k n a b (inl (v, is, e, p)) (inr (none, f, q)) = absurd (none v is)
+gives_same given single i j k n a b (inr (none, e, p)) (inl (w, was, f, q)) = absurd (none w was)
+gives_same given single i j k n a b (inr (none, e, p)) (inr (none2, f, q)) =
+    neither (λ v w. v ≡ w) a b backtrack e f
+
+pub gives_rest : {T V : Type 0} (given : V → Type 0) (i j : Input T) (a : Answer V)
+    → Gives given i a j
+    → j ≡ i
+gives_rest given i j a (inl (v, is, e, p)) = p
+gives_rest given i j a (inr (none, e, p)) = p
+
+-- a fold that gives one value acts alike with itself
+pub gives_alike : {F T V : Type 0} (fold : F → V → V → Type 0) (f : F)
+    → ((v : V) → GivesOne (fold f v))
+    → FoldAlike {T = T} (λ v w. v ≡ w) (λ g i v a j. Gives (fold g v) i a j) f f
+gives_alike fold f single = record {
+  same = λ v w i j k n a b like x y na nb. gives_same (fold f v) (single v) i j k n a b x
+      (subst (λ z. Gives (fold f z) k b n) (sym like) y);
+  leaves = λ v i j a x n. gives_rest (fold f v) i j a x;
+}
+
+pub gives_both_alike : {H T V : Type 0} (fold : H → V → V → V → Type 0) (f : H)
+    → ((v w : V) → GivesOne (fold f v w))
+    → FoldsAlike {T = T} (λ v w. v ≡ w) (λ g i v w a j. Gives (fold g v w) i a j) f f
+gives_both_alike fold f single = record {
+  same = λ v x w y i j k n a b like more p q na nb. gives_same (fold f v x) (single v x) i j k n a b
+      p (subst (λ z. Gives (fold f v z) k b n) (sym more)
+      (subst (λ z. Gives (fold f z y) k b n) (sym like) q));
+  leaves = λ v x i j a p n. gives_rest (fold f v x) i j a p;
+}
+
+-- ---- ends
+
+-- an item's run leaves an end, where a stream keeps no place
+pub item_ends : {T O L : Type 0} (reading : Reading T L) (item : Items T O)
+    → ((p : Place) (n : ℕ) → reading.advance p n ≡ p)
+    → ((tokens rest : List T) (o : O) → item tokens o rest
+    → (front : List T) × (tokens ≡ front ++ rest)) → (i j : Input T) (a : Answer O)
+    → ItemRuns item i a j → IsEndOf reading j i
+item_ends {T} reading item still splits i j a (inl (o, rest, is, e, place)) =
+    let (front, split) = splits i.left.tokens rest o is in
+    let P : Input T → Type 0 = λ z. IsEndOf reading z i in
+    subst P (sym place) (record {
+      ends = record {
+        dropped = front;
+        tokens = split;
+        place = sym (still i.left.place (reading.units front));
+        possible = refl;
+      };
+      cut = refl;
+    })
+item_ends reading item still splits i j a (inr (none, e, place)) = same_ends reading i j place
+
+-- a fold that gives a value leaves an end
+pub gives_ends : {T V L : Type 0} (reading : Reading T L) (given : V → Type 0) (i j : Input T)
+    (a : Answer V) → Gives given i a j → IsEndOf reading j i
+gives_ends reading given i j a r = same_ends reading i j (gives_rest given i j a r)

@@ -1,0 +1,40 @@
+-- What a run of an expression says of the trees over its reading.
+use Rattle.std.specs.Prelude.{◌≡◌, ℤ, Bool, Ok, Err}
+use Rattle.streams.specs.Input.{Input}
+use Rattle.streams.specs.Kind.{Kind}
+use Rattle.stream_errors.specs.Form.{Answer}
+use Rattle.winnow_expression.specs.Grammar.{Grammar}
+use Rattle.winnow_expression_trees.specs.Alike.{AlikeTree}
+use Rattle.winnow_expression_trees.specs.Failure.{FailsBy}
+use Rattle.winnow_expression_trees.specs.Keeps.{Keeps}
+use Rattle.winnow_expression_trees.specs.Premises.{FoldAlike, FoldsAlike, NotMemory}
+use Rattle.winnow_expression_trees.specs.Reading.{FirstStep, NextStep, Over}
+use Rattle.winnow_expression_trees.specs.Tree.{Tree}
+use Rattle.winnow_expression_trees.specs.Value.{Value}
+
+-- A tree over a beginning of what the parts read keeps the powers at a level, and ends at j.
+abbrev pub KeepsOver : {S W T V F G H : Type 0} → Grammar S W T V F G H → S × W → ℤ → Input T
+    → Tree V F G H → Input T → Bool → Type 0
+KeepsOver g s level i r j all =
+    Over (FirstStep g s) (NextStep g s) r i j × Keeps (NextStep g s) level r j all
+
+abbrev pub Alike : {S W T V F G H : Type 0} → Grammar S W T V F G H → (V → V → Type 0)
+    → Tree V F G H
+    → Tree V F G H → Type 0
+Alike g alike r u =
+    AlikeTree alike (FoldAlike alike g.folding.before) (FoldAlike alike g.behind)
+    (FoldsAlike alike g.folding.between) r u
+
+-- At most one tree keeps the powers; an output is the value of one, which ends where the input is
+-- left; and where one has a value, the answer is alike, want of memory aside.
+pub record IsExact {S W T V F G H : Type 0} (g : Grammar S W T V F G H) (alike : V → V → Type 0)
+    (s : S × W) (level : ℤ) (i : Input T) (answer : Answer V) (t : S × W)
+    (j : Input T) : Type 0 where
+  pub one : (r u : Tree V F G H) (m n : Input T) (b c : Bool) → KeepsOver g s level i r m b
+      → KeepsOver g s level i u n c → Alike g alike r u × (m ≡ n)
+  pub finds : (v : V) → answer ≡ Ok v
+      → (r : Tree V F G H) × (all : Bool) × KeepsOver g s level i r j all × Value g r v
+  pub agrees : (r : Tree V F G H) (n : Input T) (all : Bool) (x : V) → KeepsOver g s level i r n all
+      → Value g r x → NotMemory answer → (v : V) × (answer ≡ Ok v) × (j ≡ n) × alike v x
+  pub keeps : (v : V) → answer ≡ Ok v → (t.0 ≡ s.0) × (t.1 ≡ s.1)
+  pub fails : (k : Kind) → answer ≡ Err k → NotMemory answer → FailsBy g s i k j

@@ -1,0 +1,5 @@
+//! The tests of the calculator.
+#![tactic(auto)]
+
+#[cfg(test)]
+mod values;
