@@ -5,12 +5,13 @@ Run it at the top of the repository:
 
     python3 scripts/by_name.py
 
-A public parser is a struct in a file of its own under `src/*/impls/` of a library crate, and its
-name is that of the file. It has a row in `docs/PARSERS.md`, which links its definition, a file of
-`specs/`; a test, a function of a crate of rows whose name begins with the parser's, or a row that is
-labelled with it; and an edit that the prover must refuse, `must-fail/NAME_*.edit`, of its crate or of
-one that it stands on, where no longer parser's name begins the edit's. It fails where one lacks any
-of these.
+A public parser is a struct in a file of its own under `src/*/impls/` of a library crate, which
+`impls.rt` beside that folder re-exports, and its name is that of the file. It has a row in `docs/PARSERS.md`, which links its definition, a file of
+`specs/`; a test, a function of `tests/` whose name begins with the parser's, or a row that is
+labelled with it; and an edit that the prover must refuse, `must-fail/NAME_*.edit` or
+`edits/NAME_*.edit`, of its crate or of one that it stands on, where no longer parser's name begins
+the edit's. And `uses` or `readers` names it, as they name each adapter of `Parser` and each call of
+a stream, so that the prover has seen each at a concrete type. It fails where one lacks any of these.
 """
 import pathlib
 import re
@@ -23,7 +24,8 @@ CRATES = TOP / "crates"
 def parsers():
     """The public parsers, each with the crate that has it."""
     for path in sorted(CRATES.glob("*/src/*/impls/*.rt")):
-        yield path.relative_to(CRATES).parts[0], path.stem
+        if f"::impls::{path.stem}::" in path.parent.with_suffix(".rt").read_text(encoding="utf-8"):
+            yield path.relative_to(CRATES).parts[0], path.stem
 
 
 def rows():
@@ -40,9 +42,9 @@ def rows():
 
 
 def tests():
-    """The names of the functions and the labels of the rows in the crates of rows."""
+    """The names of the functions and the labels of the rows in the tests."""
     names = set()
-    for path in CRATES.glob("*_rows/src/**/*.rt"):
+    for path in (TOP / "tests").glob("**/*.rs"):
         names.update(re.findall(r"\bfn (\w+)|\"(\w+)\"", path.read_text(encoding="utf-8")))
     return {name for pair in names for name in pair if name}
 
@@ -60,10 +62,37 @@ def below():
 def edits():
     """The edits, each by its crate and the longest of the parsers' names that its own begins with."""
     known = {name for _, name in parsers()}
-    for path in CRATES.glob("*/must-fail/*.edit"):
+    for path in [*CRATES.glob("*/must-fail/*.edit"), *CRATES.glob("*/edits/*.edit")]:
         names = [name for name in known if path.stem.startswith(name + "_")]
         if names:
             yield path.relative_to(CRATES).parts[0], max(names, key=len)
+
+
+def calls():
+    """The adapters of `Parser` and the calls of a stream, each with the crate that has it."""
+    for crate, file in (("winnow_core", "parser"), ("streams", "stream")):
+        text = (CRATES / crate / "src" / f"{file}.rt").read_text(encoding="utf-8")
+        for name in re.findall(r"^    (?:final )?fn (\w+)", text, re.MULTILINE):
+            yield crate, name
+
+
+# The crates that use the library.
+CALLERS = ("uses", "booleans", "calc", "readers")
+
+
+def words_of_callers():
+    """The words of the crates that use the library."""
+    paths = [it for crate in CALLERS for it in (CRATES / crate / "src").rglob("*.rt")]
+    return {word for it in paths for word in re.findall(r"\w+", it.read_text(encoding="utf-8"))}
+
+
+def uncalled():
+    """What no caller here names, neither the function nor its struct."""
+    words = words_of_callers()
+    for crate, name in [*parsers(), *calls()]:
+        camel = "".join(part.capitalize() for part in name.split("_"))
+        if name not in words and camel not in words:
+            yield crate, name, "a caller in uses or readers"
 
 
 def lacks(crate, name, table, names, edited, on):
@@ -73,9 +102,9 @@ def lacks(crate, name, table, names, edited, on):
     elif not table[name] or not all((TOP / link).is_file() for link in table[name]):
         yield "a definition that its row links"
     if not any(test == name or test.startswith(name + "_") for test in names):
-        yield "a test in a crate of rows"
+        yield "a test in tests/"
     if not any((at, name) in edited for at in on[crate]):
-        yield "an edit that must fail"
+        yield "an edit that the prover must refuse"
 
 
 def main():
@@ -84,7 +113,7 @@ def main():
         (crate, name, what)
         for crate, name in parsers()
         for what in lacks(crate, name, table, names, edited, on)
-    ]
+    ] + list(uncalled())
     for crate, name, what in missing:
         print("%s: %s lacks %s" % (crate, name, what))
     return 1 if missing else 0

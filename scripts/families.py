@@ -7,15 +7,19 @@ Run it at the top of the repository, and then `rt fmt` in the crates that it nam
 
 It writes the sets that are tuples in the crate `stream_sets`, the meanings and the impls of
 sequences (tuples of one to six) in the crate `winnow_core`, those of choices among as many
-branches in the crate `winnow_comb`, with their laws, and the parsers of classes of characters in
-the crate `winnow_ascii`. It prints the crates whose files it writes.
+branches in the crate `winnow_comb`, with their laws, the parsers of classes of characters in the
+crate `winnow_ascii`, those of integers in the crates `winnow_integers` and `winnow_binary`, and in
+the crate `winnow_stable` that all but the integers are stable. It prints the crates whose files it
+writes.
 """
 from family.choices import write_choices
 from family.classes import write_classes
+from family.integers import write_integers
 from family.known import write_known
 from family.reads import write_reads
 from family.sequences import write_sequences
 from family.sets import write_sets
+from family.stable import write_stable
 
 if __name__ == "__main__":
     write_sets()
@@ -24,4 +28,7 @@ if __name__ == "__main__":
     write_reads()
     write_choices()
     write_classes()
-    print("stream_sets winnow_core winnow_comb winnow_ascii")
+    write_stable()
+    write_integers()
+    print("stream_sets winnow_core winnow_comb winnow_ascii winnow_integers winnow_binary")
+    print("winnow_stable")

@@ -11,37 +11,42 @@ CLASSES = [
     ("multispace", "spaces, tabs, carriage returns and line feeds", "such character", "Multispaces", "IsMultispace", " \\n", "a"),
 ]
 
-# The other parsers of the module, which are written by hand.
-OTHERS = ["crlf", "line_ending", "newline", "tab", "till_line_ending"]
-
 
 def class_parsers():
     """Each class with its least number of members."""
     return [(*row, least) for row in CLASSES for least in (0, 1)]
 
 
+def example(call, text, front, rest):
+    """The lines of an example of a call that answers."""
+    return [
+        'let mut input = "%s";' % text,
+        'assert_eq!(rt; %s(&mut input), Ok::<_, EmptyError>("%s"));' % (call, front),
+        'assert_eq!(rt; input, "%s");' % rest,
+    ]
 
 
 def class_function(name, members, one, chars, is_member, front, rest, least):
     call = "%s%d" % (name, least)
     if least:
         fails = "It backtracks, and consumes nothing, where no %s stands first. On a cut input it is incomplete" % one
-        other = "backtracks"
+        other = [
+            'let answer: Result<_, ErrMode<EmptyError>> = %s(&mut "%s");' % (call, rest),
+            "assert!(rt; matches!(answer, Err(ErrMode::Backtrack(_))));",
+        ]
     else:
         fails = "It never backtracks on a whole input. On a cut input it is incomplete"
-        other = 'is Ok(b"")'
+        other = ['assert_eq!(rt; %s(&mut "%s"), Ok::<_, EmptyError>(""));' % (call, rest)]
     fails += ", and consumes nothing, where nothing is left or all that is left is taken: the need is 1 unit."
-    first = '%s(&mut b"%s%s".as_slice())' % (call, front, rest)
-    second = '%s(&mut b"%s".as_slice())' % (call, rest)
     return "\n".join(
         [
             documented("The longest beginning of %s, %s; the output is the slice of the input." % (members, "at least one" if least else "none too")),
             "///",
             documented(fails),
             "///",
-            "/// ```text",
-            '/// %s   is Ok(b"%s"), and b"%s" is left' % (first, front, rest),
-            "/// %s%s   %s, and b\"%s\" is left" % (second, " " * (len(first) - len(second)), other, rest),
+            "/// ```",
+            *("/// " + line for line in example(call, front + rest, front, rest)),
+            *("/// " + line for line in other),
             "/// ```",
             "#[inline(always)]",
             "pub fn %s<Input, Error>(input: &mut Input) -> Result<Input::Slice, Error>" % call,
@@ -96,8 +101,8 @@ use winnow_core::parser::Parser;
 
 /// The parser [`{call}`](crate::ascii::{call}).
 ///
-/// ```text
-/// {kind}.parse_next(&mut b"{front}{rest}".as_slice())   is Ok(b"{front}"), and b"{rest}" is left
+/// ```
+/// assert_eq!(rt; {kind}.parse_peek("{front}{rest}"), Ok::<_, EmptyError>(("{rest}", "{front}")));
 /// ```
 #[derive(Clone, Copy, Debug, PartialEq, Eq)]
 pub struct {kind};
@@ -130,15 +135,6 @@ where
 }}
 """
 
-CLASS_IMPLS = """//! The parsers of the module above, as structs.
-//!
-//! {head}
-{modules}
-
-{kinds}
-"""
-
-
 def write_classes():
     ascii_crate = "crates/winnow_ascii/"
     rows = class_parsers()
@@ -148,13 +144,6 @@ def write_classes():
     }
     functions = "\n\n".join(class_function(*row) for row in rows)
     write(ascii_crate + "src/ascii/classes.rt", CLASS_FUNCTIONS, family=functions, **parts)
-    calls = sorted(["%s%d" % (row[0], row[-1]) for row in rows] + OTHERS)
-    write(
-        ascii_crate + "src/ascii/impls.rt",
-        CLASS_IMPLS,
-        modules="\n".join("mod %s;" % call for call in calls),
-        kinds="\n".join("pub use crate::ascii::impls::%s::%s;" % (call, camel(call)) for call in calls),
-    )
     for name, members, one, chars, is_member, front, rest, least in rows:
         call = "%s%d" % (name, least)
         about = "The longest beginning of %s, %s." % (members, "at least one" if least else "none too")

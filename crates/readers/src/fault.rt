@@ -2,8 +2,11 @@
 
 /// Why a reader gives no answer.
 ///
-/// ```text
-/// ini::pair(b"key")   is Err(Fault::Refused(3))
+/// ```
+/// use readers::fault::Fault;
+/// use readers::ini;
+///
+/// assert_eq!(rt; ini::pair(b"key"), Err(Fault::Refused(3)));
 /// ```
 #[derive(Clone, Copy, Debug, PartialEq)]
 pub enum Fault {

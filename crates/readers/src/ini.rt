@@ -20,9 +20,12 @@ use winnow::token::take_while;
 /// The answer is the key and the value, as slices of the input; the value may be empty. Other
 /// bytes are refused at the length of their longest beginning that begins such a line.
 ///
-/// ```text
-/// ini::pair(b"key=value\n")   is Ok((b"key", b"value"))
-/// ini::pair(b"a=b\nc")        is Err(Fault::Refused(4))
+/// ```
+/// use readers::fault::Fault;
+/// use readers::ini;
+///
+/// assert_eq!(rt; ini::pair(b"key=value\n"), Ok((b"key".as_slice(), b"value".as_slice())));
+/// assert_eq!(rt; ini::pair(b"a=b\nc"), Err(Fault::Refused(4)));
 /// ```
 pub fn pair(input: &[u8]) -> Result<(&[u8], &[u8]), Fault>
     ensures parts { IfOk result (λ p. IsPairLine input.now p.0.now p.1.now) }

@@ -114,11 +114,16 @@ struct Answer<A: Allocator> {
 /// A fault of `errors` changes no status, and leaves a beginning of the text there;
 /// [`run_and_tell`] also says whether it stands whole. Neither writer is flushed.
 ///
-/// ```text
-/// run(alloc, &["pair"], &mut b"key=value".as_slice(), &mut output, &mut errors)
-///     is 0, and output holds "key: value\n"
-/// run(alloc, &["ini"], &mut b"[a]\nx=1".as_slice(), &mut output, &mut errors)
-///     is 0, and output holds "section a\nx: 1\n"
+/// ```
+/// use readers::program::run;
+///
+/// let mut output = [0_u8; 16];
+/// let mut errors = [0_u8; 16];
+/// let mut writer = output.as_mut_slice();
+/// let mut teller = errors.as_mut_slice();
+/// let status = run(alloc, &["pair"], &mut b"key=value".as_slice(), &mut writer, &mut teller);
+/// assert_eq!(rt; status, 0);
+/// assert!(rt; output.starts_with(b"key: value\n"));
 /// ```
 pub fn run<A: Allocator + Copy, R: Read, W: Write, E: Write>(
     alloc: A,

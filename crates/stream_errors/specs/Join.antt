@@ -1,6 +1,6 @@
 -- What becomes of the kinds of two errors that are joined.
 use Rattle.std.specs.Prelude.{◌≡◌, ◌⊎◌, None}
-use Rattle.std.proofs.Common.{refl, ap, ◌∙◌, inl, inr}
+use Rattle.std.proofs.Common.{refl, ap, inl, inr}
 use Rattle.streams.specs.Kind.{Kind, backtrack, cut, incomplete, memory}
 use Rattle.streams.specs.declared.needed.Needed.{Needed}
 use Rattle.stream_errors.specs.Form.{need_of_kind}
@@ -53,6 +53,19 @@ keeps_cut old new (inr (is, whole, grew)) =
     inr (ap (mode_round cut) is, (whole_round old).1, grew)
 
 pub ruleset keeps_kinds = (keeps_backtrack, keeps_cut)
+
+-- where the inner error is as promised, so is the error that backtracks, or cuts, round it
+pub is_backtrack : {grows : Type 0} (promised kind : Kind) → IsOrMemory promised grows kind
+    → IsOrMemory (mode_round backtrack promised) grows (mode_round backtrack kind)
+is_backtrack promised kind (inl is) = inl (ap (mode_round backtrack) is)
+is_backtrack promised kind (inr (is, grew)) = inr (ap (mode_round backtrack) is, grew)
+
+pub is_cut : {grows : Type 0} (promised kind : Kind) → IsOrMemory promised grows kind
+    → IsOrMemory (mode_round cut promised) grows (mode_round cut kind)
+is_cut promised kind (inl is) = inl (ap (mode_round cut) is)
+is_cut promised kind (inr (is, grew)) = inr (ap (mode_round cut) is, grew)
+
+pub ruleset joins_round = (is_backtrack, is_cut)
 
 -- an error with a mode asks for memory where its inner error does
 abbrev pub inner_grows : {E : Type 0} → (E → Type 0) → ErrMode E Needed → Type 0

@@ -1,5 +1,7 @@
 //! Errors that keep what was being parsed.
 ghost use Rattle.std.specs.Prelude.{◌≡◌, Bool, IsTrue, false};
+ghost use Rattle.stream_errors.specs.Given.{KeepsContext, Keeping, always_kept, round_keeping};
+ghost use Rattle.stream_errors.specs.Given.{round_refused};
 ghost use Rattle.stream_errors.specs.Join.{KeepsKind};
 
 use crate::empty::EmptyError;
@@ -18,15 +20,29 @@ pub trait AddContext<I: Stream, C, A: Allocator>: HasKind {
     // Whether keeping a context asks for memory.
     ghost context_grows: { Bool };
 
+    // Whether a context can be kept, and whether keeping it can be refused memory.
+    ghost context_gives: { C → Keeping };
+
+    // Memory is refused only where keeping a context asks for it.
+    ghost context_asks: { (context : C) → IsTrue (context_gives context).refused
+        → IsTrue context_grows };
+
     /// The error with one context more, of a parser that began at `token_start`. The kind stays;
     /// only where keeping the context asks for memory can it be want of memory instead, and an
     /// incomplete error keeps none.
     fn add_context(self, alloc: A, input: &I, token_start: &I::Checkpoint, context: C) -> Self
-        ensures { KeepsKind (IsTrue context_grows) (Self.kind self) (Self.kind result) };
+        ensures kind { KeepsKind (IsTrue context_grows) (Self.kind self) (Self.kind result) }
+        ensures kept { KeepsContext Self.form (context_gives context) (Self.kind self)
+            (Self.kind result) };
 }
 
+#[tactic(auto, using(crate::specs::Given::contexts_kept))]
 impl<I: Stream, C: Drop, A: Allocator> AddContext<I, C, A> for EmptyError {
     ghost context_grows = { false };
+
+    ghost context_gives = { λ _. always_kept };
+
+    ghost context_asks = { λ _ refused. refused };
 
     #[inline(always)]
     fn add_context(
@@ -42,8 +58,13 @@ impl<I: Stream, C: Drop, A: Allocator> AddContext<I, C, A> for EmptyError {
     }
 }
 
+#[tactic(auto, using(crate::specs::Given::contexts_kept))]
 impl<I: Stream, C: Drop, A: Allocator> AddContext<I, C, A> for InputError<I> {
     ghost context_grows = { false };
+
+    ghost context_gives = { λ _. always_kept };
+
+    ghost context_asks = { λ _ refused. refused };
 
     #[inline(always)]
     fn add_context(
@@ -59,9 +80,14 @@ impl<I: Stream, C: Drop, A: Allocator> AddContext<I, C, A> for InputError<I> {
     }
 }
 
-#[tactic(auto, using(crate::specs::Join::keeps_kinds))]
+#[tactic(auto, using(crate::specs::Join::keeps_kinds, crate::specs::Given::contexts_kept))]
 impl<I: Stream, C: Drop, A: Allocator, E: AddContext<I, C, A>> AddContext<I, C, A> for ErrMode<E> {
     ghost context_grows = { E.context_grows };
+
+    ghost context_gives = { λ context. round_keeping E.form (E.context_gives context) };
+
+    ghost context_asks = { λ context refused. E.context_asks context
+        (round_refused E.form (E.context_gives context) refused) };
 
     #[inline]
     fn add_context(

@@ -1,8 +1,9 @@
 //! An error with its contexts.
-ghost use Rattle.std.specs.Prelude.{◌≡◌, [], false, true, if◌then◌else◌};
+ghost use Rattle.std.specs.Prelude.{◌≡◌, [], false, true, refl, if◌then◌else◌};
 ghost use Rattle.stream_errors.specs.ContextError.{IsPushed, contexts_of, wants_memory};
 ghost use Rattle.stream_errors.specs.Form.{marked_kind, plain, inner_kind_of-marked_kind};
 ghost use Rattle.stream_errors.specs.Form.{marked_kind-cases};
+ghost use Rattle.stream_errors.specs.Given.{always_kept, kept_or_refused};
 
 use crate::context::AddContext;
 use crate::external::FromExternalError;
@@ -145,8 +146,13 @@ impl<I: Stream, C: Drop, A: Allocator> ParserError<I> for ContextError<C, A> {
     ghost plain_kinds = { λ _ e. marked_kind-cases e.is_memory };
 }
 
+#[tactic(auto, using(crate::specs::Given::contexts_kept))]
 impl<I: Stream, C: Drop, A: Allocator> AddContext<I, C, A> for ContextError<C, A> {
     ghost context_grows = { true };
+
+    ghost context_gives = { λ _. kept_or_refused };
+
+    ghost context_asks = { λ _ refused. refl };
 
     #[inline]
     fn add_context(
@@ -165,6 +171,10 @@ impl<I: Stream, C: Drop, A: Allocator> AddContext<I, C, A> for ContextError<C, A
 
 impl<I: Stream, C: Drop, A: Allocator, E: Drop> FromExternalError<I, E> for ContextError<C, A> {
     ghost external_grows = { false };
+
+    ghost external_gives = { λ _. always_kept };
+
+    ghost external_asks = { λ _ refused. refused };
 
     #[inline(always)]
     fn from_external_error(_input: &I, _error: E) -> ContextError<C, A> {

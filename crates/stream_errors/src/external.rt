@@ -1,6 +1,7 @@
 //! Errors made of the errors of others.
 ghost use Rattle.std.specs.Prelude.{Bool, IsTrue, false};
 ghost use Rattle.streams.specs.Kind.{backtrack};
+ghost use Rattle.stream_errors.specs.Given.{Keeping, KindGiven, always_kept};
 ghost use Rattle.stream_errors.specs.Join.{IsOrMemory};
 
 use crate::empty::EmptyError;
@@ -19,14 +20,26 @@ pub trait FromExternalError<I: Stream, E>: HasKind {
     // Whether keeping the other error asks for memory.
     ghost external_grows: { Bool };
 
+    // Whether an error can be kept, and whether keeping it can be refused memory.
+    ghost external_gives: { E → Keeping };
+
+    // Memory is refused only where keeping the other error asks for it.
+    ghost external_asks: { (error : E) → IsTrue (external_gives error).refused
+        → IsTrue external_grows };
+
     /// A backtracking error at the place of `input`, for `error`. Only where keeping that asks for
     /// memory can it be want of memory instead.
     fn from_external_error(input: &I, error: E) -> Self
-        ensures { IsOrMemory backtrack (IsTrue external_grows) (Self.kind result) };
+        ensures kind { IsOrMemory backtrack (IsTrue external_grows) (Self.kind result) }
+        ensures given { KindGiven (external_gives error) backtrack (Self.kind result) };
 }
 
 impl<I: Stream, E: Drop> FromExternalError<I, E> for EmptyError {
     ghost external_grows = { false };
+
+    ghost external_gives = { λ _. always_kept };
+
+    ghost external_asks = { λ _ refused. refused };
 
     #[inline(always)]
     fn from_external_error(input: &I, _error: E) -> EmptyError {
@@ -37,14 +50,23 @@ impl<I: Stream, E: Drop> FromExternalError<I, E> for EmptyError {
 impl<I: Stream + Copy, E: Drop> FromExternalError<I, E> for InputError<I> {
     ghost external_grows = { false };
 
+    ghost external_gives = { λ _. always_kept };
+
+    ghost external_asks = { λ _ refused. refused };
+
     #[inline(always)]
     fn from_external_error(input: &I, _error: E) -> InputError<I> {
         InputError::at(*input)
     }
 }
 
+#[tactic(auto, using(crate::specs::Given::contexts_kept))]
 impl<I: Stream, E, F: FromExternalError<I, E>> FromExternalError<I, E> for ErrMode<F> {
     ghost external_grows = { F.external_grows };
+
+    ghost external_gives = { F.external_gives };
+
+    ghost external_asks = { F.external_asks };
 
     #[inline(always)]
     fn from_external_error(input: &I, error: E) -> ErrMode<F> {

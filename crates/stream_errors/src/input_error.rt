@@ -1,9 +1,10 @@
 //! An error with the input at its place.
-ghost use Rattle.std.specs.Prelude.{◌≡◌, false, if◌then◌else◌};
+ghost use Rattle.std.specs.Prelude.{◌≡◌, false, refl, if◌then◌else◌};
 ghost use Rattle.streams.specs.Kind.{Kind};
 ghost use Rattle.stream_errors.specs.Form.{marked_kind, plain, inner_kind_of-marked_kind};
 ghost use Rattle.stream_errors.specs.Form.{marked_kind-cases};
 
+use crate::convert::{ConvertInput, ErrorConvert};
 use crate::has_kind::HasKind;
 use crate::parser_error::ParserError;
 use streams::needed::Needed;
@@ -112,4 +113,19 @@ impl<I: Stream + Copy> ParserError<I> for InputError<I> {
     }
 
     ghost plain_kinds = { λ _ e. marked_kind-cases e.is_memory };
+}
+
+impl<I: ConvertInput<J>, J> ErrorConvert<InputError<J>> for InputError<I> {
+    #[inline(always)]
+    fn convert(self) -> InputError<J>
+        ensures kind { marked_kind result.is_memory ≡ marked_kind self.is_memory }
+        ensures input { I.converts self.input result.input }
+    {
+        InputError {
+            input: self.input.convert_input(),
+            is_memory: self.is_memory,
+        }
+    }
+
+    ghost one_form = { refl };
 }

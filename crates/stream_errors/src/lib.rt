@@ -7,6 +7,8 @@
 
 pub mod context;
 pub mod context_error;
+pub mod control;
+pub mod convert;
 pub mod empty;
 pub mod external;
 pub mod fault;
@@ -15,3 +17,5 @@ pub mod input_error;
 pub mod modal;
 pub mod mode;
 pub mod parser_error;
+pub mod recover;
+pub mod recoverable;

@@ -4,9 +4,9 @@ ghost use Rattle.std.specs.Prelude.{◌≡◌, ℕ, length};
 /// A literal that is compared without regard to the case of ASCII letters. Other letters differ
 /// from theirs in another case.
 ///
-/// ```text
-/// b"HeLLo!".as_slice().compare(Caseless("hello"))   is CompareResult::Ok(5)
-/// "É".compare(Caseless("é"))                        is CompareResult::Error
+/// ```
+/// assert_eq!(rt; b"HeLLo!".as_slice().compare(Caseless("hello")), CompareResult::Ok(5));
+/// assert_eq!(rt; "É".compare(Caseless("é")), CompareResult::Error);
 /// ```
 #[derive(Clone, Copy, Debug)]
 pub struct Caseless<T>(pub T);

@@ -27,10 +27,10 @@ pub enum CompareResult {
 
 /// A stream that can be compared with a literal of type `T`.
 ///
-/// ```text
-/// b"abc".as_slice().compare(b"ab".as_slice())   is CompareResult::Ok(2)
-/// b"a".as_slice().compare(b"ab".as_slice())     is CompareResult::Incomplete
-/// b"b".as_slice().compare(b'a')                 is CompareResult::Error
+/// ```
+/// assert_eq!(rt; b"abc".as_slice().compare(b"ab".as_slice()), CompareResult::Ok(2));
+/// assert_eq!(rt; b"a".as_slice().compare(b"ab".as_slice()), CompareResult::Incomplete);
+/// assert_eq!(rt; b"b".as_slice().compare(b'a'), CompareResult::Error);
 /// ```
 pub trait Compare<T>: Stream {
     // The lists of tokens that a literal stands for.

@@ -19,10 +19,10 @@ use streams::stream::Stream;
 
 /// A stream that can be searched for a literal of type `T`, or for one of a tuple of them.
 ///
-/// ```text
-/// b"aaab".as_slice().find_slice(b"aab".as_slice())   is Some(1..4)
-/// b"a,b;".as_slice().find_slice((b';', b','))        is Some(1..2)
-/// b"a".as_slice().find_slice(b"".as_slice())         is Some(0..0)
+/// ```
+/// assert_eq!(rt; b"aaab".as_slice().find_slice(b"aab".as_slice()), Some(1..4));
+/// assert_eq!(rt; b"a,b;".as_slice().find_slice((b';', b',')), Some(1..2));
+/// assert_eq!(rt; b"a".as_slice().find_slice(b"".as_slice()), Some(0..0));
 /// ```
 pub trait FindSlice<T>: Stream {
     // The lists of tokens that are sought.

@@ -13,9 +13,9 @@ use streams::token_slice::TokenSlice;
 /// A slice or a literal that knows how many units it takes: bytes of bytes and text, items of token
 /// lists.
 ///
-/// ```text
-/// "é".slice_len()              is 2
-/// Caseless("hello").slice_len()   is 5
+/// ```
+/// assert_eq!(rt; "é".slice_len(), 2);
+/// assert_eq!(rt; Caseless("hello").slice_len(), 5);
 /// ```
 pub trait SliceLen {
     // The units.

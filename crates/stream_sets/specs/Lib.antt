@@ -1,6 +1,7 @@
+-- Written by scripts/registries.py: do not edit.
+pub mod Accumulator
 pub mod AsBStr
 pub mod AsChar
+pub mod ParseSlice
 pub mod Range
 pub mod Sets
-pub mod Accumulator
-pub mod ParseSlice

@@ -10,8 +10,11 @@ use std::collections::BTreeMap;
 /// What a repetition puts its outputs into: nothing, a number, a list, a text or a map. `A` is the
 /// allocator that it is made with.
 ///
-/// ```text
-/// <Vec<u8> as Accumulate<u8, Global>>::initial(alloc, None)   is Ok of an empty list
+/// ```
+/// use std::alloc::{AllocError, Global};
+///
+/// let list: Result<Vec<u8>, AllocError> = Accumulate::<u8, Global>::initial(alloc, None);
+/// assert!(rt; matches!(list, Ok(list) if list.is_empty()));
 /// ```
 pub trait Accumulate<O, A>: Drop {
     // The empty ones, how one takes an output, and when a request for memory may be refused.
@@ -68,8 +71,10 @@ impl<O: Drop, A: Allocator> Accumulate<O, A> for Vec<O, A> {
 
 /// The number of the outputs, which stays at the greatest `usize`. No memory is taken.
 ///
-/// ```text
-/// repeat(0.., any) into a usize on "abc"   is Ok(3)
+/// ```
+/// let number: Result<usize, EmptyError> =
+///     repeat(alloc, Range::from(0..), Any).parse_next(&mut "abc");
+/// assert_eq!(rt; number, Ok(3));
 /// ```
 impl<O: Drop, A: Drop> Accumulate<O, A> for usize {
     ghost accumulator = { number_kept };
@@ -91,8 +96,10 @@ impl<O: Drop, A: Drop> Accumulate<O, A> for usize {
 /// A text to whose end the characters are put. An empty one takes no memory; more is wanted only
 /// where the bytes of a character have no room.
 ///
-/// ```text
-/// repeat(0.., any) into a String on "abc"   is Ok of the text abc
+/// ```
+/// let text: Result<String, EmptyError> =
+///     repeat(alloc, Range::from(0..), Any).parse_next(&mut "abc");
+/// assert!(rt; matches!(text, Ok(text) if text.as_str() == "abc"));
 /// ```
 impl<A: Allocator> Accumulate<char, A> for String<A> {
     ghost accumulator = { characters_kept };
@@ -113,8 +120,10 @@ impl<A: Allocator> Accumulate<char, A> for String<A> {
 /// A text to whose end the texts are put. An empty one takes no memory; more is wanted only where
 /// the bytes of a text have no room.
 ///
-/// ```text
-/// separated(0.., digit1, ',') into a String on "1,23"   is Ok of the text 123
+/// ```
+/// let text: Result<String, EmptyError> =
+///     separated(alloc, Range::from(0..), Digit1, ',').parse_next(&mut "1,23");
+/// assert!(rt; matches!(text, Ok(text) if text.as_str() == "123"));
 /// ```
 impl<'i, A: Allocator> Accumulate<&'i str, A> for String<A> {
     ghost accumulator = { texts_kept };
@@ -135,8 +144,12 @@ impl<'i, A: Allocator> Accumulate<&'i str, A> for String<A> {
 /// A map that the pairs of a key and a value are put into. The last value of a key stands, beside
 /// the first of its equal keys. An empty one takes no memory; more is wanted only for a new key.
 ///
-/// ```text
-/// repeat(0.., (any, any)) into a BTreeMap on "a1b2a3"   is Ok of 'a' to '3' and 'b' to '2'
+/// ```
+/// use std::collections::BTreeMap;
+///
+/// let map: Result<BTreeMap<char, char>, EmptyError> =
+///     repeat(alloc, Range::from(0..), (Any, Any)).parse_next(&mut "a1b2a3");
+/// assert!(rt; matches!(map, Ok(map) if map.get(&'a') == Some(&'3') && map.len() == 2));
 /// ```
 impl<K: Ord + Drop, V: Drop, A: Allocator + Clone> Accumulate<(K, V), A> for BTreeMap<K, V, A> {
     ghost accumulator = { entries_kept K.cmp };

@@ -13,8 +13,8 @@ use streams::stream::Stream;
 
 /// A slice of bytes or of text, seen as its bytes.
 ///
-/// ```text
-/// "é".as_bstr()   is [0xC3, 0xA9]
+/// ```
+/// assert_eq!(rt; "é".as_bstr(), [0xC3, 0xA9].as_slice());
 /// ```
 pub trait AsBStr {
     // The bytes.

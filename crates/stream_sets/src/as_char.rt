@@ -8,10 +8,10 @@ ghost use Rattle.stream_sets.specs.AsChar.{IsSpace, IsNewline};
 ///
 /// A byte is the character of its number.
 ///
-/// ```text
-/// b'7'.is_dec_digit()   is true
-/// 'é'.is_alpha()        is false
-/// 0xE9.as_char()        is 'é', at a byte
+/// ```
+/// assert!(rt; b'7'.is_dec_digit());
+/// assert!(rt; !'é'.is_alpha());
+/// assert_eq!(rt; 0xE9_u8.as_char(), 'é');
 /// ```
 pub trait AsChar {
     // The number of the character.

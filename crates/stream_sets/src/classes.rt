@@ -8,9 +8,9 @@ use crate::sets::ContainsToken;
 
 /// The set of ASCII letters.
 ///
-/// ```text
-/// Letters.contains_token(b'a')   is true
-/// Letters.contains_token(b'1')   is false
+/// ```
+/// assert!(rt; Letters.contains_token(b'a'));
+/// assert!(rt; !Letters.contains_token(b'1'));
 /// ```
 #[derive(Clone, Copy, Debug, PartialEq, Eq)]
 pub struct Letters;
@@ -26,9 +26,9 @@ impl<T: AsChar> ContainsToken<T> for Letters {
 
 /// The set of ASCII letters and digits.
 ///
-/// ```text
-/// Alphanumerics.contains_token(b'a')   is true
-/// Alphanumerics.contains_token(b'-')   is false
+/// ```
+/// assert!(rt; Alphanumerics.contains_token(b'a'));
+/// assert!(rt; !Alphanumerics.contains_token(b'-'));
 /// ```
 #[derive(Clone, Copy, Debug, PartialEq, Eq)]
 pub struct Alphanumerics;
@@ -44,9 +44,9 @@ impl<T: AsChar> ContainsToken<T> for Alphanumerics {
 
 /// The set of ASCII digits.
 ///
-/// ```text
-/// DecimalDigits.contains_token(b'7')   is true
-/// DecimalDigits.contains_token(b'a')   is false
+/// ```
+/// assert!(rt; DecimalDigits.contains_token(b'7'));
+/// assert!(rt; !DecimalDigits.contains_token(b'a'));
 /// ```
 #[derive(Clone, Copy, Debug, PartialEq, Eq)]
 pub struct DecimalDigits;
@@ -62,9 +62,9 @@ impl<T: AsChar> ContainsToken<T> for DecimalDigits {
 
 /// The set of hexadecimal digits, in either case.
 ///
-/// ```text
-/// HexadecimalDigits.contains_token(b'f')   is true
-/// HexadecimalDigits.contains_token(b'g')   is false
+/// ```
+/// assert!(rt; HexadecimalDigits.contains_token(b'f'));
+/// assert!(rt; !HexadecimalDigits.contains_token(b'g'));
 /// ```
 #[derive(Clone, Copy, Debug, PartialEq, Eq)]
 pub struct HexadecimalDigits;
@@ -80,9 +80,9 @@ impl<T: AsChar> ContainsToken<T> for HexadecimalDigits {
 
 /// The set of octal digits.
 ///
-/// ```text
-/// OctalDigits.contains_token(b'7')   is true
-/// OctalDigits.contains_token(b'8')   is false
+/// ```
+/// assert!(rt; OctalDigits.contains_token(b'7'));
+/// assert!(rt; !OctalDigits.contains_token(b'8'));
 /// ```
 #[derive(Clone, Copy, Debug, PartialEq, Eq)]
 pub struct OctalDigits;
@@ -98,9 +98,9 @@ impl<T: AsChar> ContainsToken<T> for OctalDigits {
 
 /// The set of space and tab.
 ///
-/// ```text
-/// Spaces.contains_token(b' ')    is true
-/// Spaces.contains_token(b'\n')   is false
+/// ```
+/// assert!(rt; Spaces.contains_token(b' '));
+/// assert!(rt; !Spaces.contains_token(b'\n'));
 /// ```
 #[derive(Clone, Copy, Debug, PartialEq, Eq)]
 pub struct Spaces;
@@ -116,9 +116,9 @@ impl<T: AsChar> ContainsToken<T> for Spaces {
 
 /// The set of space, tab, carriage return and line feed.
 ///
-/// ```text
-/// Multispaces.contains_token(b'\n')   is true
-/// Multispaces.contains_token(b'a')    is false
+/// ```
+/// assert!(rt; Multispaces.contains_token(b'\n'));
+/// assert!(rt; !Multispaces.contains_token(b'a'));
 /// ```
 #[derive(Clone, Copy, Debug, PartialEq, Eq)]
 pub struct Multispaces;

@@ -3,8 +3,8 @@ ghost use Rattle.std.specs.Prelude.{◌≡◌, ℕ};
 
 /// An unsigned integer that a `usize` holds.
 ///
-/// ```text
-/// 3u8.to_usize()   is 3
+/// ```
+/// assert_eq!(rt; 3u8.to_usize(), 3);
 /// ```
 pub trait ToUsize {
     // The number.

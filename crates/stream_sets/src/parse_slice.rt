@@ -6,9 +6,9 @@ use std::str::FromStr;
 
 /// A slice that can be read as a value of the type `R`, by its `FromStr`.
 ///
-/// ```text
-/// "12".parse_slice()             is Some(12) of a u8
-/// b"256".as_slice().parse_slice()   is None of a u8
+/// ```
+/// assert_eq!(rt; "12".parse_slice(), Some(12_u8));
+/// assert_eq!(rt; b"256".as_slice().parse_slice(), None::<u8>);
 /// ```
 pub trait ParseSlice<R> {
     // What a slice reads as.

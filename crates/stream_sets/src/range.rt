@@ -6,10 +6,10 @@ use std::ops;
 
 /// A range of counts, made by `From` of a number or of a range of numbers.
 ///
-/// ```text
-/// Range::from(3)       3 times
-/// Range::from(1..)     once or more
-/// Range::from(2..=4)   2 to 4 times, as 2..5
+/// ```
+/// let thrice = Range::from(3);
+/// let once_or_more = Range::from(1..);
+/// assert_eq!(rt; Range::from(2..=4), Range::from(2..5));
 /// ```
 ///
 /// Of `a..b` and `..b` the greatest count is `b - 1`, and 0 where `b` is 0.
@@ -28,9 +28,9 @@ impl Range {
     /// The greatest count that is looked at: none in the forms `0..` and `1..`, and the greatest
     /// `usize` of another range with no end.
     ///
-    /// ```text
-    /// Range::from(1..).greatest()    is None
-    /// Range::from(1..4).greatest()   is Some(3)
+    /// ```
+    /// assert_eq!(rt; Range::from(1..).greatest(), None);
+    /// assert_eq!(rt; Range::from(1..4).greatest(), Some(3));
     /// ```
     #[inline(always)]
     #[tactic(auto, using(crate::specs::Range::greatest_by_least))]

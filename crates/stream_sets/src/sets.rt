@@ -13,12 +13,12 @@ use std::ops;
 ///
 /// Tokens are compared as characters: a byte is the character of its number.
 ///
-/// ```text
-/// b'a'.contains_token(b'a')                                 is true
-/// ('a'..='f').contains_token(b'g')                          is false
-/// [b' ', b'\t'].contains_token('\t')                        is true
-/// (b'_', 'a'..='z').contains_token(b'_')                    is true
-/// Pred(|b: u8| b.is_ascii_digit()).contains_token(b'a')     is false
+/// ```
+/// assert!(rt; b'a'.contains_token(b'a'));
+/// assert!(rt; !('a'..='f').contains_token(b'g'));
+/// assert!(rt; [b' ', b'\t'].contains_token('\t'));
+/// assert!(rt; (b'_', 'a'..='z').contains_token(b'_'));
+/// assert!(rt; !Pred(|b: u8| b.is_ascii_digit()).contains_token(b'a'));
 /// ```
 pub trait ContainsToken<T> {
     // The states in which any token may be asked for.

@@ -4,7 +4,7 @@ use Rattle.std.specs.Borrow.{Bor}
 use Rattle.std.proofs.Common.{refl, sym, ap, ◌∙◌, arith}
 use Rattle.std.proofs.lemmas.List.{take-append-drop, length-take-le, length-append}
 use Rattle.streams.specs.Input.{Input, at_start, no_status}
-use Rattle.streams.specs.Reading.{Reading}
+use Rattle.streams.specs.Reading.{Reading, ShowsOneList}
 use Rattle.streams.specs.Stream.{IsBoundary}
 
 pub length-positive : {T : Type 0} (x : T) (xs : List T) → 0 < length (x ∷ xs)
@@ -27,6 +27,10 @@ counted_reading = record {
   advance_further = λ p n k. refl;
   one_length = λ s xs ys p q. ap (λ l. length l) (sym p ∙ q);
 }
+
+-- which are one list
+pub one_counted : {T : Type 0} → ShowsOneList (counted_reading {T = T})
+one_counted s xs ys p q = sym p ∙ q
 
 -- each place up to the end is between two tokens, or at an end
 pub counted_boundary : {T : Type 0} (n : ℕ) (tokens : List T) → n ≤ length tokens

@@ -24,6 +24,11 @@ pub record Reading (T S : Type 0) : Type 1 where
   -- a slice has one length
   pub one_length : (s : S) (xs ys : List T) → shows s xs → shows s ys → units xs ≡ units ys
 
+-- Each slice shows one list of tokens.
+abbrev pub ShowsOneList : {T S : Type 0} → Reading T S → Type 0
+ShowsOneList {T} {S} reading = (slice : S) (xs ys : List T) → reading.shows slice xs
+    → reading.shows slice ys → xs ≡ ys
+
 -- no tokens take no units
 pub units-nil : {T S : Type 0} (reading : Reading T S) → reading.units [] ≡ 0
 units-nil reading = omega (arith, reading.units_add [] [])

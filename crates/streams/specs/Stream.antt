@@ -6,7 +6,7 @@ use Rattle.std.specs.List.{All}
 use Rattle.std.proofs.Common.{refl, sym, ap, suc, ◌∙◌}
 use Rattle.streams.specs.Input.{Input, Takes}
 use Rattle.streams.specs.Place.{Place, same_place}
-use Rattle.streams.specs.Reading.{Reading}
+use Rattle.streams.specs.Reading.{Reading, ShowsOneList}
 
 -- the offset is behind some first tokens
 abbrev pub IsBoundary : {T : Type 0} → (List T → ℕ) → List T → ℕ → Type 0
@@ -73,6 +73,13 @@ update_begins {reading = reading} {front = front} {earlier = earlier} {now = now
     (reading.one_length slice now.left.tokens front u.shown t.shown)
     ∙ sym t.passed.place in
     same_place now.left.place from (u.passed from leads) (u.bits from (ap (λ p. p.bits_read) leads))
+
+-- and what is left of it is those tokens
+pub update_tokens : {T S : Type 0} {reading : Reading T S} {front : List T}
+    {before now : Input T} {slice : S} → ShowsOneList reading → reading.shows slice front
+    → IsUpdate reading before slice now → now.left.tokens ≡ front
+update_tokens {front = front} {now = now} {slice = slice} one shown u =
+    one slice now.left.tokens front u.shown shown
 
 pub length-with_offsets : {T : Type 0} (units : List T → ℕ) (start : ℕ) (tokens : List T)
     → length (with_offsets units start tokens) ≡ length tokens

@@ -14,7 +14,7 @@ use Rattle.std.proofs.lemmas.Str.{chars-nil, chars-append, encodes-chars, length
 use Rattle.std.proofs.lemmas.Str.{len_utf8_bounds, IsUtf8-take}
 use Rattle.streams.specs.Following.{Following}
 use Rattle.streams.specs.Input.{Input, at_start, no_status}
-use Rattle.streams.specs.Reading.{Reading}
+use Rattle.streams.specs.Reading.{Reading, ShowsOneList}
 use Rattle.streams.specs.Stream.{IsBoundary, with_offsets}
 use Rattle.streams.specs.Utf8.{chars-encode, chars_all}
 
@@ -81,6 +81,10 @@ text_reading = record {
 pub shown_chars : (s : Bor (List ℕ)) (tokens : List ℕ) → text_reading.shows s tokens
     → chars s.now ≡ tokens
 shown_chars s tokens shown = ap chars shown ∙ chars_all tokens
+
+-- so it shows one list of them
+pub one_text : ShowsOneList text_reading
+one_text s xs ys p q = sym (shown_chars s xs p) ∙ shown_chars s ys q
 
 -- the characters that an iterator has still to give, each with its offset
 abbrev pub chars_left : CharIndices → List (ℕ × ℕ)

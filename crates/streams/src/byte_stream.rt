@@ -1,14 +1,14 @@
 //! Streams of bytes.
 ghost use Rattle.std.specs.Prelude.{◌≡◌, ◌<◌, ℕ, true, refl};
 ghost use Rattle.std.specs.List.{All};
-ghost use Rattle.streams.specs.ByteStream.{CountsBytes, located_counts};
+ghost use Rattle.streams.specs.ByteStream.{CountsBytes, FollowedByBytes, located_counts};
 
 use crate::locating::LocatingSlice;
 use crate::partial::Partial;
 use crate::stream::Stream;
 
-/// A stream whose tokens are bytes, each seen as its number, whose units are bytes, and which
-/// always stands between two bytes.
+/// A stream whose tokens are bytes, each seen as its number, whose units are bytes, which always
+/// stands between two bytes, and which is followed by bytes.
 ///
 /// It is implemented by `&[u8]` and by the streams that wrap one. What contracts and laws of
 /// parsers of bytes need of any stream of bytes stands here.
@@ -32,6 +32,9 @@ pub trait ByteStream: Stream<Token = u8, Seen = u8> {
 
     // It can always be read.
     ghost always_possible: { (s : Self) → (Self.view s).left.possible ≡ true };
+
+    // More input adds bytes, any of them, and nothing else.
+    ghost followed_by_bytes: { FollowedByBytes Self.following };
 }
 
 /// Does nothing, and says that each byte of a slice is below 256.
@@ -57,6 +60,8 @@ impl<'a> ByteStream for &'a [u8] {
     ghost stands_between = { λ s. refl };
 
     ghost always_possible = { λ s. refl };
+
+    ghost followed_by_bytes = { record { may = λ left more f. f; only = λ left more f. f } };
 }
 
 impl<I: ByteStream> ByteStream for Partial<I> {
@@ -72,6 +77,8 @@ impl<I: ByteStream> ByteStream for Partial<I> {
     ghost stands_between = { λ s. I.stands_between s.input };
 
     ghost always_possible = { λ s. I.always_possible s.input };
+
+    ghost followed_by_bytes = { I.followed_by_bytes };
 }
 
 impl<I: ByteStream> ByteStream for LocatingSlice<I> {
@@ -87,4 +94,6 @@ impl<I: ByteStream> ByteStream for LocatingSlice<I> {
     ghost stands_between = { λ s. I.stands_between s.input };
 
     ghost always_possible = { λ s. I.always_possible s.input };
+
+    ghost followed_by_bytes = { I.followed_by_bytes };
 }

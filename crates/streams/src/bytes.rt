@@ -3,6 +3,7 @@ ghost use Rattle.std.specs.Prelude.{◌≡◌, ◌==◌, ℕ, ◌+◌, ◌<◌, 
 ghost use Rattle.std.specs.Prelude.{true, false, drop, refl};
 ghost use Rattle.std.specs.Iterator.{at_most};
 ghost use Rattle.std.specs.List.{All};
+ghost use Rattle.streams.specs.Counted.{one_counted};
 ghost use Rattle.streams.specs.Input.{at_start};
 ghost use Rattle.streams.specs.Stream.{with_offsets, GivesNext};
 ghost use Rattle.streams.specs.Bytes.{bytes_follow, bytes_input, bytes_reading};
@@ -187,4 +188,6 @@ impl<'a> UpdateSlice for &'a [u8] {
     fn update_slice(self, slice: &'a [u8]) -> &'a [u8] {
         slice
     }
+
+    ghost one_list = { one_counted };
 }

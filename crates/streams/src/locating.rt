@@ -215,4 +215,6 @@ impl<I: UpdateSlice> UpdateSlice for LocatingSlice<I> {
             passed: self.passed.saturating_sub(units),
         }
     }
+
+    ghost one_list = { I.one_list };
 }

@@ -189,4 +189,6 @@ impl<I: UpdateSlice> UpdateSlice for Partial<I> {
             partial: self.partial,
         }
     }
+
+    ghost one_list = { I.one_list };
 }

@@ -3,7 +3,7 @@ ghost use Rattle.std.specs.Prelude.{◌≡◌, ℕ, ◌+◌, List, [], ◌∷◌
 ghost use Rattle.std.specs.Iterator.{IsFinite};
 ghost use Rattle.streams.specs.Input.{Input, Remaining, IsEndOf, Remains, Passes, Takes, back_at};
 ghost use Rattle.streams.specs.Following.{Following};
-ghost use Rattle.streams.specs.Reading.{Reading};
+ghost use Rattle.streams.specs.Reading.{Reading, ShowsOneList};
 ghost use Rattle.streams.specs.Stream.{IsBoundary, AnswersSeen, Cuts, FindsFirst, FindsOffset};
 ghost use Rattle.streams.specs.Stream.{IsUpdate, with_offsets};
 ghost use Rattle.streams.specs.Needed.{by_need};
@@ -185,7 +185,8 @@ pub trait Location: Stream {
         ensures { result ≡ (Self.view self.now).left.place.passed };
 }
 
-/// A stream in whose place one over a part of it can be put.
+/// A stream in whose place one over a part of it can be put: over exactly the tokens that a slice
+/// of it shows.
 ///
 /// ```text
 /// b"abc".as_slice().update_slice(b"b".as_slice())   is b"b"
@@ -195,4 +196,7 @@ pub trait UpdateSlice: Stream {
     /// stream, it begins where that did; at which place it begins otherwise is not promised.
     fn update_slice(self, slice: Self::Slice) -> Self
         ensures { IsUpdate Self.reading (Self.view self) slice (Self.view result) };
+
+    // A slice shows one list of tokens, so what is left of a stream over it is those.
+    ghost one_list: { ShowsOneList Self.reading };
 }

@@ -15,7 +15,7 @@ ghost use Rattle.std.specs.Prelude.{◌≡◌, false, refl};
 ghost use Rattle.std.specs.Str.{chars};
 ghost use Rattle.streams.specs.Input.{at_start};
 ghost use Rattle.streams.specs.Text.{text_follows, text_input, text_reading, chars_left};
-ghost use Rattle.streams.specs.Text.{chars_left_step};
+ghost use Rattle.streams.specs.Text.{chars_left_step, one_text};
 
 use crate::needed::Needed;
 use crate::stream::{Stream, StreamIsPartial, UpdateSlice};
@@ -159,4 +159,6 @@ impl<'a> UpdateSlice for &'a str {
     fn update_slice(self, slice: &'a str) -> &'a str {
         slice
     }
+
+    ghost one_list = { one_text };
 }

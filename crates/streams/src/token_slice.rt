@@ -2,7 +2,7 @@
 ghost use Rattle.std.specs.Prelude.{◌≡◌, true, false, refl, ⊤};
 ghost use Rattle.streams.specs.Following.{none_follows};
 ghost use Rattle.streams.specs.Input.{at_start};
-ghost use Rattle.streams.specs.Counted.{counted_input, counted_reading};
+ghost use Rattle.streams.specs.Counted.{counted_input, counted_reading, one_counted};
 ghost use Rattle.streams.specs.TokenSlice.{tokens_of, tokens_left, tokens_left_step};
 
 use crate::needed::Needed;
@@ -193,4 +193,6 @@ impl<'t, T> UpdateSlice for TokenSlice<'t, T> {
     fn update_slice(self, slice: &'t [T]) -> TokenSlice<'t, T> {
         TokenSlice::new(slice)
     }
+
+    ghost one_list = { one_counted };
 }

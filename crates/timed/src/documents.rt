@@ -1,7 +1,4 @@
 //! INI documents.
-ghost use Rattle.std.specs.Prelude.{◌≡◌, ◌+◌, ◌%◌, ◌^◌, map};
-ghost use Rattle.readers.specs.Sections.{pair_text, section_text};
-ghost use Rattle.timed.specs.Outcome.{TellsDocument, all_value_lengths, value_lengths};
 
 use crate::outcome::Outcome;
 use readers::ini;
@@ -9,9 +6,7 @@ use readers::ini::Section;
 use std::alloc::Global;
 
 /// How many bytes the pairs' values have, and so many more.
-fn with_values(more: u64, pairs: &[(&str, &str)]) -> u64
-    ensures { result ≡ (more + value_lengths (map pair_text pairs.now)) % 2 ^ 64 }
-{
+fn with_values(more: u64, pairs: &[(&str, &str)]) -> u64 {
     let mut sum = more;
     for pair in pairs {
         sum = sum.wrapping_add(pair.1.len() as u64);
@@ -21,9 +16,7 @@ fn with_values(more: u64, pairs: &[(&str, &str)]) -> u64
 
 /// How many bytes all values have.
 #[inline(never)]
-fn value_bytes(sections: &[Section<'_, Global>]) -> u64
-    ensures { result ≡ all_value_lengths (map section_text sections.now) % 2 ^ 64 }
-{
+fn value_bytes(sections: &[Section<'_, Global>]) -> u64 {
     let mut sum: u64 = 0;
     for section in sections {
         sum = with_values(sum, &section.pairs);
@@ -33,9 +26,7 @@ fn value_bytes(sections: &[Section<'_, Global>]) -> u64
 
 /// A document: how many sections it has, and how many bytes its values.
 #[unsafe(no_mangle)]
-pub extern "C" fn timed_document(alloc: Global, input: &[u8], out: &mut Outcome)
-    ensures { TellsDocument input.now out.new }
-{
+pub extern "C" fn timed_document(alloc: Global, input: &[u8], out: &mut Outcome) {
     *out = Outcome {
         count: 0,
         sum: 0,

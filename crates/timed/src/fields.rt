@@ -1,21 +1,16 @@
 //! Comma separated values, without quotes.
-ghost use Rattle.std.specs.Prelude.{◌≡◌, length, map, MatchResult, ⊤};
-ghost use Rattle.std.specs.Str.{chars};
-ghost use Rattle.winnow.specs.Form.{answer_by};
-ghost use Rattle.winnow.specs.Text.{text_input};
-ghost use Rattle.timed.specs.Fields.{IsFirstField, IsFirstRow};
-ghost use Rattle.timed.specs.Numbers.{and_numbers};
-ghost use Rattle.timed.specs.Outcome.{TellsTextSums, TellsValues};
-ghost use Rattle.timed.specs.RowRuns.{OthersRuns, RowRuns, fields_of};
-ghost use Rattle.timed.specs.Values.{AreValues, CountsValues};
+#![tactic(auto, using(winnow::specs::Rules::ends_follow))]
+
+ghost use Rattle.std.specs.Prelude.{⊤};
+ghost use Rattle.winnow.specs.Text.{text_input, text_reading};
+ghost use Rattle.winnow.specs.Input.{IsEndOf};
 
 use crate::outcome::Outcome;
-use crate::tally::Count;
 use std::alloc::Global;
 use std::str;
 use winnow::Parser;
 use winnow::combinator::{preceded, repeat, terminated};
-use winnow::error::{ErrMode, HasKind, InputError};
+use winnow::error::{ErrMode, InputError};
 use winnow::stream::Range;
 use winnow::token::{one_of, take_until};
 
@@ -27,9 +22,7 @@ fn others<'i>(
     alloc: Global,
     input: &mut &'i str,
 ) -> Result<Vec<&'i str, Global>, ErrMode<InputError<&'i str>>>
-    ensures { OthersRuns (text_input input.old.now)
-        (answer_by ⟦<ErrMode<InputError<&'i str>> as HasKind>⟧.kind result)
-        (text_input input.new.now) }
+    ensures { IsEndOf text_reading (text_input input.new.now) (text_input input.old.now) }
 {
     repeat(
         alloc,
@@ -41,9 +34,7 @@ fn others<'i>(
 
 /// A row, and the line feed behind it.
 fn row<'i>(alloc: Global, input: &mut &'i str) -> Result<Row<'i>, ErrMode<InputError<&'i str>>>
-    ensures { RowRuns (text_input input.old.now)
-        (answer_by ⟦<ErrMode<InputError<&'i str>> as HasKind>⟧.kind result)
-        (text_input input.new.now) }
+    ensures { IsEndOf text_reading (text_input input.new.now) (text_input input.old.now) }
 {
     let first = match take_until(Range::from(0..), (',', '\n')).parse_next(input) {
         Ok(first) => first,
@@ -70,9 +61,9 @@ impl<'i> Parser<&'i str, Row<'i>, ErrMode<InputError<&'i str>>> for RowReader {
 
     ghost state = { λ _. tt };
 
-    ghost meaning = { λ _ _ i answer _ j. RowRuns i answer j };
+    ghost meaning = { λ _ _ i _ _ j. IsEndOf text_reading j i };
 
-    ghost leaves_ends = { λ form s i answer t j r. r.0 };
+    ghost leaves_ends = { λ _ _ _ _ _ _ ends. ends };
 
     #[inline(always)]
     fn parse_next(&mut self, input: &mut &'i str) -> Result<Row<'i>, ErrMode<InputError<&'i str>>> {
@@ -84,19 +75,12 @@ impl<'i> Parser<&'i str, Row<'i>, ErrMode<InputError<&'i str>>> for RowReader {
 fn rows<'i>(
     alloc: Global,
     input: &mut &'i str,
-) -> Result<Vec<Row<'i>, Global>, ErrMode<InputError<&'i str>>>
-    ensures { MatchResult result
-        (λ all. AreValues IsFirstRow (chars input.old.now) (map fields_of all.items)
-        (chars input.new.now))
-        (λ _. ⊤) }
-{
+) -> Result<Vec<Row<'i>, Global>, ErrMode<InputError<&'i str>>> {
     repeat(alloc, Range::from(0..), RowReader { alloc }).parse_next(input)
 }
 
 /// How many rows there are, and how many fields they have.
-fn totals(rows: &[Row<'_>]) -> (u64, u64)
-    ensures { result ≡ and_numbers (0, 0) (map fields_of rows.now) }
-{
+fn totals(rows: &[Row<'_>]) -> (u64, u64) {
     let mut count: u64 = 0;
     let mut sum: u64 = 0;
     for row in rows {
@@ -109,9 +93,7 @@ fn totals(rows: &[Row<'_>]) -> (u64, u64)
 /// Rows of fields, as a list of lists of text: how many they are, and how many fields they have.
 /// Nothing is told of bytes that are no text, or where a request for memory was refused.
 #[unsafe(no_mangle)]
-pub extern "C" fn timed_rows(alloc: Global, input: &[u8], out: &mut Outcome)
-    ensures { TellsTextSums IsFirstRow input.now out.new }
-{
+pub extern "C" fn timed_rows(alloc: Global, input: &[u8], out: &mut Outcome) {
     *out = Outcome {
         count: 0,
         sum: 0,
@@ -130,11 +112,10 @@ pub extern "C" fn timed_rows(alloc: Global, input: &[u8], out: &mut Outcome)
 }
 
 /// How many fields have a comma or a line feed behind them.
-fn counted<'i>(alloc: Global, input: &mut &'i [u8]) -> Result<Count, ErrMode<InputError<&'i [u8]>>>
-    ensures { MatchResult result
-        (λ all. CountsValues IsFirstField input.old.now all input.new.now)
-        (λ _. ⊥) }
-{
+fn counted<'i>(
+    alloc: Global,
+    input: &mut &'i [u8],
+) -> Result<usize, ErrMode<InputError<&'i [u8]>>> {
     repeat(
         alloc,
         Range::from(0..),
@@ -148,9 +129,7 @@ fn counted<'i>(alloc: Global, input: &mut &'i [u8]) -> Result<Count, ErrMode<Inp
 
 /// How many fields there are.
 #[unsafe(no_mangle)]
-pub extern "C" fn timed_fields(alloc: Global, input: &[u8], out: &mut Outcome)
-    ensures { TellsValues IsFirstField length input.now out.new }
-{
+pub extern "C" fn timed_fields(alloc: Global, input: &[u8], out: &mut Outcome) {
     let mut rest = input;
     *out = Outcome {
         count: 0,
@@ -158,7 +137,7 @@ pub extern "C" fn timed_fields(alloc: Global, input: &[u8], out: &mut Outcome)
         left: 0,
     };
     if let Ok(all) = counted(alloc, &mut rest) {
-        out.count = all.number;
+        out.count = all as u64;
         out.left = rest.len() as u64;
     }
 }

@@ -1,17 +1,15 @@
 //! The heads of HTTP requests.
-ghost use Rattle.std.specs.Prelude.{length, ◌≡◌, ◌↔◌, IsTrue, MatchResult, ⊤};
-ghost use Rattle.winnow.specs.Bytes.{bytes_input};
-ghost use Rattle.winnow.specs.Form.{answer_by};
-ghost use Rattle.timed.specs.HeadRuns.{HeadRuns, HeaderRuns, HeadersRuns, RequestRuns};
-ghost use Rattle.timed.specs.Heads.{IsFirstHead, IsNameByte, IsTargetByte};
-ghost use Rattle.timed.specs.Outcome.{TellsSumsOrNothing};
-ghost use Rattle.timed.specs.Values.{SumsValues};
+#![tactic(auto, using(winnow::specs::Rules::ends_follow))]
+
+ghost use Rattle.std.specs.Prelude.{⊤};
+ghost use Rattle.winnow.specs.Bytes.{bytes_input, bytes_reading};
+ghost use Rattle.winnow.specs.Input.{IsEndOf};
 
 use crate::outcome::Outcome;
 use std::alloc::Global;
 use winnow::Parser;
 use winnow::combinator::{repeat, separated_pair, terminated};
-use winnow::error::{ErrMode, HasKind, InputError};
+use winnow::error::{ErrMode, InputError};
 use winnow::stream::{ContainsToken, Range};
 use winnow::token::{take_until, take_while};
 
@@ -23,7 +21,7 @@ type Header<'i> = (&'i [u8], &'i [u8]);
 struct NameBytes;
 
 impl ContainsToken<u8> for NameBytes {
-    ghost tells = { λ s b answer. IsTrue answer ↔ IsNameByte b };
+    ghost tells = { λ _ _ _. ⊤ };
 
     #[inline(always)]
     fn contains_token(&self, b: u8) -> bool {
@@ -36,7 +34,7 @@ impl ContainsToken<u8> for NameBytes {
 struct TargetBytes;
 
 impl ContainsToken<u8> for TargetBytes {
-    ghost tells = { λ s b answer. IsTrue answer ↔ IsTargetByte b };
+    ghost tells = { λ _ _ _. ⊤ };
 
     #[inline(always)]
     fn contains_token(&self, b: u8) -> bool {
@@ -46,9 +44,7 @@ impl ContainsToken<u8> for TargetBytes {
 
 /// The method and the target of a request line.
 fn request<'i>(input: &mut &'i [u8]) -> Result<Header<'i>, ErrMode<InputError<&'i [u8]>>>
-    ensures { RequestRuns (bytes_input input.old.now)
-        (answer_by ⟦<ErrMode<InputError<&'i [u8]>> as HasKind>⟧.kind result)
-        (bytes_input input.new.now) }
+    ensures { IsEndOf bytes_reading (bytes_input input.new.now) (bytes_input input.old.now) }
 {
     let mut line = (
         take_while(Range::from(1..), NameBytes),
@@ -64,9 +60,7 @@ fn request<'i>(input: &mut &'i [u8]) -> Result<Header<'i>, ErrMode<InputError<&'
 
 /// A header: its name, a colon and a space, its value, and the end of its line.
 fn header<'i>(input: &mut &'i [u8]) -> Result<Header<'i>, ErrMode<InputError<&'i [u8]>>>
-    ensures { HeaderRuns (bytes_input input.old.now)
-        (answer_by ⟦<ErrMode<InputError<&'i [u8]>> as HasKind>⟧.kind result)
-        (bytes_input input.new.now) }
+    ensures { IsEndOf bytes_reading (bytes_input input.new.now) (bytes_input input.old.now) }
 {
     terminated(
         separated_pair(
@@ -88,9 +82,9 @@ impl<'i> Parser<&'i [u8], Header<'i>, ErrMode<InputError<&'i [u8]>>> for HeaderR
 
     ghost state = { λ _. tt };
 
-    ghost meaning = { λ _ _ i answer _ j. HeaderRuns i answer j };
+    ghost meaning = { λ _ _ i _ _ j. IsEndOf bytes_reading j i };
 
-    ghost leaves_ends = { λ form s i answer t j r. r.0 };
+    ghost leaves_ends = { λ _ _ _ _ _ _ ends. ends };
 
     #[inline(always)]
     fn parse_next(
@@ -106,18 +100,14 @@ fn headers<'i>(
     alloc: Global,
     input: &mut &'i [u8],
 ) -> Result<Vec<Header<'i>, Global>, ErrMode<InputError<&'i [u8]>>>
-    ensures { HeadersRuns (bytes_input input.old.now)
-        (answer_by ⟦<ErrMode<InputError<&'i [u8]>> as HasKind>⟧.kind result)
-        (bytes_input input.new.now) }
+    ensures { IsEndOf bytes_reading (bytes_input input.new.now) (bytes_input input.old.now) }
 {
     repeat(alloc, Range::from(0..), HeaderReader).parse_next(input)
 }
 
 /// A head: the request line, the headers and an empty line. It answers how many headers there are.
 fn head<'i>(alloc: Global, input: &mut &'i [u8]) -> Result<usize, ErrMode<InputError<&'i [u8]>>>
-    ensures { HeadRuns (bytes_input input.old.now)
-        (answer_by ⟦<ErrMode<InputError<&'i [u8]>> as HasKind>⟧.kind result)
-        (bytes_input input.new.now) }
+    ensures { IsEndOf bytes_reading (bytes_input input.new.now) (bytes_input input.old.now) }
 {
     if let Err(error) = request(input) {
         return Err(error);
@@ -143,9 +133,9 @@ impl<'i> Parser<&'i [u8], usize, ErrMode<InputError<&'i [u8]>>> for HeadReader {
 
     ghost state = { λ _. tt };
 
-    ghost meaning = { λ _ _ i answer _ j. HeadRuns i answer j };
+    ghost meaning = { λ _ _ i _ _ j. IsEndOf bytes_reading j i };
 
-    ghost leaves_ends = { λ form s i answer t j r. r.0 };
+    ghost leaves_ends = { λ _ _ _ _ _ _ ends. ends };
 
     #[inline(always)]
     fn parse_next(&mut self, input: &mut &'i [u8]) -> Result<usize, ErrMode<InputError<&'i [u8]>>> {
@@ -157,11 +147,7 @@ impl<'i> Parser<&'i [u8], usize, ErrMode<InputError<&'i [u8]>>> for HeadReader {
 fn heads<'i>(
     alloc: Global,
     input: &mut &'i [u8],
-) -> Result<(u64, u64), ErrMode<InputError<&'i [u8]>>>
-    ensures { MatchResult result
-        (λ all. SumsValues IsFirstHead input.old.now all input.new.now)
-        (λ _. ⊤) }
-{
+) -> Result<(u64, u64), ErrMode<InputError<&'i [u8]>>> {
     repeat(alloc, Range::from(0..), HeadReader { alloc })
         .fold(
             || (0u64, 0u64),
@@ -173,9 +159,7 @@ fn heads<'i>(
 /// Heads, one behind the other: how many they are, and how many headers they have. Nothing is told
 /// where a request for memory was refused.
 #[unsafe(no_mangle)]
-pub extern "C" fn timed_heads(alloc: Global, input: &[u8], out: &mut Outcome)
-    ensures { TellsSumsOrNothing IsFirstHead length input.now out.new }
-{
+pub extern "C" fn timed_heads(alloc: Global, input: &[u8], out: &mut Outcome) {
     let mut rest = input;
     *out = Outcome {
         count: 0,

@@ -7,5 +7,4 @@ pub mod heads;
 pub mod numbers;
 pub mod outcome;
 pub mod searches;
-pub mod tally;
 pub mod words;

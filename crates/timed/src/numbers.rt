@@ -1,37 +1,23 @@
 //! Numbers with a comma between them, or behind each.
-ghost use Rattle.std.specs.Prelude.{◌≡◌, length, true, MatchResult, ⊤};
-ghost use Rattle.winnow.specs.Form.{answer_by, modal};
-ghost use Rattle.timed.specs.NumberLists.{AreListed};
-ghost use Rattle.timed.specs.Numbers.{IsFirstNumber};
-ghost use Rattle.timed.specs.Outcome.{TellsList, TellsSums};
-ghost use Rattle.timed.specs.Pieces.{NumberRuns, ReadsNumbers};
-ghost use Rattle.timed.specs.Values.{SumsValues};
-ghost use Rattle.winnow.specs.Partial.{with_flag};
 
 use crate::outcome::Outcome;
 use std::alloc::Global;
 use winnow::ascii::impls::DecUint;
 use winnow::combinator::{repeat, separated, terminated};
-use winnow::error::{EmptyError, ErrMode, HasKind, InputError};
+use winnow::error::{EmptyError, ErrMode, InputError};
 use winnow::prelude::*;
 use winnow::stream::{AsBStr, AsChar, Compare, Partial, Range, SlicesAsBytes};
 
 fn list<'i>(
     alloc: Global,
     input: &mut &'i [u8],
-) -> Result<Vec<u32, Global>, ErrMode<InputError<&'i [u8]>>>
-    ensures { MatchResult result
-        (λ all. AreListed input.old.now all.items input.new.now)
-        (λ _. ⊤) }
-{
+) -> Result<Vec<u32, Global>, ErrMode<InputError<&'i [u8]>>> {
     separated(alloc, Range::from(0..), DecUint, b',').parse_next(input)
 }
 
 /// A list of numbers. Nothing is told where a request for memory was refused.
 #[unsafe(no_mangle)]
-pub extern "C" fn timed_number_list(alloc: Global, input: &[u8], out: &mut Outcome)
-    ensures { TellsList input.now out.new }
-{
+pub extern "C" fn timed_number_list(alloc: Global, input: &[u8], out: &mut Outcome) {
     let mut rest = input;
     *out = Outcome {
         count: 0,
@@ -45,11 +31,10 @@ pub extern "C" fn timed_number_list(alloc: Global, input: &[u8], out: &mut Outco
 }
 
 /// How many numbers there are, and their sum.
-fn sum<'i>(alloc: Global, input: &mut &'i [u8]) -> Result<(u64, u64), ErrMode<InputError<&'i [u8]>>>
-    ensures { MatchResult result
-        (λ all. SumsValues IsFirstNumber input.old.now all input.new.now)
-        (λ _. ⊥) }
-{
+fn sum<'i>(
+    alloc: Global,
+    input: &mut &'i [u8],
+) -> Result<(u64, u64), ErrMode<InputError<&'i [u8]>>> {
     repeat(alloc, Range::from(0..), terminated(DecUint, b','))
         .fold(
             || (0u64, 0u64),
@@ -60,9 +45,7 @@ fn sum<'i>(alloc: Global, input: &mut &'i [u8]) -> Result<(u64, u64), ErrMode<In
 
 /// The sum of numbers.
 #[unsafe(no_mangle)]
-pub extern "C" fn timed_number_sum(alloc: Global, input: &[u8], out: &mut Outcome)
-    ensures { TellsSums IsFirstNumber length input.now out.new }
-{
+pub extern "C" fn timed_number_sum(alloc: Global, input: &[u8], out: &mut Outcome) {
     let mut rest = input;
     *out = Outcome {
         count: 0,
@@ -83,8 +66,6 @@ fn item<I: StreamIsPartial + SlicesAsBytes + Compare<u8>, E: ParserError<I>>(
 where
     I::Token: AsChar,
     I::Slice: AsBStr,
-    ensures { NumberRuns I.seen_as I.Token.code I.reading E.form I.spells tt (I.view input.old)
-        (answer_by E.kind result) tt (I.view input.new) }
 {
     terminated(DecUint, b',').parse_next(input)
 }
@@ -97,14 +78,18 @@ fn read_numbers<I: StreamIsPartial + SlicesAsBytes + Compare<u8>>(
 where
     I::Token: AsChar,
     I::Slice: AsBStr,
-    ensures { ReadsNumbers (NumberRuns I.seen_as I.Token.code I.reading modal I.spells)
-        I.reading.units (I.view input.old) out.old result out.new }
 {
     let mut left = input.eof_offset();
-    while let Ok(number) = item::<I, ErrMode<EmptyError>>(input) {
-        out.count = out.count.wrapping_add(1);
-        out.sum = out.sum.wrapping_add(number as u64);
-        left = input.eof_offset();
+    // No more numbers stand there than units.
+    for _ in 0..left {
+        match item::<I, ErrMode<EmptyError>>(input) {
+            Ok(number) => {
+                out.count = out.count.wrapping_add(1);
+                out.sum = out.sum.wrapping_add(number as u64);
+                left = input.eof_offset();
+            }
+            Err(_) => break,
+        }
     }
     left
 }
@@ -117,8 +102,6 @@ fn read_piece<I: StreamIsPartial + SlicesAsBytes + Compare<u8>>(
 where
     I::Token: AsChar,
     I::Slice: AsBStr,
-    ensures { ReadsNumbers (NumberRuns I.seen_as I.Token.code I.reading modal I.spells)
-        I.reading.units (with_flag (I.view piece) true) out.old result out.new }
 {
     let mut input = Partial::new(piece);
     read_numbers(&mut input, out)
@@ -127,19 +110,17 @@ where
 /// The sum of numbers that come in pieces of 4 KiB: each piece begins where the last one asked for
 /// more.
 #[unsafe(no_mangle)]
-pub extern "C" fn timed_number_pieces(input: &[u8], out: &mut Outcome)
-    ensures { TellsSums IsFirstNumber length input.now out.new }
-{
+pub extern "C" fn timed_number_pieces(input: &[u8], out: &mut Outcome) {
     let mut rest = input;
     *out = Outcome {
         count: 0,
         sum: 0,
         left: 0,
     };
-    loop {
+    // No more pieces stand there than bytes.
+    for _ in 0..input.len() {
         let size = rest.len().min(4096);
-        let left = read_piece(&rest[..size], out);
-        let read = size - left;
+        let read = size.saturating_sub(read_piece(&rest[..size], out));
         if read == 0 {
             break;
         }

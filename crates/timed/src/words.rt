@@ -1,28 +1,17 @@
 //! Words: keywords, and words of text.
-ghost use Rattle.std.specs.Prelude.{length, MatchResult};
-ghost use Rattle.std.specs.Str.{chars};
-ghost use Rattle.timed.specs.Keywords.{IsFirstBeforeSpace, IsKeyword, IsKeywordOfAnyCase};
-ghost use Rattle.timed.specs.Outcome.{TellsText, TellsValues};
-ghost use Rattle.timed.specs.Values.{CountsValues};
-ghost use Rattle.timed.specs.Words.{IsFirstWord};
 
 use crate::outcome::Outcome;
-use crate::tally::Count;
 use std::alloc::Global;
 use std::str;
 use winnow::ascii::Caseless;
 use winnow::combinator::{alt, repeat, terminated};
 use winnow::error::{EmptyError, ErrMode};
 use winnow::prelude::*;
-use winnow::stream::{AsChar, Compare, Range};
+use winnow::stream::Range;
 use winnow::token::{literal, take_until};
 
 /// How many of six keywords have a space behind them.
-fn keywords<'i>(alloc: Global, input: &mut &'i [u8]) -> Result<Count, ErrMode<EmptyError>>
-    ensures { MatchResult result
-        (λ all. CountsValues (IsFirstBeforeSpace IsKeyword) input.old.now all input.new.now)
-        (λ _. ⊥) }
-{
+fn keywords<'i>(alloc: Global, input: &mut &'i [u8]) -> Result<usize, ErrMode<EmptyError>> {
     let keyword = alt((
         literal(b"select".as_slice()),
         literal(b"from".as_slice()),
@@ -36,9 +25,7 @@ fn keywords<'i>(alloc: Global, input: &mut &'i [u8]) -> Result<Count, ErrMode<Em
 
 /// Six keywords, a space behind each.
 #[unsafe(no_mangle)]
-pub extern "C" fn timed_keywords(alloc: Global, input: &[u8], out: &mut Outcome)
-    ensures { TellsValues (IsFirstBeforeSpace IsKeyword) length input.now out.new }
-{
+pub extern "C" fn timed_keywords(alloc: Global, input: &[u8], out: &mut Outcome) {
     let mut rest = input;
     *out = Outcome {
         count: 0,
@@ -46,7 +33,7 @@ pub extern "C" fn timed_keywords(alloc: Global, input: &[u8], out: &mut Outcome)
         left: 0,
     };
     if let Ok(all) = keywords(alloc, &mut rest) {
-        out.count = all.number;
+        out.count = all as u64;
         out.left = rest.len() as u64;
     }
 }
@@ -55,12 +42,7 @@ pub extern "C" fn timed_keywords(alloc: Global, input: &[u8], out: &mut Outcome)
 fn keywords_of_any_case<'i>(
     alloc: Global,
     input: &mut &'i [u8],
-) -> Result<Count, ErrMode<EmptyError>>
-    ensures { MatchResult result
-        (λ all. CountsValues (IsFirstBeforeSpace IsKeywordOfAnyCase) input.old.now all
-        input.new.now)
-        (λ _. ⊥) }
-{
+) -> Result<usize, ErrMode<EmptyError>> {
     let keyword = alt((
         literal(Caseless(b"select".as_slice())),
         literal(Caseless(b"from".as_slice())),
@@ -74,9 +56,7 @@ fn keywords_of_any_case<'i>(
 
 /// The same in upper or lower case.
 #[unsafe(no_mangle)]
-pub extern "C" fn timed_any_case(alloc: Global, input: &[u8], out: &mut Outcome)
-    ensures { TellsValues (IsFirstBeforeSpace IsKeywordOfAnyCase) length input.now out.new }
-{
+pub extern "C" fn timed_any_case(alloc: Global, input: &[u8], out: &mut Outcome) {
     let mut rest = input;
     *out = Outcome {
         count: 0,
@@ -84,17 +64,13 @@ pub extern "C" fn timed_any_case(alloc: Global, input: &[u8], out: &mut Outcome)
         left: 0,
     };
     if let Ok(all) = keywords_of_any_case(alloc, &mut rest) {
-        out.count = all.number;
+        out.count = all as u64;
         out.left = rest.len() as u64;
     }
 }
 
 /// How many words have a space behind them.
-fn words<'i>(alloc: Global, input: &mut &'i str) -> Result<Count, ErrMode<EmptyError>>
-    ensures { MatchResult result
-        (λ all. CountsValues IsFirstWord (chars input.old.now) all (chars input.new.now))
-        (λ _. ⊥) }
-{
+fn words<'i>(alloc: Global, input: &mut &'i str) -> Result<usize, ErrMode<EmptyError>> {
     repeat(
         alloc,
         Range::from(0..),
@@ -105,9 +81,7 @@ fn words<'i>(alloc: Global, input: &mut &'i str) -> Result<Count, ErrMode<EmptyE
 
 /// Words of text, a space behind each.
 #[unsafe(no_mangle)]
-pub extern "C" fn timed_words(alloc: Global, input: &[u8], out: &mut Outcome)
-    ensures { TellsText IsFirstWord input.now out.new }
-{
+pub extern "C" fn timed_words(alloc: Global, input: &[u8], out: &mut Outcome) {
     *out = Outcome {
         count: 0,
         sum: 0,
@@ -116,7 +90,7 @@ pub extern "C" fn timed_words(alloc: Global, input: &[u8], out: &mut Outcome)
     if let Ok(text) = str::from_utf8(input) {
         let mut rest = text;
         if let Ok(all) = words(alloc, &mut rest) {
-            out.count = all.number;
+            out.count = all as u64;
             out.left = rest.as_bytes().len() as u64;
         }
     }

@@ -16,8 +16,8 @@ use Rattle.winnow.specs.Reads.Known.{TokenRuns, reads_less, token_reads}
 use Rattle.winnow.specs.Repeat.Known.{Items, RepeatedTo, chain_keeps}
 use Rattle.winnow.specs.Runs.{Runs}
 use Rattle.winnow.specs.Separated.{LinkRuns, RangedElements}
-use Rattle.winnow.specs.Separated.Known.{SomeElements, link_backtracked, link_err, link_ok}
-use Rattle.winnow.specs.Separated.Known.{separated_any_err, separated_any_ok, separated_by}
+use Rattle.winnow.specs.Separated.Known.{SomeElements, separated_any_err, separated_any_ok}
+use Rattle.winnow.specs.Separated.Known.{separated_by}
 use Rattle.winnow.specs.Separated.Reads.{separated_reads}
 use Rattle.winnow.specs.TakeWhile.Known.{TakesOf, never_too_few, take_reads, tells_of}
 use Rattle.winnow.specs.TakeWhile.Known.{too_few_by, took_by, took_stops}
@@ -31,7 +31,7 @@ abbrev FieldMeans : {A : Type 0} → Runs (Range × A) ℕ (Bor (List ℕ))
 FieldMeans = TakesOf modal IsFieldByte
 
 abbrev LinkMeans : {A : Type 0} → Runs ((Range × A) × ℕ) ℕ (Bor (List ℕ))
-LinkMeans = LinkRuns FieldMeans (TokenRuns modal) (assert_kind modal)
+LinkMeans = LinkRuns FieldMeans (TokenRuns modal)
 
 abbrev LineMeans : {A B : Type 0} → Runs ((Range × A) × ℕ × Range) ℕ (Vec (Bor (List ℕ)) B)
 LineMeans = RangedElements FieldMeans (TokenRuns modal) list_kept (assert_kind modal)
@@ -84,9 +84,7 @@ links_read : {A : Type 0} (fields : List (Bor (List ℕ))) (s : (Range × A) × 
     → Items LinkMeans s i fields u m → IsReady u m × NoneOfField m
 links_read fields s i u m ready chain =
     chain_keeps LinkMeans (λ s i _. IsReady s i × NoneOfField i)
-    (λ s i before field t j is ran consumes.
-    let (d, x, comma, shorter, read) =
-    link_ok FieldMeans (TokenRuns modal) (assert_kind modal) s i field t j ran in
+    (λ s i before field t j is (d, x, comma, shorter, read) consumes.
     let whole = token_whole (comma_taken s.1 i d t.1 x comma) is.0.2 in
     let it = field_read s.0 x field t.0 j is.0.0 whole read in
     ((it.0, comma.1 ∙ is.0.1, it.1), it.2)) fields [] s i u m ready chain
@@ -103,7 +101,7 @@ line_feed b no_comma no_field = by (cases_order b 10)
 -- behind fields that were read, a line feed stands first, or nothing is left
 fields_end : {A B : Type 0} (s : (Range × A) × ℕ) (i : Input ℕ) (all : Vec (Bor (List ℕ)) B)
     (t : (Range × A) × ℕ) (j : Input ℕ) → IsReady s i
-    → SomeElements FieldMeans (TokenRuns modal) list_kept (assert_kind modal) s i all t j
+    → SomeElements FieldMeans (TokenRuns modal) list_kept s i all t j
     → (b : ℕ) (more : List ℕ) → j.left.tokens ≡ b ∷ more → b ≡ 10
 fields_end s i all t j ready told b more begins =
     let one = field_read s.0 i told.first told.first_state told.first_input ready.0 ready.2
@@ -111,13 +109,12 @@ fields_end s i all t j ready told b more begins =
     let (still, none) = links_read told.outputs (told.first_state, s.1) told.first_input
     told.state told.input ((one.0, ready.1, one.1), one.2) told.chain in
     let left = ap (λ k. k.left.tokens) (sym told.back) ∙ begins in
-    elim (link_backtracked FieldMeans (TokenRuns modal) (assert_kind modal) told.state told.input t
-    told.last (λ e. absurd (cc)) told.ended) [
+    elim told.ended [
       | inl (comma, same) ↦
           let missing = comma_missing told.state.1 told.input _ t.1 told.last still.2 comma in
           line_feed b (λ e. missing.other more (left ∙ ap (λ x. x ∷ more) (e ∙ sym still.1)))
           (none b more left)
-      | inr (d, x, comma, field) ↦
+      | inr (d, x, comma, shorter, field) ↦
           let it = comma_taken told.state.1 told.input d t.1 x comma in
           field_fails told.state.0 x _ t.0 told.last still.0 (token_whole it still.2) field
     ]
@@ -139,7 +136,7 @@ line_read s i all t j made whole ran =
       ended = elim (separated_any_ok FieldMeans (TokenRuns modal) list_kept (assert_kind modal) 1
           (s.0, s.1) i all (t.0, t.1) j (separated_by FieldMeans (TokenRuns modal) list_kept
           (assert_kind modal) s.2 1 None (s.0, s.1) i (Ok all) (t.0, t.1) j made.2 ran.0)) [
-            | inl none ↦ field_fails s.0 i _ t.0 none.last made.0 whole none.ended
+            | inl (least, none) ↦ field_fails s.0 i _ t.0 none.last made.0 whole none.ended
             | inr told ↦ fields_end (s.0, s.1) i all (t.0, t.1) j (made.0, made.1, whole) told
           ];
     }
@@ -152,25 +149,14 @@ links_fail s i k t j ready told =
     let (still, none) = links_read told.outputs s i told.state told.input ready told.chain in
     elim told.failure [
       | inl (ran, other) ↦
-          elim (link_err FieldMeans (TokenRuns modal) (assert_kind modal) told.state told.input k t
-          j ran) [
-            | inl comma ↦
+          elim ran [
+            | inl (comma, same) ↦
                 absurd (other (comma_missing told.state.1 told.input k t.1 j still.2 comma).kind)
-            | inr (inl (d, comma, same, e)) ↦
-                let it = comma_taken told.state.1 told.input d t.1 j comma in
-                absurd (omega (
-                  arith,
-                  ap (λ l. length l) it.splits,
-                  ap (λ l. length l) same,
-                ))
-            | inr (inr (d, x, comma, field)) ↦
+            | inr (d, x, comma, shorter, field) ↦
                 let it = comma_taken told.state.1 told.input d t.1 x comma in
                 field_fails told.state.0 x k t.0 j still.0 (token_whole it still.2) field
           ]
-      | inr (inl (field, ran, same, e)) ↦
-          let (d, x, comma, shorter, read) =
-          link_ok FieldMeans (TokenRuns modal) (assert_kind modal) told.state told.input field t j
-          ran in
+      | inr (inl (field, (d, x, comma, shorter, read), same, e)) ↦
           let it = comma_taken told.state.1 told.input d t.1 x comma in
           let all = field_read told.state.0 x field t.0 j still.0 (token_whole it still.2) read in
           absurd (omega (
@@ -194,9 +180,12 @@ line_fails {B = B} s i k t j made whole ran =
     (t.0, t.1) j made.2 ran.0)) [
       | inl (field, early) ↦ field_fails s.0 i k t.0 j made.0 whole field
       | inr (inl (field, empty, r, grows, e)) ↦ e
-      | inr (inr (field, v, n, r, told)) ↦
+      | inr (inr (inl (field, v, n, r, told))) ↦
           let one = field_read s.0 i field v n made.0 whole r in
           links_fail {B = B} (v, s.1) n k (t.0, t.1) j ((one.0, made.1, one.1), one.2) told
+      | inr (inr (inr (field, v, n, fields, u, m, r, chain, (d, comma, same, kept), e))) ↦
+          let it = comma_taken u.1 m d t.1 j comma in
+          absurd (omega (arith, ap (λ l. length l) it.splits, ap (λ l. length l) same))
     ]
 
 -- so it is where a call answers

@@ -1,3 +1,4 @@
 pub mod ColumnLines
+pub mod EntryRuns
 pub mod FieldLines
 pub mod RequestLines

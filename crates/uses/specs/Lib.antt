@@ -1,5 +1,7 @@
+-- Written by scripts/registries.py: do not edit.
 pub mod Column
 pub mod Csv
+pub mod Entry
 pub mod Ranges
 pub mod RequestLine
 pub mod Words

@@ -16,8 +16,12 @@ use winnow::stream::Range;
 /// It ends before what is no such line: where a number has no line feed behind it, or is too large
 /// for 32 bits. It never fails, and takes no memory.
 ///
-/// ```text
-/// column_sum(alloc, &mut b"1\n20\n3".as_slice())   is Ok(21), and b"3" is left
+/// ```
+/// use uses::columns::column_sum;
+///
+/// let mut input = b"1\n20\n3".as_slice();
+/// assert_eq!(rt; column_sum(alloc, &mut input), Ok(21));
+/// assert_eq!(rt; input, b"3".as_slice());
 /// ```
 pub fn column_sum<'i, A: Allocator + Copy>(
     alloc: A,

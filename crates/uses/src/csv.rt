@@ -43,8 +43,12 @@ fn field<I: StreamIsPartial<Token = u8>, E: ParserError<I>>() -> TakeWhile<Field
 /// It reads to the end of the line: a line feed is left, or nothing. It fails for want of memory
 /// alone.
 ///
-/// ```text
-/// csv_line(alloc, &mut b"a,,b\nc".as_slice())   is Ok of b"a", b"" and b"b", and b"\nc" is left
+/// ```
+/// use uses::csv::csv_line;
+///
+/// let mut input = b"a,,b\nc".as_slice();
+/// assert!(rt; matches!(csv_line(alloc, &mut input), Ok(fields) if fields.len() == 3));
+/// assert_eq!(rt; input, b"\nc".as_slice());
 /// ```
 pub fn csv_line<'i, A: Allocator + Copy>(
     alloc: A,

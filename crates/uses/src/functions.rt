@@ -1,7 +1,7 @@
 //! Functions in use: plain functions as parsers.
 #![tactic(auto)]
 
-ghost use Rattle.std.specs.Prelude.{◌≡◌, ◌∷◌, ◌++◌, List, IfOk};
+ghost use Rattle.std.specs.Prelude.{◌≡◌, ◌<◌, ◌∷◌, ◌++◌, List, length, IfOk};
 ghost use Rattle.winnow.specs.Bytes.{bytes_input, bytes_reading};
 ghost use Rattle.winnow.specs.Input.{IsEndOf};
 
@@ -12,16 +12,19 @@ use winnow::{Func, Parser};
 
 /// A word, over bytes: the word and then what is left are the input.
 fn word<'i>(input: &mut &'i [u8]) -> Result<&'i [u8], EmptyError>
+    ensures some { IfOk result (λ word. 0 < length word.now) }
     ensures splits { IfOk result (λ word. input.old.now ≡ word.now ++ input.new.now) }
     ensures ends { IsEndOf bytes_reading (bytes_input input.new.now) (bytes_input input.old.now) }
 {
     alpha1(input)
 }
 
-/// Two words with a space between them: these, and then what is left, are the input.
+/// Two words with a space between them: each has a letter, and these, and then what is left, are
+/// the input.
 pub fn two_words<'i>(input: &mut &'i [u8]) -> Result<(&'i [u8], u8, &'i [u8]), EmptyError>
-    ensures { IfOk result (λ words.
-        input.old.now ≡ words.0.now ++ words.1 ∷ (words.2.now ++ input.new.now)) }
+    ensures some { IfOk result (λ words. (0 < length words.0.now) × (0 < length words.2.now)) }
+    ensures splits { IfOk result (λ words. (words.1 ≡ 32)
+        × (input.old.now ≡ words.0.now ++ 32 ∷ (words.2.now ++ input.new.now))) }
 {
     (Func(word), b' ', Func(word)).parse_next(input)
 }
@@ -42,7 +45,8 @@ where
 /// A word, and behind it a space, over bytes: the function of any stream at a stream. These, and
 /// then what is left, are the input.
 pub fn word_and_space<'i>(input: &mut &'i [u8]) -> Result<(&'i [u8], u8), EmptyError>
-    ensures { IfOk result (λ parts. input.old.now ≡ parts.0.now ++ parts.1 ∷ input.new.now) }
+    ensures { IfOk result (λ parts. (parts.1 ≡ 32)
+        × (input.old.now ≡ parts.0.now ++ 32 ∷ input.new.now)) }
 {
     (Func(any_word::<&'i [u8], EmptyError>), b' ').parse_next(input)
 }

@@ -1,6 +1,11 @@
 //! What parsers answer where they have no output.
+pub use streams::needed::Needed;
+
+// What stands below is written by scripts/registries.py: do not edit.
 pub use stream_errors::context::AddContext;
 pub use stream_errors::context_error::ContextError;
+pub use stream_errors::control::ControlError;
+pub use stream_errors::convert::{ConvertInput, ErrorConvert};
 pub use stream_errors::empty::EmptyError;
 pub use stream_errors::external::FromExternalError;
 pub use stream_errors::fault::{ParseError, ParseFault};
@@ -9,4 +14,5 @@ pub use stream_errors::input_error::InputError;
 pub use stream_errors::modal::ModalError;
 pub use stream_errors::mode::ErrMode;
 pub use stream_errors::parser_error::ParserError;
-pub use streams::needed::Needed;
+pub use stream_errors::recover::Recover;
+pub use stream_errors::recoverable::FromRecoverableError;

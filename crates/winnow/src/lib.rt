@@ -4,19 +4,24 @@
 //! defined and proved in the crate that its documentation names; what the clauses of public
 //! functions cite stands in `Rattle.winnow.specs`.
 //!
-//! ```text
-//! use winnow::prelude::*;
+//! ```
 //! use winnow::ascii::impls::Digit1;
+//! use winnow::error::EmptyError;
+//! use winnow::prelude::*;
 //!
-//! Digit1.parse_next(&mut b"12;".as_slice())   is Ok(b"12"), and b";" is left
+//! let mut input = "12;";
+//! assert_eq!(rt; Digit1.parse_next(&mut input), Ok::<_, EmptyError>("12"));
+//! assert_eq!(rt; input, ";");
 //! ```
 #![tactic(auto)]
 
 pub mod ascii;
+pub mod binary;
 pub mod combinator;
 pub mod error;
 pub mod laws;
 pub mod prelude;
+pub mod stable;
 pub mod stream;
 
 pub use winnow_core::agrees_with::AgreesWith;

@@ -1,3 +1,4 @@
+-- Written by scripts/registries.py: do not edit.
 pub mod Class
 pub mod Crlf
 pub mod LineEnding

@@ -1,10 +1,12 @@
 -- Errors that are told what was being parsed.
-use Rattle.std.specs.Prelude.{◌≡◌, ◌⊎◌, Bool, IsTrue}
-use Rattle.streams.specs.Kind.{Kind}
-use Rattle.stream_errors.specs.Join.{KeepsKind}
+use Rattle.std.specs.Prelude.{◌≡◌, ◌⊎◌, IsSome, None}
+use Rattle.streams.specs.Kind.{Kind, memory}
+use Rattle.stream_errors.specs.Form.{need_of_kind}
+use Rattle.stream_errors.specs.Given.{Keeping, KindGiven}
 use Rattle.winnow_core.specs.MakesError.{MakesError}
 use Rattle.winnow_core.specs.Runs.{Runs}
 use Rattle.winnow_core.specs.declared.combinator.impls.context.Context.{Context}
+pub mod Laws
 
 -- the parser whose errors are told
 abbrev pub context_parser : {F I O E C A : Type 0} → Context F I O E C A → F
@@ -14,14 +16,20 @@ context_parser s = s.parser
 abbrev pub context_told : {F I O E C A : Type 0} → Context F I O E C A → C
 context_told s = s.context
 
--- what a kind becomes: the context stays, and so does the kind; or a request for memory was
--- refused, to the clone of the context or, where the errors grow, to the error that keeps it
-abbrev pub ContextBecomes : {C : Type 0} → (C → Type 0) → C × Bool → Kind → Kind → C × Bool
-    → Type 0
-ContextBecomes ClonesAlways c k l d =
-    (d ≡ c) × KeepsKind ((¬ (ClonesAlways c.0)) ⊎ IsTrue c.1) k l
+-- What a kind becomes, by what the type of errors says of a context that is to be kept. The
+-- context itself stays.
+abbrev pub ContextBecomes : {C : Type 0} → (C → C → Type 0) → (C → Type 0) → C × (C → Keeping)
+    → Kind → Kind → C × (C → Keeping) → Type 0
+ContextBecomes {C} IsClone ClonesAlways c k l d = (d ≡ c) × (
+    -- an incomplete error keeps none, and stays: nothing is cloned for it
+    (IsSome (need_of_kind k) × (l ≡ k))
+    -- a clone of the context is kept, or was refused memory to be kept
+    ⊎ (((copy : C) × (need_of_kind k ≡ None) × IsClone c.0 copy × KindGiven (c.1 copy) k l)
+    -- memory was refused to the clone
+    ⊎ ((need_of_kind k ≡ None) × (¬ (ClonesAlways c.0)) × (l ≡ memory))))
 
--- The kind of the error stays, or is memory.
-abbrev pub ContextRuns : {S C T O : Type 0} → (C → Type 0) → Runs S T O
-    → Runs (S × (C × Bool)) T O
-ContextRuns ClonesAlways run = MakesError (ContextBecomes ClonesAlways) run
+-- The error of the child keeps a clone of the context, and its kind; or memory was refused to one
+-- or the other.
+abbrev pub ContextRuns : {S C T O : Type 0} → (C → C → Type 0) → (C → Type 0) → Runs S T O
+    → Runs (S × (C × (C → Keeping))) T O
+ContextRuns IsClone ClonesAlways run = MakesError (ContextBecomes IsClone ClonesAlways) run

@@ -1,7 +1,10 @@
 -- Errors that are told what was being parsed by a closure.
-use Rattle.std.specs.Prelude.{◌≡◌, Bool, IsTrue}
+use Rattle.std.specs.Iterator.{Drains}
+use Rattle.std.specs.List.{FoldsTo}
+use Rattle.std.specs.Prelude.{◌≡◌, List, Option}
 use Rattle.streams.specs.Kind.{Kind}
-use Rattle.stream_errors.specs.Join.{KeepsKind}
+use Rattle.stream_errors.specs.Given.{Keeping}
+use Rattle.winnow_core.specs.Context.Laws.{Told}
 use Rattle.winnow_core.specs.MakesError.{MakesError}
 use Rattle.winnow_core.specs.Runs.{Runs}
 use Rattle.winnow_core.specs.declared.combinator.impls.context_with.ContextWith.{ContextWith}
@@ -14,11 +17,16 @@ context_with_parser s = s.parser
 abbrev pub context_with_closure : {P I O E F C FI A : Type 0} → ContextWith P I O E F C FI A → F
 context_with_closure s = s.context
 
--- what a kind becomes: the closure stays, and so does the kind; or, where the errors grow, a
--- request for memory was refused to the error that keeps the contexts
-abbrev pub ContextWithBecomes : {F : Type 0} → F × Bool → Kind → Kind → F × Bool → Type 0
-ContextWithBecomes f k l g = (g ≡ f) × KeepsKind (IsTrue f.1) k l
+-- What a kind becomes: one call of the closure makes an iterator, and each of its items, in order,
+-- is a context that the error is told. The closure stays.
+abbrev pub ContextWithBecomes : {F C J : Type 0} → (F → J → Type 0)
+    → (J → Option C → J → Type 0) → F × (C → Keeping) → Kind → Kind → F × (C → Keeping) → Type 0
+ContextWithBecomes {F} {C} {J} makes steps f k l g = (g ≡ f) × (
+    (items : J) × (contexts : List C) × makes f.0 items × Drains steps items contexts
+    × FoldsTo (λ old context new. Told (f.1 context) old new) k contexts l)
 
--- The kind of the error stays, or is memory.
-abbrev pub ContextWithRuns : {S F T O : Type 0} → Runs S T O → Runs (S × (F × Bool)) T O
-ContextWithRuns run = MakesError ContextWithBecomes run
+-- The error of the child keeps the contexts that the closure gives, and its kind; or memory was
+-- refused to one.
+abbrev pub ContextWithRuns : {S F C J T O : Type 0} → (F → J → Type 0)
+    → (J → Option C → J → Type 0) → Runs S T O → Runs (S × (F × (C → Keeping))) T O
+ContextWithRuns makes steps run = MakesError (ContextWithBecomes makes steps) run

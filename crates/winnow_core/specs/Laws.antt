@@ -2,19 +2,11 @@
 use Rattle.std.specs.Prelude.{◌≡◌, List, ◌++◌, Ok, Err, ◌⊎◌}
 use Rattle.std.proofs.Common.{sym, subst}
 use Rattle.streams.specs.Input.{Input}
-use Rattle.streams.specs.Kind.{Kind, backtrack}
+use Rattle.streams.specs.Kind.{Kind}
 use Rattle.streams.specs.Reading.{Reading}
 use Rattle.stream_errors.specs.Form.{Answer, ErrorForm}
 use Rattle.winnow_core.specs.Agrees.{Agrees}
 use Rattle.winnow_core.specs.Runs.{Meaning, Runs}
-
--- Where a run backtracks, the child did, and it left the input there; or the child succeeded, and
--- the input is back where it was.
-abbrev pub GoesBackOnRefusal : {S G T O U : Type 0} → Runs S T O → Runs (S × G) T U → Type 0
-GoesBackOnRefusal {S} {G} {T} {O} {U} child run =
-    (s : S × G) (i : Input T) (t : S × G) (j : Input T) → run s i (Err backtrack) t j
-    → child s.0 i (Err backtrack) t.0 j
-    ⊎ ((o : O) × (a : Input T) × child s.0 i (Ok o) t.0 a × (j.left ≡ i.left))
 
 -- Where a run fails, the child did, in the same way, and it left the input there; or the child
 -- succeeded, and the input is back where it was.

@@ -1,8 +1,8 @@
 -- An output made of another by a closure that may fail.
-use Rattle.std.specs.Prelude.{◌≡◌, Bool, IsTrue, Result, Ok, Err, ◌⊎◌}
+use Rattle.std.specs.Prelude.{◌≡◌, Result, Ok, Err, ◌⊎◌}
 use Rattle.streams.specs.Kind.{Kind, backtrack}
-use Rattle.stream_errors.specs.Join.{IsOrMemory}
 use Rattle.stream_errors.specs.Form.{Answer}
+use Rattle.stream_errors.specs.Given.{Keeping, KindGiven}
 use Rattle.winnow_core.specs.Settles.{Settles}
 use Rattle.winnow_core.specs.Runs.{Runs}
 use Rattle.winnow_core.specs.declared.combinator.impls.try_map.TryMap.{TryMap}
@@ -16,17 +16,17 @@ try_map_parser s = s.parser
 abbrev pub try_map_closure : {F G I O U E R : Type 0} → TryMap F G I O U E R → G
 try_map_closure s = s.map
 
--- One call of the closure settles an output; where it fails, its error is kept, which may ask for
--- memory, as the type of errors says.
-abbrev pub TryMapSettles : {G O U R : Type 0} → (G → O → Result U R → G → Type 0) → G × Bool → O
-    → Answer U → G × Bool → Type 0
+-- One call of the closure settles an output; where it fails, the error is the one that is made of
+-- the closure's: it backtracks, or wants memory, each where the type of errors says that it may.
+abbrev pub TryMapSettles : {G O U R : Type 0} → (G → O → Result U R → G → Type 0)
+    → G × (R → Keeping) → O → Answer U → G × (R → Keeping) → Type 0
 TryMapSettles {G} {O} {U} {R} step g o answer h = (h.1 ≡ g.1) × (
     ((u : U) × step g.0 o (Ok u) h.0 × (answer ≡ Ok u))
-    ⊎ ((r : R) × (k : Kind) × step g.0 o (Err r) h.0 × IsOrMemory backtrack (IsTrue g.1) k
+    ⊎ ((r : R) × (k : Kind) × step g.0 o (Err r) h.0 × KindGiven (g.1 r) backtrack k
     × (answer ≡ Err k)))
 
 -- The output is what one call of the closure made of the child's; where the closure fails, the run
--- backtracks, or, where keeping its error asks for memory, may be refused that.
+-- has the error that is made of the closure's.
 abbrev pub TryMapRuns : {S G T O U R : Type 0} → (G → O → Result U R → G → Type 0) → Runs S T O
-    → Runs (S × (G × Bool)) T U
+    → Runs (S × (G × (R → Keeping))) T U
 TryMapRuns step run = Settles (TryMapSettles step) run

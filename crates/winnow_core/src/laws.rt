@@ -1,7 +1,7 @@
 //! Laws of the parsers, for those that build on them.
 ghost use Rattle.std.specs.Prelude.{◌≡◌, List};
 ghost use Rattle.std.specs.Str.{chars};
-ghost use Rattle.winnow_core.specs.Laws.{AnswersAlike, GoesBackOnFailure, GoesBackOnRefusal};
+ghost use Rattle.winnow_core.specs.Laws.{AnswersAlike, GoesBackOnFailure};
 ghost use Rattle.winnow_core.specs.Laws.{ShowsOne, TakesFromTheFront};
 ghost use Rattle.winnow_core.specs.Runs.{LeaveEnds};
 
@@ -12,15 +12,15 @@ use stream_errors::external::FromExternalError;
 use stream_errors::parser_error::ParserError;
 use stream_sets::parse_slice::ParseSlice;
 use streams::stream::{Stream, StreamIsPartial};
-use streams::token_slice::TokenSlice;
+use streams::token_slice::TokenSlice as Tokens;
 
 /// After `parse_next` the input is an end of the input before, whatever it answers.
 pub fn leaves_an_end<P: Parser<I, O, E>, I: Stream, O, E: ParserError<I>>()
     ensures { LeaveEnds I.reading (P.meaning E.form) }
 {}
 
-/// Where [`verify_map`](crate::parser::Parser::verify_map) backtracks though its parser succeeded,
-/// the input is back where it was.
+/// Where [`verify_map`](crate::parser::Parser::verify_map) fails though its parser succeeded, the
+/// input is back where it was.
 pub fn verify_map_goes_back<
     P: Parser<I, O, E>,
     G: FnMut(O) -> Option<O2>,
@@ -29,7 +29,7 @@ pub fn verify_map_goes_back<
     O2,
     E: ParserError<I>,
 >()
-    ensures { GoesBackOnRefusal (P.meaning E.form)
+    ensures { GoesBackOnFailure (λ s. s.0) (P.meaning E.form)
         (⟦<VerifyMap<P, G, I, O, O2, E> as Parser<I, O2, E>>⟧.meaning E.form) }
 {}
 
@@ -133,18 +133,55 @@ pub fn taken_text_and_the_rest_are_the_input<
 pub fn taken_tokens_and_the_rest_are_the_input<
     't,
     T: 't,
-    P: Parser<TokenSlice<'t, T>, O, E>,
+    P: Parser<Tokens<'t, T>, O, E>,
     O: Drop,
-    E: ParserError<TokenSlice<'t, T>>,
+    E: ParserError<Tokens<'t, T>>,
 >()
     ensures { TakesFromTheFront (λ slice. slice.now)
-        (⟦<Take<P, TokenSlice<'t, T>, O, E> as Parser<TokenSlice<'t, T>, &'t [T], E>>⟧.meaning
+        (⟦<Take<P, Tokens<'t, T>, O, E> as Parser<Tokens<'t, T>, &'t [T], E>>⟧.meaning
         E.form) }
 {}
 
-/// Where the slices of a stream show one list of tokens each, as those of bytes, text and tokens
-/// do, also inside `Partial` and `LocatingSlice`, the slice that
-/// [`take`](crate::parser::Parser::take) answers and then the rest are the input before.
+/// Over bytes, the slice that [`with_taken`](crate::parser::Parser::with_taken) answers beside the
+/// output and then the rest are the input before.
+pub fn bytes_with_the_output_and_the_rest_are_the_input<
+    'a,
+    P: Parser<&'a [u8], O, E>,
+    O,
+    E: ParserError<&'a [u8]>,
+>()
+    ensures { TakesFromTheFront (λ both. both.1.now)
+        (⟦<WithTaken<P, &'a [u8], O, E> as Parser<&'a [u8], (O, &'a [u8]), E>>⟧.meaning E.form) }
+{}
+
+/// Over text, the slice that [`with_taken`](crate::parser::Parser::with_taken) answers beside the
+/// output and then the rest are the input before.
+pub fn text_with_the_output_and_the_rest_are_the_input<
+    'a,
+    P: Parser<&'a str, O, E>,
+    O,
+    E: ParserError<&'a str>,
+>()
+    ensures { TakesFromTheFront (λ both. chars both.1.now)
+        (⟦<WithTaken<P, &'a str, O, E> as Parser<&'a str, (O, &'a str), E>>⟧.meaning E.form) }
+{}
+
+/// Over a list of tokens, the slice that [`with_taken`](crate::parser::Parser::with_taken) answers
+/// beside the output and then the rest are the input before.
+pub fn tokens_with_the_output_and_the_rest_are_the_input<
+    't,
+    T: 't,
+    P: Parser<Tokens<'t, T>, O, E>,
+    O,
+    E: ParserError<Tokens<'t, T>>,
+>()
+    ensures { TakesFromTheFront (λ both. both.1.now)
+        (⟦<WithTaken<P, Tokens<'t, T>, O, E> as Parser<Tokens<'t, T>, (O, &'t [T]), E>>⟧.meaning
+        E.form) }
+{}
+
+/// Over a stream of which some function gives the tokens that each slice shows, those of the slice
+/// that [`take`](crate::parser::Parser::take) answers and then the rest are the input before.
 pub fn the_slice_taken_and_the_rest_are_the_input<
     P: Parser<I, O, E>,
     I: Stream,
@@ -156,8 +193,9 @@ pub fn the_slice_taken_and_the_rest_are_the_input<
         (⟦<Take<P, I, O, E> as Parser<I, I::Slice, E>>⟧.meaning E.form) }
 {}
 
-/// The same of the slice that [`with_taken`](crate::parser::Parser::with_taken) answers beside the
-/// output.
+/// Over such a stream, the tokens of the slice that
+/// [`with_taken`](crate::parser::Parser::with_taken) answers beside the output and then the rest
+/// are the input before.
 pub fn the_slice_with_the_output_and_the_rest_are_the_input<
     P: Parser<I, O, E>,
     I: Stream,

@@ -1,21 +1,23 @@
 -- Hexadecimal digits: what is taken of them, and the number that they stand for.
 use Rattle.std.proofs.Common.{◌≡◌, ◌⊎◌, inl, inr, ◌+◌, ◌*◌, ◌^◌, ◌<◌, ◌≤◌, ◌++◌, ℕ, Bool, true}
 use Rattle.std.proofs.Common.{false, List, [], ◌∷◌, length, take, get_or, Some, Ok}
-use Rattle.std.proofs.Common.{Err, refl, suc, zero, sym, ap, subst, ◌∙◌, arith}
+use Rattle.std.proofs.Common.{eq-eqb, nat_eq, Err, refl, suc, zero, sym, ap, subst, ◌∙◌, arith}
 use Rattle.std.proofs.Math.Nat.{pow-le-pow_right}
 use Rattle.std.proofs.Math.Seq.{take-length}
+use Rattle.std.proofs.lemmas.Bool.{eqb-true}
 use Rattle.std.proofs.lemmas.Bool.Decides.{nat_tests}
 use Rattle.std.proofs.lemmas.Int.Digits.{digits_value-lt, digits_value_more}
-use Rattle.std.proofs.lemmas.List.{length-take-le}
+use Rattle.std.proofs.lemmas.List.{append-nil, length-take-le}
 use Rattle.std.proofs.lemmas.List.Elements.{All-from_recursion, All-get_or, All-weaker}
+use Rattle.std.specs.Bool.{MatchBool}
 use Rattle.std.specs.Char.{digit_value}
 use Rattle.std.specs.List.{All, AllByRecursion}
 use Rattle.std.specs.Prelude.{IsTrue, ◌↔◌, max, ◌-◌}
 use Rattle.std.specs.Str.Parse.{AllDigits, digits_value}
-use Rattle.streams.specs.Equal.{same_rest}
+use Rattle.streams.specs.Equal.{same_rest, true_is_false}
 use Rattle.streams.specs.Input.{Input, Takes}
 use Rattle.streams.specs.Kind.{Kind, backtrack}
-use Rattle.streams.specs.Reading.{Reading}
+use Rattle.streams.specs.Reading.{Reading, units-nil, units-zero}
 use Rattle.streams.specs.Stream.{AnswersSeen}
 use Rattle.stream_errors.specs.Form.{Answer, ErrorForm, incomplete_kind}
 use Rattle.stream_sets.specs.AsChar.{IsHexDigit}
@@ -91,6 +93,16 @@ hex_runs seen code reading form i answer j r s least most greatest nibbles p q o
     p ∙ q ∙ ap (λ x. make x most) one ∙ ap (λ y. make 1 y) (to ∙ holds) in
     subst (λ (x : Range). TakeWhileRuns reading form
     (AnswersSeen seen (λ y b. IsTrue b ↔ IsHexDigit (code y))) (bounds_of x) i answer j) same ran
+
+-- a count of the units left tells whether any token is
+pub tells_empty : {T S : Type 0} (reading : Reading T S) (full cut : Bool) (tokens : List T)
+    (n : ℕ) (b : Bool) → nat_eq n 0 ≡ b → n ≡ reading.units tokens → full ≡ true → cut ≡ true
+    → MatchBool b ((full ≡ true) × (tokens ≡ []) × (cut ≡ true))
+    (full ≡ true → tokens ≡ [] → cut ≡ false)
+tells_empty reading full cut tokens n true e is all may =
+    (all, units-zero reading tokens (sym is ∙ eqb-true n 0 e), may)
+tells_empty reading full cut tokens n false e is all may = λ again none.
+    true_is_false (sym (eq-eqb n 0 (is ∙ ap reading.units none ∙ units-nil reading)) ∙ e)
 
 below_or_same : (a b : ℕ) → a ≤ b → (a < b) ⊎ (a ≡ b)
 below_or_same a b le = grind arith
@@ -207,7 +219,7 @@ module _ {K T S : Type 0} (seen : K → T) (code : K → ℕ) (reading : Reading
       let kind : k ≡ incomplete_kind form (Some (max (1 - reading.units i.left.tokens) 1)) = cc in
       inr (inl (
         inside i.left.tokens still_open.0,
-        still_open.1,
+        omega (arith, still_open.1),
         is_cut,
         ap (λ x. Err x) (kind ∙ ap (λ n. incomplete_kind form (Some n)) need),
         same,
@@ -237,6 +249,24 @@ module _ {K T S : Type 0} (seen : K → T) (code : K → ℕ) (reading : Reading
         same,
       )))
 
+  -- all that is left of a cut input are as many digits as the type holds
+  pub hex_open : {N : Type 0} (number : N → ℕ) (form : ErrorForm) (i : Input T) (slice : S)
+      (j : Input T) (k : Kind) (m : Input T) (taken : TakesHex i slice j)
+      → length taken.digits ≡ most → j.left.tokens ≡ [] → j.status.cut ≡ true
+      → k ≡ incomplete_kind form (Some 1) → m ≡ i
+      → HexUintRuns number most seen code reading form i (Err k) m
+  hex_open number form i slice j k m taken full none cut kind same =
+      let all : i.left.tokens ≡ taken.front =
+      taken.takes.passed.tokens ∙ ap (λ l. taken.front ++ l) none ∙ append-nil taken.front in
+      let P : List T → Type 0 = λ l. All (IsIn seen code IsHexDigit) l in
+      inr (inl (
+        subst P (sym all) taken.members,
+        omega (arith, ap (λ l. length l) all, taken.long, full),
+        ap (λ x. x.cut) (sym taken.takes.passed.status) ∙ cut,
+        ap (λ x. Err x) kind,
+        same,
+      ))
+
   nothing_more : (i : Input T) (slice : S) (j : Input T) (taken : TakesHex i slice j)
       → (length taken.digits ≡ most → NoneFirst seen code IsHexDigit j.left.tokens)
       → (length taken.digits < most) ⊎ (length taken.digits ≡ most)
@@ -247,9 +277,10 @@ module _ {K T S : Type 0} (seen : K → T) (code : K → ℕ) (reading : Reading
   pub hex_done : {N : Type 0} (number : N → ℕ) (form : ErrorForm) (i : Input T) (slice : S)
       (j : Input T) (n : N) (m : Input T) (taken : TakesHex i slice j)
       → (length taken.digits ≡ most → NoneFirst seen code IsHexDigit j.left.tokens)
+      → (length taken.digits ≡ most → j.left.tokens ≡ [] → j.status.cut ≡ false)
       → number n ≡ value_in 16 taken.digits → m ≡ j
       → HexUintRuns number most seen code reading form i (Ok n) m
-  hex_done number form i slice j n m taken none value same =
+  hex_done number form i slice j n m taken none whole value same =
       let few = taken.few in
       let or_full : (length taken.digits < most) ⊎ (length taken.digits ≡ most) =
       below_or_same (length taken.digits) most few in
@@ -264,7 +295,7 @@ module _ {K T S : Type 0} (seen : K → T) (code : K → ℕ) (reading : Reading
         taken.least,
         few,
         nothing_more i slice j taken none or_full,
-        taken.ended,
+        λ empty. elim (taken.ended empty) [ inl e ↦ e | inr full ↦ whole full empty ],
         value,
         refl,
       ))

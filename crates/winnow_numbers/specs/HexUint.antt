@@ -17,15 +17,15 @@ abbrev pub HexUintRuns : {N K T S : Type 0} → (N → ℕ) → ℕ → (K → T
     → ErrorForm → Input T → Answer N → Input T → Type 0
 HexUintRuns {N} {K} {T} {S} number most seen code reading form i answer j =
     -- all hexadecimal digits that stand first are taken, at least one and at most those that the
-    -- type holds; on a cut input another token follows, or the type holds no more
+    -- type holds; on a cut input another token follows
     ((front : List T) × (digits : List ℕ) × (n : N) × Passes reading front i j
     × AreCharacters seen code front digits × AllByRecursion IsHexDigit digits
     × (0 < length digits) × (length digits ≤ most)
     × NoneFirst seen code IsHexDigit j.left.tokens
-    × (j.left.tokens ≡ [] → (j.status.cut ≡ false) ⊎ (length digits ≡ most))
+    × (j.left.tokens ≡ [] → j.status.cut ≡ false)
     × (number n ≡ value_in 16 digits) × (answer ≡ Ok n))
-    -- nothing but such digits is left of a cut input, and the type holds more
-    ⊎ ((All (IsIn seen code IsHexDigit) i.left.tokens × (length i.left.tokens < most)
+    -- nothing but such digits is left of a cut input, and the type holds all of them
+    ⊎ ((All (IsIn seen code IsHexDigit) i.left.tokens × (length i.left.tokens ≤ most)
     × (i.status.cut ≡ true) × (answer ≡ Err (incomplete_kind form (Some 1))) × (j ≡ i))
     -- no such digit stands first
     ⊎ ((NoneFirst seen code IsHexDigit i.left.tokens

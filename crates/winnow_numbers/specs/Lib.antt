@@ -1,3 +1,4 @@
+-- Written by scripts/registries.py: do not edit.
 pub mod DecInt
 pub mod DecUint
 pub mod Decimal

@@ -9,6 +9,6 @@ mod lanes;
 mod numeral;
 mod uint;
 
-pub use crate::ascii::hex::{HexUint, hex_uint};
+pub use crate::ascii::hex::hex_uint;
 pub use crate::ascii::int::{Int, dec_int};
 pub use crate::ascii::uint::{Uint, dec_uint};

@@ -2,8 +2,8 @@
 ghost use Rattle.winnow_numbers.specs.NumberLaws.{PassesItsDigits, PassesItsSignedDigits};
 ghost use Rattle.winnow_numbers.specs.NumberLaws.{ReadsOneNumber};
 
-use crate::ascii::impls::{DecInt, DecUint, HexUintParser};
-use crate::ascii::{HexUint, Int, Uint};
+use crate::ascii::impls::{DecInt, DecUint, HexUint, HexUintParser};
+use crate::ascii::{Int, Uint};
 use stream_errors::parser_error::ParserError;
 use stream_sets::as_bstr::{AsBStr, SlicesAsBytes};
 use stream_sets::as_char::AsChar;

@@ -1,3 +1,4 @@
+-- Written by scripts/registries.py: do not edit.
 pub mod Chain
 pub mod Fill
 pub mod Fold

@@ -1,4 +1,5 @@
 //! Laws of repetition, each proved by a function that does nothing.
+ghost use Rattle.stream_errors.specs.Form.{assert_kind};
 ghost use Rattle.winnow_repeat.specs.RepeatLaws.{RunsAtMostOnceAUnit};
 
 use crate::combinator::impls::Repeat;
@@ -8,8 +9,8 @@ use stream_sets::accumulate::Accumulate;
 use streams::stream::Stream;
 use winnow_core::parser::Parser;
 
-/// The items of a repetition of any number, and the run that ends it, are at most one run more than
-/// units were left.
+/// What [`repeat`](crate::combinator::repeat) of any number answers and leaves is by a chain of
+/// items and the run that ended them, and these runs are at most one more than units were left.
 pub fn repeat_runs_at_most_once_a_unit<
     P: Parser<I, O, E>,
     I: Stream,
@@ -19,5 +20,6 @@ pub fn repeat_runs_at_most_once_a_unit<
     A: Allocator + Copy,
 >()
     ensures { RunsAtMostOnceAUnit I.reading.units (P.meaning E.form) C.accumulator
+        (assert_kind E.form)
         (⟦<Repeat<P, I, O, C, E, A> as Parser<I, C, E>>⟧.meaning E.form) }
 {}

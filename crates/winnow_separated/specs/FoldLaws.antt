@@ -1,8 +1,10 @@
 -- Laws of elements that are folded.
 use Rattle.std.specs.Prelude.{◌≡◌, ◌<◌, List, [], ◌∷◌, length, Ok, Err, ⊤}
 use Rattle.streams.specs.Input.{Input}
+use Rattle.streams.specs.Kind.{memory}
 use Rattle.stream_errors.specs.Form.{Answer}
 use Rattle.winnow_core.specs.Runs.{Runs}
+use Rattle.winnow_separated.specs.SeparatedFoldl1.{FoldsLeft}
 use Rattle.winnow_separated.specs.SeparatedFoldr1.{FoldsRight}
 
 -- Both answers are outputs, or errors of one kind.
@@ -13,11 +15,18 @@ SameOutcome (Err k) (Ok n) = ⊥
 SameOutcome (Err k) (Err l) = k ≡ l
 
 -- One state and one input decide whether a run succeeds, the kind of its error, its new state and
--- what it leaves; its outputs may differ.
+-- what it leaves, where it does not want for memory; its outputs may differ.
 abbrev pub Decides : {S T O : Type 0} → Runs S T O → Type 0
 Decides {S} {T} {O} run =
     (s : S) (i : Input T) (answer other : Answer O) (t u : S) (j k : Input T)
+    → (answer ≡ Err memory → ⊥) → (other ≡ Err memory → ⊥)
     → run s i answer t j → run s i other u k → SameOutcome answer other × (t ≡ u) × (j ≡ k)
+
+-- One state and one input decide the output of a run that succeeds.
+abbrev pub DecidesOutputs : {S T O : Type 0} → Runs S T O → Type 0
+DecidesOutputs {S} {T} {O} run =
+    (s : S) (i : Input T) (o p : O) (t u : S) (j k : Input T)
+    → run s i (Ok o) t j → run s i (Ok p) u k → o ≡ p
 
 -- each run that succeeds consumes
 abbrev pub Consumes : {S T O : Type 0} → Runs S T O → Type 0
@@ -37,17 +46,10 @@ Turns {T = T} run separator s i (link ∷ links) (place ∷ places) =
     × run s.0 m (Ok link.1) place.0.0 place.1
     × Turns run separator place.0 place.1 links places
 
--- A first element and links, folded to the left.
-abbrev pub FoldsLeft : {Q O D : Type 0} → (Q → O → D → O → O → Q → Type 0) → Q → O → List (D × O)
-    → O → Q → Type 0
-FoldsLeft step q first [] value p = (value ≡ first) × (p ≡ q)
-FoldsLeft {Q} {O} step q first (link ∷ links) value p =
-    (more : O) × (c : Q) × step q first link.0 link.1 more c
-    × FoldsLeft step c more links value p
-
 -- Two runs of elements that are folded, from one state and input, where both succeed: the elements
 -- and separators of both are the outputs of one list of runs, the first folded to the left and the
--- second to the right, and both leave the same.
+-- second to the right, and both leave the same. Where outputs are decided too, these are the same
+-- elements and separators.
 abbrev pub FoldTheSame : {S W Q T O D : Type 0} → (Q → O → D → O → O → Q → Type 0) → Runs S T O
     → Runs W T D → Runs (S × W × Q) T O → Runs (S × W × Q) T O → Type 0
 FoldTheSame {S} {W} {Q} {T} {O} {D} step run separator to_left to_right =
@@ -60,3 +62,4 @@ FoldTheSame {S} {W} {Q} {T} {O} {D} step run separator to_left to_right =
     × run s.0 i (Ok one) v n × Turns run separator (v, s.1) n others places
     × FoldsRight step s.2 one others right u.2
     × (t.0 ≡ u.0) × (t.1 ≡ u.1) × (j ≡ k)
+    × (DecidesOutputs run → DecidesOutputs separator → (first ≡ one) × (links ≡ others))

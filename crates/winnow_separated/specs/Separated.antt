@@ -1,5 +1,5 @@
 -- Elements with separators between them.
-use Rattle.std.specs.Prelude.{◌≡◌, ◌<◌, ◌-◌, ℕ, length, Option, Some, None, Ok, Err, ◌⊎◌}
+use Rattle.std.specs.Prelude.{◌≡◌, ◌<◌, ◌-◌, ℕ, List, length, Option, Some, None, Ok, Err, ◌⊎◌}
 use Rattle.streams.specs.Input.{Input, back_at}
 use Rattle.streams.specs.Kind.{Kind, backtrack, memory}
 use Rattle.stream_errors.specs.Form.{Answer}
@@ -7,7 +7,10 @@ use Rattle.stream_sets.specs.Accumulator.{Accumulator}
 use Rattle.stream_sets.specs.Range.{Bounds, IsBelow, IsWithin, bounds_of, from_to}
 use Rattle.stream_sets.specs.declared.range.Range.{Range}
 use Rattle.winnow_core.specs.Runs.{Runs}
+use Rattle.winnow_repeat.specs.Chain.{Accumulates, Chain}
 use Rattle.winnow_repeat.specs.Repeat.{ItemsRun, capacity_of}
+pub use Rattle.winnow_separated.specs.Link.{LinkRuns}
+use Rattle.winnow_separated.specs.Link.{SeparatesNothing}
 use Rattle.winnow_separated.specs.declared.combinator.impls.separated.Separated.{Separated}
 pub mod Known
 pub mod Laws
@@ -25,18 +28,6 @@ separated_parser s = s.link.parser
 abbrev pub separated_separator : {P S I O D C E A : Type 0} → Separated P S I O D C E A → S
 separated_separator s = s.link.separator
 
--- A link: a separator, which must consume, and an element.
-abbrev pub LinkRuns : {S W T O D : Type 0} → Runs S T O → Runs W T D → Kind → Runs (S × W) T O
-LinkRuns {S} {W} {T} {O} {D} run separator assert_kind s i answer t j =
-    -- the separator fails
-    ((k : Kind) × separator s.1 i (Err k) t.1 j × (t.0 ≡ s.0) × (answer ≡ Err k))
-    -- it consumes nothing
-    ⊎ (((d : D) × separator s.1 i (Ok d) t.1 j × (j.left.tokens ≡ i.left.tokens) × (t.0 ≡ s.0)
-    × (answer ≡ Err assert_kind))
-    -- it consumes, and the element behind it is run
-    ⊎ ((d : D) × (m : Input T) × separator s.1 i (Ok d) t.1 m
-    × (length m.left.tokens < length i.left.tokens) × run s.0 m answer t.0 j))
-
 -- the greatest number of links, by that of elements
 abbrev pub one_less : Option ℕ → Option ℕ
 one_less None = None
@@ -46,9 +37,19 @@ one_less (Some most) = Some (most - 1)
 abbrev pub links_within : Bounds → Bounds
 links_within bounds = from_to (bounds.least - 1) (one_less bounds.greatest)
 
--- A number of elements within the bounds: the first, which may consume nothing, and links as the
--- items of a repetition. So a link that backtracks behind enough elements is the end, back before
--- its separator.
+-- Links within the bounds: as the items of a repetition, so one that backtracks behind enough of
+-- them is the end, back before its separator; or, behind some of them, there may be one more, and a
+-- separator consumes nothing: it is the assert error.
+abbrev pub LinksRun : {S W T O D C : Type 0} → Runs S T O → Runs W T D → Accumulator C O → Kind
+    → Bounds → C → S × W → Input T → Answer C → S × W → Input T → Type 0
+LinksRun {S} {W} {T} {O} {D} {C} run separator into assert_kind bounds before s i answer t j =
+    ItemsRun (LinkRuns run separator) into assert_kind bounds before s i answer t j
+    ⊎ ((outputs : List O) × (u : S × W) × (m : Input T) × (some : C)
+    × Chain (LinkRuns run separator) s i outputs u m × IsBelow bounds.greatest (length outputs)
+    × Accumulates into.takes before outputs some × SeparatesNothing separator u m t j
+    × (answer ≡ Err assert_kind))
+
+-- A number of elements within the bounds: the first, which may consume nothing, and links.
 abbrev pub ElementsRun : {S W T O D C : Type 0} → Runs S T O → Runs W T D → Accumulator C O
     → Kind → Bounds → C → S × W → Input T → Answer C → S × W → Input T → Type 0
 ElementsRun {S} {W} {T} {O} {D} {C} run separator into assert_kind bounds empty s i answer t j =
@@ -67,8 +68,7 @@ ElementsRun {S} {W} {T} {O} {D} {C} run separator into assert_kind bounds empty 
     -- links follow it
     ⊎ ((o : O) × (v : S) × (n : Input T) × (one : C) × IsBelow bounds.greatest 0
     × run s.0 i (Ok o) v n × into.takes empty o one
-    × ItemsRun (LinkRuns run separator assert_kind) into assert_kind (links_within bounds) one
-    (v, s.1) n answer t j))))
+    × LinksRun run separator into assert_kind (links_within bounds) one (v, s.1) n answer t j))))
 
 -- Elements into an accumulator.
 abbrev pub SeparatedRuns : {S W T O D C : Type 0} → Runs S T O → Runs W T D → Accumulator C O

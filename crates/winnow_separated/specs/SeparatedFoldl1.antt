@@ -1,11 +1,11 @@
 -- Elements with separators between them, folded to the left.
-use Rattle.std.specs.Prelude.{◌≡◌, ◌<◌, length, None, Ok, Err, ◌⊎◌}
-use Rattle.streams.specs.Input.{Input}
-use Rattle.streams.specs.Kind.{Kind}
+use Rattle.std.specs.Prelude.{◌≡◌, List, [], ◌∷◌, Ok, Err, ◌⊎◌}
+use Rattle.streams.specs.Input.{Input, back_at}
+use Rattle.streams.specs.Kind.{Kind, backtrack}
 use Rattle.stream_errors.specs.Form.{Answer}
-use Rattle.stream_sets.specs.Range.{from_to}
 use Rattle.winnow_core.specs.Runs.{Runs}
-use Rattle.winnow_repeat.specs.Fold.{FoldItemsRun}
+use Rattle.winnow_repeat.specs.Chain.{Chain}
+use Rattle.winnow_separated.specs.Link.{PairLinkRuns, SeparatesNothing}
 use Rattle.winnow_separated.specs.declared.combinator.impls.separated_foldl1.SeparatedFoldl1.{
   SeparatedFoldl1,
 }
@@ -21,34 +21,41 @@ foldl1_separator s = s.link.separator
 
 -- the closure that joins a value, a separator and an element
 abbrev pub foldl1_closure : {P S H I O D E : Type 0} → SeparatedFoldl1 P S H I O D E → H
-foldl1_closure s = s.op.closure
+foldl1_closure s = s.op
 
--- A link: a separator, which must consume, and an element; its output is both.
-abbrev pub PairLinkRuns : {S W T O D : Type 0} → Runs S T O → Runs W T D → Kind
-    → Runs (S × W) T (D × O)
-PairLinkRuns {S} {W} {T} {O} {D} run separator assert_kind s i answer t j =
-    -- the separator fails
-    ((k : Kind) × separator s.1 i (Err k) t.1 j × (t.0 ≡ s.0) × (answer ≡ Err k))
-    -- it consumes nothing
-    ⊎ (((d : D) × separator s.1 i (Ok d) t.1 j × (j.left.tokens ≡ i.left.tokens) × (t.0 ≡ s.0)
-    × (answer ≡ Err assert_kind))
-    -- it consumes, and the element behind it fails
-    ⊎ (((d : D) × (m : Input T) × (k : Kind) × separator s.1 i (Ok d) t.1 m
-    × (length m.left.tokens < length i.left.tokens) × run s.0 m (Err k) t.0 j
+-- The value of a first element and the links behind it, from the left: the closure joins the value
+-- so far, a separator and the element behind it.
+abbrev pub FoldsLeft : {Q O D : Type 0} → (Q → O → D → O → O → Q → Type 0) → Q → O → List (D × O)
+    → O → Q → Type 0
+FoldsLeft step q first [] value p = (value ≡ first) × (p ≡ q)
+FoldsLeft {Q} {O} step q first (link ∷ links) value p =
+    (more : O) × (c : Q) × step q first link.0 link.1 more c
+    × FoldsLeft step c more links value p
+
+-- What ends links of any number, behind a chain of them.
+abbrev pub LinksEnd : {S W T O D : Type 0} → Runs S T O → Runs W T D → Kind → O → S × W → Input T
+    → Answer O → S × W → Input T → Type 0
+LinksEnd {S} {W} {T} {O} {D} run separator assert_kind value u m answer t j =
+    -- one backtracks: the value so far, back before its separator
+    ((x : Input T) × PairLinkRuns run separator u m (Err backtrack) t x × (answer ≡ Ok value)
+    × (j ≡ back_at m.left x))
+    -- one fails by another kind
+    ⊎ (((k : Kind) × PairLinkRuns run separator u m (Err k) t j × (k ≡ backtrack → ⊥)
     × (answer ≡ Err k))
-    -- both succeed
-    ⊎ ((d : D) × (m : Input T) × (o : O) × separator s.1 i (Ok d) t.1 m
-    × (length m.left.tokens < length i.left.tokens) × run s.0 m (Ok o) t.0 j
-    × (answer ≡ Ok (d, o)))))
+    -- a separator consumes nothing
+    ⊎ (SeparatesNothing separator u m t j × (answer ≡ Err assert_kind)))
 
--- One call of the closure joins the value so far, a separator and the element behind it.
-abbrev pub JoinsLink : {Q O D : Type 0} → (Q → O → D → O → O → Q → Type 0) → Q → O → D × O
-    → Answer O → Q → Type 0
-JoinsLink {Q} {O} step q left link answer p =
-    (more : O) × step q left link.0 link.1 more p × (answer ≡ Ok more)
+-- Links of any number in a chain, each folded into the value as it is read, and what ended them.
+abbrev pub JoinedLinksRun : {S W Q T O D : Type 0} → (Q → O → D → O → O → Q → Type 0)
+    → Runs S T O → Runs W T D → Kind → O → S × W × Q → Input T → Answer O → S × W × Q → Input T
+    → Type 0
+JoinedLinksRun {S} {W} {Q} {T} {O} {D} step run separator assert_kind first s i answer t j =
+    (links : List (D × O)) × (u : S × W) × (m : Input T) × (value : O)
+    × Chain (PairLinkRuns run separator) (s.0, s.1) i links u m
+    × FoldsLeft step s.2 first links value t.2
+    × LinksEnd run separator assert_kind value u m answer (t.0, t.1) j
 
--- The first element, into which links are folded, as the items of a repetition of any number. So a
--- link that backtracks is the end, back before its separator.
+-- The first element, into which links are folded.
 abbrev pub SeparatedFoldl1Runs : {S W Q T O D : Type 0} → (Q → O → D → O → O → Q → Type 0)
     → Runs S T O → Runs W T D → Kind → Runs (S × W × Q) T O
 SeparatedFoldl1Runs {S} {W} {Q} {T} {O} {D} step run separator assert_kind s i answer t j =
@@ -56,5 +63,4 @@ SeparatedFoldl1Runs {S} {W} {Q} {T} {O} {D} step run separator assert_kind s i a
     ((k : Kind) × run s.0 i (Err k) t.0 j × (t.1 ≡ s.1) × (t.2 ≡ s.2) × (answer ≡ Err k))
     -- links follow it
     ⊎ ((first : O) × (v : S) × (n : Input T) × run s.0 i (Ok first) v n
-    × FoldItemsRun (JoinsLink step) (PairLinkRuns run separator assert_kind) assert_kind
-    (from_to 0 None) ((v, s.1), (s.2, first)) n answer ((t.0, t.1), t.2) j)
+    × JoinedLinksRun step run separator assert_kind first (v, s.1, s.2) n answer t j)

@@ -1,5 +1,4 @@
 //! Laws of elements with separators, each proved by a function that does nothing.
-ghost use Rattle.stream_errors.specs.Form.{assert_kind};
 ghost use Rattle.winnow_separated.specs.FoldLaws.{Consumes, Decides, FoldTheSame};
 ghost use Rattle.winnow_separated.specs.SeparatedLaws.{LeavesTheSeparator};
 
@@ -11,7 +10,9 @@ use streams::stream::Stream;
 use winnow_core::parser::Parser;
 
 /// Where [`separated`](crate::combinator::separated) reads any number of elements, or one and more,
-/// it leaves a separator unread whose element backtracks.
+/// and succeeds, it answers the first element and those of the links behind it, which are a chain,
+/// and leaves the input before the link behind these, which backtracked: so it leaves a separator
+/// unread whose element backtracks. Where it reads none, the first element backtracked.
 pub fn separated_leaves_a_separator_without_an_element<
     P: Parser<I, O, E>,
     S: Parser<I, D, E>,
@@ -22,7 +23,7 @@ pub fn separated_leaves_a_separator_without_an_element<
     E: ParserError<I>,
     A: Allocator + Copy,
 >()
-    ensures { LeavesTheSeparator (P.meaning E.form) (S.meaning E.form) (assert_kind E.form)
+    ensures { LeavesTheSeparator (P.meaning E.form) (S.meaning E.form) C.accumulator
         (⟦<Separated<P, S, I, O, D, C, E, A> as Parser<I, C, E>>⟧.meaning E.form) }
 {}
 

@@ -1,11 +1,12 @@
-pub mod Literal
+-- Written by scripts/registries.py: do not edit.
 pub mod Any
-pub mod OneOf
-pub mod NoneOf
-pub mod Take
-pub mod TakeWhile
+pub mod Before
+pub mod Literal
 pub mod Members
+pub mod NoneOf
+pub mod OneOf
+pub mod Rest
+pub mod Take
 pub mod TakeTill
 pub mod TakeUntil
-pub mod Before
-pub mod Rest
+pub mod TakeWhile

@@ -31,15 +31,15 @@ use streams::needed::Needed;
 use streams::stream::{Stream, StreamIsPartial};
 use winnow_core::short::short;
 
-/// A parser of `literal`; the output is the slice of the input. Known as `tag` too.
+/// A parser of `literal`; the output is the slice of the input.
 ///
 /// It fails, and consumes nothing, where the literal does not stand first. Where a cut input is a
 /// proper beginning of it, it is incomplete with an unknown need.
 ///
 /// Known as `tag` in nom and in older winnow.
 ///
-/// ```text
-/// literal(b"ab").parse_next(&mut b"abc".as_slice())   is Ok(b"ab"), and b"c" is left
+/// ```
+/// assert_eq!(rt; literal("ab").parse_peek("abc"), Ok::<_, EmptyError>(("c", "ab")));
 /// ```
 #[inline(always)]
 pub fn literal<T, Input, Error>(literal: T) -> Literal<T, Input, Error>
@@ -56,7 +56,8 @@ where
     }
 }
 
-/// the output is the slice of the input.
+/// A parser of the longest beginning of tokens that are in `set`, of as many tokens as
+/// `occurrences` says; the output is the slice of the input.
 ///
 /// It fails, and consumes nothing, where there are too few. On a cut input it is incomplete where
 /// all that is left are members and more could be taken: the need is what is missing to the least
@@ -64,10 +65,9 @@ where
 ///
 /// Known as `take_while`, `take_while1`, `take_while_m_n` and `is_a` in nom.
 ///
-/// ```text
-/// let digit = Pred(|b: u8| b.is_ascii_digit());
-/// take_while(Range::from(1..), digit).parse_next(&mut b"12;".as_slice())
-///     is Ok(b"12"), and b";" is left
+/// ```
+/// let mut parser = take_while(Range::from(1..), '0'..='9');
+/// assert_eq!(rt; parser.parse_peek("12;"), Ok::<_, EmptyError>((";", "12")));
 /// ```
 #[inline(always)]
 pub fn take_while<Set, Input, Error>(occurrences: Range, set: Set) -> TakeWhile<Set, Input, Error>
@@ -94,9 +94,9 @@ where
 ///
 /// Known as `take_till`, `take_till1` and `is_not` in nom.
 ///
-/// ```text
-/// take_till(Range::from(0..), b';').parse_next(&mut b"ab;c".as_slice())
-///     is Ok(b"ab"), and b";c" is left
+/// ```
+/// let mut parser = take_till(Range::from(0..), ';');
+/// assert_eq!(rt; parser.parse_peek("ab;c"), Ok::<_, EmptyError>((";c", "ab")));
 /// ```
 #[inline(always)]
 pub fn take_till<Set, Input, Error>(occurrences: Range, set: Set) -> TakeTill<Set, Input, Error>
@@ -121,8 +121,10 @@ where
 ///
 /// Known as `anychar` in nom.
 ///
-/// ```text
-/// any(&mut b"ab".as_slice())   is Ok(b'a'), and b"b" is left
+/// ```
+/// let mut input = "ab";
+/// assert_eq!(rt; any(&mut input), Ok::<_, EmptyError>('a'));
+/// assert_eq!(rt; input, "b");
 /// ```
 #[inline(always)]
 pub fn any<Input: StreamIsPartial, Error: ParserError<Input>>(
@@ -145,8 +147,8 @@ pub fn any<Input: StreamIsPartial, Error: ParserError<Input>>(
 ///
 /// Known as `satisfy`, `one_of` and `char` in nom.
 ///
-/// ```text
-/// one_of((b'+', b'-')).parse_next(&mut b"-1".as_slice())   is Ok(b'-'), and b"1" is left
+/// ```
+/// assert_eq!(rt; one_of(('+', '-')).parse_peek("-1"), Ok::<_, EmptyError>(("1", '-')));
 /// ```
 #[inline(always)]
 pub fn one_of<Set, Input, Error>(set: Set) -> OneOf<Set, Input, Error>
@@ -169,8 +171,8 @@ where
 /// It fails, and consumes nothing, on a token of the set and where none is left; on a cut input
 /// with nothing left it is incomplete with a need of 1 unit.
 ///
-/// ```text
-/// none_of(b';').parse_next(&mut b"a;".as_slice())   is Ok(b'a'), and b";" is left
+/// ```
+/// assert_eq!(rt; none_of(';').parse_peek("a;"), Ok::<_, EmptyError>((";", 'a')));
 /// ```
 #[inline(always)]
 pub fn none_of<Set, Input, Error>(set: Set) -> NoneOf<Set, Input, Error>
@@ -193,8 +195,8 @@ where
 /// Where there are fewer it fails, and consumes nothing; on a cut input it is incomplete: the need
 /// is how many units are missing, and unknown over text, where a character takes one to four.
 ///
-/// ```text
-/// take(2u8).parse_next(&mut b"abc".as_slice())   is Ok(b"ab"), and b"c" is left
+/// ```
+/// assert_eq!(rt; take(2u8).parse_peek("abc"), Ok::<_, EmptyError>(("c", "ab")));
 /// ```
 #[inline(always)]
 pub fn take<UsizeLike, Input, Error>(token_count: UsizeLike) -> Take<Input, Error>
@@ -222,9 +224,9 @@ where
 ///
 /// Known as `take_until` and `take_until1` in nom.
 ///
-/// ```text
-/// take_until(Range::from(0..), b"-->".as_slice()).parse_next(&mut b"ab-->c".as_slice())
-///     is Ok(b"ab"), and b"-->c" is left
+/// ```
+/// let mut parser = take_until(Range::from(0..), "-->");
+/// assert_eq!(rt; parser.parse_peek("ab-->c"), Ok::<_, EmptyError>(("-->c", "ab")));
 /// ```
 #[inline(always)]
 pub fn take_until<Literal, Input, Error>(
@@ -248,8 +250,10 @@ where
 
 /// All that is left, also of a cut input: it never asks whether more may come, and never fails.
 ///
-/// ```text
-/// rest(&mut b"ab".as_slice())   is Ok(b"ab"), and nothing is left
+/// ```
+/// let mut input = "ab";
+/// assert_eq!(rt; rest(&mut input), Ok::<_, EmptyError>("ab"));
+/// assert_eq!(rt; input, "");
 /// ```
 #[inline(always)]
 pub fn rest<Input: Stream, Error: ParserError<Input>>(
@@ -264,8 +268,10 @@ pub fn rest<Input: Stream, Error: ParserError<Input>>(
 
 /// How many units are left, also of a cut input: nothing is consumed, and it never fails.
 ///
-/// ```text
-/// rest_len(&mut b"ab".as_slice())   is Ok(2), and b"ab" is left
+/// ```
+/// let mut input = "ab";
+/// assert_eq!(rt; rest_len(&mut input), Ok::<_, EmptyError>(2));
+/// assert_eq!(rt; input, "ab");
 /// ```
 #[inline(always)]
 pub fn rest_len<Input: Stream, Error: ParserError<Input>>(input: &mut Input) -> Result<usize, Error>

@@ -10,8 +10,10 @@ use winnow::error::{ErrMode, InputError};
 
 /// The parser [`category`](crate::ini::category).
 ///
-/// ```text
-/// Category.parse_next(&mut b"[a]".as_slice())   is Ok("a")
+/// ```
+/// use readers::ini::impls::Category;
+///
+/// assert_eq!(rt; Category.parse_peek(b"[a]".as_slice()), Ok((b"".as_slice(), "a")));
 /// ```
 #[derive(Clone, Copy, Debug, PartialEq, Eq)]
 pub struct Category;
@@ -35,8 +37,10 @@ impl<'i> Parser<&'i [u8], &'i str, ErrMode<InputError<&'i [u8]>>> for Category {
 
 /// The parser [`key_value`](crate::ini::key_value).
 ///
-/// ```text
-/// KeyValue.parse_next(&mut b"x=1".as_slice())   is Ok(("x", "1"))
+/// ```
+/// use readers::ini::impls::KeyValue;
+///
+/// assert_eq!(rt; KeyValue.parse_peek(b"x=1".as_slice()), Ok((b"".as_slice(), ("x", "1"))));
 /// ```
 #[derive(Clone, Copy, Debug, PartialEq, Eq)]
 pub struct KeyValue;

@@ -74,9 +74,13 @@ pub(super) fn brackets<'i>(input: &mut &'i [u8]) -> Result<&'i [u8], ErrMode<Inp
 ///
 /// As the example `ini` of winnow reads it, but that a name ends with its line.
 ///
-/// ```text
-/// ini::category(&mut b"[a]x".as_slice())   is Ok("a"), and b"x" is left
-/// ini::category(&mut b"[a".as_slice())     backtracks, and b"[a" is left
+/// ```
+/// use readers::ini;
+///
+/// let mut input = b"[a]x".as_slice();
+/// assert_eq!(rt; ini::category(&mut input), Ok("a"));
+/// assert_eq!(rt; input, b"x".as_slice());
+/// assert!(rt; ini::category(&mut b"[a".as_slice()).is_err());
 /// ```
 pub fn category<'i>(input: &mut &'i [u8]) -> Result<&'i str, ErrMode<InputError<&'i [u8]>>>
     ensures { CategoryRuns (bytes_input input.old.now)
@@ -160,9 +164,13 @@ pub(super) fn value<'i>(input: &mut &'i [u8]) -> Result<&'i str, ErrMode<InputEr
 ///
 /// As the example `ini` of winnow reads it, but that a value ends where its text does.
 ///
-/// ```text
-/// ini::key_value(&mut b"x = 1 ; c\n".as_slice())   is Ok(("x", "1")), and b"\n" is left
-/// ini::key_value(&mut b"x: 1".as_slice())          backtracks, and b"x: 1" is left
+/// ```
+/// use readers::ini;
+///
+/// let mut input = b"x = 1 ; c\n".as_slice();
+/// assert_eq!(rt; ini::key_value(&mut input), Ok(("x", "1")));
+/// assert_eq!(rt; input, b"\n".as_slice());
+/// assert!(rt; ini::key_value(&mut b"x: 1".as_slice()).is_err());
 /// ```
 pub fn key_value<'i>(
     input: &mut &'i [u8],

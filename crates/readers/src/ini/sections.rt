@@ -15,9 +15,11 @@ use winnow::stream::Range;
 /// A section: its name, and its pairs of a key and a value in order, as slices of the input. `A` is
 /// the allocator of the list.
 ///
-/// ```text
-/// ini::document(alloc, b"[a]\nx=1")
-///     is Ok of one Section with the name "a" and the pair ("x", "1")
+/// ```
+/// use readers::ini;
+///
+/// let sections = ini::document(alloc, b"[a]\nx=1");
+/// assert!(rt; matches!(sections, Ok(sections) if sections[0].name == "a"));
 /// ```
 #[derive(Debug, PartialEq, Drop)]
 pub struct Section<'i, A: Allocator> {
@@ -155,9 +157,14 @@ impl<'i, A: Allocator + Copy> Parser<
 /// lists alone, so for none where no section is read, and [`Fault::NoMemory`] is answered where a
 /// request for it was refused. The input is read once, in a time that grows as its length does.
 ///
-/// ```text
-/// ini::document(alloc, b"[a]\nx=1\n")   is Ok of the section "a" with the pair ("x", "1")
-/// ini::document(alloc, b"[a]\nx\n")     is Err(Fault::Refused(4))
+/// ```
+/// use readers::fault::Fault;
+/// use readers::ini;
+///
+/// let sections = ini::document(alloc, b"[a]\nx=1\n");
+/// assert!(rt; matches!(sections, Ok(sections) if sections[0].pairs[0] == ("x", "1")));
+/// let refused = ini::document(alloc, b"[a]\nx\n");
+/// assert!(rt; matches!(refused, Err(Fault::Refused(4))));
 /// ```
 pub fn document<'i, A: Allocator + Copy>(
     alloc: A,

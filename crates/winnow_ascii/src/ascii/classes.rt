@@ -20,9 +20,11 @@ use streams::stream::StreamIsPartial;
 /// It never backtracks on a whole input. On a cut input it is incomplete, and consumes nothing,
 /// where nothing is left or all that is left is taken: the need is 1 unit.
 ///
-/// ```text
-/// alpha0(&mut b"ab1".as_slice())   is Ok(b"ab"), and b"1" is left
-/// alpha0(&mut b"1".as_slice())     is Ok(b""), and b"1" is left
+/// ```
+/// let mut input = "ab1";
+/// assert_eq!(rt; alpha0(&mut input), Ok::<_, EmptyError>("ab"));
+/// assert_eq!(rt; input, "1");
+/// assert_eq!(rt; alpha0(&mut "1"), Ok::<_, EmptyError>(""));
 /// ```
 #[inline(always)]
 pub fn alpha0<Input, Error>(input: &mut Input) -> Result<Input::Slice, Error>
@@ -43,9 +45,12 @@ where
 /// incomplete, and consumes nothing, where nothing is left or all that is left is taken: the need
 /// is 1 unit.
 ///
-/// ```text
-/// alpha1(&mut b"ab1".as_slice())   is Ok(b"ab"), and b"1" is left
-/// alpha1(&mut b"1".as_slice())     backtracks, and b"1" is left
+/// ```
+/// let mut input = "ab1";
+/// assert_eq!(rt; alpha1(&mut input), Ok::<_, EmptyError>("ab"));
+/// assert_eq!(rt; input, "1");
+/// let answer: Result<_, ErrMode<EmptyError>> = alpha1(&mut "1");
+/// assert!(rt; matches!(answer, Err(ErrMode::Backtrack(_))));
 /// ```
 #[inline(always)]
 pub fn alpha1<Input, Error>(input: &mut Input) -> Result<Input::Slice, Error>
@@ -65,9 +70,11 @@ where
 /// It never backtracks on a whole input. On a cut input it is incomplete, and consumes nothing,
 /// where nothing is left or all that is left is taken: the need is 1 unit.
 ///
-/// ```text
-/// digit0(&mut b"12;".as_slice())   is Ok(b"12"), and b";" is left
-/// digit0(&mut b";".as_slice())     is Ok(b""), and b";" is left
+/// ```
+/// let mut input = "12;";
+/// assert_eq!(rt; digit0(&mut input), Ok::<_, EmptyError>("12"));
+/// assert_eq!(rt; input, ";");
+/// assert_eq!(rt; digit0(&mut ";"), Ok::<_, EmptyError>(""));
 /// ```
 #[inline(always)]
 pub fn digit0<Input, Error>(input: &mut Input) -> Result<Input::Slice, Error>
@@ -88,9 +95,12 @@ where
 /// incomplete, and consumes nothing, where nothing is left or all that is left is taken: the need
 /// is 1 unit.
 ///
-/// ```text
-/// digit1(&mut b"12;".as_slice())   is Ok(b"12"), and b";" is left
-/// digit1(&mut b";".as_slice())     backtracks, and b";" is left
+/// ```
+/// let mut input = "12;";
+/// assert_eq!(rt; digit1(&mut input), Ok::<_, EmptyError>("12"));
+/// assert_eq!(rt; input, ";");
+/// let answer: Result<_, ErrMode<EmptyError>> = digit1(&mut ";");
+/// assert!(rt; matches!(answer, Err(ErrMode::Backtrack(_))));
 /// ```
 #[inline(always)]
 pub fn digit1<Input, Error>(input: &mut Input) -> Result<Input::Slice, Error>
@@ -111,9 +121,11 @@ where
 /// It never backtracks on a whole input. On a cut input it is incomplete, and consumes nothing,
 /// where nothing is left or all that is left is taken: the need is 1 unit.
 ///
-/// ```text
-/// hex_digit0(&mut b"1fAg".as_slice())   is Ok(b"1fA"), and b"g" is left
-/// hex_digit0(&mut b"g".as_slice())      is Ok(b""), and b"g" is left
+/// ```
+/// let mut input = "1fAg";
+/// assert_eq!(rt; hex_digit0(&mut input), Ok::<_, EmptyError>("1fA"));
+/// assert_eq!(rt; input, "g");
+/// assert_eq!(rt; hex_digit0(&mut "g"), Ok::<_, EmptyError>(""));
 /// ```
 #[inline(always)]
 pub fn hex_digit0<Input, Error>(input: &mut Input) -> Result<Input::Slice, Error>
@@ -135,9 +147,12 @@ where
 /// incomplete, and consumes nothing, where nothing is left or all that is left is taken: the need
 /// is 1 unit.
 ///
-/// ```text
-/// hex_digit1(&mut b"1fAg".as_slice())   is Ok(b"1fA"), and b"g" is left
-/// hex_digit1(&mut b"g".as_slice())      backtracks, and b"g" is left
+/// ```
+/// let mut input = "1fAg";
+/// assert_eq!(rt; hex_digit1(&mut input), Ok::<_, EmptyError>("1fA"));
+/// assert_eq!(rt; input, "g");
+/// let answer: Result<_, ErrMode<EmptyError>> = hex_digit1(&mut "g");
+/// assert!(rt; matches!(answer, Err(ErrMode::Backtrack(_))));
 /// ```
 #[inline(always)]
 pub fn hex_digit1<Input, Error>(input: &mut Input) -> Result<Input::Slice, Error>
@@ -157,9 +172,11 @@ where
 /// It never backtracks on a whole input. On a cut input it is incomplete, and consumes nothing,
 /// where nothing is left or all that is left is taken: the need is 1 unit.
 ///
-/// ```text
-/// oct_digit0(&mut b"178".as_slice())   is Ok(b"17"), and b"8" is left
-/// oct_digit0(&mut b"8".as_slice())     is Ok(b""), and b"8" is left
+/// ```
+/// let mut input = "178";
+/// assert_eq!(rt; oct_digit0(&mut input), Ok::<_, EmptyError>("17"));
+/// assert_eq!(rt; input, "8");
+/// assert_eq!(rt; oct_digit0(&mut "8"), Ok::<_, EmptyError>(""));
 /// ```
 #[inline(always)]
 pub fn oct_digit0<Input, Error>(input: &mut Input) -> Result<Input::Slice, Error>
@@ -180,9 +197,12 @@ where
 /// incomplete, and consumes nothing, where nothing is left or all that is left is taken: the need
 /// is 1 unit.
 ///
-/// ```text
-/// oct_digit1(&mut b"178".as_slice())   is Ok(b"17"), and b"8" is left
-/// oct_digit1(&mut b"8".as_slice())     backtracks, and b"8" is left
+/// ```
+/// let mut input = "178";
+/// assert_eq!(rt; oct_digit1(&mut input), Ok::<_, EmptyError>("17"));
+/// assert_eq!(rt; input, "8");
+/// let answer: Result<_, ErrMode<EmptyError>> = oct_digit1(&mut "8");
+/// assert!(rt; matches!(answer, Err(ErrMode::Backtrack(_))));
 /// ```
 #[inline(always)]
 pub fn oct_digit1<Input, Error>(input: &mut Input) -> Result<Input::Slice, Error>
@@ -203,9 +223,11 @@ where
 /// It never backtracks on a whole input. On a cut input it is incomplete, and consumes nothing,
 /// where nothing is left or all that is left is taken: the need is 1 unit.
 ///
-/// ```text
-/// alphanumeric0(&mut b"a1;".as_slice())   is Ok(b"a1"), and b";" is left
-/// alphanumeric0(&mut b";".as_slice())     is Ok(b""), and b";" is left
+/// ```
+/// let mut input = "a1;";
+/// assert_eq!(rt; alphanumeric0(&mut input), Ok::<_, EmptyError>("a1"));
+/// assert_eq!(rt; input, ";");
+/// assert_eq!(rt; alphanumeric0(&mut ";"), Ok::<_, EmptyError>(""));
 /// ```
 #[inline(always)]
 pub fn alphanumeric0<Input, Error>(input: &mut Input) -> Result<Input::Slice, Error>
@@ -227,9 +249,12 @@ where
 /// incomplete, and consumes nothing, where nothing is left or all that is left is taken: the need
 /// is 1 unit.
 ///
-/// ```text
-/// alphanumeric1(&mut b"a1;".as_slice())   is Ok(b"a1"), and b";" is left
-/// alphanumeric1(&mut b";".as_slice())     backtracks, and b";" is left
+/// ```
+/// let mut input = "a1;";
+/// assert_eq!(rt; alphanumeric1(&mut input), Ok::<_, EmptyError>("a1"));
+/// assert_eq!(rt; input, ";");
+/// let answer: Result<_, ErrMode<EmptyError>> = alphanumeric1(&mut ";");
+/// assert!(rt; matches!(answer, Err(ErrMode::Backtrack(_))));
 /// ```
 #[inline(always)]
 pub fn alphanumeric1<Input, Error>(input: &mut Input) -> Result<Input::Slice, Error>
@@ -249,9 +274,11 @@ where
 /// It never backtracks on a whole input. On a cut input it is incomplete, and consumes nothing,
 /// where nothing is left or all that is left is taken: the need is 1 unit.
 ///
-/// ```text
-/// space0(&mut b" \ta".as_slice())   is Ok(b" \t"), and b"a" is left
-/// space0(&mut b"a".as_slice())      is Ok(b""), and b"a" is left
+/// ```
+/// let mut input = " \ta";
+/// assert_eq!(rt; space0(&mut input), Ok::<_, EmptyError>(" \t"));
+/// assert_eq!(rt; input, "a");
+/// assert_eq!(rt; space0(&mut "a"), Ok::<_, EmptyError>(""));
 /// ```
 #[inline(always)]
 pub fn space0<Input, Error>(input: &mut Input) -> Result<Input::Slice, Error>
@@ -272,9 +299,12 @@ where
 /// incomplete, and consumes nothing, where nothing is left or all that is left is taken: the need
 /// is 1 unit.
 ///
-/// ```text
-/// space1(&mut b" \ta".as_slice())   is Ok(b" \t"), and b"a" is left
-/// space1(&mut b"a".as_slice())      backtracks, and b"a" is left
+/// ```
+/// let mut input = " \ta";
+/// assert_eq!(rt; space1(&mut input), Ok::<_, EmptyError>(" \t"));
+/// assert_eq!(rt; input, "a");
+/// let answer: Result<_, ErrMode<EmptyError>> = space1(&mut "a");
+/// assert!(rt; matches!(answer, Err(ErrMode::Backtrack(_))));
 /// ```
 #[inline(always)]
 pub fn space1<Input, Error>(input: &mut Input) -> Result<Input::Slice, Error>
@@ -295,9 +325,11 @@ where
 /// It never backtracks on a whole input. On a cut input it is incomplete, and consumes nothing,
 /// where nothing is left or all that is left is taken: the need is 1 unit.
 ///
-/// ```text
-/// multispace0(&mut b" \na".as_slice())   is Ok(b" \n"), and b"a" is left
-/// multispace0(&mut b"a".as_slice())      is Ok(b""), and b"a" is left
+/// ```
+/// let mut input = " \na";
+/// assert_eq!(rt; multispace0(&mut input), Ok::<_, EmptyError>(" \n"));
+/// assert_eq!(rt; input, "a");
+/// assert_eq!(rt; multispace0(&mut "a"), Ok::<_, EmptyError>(""));
 /// ```
 #[inline(always)]
 pub fn multispace0<Input, Error>(input: &mut Input) -> Result<Input::Slice, Error>
@@ -320,9 +352,12 @@ where
 /// incomplete, and consumes nothing, where nothing is left or all that is left is taken: the need
 /// is 1 unit.
 ///
-/// ```text
-/// multispace1(&mut b" \na".as_slice())   is Ok(b" \n"), and b"a" is left
-/// multispace1(&mut b"a".as_slice())      backtracks, and b"a" is left
+/// ```
+/// let mut input = " \na";
+/// assert_eq!(rt; multispace1(&mut input), Ok::<_, EmptyError>(" \n"));
+/// assert_eq!(rt; input, "a");
+/// let answer: Result<_, ErrMode<EmptyError>> = multispace1(&mut "a");
+/// assert!(rt; matches!(answer, Err(ErrMode::Backtrack(_))));
 /// ```
 #[inline(always)]
 pub fn multispace1<Input, Error>(input: &mut Input) -> Result<Input::Slice, Error>

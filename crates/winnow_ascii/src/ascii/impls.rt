@@ -1,6 +1,6 @@
 //! The parsers of the module above, as structs.
 //!
-//! Written by scripts/families.py: do not edit.
+//! Written by scripts/registries.py: do not edit.
 mod alpha0;
 mod alpha1;
 mod alphanumeric0;

@@ -22,9 +22,13 @@ use winnow_core::short::short;
 /// It backtracks, and consumes nothing, where they do not stand first. Where a cut input is a
 /// proper beginning of them, it is incomplete with an unknown need, and consumes nothing.
 ///
-/// ```text
-/// crlf(&mut b"\r\na".as_slice())   is Ok(b"\r\n"), and b"a" is left
-/// crlf(&mut b"\na".as_slice())     backtracks, and b"\na" is left
+/// ```
+/// let mut input = "\r\na";
+/// assert_eq!(rt; crlf(&mut input), Ok::<_, EmptyError>("\r\n"));
+/// assert_eq!(rt; input, "a");
+/// let mut input = "\na";
+/// assert!(rt; matches!(crlf(&mut input), Err(ErrMode::Backtrack(EmptyError { .. }))));
+/// assert_eq!(rt; input, "\na");
 /// ```
 #[inline(always)]
 pub fn crlf<Input, Error>(input: &mut Input) -> Result<Input::Slice, Error>
@@ -43,9 +47,13 @@ where
 /// It backtracks, and consumes nothing, where no line feed stands first. On a cut input with
 /// nothing left it is incomplete with an unknown need.
 ///
-/// ```text
-/// newline(&mut b"\na".as_slice())   is Ok('\n'), and b"a" is left
-/// newline(&mut b"a".as_slice())     backtracks, and b"a" is left
+/// ```
+/// let mut input = "\na";
+/// assert_eq!(rt; newline(&mut input), Ok::<_, EmptyError>('\n'));
+/// assert_eq!(rt; input, "a");
+/// let mut input = "a";
+/// assert!(rt; matches!(newline(&mut input), Err(ErrMode::Backtrack(EmptyError { .. }))));
+/// assert_eq!(rt; input, "a");
 /// ```
 #[inline(always)]
 pub fn newline<Input, Error>(input: &mut Input) -> Result<char, Error>
@@ -64,9 +72,13 @@ where
 /// It backtracks, and consumes nothing, where no tab stands first. On a cut input with nothing left
 /// it is incomplete with an unknown need.
 ///
-/// ```text
-/// tab(&mut b"\ta".as_slice())   is Ok('\t'), and b"a" is left
-/// tab(&mut b"a".as_slice())     backtracks, and b"a" is left
+/// ```
+/// let mut input = "\ta";
+/// assert_eq!(rt; tab(&mut input), Ok::<_, EmptyError>('\t'));
+/// assert_eq!(rt; input, "a");
+/// let mut input = "a";
+/// assert!(rt; matches!(tab(&mut input), Err(ErrMode::Backtrack(EmptyError { .. }))));
+/// assert_eq!(rt; input, "a");
 /// ```
 #[inline(always)]
 pub fn tab<Input, Error>(input: &mut Input) -> Result<char, Error>
@@ -86,10 +98,16 @@ where
 /// feed stands first. On a cut input with nothing left, or with no more than a carriage return, it
 /// is incomplete with an unknown need, and consumes nothing.
 ///
-/// ```text
-/// line_ending(&mut b"\na".as_slice())     is Ok(b"\n"), and b"a" is left
-/// line_ending(&mut b"\r\na".as_slice())   is Ok(b"\r\n"), and b"a" is left
-/// line_ending(&mut b"\ra".as_slice())     backtracks, and b"\ra" is left
+/// ```
+/// let mut input = "\na";
+/// assert_eq!(rt; line_ending(&mut input), Ok::<_, EmptyError>("\n"));
+/// assert_eq!(rt; input, "a");
+/// let mut input = "\r\na";
+/// assert_eq!(rt; line_ending(&mut input), Ok::<_, EmptyError>("\r\n"));
+/// assert_eq!(rt; input, "a");
+/// let mut input = "\ra";
+/// assert!(rt; matches!(line_ending(&mut input), Err(ErrMode::Backtrack(EmptyError { .. }))));
+/// assert_eq!(rt; input, "\ra");
 /// ```
 #[inline(always)]
 pub fn line_ending<Input, Error>(input: &mut Input) -> Result<Input::Slice, Error>
@@ -123,10 +141,17 @@ where
 ///
 /// Known as `not_line_ending` in nom.
 ///
-/// ```text
-/// till_line_ending(&mut b"ab\r\n".as_slice())   is Ok(b"ab"), and b"\r\n" is left
-/// till_line_ending(&mut b"ab".as_slice())       is Ok(b"ab"), and nothing is left
-/// till_line_ending(&mut b"ab\rc".as_slice())    backtracks, and b"\rc" is left
+/// ```
+/// let mut input = "ab\r\n";
+/// assert_eq!(rt; till_line_ending(&mut input), Ok::<_, EmptyError>("ab"));
+/// assert_eq!(rt; input, "\r\n");
+/// let mut input = "ab";
+/// assert_eq!(rt; till_line_ending(&mut input), Ok::<_, EmptyError>("ab"));
+/// assert_eq!(rt; input, "");
+/// let mut input = "ab\rc";
+/// let answer: Result<_, ErrMode<EmptyError>> = till_line_ending(&mut input);
+/// assert!(rt; matches!(answer, Err(ErrMode::Backtrack(_))));
+/// assert_eq!(rt; input, "\rc");
 /// ```
 #[inline(always)]
 pub fn till_line_ending<Input, Error>(input: &mut Input) -> Result<Input::Slice, Error>

@@ -23,9 +23,9 @@ use winnow_core::parser::Parser;
 /// Where `parser` backtracks the output is `None`, and the input is back at the start. Its other
 /// errors, cut, incomplete and want of memory, are handed on, with the input as it left it.
 ///
-/// ```text
-/// opt(b'a').parse_next(&mut b"ab".as_slice())   is Ok(Some(b'a')), and b"b" is left
-/// opt(b'a').parse_next(&mut b"b".as_slice())    is Ok(None), and b"b" is left
+/// ```
+/// assert_eq!(rt; opt('a').parse_peek("ab"), Ok::<_, EmptyError>(("b", Some('a'))));
+/// assert_eq!(rt; opt('a').parse_peek("b"), Ok::<_, EmptyError>(("b", None)));
 /// ```
 #[inline(always)]
 pub fn opt<Input, Output, Error, ParseNext>(
@@ -50,9 +50,9 @@ where
 /// Where it does not hold the output is `None`, and nothing is run. Where it holds the output is
 /// that of `parser`, and each of its errors is handed on, with the input as it left it.
 ///
-/// ```text
-/// cond(true, b'a').parse_next(&mut b"ab".as_slice())    is Ok(Some(b'a')), and b"b" is left
-/// cond(false, b'a').parse_next(&mut b"ab".as_slice())   is Ok(None), and b"ab" is left
+/// ```
+/// assert_eq!(rt; cond(true, 'a').parse_peek("ab"), Ok::<_, EmptyError>(("b", Some('a'))));
+/// assert_eq!(rt; cond(false, 'a').parse_peek("ab"), Ok::<_, EmptyError>(("ab", None)));
 /// ```
 #[inline(always)]
 pub fn cond<Input, Output, Error, ParseNext>(
@@ -80,8 +80,8 @@ where
 ///
 /// Whatever `parser` answers, an output or an error of any kind, the input is back at the start.
 ///
-/// ```text
-/// peek(b'a').parse_next(&mut b"ab".as_slice())   is Ok(b'a'), and b"ab" is left
+/// ```
+/// assert_eq!(rt; peek('a').parse_peek("ab"), Ok::<_, EmptyError>(("ab", 'a')));
 /// ```
 #[inline(always)]
 pub fn peek<Input, Output, Error, ParseNext>(
@@ -107,9 +107,12 @@ where
 /// errors, cut, incomplete and want of memory, are handed on. In each case the input is back at
 /// the start.
 ///
-/// ```text
-/// not(b'a').parse_next(&mut b"b".as_slice())   is Ok(()), and b"b" is left
-/// not(b'a').parse_next(&mut b"a".as_slice())   backtracks, and b"a" is left
+/// ```
+/// assert_eq!(rt; not('a').parse_peek("b"), Ok::<_, EmptyError>(("b", ())));
+/// let mut input = "a";
+/// let answer: Result<_, ErrMode<EmptyError>> = not('a').parse_next(&mut input);
+/// assert!(rt; matches!(answer, Err(ErrMode::Backtrack(_))));
+/// assert_eq!(rt; input, "a");
 /// ```
 #[inline(always)]
 pub fn not<Input, Output, Error, ParseNext>(
@@ -136,8 +139,11 @@ where
 ///
 /// Known as `cut` in nom.
 ///
-/// ```text
-/// cut_err(b'a').parse_next(&mut b"b".as_slice())   cuts, and b"b" is left
+/// ```
+/// let mut input = "b";
+/// let answer: Result<_, ErrMode<EmptyError>> = cut_err('a').parse_next(&mut input);
+/// assert!(rt; matches!(answer, Err(ErrMode::Cut(_))));
+/// assert_eq!(rt; input, "b");
 /// ```
 #[inline(always)]
 pub fn cut_err<Input, Output, Error, ParseNext>(
@@ -162,8 +168,11 @@ where
 /// An output is handed on, and so is an error that backtracks, is incomplete or wants memory. The
 /// input stands where `parser` left it.
 ///
-/// ```text
-/// backtrack_err(cut_err(b'a')).parse_next(&mut b"b".as_slice())   backtracks, and b"b" is left
+/// ```
+/// let mut input = "b";
+/// let answer: Result<_, ErrMode<EmptyError>> = backtrack_err(cut_err('a')).parse_next(&mut input);
+/// assert!(rt; matches!(answer, Err(ErrMode::Backtrack(_))));
+/// assert_eq!(rt; input, "b");
 /// ```
 #[inline(always)]
 pub fn backtrack_err<Input, Output, Error, ParseNext>(
@@ -185,8 +194,10 @@ where
 
 /// Succeeds, and consumes nothing. Known as `value` and `success` too.
 ///
-/// ```text
-/// empty(&mut b"a".as_slice())   is Ok(()), and b"a" is left
+/// ```
+/// let mut input = "a";
+/// assert_eq!(rt; empty(&mut input), Ok::<_, EmptyError>(()));
+/// assert_eq!(rt; input, "a");
 /// ```
 #[inline(always)]
 pub fn empty<Input: Stream, Error: ParserError<Input>>(_input: &mut Input) -> Result<(), Error>
@@ -199,8 +210,11 @@ pub fn empty<Input: Stream, Error: ParserError<Input>>(_input: &mut Input) -> Re
 
 /// Backtracks, and consumes nothing. Known as `unexpected` too.
 ///
-/// ```text
-/// fail::<_, u8, _>(&mut b"a".as_slice())   backtracks, and b"a" is left
+/// ```
+/// let mut input = "a";
+/// let answer: Result<_, ErrMode<EmptyError>> = fail::<_, u8, _>(&mut input);
+/// assert!(rt; matches!(answer, Err(ErrMode::Backtrack(_))));
+/// assert_eq!(rt; input, "a");
 /// ```
 #[inline(always)]
 pub fn fail<Input: Stream, Output, Error: ParserError<Input>>(

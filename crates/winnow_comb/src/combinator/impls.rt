@@ -1,4 +1,6 @@
 //! The parsers of the module above, as structs.
+//!
+//! Written by scripts/registries.py: do not edit.
 mod alt;
 mod backtrack_err;
 mod cond;

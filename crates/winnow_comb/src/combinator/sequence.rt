@@ -17,9 +17,12 @@ use winnow_core::parser::Parser;
 ///
 /// The first failure is handed on, with the input as the failing parser left it.
 ///
-/// ```text
-/// preceded(b'(', b'a').parse_next(&mut b"(a)".as_slice())   is Ok(b'a'), and b")" is left
-/// preceded(b'(', b'a').parse_next(&mut b"(b)".as_slice())   backtracks, and b"b)" is left
+/// ```
+/// assert_eq!(rt; preceded('(', 'a').parse_peek("(a)"), Ok::<_, EmptyError>((")", 'a')));
+/// let mut input = "(b)";
+/// let answer: Result<_, ErrMode<EmptyError>> = preceded('(', 'a').parse_next(&mut input);
+/// assert!(rt; matches!(answer, Err(ErrMode::Backtrack(_))));
+/// assert_eq!(rt; input, "b)");
 /// ```
 #[inline(always)]
 pub fn preceded<Input, Ignored, Output, Error, IgnoredParser, ParseNext>(
@@ -48,9 +51,12 @@ where
 ///
 /// The first failure is handed on, with the input as the failing parser left it.
 ///
-/// ```text
-/// terminated(b'a', b';').parse_next(&mut b"a;b".as_slice())   is Ok(b'a'), and b"b" is left
-/// terminated(b'a', b';').parse_next(&mut b"ab".as_slice())    backtracks, and b"b" is left
+/// ```
+/// assert_eq!(rt; terminated('a', ';').parse_peek("a;b"), Ok::<_, EmptyError>(("b", 'a')));
+/// let mut input = "ab";
+/// let answer: Result<_, ErrMode<EmptyError>> = terminated('a', ';').parse_next(&mut input);
+/// assert!(rt; matches!(answer, Err(ErrMode::Backtrack(_))));
+/// assert_eq!(rt; input, "b");
 /// ```
 #[inline(always)]
 pub fn terminated<Input, Output, Ignored, Error, ParseNext, IgnoredParser>(
@@ -81,9 +87,9 @@ where
 ///
 /// Known as `separated_pair` in nom.
 ///
-/// ```text
-/// separated_pair(b'a', b'=', b'b').parse_next(&mut b"a=b".as_slice())
-///     is Ok((b'a', b'b')), and nothing is left
+/// ```
+/// let mut parser = separated_pair('a', '=', 'b');
+/// assert_eq!(rt; parser.parse_peek("a=b"), Ok::<_, EmptyError>(("", ('a', 'b'))));
 /// ```
 #[inline(always)]
 pub fn separated_pair<Input, Output1, Sep, Output2, Error, Parser1, SepParser, Parser2>(
@@ -119,9 +125,12 @@ where
 ///
 /// Known as `between` in other libraries.
 ///
-/// ```text
-/// delimited(b'(', b'a', b')').parse_next(&mut b"(a);".as_slice())   is Ok(b'a'), and b";" is left
-/// delimited(b'(', b'a', b')').parse_next(&mut b"(a;".as_slice())    backtracks, and b";" is left
+/// ```
+/// assert_eq!(rt; delimited('(', 'a', ')').parse_peek("(a);"), Ok::<_, EmptyError>((";", 'a')));
+/// let mut input = "(a;";
+/// let answer: Result<_, ErrMode<EmptyError>> = delimited('(', 'a', ')').parse_next(&mut input);
+/// assert!(rt; matches!(answer, Err(ErrMode::Backtrack(_))));
+/// assert_eq!(rt; input, ";");
 /// ```
 #[inline(always)]
 pub fn delimited<

@@ -6,23 +6,24 @@ use Rattle.stream_errors.specs.Form.{Answer}
 use Rattle.stream_errors.specs.Form.Known.{at_kind, at_output, ok_is_err}
 
 -- how an output was settled, by what the closure made of it; R are the closure's errors
-abbrev pub Tried : {U R : Type 0} → (U → Type 0) → (R → Type 0) → (Kind → Type 0) → Answer U
+abbrev pub Tried : {U R : Type 0} → (U → Type 0) → (R → Type 0) → (R → Kind → Type 0) → Answer U
     → Type 0
 Tried {U} {R} Made Failed Kinds answer =
     ((u : U) × Made u × (answer ≡ Ok u))
-    ⊎ ((r : R) × (k : Kind) × Failed r × Kinds k × (answer ≡ Err k))
+    ⊎ ((r : R) × (k : Kind) × Failed r × Kinds r k × (answer ≡ Err k))
 
 -- accepted: the closure made it
 pub try_map_made : {U R : Type 0} {Made : U → Type 0} {Failed : R → Type 0}
-    {Kinds : Kind → Type 0} (u : U) → Tried Made Failed Kinds (Ok u) → Made u
+    {Kinds : R → Kind → Type 0} (u : U) → Tried Made Failed Kinds (Ok u) → Made u
 try_map_made {Made = Made} u (inl (x, made, e)) = at_output Made e made
 try_map_made u (inr (r, k, failed, kind, e)) = ok_is_err refl e
 
 -- refused: the closure failed
 pub try_map_failed : {U R : Type 0} {Made : U → Type 0} {Failed : R → Type 0}
-    {Kinds : Kind → Type 0} (k : Kind) → Tried Made Failed Kinds (Err k)
-    → ((r : R) × Failed r) × Kinds k
+    {Kinds : R → Kind → Type 0} (k : Kind) → Tried Made Failed Kinds (Err k)
+    → (r : R) × Failed r × Kinds r k
 try_map_failed k (inl (x, made, e)) = ok_is_err e refl
-try_map_failed {Kinds = Kinds} k (inr (r, l, failed, kind, e)) = ((r, failed), at_kind Kinds e kind)
+try_map_failed {Kinds = Kinds} k (inr (r, l, failed, kind, e)) =
+    (r, failed, at_kind (Kinds r) e kind)
 
 pub ruleset known_tries = (try_map_made, try_map_failed)

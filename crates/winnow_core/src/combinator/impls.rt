@@ -1,4 +1,6 @@
 //! The parsers of the module above and the adapters of `Parser`, as structs.
+//!
+//! Written by scripts/registries.py: do not edit.
 mod and_then;
 mod by_ref;
 mod complete_err;

@@ -30,7 +30,7 @@ pub record HexDigits {K T S : Type 0} (seen : K → T) (code : K → ℕ) (readi
   pub some : 0 < length digits
   pub few : length digits ≤ most
   pub stops : NoneFirst seen code IsHexDigit j.left.tokens
-  pub ended : j.left.tokens ≡ [] → (j.status.cut ≡ false) ⊎ (length digits ≡ most)
+  pub ended : j.left.tokens ≡ [] → j.status.cut ≡ false
 
 -- A number that was read: its digits were passed.
 pub record HexRead {K T S : Type 0} (seen : K → T) (code : K → ℕ) (reading : Reading T S)
@@ -119,25 +119,11 @@ module _ {N K T S : Type 0} (number : N → ℕ) (most : ℕ) (seen : K → T) (
     -- digits that end, and nothing but digits on a cut input
     hex_or_lack : (i : Input T) (digits : List ℕ) (j : Input T)
         → HexDigits seen code reading most i digits j
-        → All (IsIn seen code IsHexDigit) i.left.tokens → length i.left.tokens < most
-        → i.status.cut ≡ true → ⊥
-    hex_or_lack i digits j p all few cut =
+        → All (IsIn seen code IsHexDigit) i.left.tokens → i.status.cut ≡ true → ⊥
+    hex_or_lack i digits j p all cut =
         let none = none_behind seen code once IsHexDigit p.front j.left.tokens i.left.tokens
         p.passes.tokens all p.stops in
-        by none (p.ended none)
-      where
-        by : j.left.tokens ≡ [] → (j.status.cut ≡ false) ⊎ (length digits ≡ most) → ⊥
-        by none (inl whole) =
-            true_is_false (sym cut ∙ ap (λ s. s.cut) (sym p.passes.status) ∙ whole)
-        by none (inr full) =
-            omega (
-              arith,
-              few,
-              full,
-              characters_length seen code p.front digits p.chars,
-              ap (λ l. length l) p.passes.tokens,
-              length-append p.front j.left.tokens,
-            )
+        true_is_false (sym cut ∙ ap (λ s. s.cut) (sym p.passes.status) ∙ p.ended none)
 
     -- digits that stand first, and none
     hex_or_none : (i : Input T) (front : List T) (digits : List ℕ) (rest : List T)
@@ -188,7 +174,7 @@ module _ {N K T S : Type 0} (number : N → ℕ) (most : ℕ) (seen : K → T) (
         true_is_false (sym cut ∙ whole (none_behind seen code once IsHexDigit [] i.left.tokens
         i.left.tokens refl all none))
 
-    lack_or_more : (tokens : List T) → length tokens < most → HasMore seen code most tokens → ⊥
+    lack_or_more : (tokens : List T) → length tokens ≤ most → HasMore seen code most tokens → ⊥
     lack_or_more tokens few (front, t, rest, split, all, many, is) =
         omega (
           arith,
@@ -203,7 +189,7 @@ module _ {N K T S : Type 0} (number : N → ℕ) (most : ℕ) (seen : K → T) (
         → Passes reading front i j → AreCharacters seen code front digits
         → AllByRecursion IsHexDigit digits → 0 < length digits → length digits ≤ most
         → NoneFirst seen code IsHexDigit j.left.tokens
-        → (j.left.tokens ≡ [] → (j.status.cut ≡ false) ⊎ (length digits ≡ most))
+        → (j.left.tokens ≡ [] → j.status.cut ≡ false)
         → HexDigits seen code reading most i digits j
     passed_by i front digits j passes chars are some few stops ended = record {
       front = front;
@@ -233,7 +219,7 @@ module _ {N K T S : Type 0} (number : N → ℕ) (most : ℕ) (seen : K → T) (
         (passed_by i front digits j passes chars are some few stops ended) known in
         (n, e, is ∙ one.0, one.1)
     hex_uint_by i xs a answer j known (inr (inl (all, few, cut, e, same))) =
-        absurd (hex_or_lack i xs a known all few cut)
+        absurd (hex_or_lack i xs a known all cut)
     hex_uint_by i xs a answer j known (inr (inr (inl (none, whole, e, same)))) =
         absurd (passed_or_none i xs a known none)
     hex_uint_by i xs a answer j known (inr (inr (inr more))) =
@@ -285,12 +271,12 @@ module _ {N K T S : Type 0} (number : N → ℕ) (most : ℕ) (seen : K → T) (
         (same_kinds number e f refl, same ∙ sym stays)
 
     -- Hexadecimal digits that the type holds are read as their number, where no such digit stands
-    -- behind them, and a cut input has more behind them or the type holds no more.
+    -- behind them, and a cut input has more behind them.
     pub hex_uint_must : (front : List T) (digits : List ℕ) (rest : List T) (i : Input T)
         (answer : Answer N) (j : Input T) → AllByRecursion IsHexDigit digits → 0 < length digits
         → length digits ≤ most → AreCharacters seen code front digits
         → i.left.tokens ≡ front ++ rest → NoneFirst seen code IsHexDigit rest
-        → (rest ≡ [] → (i.status.cut ≡ false) ⊎ (length digits ≡ most))
+        → (rest ≡ [] → i.status.cut ≡ false)
         → HexUintRuns number most seen code reading form i answer j
         → (n : N) × (answer ≡ Ok n) × (number n ≡ value_in 16 digits) × Passes reading front i j
     hex_uint_must front digits rest i answer j are some few chars begins stops ended ran =

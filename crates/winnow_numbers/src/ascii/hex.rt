@@ -1,5 +1,5 @@
 //! Hexadecimal numbers.
-ghost use Rattle.std.specs.Prelude.{◌≡◌, ◌+◌, ◌*◌, ◌^◌, ◌<◌, ◌≤◌, ℕ, length, true};
+ghost use Rattle.std.specs.Prelude.{◌≡◌, ◌+◌, ◌*◌, ◌^◌, ◌<◌, ◌≤◌, ℕ, [], length, true, false};
 ghost use Rattle.std.specs.Bool.{MatchBool};
 ghost use Rattle.std.specs.Char.{digit_value};
 ghost use Rattle.std.specs.List.{AllByRecursion};
@@ -10,181 +10,32 @@ ghost use Rattle.streams.specs.Input.{IsEndOf};
 ghost use Rattle.winnow_numbers.specs.Digits.{NoneFirst, SomeFirst, value_in};
 ghost use Rattle.winnow_numbers.specs.HexUint.{HexUintRuns};
 
-use crate::ascii::hex::sealed::SealedMarker;
+use crate::ascii::impls::hex_uint::HexUint;
+use crate::ascii::impls::hex_uint::sealed::SealedMarker;
 use stream_errors::parser_error::ParserError;
 use stream_sets::as_bstr::{AsBStr, SlicesAsBytes};
 use stream_sets::as_char::AsChar;
 use stream_sets::classes::HexadecimalDigits;
 use stream_sets::range::Range;
+use streams::needed::Needed;
 use streams::stream::{Stream, StreamIsPartial};
 use winnow_core::parser::Parser;
 use winnow_token::token::take_while;
 
-mod sealed {
-    /// What only this crate can pass to [`max_nibbles`](crate::ascii::HexUint::max_nibbles).
-    #[derive(Clone, Copy)]
-    pub struct SealedMarker;
-}
-
-/// The unsigned numbers that [`hex_uint`] parses.
-///
-/// ```text
-/// 0xA_u8.push_nibble(0xB)   is 0xAB
-/// ```
-pub trait HexUint: Default {
-    // The number of a value.
-    ghost number: { Self → ℕ };
-
-    // So many hexadecimal digits always fit, and no more do.
-    ghost nibbles: { ℕ };
-
-    /// How many hexadecimal digits the type holds: 2, 4, 8, 16, 32, and 16 of `usize`.
-    fn max_nibbles(_marker: SealedMarker) -> usize
-        ensures { result ≡ nibbles };
-
-    /// 16 times the number, plus a digit. The caller owes a digit below 16, and that the result
-    /// fits.
-    fn push_nibble(self, nibble: u8) -> Self
-        requires digit { nibble < 16 }
-        requires fits { 16 * number self + nibble < 16 ^ nibbles }
-        ensures { number result ≡ 16 * number self + nibble };
-
-    // A type holds some digit.
-    ghost holds_some: { 0 < nibbles };
-
-    // The default is 0.
-    ghost starts_at_zero: { (n : Self) → Self.is_default n → number n ≡ 0 };
-}
-
-impl HexUint for u8 {
-    ghost number = { λ n. n };
-
-    ghost nibbles = { 2 };
-
-    #[inline(always)]
-    fn max_nibbles(_marker: SealedMarker) -> usize {
-        2
-    }
-
-    #[inline(always)]
-    fn push_nibble(self, nibble: u8) -> u8 {
-        16 * self + nibble
-    }
-
-    ghost holds_some = { Prim.omega arith };
-
-    ghost starts_at_zero = { λ n zero. zero };
-}
-
-impl HexUint for u16 {
-    ghost number = { λ n. n };
-
-    ghost nibbles = { 4 };
-
-    #[inline(always)]
-    fn max_nibbles(_marker: SealedMarker) -> usize {
-        4
-    }
-
-    #[inline(always)]
-    fn push_nibble(self, nibble: u8) -> u16 {
-        16 * self + u16::from(nibble)
-    }
-
-    ghost holds_some = { Prim.omega arith };
-
-    ghost starts_at_zero = { λ n zero. zero };
-}
-
-impl HexUint for u32 {
-    ghost number = { λ n. n };
-
-    ghost nibbles = { 8 };
-
-    #[inline(always)]
-    fn max_nibbles(_marker: SealedMarker) -> usize {
-        8
-    }
-
-    #[inline(always)]
-    fn push_nibble(self, nibble: u8) -> u32 {
-        16 * self + u32::from(nibble)
-    }
-
-    ghost holds_some = { Prim.omega arith };
-
-    ghost starts_at_zero = { λ n zero. zero };
-}
-
-impl HexUint for u64 {
-    ghost number = { λ n. n };
-
-    ghost nibbles = { 16 };
-
-    #[inline(always)]
-    fn max_nibbles(_marker: SealedMarker) -> usize {
-        16
-    }
-
-    #[inline(always)]
-    fn push_nibble(self, nibble: u8) -> u64 {
-        16 * self + u64::from(nibble)
-    }
-
-    ghost holds_some = { Prim.omega arith };
-
-    ghost starts_at_zero = { λ n zero. zero };
-}
-
-impl HexUint for u128 {
-    ghost number = { λ n. n };
-
-    ghost nibbles = { 32 };
-
-    #[inline(always)]
-    fn max_nibbles(_marker: SealedMarker) -> usize {
-        32
-    }
-
-    #[inline(always)]
-    fn push_nibble(self, nibble: u8) -> u128 {
-        16 * self + u128::from(nibble)
-    }
-
-    ghost holds_some = { Prim.omega arith };
-
-    ghost starts_at_zero = { λ n zero. zero };
-}
-
-impl HexUint for usize {
-    ghost number = { λ n. n };
-
-    ghost nibbles = { 16 };
-
-    #[inline(always)]
-    fn max_nibbles(_marker: SealedMarker) -> usize {
-        16
-    }
-
-    #[inline(always)]
-    fn push_nibble(self, nibble: u8) -> usize {
-        16 * self + usize::from(nibble)
-    }
-
-    ghost holds_some = { Prim.omega arith };
-
-    ghost starts_at_zero = { λ n zero. zero };
-}
-
 /// A hexadecimal number: all hexadecimal digits that stand first, in either case.
 ///
 /// It backtracks, and consumes nothing, where none stands first, or more than the type holds. On a
-/// cut input with nothing left but fewer digits than the type holds it is incomplete, and consumes
-/// nothing: the need is 1 unit.
+/// cut input with nothing left but digits, at most as many as the type holds, it is incomplete, and
+/// consumes nothing: the need is 1 unit.
 ///
-/// ```text
-/// hex_uint::<_, u8, _>(&mut b"fA;".as_slice())   is Ok(0xFA), and b";" is left
-/// hex_uint::<_, u8, _>(&mut b"fff".as_slice())   backtracks, and b"fff" is left
+/// ```
+/// let mut input = "fA;";
+/// assert_eq!(rt; hex_uint::<_, u8, _>(&mut input), Ok::<_, EmptyError>(0xFA));
+/// assert_eq!(rt; input, ";");
+/// let mut input = "fff";
+/// let answer: Result<_, ErrMode<EmptyError>> = hex_uint::<_, u8, _>(&mut input);
+/// assert!(rt; matches!(answer, Err(ErrMode::Backtrack(_))));
+/// assert_eq!(rt; input, "fff");
 /// ```
 #[inline(always)]
 pub fn hex_uint<Input, Output, Error>(input: &mut Input) -> Result<Output, Error>
@@ -205,9 +56,14 @@ where
     match digits.parse_next(input) {
         Ok(slice) => {
             let bytes = slice.as_bstr();
-            if overflows(input, bytes.len() == most) {
+            let full = bytes.len() == most;
+            if overflows(input, full) {
                 input.reset(&start);
                 return Err(Error::from_input(input));
+            }
+            if may_overflow(input, full) {
+                input.reset(&start);
+                return Err(Error::incomplete(input, Needed::new(1)));
             }
             Ok(number_of(bytes))
         }
@@ -237,6 +93,25 @@ where
     };
     input.reset(&place);
     follows
+}
+
+/// Whether a type that is full may yet be followed by another hexadecimal digit, since a cut input
+/// ends behind it.
+#[inline(always)]
+fn may_overflow<I: StreamIsPartial>(input: &I, full: bool) -> bool
+    ensures { MatchBool result
+        ((full ≡ true) × ((I.view input.now).left.tokens ≡ [])
+        × ((I.view input.now).status.cut ≡ true))
+        (full ≡ true → (I.view input.now).left.tokens ≡ []
+        → (I.view input.now).status.cut ≡ false) }
+{
+    if !full {
+        return false;
+    }
+    if !input.is_partial() {
+        return false;
+    }
+    input.eof_offset() == 0
 }
 
 /// The number that hexadecimal digits stand for.

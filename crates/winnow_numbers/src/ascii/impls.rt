@@ -1,8 +1,10 @@
 //! The parsers of the module above, as structs.
+//!
+//! Written by scripts/registries.py: do not edit.
 mod dec_int;
 mod dec_uint;
-mod hex_uint;
+pub(crate) mod hex_uint;
 
 pub use crate::ascii::impls::dec_int::DecInt;
 pub use crate::ascii::impls::dec_uint::DecUint;
-pub use crate::ascii::impls::hex_uint::HexUintParser;
+pub use crate::ascii::impls::hex_uint::{HexUint, HexUintParser};

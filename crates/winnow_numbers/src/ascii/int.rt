@@ -16,9 +16,9 @@ use streams::stream::StreamIsPartial;
 
 /// The signed numbers that [`dec_int`] parses.
 ///
-/// ```text
-/// i8::try_from_dec_int("-128")   is Some(-128)
-/// i8::try_from_dec_int("128")    is None
+/// ```
+/// assert_eq!(rt; <i8 as Int>::try_from_dec_int("-128"), Some(-128));
+/// assert_eq!(rt; <i8 as Int>::try_from_dec_int("128"), None);
 /// ```
 pub trait Int: Sized {
     // The number of a value.
@@ -110,10 +110,18 @@ impl Int for isize {
 ///
 /// Known as `i8` to `i128` of `character::complete` in nom.
 ///
-/// ```text
-/// dec_int::<_, i8, _>(&mut b"-12;".as_slice())   is Ok(-12), and b";" is left
-/// dec_int::<_, i8, _>(&mut b"-0".as_slice())     backtracks, and b"-0" is left
-/// dec_int::<_, i8, _>(&mut b"128".as_slice())    backtracks, and b"128" is left
+/// ```
+/// let mut input = "-12;";
+/// assert_eq!(rt; dec_int::<_, i8, _>(&mut input), Ok::<_, EmptyError>(-12));
+/// assert_eq!(rt; input, ";");
+/// let mut input = "-0";
+/// let answer: Result<_, ErrMode<EmptyError>> = dec_int::<_, i8, _>(&mut input);
+/// assert!(rt; matches!(answer, Err(ErrMode::Backtrack(_))));
+/// assert_eq!(rt; input, "-0");
+/// let mut input = "128";
+/// let answer: Result<_, ErrMode<EmptyError>> = dec_int::<_, i8, _>(&mut input);
+/// assert!(rt; matches!(answer, Err(ErrMode::Backtrack(_))));
+/// assert_eq!(rt; input, "128");
 /// ```
 #[inline(always)]
 pub fn dec_int<Input, Output, Error>(input: &mut Input) -> Result<Output, Error>

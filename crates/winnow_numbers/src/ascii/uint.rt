@@ -16,9 +16,9 @@ use streams::stream::StreamIsPartial;
 
 /// The unsigned numbers that [`dec_uint`] parses.
 ///
-/// ```text
-/// u8::try_from_dec_uint("255")   is Some(255)
-/// u8::try_from_dec_uint("256")   is None
+/// ```
+/// assert_eq!(rt; <u8 as Uint>::try_from_dec_uint("255"), Some(255));
+/// assert_eq!(rt; <u8 as Uint>::try_from_dec_uint("256"), None);
 /// ```
 pub trait Uint: Sized {
     // The number of a value.
@@ -156,10 +156,17 @@ impl Uint for usize {
 ///
 /// Known as `u8` to `u128` of `character::complete` in nom.
 ///
-/// ```text
-/// dec_uint::<_, u8, _>(&mut b"12;".as_slice())   is Ok(12), and b";" is left
-/// dec_uint::<_, u8, _>(&mut b"01".as_slice())    is Ok(0), and b"1" is left
-/// dec_uint::<_, u8, _>(&mut b"256".as_slice())   backtracks, and b"256" is left
+/// ```
+/// let mut input = "12;";
+/// assert_eq!(rt; dec_uint::<_, u8, _>(&mut input), Ok::<_, EmptyError>(12));
+/// assert_eq!(rt; input, ";");
+/// let mut input = "01";
+/// assert_eq!(rt; dec_uint::<_, u8, _>(&mut input), Ok::<_, EmptyError>(0));
+/// assert_eq!(rt; input, "1");
+/// let mut input = "256";
+/// let answer: Result<_, ErrMode<EmptyError>> = dec_uint::<_, u8, _>(&mut input);
+/// assert!(rt; matches!(answer, Err(ErrMode::Backtrack(_))));
+/// assert_eq!(rt; input, "256");
 /// ```
 #[inline(always)]
 pub fn dec_uint<Input, Output, Error>(input: &mut Input) -> Result<Output, Error>

@@ -1,14 +1,15 @@
 -- What a caller knows of the calls of an iterator: its items so far are the outputs of a chain of
 -- runs that consume, and the run behind them stopped it.
-use Rattle.std.specs.Prelude.{◌≡◌, List, [], ◌∷◌, ◌++◌, Option, Some, None}
+use Rattle.std.specs.Prelude.{◌≡◌, List, [], ◌∷◌, ◌++◌, Option, Some, None, Ok, Err}
 use Rattle.std.specs.Iterator.{Drains, Yields}
 use Rattle.std.proofs.Common.{refl, sym, subst, inl, inr}
 use Rattle.std.proofs.lemmas.Fn.{FoldsTo-push}
-use Rattle.streams.specs.Input.{Input}
-use Rattle.streams.specs.Kind.{Kind}
+use Rattle.streams.specs.Input.{Input, back_at}
+use Rattle.streams.specs.Kind.{Kind, backtrack}
 use Rattle.winnow_core.specs.Runs.{Runs}
 use Rattle.winnow_repeat.specs.Chain.{IsItem}
-use Rattle.winnow_repeat.specs.Iterator.{IteratorNext, IteratorState, IteratorStops, running}
+use Rattle.winnow_repeat.specs.Iterator.{IteratorNext, IteratorState, IteratorStops, Standing}
+use Rattle.winnow_repeat.specs.Iterator.{done, finish_answer, running, stopped}
 use Rattle.winnow_repeat.specs.Repeat.Known.{Items}
 
 -- an item: the iterator went on and goes on, and its parser succeeded and consumed
@@ -94,6 +95,24 @@ iterator_drained run assert_kind state gives steps outputs a on (u, (t, yields, 
       stops = iterator_stopped run assert_kind (state t) (state u) told.1 (steps t None u ends);
     }
 
+-- one that answers an error at last was stopped by it
+pub finish_failed : (standing : Standing) (k : Kind) → Err k ≡ finish_answer standing
+    → standing ≡ stopped k
+finish_failed running k e = absurd (cc)
+finish_failed done k e = absurd (cc)
+finish_failed (stopped l) k e = cc
+
+-- one that something stopped and that answers no error at last was stopped by a backtrack: the
+-- input went back before that run
+pub finish_succeeded : {S T O : Type 0} (run : Runs S T O) (assert_kind : Kind)
+    (s t : IteratorState S T) → IteratorStops run assert_kind s t
+    → Ok tt ≡ finish_answer t.standing
+    → (m : Input T) × run s.parser s.input (Err backtrack) t.parser m
+    × (t.input ≡ back_at s.input.left m) × (t.standing ≡ done)
+finish_succeeded run assert_kind s t (inl stops) e = stops
+finish_succeeded run assert_kind s t (inr (inl (k, r, other, is))) e = absurd (cc)
+finish_succeeded run assert_kind s t (inr (inr (o, r, same, is))) e = absurd (cc)
+
 pub ruleset known_iterators = (
   iterator_item,
   iterator_stopped,
@@ -101,4 +120,6 @@ pub ruleset known_iterators = (
   iterator_more,
   iterator_yielded,
   iterator_drained,
+  finish_failed,
+  finish_succeeded,
 )

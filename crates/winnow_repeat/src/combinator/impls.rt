@@ -1,4 +1,6 @@
 //! The parsers of the module above, as structs.
+//!
+//! Written by scripts/registries.py: do not edit.
 mod fill;
 mod fold;
 pub(crate) mod iterator;

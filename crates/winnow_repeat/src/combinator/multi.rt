@@ -54,8 +54,7 @@ where
 
 /// Runs `parser` as many times as `occurrences` says, and puts its outputs into an accumulator:
 /// `()` keeps nothing, a `usize` their number, a `Vec` keeps them in order, a `String` keeps the
-/// text of characters or texts, and a `BTreeMap` keeps pairs by their keys. Known as `many0` and
-/// `many1` too.
+/// text of characters or texts, and a `BTreeMap` keeps pairs by their keys.
 ///
 /// It ends before an item that backtracks, where there are enough, or at the greatest count. An
 /// item that fails too early, or by another kind, is handed on. Each item must consume, else it

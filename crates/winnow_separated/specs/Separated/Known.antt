@@ -1,8 +1,8 @@
 -- What a caller knows of one run of elements with separators that answered: the first element, the
 -- links behind it in a chain, and what ended them.
-use Rattle.std.specs.Prelude.{◌≡◌, ◌<◌, ◌≤◌, ◌-◌, ℕ, List, length, Option, None, Ok, Err, ◌⊎◌}
+use Rattle.std.specs.Prelude.{◌≡◌, ◌<◌, ◌≤◌, ◌-◌, ℕ, List, Option, None, Ok, Err, ◌⊎◌}
 use Rattle.std.specs.List.{FoldsTo}
-use Rattle.std.proofs.Common.{refl, sym, subst, inl, inr, arith}
+use Rattle.std.proofs.Common.{refl, subst, inl, inr, arith}
 use Rattle.streams.specs.Equal.{none_is_some}
 use Rattle.streams.specs.Input.{Input, back_at}
 use Rattle.streams.specs.Kind.{Kind, backtrack, memory}
@@ -14,7 +14,8 @@ use Rattle.stream_sets.specs.declared.range.Range.{Range}
 use Rattle.winnow_core.specs.Runs.{Runs}
 use Rattle.winnow_repeat.specs.Repeat.{RepeatEnds}
 use Rattle.winnow_repeat.specs.Repeat.Known.{Items, RepeatFailure, RepeatedTo}
-use Rattle.winnow_separated.specs.Separated.{ElementsRun, LinkRuns, SeparatedRuns}
+use Rattle.winnow_separated.specs.Link.{LinkFails, LinkRuns, SeparatesNothing}
+use Rattle.winnow_separated.specs.Separated.{ElementsRun, SeparatedRuns}
 
 -- No element: the first backtracked, and the input is back before it.
 pub record NoElement {S W T O C : Type 0} (run : Runs S T O) (into : Accumulator C O) (s : S × W)
@@ -29,8 +30,8 @@ pub record NoElement {S W T O C : Type 0} (run : Runs S T O) (into : Accumulator
 -- One element or more: links follow the first, until one backtracked; and the input is back before
 -- that link.
 pub record SomeElements {S W T O D C : Type 0} (run : Runs S T O) (separator : Runs W T D)
-    (into : Accumulator C O) (assert_kind : Kind) (s : S × W) (i : Input T) (all : C)
-    (t : S × W) (j : Input T) : Type 0 where
+    (into : Accumulator C O) (s : S × W) (i : Input T) (all : C) (t : S × W)
+    (j : Input T) : Type 0 where
   pub first : O
   pub first_state : S
   pub first_input : Input T
@@ -43,11 +44,10 @@ pub record SomeElements {S W T O D C : Type 0} (run : Runs S T O) (separator : R
   pub outputs : List O
   pub state : S × W
   pub input : Input T
-  pub chain : Items (LinkRuns run separator assert_kind) (first_state, s.1) first_input outputs
-      state input
+  pub chain : Items (LinkRuns run separator) (first_state, s.1) first_input outputs state input
   -- where the link that backtracked left the input
   pub last : Input T
-  pub ended : LinkRuns run separator assert_kind state input (Err backtrack) t last
+  pub ended : LinkFails run separator state input backtrack t last
   pub takes : FoldsTo into.takes one outputs all
   pub back : j ≡ back_at input.left last
 
@@ -56,7 +56,8 @@ pub separated_any_ok : {S W T O D C : Type 0} (run : Runs S T O) (separator : Ru
     (into : Accumulator C O) (assert_kind : Kind) (least : ℕ) (s : S × W) (i : Input T) (all : C)
     (t : S × W) (j : Input T)
     → SeparatedRuns run separator into assert_kind (from_to least None) s i (Ok all) t j
-    → NoElement run into s i all t j ⊎ SomeElements run separator into assert_kind s i all t j
+    → ((least ≡ 0) × NoElement run into s i all t j)
+    ⊎ SomeElements run separator into s i all t j
 separated_any_ok run separator into assert_kind least s i all t j
     (inl (most, is, below, e, a, b)) = none_is_some is
 separated_any_ok run separator into assert_kind least s i all t j
@@ -66,16 +67,20 @@ separated_any_ok {S} {W} {T} {O} {D} {C} run separator into assert_kind least s 
   where
     of_elements : ElementsRun run separator into assert_kind (from_to least None) empty s i
         (Ok all) t j
-        → NoElement run into s i all t j ⊎ SomeElements run separator into assert_kind s i all t j
+        → ((least ≡ 0) × NoElement run into s i all t j)
+        ⊎ SomeElements run separator into s i all t j
     of_elements (inl (none, e, a, b)) = none_is_some none
     of_elements (inr (inl (x, below, needed, r, kept, e, back))) =
-        inl (record {
-          last = x;
-          starts = at_output (λ c. into.starts None c) e starts;
-          ended = r;
-          kept = kept;
-          back = back;
-        })
+        inl (
+          needed,
+          record {
+            last = x;
+            starts = at_output (λ c. into.starts None c) e starts;
+            ended = r;
+            kept = kept;
+            back = back;
+          },
+        )
     of_elements (inr (inr (inl (k, below, r, kept, few, e)))) = ok_is_err refl e
     of_elements (inr (inr (inr (inl (o, below, r, kept, grows, e))))) = ok_is_err refl e
     of_elements (inr (inr (inr (inr (
@@ -86,12 +91,22 @@ separated_any_ok {S} {W} {T} {O} {D} {C} run separator into assert_kind least s 
       below,
       r,
       takes,
-      (outputs, u, m, chain, ends),
+      inr (outputs, u, m, some, chain, room, taken, nothing, e),
+    ))))) = ok_is_err refl e
+    of_elements (inr (inr (inr (inr (
+      o,
+      v,
+      n,
+      one,
+      below,
+      r,
+      takes,
+      inl (outputs, u, m, chain, ends),
     ))))) = inr (of_end ends)
       where
-        of_end : RepeatEnds (LinkRuns run separator assert_kind) into assert_kind
-            (from_to (least - 1) None) one outputs u m (Ok all) t j
-            → SomeElements run separator into assert_kind s i all t j
+        of_end : RepeatEnds (LinkRuns run separator) into assert_kind (from_to (least - 1) None) one
+            outputs u m (Ok all) t j
+            → SomeElements run separator into s i all t j
         of_end (inl (c, full, taken, e, a, b)) = none_is_some full
         of_end (inr (inl (c, last, room, enough, ran, taken, e, back))) =
             record {
@@ -125,9 +140,14 @@ SeparatedFailure {S} {W} {T} {O} {D} {C} run separator into assert_kind least s 
     (run s.0 i (Err k) t.0 j × (k ≡ backtrack → 0 < least))
     -- there is no memory for it
     ⊎ (((o : O) × (empty : C) × run s.0 i (Ok o) t.0 j × into.grows empty o × (k ≡ memory))
-    -- behind it, a link
-    ⊎ ((o : O) × (v : S) × (n : Input T) × run s.0 i (Ok o) v n
-    × RepeatedTo (LinkRuns run separator assert_kind) into assert_kind (v, s.1) n k t j))
+    -- behind it and some links, one that fails and does not backtrack, or one too many for the
+    -- memory
+    ⊎ (((o : O) × (v : S) × (n : Input T) × run s.0 i (Ok o) v n
+    × RepeatedTo (LinkRuns run separator) into assert_kind (v, s.1) n k t j)
+    -- or a separator that consumes nothing
+    ⊎ ((o : O) × (v : S) × (n : Input T) × (outputs : List O) × (u : S × W) × (m : Input T)
+    × run s.0 i (Ok o) v n × Items (LinkRuns run separator) (v, s.1) n outputs u m
+    × SeparatesNothing separator u m t j × (k ≡ assert_kind))))
 
 -- an error of any number of elements, or of one and more, where the accumulator is made without
 -- memory
@@ -144,7 +164,7 @@ separated_any_err {S} {W} {T} {O} {D} {C} run separator into assert_kind least s
     (inr (inr (empty, within, starts, elements))) = of_elements elements
   where
     link : Runs (S × W) T O
-    link = LinkRuns run separator assert_kind
+    link = LinkRuns run separator
 
     of_end : (one : C) (outputs : List O) (u : S × W) (m : Input T)
         → RepeatEnds link into assert_kind (from_to (least - 1) None) one outputs u m (Err k) t j
@@ -178,8 +198,8 @@ separated_any_err {S} {W} {T} {O} {D} {C} run separator into assert_kind least s
       below,
       r,
       takes,
-      (outputs, u, m, chain, ends),
-    ))))) = inr (inr (
+      inl (outputs, u, m, chain, ends),
+    ))))) = inr (inr (inl (
       o,
       v,
       n,
@@ -191,49 +211,17 @@ separated_any_err {S} {W} {T} {O} {D} {C} run separator into assert_kind least s
         chain = chain.runs;
         failure = of_end one outputs u m ends;
       },
-    ))
-
--- a link that succeeded: its separator did, and consumed, and then the element behind it
-pub link_ok : {S W T O D : Type 0} (run : Runs S T O) (separator : Runs W T D)
-    (assert_kind : Kind) (s : S × W) (i : Input T) (o : O) (t : S × W) (j : Input T)
-    → LinkRuns run separator assert_kind s i (Ok o) t j
-    → (d : D) × (m : Input T) × separator s.1 i (Ok d) t.1 m
-    × (length m.left.tokens < length i.left.tokens) × run s.0 m (Ok o) t.0 j
-link_ok run separator assert_kind s i o t j (inl (k, r, same, e)) = ok_is_err refl e
-link_ok run separator assert_kind s i o t j (inr (inl (d, r, nothing, same, e))) =
-    ok_is_err refl e
-link_ok run separator assert_kind s i o t j (inr (inr (d, m, r, consumes, q))) =
-    (d, m, r, consumes, q)
-
--- a link that failed: its separator did, or consumed nothing, or the element behind it failed
-pub link_err : {S W T O D : Type 0} (run : Runs S T O) (separator : Runs W T D)
-    (assert_kind : Kind) (s : S × W) (i : Input T) (k : Kind) (t : S × W) (j : Input T)
-    → LinkRuns run separator assert_kind s i (Err k) t j
-    → separator s.1 i (Err k) t.1 j
-    ⊎ (((d : D) × separator s.1 i (Ok d) t.1 j × (j.left.tokens ≡ i.left.tokens)
-    × (k ≡ assert_kind))
-    ⊎ ((d : D) × (m : Input T) × separator s.1 i (Ok d) t.1 m × run s.0 m (Err k) t.0 j))
-link_err run separator assert_kind s i k t j (inl (l, r, same, e)) =
-    inl (at_kind (λ x. separator s.1 i (Err x) t.1 j) e r)
-link_err run separator assert_kind s i k t j (inr (inl (d, r, nothing, same, e))) =
-    inr (inl (d, r, nothing, same_kind e))
-link_err run separator assert_kind s i k t j (inr (inr (d, m, r, consumes, q))) =
-    inr (inr (d, m, r, q))
-
--- a link that backtracked: its separator did, or the element behind it
-pub link_backtracked : {S W T O D : Type 0} (run : Runs S T O) (separator : Runs W T D)
-    (assert_kind : Kind) (s : S × W) (i : Input T) (t : S × W) (j : Input T)
-    → (assert_kind ≡ backtrack → ⊥)
-    → LinkRuns run separator assert_kind s i (Err backtrack) t j
-    → (separator s.1 i (Err backtrack) t.1 j × (t.0 ≡ s.0))
-    ⊎ ((d : D) × (m : Input T) × separator s.1 i (Ok d) t.1 m
-    × run s.0 m (Err backtrack) t.0 j)
-link_backtracked run separator assert_kind s i t j other (inl (k, r, same, e)) =
-    inl (at_kind (λ x. separator s.1 i (Err x) t.1 j) e r, same)
-link_backtracked run separator assert_kind s i t j other (inr (inl (d, r, nothing, same, e))) =
-    absurd (other (sym (same_kind e)))
-link_backtracked run separator assert_kind s i t j other (inr (inr (d, m, r, consumes, q))) =
-    inr (d, m, r, q)
+    )))
+    of_elements (inr (inr (inr (inr (
+      o,
+      v,
+      n,
+      one,
+      below,
+      r,
+      takes,
+      inr (outputs, u, m, some, chain, room, taken, nothing, e),
+    ))))) = inr (inr (inr (o, v, n, outputs, u, m, r, chain.runs, nothing, same_kind e)))
 
 -- the runs of elements by a range that is known
 pub separated_by : {S W T O D C : Type 0} (run : Runs S T O) (separator : Runs W T D)
@@ -252,7 +240,4 @@ pub ruleset known_elements = (
   separated_any_ok,
   separated_any_err,
   separated_by,
-  link_ok,
-  link_err,
-  link_backtracked,
 )

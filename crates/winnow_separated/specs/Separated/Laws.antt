@@ -8,21 +8,26 @@ use Rattle.stream_sets.specs.Accumulator.{Accumulator}
 use Rattle.stream_sets.specs.Range.{Bounds, bounds_of}
 use Rattle.winnow_core.specs.Ends.{back_ends, same_ends}
 use Rattle.winnow_core.specs.Runs.{Runs, LeaveEnds}
-use Rattle.winnow_repeat.specs.Repeat.Laws.{items_end}
-use Rattle.winnow_separated.specs.Separated.{ElementsRun, LinkRuns, RangedElements}
+use Rattle.winnow_repeat.specs.Repeat.Laws.{chain_ends, items_end}
+use Rattle.winnow_separated.specs.Link.{LinkRuns}
+use Rattle.winnow_separated.specs.Link.Laws.{link_ends}
+use Rattle.winnow_separated.specs.Separated.{ElementsRun, LinksRun, RangedElements}
 use Rattle.winnow_separated.specs.Separated.{links_within}
 
 -- links leave an end, where separators and elements do
-pub link_ends : {S W T L O D : Type 0} (reading : Reading T L) (run : Runs S T O)
-    (separator : Runs W T D) (assert_kind : Kind) → LeaveEnds reading run
-    → LeaveEnds reading separator → LeaveEnds reading (LinkRuns run separator assert_kind)
-link_ends reading run separator assert_kind ends between s i answer t j (inl (k, r, same, e)) =
-    between s.1 i (Err k) t.1 j r
-link_ends reading run separator assert_kind ends between s i answer t j
-    (inr (inl (d, r, nothing, same, e))) = between s.1 i (Ok d) t.1 j r
-link_ends reading run separator assert_kind ends between s i answer t j
-    (inr (inr (d, m, r, consumes, q))) =
-    is_end_of_trans (ends s.0 m answer t.0 j q) (between s.1 i (Ok d) t.1 m r)
+links_end : {S W T L O D C : Type 0} (reading : Reading T L) (run : Runs S T O)
+    (separator : Runs W T D) (into : Accumulator C O) (assert_kind : Kind) (bounds : Bounds)
+    (before : C) → LeaveEnds reading run → LeaveEnds reading separator
+    → LeaveEnds reading (LinksRun run separator into assert_kind bounds before)
+links_end reading run separator into assert_kind bounds before ends between s i answer t j
+    (inl items) =
+    items_end reading (LinkRuns run separator) into assert_kind bounds before
+    (link_ends reading run separator ends between) s i answer t j items
+links_end reading run separator into assert_kind bounds before ends between s i answer t j
+    (inr (outputs, u, m, some, chain, below, taken, (d, r, nothing, kept), e)) =
+    is_end_of_trans (between u.1 m (Ok d) t.1 j r)
+    (chain_ends reading (LinkRuns run separator) (link_ends reading run separator ends between)
+    outputs s i u m chain.runs)
 
 elements_end : {S W T L O D C : Type 0} (reading : Reading T L) (run : Runs S T O)
     (separator : Runs W T D) (into : Accumulator C O) (assert_kind : Kind) (bounds : Bounds)
@@ -39,9 +44,8 @@ elements_end reading run separator into assert_kind bounds empty ends between s 
     j (inr (inr (inr (inl (o, below, r, kept, grows, e))))) = ends s.0 i (Ok o) t.0 j r
 elements_end reading run separator into assert_kind bounds empty ends between s i answer t
     j (inr (inr (inr (inr (o, v, n, one, below, r, takes, links))))) =
-    is_end_of_trans (items_end reading (LinkRuns run separator assert_kind) into assert_kind
-    (links_within bounds) one (link_ends reading run separator assert_kind ends
-    between) (v, s.1) n answer t j links) (ends s.0 i (Ok o) v n r)
+    is_end_of_trans (links_end reading run separator into assert_kind (links_within bounds) one ends
+    between (v, s.1) n answer t j links) (ends s.0 i (Ok o) v n r)
 
 -- they leave an end, where elements and separators do
 pub separated_ends : {S W T L O D C : Type 0} (reading : Reading T L) (run : Runs S T O)

@@ -1,7 +1,7 @@
 -- What elements with separators into a list read, where elements and separators read: what the
 -- elements show, in order, and between each two of them what the separator always takes.
 use Rattle.std.specs.Prelude.{◌≡◌, ◌≤◌, ◌-◌, ℕ, List, [], ◌∷◌, ◌++◌, length, Option, Some, None}
-use Rattle.std.specs.Prelude.{Ok}
+use Rattle.std.specs.Prelude.{Ok, Err}
 use Rattle.std.specs.List.{All, join_by}
 use Rattle.std.specs.declared.vec.Vec.{Vec}
 use Rattle.std.proofs.Common.{ap, append_assoc, arith, inl, inr, refl, subst, sym, ◌∙◌}
@@ -15,34 +15,43 @@ use Rattle.stream_sets.specs.Range.{IsWithin, from_to}
 use Rattle.stream_sets.specs.declared.range.Range.{Range}
 use Rattle.winnow_core.specs.Reads.{Reads}
 use Rattle.winnow_core.specs.Runs.{Runs}
-use Rattle.winnow_repeat.specs.Repeat.Reads.{items_again, items_read}
-use Rattle.winnow_separated.specs.Separated.{ElementsRun, LinkRuns, RangedElements, SeparatedRuns}
+use Rattle.winnow_repeat.specs.Repeat.Reads.{chain_reads, items_again, items_read}
+use Rattle.winnow_separated.specs.Link.{LinkFails, LinkRuns}
+use Rattle.winnow_separated.specs.Separated.{ElementsRun, RangedElements, SeparatedRuns}
 use Rattle.winnow_separated.specs.Separated.{one_less}
+
+-- where a link that failed may be run again
+link_again : {S W T O D : Type 0} {run : Runs S T O} {separator : Runs W T D}
+    {known : S → Type 0} {ready : W → Type 0} {shown : O → List T} {between : List T}
+    {P : O → Type 0} {Q : D → Type 0} → Reads run known shown P
+    → Reads separator ready (λ _. between) Q → (s : S × W) (i : Input T) (k : Kind) (t : S × W)
+    (j : Input T) → known s.0 → ready s.1 → LinkFails run separator s i k t j
+    → known t.0 × ready t.1
+link_again {known = known} reads separates s i k t j is able (inl (r, same)) =
+    (subst known (sym same) is, separates.again _ _ _ _ _ able r)
+link_again reads separates s i k t j is able (inr (d, m, r, consumes, q)) =
+    (reads.again _ _ _ _ _ is q, separates.again _ _ _ _ _ able r)
 
 -- a link shows what its separator takes, and what its element shows
 pub link_reads : {S W T O D : Type 0} {run : Runs S T O} {separator : Runs W T D}
     {known : S → Type 0} {ready : W → Type 0} {shown : O → List T} {between : List T}
-    {P : O → Type 0} {Q : D → Type 0} (assert_kind : Kind) → Reads run known shown P
+    {P : O → Type 0} {Q : D → Type 0} → Reads run known shown P
     → Reads separator ready (λ _. between) Q
-    → Reads (LinkRuns run separator assert_kind) (λ s. known s.0 × ready s.1)
-    (λ o. between ++ shown o) P
-link_reads {known = known} {between = between} assert_kind reads separates = record {
-  reads = λ s i o t j is ran. elim ran [
-    | inl (k, r, same, e) ↦ ok_is_err refl e
-    | inr (inl (d, r, nothing, same, e)) ↦ ok_is_err refl e
-    | inr (inr (d, m, r, consumes, q)) ↦
-        let first = separates.reads _ _ _ _ _ is.1 r in
-        let then = reads.reads _ _ _ _ _ is.0 q in
-        (simp append_assoc (first.0 ∙ ap (λ l. between ++ l) then.0), then.1)
-  ];
-  again = λ s i answer t j is ran. elim ran [
-    | inl (k, r, same, e) ↦ (subst known (sym same) is.0, separates.again _ _ _ _ _ is.1 r)
-    | inr (inl (d, r, nothing, same, e))
-        ↦ (subst known (sym same) is.0, separates.again _ _ _ _ _ is.1 r)
-    | inr (inr (d, m, r, consumes, q))
-        ↦ (reads.again _ _ _ _ _ is.0 q, separates.again _ _ _ _ _ is.1 r)
-  ];
-}
+    → Reads (LinkRuns run separator) (λ s. known s.0 × ready s.1) (λ o. between ++ shown o) P
+link_reads {S} {W} {T} {O} {D} {run} {separator} {known} {ready} {shown} {between} {P} {Q} reads
+    separates = record {
+      reads = λ s i o t j is (d, m, r, consumes, q).
+          let first = separates.reads _ _ _ _ _ is.1 r in
+          let then = reads.reads _ _ _ _ _ is.0 q in
+          (simp append_assoc (first.0 ∙ ap (λ l. between ++ l) then.0), then.1);
+      again = again;
+    }
+  where
+    again : (s : S × W) (i : Input T) (answer : Answer O) (t : S × W) (j : Input T)
+        → known s.0 × ready s.1 → LinkRuns run separator s i answer t j → known t.0 × ready t.1
+    again s i (Ok o) t j is (d, m, r, consumes, q) =
+        (reads.again _ _ _ _ _ is.0 q, separates.again _ _ _ _ _ is.1 r)
+    again s i (Err k) t j is fails = link_again reads separates s i k t j is.0 is.1 fails
 
 -- a number of elements within bounds has links within theirs
 links_fit : (least : ℕ) (greatest : Option ℕ) → IsWithin greatest least
@@ -88,12 +97,22 @@ module _ {S W T O D A : Type 0} {run : Runs S T O} {separator : Runs W T D} {kno
       (inr (inr (inl (k, below, r, kept, few, e)))) = ok_is_err refl e
   elements_read least greatest empty s i all t j is able starts within
       (inr (inr (inr (inl (o, below, r, kept, grows, e))))) = ok_is_err refl e
+  elements_read least greatest empty s i all t j is able starts within (inr (inr (inr (inr (
+    o,
+    v,
+    n,
+    one,
+    below,
+    r,
+    takes,
+    inr (outputs, u, m, some, chain, room, taken, nothing, e),
+  ))))) = ok_is_err refl e
   elements_read least greatest empty s i all t j is able starts within
-      (inr (inr (inr (inr (o, v, n, one, below, r, takes, links))))) =
+      (inr (inr (inr (inr (o, v, n, one, below, r, takes, inl links))))) =
       let first = reads.reads _ _ _ _ _ is r in
       let (outputs, made, splits, all_of, enough) =
       items_read assert_kind (least - 1) (one_less greatest) one (v, s.1) n all t j
-      (link_reads assert_kind reads separates) (reads.again _ _ _ _ _ is r, able) links in
+      (link_reads reads separates) (reads.again _ _ _ _ _ is r, able) links in
       let these : all.items ≡ o ∷ outputs =
       made ∙ ap (λ l. l ++ outputs) (takes ∙ ap (λ l. l ++ o ∷ []) starts) in
       let R : List O → Type 0 = λ l. AreElements shown between P least i l j in
@@ -120,9 +139,23 @@ module _ {S W T O D A : Type 0} {run : Runs S T O} {separator : Runs W T D} {kno
         ↦ (reads.again _ _ _ _ _ is r, subst ready (sym kept) able)
     | inr (inr (inr (inl (o, below, r, kept, grows, e))))
         ↦ (reads.again _ _ _ _ _ is r, subst ready (sym kept) able)
-    | inr (inr (inr (inr (o, v, n, one, below, r, takes, links))))
+    | inr (inr (inr (inr (o, v, n, one, below, r, takes, inl links))))
         ↦ items_again list_kept assert_kind (least - 1) (one_less greatest) one (v, s.1) n answer
-        t j (link_reads assert_kind reads separates) (reads.again _ _ _ _ _ is r, able) links
+        t j (link_reads reads separates) (reads.again _ _ _ _ _ is r, able) links
+    | inr (inr (inr (inr (
+      o,
+      v,
+      n,
+      one,
+      below,
+      r,
+      takes,
+      inr (outputs, u, m, some, chain, room, taken, (d, q, nothing, kept), e),
+    )))) ↦
+        let known_links =
+        (chain_reads (link_reads reads separates) outputs (v, s.1) n u m
+        (reads.again _ _ _ _ _ is r, able) chain.runs).2 in
+        (subst known (sym kept) known_links.0, separates.again _ _ _ _ _ known_links.1 q)
   ]
 
   list_reads : (least : ℕ) (greatest : Option ℕ) (s : S × W) (i : Input T) (all : Vec O A)

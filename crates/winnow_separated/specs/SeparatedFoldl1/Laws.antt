@@ -1,30 +1,33 @@
 -- What holds of the runs of elements that are folded to the left.
-use Rattle.std.specs.Prelude.{None, Ok, Err}
+use Rattle.std.specs.Prelude.{Ok, Err}
 use Rattle.std.proofs.Common.{inl, inr}
-use Rattle.streams.specs.Input.{is_end_of_trans}
-use Rattle.streams.specs.Kind.{Kind}
+use Rattle.streams.specs.Input.{Input, IsEndOf, is_end_of_trans}
+use Rattle.streams.specs.Kind.{Kind, backtrack}
 use Rattle.streams.specs.Reading.{Reading}
-use Rattle.stream_sets.specs.Range.{from_to}
+use Rattle.stream_errors.specs.Form.{Answer}
+use Rattle.winnow_core.specs.Ends.{back_ends}
 use Rattle.winnow_core.specs.Runs.{Runs, LeaveEnds}
-use Rattle.winnow_repeat.specs.Fold.Laws.{fold_items_end}
-use Rattle.winnow_separated.specs.SeparatedFoldl1.{JoinsLink, PairLinkRuns, SeparatedFoldl1Runs}
+use Rattle.winnow_repeat.specs.Repeat.Laws.{chain_ends}
+use Rattle.winnow_separated.specs.Link.{PairLinkRuns}
+use Rattle.winnow_separated.specs.Link.Laws.{link_fails_end, pair_link_ends}
+use Rattle.winnow_separated.specs.SeparatedFoldl1.{LinksEnd, SeparatedFoldl1Runs}
 
--- links leave an end, where separators and elements do
-pub pair_link_ends : {S W T L O D : Type 0} (reading : Reading T L) (run : Runs S T O)
-    (separator : Runs W T D) (assert_kind : Kind) → LeaveEnds reading run
-    → LeaveEnds reading separator → LeaveEnds reading (PairLinkRuns run separator assert_kind)
-pair_link_ends reading run separator assert_kind ends between s i answer t j
-    (inl (k, r, same, e)) = between s.1 i (Err k) t.1 j r
-pair_link_ends reading run separator assert_kind ends between s i answer t j
-    (inr (inl (d, r, nothing, same, e))) = between s.1 i (Ok d) t.1 j r
-pair_link_ends reading run separator assert_kind ends between s i answer t j
-    (inr (inr (inl (d, m, k, r, consumes, q, e)))) =
-    is_end_of_trans (ends s.0 m (Err k) t.0 j q) (between s.1 i (Ok d) t.1 m r)
-pair_link_ends reading run separator assert_kind ends between s i answer t j
-    (inr (inr (inr (d, m, o, r, consumes, q, e)))) =
-    is_end_of_trans (ends s.0 m (Ok o) t.0 j q) (between s.1 i (Ok d) t.1 m r)
+-- what ends links leaves an end, where separators and elements do
+links_end : {S W T L O D : Type 0} (reading : Reading T L) (run : Runs S T O)
+    (separator : Runs W T D) (assert_kind : Kind) (value : O) → LeaveEnds reading run
+    → LeaveEnds reading separator → (u : S × W) (m : Input T) (answer : Answer O) (t : S × W)
+    (j : Input T) → LinksEnd run separator assert_kind value u m answer t j → IsEndOf reading j m
+links_end reading run separator assert_kind value ends between u m answer t j
+    (inl (x, fails, e, back)) =
+    back_ends reading m x j back
+    (link_fails_end reading run separator ends between u m backtrack t x fails)
+links_end reading run separator assert_kind value ends between u m answer t j
+    (inr (inl (k, fails, other, e))) =
+    link_fails_end reading run separator ends between u m k t j fails
+links_end reading run separator assert_kind value ends between u m answer t j
+    (inr (inr ((d, r, nothing, kept), e))) = between u.1 m (Ok d) t.1 j r
 
--- and so do the elements with their links
+-- elements with their links leave an end
 pub foldl1_ends : {S W Q T L O D : Type 0} (reading : Reading T L)
     (step : Q → O → D → O → O → Q → Type 0) (run : Runs S T O) (separator : Runs W T D)
     (assert_kind : Kind) → LeaveEnds reading run → LeaveEnds reading separator
@@ -32,8 +35,8 @@ pub foldl1_ends : {S W Q T L O D : Type 0} (reading : Reading T L)
 foldl1_ends reading step run separator assert_kind ends between s i answer t j
     (inl (k, r, kept, stays, e)) = ends s.0 i (Err k) t.0 j r
 foldl1_ends reading step run separator assert_kind ends between s i answer t j
-    (inr (first, v, n, r, links)) =
-    is_end_of_trans (fold_items_end reading (JoinsLink step)
-    (PairLinkRuns run separator assert_kind) assert_kind (from_to 0 None)
-    (pair_link_ends reading run separator assert_kind ends between) ((v, s.1), (s.2, first)) n
-    answer ((t.0, t.1), t.2) j links) (ends s.0 i (Ok first) v n r)
+    (inr (first, v, n, r, (links, u, m, value, chain, folded, ended))) =
+    is_end_of_trans (links_end reading run separator assert_kind value ends between u m answer
+    (t.0, t.1) j ended) (is_end_of_trans (chain_ends reading (PairLinkRuns run separator)
+    (pair_link_ends reading run separator ends between) links (v, s.1) n u m chain.runs)
+    (ends s.0 i (Ok first) v n r))

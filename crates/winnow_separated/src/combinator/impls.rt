@@ -1,5 +1,8 @@
 //! The parsers of the module above, as structs.
-pub(crate) mod separated;
+//!
+//! Written by scripts/registries.py: do not edit.
+pub(crate) mod link;
+mod separated;
 mod separated_foldl1;
 mod separated_foldr1;
 

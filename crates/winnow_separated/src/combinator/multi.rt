@@ -7,7 +7,7 @@ ghost use Rattle.winnow_separated.specs.SeparatedFoldl1.{foldl1_separator};
 ghost use Rattle.winnow_separated.specs.SeparatedFoldr1.{foldr1_closure, foldr1_parser};
 ghost use Rattle.winnow_separated.specs.SeparatedFoldr1.{foldr1_separator};
 
-use crate::combinator::impls::separated::Link;
+use crate::combinator::impls::link::Link;
 use crate::combinator::impls::{Separated, SeparatedFoldl1, SeparatedFoldr1};
 use std::alloc::Allocator;
 use std::marker::PhantomData;
@@ -23,8 +23,9 @@ use winnow_core::parser::Parser;
 /// It ends before a separator that backtracks, or whose element backtracks, where there are enough
 /// elements; before the first element, where that backtracks and none is needed. What fails too
 /// early, or by another kind, is handed on. Each separator must consume, else it is an assert
-/// error; elements need not. A count of 0 reads nothing. A greatest count below the least is an
-/// assert error, and nothing is run. Memory is taken by the accumulator alone.
+/// error, and never the end, also where an assert error backtracks; elements need not. A count of 0
+/// reads nothing. A greatest count below the least is an assert error, and nothing is run. Memory
+/// is taken by the accumulator alone.
 ///
 /// Known as `separated_list0` and `separated_list1` in nom.
 ///
@@ -53,11 +54,7 @@ where
     Separated {
         alloc,
         occurrences,
-        link: Link {
-            parser,
-            separator,
-            output: PhantomData,
-        },
+        link: Link { parser, separator },
         marker: PhantomData,
     }
 }
@@ -67,7 +64,8 @@ where
 ///
 /// It ends before a separator that backtracks, or whose element backtracks. A first element that
 /// fails, and other failures, are handed on. Each separator must consume, else it is an assert
-/// error; elements need not. It takes no memory.
+/// error, and never the end, also where an assert error backtracks; elements need not. It takes no
+/// memory.
 ///
 /// Known as `chainl1` elsewhere.
 ///

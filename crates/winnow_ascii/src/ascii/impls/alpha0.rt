@@ -18,8 +18,8 @@ use winnow_core::parser::Parser;
 
 /// The parser [`alpha0`](crate::ascii::alpha0).
 ///
-/// ```text
-/// Alpha0.parse_next(&mut b"ab1".as_slice())   is Ok(b"ab"), and b"1" is left
+/// ```
+/// assert_eq!(rt; Alpha0.parse_peek("ab1"), Ok::<_, EmptyError>(("1", "ab")));
 /// ```
 #[derive(Clone, Copy, Debug, PartialEq, Eq)]
 pub struct Alpha0;

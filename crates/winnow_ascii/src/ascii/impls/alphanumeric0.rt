@@ -18,8 +18,8 @@ use winnow_core::parser::Parser;
 
 /// The parser [`alphanumeric0`](crate::ascii::alphanumeric0).
 ///
-/// ```text
-/// Alphanumeric0.parse_next(&mut b"a1;".as_slice())   is Ok(b"a1"), and b";" is left
+/// ```
+/// assert_eq!(rt; Alphanumeric0.parse_peek("a1;"), Ok::<_, EmptyError>((";", "a1")));
 /// ```
 #[derive(Clone, Copy, Debug, PartialEq, Eq)]
 pub struct Alphanumeric0;

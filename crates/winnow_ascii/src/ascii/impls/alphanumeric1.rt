@@ -18,8 +18,8 @@ use winnow_core::parser::Parser;
 
 /// The parser [`alphanumeric1`](crate::ascii::alphanumeric1).
 ///
-/// ```text
-/// Alphanumeric1.parse_next(&mut b"a1;".as_slice())   is Ok(b"a1"), and b";" is left
+/// ```
+/// assert_eq!(rt; Alphanumeric1.parse_peek("a1;"), Ok::<_, EmptyError>((";", "a1")));
 /// ```
 #[derive(Clone, Copy, Debug, PartialEq, Eq)]
 pub struct Alphanumeric1;

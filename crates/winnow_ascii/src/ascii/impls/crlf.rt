@@ -15,8 +15,8 @@ use winnow_core::parser::Parser;
 
 /// The parser [`crlf`](crate::ascii::crlf).
 ///
-/// ```text
-/// Crlf.parse_next(&mut b"\r\na".as_slice())   is Ok(b"\r\n"), and b"a" is left
+/// ```
+/// assert_eq!(rt; Crlf.parse_peek("\r\na"), Ok::<_, EmptyError>(("a", "\r\n")));
 /// ```
 #[derive(Clone, Copy, Debug, PartialEq, Eq)]
 pub struct Crlf;

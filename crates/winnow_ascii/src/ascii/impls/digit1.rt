@@ -18,8 +18,8 @@ use winnow_core::parser::Parser;
 
 /// The parser [`digit1`](crate::ascii::digit1).
 ///
-/// ```text
-/// Digit1.parse_next(&mut b"12;".as_slice())   is Ok(b"12"), and b";" is left
+/// ```
+/// assert_eq!(rt; Digit1.parse_peek("12;"), Ok::<_, EmptyError>((";", "12")));
 /// ```
 #[derive(Clone, Copy, Debug, PartialEq, Eq)]
 pub struct Digit1;

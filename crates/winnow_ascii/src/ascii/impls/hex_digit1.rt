@@ -18,8 +18,8 @@ use winnow_core::parser::Parser;
 
 /// The parser [`hex_digit1`](crate::ascii::hex_digit1).
 ///
-/// ```text
-/// HexDigit1.parse_next(&mut b"1fAg".as_slice())   is Ok(b"1fA"), and b"g" is left
+/// ```
+/// assert_eq!(rt; HexDigit1.parse_peek("1fAg"), Ok::<_, EmptyError>(("g", "1fA")));
 /// ```
 #[derive(Clone, Copy, Debug, PartialEq, Eq)]
 pub struct HexDigit1;

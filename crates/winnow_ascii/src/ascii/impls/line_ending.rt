@@ -15,8 +15,8 @@ use winnow_core::parser::Parser;
 
 /// The parser [`line_ending`](crate::ascii::line_ending).
 ///
-/// ```text
-/// LineEnding.parse_next(&mut b"\na".as_slice())   is Ok(b"\n"), and b"a" is left
+/// ```
+/// assert_eq!(rt; LineEnding.parse_peek("\na"), Ok::<_, EmptyError>(("a", "\n")));
 /// ```
 #[derive(Clone, Copy, Debug, PartialEq, Eq)]
 pub struct LineEnding;

@@ -18,8 +18,8 @@ use winnow_core::parser::Parser;
 
 /// The parser [`multispace1`](crate::ascii::multispace1).
 ///
-/// ```text
-/// Multispace1.parse_next(&mut b" \na".as_slice())   is Ok(b" \n"), and b"a" is left
+/// ```
+/// assert_eq!(rt; Multispace1.parse_peek(" \na"), Ok::<_, EmptyError>(("a", " \n")));
 /// ```
 #[derive(Clone, Copy, Debug, PartialEq, Eq)]
 pub struct Multispace1;

@@ -15,8 +15,8 @@ use winnow_core::parser::Parser;
 
 /// The parser [`newline`](crate::ascii::newline).
 ///
-/// ```text
-/// Newline.parse_next(&mut b"\na".as_slice())   is Ok('\n'), and b"a" is left
+/// ```
+/// assert_eq!(rt; Newline.parse_peek("\na"), Ok::<_, EmptyError>(("a", '\n')));
 /// ```
 #[derive(Clone, Copy, Debug, PartialEq, Eq)]
 pub struct Newline;

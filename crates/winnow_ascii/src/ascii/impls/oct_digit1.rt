@@ -18,8 +18,8 @@ use winnow_core::parser::Parser;
 
 /// The parser [`oct_digit1`](crate::ascii::oct_digit1).
 ///
-/// ```text
-/// OctDigit1.parse_next(&mut b"178".as_slice())   is Ok(b"17"), and b"8" is left
+/// ```
+/// assert_eq!(rt; OctDigit1.parse_peek("178"), Ok::<_, EmptyError>(("8", "17")));
 /// ```
 #[derive(Clone, Copy, Debug, PartialEq, Eq)]
 pub struct OctDigit1;

@@ -18,8 +18,8 @@ use winnow_core::parser::Parser;
 
 /// The parser [`space1`](crate::ascii::space1).
 ///
-/// ```text
-/// Space1.parse_next(&mut b" \ta".as_slice())   is Ok(b" \t"), and b"a" is left
+/// ```
+/// assert_eq!(rt; Space1.parse_peek(" \ta"), Ok::<_, EmptyError>(("a", " \t")));
 /// ```
 #[derive(Clone, Copy, Debug, PartialEq, Eq)]
 pub struct Space1;

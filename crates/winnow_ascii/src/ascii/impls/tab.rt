@@ -15,8 +15,8 @@ use winnow_core::parser::Parser;
 
 /// The parser [`tab`](crate::ascii::tab).
 ///
-/// ```text
-/// Tab.parse_next(&mut b"\ta".as_slice())   is Ok('\t'), and b"a" is left
+/// ```
+/// assert_eq!(rt; Tab.parse_peek("\ta"), Ok::<_, EmptyError>(("a", '\t')));
 /// ```
 #[derive(Clone, Copy, Debug, PartialEq, Eq)]
 pub struct Tab;

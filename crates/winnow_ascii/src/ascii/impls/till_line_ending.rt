@@ -18,8 +18,8 @@ use winnow_core::parser::Parser;
 
 /// The parser [`till_line_ending`](crate::ascii::till_line_ending).
 ///
-/// ```text
-/// TillLineEnding.parse_next(&mut b"ab\n".as_slice())   is Ok(b"ab"), and b"\n" is left
+/// ```
+/// assert_eq!(rt; TillLineEnding.parse_peek("ab\n"), Ok::<_, EmptyError>(("\n", "ab")));
 /// ```
 #[derive(Clone, Copy, Debug, PartialEq, Eq)]
 pub struct TillLineEnding;

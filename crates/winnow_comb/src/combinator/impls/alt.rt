@@ -17,8 +17,10 @@ use winnow_core::parser::Parser;
 /// Branches that [`alt`](crate::combinator::alt) chooses among: a tuple of one to six parsers, or
 /// an array or a mutable slice of parsers of one type.
 ///
-/// ```text
-/// (b'a', b'b').choice(&mut b"b".as_slice())   is Ok(b'b'), and nothing is left
+/// ```
+/// let mut input = "b";
+/// assert_eq!(rt; ('a', 'b').choice(&mut input), Ok::<_, EmptyError>('b'));
+/// assert_eq!(rt; input, "");
 /// ```
 pub trait Alt<I: Stream, O, E: ParserError<I>> {
     // The states in which the branches may be run: closures in them may be called.
@@ -48,8 +50,9 @@ pub trait Alt<I: Stream, O, E: ParserError<I>> {
 
 /// The parser that [`alt`](crate::combinator::alt) makes.
 ///
-/// ```text
-/// alt((b'a', b'b'))   is an AltParser<(u8, u8), _, _, _>
+/// ```
+/// let mut parser: AltParser<_, _, _, _> = alt(('a', 'b'));
+/// assert_eq!(rt; parser.parse_peek("ba"), Ok::<_, EmptyError>(("a", 'b')));
 /// ```
 #[derive(Drop)]
 pub struct AltParser<A, I, O, E> {

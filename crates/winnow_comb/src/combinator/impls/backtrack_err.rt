@@ -12,8 +12,9 @@ use winnow_core::parser::Parser;
 
 /// The parser that [`backtrack_err`](crate::combinator::backtrack_err) makes.
 ///
-/// ```text
-/// backtrack_err(b'a')   is a BacktrackErr<u8, _, _, _>
+/// ```
+/// let mut parser: BacktrackErr<_, _, _, _> = backtrack_err('a');
+/// assert_eq!(rt; parser.parse_peek("ab"), Ok::<_, ErrMode<EmptyError>>(("b", 'a')));
 /// ```
 #[derive(Drop)]
 pub struct BacktrackErr<P, I, O, E> {

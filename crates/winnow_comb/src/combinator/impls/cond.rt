@@ -12,8 +12,9 @@ use winnow_core::parser::Parser;
 
 /// The parser that [`cond`](crate::combinator::cond) makes.
 ///
-/// ```text
-/// cond(true, b'a')   is a Cond<u8, _, _, _>
+/// ```
+/// let mut parser: Cond<_, _, _, _> = cond(true, 'a');
+/// assert_eq!(rt; parser.parse_peek("ab"), Ok::<_, EmptyError>(("b", Some('a'))));
 /// ```
 #[derive(Drop)]
 pub struct Cond<P, I, O, E> {

@@ -12,8 +12,9 @@ use winnow_core::parser::Parser;
 
 /// The parser that [`cut_err`](crate::combinator::cut_err) makes.
 ///
-/// ```text
-/// cut_err(b'a')   is a CutErr<u8, _, _, _>
+/// ```
+/// let mut parser: CutErr<_, _, _, _> = cut_err('a');
+/// assert_eq!(rt; parser.parse_peek("ab"), Ok::<_, ErrMode<EmptyError>>(("b", 'a')));
 /// ```
 #[derive(Drop)]
 pub struct CutErr<P, I, O, E> {

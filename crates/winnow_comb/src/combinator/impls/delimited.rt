@@ -11,8 +11,9 @@ use winnow_core::parser::Parser;
 
 /// The parser that [`delimited`](crate::combinator::delimited) makes.
 ///
-/// ```text
-/// delimited(b'(', b'a', b')')   is a Delimited<u8, u8, u8, _, _, _, _, _>
+/// ```
+/// let mut parser: Delimited<_, _, _, _, _, _, _, _> = delimited('(', 'a', ')');
+/// assert_eq!(rt; parser.parse_peek("(a)"), Ok::<_, EmptyError>(("", 'a')));
 /// ```
 #[derive(Drop)]
 pub struct Delimited<P1, P2, P3, I, O1, O2, O3, E> {

@@ -14,8 +14,9 @@ use winnow_core::parser::Parser;
 
 /// The parser [`empty`](crate::combinator::empty).
 ///
-/// ```text
-/// (b'a', Empty).parse_next(&mut b"a".as_slice())   is Ok((b'a', ()))
+/// ```
+/// let mut input = "a";
+/// assert_eq!(rt; ('a', Empty).parse_next(&mut input), Ok::<_, EmptyError>(('a', ())));
 /// ```
 #[derive(Clone, Copy, Debug, PartialEq, Eq)]
 pub struct Empty;

@@ -14,8 +14,9 @@ use winnow_core::parser::Parser;
 
 /// The parser [`fail`](crate::combinator::fail).
 ///
-/// ```text
-/// opt((b'a', Fail)).parse_next(&mut b"a".as_slice())   is Ok(None)
+/// ```
+/// let none: Option<(char, u8)> = None;
+/// assert_eq!(rt; opt(('a', Fail)).parse_peek("a"), Ok::<_, EmptyError>(("a", none)));
 /// ```
 #[derive(Clone, Copy, Debug, PartialEq, Eq)]
 pub struct Fail;

@@ -11,8 +11,9 @@ use winnow_core::parser::Parser;
 
 /// The parser that [`not`](crate::combinator::not) makes.
 ///
-/// ```text
-/// not(b'a')   is a Not<u8, _, _, _>
+/// ```
+/// let mut parser: Not<_, _, _, _> = not('a');
+/// assert_eq!(rt; parser.parse_peek("b"), Ok::<_, EmptyError>(("b", ())));
 /// ```
 #[derive(Drop)]
 pub struct Not<P, I, O, E> {

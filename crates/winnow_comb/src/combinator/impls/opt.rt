@@ -11,8 +11,9 @@ use winnow_core::parser::Parser;
 
 /// The parser that [`opt`](crate::combinator::opt) makes.
 ///
-/// ```text
-/// opt(b'a')   is an Opt<u8, _, _, _>
+/// ```
+/// let mut parser: Opt<_, _, _, _> = opt('a');
+/// assert_eq!(rt; parser.parse_peek("b"), Ok::<_, EmptyError>(("b", None)));
 /// ```
 #[derive(Drop)]
 pub struct Opt<P, I, O, E> {

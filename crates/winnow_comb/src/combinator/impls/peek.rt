@@ -11,8 +11,9 @@ use winnow_core::parser::Parser;
 
 /// The parser that [`peek`](crate::combinator::peek) makes.
 ///
-/// ```text
-/// peek(b'a')   is a Peek<u8, _, _, _>
+/// ```
+/// let mut parser: Peek<_, _, _, _> = peek('a');
+/// assert_eq!(rt; parser.parse_peek("ab"), Ok::<_, EmptyError>(("ab", 'a')));
 /// ```
 #[derive(Drop)]
 pub struct Peek<P, I, O, E> {

@@ -11,8 +11,9 @@ use winnow_core::parser::Parser;
 
 /// The parser that [`preceded`](crate::combinator::preceded) makes.
 ///
-/// ```text
-/// preceded(b'(', b'a')   is a Preceded<u8, u8, _, _, _, _>
+/// ```
+/// let mut parser: Preceded<_, _, _, _, _, _> = preceded('(', 'a');
+/// assert_eq!(rt; parser.parse_peek("(a"), Ok::<_, EmptyError>(("", 'a')));
 /// ```
 #[derive(Drop)]
 pub struct Preceded<P1, P2, I, O1, O2, E> {

@@ -11,8 +11,9 @@ use winnow_core::parser::Parser;
 
 /// The parser that [`separated_pair`](crate::combinator::separated_pair) makes.
 ///
-/// ```text
-/// separated_pair(b'a', b'=', b'b')   is a SeparatedPair<u8, u8, u8, _, _, _, _, _>
+/// ```
+/// let mut parser: SeparatedPair<_, _, _, _, _, _, _, _> = separated_pair('a', '=', 'b');
+/// assert_eq!(rt; parser.parse_peek("a=b"), Ok::<_, EmptyError>(("", ('a', 'b'))));
 /// ```
 #[derive(Drop)]
 pub struct SeparatedPair<P1, P2, P3, I, O1, O2, O3, E> {

@@ -11,8 +11,9 @@ use winnow_core::parser::Parser;
 
 /// The parser that [`terminated`](crate::combinator::terminated) makes.
 ///
-/// ```text
-/// terminated(b'a', b';')   is a Terminated<u8, u8, _, _, _, _>
+/// ```
+/// let mut parser: Terminated<_, _, _, _, _, _> = terminated('a', ';');
+/// assert_eq!(rt; parser.parse_peek("a;b"), Ok::<_, EmptyError>(("b", 'a')));
 /// ```
 #[derive(Drop)]
 pub struct Terminated<P1, P2, I, O1, O2, E> {

@@ -1,6 +1,6 @@
 //! Outputs that another parser reads.
 ghost use Rattle.std.specs.Prelude.{◌≡◌};
-ghost use Rattle.winnow_core.specs.Agrees.Sizes.{agrees2};
+ghost use Rattle.winnow_core.specs.Agrees.{agrees_with};
 ghost use Rattle.winnow_core.specs.AndThen.{AndThenSettles, AndThenRuns, and_then_inner};
 ghost use Rattle.winnow_core.specs.AndThen.{and_then_outer};
 ghost use Rattle.winnow_core.specs.Settles.Laws.{settles_ends};
@@ -72,20 +72,21 @@ impl<
     }
 }
 
+// The inner parser reads the same stream in both, an output; so it is one parser under one type of
+// errors.
 impl<
-    P: AgreesWith<I, O, E, Q, J, F>,
-    Q: Parser<J, O, F>,
-    G: AgreesWith<O, O2, E, H, O, F>,
-    H: Parser<O, O2, F>,
+    P: AgreesWith<I, O, E, Q, J, E>,
+    Q: Parser<J, O, E>,
+    G: Parser<O, O2, E>,
     I: Stream,
     J: Stream<Token = I::Token, Seen = I::Seen, Slice = I::Slice>,
     O: StreamIsPartial + Drop,
     O2,
-    E: ParserError<I> + ParserError<O>,
-    F: ParserError<J> + ParserError<O>,
-> AgreesWith<I, O2, E, AndThen<Q, H, J, O, O2, F>, J, F> for AndThen<P, G, I, O, O2, E> {
-    ghost like = { λ p q. P.like p.outer q.outer × G.like p.inner q.inner };
+    E: ParserError<I> + ParserError<J> + ParserError<O>,
+> AgreesWith<I, O2, E, AndThen<Q, G, J, O, O2, E>, J, E> for AndThen<P, G, I, O, O2, E> {
+    ghost like = { λ p q. P.like p.outer q.outer × (G.state p.inner ≡ G.state q.inner) };
 
-    ghost agrees = { agrees2 (λ p. p.outer) (λ q. q.outer) (λ p. p.inner) (λ q. q.inner)
-        (λ X Y m n form. AndThenRuns O.view (m form) (n form)) P.agrees G.agrees };
+    ghost agrees = { agrees_with (λ p. p.outer) (λ q. q.outer) (λ p. G.state p.inner)
+        (λ q. G.state q.inner)
+        (λ X m form. AndThenRuns O.view (m form) (G.meaning form)) P.agrees };
 }

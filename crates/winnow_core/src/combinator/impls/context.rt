@@ -1,6 +1,6 @@
 //! Errors that are told what was being parsed.
-ghost use Rattle.std.specs.Prelude.{Bool};
 ghost use Rattle.std.specs.Prelude.{◌≡◌};
+ghost use Rattle.stream_errors.specs.Given.{Keeping};
 ghost use Rattle.winnow_core.specs.Agrees.{agrees_with};
 ghost use Rattle.winnow_core.specs.Context.{ContextBecomes, ContextRuns, context_parser};
 ghost use Rattle.winnow_core.specs.Context.{context_told};
@@ -52,14 +52,14 @@ impl<
 > Parser<I, O, E> for Context<F, I, O, E, C, A> {
     ghost can_parse = { λ s. F.can_parse s.parser };
 
-    ghost State = { F.State × (C × Bool) };
+    ghost State = { F.State × (C × (C → Keeping)) };
 
-    ghost state = { λ s. (F.state s.parser, (s.context, E.context_grows)) };
+    ghost state = { λ s. (F.state s.parser, (s.context, E.context_gives)) };
 
-    ghost meaning = { λ form. ContextRuns C.is_infallible (F.meaning form) };
+    ghost meaning = { λ form. ContextRuns C.is_clone C.is_infallible (F.meaning form) };
 
     ghost leaves_ends = { λ form. makes_error_ends I.reading
-        (ContextBecomes C.is_infallible) (F.meaning form)
+        (ContextBecomes C.is_clone C.is_infallible) (F.meaning form)
         (F.leaves_ends form) };
 
     #[inline]
@@ -93,9 +93,10 @@ impl<
     A: Allocator + Copy,
 > AgreesWith<I, O, E, Context<Q, J, O, F, C, A>, J, F> for Context<P, I, O, E, C, A> {
     ghost like = { λ p q. P.like p.parser q.parser
-        × (◌≡◌ {A = C × Bool} (p.context, E.context_grows) (q.context, F.context_grows)) };
+        × (◌≡◌ {A = C × (C → Keeping)} (p.context, E.context_gives)
+        (q.context, F.context_gives)) };
 
     ghost agrees = { agrees_with (λ p. p.parser) (λ q. q.parser)
-        (λ p. (p.context, E.context_grows)) (λ q. (q.context, F.context_grows))
-        (λ X m form. ContextRuns C.is_infallible (m form)) P.agrees };
+        (λ p. (p.context, E.context_gives)) (λ q. (q.context, F.context_gives))
+        (λ X m form. ContextRuns C.is_clone C.is_infallible (m form)) P.agrees };
 }

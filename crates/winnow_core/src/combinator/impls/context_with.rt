@@ -1,7 +1,7 @@
 //! Errors that are told what was being parsed by a closure.
 ghost use Rattle.std.specs.Iterator.{IsFinite};
-ghost use Rattle.std.specs.Prelude.{Bool};
 ghost use Rattle.std.specs.Prelude.{◌≡◌};
+ghost use Rattle.stream_errors.specs.Given.{Keeping};
 ghost use Rattle.winnow_core.specs.Agrees.{agrees_with};
 ghost use Rattle.winnow_core.specs.ContextWith.{ContextWithBecomes, ContextWithRuns};
 ghost use Rattle.winnow_core.specs.ContextWith.{context_with_closure, context_with_parser};
@@ -57,14 +57,14 @@ impl<
         × ((items : FI) → F.post s.context items
         → FI.can_next items × IsFinite (FI.remaining items)) };
 
-    ghost State = { P.State × (F × Bool) };
+    ghost State = { P.State × (F × (C → Keeping)) };
 
-    ghost state = { λ s. (P.state s.parser, (s.context, E.context_grows)) };
+    ghost state = { λ s. (P.state s.parser, (s.context, E.context_gives)) };
 
-    ghost meaning = { λ form. ContextWithRuns (P.meaning form) };
+    ghost meaning = { λ form. ContextWithRuns F.post FI.next_gives (P.meaning form) };
 
     ghost leaves_ends = { λ form. makes_error_ends I.reading
-        ContextWithBecomes (P.meaning form)
+        (ContextWithBecomes F.post FI.next_gives) (P.meaning form)
         (P.leaves_ends form) };
 
     #[inline]
@@ -98,11 +98,12 @@ impl<
 > AgreesWith<I, O, D, ContextWith<Q, J, O, E, F, C, FI, A>, J, E>
     for ContextWith<P, I, O, D, F, C, FI, A> {
     ghost like = { λ p q. P.like p.parser q.parser
-        × (◌≡◌ {A = F × Bool} (p.context, D.context_grows) (q.context, E.context_grows)) };
+        × (◌≡◌ {A = F × (C → Keeping)} (p.context, D.context_gives)
+        (q.context, E.context_gives)) };
 
     ghost agrees = { agrees_with (λ p. p.parser) (λ q. q.parser)
-        (λ p. (p.context, D.context_grows)) (λ q. (q.context, E.context_grows))
-        (λ X m form. ContextWithRuns (m form)) P.agrees };
+        (λ p. (p.context, D.context_gives)) (λ q. (q.context, E.context_gives))
+        (λ X m form. ContextWithRuns F.post FI.next_gives (m form)) P.agrees };
 
     fn agree() {}
 }

@@ -1,6 +1,6 @@
 //! Outputs made of outputs by a closure that may fail.
-ghost use Rattle.std.specs.Prelude.{Bool};
 ghost use Rattle.std.specs.Prelude.{◌≡◌};
+ghost use Rattle.stream_errors.specs.Given.{Keeping};
 ghost use Rattle.winnow_core.specs.Agrees.{agrees_with};
 ghost use Rattle.winnow_core.specs.Settles.Laws.{settles_ends};
 ghost use Rattle.winnow_core.specs.TryMap.{TryMapSettles, TryMapRuns, try_map_closure};
@@ -50,9 +50,9 @@ impl<
 > Parser<I, O2, E> for TryMap<F, G, I, O, O2, E, E2> {
     ghost can_parse = { λ s. F.can_parse s.parser × G.IsAlwaysCallable s.map };
 
-    ghost State = { F.State × (G × Bool) };
+    ghost State = { F.State × (G × (E2 → Keeping)) };
 
-    ghost state = { λ s. (F.state s.parser, (s.map, E.external_grows)) };
+    ghost state = { λ s. (F.state s.parser, (s.map, E.external_gives)) };
 
     ghost meaning = { λ form. TryMapRuns G.step (F.meaning form) };
 
@@ -87,10 +87,10 @@ impl<
     E2,
 > AgreesWith<I, O2, E, TryMap<Q, G, J, O, O2, F, E2>, J, F> for TryMap<P, G, I, O, O2, E, E2> {
     ghost like = { λ p q. P.like p.parser q.parser
-        × (◌≡◌ {A = G × Bool} (p.map, E.external_grows) (q.map, F.external_grows)) };
+        × (◌≡◌ {A = G × (E2 → Keeping)} (p.map, E.external_gives) (q.map, F.external_gives)) };
 
     ghost agrees = { agrees_with (λ p. p.parser) (λ q. q.parser)
-        (λ p. (p.map, E.external_grows)) (λ q. (q.map, F.external_grows))
+        (λ p. (p.map, E.external_gives)) (λ q. (q.map, F.external_gives))
         (λ X m form. TryMapRuns G.step (m form)) P.agrees };
 
     fn agree() {}

@@ -16,8 +16,8 @@ use winnow_core::parser::Parser;
 
 /// The parser [`dec_int`](crate::ascii::dec_int), of each type of output.
 ///
-/// ```text
-/// DecInt.parse_next(&mut b"-12;".as_slice())   is Ok(-12_i8), and b";" is left
+/// ```
+/// assert_eq!(rt; DecInt.parse_peek("-12;"), Ok::<_, EmptyError>((";", -12_i8)));
 /// ```
 #[derive(Clone, Copy, Debug, PartialEq, Eq)]
 pub struct DecInt;

@@ -16,8 +16,8 @@ use winnow_core::parser::Parser;
 
 /// The parser [`dec_uint`](crate::ascii::dec_uint), of each type of output.
 ///
-/// ```text
-/// DecUint.parse_next(&mut b"12;".as_slice())   is Ok(12_u8), and b";" is left
+/// ```
+/// assert_eq!(rt; DecUint.parse_peek("12;"), Ok::<_, EmptyError>((";", 12_u8)));
 /// ```
 #[derive(Clone, Copy, Debug, PartialEq, Eq)]
 pub struct DecUint;

@@ -1,11 +1,13 @@
 //! Hexadecimal numbers.
-ghost use Rattle.std.specs.Prelude.{⊤};
+ghost use Rattle.std.proofs.Common.{arith};
+ghost use Rattle.std.specs.Prelude.{◌≡◌, ◌+◌, ◌*◌, ◌^◌, ◌<◌, ℕ, ⊤};
 ghost use Rattle.winnow_numbers.specs.HexUint.{HexUintRuns};
 ghost use Rattle.winnow_numbers.specs.HexUint.Laws.{hex_uint_alike, hex_uint_ends};
 ghost use Rattle.winnow_core.specs.Agrees.{agrees_plain};
 ghost use Rattle.winnow_core.specs.Runs.{Keeps};
 
-use crate::ascii::{HexUint, hex_uint};
+use crate::ascii::hex_uint;
+use crate::ascii::impls::hex_uint::sealed::SealedMarker;
 use stream_errors::parser_error::ParserError;
 use stream_sets::as_bstr::{AsBStr, SlicesAsBytes};
 use stream_sets::as_char::AsChar;
@@ -14,10 +16,166 @@ use streams::stream::{Stream, StreamIsPartial};
 use winnow_core::agrees_with::AgreesWith;
 use winnow_core::parser::Parser;
 
+pub(crate) mod sealed {
+    /// What only this crate can pass to [`max_nibbles`](crate::ascii::impls::HexUint::max_nibbles).
+    #[derive(Clone, Copy)]
+    pub struct SealedMarker;
+}
+
+/// The unsigned numbers that [`hex_uint`](crate::ascii::hex_uint) parses.
+///
+/// ```
+/// assert_eq!(rt; 0xA_u8.push_nibble(0xB), 0xAB);
+/// ```
+pub trait HexUint: Default {
+    // The number of a value.
+    ghost number: { Self → ℕ };
+
+    // So many hexadecimal digits always fit, and no more do.
+    ghost nibbles: { ℕ };
+
+    /// How many hexadecimal digits the type holds: 2, 4, 8, 16, 32, and 16 of `usize`.
+    fn max_nibbles(_marker: SealedMarker) -> usize
+        ensures { result ≡ nibbles };
+
+    /// The number times 16, plus a digit. The caller owes a digit below 16, and that the result
+    /// fits.
+    fn push_nibble(self, nibble: u8) -> Self
+        requires digit { nibble < 16 }
+        requires fits { 16 * number self + nibble < 16 ^ nibbles }
+        ensures { number result ≡ 16 * number self + nibble };
+
+    // A type holds some digit.
+    ghost holds_some: { 0 < nibbles };
+
+    // The default is 0.
+    ghost starts_at_zero: { (n : Self) → Self.is_default n → number n ≡ 0 };
+}
+
+impl HexUint for u8 {
+    ghost number = { λ n. n };
+
+    ghost nibbles = { 2 };
+
+    #[inline(always)]
+    fn max_nibbles(_marker: SealedMarker) -> usize {
+        2
+    }
+
+    #[inline(always)]
+    fn push_nibble(self, nibble: u8) -> u8 {
+        16 * self + nibble
+    }
+
+    ghost holds_some = { Prim.omega arith };
+
+    ghost starts_at_zero = { λ n zero. zero };
+}
+
+impl HexUint for u16 {
+    ghost number = { λ n. n };
+
+    ghost nibbles = { 4 };
+
+    #[inline(always)]
+    fn max_nibbles(_marker: SealedMarker) -> usize {
+        4
+    }
+
+    #[inline(always)]
+    fn push_nibble(self, nibble: u8) -> u16 {
+        16 * self + u16::from(nibble)
+    }
+
+    ghost holds_some = { Prim.omega arith };
+
+    ghost starts_at_zero = { λ n zero. zero };
+}
+
+impl HexUint for u32 {
+    ghost number = { λ n. n };
+
+    ghost nibbles = { 8 };
+
+    #[inline(always)]
+    fn max_nibbles(_marker: SealedMarker) -> usize {
+        8
+    }
+
+    #[inline(always)]
+    fn push_nibble(self, nibble: u8) -> u32 {
+        16 * self + u32::from(nibble)
+    }
+
+    ghost holds_some = { Prim.omega arith };
+
+    ghost starts_at_zero = { λ n zero. zero };
+}
+
+impl HexUint for u64 {
+    ghost number = { λ n. n };
+
+    ghost nibbles = { 16 };
+
+    #[inline(always)]
+    fn max_nibbles(_marker: SealedMarker) -> usize {
+        16
+    }
+
+    #[inline(always)]
+    fn push_nibble(self, nibble: u8) -> u64 {
+        16 * self + u64::from(nibble)
+    }
+
+    ghost holds_some = { Prim.omega arith };
+
+    ghost starts_at_zero = { λ n zero. zero };
+}
+
+impl HexUint for u128 {
+    ghost number = { λ n. n };
+
+    ghost nibbles = { 32 };
+
+    #[inline(always)]
+    fn max_nibbles(_marker: SealedMarker) -> usize {
+        32
+    }
+
+    #[inline(always)]
+    fn push_nibble(self, nibble: u8) -> u128 {
+        16 * self + u128::from(nibble)
+    }
+
+    ghost holds_some = { Prim.omega arith };
+
+    ghost starts_at_zero = { λ n zero. zero };
+}
+
+impl HexUint for usize {
+    ghost number = { λ n. n };
+
+    ghost nibbles = { 16 };
+
+    #[inline(always)]
+    fn max_nibbles(_marker: SealedMarker) -> usize {
+        16
+    }
+
+    #[inline(always)]
+    fn push_nibble(self, nibble: u8) -> usize {
+        16 * self + usize::from(nibble)
+    }
+
+    ghost holds_some = { Prim.omega arith };
+
+    ghost starts_at_zero = { λ n zero. zero };
+}
+
 /// The parser [`hex_uint`](crate::ascii::hex_uint), of each type of output.
 ///
-/// ```text
-/// HexUintParser.parse_next(&mut b"fA;".as_slice())   is Ok(0xFA_u8), and b";" is left
+/// ```
+/// assert_eq!(rt; HexUintParser.parse_peek("fA;"), Ok::<_, EmptyError>((";", 0xFA_u8)));
 /// ```
 #[derive(Clone, Copy, Debug, PartialEq, Eq)]
 pub struct HexUintParser;

@@ -1,7 +1,7 @@
 //! Repetition whose outputs are folded into a value by a closure that may fail.
-ghost use Rattle.std.specs.Prelude.{◌≡◌, Bool, IsTrue};
+ghost use Rattle.std.specs.Prelude.{◌≡◌};
 ghost use Rattle.stream_errors.specs.Form.{assert_kind};
-ghost use Rattle.stream_errors.specs.Join.{IsOrMemory};
+ghost use Rattle.stream_errors.specs.Given.{Keeping, KindGiven};
 ghost use Rattle.stream_sets.specs.declared.range.Range.{Range};
 ghost use Rattle.streams.specs.Kind.{backtrack};
 ghost use Rattle.winnow_repeat.specs.Fold.Laws.{ranged_fold_many_ends};
@@ -38,13 +38,13 @@ impl<
 
     ghost can_fold = { λ s. H.IsAlwaysCallable s.closure };
 
-    ghost State = { H × Bool };
+    ghost State = { H × (X → Keeping) };
 
-    ghost state = { λ s. (s.closure, E.external_grows) };
+    ghost state = { λ s. (s.closure, E.external_gives) };
 
     ghost folds = { TryFoldTakes H.step };
 
-    ghost refuses = { λ _ k. IsOrMemory backtrack (IsTrue E.external_grows) k };
+    ghost refuses = { λ refusal k. KindGiven (E.external_gives refusal) backtrack k };
 
     #[inline(always)]
     fn fold(&mut self, value: R, output: O) -> Result<R, X> {
@@ -111,10 +111,10 @@ impl<
     ghost can_parse = { λ s. P.can_parse s.parser × G.IsAlwaysCallable s.init
         × H.IsAlwaysCallable s.op.closure };
 
-    ghost State = { P.State × (Range × (G × (H × Bool))) };
+    ghost State = { P.State × (Range × (G × (H × (X → Keeping)))) };
 
     ghost state = { λ s.
-        (P.state s.parser, (s.occurrences, (s.init, (s.op.closure, E.external_grows)))) };
+        (P.state s.parser, (s.occurrences, (s.init, (s.op.closure, E.external_gives)))) };
 
     ghost meaning = { λ form. TryFoldRuns G.step H.step (P.meaning form) (assert_kind form) };
 
@@ -147,12 +147,12 @@ impl<
 > AgreesWith<I, R, E, RepeatTryFold<Q, G, H, J, O, R, F, X>, J, F>
     for RepeatTryFold<P, G, H, I, O, R, E, X> {
     ghost like = { λ p q. P.like p.parser q.parser
-        × (◌≡◌ {A = Range × (G × (H × Bool))}
-        (p.occurrences, (p.init, (p.op.closure, E.external_grows)))
-        (q.occurrences, (q.init, (q.op.closure, F.external_grows)))) };
+        × (◌≡◌ {A = Range × (G × (H × (X → Keeping)))}
+        (p.occurrences, (p.init, (p.op.closure, E.external_gives)))
+        (q.occurrences, (q.init, (q.op.closure, F.external_gives)))) };
 
     ghost agrees = { agrees_with (λ p. p.parser) (λ q. q.parser)
-        (λ p. (p.occurrences, (p.init, (p.op.closure, E.external_grows))))
-        (λ q. (q.occurrences, (q.init, (q.op.closure, F.external_grows))))
+        (λ p. (p.occurrences, (p.init, (p.op.closure, E.external_gives))))
+        (λ q. (q.occurrences, (q.init, (q.op.closure, F.external_gives))))
         (λ X m form. TryFoldRuns G.step H.step (m form) (assert_kind form)) P.agrees };
 }

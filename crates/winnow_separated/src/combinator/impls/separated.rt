@@ -4,11 +4,12 @@ ghost use Rattle.stream_errors.specs.Form.{answer_by, assert_kind};
 ghost use Rattle.stream_sets.specs.Range.{IsWithin, from_to};
 ghost use Rattle.stream_sets.specs.declared.range.Range.{Range};
 ghost use Rattle.streams.specs.Input.{IsEndOf};
-ghost use Rattle.winnow_separated.specs.Separated.{ElementsRun, LinkRuns, RangedElements};
+ghost use Rattle.winnow_separated.specs.Separated.{ElementsRun, LinksRun, RangedElements};
 ghost use Rattle.winnow_separated.specs.Separated.{SeparatedRuns};
-ghost use Rattle.winnow_separated.specs.Separated.Laws.{link_ends, separated_ends};
+ghost use Rattle.winnow_separated.specs.Separated.Laws.{separated_ends};
 ghost use Rattle.winnow_core.specs.Agrees.Beside.{agrees2_with};
 
+use crate::combinator::impls::link::Link;
 use std::alloc::Allocator;
 use std::marker::PhantomData;
 use stream_errors::parser_error::ParserError;
@@ -17,7 +18,7 @@ use stream_sets::range::Range;
 use streams::stream::Stream;
 use winnow_core::agrees_with::AgreesWith;
 use winnow_core::parser::Parser;
-use winnow_repeat::combinator::items::{is_descending, repeat_items};
+use winnow_repeat::combinator::items::is_descending;
 
 /// The parser that [`separated`](crate::combinator::separated) makes.
 ///
@@ -28,43 +29,8 @@ use winnow_repeat::combinator::items::{is_descending, repeat_items};
 pub struct Separated<P, S, I, O, D, C, E, A> {
     pub(crate) alloc: A,
     pub(crate) occurrences: Range,
-    pub(crate) link: Link<P, S, D>,
-    pub(crate) marker: PhantomData<(I, O, C, E)>,
-}
-
-/// A separator, which must consume, and an element.
-#[derive(Drop)]
-pub(crate) struct Link<P, S, D> {
-    pub(crate) parser: P,
-    pub(crate) separator: S,
-    pub(crate) output: PhantomData<D>,
-}
-
-impl<P: Parser<I, O, E>, S: Parser<I, D, E>, I: Stream, O, D: Drop, E: ParserError<I>> Parser<
-    I,
-    O,
-    E,
-> for Link<P, S, D> {
-    ghost can_parse = { λ s. P.can_parse s.parser × S.can_parse s.separator };
-
-    ghost State = { P.State × S.State };
-
-    ghost state = { λ s. (P.state s.parser, S.state s.separator) };
-
-    ghost meaning = { λ form. LinkRuns (P.meaning form) (S.meaning form) (assert_kind form) };
-
-    ghost leaves_ends = { λ form. link_ends I.reading (P.meaning form) (S.meaning form)
-        (assert_kind form) (P.leaves_ends form) (S.leaves_ends form) };
-
-    #[inline]
-    fn parse_next(&mut self, input: &mut I) -> Result<O, E> {
-        let left = input.eof_offset();
-        let _separator = self.separator.parse_next(input)?;
-        if input.eof_offset() == left {
-            return Err(E::assert(input, "each separator must consume"));
-        }
-        self.parser.parse_next(input)
-    }
+    pub(crate) link: Link<P, S>,
+    pub(crate) marker: PhantomData<(I, O, D, C, E)>,
 }
 
 impl<
@@ -135,7 +101,7 @@ fn separated_many<
     alloc: A,
     least: usize,
     greatest: Option<usize>,
-    link: &mut Link<P, S, D>,
+    link: &mut Link<P, S>,
     input: &mut I,
 ) -> Result<C, E>
     requires parser { P.can_parse link.old.parser }
@@ -172,7 +138,7 @@ fn separated_elements<
     all: C,
     least: usize,
     greatest: Option<usize>,
-    link: &mut Link<P, S, D>,
+    link: &mut Link<P, S>,
     input: &mut I,
 ) -> Result<C, E>
     requires parser { P.can_parse link.old.parser }
@@ -196,7 +162,7 @@ fn separated_elements<
             match all.accumulate(output) {
                 Ok(()) => {
                     let room = greatest.map(|n: usize| n.saturating_sub(1));
-                    repeat_items(all, least.saturating_sub(1), room, link, input)
+                    separated_links(all, least.saturating_sub(1), room, link, input)
                 }
                 Err(_) => Err(E::no_memory(input)),
             }
@@ -207,6 +173,56 @@ fn separated_elements<
                 return Ok(all);
             }
             Err(error)
+        }
+    }
+}
+
+/// Reads links into an accumulator, at least `missing` and at most `room`.
+fn separated_links<
+    P: Parser<I, O, E>,
+    S: Parser<I, D, E>,
+    I: Stream,
+    O: Drop,
+    D: Drop,
+    C: Accumulate<O, A>,
+    E: ParserError<I>,
+    A: Allocator + Copy,
+>(all: C, missing: usize, room: Option<usize>, link: &mut Link<P, S>, input: &mut I) -> Result<C, E>
+    requires parser { P.can_parse link.old.parser }
+    requires separator { S.can_parse link.old.separator }
+    ensures again { P.can_parse link.new.parser × S.can_parse link.new.separator }
+    ensures ran { LinksRun (P.meaning E.form) (S.meaning E.form) C.accumulator
+        (assert_kind E.form) (from_to missing room) all
+        (P.state link.old.parser, S.state link.old.separator) (I.view input.old)
+        (answer_by E.kind result) (P.state link.new.parser, S.state link.new.separator)
+        (I.view input.new) }
+    ensures ends { IsEndOf I.reading (I.view input.new) (I.view input.old) }
+{
+    let mut all = all;
+    let mut missing = missing;
+    let mut room = room;
+    'links: loop {
+        if room == Some(0) {
+            return Ok(all);
+        }
+        let start = input.checkpoint();
+        match link.run(input) {
+            Ok(Some((_separator, output))) => {
+                match all.accumulate(output) {
+                    Ok(()) => {}
+                    Err(_) => return Err(E::no_memory(input)),
+                }
+                missing = missing.saturating_sub(1);
+                room = room.map(|n: usize| n.saturating_sub(1));
+            }
+            Ok(None) => return Err(E::assert(input, "each separator must consume")),
+            Err(error) => {
+                if missing == 0 && error.is_backtrack() {
+                    input.reset(&start);
+                    return Ok(all);
+                }
+                return Err(error);
+            }
         }
     }
 }

@@ -1,20 +1,19 @@
 //! Elements with separators between them, folded to the left.
 ghost use Rattle.std.specs.Prelude.{◌≡◌};
-ghost use Rattle.stream_errors.specs.Form.{assert_kind};
-ghost use Rattle.streams.specs.Kind.{backtrack};
-ghost use Rattle.winnow_separated.specs.SeparatedFoldl1.{JoinsLink, PairLinkRuns};
-ghost use Rattle.winnow_separated.specs.SeparatedFoldl1.{SeparatedFoldl1Runs};
+ghost use Rattle.stream_errors.specs.Form.{answer_by, assert_kind};
+ghost use Rattle.streams.specs.Input.{IsEndOf};
+ghost use Rattle.winnow_separated.specs.SeparatedFoldl1.{JoinedLinksRun, SeparatedFoldl1Runs};
 ghost use Rattle.winnow_separated.specs.SeparatedFoldl1.{foldl1_closure, foldl1_parser};
 ghost use Rattle.winnow_separated.specs.SeparatedFoldl1.{foldl1_separator};
-ghost use Rattle.winnow_separated.specs.SeparatedFoldl1.Laws.{foldl1_ends, pair_link_ends};
+ghost use Rattle.winnow_separated.specs.SeparatedFoldl1.Laws.{foldl1_ends};
 ghost use Rattle.winnow_core.specs.Agrees.Beside.{agrees2_with};
 
+use crate::combinator::impls::link::Link;
 use std::marker::PhantomData;
 use stream_errors::parser_error::ParserError;
 use streams::stream::Stream;
 use winnow_core::agrees_with::AgreesWith;
 use winnow_core::parser::Parser;
-use winnow_repeat::combinator::folding::{Folding, fold_items};
 
 /// The parser that [`separated_foldl1`](crate::combinator::separated_foldl1) makes.
 ///
@@ -24,8 +23,8 @@ use winnow_repeat::combinator::folding::{Folding, fold_items};
 /// ```
 #[derive(Drop)]
 pub struct SeparatedFoldl1<P, S, H, I, O, D, E> {
-    pub(crate) link: PairLink<P, S>,
-    pub(crate) op: Joins<H>,
+    pub(crate) link: Link<P, S>,
+    pub(crate) op: H,
     pub(crate) marker: PhantomData<(I, O, D, E)>,
 }
 
@@ -37,76 +36,10 @@ impl<P, S, H, I, O, D, E> SeparatedFoldl1<P, S, H, I, O, D, E> {
         ensures op { foldl1_closure result ≡ op }
     {
         SeparatedFoldl1 {
-            link: PairLink { parser, separator },
-            op: Joins { closure: op },
+            link: Link { parser, separator },
+            op,
             marker: PhantomData,
         }
-    }
-}
-
-/// A separator, which must consume, and an element.
-#[derive(Drop)]
-pub(crate) struct PairLink<P, S> {
-    pub(crate) parser: P,
-    pub(crate) separator: S,
-}
-
-impl<P: Parser<I, O, E>, S: Parser<I, D, E>, I: Stream, O, D: Drop, E: ParserError<I>> Parser<
-    I,
-    (D, O),
-    E,
-> for PairLink<P, S> {
-    ghost can_parse = { λ s. P.can_parse s.parser × S.can_parse s.separator };
-
-    ghost State = { P.State × S.State };
-
-    ghost state = { λ s. (P.state s.parser, S.state s.separator) };
-
-    ghost meaning = { λ form. PairLinkRuns (P.meaning form) (S.meaning form) (assert_kind form) };
-
-    ghost leaves_ends = { λ form. pair_link_ends I.reading (P.meaning form) (S.meaning form)
-        (assert_kind form) (P.leaves_ends form) (S.leaves_ends form) };
-
-    #[inline]
-    fn parse_next(&mut self, input: &mut I) -> Result<(D, O), E> {
-        let left = input.eof_offset();
-        let separator = self.separator.parse_next(input)?;
-        if input.eof_offset() == left {
-            return Err(E::assert(input, "each separator must consume"));
-        }
-        let element = self.parser.parse_next(input)?;
-        Ok((separator, element))
-    }
-}
-
-/// A closure that joins the value so far, a separator and the element behind it.
-#[derive(Drop)]
-pub(crate) struct Joins<H> {
-    pub(crate) closure: H,
-}
-
-impl<H: FnMut(O, D, O) -> O, I: Stream, O, D, E: ParserError<I>> Folding<I, (D, O), O, E>
-    for Joins<H> {
-    type Refusal = ();
-
-    ghost can_fold = { λ s. H.IsAlwaysCallable s.closure };
-
-    ghost State = { H };
-
-    ghost state = { λ s. s.closure };
-
-    ghost folds = { JoinsLink H.step };
-
-    ghost refuses = { λ _ k. k ≡ backtrack };
-
-    #[inline(always)]
-    fn fold(&mut self, value: O, output: (D, O)) -> Result<O, ()> {
-        Ok((self.closure)(value, output.0, output.1))
-    }
-
-    #[inline(always)]
-    fn error(_refusal: (), input: &I) -> E {
-        E::from_input(input)
     }
 }
 
@@ -120,11 +53,11 @@ impl<
     E: ParserError<I>,
 > Parser<I, O, E> for SeparatedFoldl1<P, S, H, I, O, D, E> {
     ghost can_parse = { λ s. P.can_parse s.link.parser × S.can_parse s.link.separator
-        × H.IsAlwaysCallable s.op.closure };
+        × H.IsAlwaysCallable s.op };
 
     ghost State = { P.State × S.State × H };
 
-    ghost state = { λ s. (P.state s.link.parser, S.state s.link.separator, s.op.closure) };
+    ghost state = { λ s. (P.state s.link.parser, S.state s.link.separator, s.op) };
 
     ghost meaning = { λ form. SeparatedFoldl1Runs H.step (P.meaning form) (S.meaning form)
         (assert_kind form) };
@@ -134,7 +67,7 @@ impl<
 
     fn parse_next(&mut self, input: &mut I) -> Result<O, E> {
         let first = self.link.parser.parse_next(input)?;
-        fold_items(first, 0, None, &mut self.link, &mut self.op, input)
+        join_left(first, &mut self.link, &mut self.op, input)
     }
 }
 
@@ -153,11 +86,50 @@ impl<
 > AgreesWith<I, O, E, SeparatedFoldl1<Q, W, H, J, O, D, F>, J, F>
     for SeparatedFoldl1<P, S, H, I, O, D, E> {
     ghost like = { λ p q. P.like p.link.parser q.link.parser
-        × S.like p.link.separator q.link.separator × (p.op.closure ≡ q.op.closure) };
+        × S.like p.link.separator q.link.separator × (p.op ≡ q.op) };
 
     ghost agrees = { agrees2_with (λ p. p.link.parser) (λ q. q.link.parser)
-        (λ p. p.link.separator) (λ q. q.link.separator) (λ p. p.op.closure)
-        (λ q. q.op.closure)
+        (λ p. p.link.separator) (λ q. q.link.separator) (λ p. p.op)
+        (λ q. q.op)
         (λ X Y m n form. SeparatedFoldl1Runs H.step (m form) (n form) (assert_kind form))
         P.agrees S.agrees };
+}
+
+/// Joins links to a first element, each as it is read, until one backtracks.
+fn join_left<
+    P: Parser<I, O, E>,
+    S: Parser<I, D, E>,
+    H: FnMut(O, D, O) -> O,
+    I: Stream,
+    O: Drop,
+    D: Drop,
+    E: ParserError<I>,
+>(first: O, link: &mut Link<P, S>, op: &mut H, input: &mut I) -> Result<O, E>
+    requires parser { P.can_parse link.old.parser }
+    requires separator { S.can_parse link.old.separator }
+    requires op { H.IsAlwaysCallable op.old }
+    ensures again { P.can_parse link.new.parser × S.can_parse link.new.separator
+        × H.IsAlwaysCallable op.new }
+    ensures ran { JoinedLinksRun H.step (P.meaning E.form) (S.meaning E.form)
+        (assert_kind E.form) first
+        (P.state link.old.parser, S.state link.old.separator, op.old) (I.view input.old)
+        (answer_by E.kind result)
+        (P.state link.new.parser, S.state link.new.separator, op.new) (I.view input.new) }
+    ensures ends { IsEndOf I.reading (I.view input.new) (I.view input.old) }
+{
+    let mut value = first;
+    'links: loop {
+        let start = input.checkpoint();
+        match link.run(input) {
+            Ok(Some((separator, element))) => value = op(value, separator, element),
+            Ok(None) => return Err(E::assert(input, "each separator must consume")),
+            Err(error) => {
+                if error.is_backtrack() {
+                    input.reset(&start);
+                    return Ok(value);
+                }
+                return Err(error);
+            }
+        }
+    }
 }

@@ -14,8 +14,9 @@ use winnow_core::parser::Parser;
 
 /// The parser [`any`](crate::token::any).
 ///
-/// ```text
-/// (Any, b'b').parse_next(&mut b"ab".as_slice())   is Ok((b'a', b'b'))
+/// ```
+/// let mut input = "ab";
+/// assert_eq!(rt; (Any, 'b').parse_next(&mut input), Ok::<_, EmptyError>(('a', 'b')));
 /// ```
 #[derive(Clone, Copy, Debug, PartialEq, Eq)]
 pub struct Any;

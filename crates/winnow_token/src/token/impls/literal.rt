@@ -16,8 +16,9 @@ use winnow_core::parser::Parser;
 
 /// The parser that [`literal`](crate::token::literal) makes.
 ///
-/// ```text
-/// literal(b'a')   is a Literal<u8, _, _>
+/// ```
+/// let mut parser: Literal<_, _, _> = literal('a');
+/// assert_eq!(rt; parser.parse_peek("ab"), Ok::<_, EmptyError>(("b", "a")));
 /// ```
 #[derive(Drop)]
 pub struct Literal<T, I, E> {

@@ -17,8 +17,9 @@ use winnow_core::parser::Parser;
 
 /// The parser that [`none_of`](crate::token::none_of) makes.
 ///
-/// ```text
-/// none_of(b'a')   is a NoneOf<u8, _, _>
+/// ```
+/// let mut parser: NoneOf<_, _, _> = none_of('a');
+/// assert_eq!(rt; parser.parse_peek("b;"), Ok::<_, EmptyError>((";", 'b')));
 /// ```
 #[derive(Drop)]
 pub struct NoneOf<S, I, E> {

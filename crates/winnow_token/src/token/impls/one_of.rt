@@ -16,8 +16,9 @@ use winnow_core::parser::Parser;
 
 /// The parser that [`one_of`](crate::token::one_of) makes.
 ///
-/// ```text
-/// one_of(b'a')   is a OneOf<u8, _, _>
+/// ```
+/// let mut parser: OneOf<_, _, _> = one_of('a');
+/// assert_eq!(rt; parser.parse_peek("ab"), Ok::<_, EmptyError>(("b", 'a')));
 /// ```
 #[derive(Drop)]
 pub struct OneOf<S, I, E> {

@@ -14,8 +14,9 @@ use winnow_core::parser::Parser;
 
 /// The parser [`rest`](crate::token::rest).
 ///
-/// ```text
-/// (b'a', Rest).parse_next(&mut b"abc".as_slice())   is Ok((b'a', b"bc"))
+/// ```
+/// let mut input = "abc";
+/// assert_eq!(rt; ('a', Rest).parse_next(&mut input), Ok::<_, EmptyError>(('a', "bc")));
 /// ```
 #[derive(Clone, Copy, Debug, PartialEq, Eq)]
 pub struct Rest;

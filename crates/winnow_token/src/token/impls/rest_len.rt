@@ -15,8 +15,9 @@ use winnow_core::parser::Parser;
 
 /// The parser [`rest_len`](crate::token::rest_len).
 ///
-/// ```text
-/// (b'a', RestLen).parse_next(&mut b"abc".as_slice())   is Ok((b'a', 2))
+/// ```
+/// let mut input = "abc";
+/// assert_eq!(rt; ('a', RestLen).parse_next(&mut input), Ok::<_, EmptyError>(('a', 2)));
 /// ```
 #[derive(Clone, Copy, Debug, PartialEq, Eq)]
 pub struct RestLen;

@@ -15,8 +15,9 @@ use winnow_core::short::short;
 
 /// The parser that [`take`](crate::token::take) makes.
 ///
-/// ```text
-/// take(3u8)   is a Take<_, _>
+/// ```
+/// let mut parser: Take<_, _> = take(3u8);
+/// assert_eq!(rt; parser.parse_peek("abcd"), Ok::<_, EmptyError>(("d", "abc")));
 /// ```
 #[derive(Drop)]
 pub struct Take<I, E> {

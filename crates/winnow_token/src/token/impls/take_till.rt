@@ -20,8 +20,9 @@ use winnow_core::parser::Parser;
 
 /// The parser that [`take_till`](crate::token::take_till) makes.
 ///
-/// ```text
-/// take_till(Range::from(0..), b';')   is a TakeTill<u8, _, _>
+/// ```
+/// let mut parser: TakeTill<_, _, _> = take_till(Range::from(0..), ';');
+/// assert_eq!(rt; parser.parse_peek("ab;"), Ok::<_, EmptyError>((";", "ab")));
 /// ```
 #[derive(Drop)]
 pub struct TakeTill<S, I, E> {

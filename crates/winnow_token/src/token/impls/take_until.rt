@@ -19,8 +19,9 @@ use winnow_core::parser::Parser;
 
 /// The parser that [`take_until`](crate::token::take_until) makes.
 ///
-/// ```text
-/// take_until(Range::from(0..), b';')   is a TakeUntil<u8, _, _>
+/// ```
+/// let mut parser: TakeUntil<_, _, _> = take_until(Range::from(0..), ';');
+/// assert_eq!(rt; parser.parse_peek("ab;"), Ok::<_, EmptyError>((";", "ab")));
 /// ```
 #[derive(Drop)]
 pub struct TakeUntil<T, I, E> {

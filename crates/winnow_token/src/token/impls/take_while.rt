@@ -20,8 +20,9 @@ use winnow_core::parser::Parser;
 
 /// The parser that [`take_while`](crate::token::take_while) makes.
 ///
-/// ```text
-/// take_while(Range::from(0..), b' ')   is a TakeWhile<u8, _, _>
+/// ```
+/// let mut parser: TakeWhile<_, _, _> = take_while(Range::from(0..), ' ');
+/// assert_eq!(rt; parser.parse_peek("  a"), Ok::<_, EmptyError>(("a", "  ")));
 /// ```
 #[derive(Drop)]
 pub struct TakeWhile<S, I, E> {

@@ -8,7 +8,7 @@ returns-clause-ran g c =
       _,
       _,
       c.in_ok-output.ensures.ran,
-      (refl, inr (c.in-Err.error, _, c.in-Err.ensures, c.from_external_error.ensures, refl)),
+      (refl, inr (c.in-Err.error, _, c.in-Err.ensures, c.from_external_error.ensures.given, refl)),
       refl,
       search rules depth 1,
     ))

@@ -1,5 +1,0 @@
-//! The rows that the parsers of tokens and of classes of characters are tested by.
-#![tactic(auto)]
-
-#[cfg(test)]
-mod rows;

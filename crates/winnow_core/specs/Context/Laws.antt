@@ -1,0 +1,28 @@
+-- What one context leaves of the kind of an error.
+use Rattle.std.specs.Prelude.{◌≡◌, ◌⊎◌, IsSome, None}
+use Rattle.std.proofs.Common.{inl, inr, refl}
+use Rattle.streams.specs.Kind.{ErrorForm, Kind}
+use Rattle.stream_errors.specs.Form.{need_of_kind}
+use Rattle.stream_errors.specs.Given.{Keeping, KeepsContext, KindGiven}
+use Rattle.winnow_core.specs.Context.{ContextBecomes}
+
+-- An incomplete error keeps none, and stays; each other keeps it, or was refused memory.
+abbrev pub Told : Keeping → Kind → Kind → Type 0
+Told keeping k l =
+    (IsSome (need_of_kind k) × (l ≡ k)) ⊎ ((need_of_kind k ≡ None) × KindGiven keeping k l)
+
+-- so says the type of errors
+pub is_told : (form : ErrorForm) (keeping : Keeping) (k l : Kind) → KeepsContext form keeping k l
+    → Told keeping k l
+is_told form keeping k l (inl (is, some, same)) = inl (some, same)
+is_told form keeping k l (inr given) = inr given
+
+-- an error that was told a clone
+pub becomes_told : {C : Type 0} (IsClone : C → C → Type 0) (ClonesAlways : C → Type 0)
+    (context : C) (gives : C → Keeping) (copy : C) (k l : Kind) → IsClone context copy
+    → Told (gives copy) k l
+    → ContextBecomes IsClone ClonesAlways (context, gives) k l (context, gives)
+becomes_told IsClone ClonesAlways context gives copy k l is (inl (some, same)) =
+    (refl, inl (some, same))
+becomes_told IsClone ClonesAlways context gives copy k l is (inr (none, given)) =
+    (refl, inr (inl (copy, none, is, given)))

@@ -1,0 +1,32 @@
+"""Lays the library into another folder, for what is run over it."""
+import shutil
+
+from registry.common import CRATES, TOP, below_winnow, read
+
+
+def library(*above):
+    """The lines of `crates.txt` that name the library's crates, lowest first, and these above."""
+    lines = {}
+    for line in read(TOP / "crates.txt").splitlines():
+        name, colon, _ = line.partition(":")
+        if colon and not line.startswith("#"):
+            lines[name.strip()] = line
+    return {name: lines[name] for name in [*below_winnow(), "winnow", *above]}
+
+
+def copy_crate(name, folder):
+    """Copies what a crate is made of: its code, specs and proofs."""
+    for part in ("src", "specs", "proofs"):
+        if (CRATES / name / part).is_dir():
+            shutil.copytree(CRATES / name / part, folder / name / part)
+
+
+def lay(room, others, above=()):
+    """Lays the library into a folder, with these crates above it, and names other crates, by what
+    each stands on, behind it."""
+    lines = library(*above)
+    for name in lines:
+        copy_crate(name, room / "crates")
+    lines |= {name: f"{name}: {' '.join(on)}" for name, on in others.items()}
+    (room / "crates.txt").write_text("\n".join(lines.values()) + "\n", encoding="utf-8")
+    shutil.copyfile(TOP / "HANDLES", room / "HANDLES")

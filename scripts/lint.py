@@ -1,0 +1,73 @@
+#!/usr/bin/env python3
+"""Names the faults of documentation comments:
+
+    python3 scripts/lint.py
+
+The comment of each public item, `///` in a crate's `src/`, begins with a capital letter or a code
+span, ends its first paragraph as a sentence, and names each other name of the item once ("Known as
+`tag` in nom"). Every public item of the library has one. It fails where a comment has a fault.
+"""
+import pathlib
+import re
+import sys
+
+sys.path.insert(0, str(pathlib.Path(__file__).resolve().parent))
+from registry.common import CRATES, TOP, below_winnow, read  # noqa: E402
+
+ITEM = re.compile(r"\s*(?:pub |final )+(?:const fn|fn|struct|trait|enum|const|type)\s+(\w+)")
+ATTRIBUTE = re.compile(r"\s*#\[")
+
+
+def comments(path):
+    """The documentation of the public items of a file: the first line's number, the item and the
+    lines of the comment."""
+    comment, start = [], 0
+    for number, line in enumerate(read(path).splitlines(), 1):
+        text = line.strip()
+        if text.startswith("///"):
+            start = start if comment else number
+            comment.append(text[3:].strip())
+        elif item := ITEM.match(line):
+            yield (start if comment else number), item[1], comment
+            comment = []
+        elif not ATTRIBUTE.match(line):
+            if comment and re.match(r"fn \w+", text):
+                yield start, re.match(r"fn (\w+)", text)[1], comment
+            comment = []
+
+
+def aliases(text):
+    """The other names that a comment says an item is known by."""
+    for sentence in re.findall(r"Known as (.*?)\.(?= |$)", text):
+        yield from re.findall(r"`(\w+)`", sentence)
+
+
+def faults(comment):
+    """What is wrong with a comment, in words."""
+    prose = " ".join(comment).partition("```")[0]
+    if not re.match(r"[A-Z]|\[?`", prose):
+        yield "begins in mid-sentence"
+    paragraph = " ".join(comment[: comment.index("")] if "" in comment else comment)
+    if not paragraph.rstrip().endswith((".", ":")):
+        yield "does not end its first paragraph as a sentence"
+    names = list(aliases(" ".join(comment)))
+    for name in sorted({it for it in names if names.count(it) > 1}):
+        yield f"names `{name}` twice"
+
+
+def main():
+    wrong = 0
+    library = {*below_winnow(), "winnow"}
+    for path in sorted(CRATES.glob("*/src/**/*.rt")):
+        is_library = path.relative_to(CRATES).parts[0] in library
+        for number, item, comment in comments(path):
+            found = list(faults(comment)) if comment else ["has no documentation"] * is_library
+            for fault in found:
+                wrong += 1
+                print(f"{path.relative_to(TOP)}:{number}: {item} {fault}")
+    print(f"{wrong} faults of documentation")
+    return 1 if wrong else 0
+
+
+if __name__ == "__main__":
+    sys.exit(main())

@@ -1,0 +1,149 @@
+#!/usr/bin/env python3
+"""Lays out the files of a new parser:
+
+    ./x new leaf FILE NAME          as `./x new leaf crates/winnow_token/src/token.rt word`
+    ./x new combinator FILE NAME
+
+FILE is the one that gets the function NAME. The templates are two parsers of the library under the
+new name, `any` for a leaf and `opt` for a combinator, with their proofs: so what is laid out is
+proved as it stands, and is then changed step by step. It prints what is left to be written.
+"""
+import pathlib
+import re
+import subprocess
+import sys
+
+sys.path.insert(0, str(pathlib.Path(__file__).resolve().parent))
+from registry.common import CRATES, TOP, camel, read  # noqa: E402
+
+MODELS = {
+    "leaf": ("any", CRATES / "winnow_token/src/token.rt"),
+    "combinator": ("opt", CRATES / "winnow_comb/src/combinator/basic.rt"),
+}
+NEXT = """Now change, in this order:
+  {spec}: the definition, `{kind}Runs`, a line a case
+  {file}: the clauses and the documentation of `{name}`, and what it runs
+  {impls}: the struct `{kind}` and its parser
+  {laws}: that its runs leave an end, and mean the same over streams that are read alike
+  {known}: what a caller knows of a run that answered
+and write: a test `{name}` in tests/, a line of CHANGELOG.md, and an edit
+  {edits}{name}_ANSWERS_WRONG.edit, a line of the code and a wrong one in its place.
+`./x quick` says what is missing."""
+
+
+class Place:
+    """Where a parser stands: its crate, the module that has it, and the file of its function."""
+
+    def __init__(self, name, file):
+        self.name, self.file = name, file
+        self.crate = CRATES / file.relative_to(CRATES).parts[0]
+        path = file.relative_to(self.crate / "src").with_suffix("")
+        self.module, self.path = path.parts[0], path.parts
+        self.impls = self.crate / "src" / self.module / "impls" / f"{name}.rt"
+        self.spec = self.crate / "specs" / f"{camel(name)}.antt"
+
+
+def renamed(text, of, to):
+    """A text of the model under the new name: all code, and in comments what is code."""
+    kind, new = camel(of.name), camel(to.name)
+    text = text.replace(f"Rattle.{of.crate.name}.specs.{kind}", f"Rattle.{to.crate.name}.specs.{new}")
+    text = text.replace(f"specs.declared.{of.module}.impls.{of.name}.", f"specs.declared.{to.module}.impls.{to.name}.")
+    text = text.replace(f"Rattle.{of.crate.name}.specs.declared", f"Rattle.{to.crate.name}.specs.declared")
+    text = re.sub(rf"\bcrate::{of.module}::", f"crate::{to.module}::", text)
+    text = re.sub(r"^pub ruleset known_\w+", f"pub ruleset known_{to.name}s", text, flags=re.MULTILINE)
+    lines, is_code = [], False
+    for line in text.split("\n"):
+        is_comment = line.lstrip().startswith(("//", "--"))
+        is_code = is_comment and is_code != line.rstrip().endswith("```")
+        if is_comment and not is_code:
+            line = re.sub(rf"(?<=[`:]){of.name}(?=[`)])", to.name, line)
+        else:
+            line = re.sub(rf"\b{kind}(?=[A-Z]|\b)", new, line)
+            line = re.sub(rf"\b{of.name}(?=_|\b)", to.name, line)
+        lines.append(line)
+    return "\n".join(lines)
+
+
+def function(of):
+    """The model's function, with its documentation."""
+    found = re.search(rf"(?:^(?:///|#\[).*\n)*^pub fn {of.name}\b(?:.*\n)*?^\}}\n", read(of.file), re.MULTILINE)
+    return found[0]
+
+
+def imports(text):
+    """The names that a file brings in: the words before each path, the path and the name."""
+    for words, path, names in re.findall(
+        r"^((?:ghost )?use )([\w.:◌]+?)(?:\.|::)(?:\{([^}]*)\}|\w+);", text, re.MULTILINE
+    ):
+        for name in re.findall(r"[^\s,{}]+", names):
+            yield words, path, name
+    for path, name in re.findall(r"^use ([\w:]+)::(\w+);", text, re.MULTILINE):
+        yield "use ", path, name
+
+
+def with_function(of, to):
+    """The text of the new parser's file with its function, and with what that names."""
+    body, text = function(of), read(to.file)
+    have = {name for *_, name in imports(text)}
+    for words, path, name in imports(read(of.file)):
+        is_named = re.search(rf"(?<!\w){re.escape(name.strip('◌'))}(?!\w)", body)
+        new = renamed(name, of, to)
+        if is_named and new not in have:
+            path = path.replace("crate::", f"{of.crate.name}::") if of.crate != to.crate and "impls" not in path else path
+            brought = f"{path}.{{{name}}}" if "Rattle" in path else f"{path}::{name}"
+            line = renamed(f"{words}{brought};\n", of, to)
+            at = re.search(rf"^{words}", text, re.MULTILINE)
+            at = at.start() if at else text.index("\n\n") + 2
+            text = text[:at] + line + text[at:]
+    return text.rstrip("\n") + "\n\n" + renamed(body, of, to)
+
+
+def copies(of, to):
+    """The files of the model, each with that of the new parser."""
+    yield of.impls, to.impls
+    yield of.spec, to.spec
+    folder = of.spec.with_suffix("")
+    for file in sorted(folder.rglob("*.antt")):
+        yield file, to.spec.with_suffix("") / file.relative_to(folder)
+    for file in sorted((of.crate / "proofs").joinpath(*of.path, of.name).glob("*.antt")):
+        yield file, (to.crate / "proofs").joinpath(*to.path, to.name) / file.name
+    folder = of.crate / "proofs" / of.module / "impls" / of.name
+    for file in sorted(folder.rglob("*.antt")):
+        yield file, to.crate / "proofs" / to.module / "impls" / to.name / file.relative_to(folder)
+
+
+def name_in_module(to):
+    """Names the function in the root of its module, where that is another file."""
+    root = to.crate / "src" / f"{to.module}.rt"
+    path = "crate::" + "::".join(to.path)
+    found = re.search(rf"^pub use {path}::(?:\{{([^}}]*)\}}|(\w+));", read(root), re.MULTILINE)
+    if root != to.file and found:
+        names = sorted({*re.findall(r"\w+", found[1] or found[2]), to.name})
+        text = read(root).replace(found[0], f"pub use {path}::{{{', '.join(names)}}};")
+        root.write_text(text, encoding="utf-8")
+
+
+def main(words):
+    if len(words) != 3 or words[0] not in MODELS or not words[1].endswith(".rt"):
+        sys.exit(__doc__.strip())
+    of = Place(*MODELS[words[0]])
+    to = Place(words[2], pathlib.Path(words[1]).resolve())
+    if to.impls.exists() or to.spec.exists():
+        sys.exit(f"{to.crate.name} has a parser {to.name}")
+    to.file.write_text(with_function(of, to), encoding="utf-8")
+    for old, new in copies(of, to):
+        new.parent.mkdir(parents=True, exist_ok=True)
+        new.write_text(renamed(read(old), of, to), encoding="utf-8")
+    name_in_module(to)
+    subprocess.run([sys.executable, str(TOP / "scripts/registries.py")], check=True)
+    for crate in (to.crate, CRATES / "winnow"):
+        subprocess.run(["rt", "fmt"], cwd=crate, check=False, stdout=subprocess.DEVNULL)
+    shown = {"file": to.file, "impls": to.impls, "spec": to.spec}
+    shown |= {it: to.spec.with_suffix("") / f"{it.capitalize()}.antt" for it in ("laws", "known")}
+    shown = {key: path.relative_to(TOP) for key, path in shown.items()}
+    edits = f"crates/{to.crate.name}/edits/"
+    print(NEXT.format(**shown, edits=edits, name=to.name, kind=camel(to.name)))
+
+
+if __name__ == "__main__":
+    main(sys.argv[1:])

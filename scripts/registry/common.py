@@ -1,0 +1,70 @@
+"""What the writers of the registries share: where items stand, and how written parts are marked."""
+import pathlib
+import re
+
+TOP = pathlib.Path(__file__).resolve().parent.parent.parent
+CRATES = TOP / "crates"
+NAME = "scripts/registries.py"
+HEAD = f"Written by {NAME}: do not edit."
+# What stands above the written part of a file, of which the part above this is by hand.
+FROM_HERE = f"What stands below is written by {NAME}: do not edit."
+WIDTH = 100
+
+
+def read(path):
+    return path.read_text(encoding="utf-8")
+
+
+def write(path, text):
+    """Writes a file where its text is another one, and says so."""
+    if not path.is_file() or read(path) != text:
+        path.write_text(text, encoding="utf-8")
+        print(path.relative_to(TOP))
+
+
+def by_hand(path, comment, end=""):
+    """The part of a file above its mark, with the mark."""
+    mark = f"{comment} {FROM_HERE}{end}\n"
+    return read(path).partition(mark)[0] + mark
+
+
+def has_mark(path):
+    return FROM_HERE in read(path)
+
+
+def below_winnow():
+    """The crates that the library's own names stand in, lowest first."""
+    found = re.search(r"^winnow:(.*)$", read(TOP / "crates.txt"), re.MULTILINE)
+    return found[1].split()
+
+
+def camel(name):
+    return "".join(part.capitalize() for part in name.split("_"))
+
+
+def items_of(path, kinds="fn|struct|trait|enum|const|type"):
+    """The names of the public items of a Rust file, and those that it makes public of others."""
+    text = read(path)
+    names = re.findall(rf"^pub (?:{kinds}) (\w+)", text, re.MULTILINE)
+    for one, several in re.findall(r"^pub use [\w:]+::(?:(\w+)|\{([^}]*)\});", text, re.MULTILINE):
+        names += [one] if one else re.findall(r"\w+", several)
+    return sorted(set(names))
+
+
+def imports(module, names):
+    """A line that makes items of a module public, or more lines where it is long."""
+    if len(names) == 1:
+        return f"pub use {module}::{names[0]};\n"
+    line = f"pub use {module}::{{{', '.join(names)}}};\n"
+    return line if len(line) <= WIDTH else filled(f"pub use {module}::{{", names)
+
+
+def filled(first, names):
+    """An import that fills its lines."""
+    lines, now = [first], "   "
+    for name in names:
+        if len(f"{now} {name},") > WIDTH:
+            lines.append(now)
+            now = "   "
+        now += f" {name},"
+    return "\n".join([*lines, now, "};\n"])

@@ -1,0 +1,77 @@
+"""The crate `winnow`: the library under the names of winnow's modules."""
+import re
+import textwrap
+
+from registry.common import CRATES, WIDTH, below_winnow, by_hand, has_mark, imports
+from registry.common import items_of, read, write
+
+FACADE = CRATES / "winnow"
+# The modules of which the items stand in other modules: where they stand.
+PLACES = {"error": ("stream_errors", "*"), "laws": ("", "laws/**/*")}
+
+
+def modules_of(crate, module):
+    """The files of a crate, each by its module's name, whose items stand in a module of winnow's."""
+    src = CRATES / crate / "src"
+    only, pattern = PLACES.get(module, ("", ""))
+    files = [src / f"{module}.rt"] if not only else []
+    if pattern and only in ("", crate):
+        files += src.glob(f"{pattern}.rt")
+    for file in sorted(files):
+        if file.is_file() and file.name != "lib.rt":
+            yield "::".join(file.relative_to(src).with_suffix("").parts), file
+
+
+def write_module(path):
+    """A module of winnow's: by hand above the mark, and then the items of its name in each crate."""
+    module = "/".join(path.relative_to(FACADE / "src").with_suffix("").parts)
+    text = by_hand(path, "//")
+    known = set(re.findall(r"\w+", " ".join(re.findall(r"^pub use [^;]*;", text, re.MULTILINE))))
+    lines = []
+    for crate in sorted(below_winnow()):
+        for name, file in modules_of(crate, module):
+            items = [it for it in items_of(file) if it not in known]
+            if items:
+                lines.append(imports(f"{crate}::{name}", items))
+    write(path, text + "".join(sorted(lines)))
+
+
+def title(crate):
+    """The first sentence of a crate's documentation."""
+    about = " ".join(re.findall(r"^//! (.*)$", read(CRATES / crate / "src/lib.rt"), re.MULTILINE))
+    return re.match(r".*?\.(?= |$)", about)[0]
+
+
+def write_specs():
+    """What the clauses of the library cite: each module of the crates' specs, but those that the
+    part by hand names, as by another name or as no concern of callers."""
+    path = FACADE / "specs/Lib.antt"
+    text = by_hand(path, "--")
+    lines = []
+    for crate in below_winnow():
+        names = sorted(it.stem for it in (CRATES / crate / "specs").glob("*.antt"))
+        modules = [f"Rattle.{crate}.specs.{it}" for it in names if it != "Lib"]
+        modules = [it for it in modules if not re.search(rf"{re.escape(it)}(?![\w.])", text)]
+        about = textwrap.wrap(title(crate), WIDTH - 3)
+        lines += [f"-- {it}\n" for it in about if modules] + [f"pub use {it}\n" for it in modules]
+    write(path, text + "".join(lines))
+
+
+def write_rules():
+    """The rulesets for callers, whose names begin with `known_`."""
+    path = FACADE / "specs/Rules.antt"
+    lines = []
+    for crate in below_winnow():
+        for file in sorted((CRATES / crate / "specs").rglob("*.antt")):
+            names = re.findall(r"^pub ruleset (known_\w+)", read(file), re.MULTILINE)
+            module = ".".join(file.relative_to(CRATES / crate / "specs").with_suffix("").parts)
+            lines += [f"pub use Rattle.{crate}.specs.{module}.{{{it}}}\n" for it in names]
+    write(path, by_hand(path, "--") + "".join(lines))
+
+
+def write_facade():
+    for path in sorted((FACADE / "src").rglob("*.rt")):
+        if has_mark(path):
+            write_module(path)
+    write_specs()
+    write_rules()

@@ -1,0 +1,37 @@
+//! A parser that fails.
+ghost use Rattle.std.specs.Prelude.{⊤};
+ghost use Rattle.streams.specs.Input.{IsEndOf};
+
+use crate::outcomes::Kind;
+use stream_errors::parser_error::ParserError;
+use streams::needed::Needed;
+use streams::stream::Stream;
+use winnow_core::parser::Parser;
+
+/// A parser that takes a token and fails so.
+#[derive(Clone, Copy)]
+pub struct Failing(pub Kind);
+
+// The ghost members are what the trait asks of each parser.
+impl<I: Stream, E: ParserError<I>> Parser<I, u8, E> for Failing {
+    ghost State = { ⊤ };
+
+    ghost state = { λ _. tt };
+
+    ghost meaning = { λ _ _ i _ _ j. IsEndOf I.reading j i };
+
+    ghost leaves_ends = { λ _ _ _ _ _ _ ends. ends };
+
+    fn parse_next(&mut self, input: &mut I) -> Result<u8, E> {
+        let _token = input.next_token();
+        Err(match self.0 {
+            Kind::Backtrack => E::from_input(input),
+            Kind::Cut => E::assert(input, "cut"),
+            Kind::Incomplete(needed) => E::incomplete(input, needed),
+            Kind::Memory => E::no_memory(input),
+        })
+    }
+}
+
+/// The kinds of errors that no combinator but those for them changes.
+pub const HARD: [Kind; 3] = [Kind::Cut, Kind::Incomplete(Needed::Unknown), Kind::Memory];

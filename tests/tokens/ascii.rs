@@ -1,0 +1,4 @@
+//! Parsers of ASCII's classes of characters, of line ends and of numbers as text.
+mod classes;
+mod line_ends;
+mod numbers;

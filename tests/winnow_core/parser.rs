@@ -1,0 +1,180 @@
+//! Tuples, closures, and the calls of a parser.
+use std::fmt::Debug;
+use std::process::Abort;
+use stream_errors::empty::EmptyError;
+use stream_errors::fault::ParseFault;
+use stream_errors::input_error::InputError;
+use stream_errors::parser_error::ParserError;
+use stream_searches::caseless::Caseless;
+use stream_searches::compare::Compare;
+use stream_sets::range::Range;
+use stream_sets::sets::Pred;
+use streams::stream::Stream;
+use test_support::outcomes::Kind::{Backtrack, Cut};
+use test_support::outcomes::{Outcome, outcome_of};
+use test_support::rows::{Modal, ModalAt, answers, answers_each, same};
+use test_support::texts::{OfText, whole};
+use test_support::{at_bytes, at_text};
+use winnow_ascii::ascii::impls::Digit1;
+use winnow_comb::combinator;
+use winnow_core::parser::{Func, ModalParser, Parser};
+use winnow_token::token;
+use winnow_token::token::impls::{Any, Rest, RestLen};
+
+/// Tuples of none to six: the first failure is handed on, and the input stands there.
+fn tuple<I: OfText + Compare<u8>, E: ParserError<I>>(rt: &impl Abort) {
+    answers::<I, (), E, _>(rt, "()", (), "abxsbsh", Ok(()), "abxsbsh");
+    answers::<I, (), E, _>(rt, "()", (), "ab", Ok(()), "ab");
+    let rows = [("abc", Ok((b'a',)), "bc"), ("ab", Ok((b'a',)), "b")];
+    answers_each::<I, (u8,), E, _>(rt, "a tuple of one", (b'a',), &rows);
+    let three = (b'a', b'b', b'c');
+    answers::<I, _, E, _>(rt, "a tuple of three", three, "abx", Err(Backtrack), "x");
+    let four = (b'a', b'b', b'c', b'd');
+    answers::<I, _, E, _>(rt, "a tuple of four", four, "abcd;", Ok(four), ";");
+    let five = (b'a', b'b', b'c', b'd', b'e');
+    answers::<I, _, E, _>(rt, "a tuple of five", five, "abcdx", Err(Backtrack), "x");
+    let six = (b'a', b'b', b'c', b'd', b'e', b'f');
+    let rows = [
+        ("abcdefg", Ok(six), "g"),
+        ("abcdef;", Ok(six), ";"),
+        ("abcdea", Err(Backtrack), "a"),
+        ("abb", Err(Backtrack), "b"),
+    ];
+    answers_each::<I, (u8, u8, u8, u8, u8, u8), E, _>(rt, "a tuple of six", six, &rows);
+}
+
+#[test]
+fn tuples(rt: HostRuntime) {
+    at_bytes!(rt; tuple);
+    tuple::<&[u8], InputError<&'static [u8]>>(&rt);
+}
+
+/// A closure as a parser.
+#[test]
+fn func(rt: HostRuntime) {
+    let mut first = Func(|input: &mut &[u8]| {
+        let answer: Result<u8, EmptyError> = b'a'.parse_next(input);
+        answer
+    });
+    let got = outcome_of::<&[u8], u8, EmptyError, _>(&mut first, b"ab");
+    same(&rt, "Func", "ab", got, (Ok(b'a'), b"b".as_slice()));
+}
+
+/// Whole parses of digits: the slice, or where the run stood that failed or left something.
+#[test]
+fn parse(rt: HostRuntime) {
+    let mut digits = token::take_while::<_, &[u8], EmptyError>(
+        Range::from(1..),
+        Pred(|token: u8| token.is_ascii_digit()),
+    );
+    for (text, want) in [("12", Ok("12")), ("12a", Err(2)), ("a", Err(0))] {
+        let got = digits.parse(text.as_bytes());
+        match want {
+            Ok(slice) => assert_eq!(rt; got, Ok(slice.as_bytes()), "parse at {text:?}"),
+            Err(place) => match got {
+                Err(ParseFault::Refused(error)) => {
+                    assert_eq!(rt; *error.input(), text.as_bytes(), "parse at {text:?}");
+                    assert_eq!(rt; error.offset(), place, "parse at {text:?}");
+                }
+                other => assert!(rt; false, "parse at {text:?}: {other:?}"),
+            },
+        }
+    }
+}
+
+/// The rest and the output of one run, or its error.
+fn peeked<I: OfText + Compare<char> + Compare<Caseless<&'static str>>, E: ParserError<I>>(
+    rt: &impl Abort,
+)
+where
+    I::Slice: PartialEq + Debug,
+{
+    let name = "parse_peek";
+    let mut pi = token::literal::<_, I, E>('π');
+    let got = pi.parse_peek(whole("π3.14")).ok();
+    same(
+        rt,
+        name,
+        "π3.14",
+        got,
+        Some((whole("3.14"), I::slice_of_text("π"))),
+    );
+    let mut minus = token::literal::<_, I, E>('-');
+    let got = minus.parse_peek(whole("π")).is_err();
+    same(rt, name, "π", got, true);
+    let got: Result<(I, I::Slice), E> = Caseless("hello").parse_peek(whole("HeLLo!"));
+    same(
+        rt,
+        name,
+        "HeLLo!",
+        got.ok(),
+        Some((whole("!"), I::slice_of_text("HeLLo"))),
+    );
+    let got: Result<(I, (I::Slice, usize)), E> = (Rest, RestLen).parse_peek(I::of_text("ab"));
+    let want = Some((I::of_text(""), (I::slice_of_text("ab"), 0)));
+    same(rt, name, "ab", got.ok(), want);
+    let got: Result<(I, usize), E> = RestLen.parse_peek(I::of_text("éa"));
+    same(rt, name, "éa", got.ok(), Some((I::of_text("éa"), 3)));
+}
+
+#[test]
+fn parse_peek(rt: HostRuntime) {
+    at_text!(rt; peeked);
+}
+
+/// The state of a parser goes on behind a reference.
+fn referred<I: OfText + Stream<Token = char>, E: ParserError<I>>(rt: &impl Abort) {
+    let mut calls = 0u8;
+    let mut counted = Any.map(move |_: char| {
+        calls += 1;
+        calls
+    });
+    let mut input = whole::<I>("abc");
+    let first: Result<u8, E> = counted.by_ref().parse_next(&mut input);
+    same(rt, "by_ref", "abc", first.ok(), Some(1));
+    let both: Result<(u8, char), E> = (counted.by_ref(), Any).parse_next(&mut input);
+    same(rt, "by_ref", "bc", both.ok(), Some((2, 'c')));
+    let third: Result<u8, E> = counted.parse_next(&mut input);
+    same(rt, "by_ref", "", third.is_err(), true);
+}
+
+#[test]
+fn by_ref(rt: HostRuntime) {
+    at_text!(rt; referred);
+}
+
+/// Whole parses under errors with a mode: the inner error is without it.
+#[test]
+fn parse_under_errors_with_a_mode(rt: HostRuntime) {
+    let name = "digit1.parse";
+    let got = Parser::<&str, &str, ModalAt<&str>>::parse(&mut Digit1, "12");
+    same(&rt, name, "12", got.ok(), Some("12"));
+    for (text, place) in [("12a", 2), ("a", 0)] {
+        match Parser::<&str, &str, ModalAt<&str>>::parse(&mut Digit1, text) {
+            Err(ParseFault::Refused(error)) => {
+                same(&rt, name, text, error.offset(), place);
+                same(&rt, name, text, *error.input(), text);
+                same(&rt, name, text, error.into_inner().input, &text[place..]);
+            }
+            _ => assert!(rt; false, "digit1.parse at {text:?} is not refused"),
+        }
+    }
+}
+
+/// What runs any parser under errors with a mode.
+fn run_modal<O, P: ModalParser<&'static str, O, EmptyError> + Drop>(
+    mut parser: P,
+    text: &'static str,
+) -> Outcome<O, &'static str> {
+    outcome_of::<&str, O, Modal, P>(&mut parser, text)
+}
+
+#[test]
+fn modal_parser(rt: HostRuntime) {
+    let name = "ModalParser";
+    same(&rt, name, "ab", run_modal('a', "ab"), (Ok('a'), "b"));
+    same(&rt, name, "b", run_modal('a', "b"), (Err(Backtrack), "b"));
+    same(&rt, name, "12;", run_modal(Digit1, "12;"), (Ok("12"), ";"));
+    let cuts = combinator::cut_err('a');
+    same(&rt, name, "b, cut", run_modal(cuts, "b"), (Err(Cut), "b"));
+}
