@@ -3,11 +3,13 @@
 #
 #     bench/run.sh [TURNS] [WORDS IN A WORKLOAD'S NAME]
 #
+# With no words, the table is drawn too, as docs/benchmarks.svg.
+#
 # It installs Debian's packages of nom 7 and memchr where they are missing, and cargo where there is
 # none; proves and builds the crate `timed`; and builds and runs the program here, offline.
 # BENCH_CPU names the processor that both are built for: x86-64-v2 (Rattle's own choice) or
 # x86-64-v3.
-set -eu
+set -eu -o pipefail
 cd "$(dirname "$0")"
 cpu=${BENCH_CPU:-x86-64-v2}
 
@@ -41,4 +43,6 @@ offline = true
 rustflags = ["-Ctarget-cpu=$cpu"]
 CONFIG
 cargo build --release --offline --quiet
-exec ./target/release/bench "$@"
+./target/release/bench "$@" | tee target/table.md
+# A run of all workloads draws its picture too.
+[ $# -gt 1 ] || ./picture.py < target/table.md > ../docs/benchmarks.svg

@@ -9,8 +9,7 @@ It writes the sets that are tuples in the crate `stream_sets`, the meanings and 
 sequences (tuples of one to six) in the crate `winnow_core`, those of choices among as many
 branches in the crate `winnow_comb`, with their laws, the parsers of classes of characters in the
 crate `winnow_ascii`, those of integers in the crates `winnow_integers` and `winnow_binary`, and in
-the crate `winnow_stable` that all but the integers are stable. It prints the crates whose files it
-writes.
+the crate `winnow_stable` that all of these are stable. It prints the crates whose files it writes.
 """
 from family.choices import write_choices
 from family.classes import write_classes

@@ -1,6 +1,7 @@
 """That parsers of families are stable where their children are, in the crate `winnow_stable`."""
 from family.classes import class_parsers
 from family.common import BETWEEN, MOST, block, camel, rust_tuple, upto, write
+from family.integers import chosen, fixed
 
 # The lemmas of larger tuples stand in a file of their own.
 SMALL = 4
@@ -162,6 +163,24 @@ use streams::stream::StreamIsPartial;
 {family}
 """
 
+INTEGERS = """//! Integers as bytes are stable.
+//!
+//! {head}
+ghost use Rattle.winnow_integers.specs.Integer.{{signed_value, unsigned_value}};
+ghost use Rattle.winnow_integers.specs.declared.binary.endianness.Endianness.TheVariants.{{Big, Little}};
+ghost use Rattle.winnow_stable.specs.Stable.Grows.{{leaf_stays}};
+ghost use Rattle.winnow_stable.specs.Stable.Integers.{{integer_stays}};
+
+use crate::stable::Stable;
+use stream_errors::parser_error::ParserError;
+use streams::byte_stream::ByteStream;
+use streams::stream::StreamIsPartial;
+use winnow_binary::binary::impls::{{{chosen}}};
+use winnow_integers::binary::impls::{{{fixed}}};
+
+{family}
+"""
+
 
 def tuple_block(n):
     outputs = ["O%d" % k + (": Drop" if k < n else "") for k in upto(n)]
@@ -204,6 +223,20 @@ def literal_block(parameters, literal, kind, output):
     return block(bounds, "Stable<I, %s, E>" % output, kind, "", "    ghost stable = { %s };%s" % (law, own))
 
 
+def integer_block(one, kind, order, value):
+    """An integer by the name of its order: a constructor, or the parser's state."""
+    law = "leaf_stays I.following _ (λ %s. integer_stays %d %s I.reading)" % (order, one.width, value)
+    bounds = ["I: StreamIsPartial + ByteStream", "E: ParserError<I>"]
+    return block(bounds, "Stable<I, %s, E>" % one.type, kind, "", "    ghost stable = { %s };" % law)
+
+
+def integer_blocks():
+    for name, one in fixed().items():
+        yield integer_block(one, camel(name), "_", "(%s %s)" % (one.value, one.constructor))
+    for name, one in chosen().items():
+        yield integer_block(one, camel(name) + "<I, E>", "x", "(%s x)" % one.value)
+
+
 def write_stable():
     stable = "crates/winnow_stable/"
     same = "use Rattle.winnow_stable.specs.Stable.Longer.{same_grows}\n"
@@ -222,3 +255,5 @@ def write_stable():
     write(stable + "src/stable/classes.rt", CLASSES, kinds=kinds, family=family)
     family = "\n\n".join(literal_block(*row) for row in LITERALS)
     write(stable + "src/stable/literals.rt", BY_VALUE, family=family)
+    kinds = {"fixed": ", ".join(map(camel, fixed())), "chosen": ", ".join(map(camel, chosen()))}
+    write(stable + "src/stable/integers.rt", INTEGERS, family="\n\n".join(integer_blocks()), **kinds)

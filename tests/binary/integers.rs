@@ -2,6 +2,7 @@
 use crate::common::{OfBytes, agree, answers, ends, fails_behind, sweep};
 use std::fmt::Debug;
 use std::process::Abort;
+use std::test::Fail;
 use stream_errors::parser_error::ParserError;
 use stream_searches::compare::Compare;
 use streams::locating::LocatingSlice;
@@ -20,6 +21,7 @@ use winnow_integers::binary::impls::{
     BeI128, BeI16, BeI24, BeI32, BeI64, BeI8, BeU128, BeU16, BeU24, BeU32, BeU64, BeU8, I8, LeI128,
     LeI16, LeI24, LeI32, LeI64, LeI8, LeU128, LeU16, LeU24, LeU32, LeU64, LeU8, U8,
 };
+use winnow_token::token::impls::Take;
 use winnow_token::token::take;
 
 /// The values of an integer, each with its bytes and one behind them; and how it ends where the
@@ -325,4 +327,38 @@ fn integers_in_a_sequence(rt: HostRuntime) {
     let got = outcome_of::<_, _, Modal, _>(&mut parser, input);
     let want = (24930, b"cde".as_slice(), b"fg".as_slice());
     agree(&rt, "be_u16", b"abcdefgh", got, (Ok(want), Partial::new(b"h".as_slice())));
+}
+
+/// A length, and a parser that is made by it.
+#[test]
+fn flat_map_of_integers(rt: HostRuntime) {
+    let name = "u8.flat_map(take)";
+    let made = |count: u8| {
+        let parser: Take<&[u8], Modal> = take(count);
+        parser
+    };
+    let mut parser = Parser::<&[u8], u8, Modal>::flat_map(U8, made);
+    for (bytes, want, rest) in [
+        (b"\x02ABC".as_slice(), Ok(b"AB".as_slice()), b"C".as_slice()),
+        (b"\x03A", Err(Backtrack), b"A"),
+    ] {
+        let got = outcome_of::<&[u8], &[u8], Modal, _>(&mut parser, bytes);
+        agree(&rt, name, bytes, got, (want, rest));
+    }
+}
+
+#[test]
+fn endianness(rt: HostRuntime) -> Result<(), Fail> {
+    let all = [Endianness::Big, Endianness::Little, Endianness::Native];
+    for (i, order) in all.into_iter().enumerate() {
+        let copied = order;
+        assert_eq!(rt; copied, order);
+        assert_eq!(rt; order.clone()?, order);
+        for (j, other) in all.into_iter().enumerate() {
+            assert_eq!(rt; order == other, i == j, "{order:?} and {other:?}");
+        }
+    }
+    let shown = format!(in rt.alloc(); "{all:?}")?;
+    assert_eq!(rt; shown.as_str(), "[Big, Little, Native]");
+    Ok(())
 }

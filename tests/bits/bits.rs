@@ -14,6 +14,7 @@ use winnow_bits::bits;
 use winnow_bits::bits::BitOutput;
 use winnow_bits::bits::impls::Bool;
 use winnow_core::parser::Parser;
+use winnow_integers::binary::impls::BeU16;
 use winnow_token::token;
 use winnow_token::token::impls::Rest;
 
@@ -205,6 +206,7 @@ fn bytes_of_bits(rt: HostRuntime) {
     let partial = Bits(cut(b"\xAB\xCD"), 4);
     let two = token::take(2u8);
     bytes_ends(&rt, "cut AB CD", two, partial, Err(lacks(8)), partial);
+    bytes_ends(&rt, "cut AB CD, a number", BeU16, partial, Err(lacks(8)), partial);
     let nothing = Bits(cut(b""), 0);
     let unknown = Kind::Incomplete(Needed::Unknown);
     let most = token::take(usize::MAX);

@@ -19,7 +19,11 @@ impl<I: Stream, E: ParserError<I>> FoldUnary<I, i64, E> for Symbol {
     ghost leaves_ends = { tt };
 
     fn apply(&self, input: &mut I, operand: i64) -> Result<i64, E> {
-        let value = if self.0 == '-' { operand.checked_neg() } else { Some(operand) };
+        let value = if self.0 == '-' {
+            operand.checked_neg()
+        } else {
+            Some(operand)
+        };
         match value {
             Some(value) => Ok(value),
             None => Err(E::from_input(input)),
@@ -63,7 +67,10 @@ fn infix_of(symbol: char) -> Option<Infix<Symbol>> {
 }
 
 /// What a text comes to.
-pub(crate) fn value<A: Allocator + Copy>(alloc: A, text: &'static str) -> Outcome<i64, &'static str> {
+pub(crate) fn value<A: Allocator + Copy>(
+    alloc: A,
+    text: &'static str,
+) -> Outcome<i64, &'static str> {
     let mut parser = expression(alloc, Digit1.parse_to::<i64>())
         .prefix(Any.verify_map(prefix_of))
         .infix(Any.verify_map(infix_of));
@@ -79,6 +86,42 @@ fn expression_of_numbers(rt: HostRuntime) {
         ("1+2", Ok(3), ""),
         ("10-2-3 ", Ok(5), " "),
     ] {
-        same(&rt, "expression", text, value(rt.alloc(), text), (want, rest));
+        same(
+            &rt,
+            "expression",
+            text,
+            value(rt.alloc(), text),
+            (want, rest),
+        );
     }
+}
+
+/// Powers of its own for each operator, and a level.
+#[test]
+fn expression_of_numbers_by_other_powers(rt: HostRuntime) {
+    let weak_minus = |symbol: char| if symbol == '-' {
+        Some(Prefix(1, Symbol(symbol)))
+    } else {
+        None
+    };
+    let times_and_plus = |symbol: char| match symbol {
+        '*' => Some(Infix::Left(7, Symbol(symbol))),
+        '+' => Some(Infix::Left(5, Symbol(symbol))),
+        _ => None,
+    };
+    let mut parser = expression(rt.alloc(), Digit1.parse_to::<i64>())
+        .prefix(Any.verify_map(weak_minus))
+        .infix(Any.verify_map(times_and_plus));
+    let got = outcome_of::<&str, i64, Modal, _>(&mut parser, "2*-3+4");
+    same(&rt, "a weak prefix", "2*-3+4", got, (Ok(-14), ""));
+    let greatest = Infix::Left(i64::MAX, Symbol('+'));
+    let mut parser = expression(rt.alloc(), Digit1.parse_to::<i64>()).infix('+'.value(greatest));
+    let got = outcome_of::<&str, i64, Modal, _>(&mut parser, "1+2");
+    same(&rt, "the greatest power", "1+2", got, (Ok(3), ""));
+    let least = Infix::Right(i64::MIN, Symbol('+'));
+    let mut parser = expression(rt.alloc(), Digit1.parse_to::<i64>())
+        .infix('+'.value(least))
+        .current_precedence_level(i64::MIN);
+    let got = outcome_of::<&str, i64, Modal, _>(&mut parser, "1+2+3");
+    same(&rt, "the least power", "1+2+3", got, (Ok(6), ""));
 }

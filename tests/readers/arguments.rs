@@ -99,6 +99,8 @@ fn refused_memory(rt: HostRuntime) {
         ("pair", "key", "", "refused at 3\n", 1),
         ("ini", document, "section a\nx: 1\nsection b\n", "", 0),
         ("ini", "[a]\nx", "", "refused at 4\n", 1),
+        ("calc", "-3!+2*4", "2\n", "", 0),
+        ("calc", "1=2=1", "", "refused at 3\n", 1),
     ];
     for (word, text, lines, error, status) in rows {
         let all = [b"readers".as_slice(), word.as_bytes()];

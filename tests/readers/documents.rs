@@ -197,3 +197,33 @@ fn refused_lists(rt: HostRuntime) {
         assert!(rt; is_done);
     }
 }
+
+/// Sections are compared by their names and pairs, and shown with them.
+#[test]
+fn sections(rt: HostRuntime) -> Result<(), Fail> {
+    let alloc = rt.alloc();
+    let same = document(alloc, b"[a]\nk=v\n[a]k=v").unwrap_or(Vec::new(alloc));
+    assert_eq!(rt; same.len(), 2);
+    assert!(rt; same[0] == same[1]);
+    for other in ["[b]\nk=v", "[a]\nk=w", "[a]\nl=v", "[a]", "[a]\nk=v\nk=v"] {
+        let others = document(alloc, other.as_bytes()).unwrap_or(Vec::new(alloc));
+        assert_eq!(rt; others.len(), 1);
+        assert!(rt; same[0] != others[0], "{other:?}");
+    }
+    let shown = format!(in alloc; "{:?}", same[0])?;
+    assert_eq!(rt;
+        shown.as_str(),
+        "Section { name: \"a\", pairs: [(\"k\", \"v\")] }"
+    );
+    Ok(())
+}
+
+#[test]
+fn faults(rt: HostRuntime) -> Result<(), Fail> {
+    assert_eq!(rt; Fault::Refused(1), Fault::Refused(1));
+    assert!(rt; Fault::Refused(1) != Fault::Refused(2));
+    assert!(rt; Fault::Refused(1) != Fault::NoMemory);
+    let shown = format!(in rt.alloc(); "{:?} {:?}", Fault::Refused(7), Fault::NoMemory)?;
+    assert_eq!(rt; shown.as_str(), "Refused(7) NoMemory");
+    Ok(())
+}

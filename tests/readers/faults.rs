@@ -169,9 +169,9 @@ fn faults_of_errors(rt: HostRuntime) {
         ("pair", room(12), 1, false, "refused at 0"),
         ("pair", room(0), 1, false, ""),
         // the usage line, of 29 bytes
-        ("calc", by_one, 2, true, USAGE),
-        ("calc", room(28), 2, false, "usage: readers pair|ini|calc"),
-        ("calc", room(0), 2, false, ""),
+        ("sums", by_one, 2, true, USAGE),
+        ("sums", room(28), 2, false, "usage: readers pair|ini|calc"),
+        ("sums", room(0), 2, false, ""),
     ];
     for (word, err, status, is_told, error) in rows {
         comes_to(

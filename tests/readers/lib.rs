@@ -8,4 +8,6 @@ mod documents;
 #[cfg(test)]
 mod faults;
 #[cfg(test)]
+mod formulas;
+#[cfg(test)]
 mod runs;

@@ -76,7 +76,7 @@ fn wrong_words(rt: HostRuntime) {
     refuses_words(&rt, rt.alloc(), &["PAIR"]);
     refuses_words(&rt, rt.alloc(), &[""]);
     refuses_words(&rt, rt.alloc(), &["ini", "ini"]);
-    refuses_words(&rt, rt.alloc(), &["calc"]);
+    refuses_words(&rt, rt.alloc(), &["calc", "pair"]);
 }
 
 #[test]

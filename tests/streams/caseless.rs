@@ -88,6 +88,7 @@ fn derives(rt: HostRuntime) -> Result<(), Fail> {
     let literal = Caseless("É");
     let copied = literal;
     assert_eq!(rt; literal.0, copied.0);
+    assert_eq!(rt; literal.clone()?.0, copied.0);
     let shown = format!(in rt.alloc(); "{literal:?}")?;
     assert_eq!(rt; shown.as_str(), "Caseless(\"É\")");
     Ok(())

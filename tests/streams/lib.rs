@@ -3,6 +3,8 @@
 #![tactic(auto)]
 
 #[cfg(test)]
+mod accumulate;
+#[cfg(test)]
 mod as_char;
 #[cfg(test)]
 mod byte_set;

@@ -1,6 +1,7 @@
 pub mod Bytes
 pub mod DocumentLemmas
 pub mod DocumentReading
+pub mod Formulas
 pub mod GapLemmas
 pub mod KeyValueLemmas
 pub mod Owed

@@ -1,18 +1,21 @@
 -- What the program answers and writes.
 use Rattle.std.specs.Prelude.{◌≡◌, Bool, true, IsTrue, ℕ, ◌<◌, ◌≤◌, List, [], ◌∷◌, ◌++◌, length}
-use Rattle.std.specs.Prelude.{◌⊎◌, codes, Option, slice_index_or}
+use Rattle.std.specs.Prelude.{◌⊎◌, ℤ, codes, Option, slice_index_or}
 use Rattle.std.specs.Borrow.{Bor}
-use Rattle.std.specs.Fmt.{decimal}
+use Rattle.std.specs.Fmt.{decimal, signed_decimal}
 use Rattle.std.specs.Io.KnownBytes.{Consumes, Keeps, Appends}
+use Rattle.std.specs.Str.{IsUtf8, IsValidUpTo}
 use Rattle.readers.specs.declared.program.Stop.{Stop}
 use Rattle.readers.specs.declared.program.Stop.TheVariants.{Usage, Unreadable, Unwritable, TooLong}
 use Rattle.readers.specs.declared.program.Stop.TheVariants.{NoMemory}
 use Rattle.readers.specs.declared.program.Verdict.{Verdict}
 use Rattle.readers.specs.declared.program.Verdict.TheVariants.{Accepted, Refused}
 use Rattle.readers.specs.declared.program.Format.{Format}
-use Rattle.readers.specs.declared.program.Format.TheVariants.{Pair, Ini}
+use Rattle.readers.specs.declared.program.Format.TheVariants.{Pair, Ini, Calc}
 use Rattle.readers.specs.Pair.{IsPairLine, IsRefusedPair}
 use Rattle.readers.specs.Document.{SectionText, HasSections, IsRefusedDocument}
+use Rattle.readers_calc.specs.Calculator.{IsFormulaFault, IsValue}
+use Rattle.readers_calc.specs.declared.fault.Fault.TheVariants.{Refused as refused_at}
 
 -- at most n of the known bytes were taken
 abbrev pub ConsumesAtMost : Option (List ℕ) → Option (List ℕ) → ℕ → Type 0
@@ -46,6 +49,10 @@ abbrev pub document_lines : List SectionText → List ℕ
 document_lines [] = []
 document_lines (s ∷ ss) = section_lines s ++ document_lines ss
 
+-- the line of a number
+abbrev pub number_line : ℤ → List ℕ
+number_line v = signed_decimal v ++ 10 ∷ []
+
 -- the line of a refusal
 abbrev pub refused_line : ℕ → List ℕ
 refused_line n = codes "refused at " ++ decimal n ++ 10 ∷ []
@@ -54,10 +61,17 @@ refused_line n = codes "refused at " ++ decimal n ++ 10 ∷ []
 abbrev pub most_bytes : ℕ
 most_bytes = 1048576
 
+-- that of an input in a format
+abbrev pub most_of : Format → ℕ
+most_of Pair = most_bytes
+most_of Ini = most_bytes
+most_of Calc = 4096
+
 -- the word that asks for a format
 abbrev pub format_word : Format → List ℕ
 format_word Pair = codes "pair"
 format_word Ini = codes "ini"
+format_word Calc = codes "calc"
 
 -- the words are the one word
 abbrev pub IsWord : List (Bor (List ℕ)) → List ℕ → Type 0
@@ -76,15 +90,28 @@ IsDocumentText bytes text =
     (sections : List SectionText) × HasSections bytes sections
     × (text ≡ document_lines sections)
 
+-- The bytes are a text that is a formula, and the text is the line of its value.
+abbrev pub IsValueText : List ℕ → List ℕ → Type 0
+IsValueText bytes text = IsUtf8 bytes × ((v : ℤ) × IsValue bytes v × (text ≡ number_line v))
+
+-- The bytes are not text, and n is where the first one stands that is no part of any; or they are,
+-- and no formula that has a value, and n is at an end or between two characters.
+abbrev pub IsRefusedFormula : List ℕ → ℕ → Type 0
+IsRefusedFormula bytes n =
+    ((IsUtf8 bytes → ⊥) × IsValidUpTo bytes n)
+    ⊎ (IsUtf8 bytes × IsFormulaFault bytes (refused_at n))
+
 -- The bytes are in the format, and the text is their lines.
 abbrev pub IsLinesText : Format → List ℕ → List ℕ → Type 0
 IsLinesText Pair bytes text = IsPairText bytes text
 IsLinesText Ini bytes text = IsDocumentText bytes text
+IsLinesText Calc bytes text = IsValueText bytes text
 
 -- The bytes are not in the format, and n is where they are refused.
 abbrev pub IsRefusedAt : Format → List ℕ → ℕ → Type 0
 IsRefusedAt Pair bytes n = IsRefusedPair bytes n
 IsRefusedAt Ini bytes n = IsRefusedDocument bytes n
+IsRefusedAt Calc bytes n = IsRefusedFormula bytes n
 
 -- The bytes are refused, and the text says where.
 abbrev pub IsRefusedText : Format → List ℕ → List ℕ → Type 0
@@ -104,12 +131,12 @@ stop_text TooLong = codes "input too long" ++ 10 ∷ []
 stop_text NoMemory = codes "out of memory" ++ 10 ∷ []
 
 -- What stopped the reading and answering of these bytes.
-abbrev pub StopsAnswer : List ℕ → Stop → Type 0
-StopsAnswer bytes Usage = ⊥
-StopsAnswer bytes Unreadable = Unit {0}
-StopsAnswer bytes Unwritable = ⊥
-StopsAnswer bytes TooLong = most_bytes < length bytes
-StopsAnswer bytes NoMemory = Unit {0}
+abbrev pub StopsAnswer : Format → List ℕ → Stop → Type 0
+StopsAnswer format bytes Usage = ⊥
+StopsAnswer format bytes Unreadable = Unit {0}
+StopsAnswer format bytes Unwritable = ⊥
+StopsAnswer format bytes TooLong = most_of format < length bytes
+StopsAnswer format bytes NoMemory = Unit {0}
 
 -- What a stop says of the bytes, and of what standard output held and holds: nothing was written,
 -- or a beginning of the answer's lines.
@@ -117,9 +144,9 @@ abbrev pub StopLeaves : Format → List ℕ → Stop → Option (List ℕ) → O
 StopLeaves format bytes Usage old new = ⊥
 StopLeaves format bytes Unreadable old new = Keeps old new
 StopLeaves format bytes Unwritable old new =
-    (length bytes ≤ most_bytes)
+    (length bytes ≤ most_of format)
     × ((text : List ℕ) × IsLinesText format bytes text × AppendsSome old new text)
-StopLeaves format bytes TooLong old new = (most_bytes < length bytes) × Keeps old new
+StopLeaves format bytes TooLong old new = (most_of format < length bytes) × Keeps old new
 StopLeaves format bytes NoMemory old new = Keeps old new
 
 -- What a run owes for these bytes, by its status and by whether its text stands whole on standard
@@ -128,11 +155,11 @@ abbrev pub RunOwes : Format → List ℕ → ℕ → Bool → Option (List ℕ) 
     → Option (List ℕ) → Option (List ℕ) → Type 0
 RunOwes format bytes status told out_old out_new err_old err_new =
     -- the lines of the answer, and nothing to tell
-    ((status ≡ 0) × (told ≡ true) × (length bytes ≤ most_bytes)
+    ((status ≡ 0) × (told ≡ true) × (length bytes ≤ most_of format)
     × ((text : List ℕ) × IsLinesText format bytes text × Appends out_old out_new text)
     × Keeps err_old err_new)
     -- where the bytes are refused
-    ⊎ (((status ≡ 1) × (length bytes ≤ most_bytes) × Keeps out_old out_new
+    ⊎ (((status ≡ 1) × (length bytes ≤ most_of format) × Keeps out_old out_new
     × ((text : List ℕ) × IsRefusedText format bytes text
     × Tells told err_old err_new text))
     -- why there is no answer

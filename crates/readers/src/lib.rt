@@ -2,6 +2,7 @@
 //! `readers_program` runs it over the standard streams.
 #![tactic(auto)]
 
+pub mod calc;
 pub mod fault;
 pub mod ini;
 pub mod laws;

@@ -6,22 +6,26 @@ ghost use Rattle.std.specs.Prelude.{MatchOption, MatchResult, ◌+◌};
 ghost use Rattle.std.specs.Io.KnownBytes.{Keeps, Appends};
 ghost use Rattle.readers.specs.Program.{ConsumesAtMost, AppendsSome, Tells, IsAnswerText};
 ghost use Rattle.readers.specs.Program.{StopsAnswer, WritesAnswer, RunOwes, stop_text};
-ghost use Rattle.readers.specs.Program.{refused_line, format_word, IsWord, most_bytes};
+ghost use Rattle.readers.specs.Program.{refused_line, format_word, IsWord, most_bytes, most_of};
 
 mod arguments;
 mod bytes_io;
 mod lines;
 
 use crate::fault::Fault;
-use crate::ini;
 pub use crate::program::arguments::serve;
 use crate::program::bytes_io::{ReadFault, put, read_up_to};
-use crate::program::lines::{line_of_pair, line_of_refusal, lines_of_sections};
+use crate::program::lines::{line_of_number, line_of_pair, line_of_refusal, lines_of_sections};
+use crate::{calc, ini};
 use std::alloc::{AllocError, Allocator};
 use std::io::{Read, Write};
+use std::str;
 
 /// The greatest length of an input, in bytes.
 const LIMIT: usize = 1_048_576;
+
+/// That of a formula.
+const FORMULA_LIMIT: usize = 4_096;
 
 /// What a run comes to.
 ///
@@ -50,7 +54,7 @@ pub enum Stop {
     Unreadable,
     /// Standard output could not be written.
     Unwritable,
-    /// The input has more than the limit of 1,048,576 bytes.
+    /// The input has more bytes than the limit of its format.
     TooLong,
     /// A request for memory was refused.
     NoMemory,
@@ -82,6 +86,8 @@ pub enum Format {
     Pair,
     /// A document of sections and pairs, by the word `ini`.
     Ini,
+    /// A formula of whole numbers, by the word `calc`.
+    Calc,
 }
 
 /// Whether an input is in its format.
@@ -102,13 +108,14 @@ struct Answer<A: Allocator> {
 /// The program over any reader and two writers. `words` are the arguments behind its name; the
 /// answer is the exit status.
 ///
-/// The words are checked first, and nothing is read where they are not one reader's name, `pair` or
-/// `ini`. At most one byte more than the limit of 1,048,576 is read. The whole answer is computed
-/// before anything is written:
+/// The words are checked first, and nothing is read where they are not one reader's name, `pair`,
+/// `ini` or `calc`. At most one byte more than the limit is read, which is 4,096 for a formula and
+/// 1,048,576 for the others. The whole answer is computed before anything is written:
 ///
 /// - status 0: the answer's lines are on `output`: of a pair `KEY: VALUE`, of a document for each
-///   section `section NAME` and then its pairs;
+///   section `section NAME` and then its pairs, of a formula its value;
 /// - status 1: `refused at N` is on `errors`, N in bytes from the start, and nothing on `output`;
+///   where a formula is not text, N is the place of the first byte that is no part of any;
 /// - status 2: why there is no answer is on `errors`.
 ///
 /// A fault of `errors` changes no status, and leaves a beginning of the text there;
@@ -134,6 +141,8 @@ pub fn run<A: Allocator + Copy, R: Read, W: Write, E: Write>(
 ) -> u8
     ensures status { result ≤ 2 }
     ensures most { ConsumesAtMost (R.remaining input.old) (R.remaining input.new) (most_bytes + 1) }
+    ensures limit { (format : Format) → IsWord words.now (format_word format)
+        → ConsumesAtMost (R.remaining input.old) (R.remaining input.new) (most_of format + 1) }
     ensures usage { ((format : Format) → IsWord words.now (format_word format) → ⊥) → (result ≡ 2)
         × Keeps (R.remaining input.old) (R.remaining input.new)
         × Keeps (W.contents output.old) (W.contents output.new)
@@ -162,6 +171,8 @@ pub fn run_and_tell<A: Allocator + Copy, R: Read, W: Write, E: Write>(
 ) -> Outcome
     ensures status { result.status ≤ 2 }
     ensures most { ConsumesAtMost (R.remaining input.old) (R.remaining input.new) (most_bytes + 1) }
+    ensures limit { (format : Format) → IsWord words.now (format_word format)
+        → ConsumesAtMost (R.remaining input.old) (R.remaining input.new) (most_of format + 1) }
     ensures usage { ((format : Format) → IsWord words.now (format_word format) → ⊥)
         → (result.status ≡ 2)
         × Keeps (R.remaining input.old) (R.remaining input.new)
@@ -202,6 +213,8 @@ fn format_of(words: &[&str]) -> Option<Format>
         Some(Format::Pair)
     } else if is_word(words, "ini") {
         Some(Format::Ini)
+    } else if is_word(words, "calc") {
+        Some(Format::Calc)
     } else {
         None
     }
@@ -217,6 +230,18 @@ fn is_word(words: &[&str], word: &str) -> bool
     }
 }
 
+/// The greatest length of an input in a format, in bytes.
+fn limit_of(format: Format) -> usize
+    ensures limit { result ≡ most_of format }
+    ensures most { result ≤ most_bytes }
+{
+    match format {
+        Format::Pair => LIMIT,
+        Format::Ini => LIMIT,
+        Format::Calc => FORMULA_LIMIT,
+    }
+}
+
 /// Reads the input, and computes the whole answer to it.
 fn make_answer<A: Allocator + Copy, R: Read>(
     alloc: A,
@@ -224,17 +249,20 @@ fn make_answer<A: Allocator + Copy, R: Read>(
     input: &mut R,
 ) -> Result<Answer<A>, Stop>
     ensures most { ConsumesAtMost (R.remaining input.old) (R.remaining input.new) (most_bytes + 1) }
+    ensures limit { ConsumesAtMost (R.remaining input.old) (R.remaining input.new)
+        (most_of format + 1) }
     ensures bytes { IfSome (R.remaining input.old) (λ bytes. MatchResult result
-        (λ a. (length bytes ≤ most_bytes) × IsAnswerText format bytes a.verdict a.text.items)
-        (λ stop. StopsAnswer bytes stop)) }
+        (λ a. (length bytes ≤ most_of format) × IsAnswerText format bytes a.verdict a.text.items)
+        (λ stop. StopsAnswer format bytes stop)) }
 {
+    let limit = limit_of(format);
     let mut bytes = Vec::new(alloc);
-    match read_up_to(input, &mut bytes, LIMIT) {
+    match read_up_to(input, &mut bytes, limit) {
         Ok(()) => {}
         Err(ReadFault::Unreadable) => return Err(Stop::Unreadable),
         Err(ReadFault::NoMemory) => return Err(Stop::NoMemory),
     }
-    if bytes.len() > LIMIT {
+    if bytes.len() > limit {
         return Err(Stop::TooLong);
     }
     answer_bytes(alloc, format, bytes.as_slice()).map_err(|_| Stop::NoMemory)
@@ -251,6 +279,7 @@ fn answer_bytes<A: Allocator + Copy>(
     match format {
         Format::Pair => answer_pair(alloc, bytes),
         Format::Ini => answer_document(alloc, bytes),
+        Format::Calc => answer_formula(alloc, bytes),
     }
 }
 
@@ -287,6 +316,27 @@ fn answer_document<A: Allocator + Copy>(alloc: A, bytes: &[u8]) -> Result<Answer
         }
         Err(Fault::Refused(at)) => refusal(alloc, at),
         Err(Fault::NoMemory) => Err(AllocError),
+    }
+}
+
+/// The answer to the bytes of a formula.
+#[tactic(auto, unfolding(crate::specs::Program::IsAnswerText))]
+fn answer_formula<A: Allocator + Copy>(alloc: A, bytes: &[u8]) -> Result<Answer<A>, AllocError>
+    ensures { IfOk result (λ a. IsAnswerText Format.Calc bytes.now a.verdict a.text.items) }
+{
+    match str::from_utf8(bytes) {
+        Ok(text) => match calc::value(alloc, text) {
+            Ok(value) => {
+                let text = line_of_number(alloc, value)?;
+                Ok(Answer {
+                    verdict: Verdict::Accepted,
+                    text,
+                })
+            }
+            Err(Fault::Refused(at)) => refusal(alloc, at),
+            Err(Fault::NoMemory) => Err(AllocError),
+        },
+        Err(error) => refusal(alloc, error.valid_up_to()),
     }
 }
 

@@ -2,6 +2,9 @@
 pub mod Column
 pub mod Csv
 pub mod Entry
+pub mod FirstWord
+pub mod Items
+pub mod Port
 pub mod Ranges
 pub mod RequestLine
 pub mod Words

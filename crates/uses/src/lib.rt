@@ -12,6 +12,7 @@ pub mod every_combinator;
 pub mod every_integer;
 pub mod every_stream;
 pub mod every_token;
+pub mod first_word;
 pub mod functions;
 pub mod items;
 pub mod numbers;

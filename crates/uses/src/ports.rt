@@ -1,7 +1,8 @@
 //! A small record, by five adapters in a chain.
 #![tactic(auto)]
 
-ghost use Rattle.std.specs.Prelude.{◌≡◌, ◌<◌, ◌++◌, IfOk};
+ghost use Rattle.std.specs.Prelude.{IfOk};
+ghost use Rattle.uses.specs.Port.{IsPort};
 
 use winnow::ascii::impls::Digit1;
 use winnow::error::EmptyError;
@@ -15,12 +16,13 @@ pub struct Port<'i> {
     pub text: &'i [u8],
 }
 
-/// A port: digits whose number is one from 1 to 65535. The digits and then the rest are the input.
+/// A port: as many digits as stand first, whose number is one from 1 to 65535. The digits and then
+/// the rest are the input.
 pub fn port_number<'i>(input: &mut &'i [u8]) -> Result<Port<'i>, EmptyError>
-    ensures number { IfOk result (λ port. 0 < port.number) }
-    ensures splits { IfOk result (λ port. input.old.now ≡ port.text.now ++ input.new.now) }
+    ensures { IfOk result (λ port.
+        IsPort port.number port.text.now input.old.now input.new.now) }
 {
-    Digit1
+    let mut port = Digit1
         .parse_to::<u16>()
         .verify(|number: &u16| *number > 0)
         .with_taken()
@@ -28,6 +30,9 @@ pub fn port_number<'i>(input: &mut &'i [u8]) -> Result<Port<'i>, EmptyError>
             number: both.0,
             text: both.1,
         })
-        .complete_err()
-        .parse_next(input)
+        .complete_err();
+    match port.parse_next(input) {
+        Ok(port) => Ok(port),
+        Err(error) => Err(error),
+    }
 }

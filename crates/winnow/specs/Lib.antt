@@ -25,6 +25,7 @@ pub use Rattle.winnow_core.specs.Take as TakeAdapter
 pub use Rattle.winnow_core.specs.Laws as ParserLaws
 pub use Rattle.winnow_token.specs.Literal as LiteralParser
 pub use Rattle.winnow_comb.specs.Laws as CombinatorLaws
+pub use Rattle.winnow_meanings.specs.Laws as MeaningLaws
 pub use Rattle.winnow_expression_trees.specs.Reading as ReadingOfParts
 pub use Rattle.winnow_expression_trees.specs.Value as ValueOfTree
 -- Modules that only proofs of these crates cite:
@@ -84,6 +85,8 @@ pub use Rattle.stream_bits.specs.BitInput
 pub use Rattle.stream_bits.specs.BitList
 pub use Rattle.stream_bits.specs.BitReading
 pub use Rattle.stream_bits.specs.Within
+-- Streams that record the errors from which parsers recover.
+pub use Rattle.stream_recovery.specs.Recorded
 -- The core of the parsers: the trait `Parser` with its adapters, parsers by value, and sequences.
 pub use Rattle.winnow_core.specs.Agrees
 pub use Rattle.winnow_core.specs.AndThen
@@ -222,6 +225,16 @@ pub use Rattle.winnow_expression_trees.specs.Keeps
 pub use Rattle.winnow_expression_trees.specs.OneTree
 pub use Rattle.winnow_expression_trees.specs.Premises
 pub use Rattle.winnow_expression_trees.specs.Tree
+-- Parsers that recover from errors: the adapters `retry_after` and `resume_after`, and
+-- `recoverable_parse`, which answers all errors that were recorded.
+pub use Rattle.winnow_recovery.specs.RecoverableParse
+pub use Rattle.winnow_recovery.specs.Recovery
+pub use Rattle.winnow_recovery.specs.RecoveryLaws
+pub use Rattle.winnow_recovery.specs.ResumeAfter
+pub use Rattle.winnow_recovery.specs.RetryAfter
+-- Text with escapes: parts that stand for themselves, and parts behind a control, as a backslash.
+pub use Rattle.winnow_escapes.specs.Escaped
+pub use Rattle.winnow_escapes.specs.TakeEscaped
 -- Stable parsers: on a cut input each asks for more, or answers what it answers on every longer
 -- input.
 pub use Rattle.winnow_stable.specs.MapErrKept

@@ -50,3 +50,8 @@ pub use Rattle.winnow_integers.specs.Integer.Written.{known_bytes}
 pub use Rattle.winnow_binary.specs.Length.Known.{known_lengths}
 pub use Rattle.winnow_binary.specs.LengthAndThen.Known.{known_taken}
 pub use Rattle.winnow_binary.specs.LengthRepeat.Known.{known_items}
+pub use Rattle.winnow_recovery.specs.RecoverableParse.Known.{known_recoverable_parses}
+pub use Rattle.winnow_recovery.specs.ResumeAfter.Known.{known_resumes}
+pub use Rattle.winnow_recovery.specs.RetryAfter.Known.{known_retries}
+pub use Rattle.winnow_escapes.specs.Escaped.Known.{known_escapes}
+pub use Rattle.winnow_escapes.specs.TakeEscaped.Known.{known_slices_with_escapes}

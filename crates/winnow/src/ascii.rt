@@ -9,4 +9,5 @@ pub use winnow_ascii::ascii::{
     line_ending, multispace0, multispace1, newline, oct_digit0, oct_digit1, space0, space1, tab,
     till_line_ending,
 };
+pub use winnow_escapes::ascii::{escaped, take_escaped};
 pub use winnow_numbers::ascii::{Int, Uint, dec_int, dec_uint, hex_uint};

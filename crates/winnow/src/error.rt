@@ -1,5 +1,6 @@
 //! What parsers answer where they have no output.
 pub use streams::needed::Needed;
+pub use winnow_recovery::parser::NoMemory;
 
 // What stands below is written by scripts/registries.py: do not edit.
 pub use stream_errors::context::AddContext;

@@ -23,11 +23,26 @@ pub use winnow_core::laws::{
     tokens_with_the_output_and_the_rest_are_the_input, try_map_goes_back, verify_goes_back,
     verify_map_goes_back,
 };
+pub use winnow_escapes::laws::{
+    escaped_bytes_and_the_rest_are_the_input, escaped_leaves_an_end,
+    escaped_text_and_the_rest_are_the_input, take_escaped_leaves_an_end,
+    the_escaped_slice_and_the_rest_are_the_input,
+};
 pub use winnow_expression_trees::laws::{Likeness, expression_reads_the_one_tree};
 pub use winnow_integers::laws::little_endian_is_big_endian_of_the_reversed_bytes;
+pub use winnow_meanings::laws::{
+    a_choice_means_the_first_that_does_not_backtrack, a_repetition_means_a_chain_of_runs,
+    a_separated_list_means_a_chain_of_links, a_sequence_means_its_parsers_in_order,
+    each_call_ends_as_its_derivation, not_means_that_its_parser_backtracks,
+    opt_means_its_parser_or_none, peek_means_its_parser_ahead, verify_means_its_parser_and_a_test,
+};
 pub use winnow_numbers::laws::{
     dec_int_passes_its_digits, dec_int_reads_one_number, dec_uint_passes_its_digits,
     dec_uint_reads_one_number, hex_uint_reads_one_number,
+};
+pub use winnow_recovery::laws::{
+    no_error_is_a_whole_parse, resume_after_is_answered_alike, resume_after_leaves_an_end,
+    retry_after_is_answered_alike, retry_after_leaves_an_end,
 };
 pub use winnow_repeat::laws::repeat_runs_at_most_once_a_unit;
 pub use winnow_separated::laws::{

@@ -26,4 +26,5 @@ pub mod stream;
 
 pub use winnow_core::agrees_with::AgreesWith;
 pub use winnow_core::parser::{Func, ModalParser, Parser};
+pub use winnow_recovery::{RecoverableParser, RecoveringParser};
 pub use winnow_token::token;

@@ -1,6 +1,7 @@
 //! What parsers read: streams, and the sets, literals and numbers that they are asked for.
 pub use byte_sets::byte_set::ByteSet;
 pub use stream_errors::recover::Recover;
+pub use stream_recovery::recoverable::Recoverable;
 pub use stream_searches::compare::like::ComparesLike;
 pub use stream_searches::compare::{Compare, CompareResult};
 pub use stream_searches::find::FindSlice;

@@ -12,6 +12,7 @@ use Rattle.winnow_expression.specs.declared.combinator.calls.Call.{Call}
 use Rattle.winnow_expression.specs.declared.combinator.calls.Open.{Open}
 use Rattle.winnow_expression.specs.declared.combinator.impls.expression.Expression.{Expression}
 use Rattle.winnow_expression.specs.declared.combinator.places.First.TheVariants.{Operand}
+pub mod Agree
 pub mod Laws
 
 -- the parts: the parsers of operands and operators, and the least power

@@ -1,19 +1,13 @@
 -- What is decided by a place, up to outputs and folds that are alike.
-use Rattle.std.specs.Prelude.{◌≡◌, ℤ, Some}
-use Rattle.std.proofs.Common.{refl, sym, ◌∙◌, ap}
-use Rattle.winnow_expression.specs.Operators.{fold_of, left_power, neither_power, right_power}
+use Rattle.std.specs.Prelude.{◌≡◌, Some}
+use Rattle.std.proofs.Common.{refl, ap}
 use Rattle.winnow_expression_trees.specs.Tree.{Tree, leaf, before, behind, between, top_neither}
 use Rattle.winnow_expression.specs.declared.combinator.places.First.{First}
-use Rattle.winnow_expression.specs.declared.combinator.places.First.TheVariants.{Operand}
-use Rattle.winnow_expression.specs.declared.combinator.places.First.TheVariants.{
-  Prefix as prefix_read,
-}
 use Rattle.winnow_expression.specs.declared.combinator.places.Next.{Next}
 use Rattle.winnow_expression.specs.declared.combinator.places.Next.TheVariants.{Nothing, Postfix}
 use Rattle.winnow_expression.specs.declared.combinator.places.Next.TheVariants.{Infix as infix_read}
-use Rattle.winnow_expression.specs.declared.combinator.operators.Infix.{Infix}
 use Rattle.winnow_expression_trees.specs.Reading.{power_of}
-use Rattle.winnow_expression_trees.specs.Alike.{AlikeFirst, AlikeInfix, AlikeNext, AlikeTree}
+use Rattle.winnow_expression_trees.specs.Alike.{AlikeFirst, AlikeNext, AlikeTree}
 
 -- One place decides what is read there, and where that ends.
 pub record Decided {V F G H P : Type 0} (av : V → V → Type 0) (af : F → F → Type 0)

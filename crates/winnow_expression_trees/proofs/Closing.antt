@@ -1,33 +1,19 @@
 -- What closing an operator makes of its operands, and answers.
-use Rattle.std.specs.Prelude.{◌≡◌, ◌≤ℤ◌, ◌<ℤ◌, ◌<◌, ◌⊎◌, ℕ, ℤ, Bool, true, false, Option, Some}
+use Rattle.std.specs.Prelude.{◌≡◌, ℕ, ℤ, Bool, Option, Some}
 use Rattle.std.specs.Prelude.{None, Ok, Err}
-use Rattle.std.proofs.Common.{refl, sym, ◌∙◌, ap, subst, inl, inr, arith}
-use Rattle.std.specs.Int.Signed.{clash_ℤ}
+use Rattle.std.proofs.Common.{refl, sym, ◌∙◌, ap, subst, inl, inr}
 use Rattle.stream_errors.specs.Form.{Answer}
-use Rattle.streams.specs.Input.{Input, back_at}
+use Rattle.streams.specs.Input.{Input}
 use Rattle.streams.specs.Kind.{Kind, memory}
 use Rattle.winnow_expression.specs.Units.{units_left}
-use Rattle.winnow_expression.specs.Calls.{call_at}
-use Rattle.winnow_expression.specs.Operators.{fold_of, left_power, neither_power, right_power}
-use Rattle.winnow_expression.specs.Expression.{ExpressionRuns}
-use Rattle.winnow_expression.specs.Grammar.{Grammar, Folding, CallEnds, Closes, ResumeEnds}
-use Rattle.winnow_expression.specs.Grammar.{TurnEnds}
-use Rattle.winnow_expression.specs.Expression.{CallRuns, TurnRuns, ResumeRuns, call_ends}
-use Rattle.winnow_expression.specs.Expression.{call_operand, call_prefix}
-use Rattle.winnow_expression.specs.Expression.{turn_ends, turn_postfix, turn_infix, resume_ends}
+use Rattle.winnow_expression.specs.Operators.{fold_of, neither_power}
+use Rattle.winnow_expression.specs.Grammar.{Grammar, Closes}
+use Rattle.winnow_expression.specs.Expression.{ResumeRuns}
+use Rattle.winnow_expression.specs.Expression.{resume_ends}
 use Rattle.winnow_expression.specs.Expression.{resume_goes}
-use Rattle.winnow_expression_trees.specs.Tree.{Tree, leaf, before, behind, between, top_neither}
-use Rattle.winnow_expression.specs.declared.combinator.places.First.{First}
-use Rattle.winnow_expression.specs.declared.combinator.places.First.TheVariants.{Operand}
-use Rattle.winnow_expression.specs.declared.combinator.places.First.TheVariants.{
-  Prefix as prefix_read,
-}
-use Rattle.winnow_expression.specs.declared.combinator.places.Next.{Next}
-use Rattle.winnow_expression.specs.declared.combinator.places.Next.TheVariants.{Nothing, Postfix}
-use Rattle.winnow_expression.specs.declared.combinator.places.Next.TheVariants.{Infix as infix_read}
+use Rattle.winnow_expression_trees.specs.Tree.{Tree, before, between}
 use Rattle.winnow_expression.specs.declared.combinator.operators.Infix.{Infix}
 use Rattle.winnow_expression.specs.declared.combinator.calls.Call.{Call}
-use Rattle.winnow_expression.specs.declared.combinator.calls.Operator.{Operator}
 use Rattle.winnow_expression.specs.declared.combinator.calls.Operator.TheVariants.{
   Prefix as prefix_open,
 }
@@ -35,19 +21,7 @@ use Rattle.winnow_expression.specs.declared.combinator.calls.Operator.TheVariant
   Infix as infix_open,
 }
 use Rattle.winnow_expression.specs.declared.combinator.calls.Open.{Open}
-use Rattle.winnow_expression_trees.specs.Reading.{Over, Below, power_of}
-use Rattle.winnow_expression_trees.proofs.TreeCalls.{Reads, Grows, reads_operand, reads_prefix}
-use Rattle.winnow_expression_trees.proofs.TreeCalls.{reads_ended, grows_stop, grows_block}
-use Rattle.winnow_expression_trees.proofs.TreeCalls.{grows_postfix, grows_infix, grows_ended}
-use Rattle.winnow_expression_trees.proofs.Views.{Follows, Stops, reads_as, grows_as, operand_at}
-use Rattle.winnow_expression_trees.proofs.Views.{prefix_at, stop_at, postfix_at, infix_at}
-use Rattle.winnow_expression_trees.proofs.Exact.{reads_sound}
-use Rattle.winnow_expression_trees.proofs.Unique.{clash_flag}
-use Rattle.winnow_expression_trees.proofs.Over.{no_turn_begun, no_turn_still, no_postfix_still}
-use Rattle.winnow_expression_trees.proofs.Plain.{Plain, decided, moves, own_first, own_next}
-use Rattle.winnow_expression_trees.proofs.Plain.{no_first, no_next, no_prefix}
 use Rattle.winnow_expression_trees.specs.Premises.{NotMemory, Same, FoldAlike, FoldsAlike}
-use Rattle.winnow_expression_trees.specs.Reading.{FirstStep, NextStep}
 use Rattle.winnow_expression_trees.specs.Value.{Value}
 
 pub clash : {O P : Type 0} {a : Answer O} {v : O} {k : Kind} → a ≡ Err k → a ≡ Ok v → P

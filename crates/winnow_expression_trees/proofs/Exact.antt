@@ -1,23 +1,19 @@
 -- A call reads exactly the trees that keep the powers.
-use Rattle.std.specs.Prelude.{◌≡◌, ◌≤ℤ◌, ◌<ℤ◌, ◌⊎◌, ℤ, Bool, true, false, Some}
-use Rattle.std.proofs.Common.{refl, sym, ◌∙◌, ap, subst, inl, inr}
+use Rattle.std.specs.Prelude.{◌≡◌, ◌<ℤ◌, ℤ, Bool, true, false, Some}
+use Rattle.std.proofs.Common.{refl, ◌∙◌, subst, inl, inr}
 use Rattle.winnow_expression.specs.Operators.{left_power, right_power}
-use Rattle.winnow_expression_trees.specs.Tree.{Tree, leaf, before, behind, between, top_neither}
+use Rattle.winnow_expression_trees.specs.Tree.{Tree, leaf, before, behind, between}
 use Rattle.winnow_expression.specs.declared.combinator.places.First.{First}
-use Rattle.winnow_expression.specs.declared.combinator.places.First.TheVariants.{Operand}
-use Rattle.winnow_expression.specs.declared.combinator.places.First.TheVariants.{
-  Prefix as prefix_read,
-}
 use Rattle.winnow_expression.specs.declared.combinator.places.Next.{Next}
-use Rattle.winnow_expression.specs.declared.combinator.places.Next.TheVariants.{Nothing, Postfix}
+use Rattle.winnow_expression.specs.declared.combinator.places.Next.TheVariants.{Postfix}
 use Rattle.winnow_expression.specs.declared.combinator.places.Next.TheVariants.{Infix as infix_read}
 use Rattle.winnow_expression.specs.declared.combinator.operators.Infix.{Infix}
-use Rattle.winnow_expression_trees.specs.Reading.{Over, Below, power_of}
+use Rattle.winnow_expression_trees.specs.Reading.{Over, power_of}
 use Rattle.winnow_expression_trees.proofs.TreeCalls.{Reads, Grows, reads_operand, reads_prefix}
 use Rattle.winnow_expression_trees.proofs.TreeCalls.{reads_ended, grows_stop, grows_block}
 use Rattle.winnow_expression_trees.proofs.TreeCalls.{grows_postfix, grows_infix, grows_ended}
 use Rattle.winnow_expression_trees.specs.Keeps.{Reaches, EdgeAbove, Binds, Meets, MeetsHere, Above}
-use Rattle.winnow_expression_trees.specs.Keeps.{Ends, EndsAll, Outcome, Keeps}
+use Rattle.winnow_expression_trees.specs.Keeps.{Ends, Outcome, Keeps}
 use Rattle.winnow_expression_trees.proofs.Alike.{Decided, alike_power}
 
 -- completeness

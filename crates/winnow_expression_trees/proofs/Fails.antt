@@ -1,59 +1,76 @@
--- What failures come from.
-use Rattle.std.specs.Prelude.{◌≡◌, ◌≤ℤ◌, ◌<ℤ◌, ◌≤◌, ◌<◌, ◌⊎◌, ℕ, ℤ, Bool, true, false, Option, Some}
-use Rattle.std.specs.Prelude.{None, Ok, Err}
+-- What failures come from, with folds that may refuse anything.
+use Rattle.std.specs.Prelude.{◌≡◌, ◌≤◌, ◌⊎◌, ℕ, ℤ, Bool, true, false}
+use Rattle.std.specs.Prelude.{Ok, Err}
 use Rattle.std.proofs.Common.{refl, sym, ◌∙◌, ap, subst, inl, inr, arith}
 use Rattle.stream_errors.specs.Form.{Answer}
-use Rattle.streams.specs.Input.{Input, back_at}
+use Rattle.streams.specs.Input.{Input}
 use Rattle.streams.specs.Kind.{Kind, memory}
 use Rattle.winnow_expression.specs.Units.{units_left}
 use Rattle.winnow_expression.specs.Calls.{call_at}
-use Rattle.winnow_expression.specs.Operators.{fold_of, left_power, neither_power, right_power}
-use Rattle.winnow_expression.specs.Expression.{ExpressionRuns}
-use Rattle.winnow_expression.specs.Grammar.{Grammar, Folding, Closes, TurnEnds}
+use Rattle.winnow_expression.specs.Operators.{fold_of, left_power}
+use Rattle.winnow_expression.specs.Grammar.{Grammar, Closes, TurnEnds}
 use Rattle.winnow_expression.specs.Expression.{CallRuns, TurnRuns, ResumeRuns, call_ends}
 use Rattle.winnow_expression.specs.Expression.{call_operand, call_prefix}
 use Rattle.winnow_expression.specs.Expression.{turn_ends, turn_postfix, turn_infix, resume_ends}
 use Rattle.winnow_expression.specs.Expression.{resume_goes}
-use Rattle.winnow_expression_trees.specs.Tree.{Tree, leaf, before, behind, between, top_neither}
+use Rattle.winnow_expression_trees.specs.Tree.{Tree, leaf, before, behind, between}
 use Rattle.winnow_expression.specs.declared.combinator.places.First.{First}
 use Rattle.winnow_expression.specs.declared.combinator.places.First.TheVariants.{Operand}
 use Rattle.winnow_expression.specs.declared.combinator.places.First.TheVariants.{
   Prefix as prefix_read,
 }
 use Rattle.winnow_expression.specs.declared.combinator.places.Next.{Next}
-use Rattle.winnow_expression.specs.declared.combinator.places.Next.TheVariants.{Nothing, Postfix}
+use Rattle.winnow_expression.specs.declared.combinator.places.Next.TheVariants.{Postfix}
 use Rattle.winnow_expression.specs.declared.combinator.places.Next.TheVariants.{Infix as infix_read}
 use Rattle.winnow_expression.specs.declared.combinator.operators.Infix.{Infix}
 use Rattle.winnow_expression.specs.declared.combinator.calls.Call.{Call}
 use Rattle.winnow_expression.specs.declared.combinator.calls.Operator.TheVariants.{
-  Prefix as prefix_open,
-}
-use Rattle.winnow_expression.specs.declared.combinator.calls.Operator.TheVariants.{
   Infix as infix_open,
 }
 use Rattle.winnow_expression.specs.declared.combinator.calls.Open.{Open}
-use Rattle.winnow_expression_trees.specs.Reading.{Over, power_of}
+use Rattle.winnow_expression_trees.specs.Reading.{Over}
 use Rattle.winnow_expression_trees.proofs.Exact.{reads_sound}
 use Rattle.winnow_expression_trees.proofs.Over.{over_falls}
-use Rattle.winnow_expression_trees.proofs.Closing.{clash, same_value, no_memory, resume_not}
+use Rattle.winnow_expression_trees.proofs.Closing.{clash, no_memory, resume_not}
 use Rattle.winnow_expression_trees.proofs.Plain.{Plain, decided, moves, own_first, own_next}
 use Rattle.winnow_expression_trees.specs.Premises.{NotMemory, FoldAlike, FoldsAlike}
 use Rattle.winnow_expression_trees.specs.Reading.{FirstStep, NextStep}
 use Rattle.winnow_expression_trees.proofs.Finds.{between_closes, call_tree}
-use Rattle.winnow_expression_trees.specs.Failure.{Comes, EndedBy, FailsBy, RefusedBy, Unmoved}
+use Rattle.winnow_expression_trees.specs.Failure.{Comes, EndedBy, Unmoved}
 use Rattle.winnow_expression_trees.specs.Failure.{comes_infix, comes_operand, comes_postfix}
-use Rattle.winnow_expression_trees.specs.Failure.{comes_prefix, comes_start}
+use Rattle.winnow_expression_trees.specs.Failure.{comes_prefix}
 
-err_same : {O : Type 0} {a : Answer O} {k l : Kind} → a ≡ Err k → a ≡ Err l → k ≡ l
+-- The fold of an operator that is read refuses, on some values.
+abbrev pub Refuses : {S W T V F G H : Type 0} → Grammar S W T V F G H → S × W → Input T → Kind
+    → Input T
+    → Type 0
+Refuses {S} {W} {T} {V} {F} {G} {H} g s0 start kind j =
+    ((k : Input T) × (n : Input T) × (p : ℤ) × (f : F) × (m : Input T) × (v : V)
+    × Comes (FirstStep g s0) (NextStep g s0) start true k × FirstStep g s0 k (prefix_read p f) n
+    × g.folding.before f m v (Err kind) j)
+    ⊎ (((k : Input T) × (n : Input T) × (p : ℤ) × (f : G) × (m : Input T) × (v : V)
+    × Comes (FirstStep g s0) (NextStep g s0) start false k × NextStep g s0 k (Postfix p f) n
+    × g.behind f m v (Err kind) j)
+    ⊎ ((k : Input T) × (n : Input T) × (o : Infix H) × (m : Input T) × (v : V) × (w : V)
+    × Comes (FirstStep g s0) (NextStep g s0) start false k × NextStep g s0 k (infix_read o) n
+    × g.folding.between (fold_of o) m v w (Err kind) j))
+
+abbrev pub FailsSo : {S W T V F G H : Type 0} → Grammar S W T V F G H → S × W → Input T → Kind
+    → Input T
+    → Type 0
+FailsSo g s0 start kind j =
+    EndedBy g s0 start kind j ⊎ (Refuses g s0 start kind j ⊎ Unmoved g s0 start)
+
+pub err_same : {O : Type 0} {a : Answer O} {k l : Kind} → a ≡ Err k → a ≡ Err l → k ≡ l
 err_same e f = cc
 
 err_equal : {O : Type 0} {k l : Kind} → ◌≡◌ {A = Answer O} (Err k) (Err l) → k ≡ l
 err_equal e = cc
 
-err_ok : {O : Type 0} {k : Kind} {v : O} → ◌≡◌ {A = Answer O} (Err k) (Ok v) → ⊥
+pub err_ok : {O : Type 0} {k : Kind} {v : O} → ◌≡◌ {A = Answer O} (Err k) (Ok v) → ⊥
 err_ok e = cc
 
-comes_over : {V F G H P : Type 0} (first : P → First V F → P → Type 0)
+pub comes_over : {V F G H P : Type 0} (first : P → First V F → P → Type 0)
     (next : P → Next G H → P → Type 0)
     (start : P) (t : Tree V F G H) (i j : P) → Comes first next start true i → Over first next t i j
     → Comes first next start false j
@@ -76,7 +93,7 @@ module _ {S W T V F G H : Type 0} (g : Grammar S W T V F G H) (alike : V → V �
       → s ≡ s0.1 → NotMemory a
       → Comes (FirstStep g s0) (NextStep g s0) start false i
       → units_left g.folding.units i ≤ call.began → (kind : Kind) → a ≡ Err kind
-      → FailsBy g s0 start kind j
+      → FailsSo g s0 start kind j
   turn_ends_fail call left s t i j a (inl (r, e)) es other comes high kind f = clash f e
   turn_ends_fail call left s t i j a (inr (inl (k, r, e))) es other comes high kind f =
       let ran = subst (λ z. g.next z i (Err k) t j) es r in
@@ -153,7 +170,7 @@ module _ {S W T V F G H : Type 0} (g : Grammar S W T V F G H) (alike : V → V �
       → units_left g.folding.units m ≤ units_left g.folding.units i
       → units_left g.folding.units n ≤ units_left g.folding.units m
       → Closes g.folding (infix_open left (fold_of o)) turn n right (Err k) z
-      → FailsBy g s0 start k z
+      → FailsSo g s0 start k z
   infix_refuses i m o left right n z k turn here comes read still falls more (inl (l, folded, e)) =
       inr (inl (inr (inr (
         i,
@@ -198,7 +215,7 @@ module _ {S W T V F G H : Type 0} (g : Grammar S W T V F G H) (alike : V → V �
         → CallRuns g call s i a t j → Kept s → NotMemory a
         → Comes (FirstStep g s0) (NextStep g s0) start true i
         → units_left g.folding.units i ≤ call.began → (kind : Kind) → a ≡ Err kind
-        → FailsBy g s0 start kind j
+        → FailsSo g s0 start kind j
     call_fails _ _ _ _ _ _ (call_ends call s t i j k a (inl run) kept e) es other comes high
         kind f =
         let ran = subst (λ z. g.first z i (Err k) t.0 j) es.0 run in
@@ -270,7 +287,7 @@ module _ {S W T V F G H : Type 0} (g : Grammar S W T V F G H) (alike : V → V �
         → TurnRuns g call left s i a t j → Kept s → NotMemory a
         → Comes (FirstStep g s0) (NextStep g s0) start false i
         → units_left g.folding.units i ≤ call.began → (kind : Kind) → a ≡ Err kind
-        → FailsBy g s0 start kind j
+        → FailsSo g s0 start kind j
     turn_fails _ _ _ _ _ _ _ (turn_ends call left s t i j a ended kept) es other comes high kind f =
         turn_ends_fail call left s.1 t.1 i j a ended es.1 other comes high kind f
     turn_fails _ _ _ _ _ _ _
@@ -341,22 +358,22 @@ module _ {S W T V F G H : Type 0} (g : Grammar S W T V F G H) (alike : V → V �
     pub resume_fails : (x : Open V F H) (b : Answer (V × Bool)) (s : S × W) (i : Input T)
         (a : Answer (V × Bool)) (t : S × W)
         (j : Input T) → ResumeRuns g x b s i a t j → NotMemory a
-        → ((k : Kind) → b ≡ Err k → FailsBy g s0 start k i)
+        → ((k : Kind) → b ≡ Err k → FailsSo g s0 start k i)
         → ((v : V) (all : Bool) → b ≡ Ok (v, all)
         → Kept s × Comes (FirstStep g s0) (NextStep g s0) start false i
         × (units_left g.folding.units i ≤ x.call.began))
         → ((right : V) (all : Bool) (k : Kind) (m : Input T) → b ≡ Ok (right, all)
-        → Closes g.folding x.operator x.call.turn i right (Err k) m → FailsBy g s0 start k m)
+        → Closes g.folding x.operator x.call.turn i right (Err k) m → FailsSo g s0 start k m)
         → ((right v : V) (m : Input T)
         → Closes g.folding x.operator x.call.turn i right (Ok v) m → m ≡ i)
-        → (kind : Kind) → a ≡ Err kind → FailsBy g s0 start kind j
+        → (kind : Kind) → a ≡ Err kind → FailsSo g s0 start kind j
     resume_fails _ _ _ _ _ _ _ (resume_ends x b a s t i j (inl (k, e, failed, same)) kept) other
         fails comes refuses leaves kind f =
-        subst (λ z. FailsBy g s0 start kind z) (sym same) (fails kind (e ∙ sym failed ∙ f))
+        subst (λ z. FailsSo g s0 start kind z) (sym same) (fails kind (e ∙ sym failed ∙ f))
     resume_fails _ _ _ _ _ _ _
         (resume_ends x b a s t i j (inr (inl (right, every, k, e, folds, failed))) kept) other
         fails comes refuses leaves kind f =
-        subst (λ z. FailsBy g s0 start z j) (err_same failed f) (refuses right every k j e folds)
+        subst (λ z. FailsSo g s0 start z j) (err_same failed f) (refuses right every k j e folds)
     resume_fails _ _ _ _ _ _ _
         (resume_ends x b a s t i j (inr (inr (right, w, e, folds, done))) kept) other fails
         comes refuses leaves kind f =

@@ -1,26 +1,22 @@
 -- A run that succeeds answers the value of a tree that it read.
-use Rattle.std.specs.Prelude.{◌≡◌, ◌≤ℤ◌, ◌<ℤ◌, ◌<◌, ◌⊎◌, ℕ, ℤ, Bool, true, false, Option, Some}
-use Rattle.std.specs.Prelude.{None, Ok, Err}
+use Rattle.std.specs.Prelude.{◌≡◌, ◌<ℤ◌, ℕ, ℤ, Bool, true, false, Some}
+use Rattle.std.specs.Prelude.{None, Ok}
 use Rattle.std.proofs.Common.{refl, sym, ◌∙◌, ap, subst, inl, inr}
 use Rattle.stream_errors.specs.Form.{Answer}
-use Rattle.streams.specs.Input.{Input, back_at}
-use Rattle.streams.specs.Kind.{Kind}
+use Rattle.streams.specs.Input.{Input}
 use Rattle.winnow_expression.specs.Units.{units_left}
 use Rattle.winnow_expression.specs.Calls.{call_at}
-use Rattle.winnow_expression.specs.Operators.{fold_of, left_power, neither_power, right_power}
-use Rattle.winnow_expression.specs.Expression.{ExpressionRuns}
-use Rattle.winnow_expression.specs.Grammar.{Grammar, Folding, Closes, ResumeEnds, TurnEnds}
+use Rattle.winnow_expression.specs.Operators.{fold_of, left_power, neither_power}
+use Rattle.winnow_expression.specs.Grammar.{Grammar, Folding, Closes, TurnEnds}
 use Rattle.winnow_expression.specs.Expression.{CallRuns, TurnRuns, ResumeRuns, call_ends}
 use Rattle.winnow_expression.specs.Expression.{call_operand, call_prefix}
 use Rattle.winnow_expression.specs.Expression.{turn_ends, turn_postfix, turn_infix, resume_ends}
 use Rattle.winnow_expression.specs.Expression.{resume_goes}
 use Rattle.winnow_expression_trees.specs.Tree.{Tree, leaf, before, behind, between, top_neither}
-use Rattle.winnow_expression.specs.declared.combinator.places.First.{First}
 use Rattle.winnow_expression.specs.declared.combinator.places.First.TheVariants.{Operand}
 use Rattle.winnow_expression.specs.declared.combinator.places.First.TheVariants.{
   Prefix as prefix_read,
 }
-use Rattle.winnow_expression.specs.declared.combinator.places.Next.{Next}
 use Rattle.winnow_expression.specs.declared.combinator.places.Next.TheVariants.{Nothing, Postfix}
 use Rattle.winnow_expression.specs.declared.combinator.places.Next.TheVariants.{Infix as infix_read}
 use Rattle.winnow_expression.specs.declared.combinator.operators.Infix.{Infix}
@@ -32,7 +28,6 @@ use Rattle.winnow_expression.specs.declared.combinator.calls.Operator.TheVariant
   Infix as infix_open,
 }
 use Rattle.winnow_expression.specs.declared.combinator.calls.Open.{Open}
-use Rattle.winnow_expression_trees.specs.Reading.{Over, Below}
 use Rattle.winnow_expression_trees.proofs.TreeCalls.{Reads, Grows, reads_operand, reads_prefix}
 use Rattle.winnow_expression_trees.proofs.TreeCalls.{reads_ended, grows_stop, grows_block}
 use Rattle.winnow_expression_trees.proofs.TreeCalls.{grows_postfix, grows_infix, grows_ended}

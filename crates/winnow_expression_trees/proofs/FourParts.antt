@@ -1,9 +1,9 @@
 -- The premises on the four parts are those on what is read.
-use Rattle.std.specs.Prelude.{◌≡◌, ◌≤◌, ◌<◌, ◌⊎◌, ℕ, ℤ, Option, Some, Ok, Err}
+use Rattle.std.specs.Prelude.{◌≡◌, ◌<◌, ◌⊎◌, ℤ, Some, Ok, Err}
 use Rattle.std.proofs.Common.{refl, sym, ◌∙◌, ap, subst, inl, inr, arith}
 use Rattle.stream_errors.specs.Form.{Answer}
-use Rattle.streams.specs.Input.{Input, IsEndOf, back_at, is_end_of_refl}
-use Rattle.streams.specs.Kind.{Kind, backtrack, memory}
+use Rattle.streams.specs.Input.{Input, IsEndOf, back_at}
+use Rattle.streams.specs.Kind.{Kind, backtrack}
 use Rattle.winnow_core.specs.Runs.{Runs}
 use Rattle.winnow_expression.specs.Units.{ends_less, units_left}
 use Rattle.winnow_core.specs.Ends.{same_units}
@@ -23,9 +23,9 @@ use Rattle.winnow_expression.specs.declared.combinator.places.Next.TheVariants.{
 use Rattle.winnow_expression.specs.declared.combinator.places.Next.TheVariants.{Infix as infix_read}
 use Rattle.winnow_expression_trees.specs.Alike.{AlikeInfix}
 use Rattle.winnow_expression_trees.proofs.Plain.{Plain, first_run}
-use Rattle.winnow_expression_trees.specs.Premises.{NotMemory, Same, FoldAlike, FoldsAlike}
+use Rattle.winnow_expression_trees.specs.Premises.{NotMemory, FoldAlike, FoldsAlike}
 use Rattle.winnow_expression_trees.proofs.Parts.{back_is, first_decided, first_status, not_back}
-use Rattle.winnow_expression_trees.specs.Premises.{AlikePrefix, Premises}
+use Rattle.winnow_expression_trees.specs.Premises.{Premises}
 use Rattle.winnow_expression_trees.proofs.NextParts.{InfixSeen, SeenLater, next_decided, next_seen}
 use Rattle.winnow_expression_trees.proofs.NextParts.{next_status}
 use Rattle.winnow_expression_trees.specs.Premises.{AlikePostfix}

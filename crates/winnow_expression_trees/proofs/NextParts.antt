@@ -1,9 +1,9 @@
 -- Postfixes and infixes that are stateless, at an operator's place.
-use Rattle.std.specs.Prelude.{◌≡◌, ◌≤◌, ◌<◌, ◌⊎◌, List, ℕ, ℤ, Some, Ok, Err}
+use Rattle.std.specs.Prelude.{◌≡◌, ◌<◌, ◌⊎◌, List, ℕ, Ok, Err}
 use Rattle.std.proofs.Common.{refl, sym, ◌∙◌, ap, subst, inl, inr, arith}
 use Rattle.stream_errors.specs.Form.{Answer}
-use Rattle.streams.specs.Input.{Input, back_at}
-use Rattle.streams.specs.Kind.{Kind, backtrack, memory}
+use Rattle.streams.specs.Input.{Input}
+use Rattle.streams.specs.Kind.{Kind, backtrack}
 use Rattle.winnow_core.specs.Runs.{Runs}
 use Rattle.winnow_expression.specs.Units.{units_left}
 use Rattle.winnow_expression.specs.Places.{NextRuns}

@@ -1,7 +1,7 @@
 -- Reading that consumes nothing.
-use Rattle.std.specs.Prelude.{◌≡◌, ◌≤ℤ◌, ◌<ℤ◌, ◌≤◌, ◌<◌, ◌⊎◌, ℕ, ℤ, Bool, true, false, Option, Some}
+use Rattle.std.specs.Prelude.{◌≡◌, ◌≤ℤ◌, ◌<ℤ◌, ◌≤◌, ◌<◌, ℕ, ℤ, Bool, true, false, Option, Some}
 use Rattle.std.specs.Prelude.{None}
-use Rattle.std.proofs.Common.{refl, sym, ◌∙◌, ap, subst, inl, inr, arith}
+use Rattle.std.proofs.Common.{refl, sym, ◌∙◌, ap, subst, arith}
 use Rattle.std.specs.Int.Signed.{clash_ℤ}
 use Rattle.winnow_expression.specs.Operators.{left_power, neither_power, right_power}
 use Rattle.winnow_expression_trees.specs.Tree.{Tree, leaf, before, behind, between, top_neither}
@@ -11,15 +11,14 @@ use Rattle.winnow_expression.specs.declared.combinator.places.First.TheVariants.
   Prefix as prefix_read,
 }
 use Rattle.winnow_expression.specs.declared.combinator.places.Next.{Next}
-use Rattle.winnow_expression.specs.declared.combinator.places.Next.TheVariants.{Nothing, Postfix}
+use Rattle.winnow_expression.specs.declared.combinator.places.Next.TheVariants.{Postfix}
 use Rattle.winnow_expression.specs.declared.combinator.places.Next.TheVariants.{Infix as infix_read}
 use Rattle.winnow_expression.specs.declared.combinator.operators.Infix.{Infix}
-use Rattle.winnow_expression_trees.specs.Reading.{Over, Below, power_of}
+use Rattle.winnow_expression_trees.specs.Reading.{Over}
 use Rattle.winnow_expression_trees.proofs.TreeCalls.{Reads, Grows, reads_operand, reads_prefix}
 use Rattle.winnow_expression_trees.proofs.TreeCalls.{reads_ended, grows_stop, grows_block}
 use Rattle.winnow_expression_trees.proofs.TreeCalls.{grows_postfix, grows_infix, grows_ended}
 use Rattle.winnow_expression_trees.proofs.Alike.{Decided, alike_power}
-use Rattle.winnow_expression_trees.specs.Alike.{AlikeNext}
 use Rattle.winnow_expression_trees.proofs.Unique.{clash_flag}
 
 -- What is read goes towards the end, stays only where nothing is consumed, and prefixes and

@@ -1,6 +1,6 @@
 -- The calls that read trees.
-use Rattle.std.specs.Prelude.{◌≡◌, ◌≤ℤ◌, ◌<ℤ◌, ◌⊎◌, ℤ, Bool, true, false, Option, Some, None}
-use Rattle.winnow_expression.specs.Operators.{left_power, neither_power, right_power}
+use Rattle.std.specs.Prelude.{◌≡◌, ◌≤ℤ◌, ℤ, Bool, true, false, Some}
+use Rattle.winnow_expression.specs.Operators.{left_power, right_power}
 use Rattle.winnow_expression_trees.specs.Tree.{Tree, leaf, before, behind, between, top_neither}
 use Rattle.winnow_expression.specs.declared.combinator.places.First.{First}
 use Rattle.winnow_expression.specs.declared.combinator.places.First.TheVariants.{Operand}
@@ -8,10 +8,10 @@ use Rattle.winnow_expression.specs.declared.combinator.places.First.TheVariants.
   Prefix as prefix_read,
 }
 use Rattle.winnow_expression.specs.declared.combinator.places.Next.{Next}
-use Rattle.winnow_expression.specs.declared.combinator.places.Next.TheVariants.{Nothing, Postfix}
+use Rattle.winnow_expression.specs.declared.combinator.places.Next.TheVariants.{Postfix}
 use Rattle.winnow_expression.specs.declared.combinator.places.Next.TheVariants.{Infix as infix_read}
 use Rattle.winnow_expression.specs.declared.combinator.operators.Infix.{Infix}
-use Rattle.winnow_expression_trees.specs.Reading.{Below, Over}
+use Rattle.winnow_expression_trees.specs.Reading.{Below}
 
 mutual
   -- A call of a least power reads a tree, from one place to another; every open call ends, or not.

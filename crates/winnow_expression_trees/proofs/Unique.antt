@@ -1,9 +1,9 @@
 -- A call has one result, and at most one tree keeps the powers.
-use Rattle.std.specs.Prelude.{◌≡◌, ◌≤ℤ◌, ◌<ℤ◌, ◌⊎◌, ℤ, Bool, true, false, Some, None}
-use Rattle.std.proofs.Common.{refl, sym, ◌∙◌, ap, subst, inl, inr}
+use Rattle.std.specs.Prelude.{◌≡◌, ℤ, Bool, true, false}
+use Rattle.std.proofs.Common.{refl, sym, ◌∙◌, subst, inl, inr}
 use Rattle.std.specs.Int.Signed.{clash_ℤ}
-use Rattle.winnow_expression.specs.Operators.{left_power, right_power}
-use Rattle.winnow_expression_trees.specs.Tree.{Tree, leaf, before, behind, between, top_neither}
+use Rattle.winnow_expression.specs.Operators.{right_power}
+use Rattle.winnow_expression_trees.specs.Tree.{Tree, leaf, before, behind, between}
 use Rattle.winnow_expression.specs.declared.combinator.places.First.{First}
 use Rattle.winnow_expression.specs.declared.combinator.places.Next.{Next}
 use Rattle.winnow_expression_trees.specs.Reading.{Over}

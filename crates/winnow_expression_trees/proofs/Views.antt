@@ -1,5 +1,5 @@
 -- How a call goes on by what is read at its place.
-use Rattle.std.specs.Prelude.{◌≡◌, ◌≤ℤ◌, ◌<ℤ◌, ◌⊎◌, ℤ, Bool, true, false, Some, None}
+use Rattle.std.specs.Prelude.{◌≡◌, ◌≤ℤ◌, ◌<ℤ◌, ◌⊎◌, ℤ, Bool, true, false, Some}
 use Rattle.std.proofs.Common.{refl, sym, ◌∙◌, ap, subst, inl, inr}
 use Rattle.std.specs.Int.Signed.{clash_ℤ}
 use Rattle.winnow_expression.specs.Operators.{left_power, right_power}

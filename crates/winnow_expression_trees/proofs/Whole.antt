@@ -1,6 +1,6 @@
 -- What an expression's run says of the trees over its reading.
 use Rattle.std.specs.Prelude.{◌≡◌, ℤ, Bool, Ok, Err}
-use Rattle.std.proofs.Common.{refl, sym, ap, subst, inl, inr, arith}
+use Rattle.std.proofs.Common.{refl, sym, subst, inl, inr}
 use Rattle.stream_errors.specs.Form.{Answer}
 use Rattle.streams.specs.Input.{Input}
 use Rattle.streams.specs.Kind.{Kind, memory}
@@ -9,20 +9,17 @@ use Rattle.winnow_expression.specs.Calls.{call_at}
 use Rattle.winnow_expression.specs.Expression.{ExpressionRuns}
 use Rattle.winnow_expression.specs.Grammar.{Grammar}
 use Rattle.winnow_expression_trees.specs.Tree.{Tree}
-use Rattle.winnow_expression_trees.specs.Reading.{Over}
-use Rattle.winnow_expression_trees.specs.Keeps.{Keeps}
-use Rattle.winnow_expression_trees.specs.Alike.{AlikeTree}
 use Rattle.winnow_expression_trees.proofs.Exact.{complete, reads_sound}
 use Rattle.winnow_expression_trees.proofs.Unique.{one_tree}
 use Rattle.winnow_expression_trees.proofs.Plain.{Plain, decided}
-use Rattle.winnow_expression_trees.specs.Premises.{NotMemory, FoldAlike, FoldsAlike}
+use Rattle.winnow_expression_trees.specs.Premises.{FoldAlike, FoldsAlike}
 use Rattle.winnow_expression_trees.specs.Reading.{FirstStep, NextStep}
 use Rattle.winnow_expression_trees.specs.Value.{Value}
 use Rattle.winnow_expression_trees.proofs.Agree.{call_agrees}
 use Rattle.winnow_expression_trees.proofs.Closing.{same_value}
-use Rattle.winnow_expression_trees.proofs.Fails.{call_fails}
-use Rattle.winnow_expression_trees.specs.Failure.{EndedBy, FailsBy, RefusedBy, Unmoved, comes_start}
+use Rattle.winnow_expression_trees.specs.Failure.{EndedBy, FailsBy, RefusedBy, Unmoved}
 use Rattle.winnow_expression_trees.proofs.Finds.{call_tree}
+use Rattle.winnow_expression_trees.proofs.Total.{run_fails, tree_refuses}
 use Rattle.winnow_expression_trees.specs.OneTree.{Alike, IsExact, KeepsOver}
 
 err_is : {V : Type 0} {k : Kind} {v : V} → ◌≡◌ {A = Answer V} (Err k) (Ok v) → ⊥
@@ -30,6 +27,9 @@ err_is e = cc
 
 ok_is : {V : Type 0} {v w : V} → ◌≡◌ {A = Answer V} (Ok v) (Ok w) → v ≡ w
 ok_is e = cc
+
+same_kind : {V : Type 0} {k l : Kind} → ◌≡◌ {A = Answer V} (Err k) (Err l) → k ≡ l
+same_kind e = cc
 
 module _ {S W T V F G H : Type 0} (g : Grammar S W T V F G H) (alike : V → V → Type 0) (s0 : S × W)
     (pr : Plain g alike s0) where
@@ -73,6 +73,7 @@ module _ {S W T V F G H : Type 0} (g : Grammar S W T V F G H) (alike : V → V �
             (v, refl, place, subst (λ z. alike z x) (same_value e refl).0 (like x known));
         keeps = λ w e. kept;
         fails = λ k e. absurd (err_is (sym e));
+        refuses = λ k e. absurd (err_is (sym e));
       }
   expression_exact level i (Err k) t j runs = record {
     one = only level i;
@@ -87,10 +88,11 @@ module _ {S W T V F G H : Type 0} (g : Grammar S W T V F G H) (alike : V → V �
         absurd (err_is e);
     keeps = λ w e. absurd (err_is e);
     fails = λ l e other.
-        let f : ◌≡◌ {A = Answer (V × Bool)} (Err k) (Err l) = cc in
-        call_fails g alike s0 pr i (call_at level (units_left g.folding.units i)) s0 i (Err k) t
-        j runs (refl, refl) other
-        comes_start (omega arith) l f;
+        subst (λ z. FailsBy g s0 i z j) (same_kind e) (run_fails g alike s0 pr level i k t j runs
+        other);
+    refuses = λ l e other u n b keeps.
+        subst (λ z. RefusedBy g s0 i z j) (same_kind e)
+        (tree_refuses g alike s0 pr level i k t j runs other u n b keeps);
   }
 
 -- Where no fold of an operator that is read refuses, and every operator that is read consumes, a

@@ -1,8 +1,7 @@
 -- What is alike: operators, and trees of them, as far as outputs and folds are.
-use Rattle.std.specs.Prelude.{◌≡◌, ℤ, Some}
-use Rattle.std.proofs.Common.{refl, sym, ◌∙◌, ap}
+use Rattle.std.specs.Prelude.{◌≡◌}
 use Rattle.winnow_expression.specs.Operators.{fold_of, left_power, neither_power, right_power}
-use Rattle.winnow_expression_trees.specs.Tree.{Tree, leaf, before, behind, between, top_neither}
+use Rattle.winnow_expression_trees.specs.Tree.{Tree, leaf, before, behind, between}
 use Rattle.winnow_expression.specs.declared.combinator.places.First.{First}
 use Rattle.winnow_expression.specs.declared.combinator.places.First.TheVariants.{Operand}
 use Rattle.winnow_expression.specs.declared.combinator.places.First.TheVariants.{
@@ -12,7 +11,6 @@ use Rattle.winnow_expression.specs.declared.combinator.places.Next.{Next}
 use Rattle.winnow_expression.specs.declared.combinator.places.Next.TheVariants.{Nothing, Postfix}
 use Rattle.winnow_expression.specs.declared.combinator.places.Next.TheVariants.{Infix as infix_read}
 use Rattle.winnow_expression.specs.declared.combinator.operators.Infix.{Infix}
-use Rattle.winnow_expression_trees.specs.Reading.{power_of}
 
 abbrev pub AlikeFirst : {V F : Type 0} → (V → V → Type 0) → (F → F → Type 0) → First V F → First V F
     → Type 0

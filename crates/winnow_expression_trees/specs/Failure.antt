@@ -2,19 +2,21 @@
 use Rattle.std.specs.Prelude.{◌≡◌, ◌⊎◌, ℤ, Bool, true, false, Some, Ok, Err}
 use Rattle.streams.specs.Input.{Input}
 use Rattle.streams.specs.Kind.{Kind}
-use Rattle.stream_errors.specs.Form.{Answer}
 use Rattle.winnow_expression.specs.Grammar.{Grammar}
-use Rattle.winnow_expression.specs.Operators.{fold_of}
+use Rattle.winnow_expression.specs.Operators.{fold_of, right_power}
 use Rattle.winnow_expression.specs.Units.{units_left}
 use Rattle.winnow_expression.specs.declared.combinator.operators.Infix.{Infix}
-use Rattle.winnow_expression_trees.specs.Reading.{FirstStep, NextStep, power_of}
+use Rattle.winnow_expression_trees.specs.Keeps.{Keeps}
+use Rattle.winnow_expression_trees.specs.Reading.{FirstStep, NextStep, Over, power_of}
+use Rattle.winnow_expression_trees.specs.Tree.{Tree}
+use Rattle.winnow_expression_trees.specs.Value.{Value}
 use Rattle.winnow_expression.specs.declared.combinator.places.First.{First}
 use Rattle.winnow_expression.specs.declared.combinator.places.First.TheVariants.{Operand}
 use Rattle.winnow_expression.specs.declared.combinator.places.First.TheVariants.{
   Prefix as prefix_read,
 }
 use Rattle.winnow_expression.specs.declared.combinator.places.Next.{Next}
-use Rattle.winnow_expression.specs.declared.combinator.places.Next.TheVariants.{Nothing, Postfix}
+use Rattle.winnow_expression.specs.declared.combinator.places.Next.TheVariants.{Postfix}
 use Rattle.winnow_expression.specs.declared.combinator.places.Next.TheVariants.{Infix as infix_read}
 
 -- The reading that starts at an operand's place comes to a place: an operand's (true), or an
@@ -43,20 +45,29 @@ EndedBy {S} {W} {T} {V} {F} {G} {H} g s0 start kind j =
     ⊎ ((k : Input T) × (t : W) × Comes (FirstStep g s0) (NextStep g s0) start false k
     × g.next s0.1 k (Err kind) t j)
 
--- The fold of an operator that is read refuses.
+-- The fold of an operator that is read refuses, on values of trees that are read beside it. What
+-- is read behind a prefix or an infix keeps the powers at its right power.
 abbrev pub RefusedBy : {S W T V F G H : Type 0} → Grammar S W T V F G H → S × W → Input T → Kind
     → Input T
     → Type 0
 RefusedBy {S} {W} {T} {V} {F} {G} {H} g s0 start kind j =
-    ((k : Input T) × (n : Input T) × (p : ℤ) × (f : F) × (m : Input T) × (v : V)
-    × Comes (FirstStep g s0) (NextStep g s0) start true k × FirstStep g s0 k (prefix_read p f) n
-    × g.folding.before f m v (Err kind) j)
-    ⊎ (((k : Input T) × (n : Input T) × (p : ℤ) × (f : G) × (m : Input T) × (v : V)
-    × Comes (FirstStep g s0) (NextStep g s0) start false k × NextStep g s0 k (Postfix p f) n
-    × g.behind f m v (Err kind) j)
-    ⊎ ((k : Input T) × (n : Input T) × (o : Infix H) × (m : Input T) × (v : V) × (w : V)
-    × Comes (FirstStep g s0) (NextStep g s0) start false k × NextStep g s0 k (infix_read o) n
-    × g.folding.between (fold_of o) m v w (Err kind) j))
+    -- that of a prefix
+    ((k : Input T) × (m : Input T) × (n : Input T) × (p : ℤ) × (f : F) × (r : Tree V F G H)
+    × (all : Bool) × (v : V) × Comes (FirstStep g s0) (NextStep g s0) start true k
+    × FirstStep g s0 k (prefix_read p f) m × Over (FirstStep g s0) (NextStep g s0) r m n
+    × Keeps (NextStep g s0) p r n all × Value g r v × g.folding.before f n v (Err kind) j)
+    -- that of a postfix
+    ⊎ (((k : Input T) × (m : Input T) × (n : Input T) × (p : ℤ) × (f : G) × (l : Tree V F G H)
+    × (v : V) × Comes (FirstStep g s0) (NextStep g s0) start true k
+    × Over (FirstStep g s0) (NextStep g s0) l k m × NextStep g s0 m (Postfix p f) n × Value g l v
+    × g.behind f n v (Err kind) j)
+    -- that of an infix
+    ⊎ ((k : Input T) × (m : Input T) × (n : Input T) × (z : Input T) × (o : Infix H)
+    × (l : Tree V F G H) × (r : Tree V F G H) × (all : Bool) × (v : V) × (w : V)
+    × Comes (FirstStep g s0) (NextStep g s0) start true k
+    × Over (FirstStep g s0) (NextStep g s0) l k m × NextStep g s0 m (infix_read o) n
+    × Over (FirstStep g s0) (NextStep g s0) r n z × Keeps (NextStep g s0) (right_power o) r z all
+    × Value g l v × Value g r w × g.folding.between (fold_of o) z v w (Err kind) j))
 
 -- An operator is read that consumes nothing: a prefix, which ends the reading, or another.
 abbrev pub Unmoved : {S W T V F G H : Type 0} → Grammar S W T V F G H → S × W → Input T → Type 0

@@ -5,7 +5,7 @@ use Rattle.streams.specs.Kind.{Kind}
 use Rattle.stream_errors.specs.Form.{Answer}
 use Rattle.winnow_expression.specs.Grammar.{Grammar}
 use Rattle.winnow_expression_trees.specs.Alike.{AlikeTree}
-use Rattle.winnow_expression_trees.specs.Failure.{FailsBy}
+use Rattle.winnow_expression_trees.specs.Failure.{FailsBy, RefusedBy}
 use Rattle.winnow_expression_trees.specs.Keeps.{Keeps}
 use Rattle.winnow_expression_trees.specs.Premises.{FoldAlike, FoldsAlike, NotMemory}
 use Rattle.winnow_expression_trees.specs.Reading.{FirstStep, NextStep, Over}
@@ -26,7 +26,8 @@ Alike g alike r u =
     (FoldsAlike alike g.folding.between) r u
 
 -- At most one tree keeps the powers; an output is the value of one, which ends where the input is
--- left; and where one has a value, the answer is alike, want of memory aside.
+-- left; where one has a value, the answer is alike; and where a failure is no fold's, there is
+-- none. Want of memory aside.
 pub record IsExact {S W T V F G H : Type 0} (g : Grammar S W T V F G H) (alike : V → V → Type 0)
     (s : S × W) (level : ℤ) (i : Input T) (answer : Answer V) (t : S × W)
     (j : Input T) : Type 0 where
@@ -38,3 +39,5 @@ pub record IsExact {S W T V F G H : Type 0} (g : Grammar S W T V F G H) (alike :
       → Value g r x → NotMemory answer → (v : V) × (answer ≡ Ok v) × (j ≡ n) × alike v x
   pub keeps : (v : V) → answer ≡ Ok v → (t.0 ≡ s.0) × (t.1 ≡ s.1)
   pub fails : (k : Kind) → answer ≡ Err k → NotMemory answer → FailsBy g s i k j
+  pub refuses : (k : Kind) → answer ≡ Err k → NotMemory answer → (r : Tree V F G H) (n : Input T)
+      (all : Bool) → KeepsOver g s level i r n all → RefusedBy g s i k j

@@ -1,7 +1,7 @@
 -- What is asked of the parts and the folds of an expression.
 use Rattle.std.specs.Prelude.{◌≡◌, ◌<◌, ◌≡◌, ℤ, Some, Ok, Err}
 use Rattle.streams.specs.Input.{Input}
-use Rattle.streams.specs.Kind.{Kind, memory}
+use Rattle.streams.specs.Kind.{memory}
 use Rattle.stream_errors.specs.Form.{Answer}
 use Rattle.winnow_core.specs.Runs.{Runs}
 use Rattle.winnow_expression.specs.Grammar.{Folding}

@@ -31,9 +31,11 @@ pub trait Likeness<O> {
 /// succeed, with its value, and leaves the input where it ends.
 ///
 /// The parts are those of an [`Expression`](winnow_expression::combinator::impls::Expression): the
-/// clause `exact` is about the runs that it means. Clause `fails` adds that where no fold refuses,
-/// and each operator that is read consumes, a failure has the kind and the rest of the answer that
-/// ended the reading. Want of memory is left aside.
+/// clause `exact` is about the runs that it means. It says too that where a tree keeps the powers,
+/// a failure is the refusal of a fold, on values of trees that are read; so there is no tree where
+/// it is not, as where nothing was consumed. Clause `fails` adds that where no fold refuses, and
+/// each operator that is read consumes, a failure has the kind and the rest of the answer that
+/// ended the reading, and clause `ended` that this answer is one. Want of memory is left aside.
 ///
 /// ```text
 /// expression_reads_the_one_tree::<&[u8], i64, _, _, _, _, _, _, _, EmptyError, Equal>()
@@ -83,4 +85,17 @@ pub fn expression_reads_the_one_tree<
         → EndedBy (parts_grammar I.reading.units (assert_kind E.form) (P.meaning E.form)
         (Pre.meaning E.form) (Post.meaning E.form) (Pix.meaning E.form) (F.folds E.form)
         (G.folds E.form) (H.folds E.form)) (s.0, s.1) i k j }
+    ensures ended { (s : (P.State × Pre.State) × (Post.State × Pix.State) × ℤ)
+        → Premises A.alike (P.meaning E.form) (Pre.meaning E.form) (Post.meaning E.form)
+        (Pix.meaning E.form) (G.folds E.form)
+        (folding (F.folds E.form) (H.folds E.form) I.reading.units (assert_kind E.form))
+        s.0.0 s.0.1 s.1.0 s.1.1
+        → (i : Input I.Seen) (k l : Kind) (j n : Input I.Seen)
+        → EndedBy (parts_grammar I.reading.units (assert_kind E.form) (P.meaning E.form)
+        (Pre.meaning E.form) (Post.meaning E.form) (Pix.meaning E.form) (F.folds E.form)
+        (G.folds E.form) (H.folds E.form)) (s.0, s.1) i k j
+        → EndedBy (parts_grammar I.reading.units (assert_kind E.form) (P.meaning E.form)
+        (Pre.meaning E.form) (Post.meaning E.form) (Pix.meaning E.form) (F.folds E.form)
+        (G.folds E.form) (H.folds E.form)) (s.0, s.1) i l n
+        → (k ≡ memory → ⊥) → (l ≡ memory → ⊥) → (k ≡ l) × (j ≡ n) }
 {}

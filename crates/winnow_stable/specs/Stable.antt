@@ -6,16 +6,23 @@ use Rattle.streams.specs.Kind.{Kind, backtrack, cut, incomplete, memory}
 use Rattle.stream_errors.specs.Form.{Answer}
 use Rattle.winnow_core.specs.Runs.{Runs}
 pub mod Adapters
+pub mod Bits
+pub mod BitsOfBytes
 pub mod Choices
+pub mod Controls
+pub mod Escapes
 pub mod Fold
 pub mod Grows
 pub mod InOrder
+pub mod Integers
 pub mod Known
 pub mod LargeTuples
 pub mod Leaves
+pub mod Lengths
 pub mod LineEnds
 pub mod Longer
 pub mod Numbers
+pub mod Operators
 pub mod Repeat
 pub mod Separated
 pub mod Till

@@ -6,13 +6,18 @@ ghost use Rattle.winnow_stable.specs.Stable.{IsStable, SettlesOnCut};
 
 mod adapters;
 mod alt_tuples;
+mod bits;
 mod choices;
 mod classes;
 mod errors;
+mod escapes;
 mod folds;
+mod integers;
+mod lengths;
 mod line_ends;
 mod literals;
 mod numbers;
+mod operators;
 mod order;
 mod repetitions;
 mod separated;
@@ -21,6 +26,7 @@ mod tuples;
 
 use crate::combinator::impls::MapErrKept;
 pub use crate::stable::errors::KeepsKinds;
+pub use crate::stable::escapes::{ComparesOneToken, SettledControl};
 pub use crate::stable::line_ends::LineEnds;
 use stream_errors::parser_error::ParserError;
 use streams::stream::Stream;

@@ -1,6 +1,7 @@
 //! The lines of answers.
 ghost use Rattle.std.specs.Prelude.{◌≡◌, ◌++◌, map, IfOk, OnOk};
-ghost use Rattle.readers.specs.Program.{document_lines, pair_line, refused_line, section_lines};
+ghost use Rattle.readers.specs.Program.{document_lines, number_line, pair_line, refused_line};
+ghost use Rattle.readers.specs.Program.{section_lines};
 ghost use Rattle.readers.specs.Sections.{section_text};
 
 use crate::ini::Section;
@@ -17,6 +18,14 @@ pub(super) fn line_of_pair<A: Allocator>(
     let mut line = Vec::new(alloc);
     push_pair(&mut line, key, value)?;
     Ok(line)
+}
+
+/// The line of a number.
+pub(super) fn line_of_number<A: Allocator>(alloc: A, value: i64) -> Result<Vec<u8, A>, AllocError>
+    ensures { IfOk result (λ v. v.items ≡ number_line value) }
+{
+    let line = format!(in alloc; "{value}\n")?;
+    Ok(line.into_bytes())
 }
 
 /// The line of a refusal.

@@ -5,4 +5,5 @@ pub use winnow_ascii::ascii::impls::{
     LineEnding, Multispace0, Multispace1, Newline, OctDigit0, OctDigit1, Space0, Space1, Tab,
     TillLineEnding,
 };
+pub use winnow_escapes::ascii::impls::{Escaped, TakeEscaped};
 pub use winnow_numbers::ascii::impls::{DecInt, DecUint, HexUint, HexUintParser};

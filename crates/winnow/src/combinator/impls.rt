@@ -10,6 +10,7 @@ pub use winnow_core::combinator::impls::{
     WithSpan, WithTaken,
 };
 pub use winnow_expression::combinator::impls::Expression;
+pub use winnow_recovery::combinator::impls::{ResumeAfter, RetryAfter};
 pub use winnow_repeat::combinator::impls::{
     Fill, ParserIterator, Repeat, RepeatFold, RepeatTill, RepeatTryFold, RepeatVerifyFold,
 };

@@ -1,6 +1,8 @@
 //! Operators, as their parsers answer them.
 ghost use Rattle.std.specs.Prelude.{◌≡◌, MatchOption};
+ghost use Rattle.winnow_core.specs.Agrees.{agrees_by};
 ghost use Rattle.winnow_core.specs.Runs.{Keeps};
+ghost use Rattle.winnow_core.specs.SameMeaning.{same_refl};
 ghost use Rattle.winnow_expression.specs.Operators.{IsInfixClone, IsPostfixClone, IsPrefixClone};
 ghost use Rattle.winnow_expression.specs.Operators.{OperatorRuns, fold_of, left_power};
 ghost use Rattle.winnow_expression.specs.Operators.{neither_power, right_power};
@@ -8,6 +10,7 @@ ghost use Rattle.winnow_expression.specs.Operators.Laws.{operator_ends};
 
 use stream_errors::parser_error::ParserError;
 use streams::stream::Stream;
+use winnow_core::agrees_with::AgreesWith;
 use winnow_core::parser::Parser;
 
 /// A prefix operator: its power, and what it does with its operand.
@@ -153,6 +156,42 @@ impl<I: Stream, F: Clone, E: ParserError<I>> Parser<I, Infix<F>, E> for Infix<F>
             None => Err(E::no_memory(input)),
         }
     }
+}
+
+impl<
+    I: Stream,
+    J: Stream<Token = I::Token, Seen = I::Seen, Slice = I::Slice>,
+    F: Clone,
+    E: ParserError<I>,
+    D: ParserError<J>,
+> AgreesWith<I, Prefix<F>, E, Prefix<F>, J, D> for Prefix<F> {
+    ghost like = { λ p q. p ≡ q };
+
+    ghost agrees = { agrees_by (λ p. p) (λ q. q) (same_refl _) };
+}
+
+impl<
+    I: Stream,
+    J: Stream<Token = I::Token, Seen = I::Seen, Slice = I::Slice>,
+    F: Clone,
+    E: ParserError<I>,
+    D: ParserError<J>,
+> AgreesWith<I, Postfix<F>, E, Postfix<F>, J, D> for Postfix<F> {
+    ghost like = { λ p q. p ≡ q };
+
+    ghost agrees = { agrees_by (λ p. p) (λ q. q) (same_refl _) };
+}
+
+impl<
+    I: Stream,
+    J: Stream<Token = I::Token, Seen = I::Seen, Slice = I::Slice>,
+    F: Clone,
+    E: ParserError<I>,
+    D: ParserError<J>,
+> AgreesWith<I, Infix<F>, E, Infix<F>, J, D> for Infix<F> {
+    ghost like = { λ p q. p ≡ q };
+
+    ghost agrees = { agrees_by (λ p. p) (λ q. q) (same_refl _) };
 }
 
 /// A clone of an operator; none where a request for memory was refused to the clone of its fold.

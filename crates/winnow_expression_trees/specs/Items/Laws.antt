@@ -1,16 +1,14 @@
 -- What holds of trees over inputs holds of trees over lists of tokens.
-use Rattle.std.specs.Prelude.{◌≡◌, ◌<◌, ◌⊎◌, ℕ, ℤ, Bool, List, ◌++◌, Ok, Err}
+use Rattle.std.specs.Prelude.{◌≡◌, ◌<◌, ℤ, Bool, List, Ok, Err}
 use Rattle.std.proofs.lemmas.Bool.{cases_lt}
 use Rattle.std.proofs.Common.{refl, sym, ◌∙◌, ap, subst, inl, inr, arith}
-use Rattle.streams.specs.Input.{Input, IsEndOf, back_at}
+use Rattle.streams.specs.Input.{Input, back_at}
 use Rattle.streams.specs.Kind.{Kind, backtrack}
-use Rattle.streams.specs.Place.{Place}
 use Rattle.streams.specs.Reading.{Reading}
 use Rattle.stream_errors.specs.Form.{Answer}
-use Rattle.winnow_core.specs.Ends.{same_ends}
-use Rattle.winnow_core.specs.Runs.{Keeps as KeepsState, Runs}
+use Rattle.winnow_core.specs.Runs.{Keeps as KeepsState}
 use Rattle.winnow_expression.specs.Grammar.{Grammar, folding}
-use Rattle.winnow_expression.specs.Operators.{fold_of, left_power, neither_power, right_power}
+use Rattle.winnow_expression.specs.Operators.{fold_of}
 use Rattle.winnow_expression.specs.Parts.{parts_grammar}
 use Rattle.winnow_expression.specs.Units.{units_left}
 use Rattle.winnow_expression.specs.declared.combinator.operators.Infix.{Infix}
@@ -30,12 +28,12 @@ use Rattle.winnow_expression.specs.declared.combinator.places.Next.TheVariants.{
 use Rattle.winnow_expression_trees.specs.Alike.{AlikeInfix}
 use Rattle.winnow_expression_trees.specs.Items.{AreItems, FirstItems, Gives, GivesOne, ItemRuns}
 use Rattle.winnow_expression_trees.specs.Items.{Items}
-use Rattle.winnow_expression_trees.specs.Items.{ItemsTree, NextItems, NoItem, ReadsItems, left_at}
+use Rattle.winnow_expression_trees.specs.Items.{NextItems, NoItem, ReadsItems, left_at}
 use Rattle.winnow_expression_trees.specs.Items.{HasValue}
 use Rattle.winnow_expression_trees.specs.Keeps.{Keeps}
-use Rattle.winnow_expression_trees.specs.OneTree.{IsExact, KeepsOver}
+use Rattle.winnow_expression_trees.specs.OneTree.{IsExact}
 use Rattle.winnow_expression_trees.specs.Premises.{AlikePostfix, AlikePrefix, FoldAlike, FoldsAlike}
-use Rattle.winnow_expression_trees.specs.Premises.{IsStateless, NotMemory, Premises, Same}
+use Rattle.winnow_expression_trees.specs.Premises.{Premises}
 use Rattle.winnow_expression_trees.specs.Reading.{FirstStep, NextStep, Over}
 use Rattle.winnow_expression_trees.specs.Tree.{Tree, leaf, before, behind, between}
 use Rattle.winnow_expression_trees.specs.Value.{Value}

@@ -1,44 +1,18 @@
 -- Parts that read items, and folds that give values, are as the premises ask; and they leave ends.
-use Rattle.std.specs.Prelude.{◌≡◌, ◌<◌, ◌⊎◌, ℕ, ℤ, Bool, List, ◌++◌, Ok, Err}
-use Rattle.std.proofs.lemmas.Bool.{cases_lt}
-use Rattle.std.proofs.Common.{refl, sym, ◌∙◌, ap, subst, inl, inr, arith}
-use Rattle.streams.specs.Input.{Input, IsEndOf, back_at}
+use Rattle.std.specs.Prelude.{◌≡◌, ℕ, List, ◌++◌, Ok, Err}
+use Rattle.std.proofs.Common.{refl, sym, ◌∙◌, ap, subst, inl, inr}
+use Rattle.streams.specs.Input.{Input, IsEndOf}
 use Rattle.streams.specs.Kind.{Kind, backtrack}
 use Rattle.streams.specs.Place.{Place}
 use Rattle.streams.specs.Reading.{Reading}
 use Rattle.stream_errors.specs.Form.{Answer}
 use Rattle.winnow_core.specs.Ends.{same_ends}
-use Rattle.winnow_core.specs.Runs.{Keeps as KeepsState, Runs}
-use Rattle.winnow_expression.specs.Grammar.{Grammar, folding}
-use Rattle.winnow_expression.specs.Operators.{fold_of, left_power, neither_power, right_power}
-use Rattle.winnow_expression.specs.Parts.{parts_grammar}
-use Rattle.winnow_expression.specs.Units.{units_left}
-use Rattle.winnow_expression.specs.declared.combinator.operators.Infix.{Infix}
-use Rattle.winnow_expression.specs.declared.combinator.operators.Postfix.{Postfix}
-use Rattle.winnow_expression.specs.declared.combinator.operators.Prefix.{Prefix}
-use Rattle.winnow_expression.specs.declared.combinator.places.First.{First}
-use Rattle.winnow_expression.specs.declared.combinator.places.First.TheVariants.{Operand}
-use Rattle.winnow_expression.specs.declared.combinator.places.First.TheVariants.{
-  Prefix as prefix_read,
-}
-use Rattle.winnow_expression.specs.declared.combinator.places.Next.{Next}
-use Rattle.winnow_expression.specs.declared.combinator.places.Next.TheVariants.{Nothing}
-use Rattle.winnow_expression.specs.declared.combinator.places.Next.TheVariants.{
-  Postfix as postfix_read,
-}
-use Rattle.winnow_expression.specs.declared.combinator.places.Next.TheVariants.{Infix as infix_read}
-use Rattle.winnow_expression_trees.specs.Alike.{AlikeInfix}
-use Rattle.winnow_expression_trees.specs.Items.{AreItems, FirstItems, Gives, GivesOne, ItemRuns}
+use Rattle.winnow_core.specs.Runs.{Keeps as KeepsState}
+use Rattle.winnow_expression_trees.specs.Items.{AreItems, Gives, GivesOne, ItemRuns}
 use Rattle.winnow_expression_trees.specs.Items.{Items}
-use Rattle.winnow_expression_trees.specs.Items.{ItemsTree, NextItems, NoItem, ReadsItems, left_at}
-use Rattle.winnow_expression_trees.specs.Items.{HasValue}
-use Rattle.winnow_expression_trees.specs.Keeps.{Keeps}
-use Rattle.winnow_expression_trees.specs.OneTree.{IsExact, KeepsOver}
-use Rattle.winnow_expression_trees.specs.Premises.{AlikePostfix, AlikePrefix, FoldAlike, FoldsAlike}
-use Rattle.winnow_expression_trees.specs.Premises.{IsStateless, NotMemory, Premises, Same}
-use Rattle.winnow_expression_trees.specs.Reading.{FirstStep, NextStep, Over}
-use Rattle.winnow_expression_trees.specs.Tree.{Tree, leaf, before, behind, between}
-use Rattle.winnow_expression_trees.specs.Value.{Value}
+use Rattle.winnow_expression_trees.specs.Items.{left_at}
+use Rattle.winnow_expression_trees.specs.Premises.{FoldAlike, FoldsAlike}
+use Rattle.winnow_expression_trees.specs.Premises.{IsStateless, Same}
 
 pub ok_is_not : {O X : Type 0} {a : Answer O} {v : O} {k : Kind} → a ≡ Ok v → a ≡ Err k → X
 ok_is_not e f = absurd (cc)

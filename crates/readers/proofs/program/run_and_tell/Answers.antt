@@ -1,5 +1,5 @@
 use Rattle.std.proofs.Common.{refl}
-use Rattle.readers.proofs.Owed.{owed_by_word}
+use Rattle.readers.proofs.Owed.{limit_by_word, owed_by_word, stopped_by_word}
 use Rattle.readers.proofs.program.run_and_tell.Goals as goal
 
 pub returns-in_default-clause-answered : goal.returns-in_default-clause-answered
@@ -17,3 +17,19 @@ returns-in-Ok-clause-answered g c format word =
 pub returns-in-Err-clause-usage : goal.returns-in-Err-clause-usage
 returns-in-Err-clause-usage g c none =
     absurd (none c.in-Some.format ((c.in-Some.ensures c.in-Some.format).1 refl))
+
+pub returns-in-Err-clause-answered : goal.returns-in-Err-clause-answered
+returns-in-Err-clause-answered g c format word =
+    stopped_by_word c.in-Some.format format _ c.in-Err.stop _ _ _ _ _
+    ((c.in-Some.ensures format).0 word) c.in-Err.ensures.bytes c.stopped-in-Err.ensures.status
+    c.stopped-in-Err.ensures.told
+
+pub returns-in-Ok-clause-limit : goal.returns-in-Ok-clause-limit
+returns-in-Ok-clause-limit g c format word =
+    limit_by_word c.in-Some.format format _ _ ((c.in-Some.ensures format).0 word)
+    c.in-Ok.ensures.limit
+
+pub returns-in-Err-clause-limit : goal.returns-in-Err-clause-limit
+returns-in-Err-clause-limit g c format word =
+    limit_by_word c.in-Some.format format _ _ ((c.in-Some.ensures format).0 word)
+    c.in-Err.ensures.limit

@@ -1,8 +1,9 @@
-use Rattle.std.proofs.Common.{rules, ◌∙◌, [], ◌∷◌, ◌++◌, refl}
+use Rattle.std.proofs.Common.{rules, ◌∙◌, [], ◌∷◌, ◌++◌, ap, refl, sym}
 use Rattle.winnow.specs.Input.{is_end_of_refl, is_end_of_trans}
-use Rattle.winnow.specs.Form.{assert_kind}
+use Rattle.winnow.specs.Form.{answer_by, assert_kind}
 use Rattle.winnow.specs.Iterator.{iterator_state}
-use Rattle.winnow.specs.Iterator.Known.{iterator_item, iterator_more}
+use Rattle.winnow.specs.Iterator.Known.{iterator_item, iterator_more, iterator_stopped}
+use Rattle.uses.proofs.ItemLemmas.{ends_told, fails_told}
 use Rattle.uses.proofs.items.last_item.Goals as goal
 
 pub loop-item-init : goal.loop-item-init
@@ -49,3 +50,35 @@ returns-in-Err-clause-ends g c =
     let names = c.in_default.ensures.steps.3 ∙ c.loop-item.invariant.same_input
     ∙ c.iterator-items.ensures.same_input in
     search (rules, told, names, c.finish.ensures.place)
+
+-- what ended the items
+pub returns-in-Ok-clause-last : goal.returns-in-Ok-clause-last
+returns-in-Ok-clause-last g c =
+    let inv = c.loop-item.invariant in
+    let run = g.P.Parser.meaning g.E.HasKind.form in
+    let kind = assert_kind g.E.HasKind.form in
+    let state = iterator_state g.P.Parser.state g.I.Stream.view g.E.HasKind.kind c.loop-item.items
+    in
+    let stops = iterator_stopped run kind state _ inv.goes_on c.in_default.ensures.steps.0 in
+    let told = ends_told run kind state _ (g.P.Parser.state c.args.parser)
+    (g.I.Stream.view c.args.input.now) inv.items.0 inv.items.1 stops
+    (ap (answer_by g.E.HasKind.kind) (sym c.in-Ok.is) ∙ c.finish.ensures.answer) in
+    let names = c.in_default.ensures.steps.3 ∙ inv.same_input
+    ∙ c.iterator-items.ensures.same_input in
+    (inv.items.0, search (rules, told, names, c.finish.ensures.place), inv.items.2)
+
+pub returns-in-Err-clause-fails : goal.returns-in-Err-clause-fails
+returns-in-Err-clause-fails g c =
+    let inv = c.loop-item.invariant in
+    let run = g.P.Parser.meaning g.E.HasKind.form in
+    let kind = assert_kind g.E.HasKind.form in
+    let state = iterator_state g.P.Parser.state g.I.Stream.view g.E.HasKind.kind c.loop-item.items
+    in
+    let stops = iterator_stopped run kind state _ inv.goes_on c.in_default.ensures.steps.0 in
+    let told = fails_told run kind state _ (g.P.Parser.state c.args.parser)
+    (g.I.Stream.view c.args.input.now) inv.items.0 (g.E.HasKind.kind c.in-Err.error)
+    inv.items.1 stops
+    (ap (answer_by g.E.HasKind.kind) (sym c.in-Err.is) ∙ c.finish.ensures.answer) in
+    let names = c.in_default.ensures.steps.3 ∙ inv.same_input
+    ∙ c.iterator-items.ensures.same_input in
+    (inv.items.0, search (rules, told, names, c.finish.ensures.place))

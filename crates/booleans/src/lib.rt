@@ -1,4 +1,0 @@
-//! Temporary.
-#![tactic(auto, using(streams::specs::Ends::ends_follow))]
-
-pub mod booleans;

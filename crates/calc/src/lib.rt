@@ -1,5 +1,0 @@
-//! Temporary.
-#![tactic(auto)]
-
-pub mod calc;
-pub mod fault;

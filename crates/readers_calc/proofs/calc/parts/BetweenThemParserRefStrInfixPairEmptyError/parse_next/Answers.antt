@@ -1,0 +1,13 @@
+use Rattle.std.proofs.Common.{Ok}
+use Rattle.std.specs.Str.{chars}
+use Rattle.streams.specs.Text.{text_input}
+use Rattle.readers_calc.specs.Calculator.{CharItem, pair_at}
+use Rattle.readers_calc.specs.Calculator.Laws.{char_ends, item_some}
+use Rattle.readers_calc.proofs.calc.parts.BetweenThemParserRefStrInfixPairEmptyError.parse_next.Goals as goal
+
+pub returns-in-Some-clause-ends : goal.returns-in-Some-clause-ends
+returns-in-Some-clause-ends c =
+    char_ends pair_at (text_input c.args.input.now.now) (text_input c.read_pair.new.input.now)
+    (Ok c.in-Some.item)
+    (item_some (CharItem pair_at) (text_input c.args.input.now.now) c.in-Some.item
+    (chars c.read_pair.new.input.now) c.in-Some.ensures)

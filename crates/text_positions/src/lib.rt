@@ -1,0 +1,58 @@
+//! Lines and columns of a text.
+#![tactic(auto)]
+
+ghost use Rattle.std.specs.Prelude.{◌≡◌, ◌↔◌, IfSome, IsSome, List, take, ℕ};
+ghost use Rattle.std.specs.Str.{IsCharBoundary, chars};
+ghost use Rattle.text_positions.specs.Position.{IsPosition};
+
+/// A place in a text, as a reader of the text would say it.
+#[derive(Clone, Copy, Debug, PartialEq, Eq, Drop)]
+pub struct Position {
+    /// The number of the line, from 1 on: one more than line feeds stand before the place.
+    pub line: usize,
+    /// The number of the column, from 1 on: one more than characters stand between the last line
+    /// feed before the place, or the start of the text, and the place.
+    pub column: usize,
+}
+
+/// The line and the column of the place that lies `offset` bytes behind the start of a text.
+///
+/// Both are counted from 1, as compilers and editors show them. A column counts characters, and
+/// neither bytes nor cells of a screen. A line ends with its line feed, so the carriage return of
+/// `"\r\n"` is the last character of its line. The end of the text is a place too.
+///
+/// `None` where the text has no such place: behind its end, or within a character.
+///
+/// It goes once over the text before the place, and takes no memory.
+///
+/// ```
+/// use text_positions::{Position, position_of};
+///
+/// let text = "größe=1\nhöhe?2\n";
+/// assert_eq!(rt; position_of(text, 15), Some(Position { line: 2, column: 5 }));
+/// assert_eq!(rt; position_of(text, 3), None);
+/// ```
+pub fn position_of(text: &str, offset: usize) -> Option<Position>
+    ensures place { IfSome result (λ it.
+        IsPosition (chars (take offset text.now)) it.line it.column) }
+    ensures found { IsSome result ↔ IsCharBoundary text.now offset }
+{
+    let (before, _) = text.split_at_checked(offset)?;
+    let mut line = 1;
+    let mut column = 1;
+    for c in before.chars() {
+        if c == '\n' {
+            line += 1;
+            column = 1;
+        } else {
+            column += 1;
+        }
+    }
+    Some(Position { line, column })
+}
+
+/// A place has one line and one column.
+pub fn one_position()
+    ensures { (before : List ℕ) (line column line' column' : ℕ) → IsPosition before line column
+        → IsPosition before line' column' → (line ≡ line') × (column ≡ column') }
+{}

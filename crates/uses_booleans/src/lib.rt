@@ -1,0 +1,4 @@
+//! Boolean formulas: an expression language with its exact contract.
+#![tactic(auto)]
+
+pub mod booleans;

@@ -1,0 +1,2 @@
+pub mod FrameRuns
+pub mod Held

@@ -1,0 +1,38 @@
+-- Frames: the length of a payload in two bytes, the highest first, and the payload.
+use Rattle.std.specs.Prelude.{◌≡◌, ◌≤◌, ◌<◌, ◌^◌, ℕ, List, [], ◌++◌, length, Option}
+use Rattle.std.specs.List.{All, flat_map}
+use Rattle.std.specs.Io.KnownBytes.{Consumes}
+use Rattle.std.specs.Int.{bytes_high_first}
+
+-- What a frame can carry.
+abbrev pub IsPayload : List ℕ → Type 0
+IsPayload payload = length payload < 256 ^ 2
+
+-- the frame of a payload
+abbrev pub frame : List ℕ → List ℕ
+frame payload = bytes_high_first 2 (length payload) ++ payload
+
+-- The bytes are one frame.
+abbrev pub IsFrame : List ℕ → Type 0
+IsFrame bytes = (payload : List ℕ) × IsPayload payload × (bytes ≡ frame payload)
+
+-- However the bytes go on, the frame that they begin is of at least so many bytes.
+abbrev pub BeginsFrameOf : List ℕ → ℕ → Type 0
+BeginsFrameOf bytes least = (more payload rest : List ℕ) → IsPayload payload
+    → bytes ++ more ≡ frame payload ++ rest → least ≤ length (frame payload)
+
+-- Nothing stands behind the frame that the bytes begin.
+abbrev pub IsOneAtMost : List ℕ → Type 0
+IsOneAtMost bytes = (payload rest : List ℕ) → IsPayload payload → bytes ≡ frame payload ++ rest
+    → rest ≡ []
+
+-- The payloads grew by those of the frames that were read: these frames, and then what is held now,
+-- are what was held, and then what was read of the source.
+pub record ReadsFrames (payloads_old payloads_new : List (List ℕ)) (held_old held_new : List ℕ)
+    (source_old source_new : Option (List ℕ)) : Type 0 where
+  pub read : List ℕ
+  pub consumed : Consumes source_old source_new read
+  pub more : List (List ℕ)
+  pub are : All IsPayload more
+  pub grew : payloads_new ≡ payloads_old ++ more
+  pub none_lost : held_old ++ read ≡ flat_map frame more ++ held_new

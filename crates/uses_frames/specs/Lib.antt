@@ -1,0 +1,4 @@
+-- Written by scripts/registries.py: do not edit.
+pub mod Fault
+pub mod Frame
+pub mod Held

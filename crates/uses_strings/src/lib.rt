@@ -1,0 +1,4 @@
+//! Texts with escapes in use.
+#![tactic(auto)]
+
+pub mod strings;

@@ -1,0 +1,19 @@
+//! Words with escapes, as they stand and as what they stand for.
+
+use std::alloc::Global;
+use stream_errors::empty::EmptyError;
+use stream_errors::mode::ErrMode;
+use winnow_ascii::ascii::impls::Alpha1;
+use winnow_core::parser::Parser;
+use winnow_escapes::ascii::{escaped, take_escaped};
+use winnow_token::token::one_of;
+
+/// Letters, and quotes and backslashes behind a backslash, as they stand.
+pub fn as_it_stands<'i>(input: &mut &'i str) -> Result<&'i str, ErrMode<EmptyError>> {
+    take_escaped(Alpha1, '\\', one_of(('"', '\\'))).parse_next(input)
+}
+
+/// The same, without the backslashes in front.
+pub fn unescaped<'i>(alloc: Global, input: &mut &'i str) -> Result<String, ErrMode<EmptyError>> {
+    escaped(alloc, Alpha1, '\\', one_of(('"', '\\'))).parse_next(input)
+}

@@ -1,0 +1,24 @@
+use Rattle.std.proofs.Common.{List}
+use Rattle.streams.specs.Input.{IsEndOf}
+use Rattle.stream_errors.specs.Form.{plain}
+use Rattle.winnow_repeat.specs.Chain.{Accumulates, Chain}
+use Rattle.winnow_escapes.specs.Escaped.{EscapeTurnRuns, turns_kept}
+use Rattle.winnow_escapes.proofs.ascii.turns.read_turns.Given as goal
+
+abbrev pub invariant-turns : goal.invariant-turns
+invariant-turns g l =
+    (turns : List _)
+    × Chain (EscapeTurnRuns (g.N.Parser.meaning g.E.HasKind.form) (g.K.Parser.meaning plain)
+    (g.X.Parser.meaning g.E.HasKind.form))
+    (g.N.Parser.state l.fn.normal, g.K.Parser.state l.fn.control, g.X.Parser.state l.fn.escape)
+    (g.I.Stream.view l.fn.input) turns
+    (g.N.Parser.state l.normal, g.K.Parser.state l.control, g.X.Parser.state l.escape)
+    (g.I.Stream.view l.input)
+    × Accumulates (turns_kept g.C.Accumulate-1.accumulator g.C.Accumulate-2.accumulator).takes
+    l.fn.before turns l.all
+    × IsEndOf g.I.Stream.reading (g.I.Stream.view l.input) (g.I.Stream.view l.fn.input)
+    × g.N.Parser.can_parse l.normal × g.K.Parser.can_parse l.control
+    × g.X.Parser.can_parse l.escape
+
+abbrev pub decreases-turns : goal.decreases-turns
+decreases-turns g l = g.I.Stream.reading.units (g.I.Stream.view l.input).left.tokens

@@ -1,0 +1,123 @@
+//! Text with escapes, and what it stands for.
+ghost use Rattle.std.specs.Prelude.{◌≡◌, None};
+ghost use Rattle.stream_errors.specs.Form.{assert_kind, incomplete_kind, plain};
+ghost use Rattle.winnow_core.specs.Agrees.Sizes.{agrees3};
+ghost use Rattle.winnow_escapes.specs.Escaped.{EscapedRuns, escaped_control, escaped_escape};
+ghost use Rattle.winnow_escapes.specs.Escaped.{escaped_normal, turns_kept};
+ghost use Rattle.winnow_escapes.specs.Escaped.Laws.{escaped_ends};
+
+use crate::ascii::turns::read_turns;
+use std::marker::PhantomData;
+use stream_errors::control::ControlError;
+use stream_errors::parser_error::ParserError;
+use stream_sets::accumulate::Accumulate;
+use streams::stream::{Stream, StreamIsPartial};
+use winnow_core::agrees_with::AgreesWith;
+use winnow_core::parser::Parser;
+
+/// The parser that [`escaped`](crate::ascii::escaped) makes.
+///
+/// ```text
+/// escaped(alloc, Alpha1, '\\', Any)   is an Escaped
+/// ```
+#[derive(Drop)]
+pub struct Escaped<N, K, X, I, O, D, P, C, E, A> {
+    pub(crate) alloc: A,
+    pub(crate) normal: N,
+    pub(crate) control: K,
+    pub(crate) escape: X,
+    pub(crate) marker: PhantomData<(I, O, D, P, C, E)>,
+}
+
+impl<N, K, X, I, O, D, P, C, E, A> Escaped<N, K, X, I, O, D, P, C, E, A> {
+    #[inline(always)]
+    pub(crate) fn new(
+        alloc: A,
+        normal: N,
+        control: K,
+        escape: X,
+    ) -> Escaped<N, K, X, I, O, D, P, C, E, A>
+        ensures normal { escaped_normal result ≡ normal }
+        ensures control { escaped_control result ≡ control }
+        ensures escape { escaped_escape result ≡ escape }
+    {
+        Escaped {
+            alloc,
+            normal,
+            control,
+            escape,
+            marker: PhantomData,
+        }
+    }
+}
+
+impl<
+    N: Parser<I, O, E>,
+    K: Parser<I, D, ControlError>,
+    X: Parser<I, P, E>,
+    I: StreamIsPartial,
+    O: Drop,
+    D: Drop,
+    P: Drop,
+    C: Accumulate<O, A> + Accumulate<P, A>,
+    E: ParserError<I>,
+    A: Copy,
+> Parser<I, C, E> for Escaped<N, K, X, I, O, D, P, C, E, A> {
+    ghost can_parse = { λ s. N.can_parse s.normal × K.can_parse s.control × X.can_parse s.escape };
+
+    ghost State = { N.State × K.State × X.State };
+
+    ghost state = { λ s. (N.state s.normal, K.state s.control, X.state s.escape) };
+
+    ghost meaning = { λ form. EscapedRuns (N.meaning form) (K.meaning plain) (X.meaning form)
+        (turns_kept ⟦<C as Accumulate<O, A>>⟧.accumulator ⟦<C as Accumulate<P, A>>⟧.accumulator)
+        (assert_kind form) (incomplete_kind form None) };
+
+    ghost leaves_ends = { λ form. escaped_ends I.reading (N.meaning form) (K.meaning plain)
+        (X.meaning form)
+        (turns_kept ⟦<C as Accumulate<O, A>>⟧.accumulator ⟦<C as Accumulate<P, A>>⟧.accumulator)
+        (assert_kind form) (incomplete_kind form None) (N.leaves_ends form)
+        (K.leaves_ends plain) (X.leaves_ends form) };
+
+    fn parse_next(&mut self, input: &mut I) -> Result<C, E> {
+        match <C as Accumulate<O, A>>::initial(self.alloc, None) {
+            Ok(empty) => read_turns::<N, K, X, I, O, D, P, C, E, A>(
+                empty,
+                &mut self.normal,
+                &mut self.control,
+                &mut self.escape,
+                input,
+            ),
+            Err(_) => Err(E::no_memory(input)),
+        }
+    }
+}
+
+impl<
+    N: AgreesWith<I, O, E, M, J, F>,
+    M: Parser<J, O, F>,
+    K: AgreesWith<I, D, ControlError, L, J, ControlError>,
+    L: Parser<J, D, ControlError>,
+    X: AgreesWith<I, P, E, Y, J, F>,
+    Y: Parser<J, P, F>,
+    I: StreamIsPartial,
+    J: StreamIsPartial + Stream<Token = I::Token, Seen = I::Seen, Slice = I::Slice>,
+    O: Drop,
+    D: Drop,
+    P: Drop,
+    C: Accumulate<O, A> + Accumulate<P, A>,
+    E: ParserError<I>,
+    F: ParserError<J>,
+    A: Copy,
+> AgreesWith<I, C, E, Escaped<M, L, Y, J, O, D, P, C, F, A>, J, F>
+    for Escaped<N, K, X, I, O, D, P, C, E, A> {
+    ghost like = { λ p q. N.like p.normal q.normal × K.like p.control q.control
+        × X.like p.escape q.escape };
+
+    ghost agrees = { agrees3 (λ p. p.normal) (λ q. q.normal) (λ p. p.control) (λ q. q.control)
+        (λ p. p.escape) (λ q. q.escape)
+        (λ S W V normal control escape form. EscapedRuns (normal form) (control plain)
+        (escape form)
+        (turns_kept ⟦<C as Accumulate<O, A>>⟧.accumulator ⟦<C as Accumulate<P, A>>⟧.accumulator)
+        (assert_kind form) (incomplete_kind form None)) N.agrees K.agrees X.agrees };
+}

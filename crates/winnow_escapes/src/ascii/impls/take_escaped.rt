@@ -1,0 +1,120 @@
+//! Text with escapes, as it stands.
+ghost use Rattle.std.specs.Prelude.{◌≡◌, None};
+ghost use Rattle.stream_errors.specs.Form.{assert_kind, incomplete_kind, plain};
+ghost use Rattle.winnow_core.specs.Agrees.Sizes.{agrees3};
+ghost use Rattle.winnow_core.specs.Take.Laws.{take_agrees};
+ghost use Rattle.winnow_escapes.specs.Escaped.{EscapedRuns};
+ghost use Rattle.winnow_escapes.specs.TakeEscaped.{TakeEscapedRuns, no_turns_kept};
+ghost use Rattle.winnow_escapes.specs.TakeEscaped.{take_escaped_control, take_escaped_escapable};
+ghost use Rattle.winnow_escapes.specs.TakeEscaped.{take_escaped_normal};
+ghost use Rattle.winnow_escapes.specs.TakeEscaped.Laws.{take_escaped_ends};
+
+use crate::ascii::impls::Escaped;
+use stream_errors::control::ControlError;
+use stream_errors::parser_error::ParserError;
+use streams::reads_like::ReadsLike;
+use streams::stream::{Stream, StreamIsPartial};
+use winnow_core::agrees_with::AgreesWith;
+use winnow_core::combinator::impls::Take;
+use winnow_core::parser::Parser;
+
+/// The parser that [`take_escaped`](crate::ascii::take_escaped) makes: the slice of what is read
+/// into nothing.
+///
+/// ```text
+/// take_escaped(Digit1, '\\', Any)   is a TakeEscaped
+/// ```
+#[derive(Drop)]
+pub struct TakeEscaped<N, K, X, I, O, D, P, E> {
+    pub(crate) taken: Take<Escaped<N, K, X, I, O, D, P, (), E, ()>, I, (), E>,
+}
+
+impl<
+    N: Parser<I, O, E>,
+    K: Parser<I, D, ControlError>,
+    X: Parser<I, P, E>,
+    I: StreamIsPartial,
+    O: Drop,
+    D: Drop,
+    P: Drop,
+    E: ParserError<I>,
+> TakeEscaped<N, K, X, I, O, D, P, E> {
+    #[inline(always)]
+    pub(crate) fn new(normal: N, control: K, escapable: X) -> TakeEscaped<N, K, X, I, O, D, P, E>
+        ensures normal { take_escaped_normal result ≡ normal }
+        ensures control { take_escaped_control result ≡ control }
+        ensures escapable { take_escaped_escapable result ≡ escapable }
+    {
+        let turns: Escaped<N, K, X, I, O, D, P, (), E, ()> = Escaped::new(
+            (),
+            normal,
+            control,
+            escapable,
+        );
+        TakeEscaped {
+            taken: Parser::<I, (), E>::take(turns),
+        }
+    }
+}
+
+impl<
+    N: Parser<I, O, E>,
+    K: Parser<I, D, ControlError>,
+    X: Parser<I, P, E>,
+    I: StreamIsPartial,
+    O: Drop,
+    D: Drop,
+    P: Drop,
+    E: ParserError<I>,
+> Parser<I, I::Slice, E> for TakeEscaped<N, K, X, I, O, D, P, E> {
+    ghost can_parse = { λ s. N.can_parse (take_escaped_normal s)
+        × K.can_parse (take_escaped_control s) × X.can_parse (take_escaped_escapable s) };
+
+    ghost State = { N.State × K.State × X.State };
+
+    ghost state = { λ s. (
+      N.state (take_escaped_normal s),
+      K.state (take_escaped_control s),
+      X.state (take_escaped_escapable s),
+    ) };
+
+    ghost meaning = { λ form. TakeEscapedRuns I.reading (N.meaning form) (K.meaning plain)
+        (X.meaning form) (assert_kind form) (incomplete_kind form None) };
+
+    ghost leaves_ends = { λ form. take_escaped_ends I.reading (N.meaning form) (K.meaning plain)
+        (X.meaning form) (assert_kind form) (incomplete_kind form None) (N.leaves_ends form)
+        (K.leaves_ends plain) (X.leaves_ends form) };
+
+    #[inline]
+    fn parse_next(&mut self, input: &mut I) -> Result<I::Slice, E> {
+        self.taken.parse_next(input)
+    }
+}
+
+impl<
+    N: AgreesWith<I, O, E, M, J, F>,
+    M: Parser<J, O, F>,
+    K: AgreesWith<I, D, ControlError, L, J, ControlError>,
+    L: Parser<J, D, ControlError>,
+    X: AgreesWith<I, P, E, Y, J, F>,
+    Y: Parser<J, P, F>,
+    I: StreamIsPartial + ReadsLike<J>,
+    J: StreamIsPartial + Stream<Token = I::Token, Seen = I::Seen, Slice = I::Slice>,
+    O: Drop,
+    D: Drop,
+    P: Drop,
+    E: ParserError<I>,
+    F: ParserError<J>,
+> AgreesWith<I, I::Slice, E, TakeEscaped<M, L, Y, J, O, D, P, F>, J, F>
+    for TakeEscaped<N, K, X, I, O, D, P, E> {
+    ghost like = { λ p q. N.like (take_escaped_normal p) (take_escaped_normal q)
+        × K.like (take_escaped_control p) (take_escaped_control q)
+        × X.like (take_escaped_escapable p) (take_escaped_escapable q) };
+
+    ghost agrees = { take_agrees (λ p. p) (λ q. q) I.same_reading
+        (agrees3 take_escaped_normal take_escaped_normal take_escaped_control
+        take_escaped_control take_escaped_escapable take_escaped_escapable
+        (λ S W V normal control escape form. EscapedRuns (normal form) (control plain)
+        (escape form) no_turns_kept (assert_kind form) (incomplete_kind form None))
+        N.agrees K.agrees X.agrees) };
+}

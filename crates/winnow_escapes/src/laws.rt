@@ -1,0 +1,97 @@
+//! Laws of text with escapes, each proved by a function that does nothing.
+ghost use Rattle.std.specs.Prelude.{List};
+ghost use Rattle.std.specs.Str.{chars};
+ghost use Rattle.winnow_core.specs.Laws.{ShowsOne, TakesFromTheFront};
+ghost use Rattle.winnow_core.specs.Runs.{LeaveEnds};
+
+use crate::ascii::impls::{Escaped, TakeEscaped};
+use stream_errors::control::ControlError;
+use stream_errors::parser_error::ParserError;
+use stream_sets::accumulate::Accumulate;
+use streams::stream::StreamIsPartial;
+use winnow_core::parser::Parser;
+
+/// After [`escaped`](crate::ascii::escaped) the input is an end of the input before, whatever it
+/// answers.
+pub fn escaped_leaves_an_end<
+    N: Parser<I, O, E>,
+    K: Parser<I, D, ControlError>,
+    X: Parser<I, P, E>,
+    I: StreamIsPartial,
+    O: Drop,
+    D: Drop,
+    P: Drop,
+    C: Accumulate<O, A> + Accumulate<P, A>,
+    E: ParserError<I>,
+    A: Copy,
+>()
+    ensures { LeaveEnds I.reading
+        (⟦<Escaped<N, K, X, I, O, D, P, C, E, A> as Parser<I, C, E>>⟧.meaning E.form) }
+{}
+
+/// After [`take_escaped`](crate::ascii::take_escaped) the input is an end of the input before,
+/// whatever it answers.
+pub fn take_escaped_leaves_an_end<
+    N: Parser<I, O, E>,
+    K: Parser<I, D, ControlError>,
+    X: Parser<I, P, E>,
+    I: StreamIsPartial,
+    O: Drop,
+    D: Drop,
+    P: Drop,
+    E: ParserError<I>,
+>()
+    ensures { LeaveEnds I.reading
+        (⟦<TakeEscaped<N, K, X, I, O, D, P, E> as Parser<I, I::Slice, E>>⟧.meaning E.form) }
+{}
+
+/// Over bytes, the slice that [`take_escaped`](crate::ascii::take_escaped) answers and then the
+/// rest are the input before.
+pub fn escaped_bytes_and_the_rest_are_the_input<
+    'a,
+    N: Parser<&'a [u8], O, E>,
+    K: Parser<&'a [u8], D, ControlError>,
+    X: Parser<&'a [u8], P, E>,
+    O: Drop,
+    D: Drop,
+    P: Drop,
+    E: ParserError<&'a [u8]>,
+>()
+    ensures { TakesFromTheFront (λ slice. slice.now)
+        (⟦<TakeEscaped<N, K, X, &'a [u8], O, D, P, E> as Parser<&'a [u8], &'a [u8], E>>⟧.meaning
+        E.form) }
+{}
+
+/// Over text, the slice that [`take_escaped`](crate::ascii::take_escaped) answers and then the
+/// rest are the input before.
+pub fn escaped_text_and_the_rest_are_the_input<
+    'a,
+    N: Parser<&'a str, O, E>,
+    K: Parser<&'a str, D, ControlError>,
+    X: Parser<&'a str, P, E>,
+    O: Drop,
+    D: Drop,
+    P: Drop,
+    E: ParserError<&'a str>,
+>()
+    ensures { TakesFromTheFront (λ slice. chars slice.now)
+        (⟦<TakeEscaped<N, K, X, &'a str, O, D, P, E> as Parser<&'a str, &'a str, E>>⟧.meaning
+        E.form) }
+{}
+
+/// Over a stream of which some function gives the tokens that each slice shows, those of the slice
+/// that [`take_escaped`](crate::ascii::take_escaped) answers and the rest are the input before.
+pub fn the_escaped_slice_and_the_rest_are_the_input<
+    N: Parser<I, O, E>,
+    K: Parser<I, D, ControlError>,
+    X: Parser<I, P, E>,
+    I: StreamIsPartial,
+    O: Drop,
+    D: Drop,
+    P: Drop,
+    E: ParserError<I>,
+>()
+    ensures { (tokens_of : I.Slice → List I.Seen) → ShowsOne I.reading tokens_of
+        → TakesFromTheFront tokens_of
+        (⟦<TakeEscaped<N, K, X, I, O, D, P, E> as Parser<I, I::Slice, E>>⟧.meaning E.form) }
+{}

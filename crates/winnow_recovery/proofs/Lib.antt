@@ -1,0 +1,2 @@
+mod RecoverableParseLemmas
+mod RetryLemmas

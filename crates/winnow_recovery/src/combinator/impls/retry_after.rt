@@ -1,0 +1,145 @@
+//! Parsers that are tried again behind what could not be parsed.
+#![tactic(auto, using(streams::specs::Ends::ends_follow))]
+
+ghost use Rattle.std.specs.Prelude.{◌≡◌, true};
+ghost use Rattle.stream_errors.specs.Form.{answer_by};
+ghost use Rattle.streams.specs.Input.{IsEndOf};
+ghost use Rattle.winnow_core.specs.Agrees.Beside.{agrees2_with};
+ghost use Rattle.winnow_recovery.specs.Recovery.{Recovery, recovery_of};
+ghost use Rattle.winnow_recovery.specs.RetryAfter.Laws.{retry_after_ends};
+ghost use Rattle.winnow_recovery.specs.RetryAfter.{RetryAfterRuns, RetryRuns, retry_after_parser};
+ghost use Rattle.winnow_recovery.specs.RetryAfter.{retry_after_recover};
+
+use crate::combinator::{can_recover, recover_from};
+use std::marker::PhantomData;
+use stream_errors::parser_error::ParserError;
+use stream_errors::recover::Recover;
+use stream_errors::recoverable::FromRecoverableError;
+use streams::stream::Stream;
+use winnow_core::agrees_with::AgreesWith;
+use winnow_core::parser::Parser;
+
+/// The parser that [`RecoveringParser::retry_after`](crate::parser::RecoveringParser::retry_after)
+/// makes.
+///
+/// Over a stream that records errors it tries its parser until that succeeds. A try that backtracks
+/// or cuts leaves the input where it failed, and there the parser that recovers is run. Where that
+/// succeeds and consumes, the error is recorded and the parser tried again. Where it fails, or
+/// consumes nothing, the input goes back to where the error arose, and that is answered; where it,
+/// or the list of errors, finds no memory, the input goes back there too, and want of memory is
+/// answered. An error for want of more input, or of memory, of the parser itself is handed on.
+///
+/// Over another stream only the parser is run.
+///
+/// ```text
+/// digit1.retry_after((take_till(0.., b','), b',').void())
+///     on Recoverable of b"ab,12" is Ok(b"12"), and one error is recorded
+/// ```
+#[derive(Drop)]
+pub struct RetryAfter<P, R, I, O, E> {
+    pub(crate) parser: P,
+    pub(crate) recover: R,
+    pub(crate) marker: PhantomData<(I, O, E)>,
+}
+
+impl<P, R, I, O, E> RetryAfter<P, R, I, O, E> {
+    #[inline(always)]
+    pub(crate) fn new(parser: P, recover: R) -> RetryAfter<P, R, I, O, E>
+        ensures parser { retry_after_parser result ≡ parser }
+        ensures recover { retry_after_recover result ≡ recover }
+    {
+        RetryAfter {
+            parser,
+            recover,
+            marker: PhantomData,
+        }
+    }
+}
+
+impl<
+    P: Parser<I, O, E>,
+    R: Parser<I, (), E>,
+    I: Recover<E>,
+    O,
+    E: ParserError<I> + FromRecoverableError<I, E>,
+> Parser<I, O, E> for RetryAfter<P, R, I, O, E> {
+    ghost can_parse = { λ s. P.can_parse s.parser × R.can_parse s.recover };
+
+    ghost State = { P.State × R.State × Recovery };
+
+    ghost state = { λ s. (
+      P.state s.parser,
+      R.state s.recover,
+      recovery_of I.supports_recovery E.recoverable_grows,
+    ) };
+
+    ghost meaning = { λ form. RetryAfterRuns (P.meaning form) (R.meaning form) };
+
+    ghost leaves_ends = { λ form. retry_after_ends I.reading (P.meaning form) (R.meaning form)
+        (P.leaves_ends form) (R.leaves_ends form) };
+
+    #[inline]
+    fn parse_next(&mut self, input: &mut I) -> Result<O, E> {
+        if I::is_recovery_supported() {
+            retry(&mut self.parser, &mut self.recover, input)
+        } else {
+            self.parser.parse_next(input)
+        }
+    }
+}
+
+impl<
+    P: AgreesWith<I, O, E, Q, J, F>,
+    Q: Parser<J, O, F>,
+    R: AgreesWith<I, (), E, W, J, F>,
+    W: Parser<J, (), F>,
+    I: Recover<E>,
+    J: Recover<F> + Stream<Token = I::Token, Seen = I::Seen, Slice = I::Slice>,
+    O,
+    E: ParserError<I> + FromRecoverableError<I, E>,
+    F: ParserError<J> + FromRecoverableError<J, F>,
+> AgreesWith<I, O, E, RetryAfter<Q, W, J, O, F>, J, F> for RetryAfter<P, R, I, O, E> {
+    ghost like = { λ p q. P.like p.parser q.parser × R.like p.recover q.recover
+        × (recovery_of I.supports_recovery E.recoverable_grows
+        ≡ recovery_of J.supports_recovery F.recoverable_grows) };
+
+    ghost agrees = { agrees2_with (λ p. p.parser) (λ q. q.parser) (λ p. p.recover)
+        (λ q. q.recover)
+        (λ p. recovery_of I.supports_recovery E.recoverable_grows)
+        (λ q. recovery_of J.supports_recovery F.recoverable_grows)
+        (λ X Y m n form. RetryAfterRuns (m form) (n form)) P.agrees R.agrees };
+}
+
+/// Tries a parser until it succeeds, or does not recover.
+fn retry<
+    P: Parser<I, O, E>,
+    R: Parser<I, (), E>,
+    I: Recover<E>,
+    O,
+    E: ParserError<I> + FromRecoverableError<I, E>,
+>(parser: &mut P, recover: &mut R, input: &mut I) -> Result<O, E>
+    requires parser { P.can_parse parser.old }
+    requires recover { R.can_parse recover.old }
+    requires records { I.supports_recovery ≡ true }
+    ensures again { P.can_parse parser.new × R.can_parse recover.new }
+    ensures ran { RetryRuns E.recoverable_grows (P.meaning E.form) (R.meaning E.form)
+        (P.state parser.old, R.state recover.old) (I.view input.old)
+        (answer_by E.kind result) (P.state parser.new, R.state recover.new) (I.view input.new) }
+    ensures ends { IsEndOf I.reading (I.view input.new) (I.view input.old) }
+{
+    'tries: loop {
+        let start = input.checkpoint();
+        match parser.parse_next(input) {
+            Ok(output) => return Ok(output),
+            Err(error) => {
+                if !can_recover::<I, E>(&error) {
+                    return Err(error);
+                }
+                match recover_from(recover, true, &start, error, input) {
+                    Ok(()) => {}
+                    Err(refused) => return Err(refused),
+                }
+            }
+        }
+    }
+}

@@ -1,0 +1,12 @@
+//! Parsers that recover from errors: the adapters `retry_after` and `resume_after`, and
+//! `recoverable_parse`, which answers all errors that were recorded.
+//!
+//! Each adapter is proved to be its definition, which stands in `specs/` under its name: a list of
+//! tries and what ended them.
+#![tactic(auto)]
+
+pub mod combinator;
+pub mod laws;
+pub mod parser;
+
+pub use crate::parser::{RecoverableParser, RecoveringParser};

@@ -1,0 +1,191 @@
+//! Parsers that recover from errors, and whole parses with them.
+#![tactic(auto, using(streams::specs::Ends::ends_follow))]
+
+ghost use Rattle.std.specs.Prelude.{◌≡◌, MatchResult, false};
+ghost use Rattle.streams.specs.Input.{Input, back_at};
+ghost use Rattle.streams.specs.Kind.{memory};
+ghost use Rattle.winnow_recovery.specs.RecoverableParse.{ComesBack, ComesBackWith, IsBack};
+ghost use Rattle.winnow_recovery.specs.RecoverableParse.{RecoverableParses, no_memory_input};
+ghost use Rattle.winnow_recovery.specs.ResumeAfter.{resume_after_parser, resume_after_recover};
+ghost use Rattle.winnow_recovery.specs.RetryAfter.{retry_after_parser, retry_after_recover};
+
+use crate::combinator::impls::{ResumeAfter, RetryAfter};
+use std::alloc::Allocator;
+use stream_errors::parser_error::ParserError;
+use stream_errors::recover::Recover;
+use stream_errors::recoverable::FromRecoverableError;
+use stream_recovery::recoverable::Recoverable;
+use streams::stream::{Stream, StreamIsPartial};
+use winnow_core::parser::Parser;
+
+/// A parser that can be told how to recover from its errors: each [`Parser`] over a stream that
+/// says whether it records errors is one.
+///
+/// In the crate winnow these are methods of `Parser`. Here that trait stands below the streams that
+/// record errors, and it can name neither them nor the structs of this crate.
+///
+/// ```text
+/// digit1.retry_after((take_till(0.., b','), b',').void())
+///     tries again behind each comma, until there are digits
+/// ```
+pub trait RecoveringParser<
+    I: Recover<E>,
+    O,
+    E: ParserError<I> + FromRecoverableError<I, E>,
+>: Parser<I, O, E> {
+    /// The output of the first try that succeeds. Behind a try that backtracks or cuts, `recover`
+    /// is run: where it succeeds and consumes, the error is recorded and the parser tried again;
+    /// where it fails, or consumes nothing, the error is answered, and the input goes back to where
+    /// it arose. Over a stream that records no errors only the parser is run.
+    #[inline(always)]
+    final fn retry_after<R: Parser<I, (), E>>(self, recover: R) -> RetryAfter<Self, R, I, O, E>
+        ensures parser { retry_after_parser result ≡ self }
+        ensures recover { retry_after_recover result ≡ recover }
+    {
+        RetryAfter::new(self, recover)
+    }
+
+    /// The output in `Some`. Where the parser backtracks or cuts, `recover` is run: where it
+    /// succeeds, the error is recorded, and `None` answered; where it fails, the error is answered,
+    /// and the input goes back to where it arose. Over a stream that records no errors only the
+    /// parser is run.
+    ///
+    /// An output is answered, so no other branch of a choice around it is tried.
+    #[inline(always)]
+    final fn resume_after<R: Parser<I, (), E>>(self, recover: R) -> ResumeAfter<Self, R, I, O, E>
+        ensures parser { resume_after_parser result ≡ self }
+        ensures recover { resume_after_recover result ≡ recover }
+    {
+        ResumeAfter::new(self, recover)
+    }
+}
+
+impl<
+    P: Parser<I, O, E>,
+    I: Recover<E>,
+    O,
+    E: ParserError<I> + FromRecoverableError<I, E>,
+> RecoveringParser<I, O, E> for P {}
+
+/// Memory was refused to a whole parse that records errors: the stream, back at its start.
+#[derive(Clone, Copy, Debug, PartialEq, Eq, Drop)]
+pub struct NoMemory<I>(pub I);
+
+/// A parser with which a whole input is parsed and all errors are answered: each [`Parser`] over
+/// [`Recoverable`](stream_recovery::recoverable::Recoverable) is one.
+///
+/// ```text
+/// digit1.recoverable_parse(Global, "12ab")
+///     is Ok(("12ab", Some("12"), errors)), where errors has one that backtracks
+/// ```
+pub trait RecoverableParser<
+    I: StreamIsPartial,
+    O,
+    R: ParserError<Recoverable<I, R, A>> + FromRecoverableError<Recoverable<I, R, A>, E>,
+    E: ParserError<Recoverable<I, R, A>>,
+    A: Allocator,
+>: Parser<Recoverable<I, R, A>, O, E> {
+    /// Parses all of `input`: the parser is run, and then nothing may be left. It answers the
+    /// input, back at its start, the output if there is one, and all errors that were recorded, in
+    /// order. The last is the one that ended the parse, if one did: that of the parser, or one that
+    /// backtracks where something was left. An error that asks for more of an input that is whole
+    /// backtracks instead.
+    ///
+    /// Where memory is refused to the parser, or to the list of errors, the input alone comes
+    /// back. The caller owes a stream type that is not partial.
+    final fn recoverable_parse(
+        &mut self,
+        alloc: A,
+        input: I,
+    ) -> Result<(I, Option<O>, Vec<R, A>), NoMemory<I>>
+    where
+        O: Drop,
+        requires callable { Self.can_parse self.old }
+        requires whole { I.supports_partial ≡ false }
+        ensures again { Self.can_parse self.new }
+        ensures ran { RecoverableParses I.view R.kind (I.view input)
+            (λ answer j. Self.meaning E.form (Self.state self.old) (I.view input) answer
+            (Self.state self.new) j) result }
+    {
+        let start = input.checkpoint();
+        let mut input = Recoverable::new(alloc, input);
+        match self.parse_next(&mut input) {
+            Ok(output) => {
+                if input.eof_offset() == 0 {
+                    let (back, errors) = parts_at_start(input, &start);
+                    return Ok((back, Some(output), errors));
+                }
+                let place = input.checkpoint();
+                let error = E::from_input(&input);
+                ended_by(input, &start, &place, Some(output), error)
+            }
+            Err(error) => {
+                if error.is_incomplete() {
+                    let error = E::from_input(&input);
+                    return ended_by(input, &start, &start, None, error);
+                }
+                ended_by(input, &start, &start, None, error)
+            }
+        }
+    }
+}
+
+impl<
+    P: Parser<Recoverable<I, R, A>, O, E>,
+    I: StreamIsPartial,
+    O,
+    R: ParserError<Recoverable<I, R, A>> + FromRecoverableError<Recoverable<I, R, A>, E>,
+    E: ParserError<Recoverable<I, R, A>>,
+    A: Allocator,
+> RecoverableParser<I, O, R, E, A> for P {}
+
+/// The stream inside, back at its start, and the errors that were recorded.
+fn parts_at_start<I: Stream, R: ParserError<Recoverable<I, R, A>>, A: Allocator>(
+    input: Recoverable<I, R, A>,
+    start: &I::Checkpoint,
+) -> (I, Vec<R, A>)
+    ensures { ComesBack I.view R.kind
+        (back_at (I.seen start.now) (⟦<Recoverable<I, R, A> as Stream>⟧.view input))
+        (⟦<Recoverable<I, R, A> as Stream>⟧.view input) result.0 result.1.items }
+{
+    let (mut back, errors) = input.into_parts();
+    back.reset(start);
+    (back, errors)
+}
+
+/// What comes back where an error ended the parse: it stands behind those that were recorded.
+fn ended_by<
+    I: Stream,
+    O: Drop,
+    R: ParserError<Recoverable<I, R, A>> + FromRecoverableError<Recoverable<I, R, A>, E>,
+    E: ParserError<Recoverable<I, R, A>>,
+    A: Allocator,
+>(
+    input: Recoverable<I, R, A>,
+    start: &I::Checkpoint,
+    token_start: &I::Checkpoint,
+    output: Option<O>,
+    error: E,
+) -> Result<(I, Option<O>, Vec<R, A>), NoMemory<I>>
+    ensures { MatchResult result
+        (λ all. (all.1 ≡ output) × (E.kind error ≡ memory → ⊥)
+        × ComesBackWith I.view R.kind
+        (back_at (I.seen start.now) (⟦<Recoverable<I, R, A> as Stream>⟧.view input))
+        (⟦<Recoverable<I, R, A> as Stream>⟧.view input) (E.kind error) all.0 all.2.items)
+        (λ refused. IsBack I.view
+        (back_at (I.seen start.now) (⟦<Recoverable<I, R, A> as Stream>⟧.view input))
+        (no_memory_input refused)) }
+{
+    let place = input.checkpoint();
+    let made = R::from_recoverable_error(token_start, &place, &input, error);
+    let wants_memory = made.is_memory();
+    let (back, errors) = parts_at_start(input, start);
+    if wants_memory {
+        return Err(NoMemory(back));
+    }
+    let mut errors = errors;
+    match errors.push(made) {
+        Ok(()) => Ok((back, output, errors)),
+        Err(_) => Err(NoMemory(back)),
+    }
+}

@@ -1,0 +1,97 @@
+//! Runs of stable parsers on all beginnings of a sample of bytes, each beside what must come.
+use crate::settling::Bytes;
+use std::fmt::Debug;
+use std::process::Abort;
+use stream_bits::bits::Bits;
+use streams::partial::Partial;
+use streams::stream::{Stream, StreamIsPartial};
+use test_support::outcomes::{Kind, outcome_of};
+use test_support::rows::Modal;
+use test_support::texts::completed;
+use winnow_stable::stable::Stable;
+
+/// How a sample is answered: from how many of its bytes on, by what, and how many units are taken.
+pub(crate) type Settled<O> = (usize, Result<O, Kind>, usize);
+
+/// A stream of the bytes of a sample that may be cut.
+pub(crate) trait OfSample: StreamIsPartial + Copy + Debug {
+    /// The stream of `bytes`, of which so many bits were read.
+    fn of_sample(bytes: &'static [u8], read: usize) -> Self;
+}
+
+impl OfSample for Bytes {
+    fn of_sample(bytes: &'static [u8], _read: usize) -> Bytes {
+        Partial::new(bytes)
+    }
+}
+
+impl OfSample for Bits<Bytes> {
+    fn of_sample(bytes: &'static [u8], read: usize) -> Bits<Bytes> {
+        Bits(Partial::new(bytes), read)
+    }
+}
+
+/// A run on each beginning of the sample, from `first` bytes on, that is too short asks for more,
+/// and one on each other, cut and complete, answers so.
+fn settles_behind<I, O, P>(
+    rt: &impl Abort,
+    name: &str,
+    parser: &mut P,
+    sample: &'static [u8],
+    read: usize,
+    want: Settled<O>,
+)
+where
+    I: OfSample,
+    O: PartialEq + Debug + Drop + Copy,
+    P: Stable<I, O, Modal>,
+{
+    let (from, answer, taken) = want;
+    let first = if read == 0 { 0 } else { 1 };
+    for count in first..=sample.len() {
+        let input = I::of_sample(&sample[..count], read);
+        let (got, rest) = outcome_of::<I, O, Modal, P>(parser, input);
+        if count < from {
+            let asks = matches!(got, Err(Kind::Incomplete(_)));
+            assert_eq!(rt; asks, true, "{name} at {count} bytes of {sample:?}");
+        } else {
+            let ran = (got, input.eof_offset() - rest.eof_offset());
+            assert_eq!(rt; ran, (answer, taken), "{name} at {count} bytes of {sample:?}, cut");
+            let whole = completed(input);
+            let (got, rest) = outcome_of::<I, O, Modal, P>(parser, whole);
+            let ran = (got, whole.eof_offset() - rest.eof_offset());
+            assert_eq!(rt; ran, (answer, taken), "{name} at {count} bytes of {sample:?}");
+        }
+    }
+}
+
+/// So on the bytes of a sample.
+pub(crate) fn settles_from<O, P>(
+    rt: &impl Abort,
+    name: &str,
+    mut parser: P,
+    sample: &'static [u8],
+    want: Settled<O>,
+)
+where
+    O: PartialEq + Debug + Drop + Copy,
+    P: Stable<Bytes, O, Modal> + Drop,
+{
+    settles_behind::<Bytes, O, P>(rt, name, &mut parser, sample, 0, want);
+}
+
+/// So on the bits of a sample, of which so many were read.
+pub(crate) fn settles_in_bits<O, P>(
+    rt: &impl Abort,
+    name: &str,
+    mut parser: P,
+    sample: &'static [u8],
+    read: usize,
+    want: Settled<O>,
+)
+where
+    O: PartialEq + Debug + Drop + Copy,
+    P: Stable<Bits<Bytes>, O, Modal> + Drop,
+{
+    settles_behind::<Bits<Bytes>, O, P>(rt, name, &mut parser, sample, read, want);
+}

@@ -1,0 +1,5 @@
+//! The tests of lines and columns.
+#![tactic(auto)]
+
+#[cfg(test)]
+mod places;

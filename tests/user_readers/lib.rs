@@ -1,0 +1,5 @@
+//! Tests of the small readers.
+#![tactic(auto)]
+
+#[cfg(test)]
+mod readers;

@@ -1,0 +1,5 @@
+//! The tests of boolean formulas.
+#![tactic(auto)]
+
+#[cfg(test)]
+mod values;

@@ -1,0 +1,5 @@
+//! The tests of the refill loop.
+#![tactic(auto)]
+
+#[cfg(test)]
+mod frames;
