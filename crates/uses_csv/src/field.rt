@@ -148,7 +148,7 @@ pub struct Field<'i> {
 ///
 /// let mut input = b"\"a,\"\"b\"\"\",c".as_slice();
 /// let field = read_field(&mut input);
-/// assert!(rt; matches!(field, Some(it) if it.is_quoted && it.text == b"a,\"\"b\"\""));
+/// assert!(rt; field.is_some_and(|it| it.is_quoted && it.text == b"a,\"\"b\"\"".as_slice()));
 /// assert_eq!(rt; input, b",c".as_slice());
 /// assert!(rt; read_field(&mut b"\"a\"b".as_slice()).is_none());
 /// ```
