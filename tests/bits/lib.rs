@@ -6,4 +6,6 @@ mod bits;
 #[cfg(test)]
 mod nested;
 #[cfg(test)]
+mod refusals;
+#[cfg(test)]
 mod stream;

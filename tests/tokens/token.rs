@@ -1,4 +1,5 @@
 //! Parsers of tokens.
+mod byte_sets;
 mod literal;
 mod take_till;
 mod take_until;

@@ -3,12 +3,12 @@
 
 ghost use Rattle.std.specs.Prelude.{◌≡◌, ◌<◌, ◌≤◌, ◌+◌, ◌*◌, ◌/◌, ◌%◌, ◌^◌, ◌==◌, List, Bool, true};
 ghost use Rattle.std.specs.Prelude.{length, [], ℕ, MatchOption, refl};
-ghost use Rattle.streams.specs.Input.{Input, Remaining};
+ghost use Rattle.streams.specs.Input.{Input, IsEndOf, Remaining, Takes};
 ghost use Rattle.stream_bits.specs.BitInput.{bits_follow, bits_from, bits_input, bits_left};
 ghost use Rattle.stream_bits.specs.BitInput.{can_be_read};
-ghost use Rattle.stream_bits.specs.BitReading.{bits_alike, bits_reading};
+ghost use Rattle.stream_bits.specs.BitReading.{StandsBetween, bits_alike, bits_reading};
 ghost use Rattle.stream_bits.specs.Offsets.{bits_to_come};
-ghost use Rattle.streams.specs.Stream.{with_offsets};
+ghost use Rattle.streams.specs.Stream.{Cuts, IsBoundary, with_offsets};
 ghost use Rattle.stream_bits.specs.Within.{ReadsNumber};
 
 use crate::offsets::BitOffsets;
@@ -164,7 +164,15 @@ impl<I: ByteStream> Stream for Bits<I> {
     }
 
     #[inline(always)]
-    fn next_slice(&mut self, offset: usize) -> (I::Slice, usize, usize) {
+    fn next_slice(&mut self, offset: usize) -> (I::Slice, usize, usize)
+        requires { IsBoundary length (bits_from (I.view self.old.0).left.tokens self.old.1) offset }
+        ensures ends { IsEndOf (bits_reading I.reading) (bits_input (I.view self.new.0) self.new.1)
+            (bits_input (I.view self.old.0) self.old.1) }
+        ensures cuts { Cuts (bits_reading I.reading) offset (bits_input (I.view self.old.0) self.old.1)
+            result (bits_input (I.view self.new.0) self.new.1) }
+        ensures stands { StandsBetween I.reading (I.view self.old.0).left.tokens self.old.1
+            offset result self.new.1 }
+    {
         let start = self.1;
         if offset == 0 {
             return (self.0.next_slice(0), start, start);
@@ -175,7 +183,17 @@ impl<I: ByteStream> Stream for Bits<I> {
     }
 
     #[inline(always)]
-    fn finish(&mut self) -> (I::Slice, usize, usize) {
+    fn finish(&mut self) -> (I::Slice, usize, usize)
+        ensures ends { IsEndOf (bits_reading I.reading) (bits_input (I.view self.new.0) self.new.1)
+            (bits_input (I.view self.old.0) self.old.1) }
+        ensures takes { Takes (bits_reading I.reading)
+            (bits_from (I.view self.old.0).left.tokens self.old.1)
+            (bits_input (I.view self.old.0) self.old.1) result
+            (bits_input (I.view self.new.0) self.new.1) }
+        ensures nothing { bits_from (I.view self.new.0).left.tokens self.new.1 ≡ [] }
+        ensures stands { StandsBetween I.reading (I.view self.old.0).left.tokens self.old.1
+            (length (bits_from (I.view self.old.0).left.tokens self.old.1)) result self.new.1 }
+    {
         let left = self.eof_offset();
         self.next_slice(left)
     }

@@ -49,6 +49,6 @@ pub use winnow_separated::laws::{
     separated_folds_fold_the_same, separated_leaves_a_separator_without_an_element,
 };
 pub use winnow_stable::laws::{
-    a_cut_input_is_answered_as_each_longer_one, complete_err_is_not_stable, eof_is_not_stable,
-    rest_is_not_stable,
+    a_cut_input_is_answered_as_each_longer_one, a_longer_input_gets_no_other_answer,
+    complete_err_is_not_stable, eof_is_not_stable, rest_is_not_stable,
 };

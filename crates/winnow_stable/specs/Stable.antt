@@ -10,6 +10,7 @@ pub mod Bits
 pub mod BitsOfBytes
 pub mod Choices
 pub mod Controls
+pub mod Decided
 pub mod Escapes
 pub mod Fold
 pub mod Grows

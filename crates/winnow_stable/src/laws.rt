@@ -1,7 +1,9 @@
 //! Laws of stable parsers, and of some that are not.
 ghost use Rattle.std.specs.Prelude.{◌≡◌, [], ◌∷◌};
 ghost use Rattle.stream_errors.specs.Form.{modal};
+ghost use Rattle.winnow_separated.specs.FoldLaws.{Decides, DecidesOutputs};
 ghost use Rattle.winnow_stable.specs.Stable.{EachSettlesOnCut, IsStable};
+ghost use Rattle.winnow_stable.specs.Stable.Decided.{NoOtherOnLonger, SameOutputOnLonger};
 
 use crate::stable::Stable;
 use stream_errors::parser_error::ParserError;
@@ -19,6 +21,16 @@ pub fn a_cut_input_is_answered_as_each_longer_one<
     E: ParserError<I>,
 >()
     ensures { E.form ≡ modal → EachSettlesOnCut I.following (P.meaning E.form) }
+{}
+
+/// Where one state and one input decide how a stable parser ends, want of memory aside, a longer
+/// input gets no other answer than the cut one: an output or the same kind, the same new state, and
+/// the rest with what was added; and the same output, where they decide that too.
+pub fn a_longer_input_gets_no_other_answer<P: Stable<I, O, E>, I: Stream, O, E: ParserError<I>>()
+    ensures outcome { E.form ≡ modal → Decides (P.meaning E.form)
+        → NoOtherOnLonger I.following (P.meaning E.form) }
+    ensures output { E.form ≡ modal → DecidesOutputs (P.meaning E.form)
+        → SameOutputOnLonger I.following (P.meaning E.form) }
 {}
 
 /// [`Eof`](winnow_core::combinator::impls::Eof) is not stable, and no block can say that it is:

@@ -88,3 +88,36 @@ pub returns-clause-ends : goal.returns-clause-ends
 returns-clause-ends g c =
     let owed = c.requires in
     takes_end (returns-clause-cuts g c owed.0 owed.1 owed.2 owed.3)
+
+pub returns-then-offset-eq0-clause-stands : goal.returns-then-offset-eq0-clause-stands
+returns-then-offset-eq0-clause-stands g c =
+    let reading = g.I.Stream.reading in
+    let i = g.I.Stream.view c.args.self.now.0 in
+    let offset = c.args.self.now.1 in
+    let takes = c.next_slice.ensures.cuts [] i.left.tokens refl (sym (units-nil reading)) in
+    let P : List _ → Type 0 = λ l. reading.shows c.next_slice.result l in
+    record {
+      begins = refl;
+      ends = refl;
+      passes = λ few.
+          let none : (offset + c.args.offset) / 8 ≡ 0 = omega (arith, few, c.if-offset-eq0.true) in
+          subst P (ap (λ n. take n i.left.tokens) (sym none)) takes.shown;
+    }
+
+pub returns-clause-stands : goal.returns-clause-stands
+returns-clause-stands g c =
+    let bytes = (g.I.Stream.view c.args.self.now.0).left.tokens in
+    let offset = c.args.self.now.1 in
+    let n = (offset + c.args.offset) / 8 in
+    let owed = c.requires in
+    let r = some_readable bytes offset owed.0 owed.1 owed.2 c.args.offset owed.3
+    c.if-offset-eq0.false in
+    let few : n ≤ length bytes = omega (arith, r.1) in
+    record {
+      begins = refl;
+      ends = refl;
+      passes = λ less. (c.next_slice-2.ensures.cuts (take n bytes) (drop n bytes)
+          (sym (take-append-drop n bytes))
+          (sym (g.met.I.ByteStream.counts_bytes.units (take n bytes)
+          ∙ length-take-le n bytes few))).shown;
+    }
