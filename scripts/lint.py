@@ -31,8 +31,8 @@ def comments(path):
             yield (start if comment else number), item[1], comment
             comment = []
         elif not ATTRIBUTE.match(line):
-            if comment and re.match(r"fn \w+", text):
-                yield start, re.match(r"fn (\w+)", text)[1], comment
+            if comment and (inner := re.match(r"(?:fn|type|const) (\w+)", text)):
+                yield start, inner[1], comment
             comment = []
 
 
