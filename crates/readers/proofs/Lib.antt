@@ -1,3 +1,4 @@
+pub mod ByteTables
 pub mod Bytes
 pub mod DocumentLemmas
 pub mod DocumentReading

@@ -5,13 +5,15 @@ ghost use Rattle.readers.specs.Pair.{IsKeyByte, IsPairLine, IsPairFault};
 pub mod impls;
 mod parts;
 mod sections;
+mod tables;
 
 use crate::fault::Fault;
 pub use crate::ini::parts::{category, key_value};
 pub use crate::ini::sections::{Section, document};
+use crate::ini::tables::{bytes_of_line, key_bytes, line_feed};
 use winnow::Parser;
 use winnow::error::{EmptyError, ParseFault};
-use winnow::stream::{Pred, Range};
+use winnow::stream::{ByteStream, Range};
 use winnow::token::take_while;
 
 /// Reads one line of a key, `=` and a value: one or more ASCII letters or digits, `=`, bytes other
@@ -31,11 +33,13 @@ pub fn pair(input: &[u8]) -> Result<(&[u8], &[u8]), Fault>
     ensures parts { IfOk result (λ p. IsPairLine input.now p.0.now p.1.now) }
     ensures refused { IfErr result (λ f. IsPairFault input.now f) }
 {
+    input.shows_bytes();
+    let line_feed = line_feed();
     let mut line = (
-        take_while::<_, _, EmptyError>(Range::from(1..), Pred(|b: u8| b.is_ascii_alphanumeric())),
+        take_while::<_, _, EmptyError>(Range::from(1..), key_bytes()),
         b'=',
-        take_while(Range::from(0..), Pred(|b: u8| b != b'\n')),
-        take_while(Range::from(..=1), b'\n'),
+        take_while(Range::from(0..), bytes_of_line(line_feed)),
+        take_while(Range::from(..=1), line_feed),
     );
     match line.parse(input) {
         Ok((key, _, value, _)) => Ok((key, value)),

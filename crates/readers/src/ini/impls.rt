@@ -3,7 +3,10 @@ ghost use Rattle.std.specs.Prelude.{⊤, ◌≡◌};
 ghost use Rattle.readers.specs.DocumentRuns.{BracketsRuns, CategoryRuns, CommentRuns, GapRuns};
 ghost use Rattle.readers.specs.DocumentRuns.{KeyRuns, KeyValueRuns, MarkRuns, ValueRuns};
 
-use crate::ini::parts::{brackets, category, comment, gap, key, key_value, mark, value};
+use crate::ini::parts::{
+    brackets, category, comment, gap, key, key_value, mark, section_name, value,
+};
+use crate::ini::tables::NameBytes;
 use std::alloc::Allocator;
 use winnow::Parser;
 use winnow::error::{ErrMode, InputError};
@@ -62,9 +65,34 @@ impl<'i> Parser<&'i [u8], (&'i str, &'i str), ErrMode<InputError<&'i [u8]>>> for
     }
 }
 
+/// The parser of a section's name, by its bytes.
+#[derive(Clone, Copy)]
+pub(super) struct SectionName {
+    pub(super) names: NameBytes,
+}
+
+impl<'i> Parser<&'i [u8], &'i str, ErrMode<InputError<&'i [u8]>>> for SectionName {
+    ghost State = { ⊤ };
+
+    ghost state = { λ _. tt };
+
+    ghost meaning = { λ _ _ i answer _ j. CategoryRuns i answer j };
+
+    ghost leaves_ends = { λ form s i answer t j r. r.0 };
+
+    fn parse_next(
+        &mut self,
+        input: &mut &'i [u8],
+    ) -> Result<&'i str, ErrMode<InputError<&'i [u8]>>> {
+        section_name(self.names, input)
+    }
+}
+
 /// The parser of the bytes of a section's name, in brackets.
 #[derive(Clone, Copy)]
-pub(super) struct Brackets;
+pub(super) struct Brackets {
+    pub(super) names: NameBytes,
+}
 
 impl<'i> Parser<&'i [u8], &'i [u8], ErrMode<InputError<&'i [u8]>>> for Brackets {
     ghost State = { ⊤ };
@@ -80,7 +108,7 @@ impl<'i> Parser<&'i [u8], &'i [u8], ErrMode<InputError<&'i [u8]>>> for Brackets 
         &mut self,
         input: &mut &'i [u8],
     ) -> Result<&'i [u8], ErrMode<InputError<&'i [u8]>>> {
-        brackets(input)
+        brackets(self.names, input)
     }
 }
 

@@ -10,13 +10,14 @@ ghost use Rattle.readers.specs.DocumentRuns.{IsFront, KeyRuns};
 ghost use Rattle.readers.specs.DocumentRuns.{KeyValueRuns, MarkRuns, ValueRuns, IsWithoutTrailing};
 
 use crate::ini::impls::{Brackets, Comment, Key, Mark, Value};
+use crate::ini::tables::NameBytes;
 use std::alloc::Allocator;
 use std::str;
 use winnow::Parser;
 use winnow::ascii::impls::{Alphanumeric1, Multispace1, Space0};
 use winnow::combinator::{alt, delimited, opt, repeat, separated_pair, terminated};
 use winnow::error::{EmptyError, ErrMode, HasKind, InputError, ParserError};
-use winnow::stream::{Pred, Range, Stream};
+use winnow::stream::{ByteStream, Range, Stream};
 use winnow::token::{take_until, take_while};
 
 /// The bytes as text, where they are UTF-8.
@@ -50,19 +51,38 @@ fn value_text(bytes: &[u8]) -> Option<&str>
 }
 
 /// The bytes of a section's name, between `[` and `]`.
-pub(super) fn brackets<'i>(input: &mut &'i [u8]) -> Result<&'i [u8], ErrMode<InputError<&'i [u8]>>>
+pub(super) fn brackets<'i>(
+    names: NameBytes,
+    input: &mut &'i [u8],
+) -> Result<&'i [u8], ErrMode<InputError<&'i [u8]>>>
     ensures { BracketsRuns (bytes_input input.old.now)
         (answer_by ⟦<ErrMode<InputError<&'i [u8]>> as HasKind>⟧.kind result)
         (bytes_input input.new.now) }
 {
-    let mut name = delimited(
-        b'[',
-        take_while(Range::from(0..), Pred(|b: u8| b != b']' && b != b'\n')),
-        b']',
-    );
+    input.shows_bytes();
+    let mut name = delimited(b'[', take_while(Range::from(0..), names.set), b']');
     match name.parse_next(input) {
         Ok(name) => Ok(name),
         Err(error) => Err(error),
+    }
+}
+
+/// The name of a section, where the bytes of names are made already.
+pub(super) fn section_name<'i>(
+    names: NameBytes,
+    input: &mut &'i [u8],
+) -> Result<&'i str, ErrMode<InputError<&'i [u8]>>>
+    ensures { CategoryRuns (bytes_input input.old.now)
+        (answer_by ⟦<ErrMode<InputError<&'i [u8]>> as HasKind>⟧.kind result)
+        (bytes_input input.new.now) }
+{
+    let at_name = *input;
+    match (Brackets { names }).verify_map(text).parse_next(input) {
+        Ok(name) => Ok(name),
+        Err(error) => {
+            *input = at_name;
+            Err(error)
+        }
     }
 }
 
@@ -87,14 +107,7 @@ pub fn category<'i>(input: &mut &'i [u8]) -> Result<&'i str, ErrMode<InputError<
         (answer_by ⟦<ErrMode<InputError<&'i [u8]>> as HasKind>⟧.kind result)
         (bytes_input input.new.now) }
 {
-    let at_name = *input;
-    match Brackets.verify_map(text).parse_next(input) {
-        Ok(name) => Ok(name),
-        Err(error) => {
-            *input = at_name;
-            Err(error)
-        }
-    }
+    section_name(NameBytes::new(), input)
 }
 
 /// The key of a pair: ASCII letters and digits.

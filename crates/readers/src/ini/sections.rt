@@ -5,7 +5,8 @@ ghost use Rattle.readers.specs.DocumentRuns.{DocumentRuns, PairsRuns, SectionRun
 ghost use Rattle.readers.specs.Sections.{pair_text, section_text};
 
 use crate::fault::Fault;
-use crate::ini::impls::{Category, Gap, KeyValue};
+use crate::ini::impls::{Gap, KeyValue, SectionName};
+use crate::ini::tables::NameBytes;
 use std::alloc::Allocator;
 use winnow::Parser;
 use winnow::combinator::{preceded, repeat, terminated};
@@ -64,6 +65,7 @@ impl<'i, A: Allocator + Copy> Parser<
 #[derive(Clone, Copy, Drop)]
 struct SectionReader<A> {
     alloc: A,
+    names: NameBytes,
 }
 
 impl<'i, A: Allocator + Copy> Parser<&'i [u8], Section<'i, A>, ErrMode<InputError<&'i [u8]>>>
@@ -81,7 +83,8 @@ impl<'i, A: Allocator + Copy> Parser<&'i [u8], Section<'i, A>, ErrMode<InputErro
         input: &mut &'i [u8],
     ) -> Result<Section<'i, A>, ErrMode<InputError<&'i [u8]>>> {
         let alloc = self.alloc;
-        (terminated(Category, Gap { alloc }), Pairs { alloc })
+        let name = SectionName { names: self.names };
+        (terminated(name, Gap { alloc }), Pairs { alloc })
             .map(|(name, pairs)| Section { name, pairs })
             .parse_next(input)
     }
@@ -91,6 +94,7 @@ impl<'i, A: Allocator + Copy> Parser<&'i [u8], Section<'i, A>, ErrMode<InputErro
 #[derive(Clone, Copy, Drop)]
 struct Sections<A> {
     alloc: A,
+    names: NameBytes,
 }
 
 impl<'i, A: Allocator + Copy> Parser<
@@ -111,8 +115,8 @@ impl<'i, A: Allocator + Copy> Parser<
         &mut self,
         input: &mut &'i [u8],
     ) -> Result<Vec<Section<'i, A>, A>, ErrMode<InputError<&'i [u8]>>> {
-        let alloc = self.alloc;
-        repeat(alloc, Range::from(0..), SectionReader { alloc }).parse_next(input)
+        let (alloc, names) = (self.alloc, self.names);
+        repeat(alloc, Range::from(0..), SectionReader { alloc, names }).parse_next(input)
     }
 }
 
@@ -121,6 +125,7 @@ impl<'i, A: Allocator + Copy> Parser<
 #[derive(Clone, Copy, Drop)]
 struct DocumentReader<A> {
     alloc: A,
+    names: NameBytes,
 }
 
 impl<'i, A: Allocator + Copy> Parser<
@@ -141,8 +146,8 @@ impl<'i, A: Allocator + Copy> Parser<
         &mut self,
         input: &mut &'i [u8],
     ) -> Result<Vec<Section<'i, A>, A>, ErrMode<InputError<&'i [u8]>>> {
-        let alloc = self.alloc;
-        preceded(Gap { alloc }, Sections { alloc }).parse_next(input)
+        let (alloc, names) = (self.alloc, self.names);
+        preceded(Gap { alloc }, Sections { alloc, names }).parse_next(input)
     }
 }
 
@@ -174,7 +179,8 @@ pub fn document<'i, A: Allocator + Copy>(
         (λ sections. HasSections input.now (map section_text sections.items))
         (λ fault. IsDocumentFault input.now fault) }
 {
-    match (DocumentReader { alloc }).parse(input) {
+    let names = NameBytes::new();
+    match (DocumentReader { alloc, names }).parse(input) {
         Ok(sections) => Ok(sections),
         Err(ParseFault::Refused(error)) => {
             if error.inner().is_memory() {

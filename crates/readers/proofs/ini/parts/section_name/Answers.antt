@@ -5,7 +5,7 @@ use Rattle.winnow.specs.Input.{is_end_of_refl}
 use Rattle.winnow.specs.Form.Known.{ok_is_err, same_ok}
 use Rattle.readers.specs.Document.{Begins, section}
 use Rattle.readers.proofs.PartRuns.{category_read, no_open, no_close, no_text}
-use Rattle.readers.proofs.ini.parts.category.Goals as goal
+use Rattle.readers.proofs.ini.parts.section_name.Goals as goal
 
 pub returns-in-Ok : goal.returns-in-Ok
 returns-in-Ok c =
