@@ -41,8 +41,8 @@ pub record ShowsBits {S : Type 0} (reading : Reading ℕ S) (slice : BitSlice S)
   pub counted : reading.units bytes ≡ length bytes
   pub bits : shown ≡ drop slice.1 (bits_of bytes ++ take slice.2 (low_bits 8 begun))
 
--- A slice that was cut from bits says where: how many bits of the first byte were read before it, and
--- how many of the byte behind its bytes are read behind it. Its bytes are those wholly passed.
+-- A slice that was cut from bits says where: how many bits of the first byte were read before it,
+-- and how many of the byte behind its bytes are read behind it. Its bytes are those wholly passed.
 pub record StandsBetween {S : Type 0} (reading : Reading ℕ S) (bytes : List ℕ) (before units : ℕ)
     (slice : BitSlice S) (behind : ℕ) : Type 0 where
   pub begins : slice.1 ≡ before

@@ -165,7 +165,8 @@ impl<I: ByteStream> Stream for Bits<I> {
 
     #[inline(always)]
     fn next_slice(&mut self, offset: usize) -> (I::Slice, usize, usize)
-        requires { IsBoundary length (bits_from (I.view self.old.0).left.tokens self.old.1) offset }
+        requires { IsBoundary length (bits_from (I.view self.old.0).left.tokens self.old.1)
+            offset }
         ensures ends { IsEndOf (bits_reading I.reading) (bits_input (I.view self.new.0) self.new.1)
             (bits_input (I.view self.old.0) self.old.1) }
         ensures cuts { Cuts (bits_reading I.reading) offset (bits_input (I.view self.old.0) self.old.1)

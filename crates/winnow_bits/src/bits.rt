@@ -132,7 +132,8 @@ pub fn bool<Input: ByteStream + StreamIsPartial, Error: ParserError<Bits<Input>>
 ///
 /// The bytes of which it read no bit are left: what it left of a byte begun is dropped. Where it
 /// fails, nothing is consumed, and a need of n bits is one of n / 8 + 1 bytes. More than
-/// `usize::MAX / 8` bytes, and an impossible place left by `parser`, are assert errors.
+/// `usize::MAX / 8` bytes, and an impossible place left by `parser`, are assert errors, which
+/// backtrack where errors have no mode. An unknown need stays so, and so does each other kind.
 ///
 /// ```
 /// use winnow::binary::bits::{bits, take};
@@ -162,8 +163,8 @@ where
 /// A parser of bits by `parser`, which reads bytes from the first of which no bit was read.
 ///
 /// What is left of a byte begun is dropped. Where it fails, nothing is consumed, and a need of n
-/// bytes is one of 8 n bits, or unknown where that is no `usize`. An impossible input is an assert
-/// error.
+/// bytes is one of 8 n bits, or unknown where that is no `usize` or n is unknown; other kinds stay.
+/// An impossible input is an assert error, which backtracks where errors have no mode.
 ///
 /// ```
 /// use winnow::binary::bits::bytes;

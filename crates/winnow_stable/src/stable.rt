@@ -36,7 +36,8 @@ use winnow_core::parser::Parser;
 ///
 /// The longer input may be cut still, or complete; it gets the same output or kind of error, the
 /// same new state, and what was left with what was added. Want of memory is no such answer. What
-/// may be added is what the stream says may follow: any bytes, or any valid text.
+/// may be added is what the stream says may follow: any bytes, any valid text, or whole bytes of
+/// bits.
 ///
 /// The law is about errors with a mode, as `ErrMode`, since only these tell a need of more input
 /// from a failure. A parser of a caller's own may implement the trait by proving the law.

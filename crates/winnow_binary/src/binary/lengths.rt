@@ -85,7 +85,8 @@ where
 ///
 /// A failure of `count` is handed on, and so is each failure of `parser`. Each item must consume,
 /// else it is an assert error; where the length is 0 nothing is run behind it. The input stands
-/// where the last run left it. Memory is taken by the accumulator alone.
+/// where the last run left it. Memory is taken by the accumulator alone; where that could not grow,
+/// the error is want of memory.
 ///
 /// Known as `length_count` in nom.
 ///

@@ -17,13 +17,18 @@ use winnow_core::parser::Parser;
 /// all of power 0 and more until [`current_precedence_level`] sets another least power. What an
 /// operator does with its operands is its fold, a value with [`FoldUnary`] or [`FoldBinary`].
 ///
-/// An operator that is weaker than asked for ends the expression and is left unread; so does an
-/// infix of the power of a `Neither` that was just joined. Where the operand backtracks a prefix
-/// is run, whose error is handed on. Other errors of the parts, and those of folds, are handed on,
-/// with the input where the part or the fold left it. It is an assert error where a prefix
-/// consumes nothing, where an infix comes and nothing was consumed before it, and where an
-/// operator with its operand consumed nothing. An open operator waits in a list of `alloc`: where
-/// that could not grow, the error is want of memory, and the input stands behind the operator.
+/// An operator that is weaker than the open operator asks for is put back and ends that one's right
+/// operand, whose fold is applied; one that is weaker than the level ends the expression, and is
+/// left unread. A postfix that was put back is not tried as an infix. An infix of the power of a
+/// `Neither` that was joined before it, with nothing but postfixes between them, ends all that is
+/// open: the folds are applied from the innermost out, and the infix is left unread.
+///
+/// Where the operand backtracks a prefix is run, whose error is handed on. Other errors of the
+/// parts, and those of folds, are handed on, with the input where the part or the fold left it. It
+/// is an assert error where a prefix consumes nothing, where an infix comes and nothing was
+/// consumed since the present operand began, the infix included, and where an operator with its
+/// operand consumed nothing. An open operator waits in a list of `alloc`: where that could not
+/// grow, the error is want of memory, and the input stands behind the operator.
 ///
 /// Known as Pratt's method, or precedence climbing.
 ///
