@@ -169,8 +169,9 @@ impl<I: ByteStream> Stream for Bits<I> {
             offset }
         ensures ends { IsEndOf (bits_reading I.reading) (bits_input (I.view self.new.0) self.new.1)
             (bits_input (I.view self.old.0) self.old.1) }
-        ensures cuts { Cuts (bits_reading I.reading) offset (bits_input (I.view self.old.0) self.old.1)
-            result (bits_input (I.view self.new.0) self.new.1) }
+        ensures cuts { Cuts (bits_reading I.reading) offset
+            (bits_input (I.view self.old.0) self.old.1) result
+            (bits_input (I.view self.new.0) self.new.1) }
         ensures stands { StandsBetween I.reading (I.view self.old.0).left.tokens self.old.1
             offset result self.new.1 }
     {
