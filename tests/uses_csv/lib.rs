@@ -1,5 +1,7 @@
-//! The tests of fields of comma separated values.
+//! The tests of fields and documents of comma separated values.
 #![tactic(auto)]
 
+#[cfg(test)]
+mod documents;
 #[cfg(test)]
 mod fields;

@@ -1,1 +1,3 @@
+pub mod Documents
+pub mod Rows
 pub mod Scans

@@ -1,6 +1,6 @@
 //! Fields of comma separated values (RFC 4180, section 2), with quotes or without.
 //!
-//! [`read_field`] answers exactly where a field stands. Records and documents are not read yet.
+//! [`read_field`] answers exactly where a field stands.
 #![tactic(auto)]
 
 ghost use Rattle.std.specs.Prelude.{◌≡◌, ◌↔◌, ◌∷◌, List, ℕ, IfNone, IfSome, IsTrue, MatchOption};
