@@ -1,0 +1,4 @@
+pub mod Numbers
+pub mod Standing
+pub mod Taking
+pub mod Texts

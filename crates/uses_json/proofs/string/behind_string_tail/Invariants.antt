@@ -1,0 +1,11 @@
+-- A string goes on from here as from behind its first quote.
+use Rattle.std.proofs.Common.{length}
+use Rattle.uses_json.proofs.Texts.{Leads}
+use Rattle.uses_json.specs.Strings.{IsStringTail}
+use Rattle.uses_json.proofs.string.behind_string_tail.Given as goal
+
+abbrev pub invariant-pieces : goal.invariant-pieces
+invariant-pieces l = Leads IsStringTail l.bytes l.rest
+
+abbrev pub decreases-pieces : goal.decreases-pieces
+decreases-pieces l = length l.rest

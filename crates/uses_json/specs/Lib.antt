@@ -1,0 +1,6 @@
+-- Written by scripts/registries.py: do not edit.
+pub mod Number
+pub mod Ranges
+pub mod Strings
+pub mod Texts
+pub mod Value

@@ -1,0 +1,79 @@
+-- Values of JSON (RFC 8259, sections 2 to 5).
+use Rattle.std.specs.Prelude.{◌≡◌, ◌⊎◌, ℕ, zero, suc, Bool, true, false, List, [], ◌∷◌}
+use Rattle.std.specs.List.{All}
+use Rattle.uses_json.specs.Number.{IsNumber}
+use Rattle.uses_json.specs.Strings.{IsString}
+use Rattle.uses_json.specs.Texts.{Either, IsByte, List_of, Then}
+
+-- A byte of white space: a space, a tab, a line feed or a carriage return.
+abbrev pub IsSpace : ℕ → Type 0
+IsSpace b = (b ≡ 32) ⊎ ((b ≡ 9) ⊎ ((b ≡ 10) ⊎ (b ≡ 13)))
+
+-- white space, or nothing
+abbrev pub IsGap : List ℕ → Type 0
+IsGap = All IsSpace
+
+-- this word
+abbrev pub Only : List ℕ → List ℕ → Type 0
+Only word text = text ≡ word
+
+-- the words null, true and false
+abbrev pub IsWord : List ℕ → Type 0
+IsWord =
+    Either (Only (110 ∷ 117 ∷ 108 ∷ 108 ∷ [])) (Either (Only (116 ∷ 114 ∷ 117 ∷ 101 ∷ []))
+    (Only (102 ∷ 97 ∷ 108 ∷ 115 ∷ 101 ∷ [])))
+
+-- A value that has no others in it.
+abbrev pub IsScalar : List ℕ → Type 0
+IsScalar = Either IsString (Either IsNumber IsWord)
+
+-- a colon
+abbrev pub IsColon : ℕ → Type 0
+IsColon b = b ≡ 58
+
+-- A value, with white space round it.
+abbrev pub IsElement : (List ℕ → Type 0) → List ℕ → Type 0
+IsElement V = Then IsGap (Then V IsGap)
+
+-- A name and a colon, with white space round the name.
+abbrev pub IsKey : List ℕ → Type 0
+IsKey = Then IsGap (Then IsString (Then IsGap (IsByte IsColon)))
+
+-- A name, a colon and a value.
+abbrev pub IsMember : (List ℕ → Type 0) → List ℕ → Type 0
+IsMember V = Then IsKey (IsElement V)
+
+-- what an array has in it, or else an object
+abbrev pub IsItem : Bool → (List ℕ → Type 0) → List ℕ → Type 0
+IsItem true V = IsMember V
+IsItem false V = IsElement V
+
+-- the bracket behind what an object has in it, or else an array
+abbrev pub closing : Bool → ℕ
+closing true = 125
+closing false = 93
+
+-- the closing bracket
+abbrev pub IsClosing : Bool → ℕ → Type 0
+IsClosing keyed b = b ≡ closing keyed
+
+-- What stands behind the opening bracket: white space or items, and the closing bracket.
+abbrev pub IsNestedTail : Bool → (List ℕ → Type 0) → List ℕ → Type 0
+IsNestedTail keyed V =
+    Either (Then IsGap (IsByte (IsClosing keyed)))
+    (Then (List_of (IsItem keyed V)) (IsByte (IsClosing keyed)))
+
+-- An array of values, or an object of them.
+abbrev pub IsNested : (List ℕ → Type 0) → List ℕ → Type 0
+IsNested V =
+    Either (Then (IsByte (λ b. b ≡ 91)) (IsNestedTail false V))
+    (Then (IsByte (λ b. b ≡ 123)) (IsNestedTail true V))
+
+-- A value, of which no more than so many arrays and objects stand in one another.
+abbrev pub IsValue : ℕ → List ℕ → Type 0
+IsValue zero text = IsScalar text
+IsValue (suc level) text = Either IsScalar (IsNested (IsValue level)) text
+
+-- a text of JSON: a value with white space round it
+abbrev pub IsText : ℕ → List ℕ → Type 0
+IsText level = IsElement (IsValue level)
