@@ -13,7 +13,7 @@ use winnow_core::combinator::impls::{Context, ContextWith, ErrInto, MapErr};
 use winnow_core::parser::Parser;
 
 /// [`context`](winnow_core::parser::Parser::context) means one run of its parser, whose error keeps
-/// a clone of the context.
+/// a clone of the context where it asks for no more input.
 pub fn context_means_its_parser_with_a_context<
     P: Parser<I, O, E>,
     I: Stream,

@@ -14,7 +14,7 @@ use winnow_binary::binary::impls::{LengthAndThen, LengthRepeat, LengthTake};
 use winnow_core::parser::Parser;
 
 /// [`length_take`](winnow_binary::binary::length_take) means a run of the parser of the count, and
-/// a slice of as many units.
+/// the slice of as many tokens.
 pub fn length_take_means_a_count_and_a_slice<
     P: Parser<I, N, E>,
     I: StreamIsPartial,
@@ -26,7 +26,7 @@ pub fn length_take_means_a_count_and_a_slice<
 {}
 
 /// [`length_and_then`](winnow_binary::binary::length_and_then) means a run of the parser of the
-/// count, and one of the second on a slice of as many units.
+/// count, and one of the second on as many tokens, as an input of their own.
 pub fn length_and_then_means_a_count_and_a_parser_on_the_slice<
     P: Parser<I, N, E>,
     G: Parser<I, O, E>,

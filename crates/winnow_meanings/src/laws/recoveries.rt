@@ -24,8 +24,8 @@ pub fn retry_after_means_its_parser_and_runs_after_recovery<
 {}
 
 /// [`resume_after`](winnow_recovery::parser::RecoveringParser::resume_after) means one run of its
-/// parser, and, over a stream that records errors, one of the second where that failed, with
-/// `None`.
+/// parser, and, over a stream that records errors, one of the second where it recovers from its
+/// failure, and then `None`.
 pub fn resume_after_means_its_parser_or_a_recovery<
     P: Parser<I, O, E>,
     R: Parser<I, (), E>,

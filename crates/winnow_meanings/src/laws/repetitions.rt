@@ -101,7 +101,7 @@ pub fn try_fold_means_a_chain_of_calls_that_may_fail<
 {}
 
 /// [`fill`](winnow_repeat::combinator::fill) means a run of its parser for each element of its
-/// buffer, in order.
+/// buffer, in order, to the first that fails.
 pub fn fill_means_a_run_for_each_element<
     'b,
     P: Parser<I, O, E>,
