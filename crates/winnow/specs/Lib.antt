@@ -218,6 +218,7 @@ pub use Rattle.winnow_expression.specs.Places
 pub use Rattle.winnow_expression.specs.Units
 -- The trees of operator expressions: a run gives the value of the one tree over what it reads that
 -- keeps the powers of the operators.
+pub use Rattle.winnow_expression_trees.specs.Accepting
 pub use Rattle.winnow_expression_trees.specs.Alike
 pub use Rattle.winnow_expression_trees.specs.Failure
 pub use Rattle.winnow_expression_trees.specs.Items

@@ -1,7 +1,10 @@
+pub mod Accepting
 pub mod Agree
 pub mod Alike
 pub mod AnyFolds
+pub mod Asserts
 pub mod Closing
+pub mod Decides
 pub mod EndsOnce
 pub mod Exact
 pub mod Fails
@@ -12,8 +15,10 @@ pub mod Opened
 pub mod Over
 pub mod Parts
 pub mod Plain
+pub mod Refusing
 pub mod Total
 pub mod TreeCalls
 pub mod Unique
 pub mod Views
 pub mod Whole
+pub mod Within

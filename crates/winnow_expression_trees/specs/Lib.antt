@@ -1,4 +1,5 @@
 -- Written by scripts/registries.py: do not edit.
+pub mod Accepting
 pub mod Alike
 pub mod Failure
 pub mod Items

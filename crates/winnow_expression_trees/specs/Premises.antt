@@ -38,6 +38,13 @@ pub record FoldsAlike {H T V : Type 0} (alike : V → V → Type 0)
       → folds f i v x a j → folds g k w y b n → NotMemory a → NotMemory b → Same alike a b
   pub leaves : (v x : V) (i j : Input T) (a : Answer V) → folds f i v x a j → NotMemory a → j ≡ i
 
+-- Want of memory aside: the input decides what a part in state s answers, as far as outputs are
+-- alike, and what it leaves.
+abbrev pub Decides : {S T O : Type 0} → (O → O → Type 0) → Runs S T O → S → Type 0
+Decides {S} {T} {O} alike run s =
+    (i j k : Input T) (a b : Answer O) (t u : S) → run s i a t j → run s i b u k → NotMemory a
+    → NotMemory b → Same alike a b × (j ≡ k)
+
 -- Want of memory aside: a part in state s keeps it and changes only the place, and the input
 -- decides its answer, as far as outputs are alike, and what it leaves.
 pub record IsStateless {S T O : Type 0} (alike : O → O → Type 0) (run : Runs S T O) (s : S)

@@ -1,14 +1,18 @@
 //! Laws of operator expressions, each proved by a function that does nothing.
-ghost use Rattle.std.specs.Prelude.{◌≡◌, ℤ, Err};
+ghost use Rattle.std.specs.Prelude.{◌≡◌, ◌⊎◌, ℤ, Bool, Err};
 ghost use Rattle.stream_errors.specs.Form.{Answer, assert_kind};
 ghost use Rattle.streams.specs.Input.{Input};
 ghost use Rattle.streams.specs.Kind.{Kind, memory};
 ghost use Rattle.winnow_expression.specs.Expression.{LeveledRuns};
 ghost use Rattle.winnow_expression.specs.Grammar.{folding};
 ghost use Rattle.winnow_expression.specs.Parts.{parts_grammar};
+ghost use Rattle.winnow_expression_trees.specs.Accepting.{FoldAnswers, accepting, asserting};
+ghost use Rattle.winnow_expression_trees.specs.Alike.{AlikeInfix, AlikeTree};
 ghost use Rattle.winnow_expression_trees.specs.Failure.{EndedBy, RefusedBy, Unmoved};
-ghost use Rattle.winnow_expression_trees.specs.OneTree.{IsExact};
+ghost use Rattle.winnow_expression_trees.specs.OneTree.{IsExact, KeepsOver};
+ghost use Rattle.winnow_expression_trees.specs.Premises.{AlikePostfix, AlikePrefix, Decides};
 ghost use Rattle.winnow_expression_trees.specs.Premises.{Premises};
+ghost use Rattle.winnow_expression_trees.specs.Tree.{Tree};
 
 use stream_errors::parser_error::ParserError;
 use streams::stream::Stream;
@@ -98,4 +102,136 @@ pub fn expression_reads_the_one_tree<
         (Pre.meaning E.form) (Post.meaning E.form) (Pix.meaning E.form) (F.folds E.form)
         (G.folds E.form) (H.folds E.form)) (s.0, s.1) i l n
         → (k ≡ memory → ⊥) → (l ≡ memory → ⊥) → (k ≡ l) × (j ≡ n) }
+{}
+
+/// At most one tree over a beginning of what the parts read keeps the powers at a level: where the
+/// input decides what each part answers, up to outputs and folds that are alike. Nothing is asked
+/// of the folds, of what parts consume or of their states, and nothing need be run. Two such trees
+/// have the same shape, powers and end, and end in the same way.
+///
+/// ```text
+/// at_most_one_tree_keeps_the_powers::<&[u8], i64, _, _, _, _, _, _, _, EmptyError,
+///     Equal, Equal, Equal, Equal>()
+/// ```
+pub fn at_most_one_tree_keeps_the_powers<
+    I: Stream,
+    O: Drop,
+    P: Parser<I, O, E>,
+    Pre: Parser<I, Prefix<F>, E>,
+    Post: Parser<I, Postfix<G>, E>,
+    Pix: Parser<I, Infix<H>, E>,
+    F: FoldUnary<I, O, E>,
+    G: FoldUnary<I, O, E>,
+    H: FoldBinary<I, O, E>,
+    E: ParserError<I>,
+    A: Likeness<O>,
+    B: Likeness<F>,
+    C: Likeness<G>,
+    D: Likeness<H>,
+>()
+    ensures one { (s : (P.State × Pre.State) × (Post.State × Pix.State))
+        → Decides A.alike (P.meaning E.form) s.0.0
+        → Decides (AlikePrefix B.alike) (Pre.meaning E.form) s.0.1
+        → Decides (AlikePostfix C.alike) (Post.meaning E.form) s.1.0
+        → Decides (AlikeInfix D.alike) (Pix.meaning E.form) s.1.1
+        → (level : ℤ) (i : Input I.Seen) (r u : Tree O F G H) (m n : Input I.Seen) (b c : Bool)
+        → KeepsOver (parts_grammar I.reading.units (assert_kind E.form) (P.meaning E.form)
+        (Pre.meaning E.form) (Post.meaning E.form) (Pix.meaning E.form) (F.folds E.form)
+        (G.folds E.form) (H.folds E.form)) s level i r m b
+        → KeepsOver (parts_grammar I.reading.units (assert_kind E.form) (P.meaning E.form)
+        (Pre.meaning E.form) (Post.meaning E.form) (Pix.meaning E.form) (F.folds E.form)
+        (G.folds E.form) (H.folds E.form)) s level i u n c
+        → AlikeTree A.alike B.alike C.alike D.alike r u × (m ≡ n) × (b ≡ c) }
+{}
+
+/// Where an assert rule refuses there is no tree that keeps the powers, and so where any run fails
+/// in which no fold refuses, whatever its kind; want of memory aside.
+///
+/// Clause `asserts` is about the runs in which neither a part nor a fold fails (`asserting`): they
+/// fail by an assert rule alone, with its kind, as clause `kind` says. Clause `failures` is about
+/// those in which no fold refuses (`accepting`): a part may fail there too. Clause `within` says
+/// that the first are among the second, `run` that these are runs of the expression, and `either`
+/// that each other run of it ends with the answer of a fold that refuses.
+///
+/// ```text
+/// no_tree_where_an_assert_rule_refuses::<&[u8], i64, _, _, _, _, _, _, _, EmptyError, Equal>()
+/// ```
+pub fn no_tree_where_an_assert_rule_refuses<
+    I: Stream,
+    O: Drop,
+    P: Parser<I, O, E>,
+    Pre: Parser<I, Prefix<F>, E>,
+    Post: Parser<I, Postfix<G>, E>,
+    Pix: Parser<I, Infix<H>, E>,
+    F: FoldUnary<I, O, E>,
+    G: FoldUnary<I, O, E>,
+    H: FoldBinary<I, O, E>,
+    E: ParserError<I>,
+    A: Likeness<O>,
+>()
+    ensures asserts { (s : (P.State × Pre.State) × (Post.State × Pix.State) × ℤ)
+        → Premises A.alike (P.meaning E.form) (Pre.meaning E.form) (Post.meaning E.form)
+        (Pix.meaning E.form) (G.folds E.form)
+        (folding (F.folds E.form) (H.folds E.form) I.reading.units (assert_kind E.form))
+        s.0.0 s.0.1 s.1.0 s.1.1
+        → (i : Input I.Seen) (k : Kind)
+        (t : (P.State × Pre.State) × (Post.State × Pix.State) × ℤ) (j : Input I.Seen)
+        → LeveledRuns (asserting (parts_grammar I.reading.units (assert_kind E.form)
+        (P.meaning E.form) (Pre.meaning E.form) (Post.meaning E.form) (Pix.meaning E.form)
+        (F.folds E.form) (G.folds E.form) (H.folds E.form))) s i (Err k) t j → (k ≡ memory → ⊥)
+        → (r : Tree O F G H) (n : Input I.Seen) (all : Bool)
+        → KeepsOver (parts_grammar I.reading.units (assert_kind E.form) (P.meaning E.form)
+        (Pre.meaning E.form) (Post.meaning E.form) (Pix.meaning E.form) (F.folds E.form)
+        (G.folds E.form) (H.folds E.form)) (s.0, s.1) s.2 i r n all → ⊥ }
+    ensures failures { (s : (P.State × Pre.State) × (Post.State × Pix.State) × ℤ)
+        → Premises A.alike (P.meaning E.form) (Pre.meaning E.form) (Post.meaning E.form)
+        (Pix.meaning E.form) (G.folds E.form)
+        (folding (F.folds E.form) (H.folds E.form) I.reading.units (assert_kind E.form))
+        s.0.0 s.0.1 s.1.0 s.1.1
+        → (i : Input I.Seen) (k : Kind)
+        (t : (P.State × Pre.State) × (Post.State × Pix.State) × ℤ) (j : Input I.Seen)
+        → LeveledRuns (accepting (parts_grammar I.reading.units (assert_kind E.form)
+        (P.meaning E.form) (Pre.meaning E.form) (Post.meaning E.form) (Pix.meaning E.form)
+        (F.folds E.form) (G.folds E.form) (H.folds E.form))) s i (Err k) t j → (k ≡ memory → ⊥)
+        → (r : Tree O F G H) (n : Input I.Seen) (all : Bool)
+        → KeepsOver (parts_grammar I.reading.units (assert_kind E.form) (P.meaning E.form)
+        (Pre.meaning E.form) (Post.meaning E.form) (Pix.meaning E.form) (F.folds E.form)
+        (G.folds E.form) (H.folds E.form)) (s.0, s.1) s.2 i r n all → ⊥ }
+    ensures kind { (s : (P.State × Pre.State) × (Post.State × Pix.State) × ℤ)
+        (i : Input I.Seen) (k : Kind)
+        (t : (P.State × Pre.State) × (Post.State × Pix.State) × ℤ) (j : Input I.Seen)
+        → LeveledRuns (asserting (parts_grammar I.reading.units (assert_kind E.form)
+        (P.meaning E.form) (Pre.meaning E.form) (Post.meaning E.form) (Pix.meaning E.form)
+        (F.folds E.form) (G.folds E.form) (H.folds E.form))) s i (Err k) t j
+        → (k ≡ assert_kind E.form) ⊎ (k ≡ memory) }
+    ensures within { (s : (P.State × Pre.State) × (Post.State × Pix.State) × ℤ)
+        (i : Input I.Seen) (answer : Answer O)
+        (t : (P.State × Pre.State) × (Post.State × Pix.State) × ℤ) (j : Input I.Seen)
+        → LeveledRuns (asserting (parts_grammar I.reading.units (assert_kind E.form)
+        (P.meaning E.form) (Pre.meaning E.form) (Post.meaning E.form) (Pix.meaning E.form)
+        (F.folds E.form) (G.folds E.form) (H.folds E.form))) s i answer t j
+        → LeveledRuns (accepting (parts_grammar I.reading.units (assert_kind E.form)
+        (P.meaning E.form) (Pre.meaning E.form) (Post.meaning E.form) (Pix.meaning E.form)
+        (F.folds E.form) (G.folds E.form) (H.folds E.form))) s i answer t j }
+    ensures run { (s : (P.State × Pre.State) × (Post.State × Pix.State) × ℤ)
+        (i : Input I.Seen) (answer : Answer O)
+        (t : (P.State × Pre.State) × (Post.State × Pix.State) × ℤ) (j : Input I.Seen)
+        → LeveledRuns (accepting (parts_grammar I.reading.units (assert_kind E.form)
+        (P.meaning E.form) (Pre.meaning E.form) (Post.meaning E.form) (Pix.meaning E.form)
+        (F.folds E.form) (G.folds E.form) (H.folds E.form))) s i answer t j
+        → LeveledRuns (parts_grammar I.reading.units (assert_kind E.form) (P.meaning E.form)
+        (Pre.meaning E.form) (Post.meaning E.form) (Pix.meaning E.form) (F.folds E.form)
+        (G.folds E.form) (H.folds E.form)) s i answer t j }
+    ensures either { (s : (P.State × Pre.State) × (Post.State × Pix.State) × ℤ)
+        (i : Input I.Seen) (answer : Answer O)
+        (t : (P.State × Pre.State) × (Post.State × Pix.State) × ℤ) (j : Input I.Seen)
+        → LeveledRuns (parts_grammar I.reading.units (assert_kind E.form) (P.meaning E.form)
+        (Pre.meaning E.form) (Post.meaning E.form) (Pix.meaning E.form) (F.folds E.form)
+        (G.folds E.form) (H.folds E.form)) s i answer t j
+        → LeveledRuns (accepting (parts_grammar I.reading.units (assert_kind E.form)
+        (P.meaning E.form) (Pre.meaning E.form) (Post.meaning E.form) (Pix.meaning E.form)
+        (F.folds E.form) (G.folds E.form) (H.folds E.form))) s i answer t j
+        ⊎ FoldAnswers (parts_grammar I.reading.units (assert_kind E.form) (P.meaning E.form)
+        (Pre.meaning E.form) (Post.meaning E.form) (Pix.meaning E.form) (F.folds E.form)
+        (G.folds E.form) (H.folds E.form)) answer j }
 {}
