@@ -65,8 +65,8 @@ module _ {S W T V F G H : Type 0} (g : Grammar S W T V F G H) (alike : V → V �
 
   next_gives : (x y : Next G H)
       → AlikeNext (FoldAlike alike g.behind) (FoldsAlike alike g.folding.between) x y
-      → AlikeNext (FoldAlike alike (Gives g.behind)) (FoldsAlike alike (GivesBoth g.folding.between))
-      x y
+      → AlikeNext (FoldAlike alike (Gives g.behind))
+      (FoldsAlike alike (GivesBoth g.folding.between)) x y
   next_gives Nothing Nothing e = tt
   next_gives Nothing (Postfix q h) e = absurd e
   next_gives Nothing (infix_read q) e = absurd e

@@ -55,16 +55,19 @@ module _ {S W T V F G H : Type 0} (g : Grammar S W T V F G H) where
       left s i a t j → Told a
   turn_ends_told call left s t i j a (inl (r, e)) = λ k is. clash is e
   turn_ends_told call left s t i j a (inr (inl (kind, r, e))) = λ k is. no_error (Next G H) kind r.1
-  turn_ends_told call left s t i j a (inr (inr (inl (power, fold, m, r, below, back, e)))) = λ k is. clash is e
+  turn_ends_told call left s t i j a (inr (inr (inl (power, fold, m, r, below, back, e)))) =
+      λ k is. clash is e
   turn_ends_told call left s t i j a
-      (inr (inr (inr (inl (power, fold, m, kind, r, reaches, folded, e))))) = λ k is. no_error V kind folded.1
+      (inr (inr (inr (inl (power, fold, m, kind, r, reaches, folded, e))))) =
+      λ k is. no_error V kind folded.1
   turn_ends_told call left s t i j a
       (inr (inr (inr (inr (inl (power, fold, m, v, r, reaches, folded, same, e)))))) =
       told_refusal a e
   turn_ends_told call left s t i j a
       (inr (inr (inr (inr (inr (inl (o, m, r, below, back, e))))))) = λ k is. clash is e
   turn_ends_told call left s t i j a
-      (inr (inr (inr (inr (inr (inr (inl (o, m, r, reaches, meets, back, e)))))))) = λ k is. clash is e
+      (inr (inr (inr (inr (inr (inr (inl (o, m, r, reaches, meets, back, e)))))))) =
+      λ k is. clash is e
   turn_ends_told call left s t i j a
       (inr (inr (inr (inr (inr (inr (inr (inl (o, r, reaches, other, still, e))))))))) =
       told_refusal a e
@@ -75,9 +78,11 @@ module _ {S W T V F G H : Type 0} (g : Grammar S W T V F G H) where
   mutual
     call_told : (call : Call) (s : S × W) (i : Input T) (a : Answer (V × Bool)) (t : S × W)
         (j : Input T) → CallRuns (asserting g) call s i a t j → Told a
-    call_told _ _ _ _ _ _ (call_ends call s t i j kind a (inl r) kept e) = λ k is. no_error (First V F) kind r.1
+    call_told _ _ _ _ _ _ (call_ends call s t i j kind a (inl r) kept e) =
+        λ k is. no_error (First V F) kind r.1
     call_told _ _ _ _ _ _
-        (call_ends call s t i j kind a (inr (inl (power, fold, r, still, same))) kept e) = λ k is. inl (err_same is e ∙ same)
+        (call_ends call s t i j kind a (inr (inl (power, fold, r, still, same))) kept e) =
+        λ k is. inl (err_same is e ∙ same)
     call_told _ _ _ _ _ _ (call_ends call s t i j kind a (inr (inr (x, power, opened, same))) kept
         e) = λ k is. inr (err_same is e ∙ same)
     call_told _ _ _ _ _ _ (call_operand call s t u i j m v a run kept turn) =

@@ -27,7 +27,8 @@ use Rattle.winnow_expression.specs.declared.combinator.places.First.{First}
 use Rattle.winnow_expression.specs.declared.combinator.places.Next.{Next}
 use Rattle.winnow_expression_trees.specs.Accepting.{accepting, asserting}
 
-module _ {S W T V F G H : Type 0} (less more : Runs S T (First V F)) (fewer others : Runs W T (Next G H))
+module _ {S W T V F G H : Type 0} (less more : Runs S T (First V F))
+    (fewer others : Runs W T (Next G H))
     (behind also : G → Input T → V → Answer V → Input T → Type 0)
     (before too : F → Input T → V → Answer V → Input T → Type 0)
     (between both : H → Input T → V → V → Answer V → Input T → Type 0) (units : List T → ℕ)
@@ -98,7 +99,8 @@ module _ {S W T V F G H : Type 0} (less more : Runs S T (First V F)) (fewer othe
       inr (inr (inr (inr (inr (inr (inl (o, m, up_next s i _ t m r, reaches, meets, back, e)))))))
   turn_ends_up call left s t i j a
       (inr (inr (inr (inr (inr (inr (inr (inl (o, r, reaches, other, still, e))))))))) =
-      inr (inr (inr (inr (inr (inr (inr (inl (o, up_next s i _ t j r, reaches, other, still, e))))))))
+      inr (inr (inr (inr (inr (inr (inr
+      (inl (o, up_next s i _ t j r, reaches, other, still, e))))))))
   turn_ends_up call left s t i j a
       (inr (inr (inr (inr (inr (inr (inr
       (inr (x, power, (o, r, reaches, other, moved, is, same), e))))))))) =
@@ -154,8 +156,15 @@ module _ {S W T V F G H : Type 0} (less more : Runs S T (First V F)) (fewer othe
     turn_up _ _ _ _ _ _ _
         (turn_postfix call left v s t u i j m a (power, fold, n, run, reaches, folded, moved) kept
         turn) =
-        turn_postfix call left v s t u i j m a
-        (power, fold, n, up_next s.1 i _ u.1 n run, reaches, up_behind fold n left _ m folded, moved)
+        turn_postfix call left v s t u i j m a (
+          power,
+          fold,
+          n,
+          up_next s.1 i _ u.1 n run,
+          reaches,
+          up_behind fold n left _ m folded,
+          moved,
+        )
         kept (turn_up call v u m a t j turn)
     turn_up _ _ _ _ _ _ _
         (turn_infix call left s t u w i j m n x power b a

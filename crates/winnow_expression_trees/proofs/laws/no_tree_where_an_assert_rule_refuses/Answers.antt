@@ -23,8 +23,8 @@ returns g c =
           (g.Pix.Parser.meaning form) (g.G.FoldUnary.folds form) (g.F.FoldUnary.folds form)
           (g.H.FoldBinary.folds form) (assert_kind form) s.0.0 s.0.1 s.1.0 s.1.1 pr
           (g.met.P.Parser.leaves_ends form) (g.met.Pre.Parser.leaves_ends form)
-          (g.met.Post.Parser.leaves_ends form) (g.met.Pix.Parser.leaves_ends form)) s.2 i k (t.0, t.1) j (asserting_accepts whole s i (Err k) t j runs).0 other r n all
-          keeps;
+          (g.met.Post.Parser.leaves_ends form) (g.met.Pix.Parser.leaves_ends form)) s.2 i k
+          (t.0, t.1) j (asserting_accepts whole s i (Err k) t j runs).0 other r n all keeps;
       failures = λ s pr i k t j runs other r n all keeps.
           failure_excludes whole g.A.Likeness.alike (s.0, s.1)
           (plain_parts g.I.Stream.reading g.A.Likeness.alike
@@ -32,7 +32,8 @@ returns g c =
           (g.Pix.Parser.meaning form) (g.G.FoldUnary.folds form) (g.F.FoldUnary.folds form)
           (g.H.FoldBinary.folds form) (assert_kind form) s.0.0 s.0.1 s.1.0 s.1.1 pr
           (g.met.P.Parser.leaves_ends form) (g.met.Pre.Parser.leaves_ends form)
-          (g.met.Post.Parser.leaves_ends form) (g.met.Pix.Parser.leaves_ends form)) s.2 i k (t.0, t.1) j runs.0 other r n all keeps;
+          (g.met.Post.Parser.leaves_ends form) (g.met.Pix.Parser.leaves_ends form)) s.2 i k
+          (t.0, t.1) j runs.0 other r n all keeps;
       kind = λ s i k t j runs. failure_told whole s i k t j runs;
       within = λ s i answer t j runs. asserting_accepts whole s i answer t j runs;
       run = λ s i answer t j runs. accepting_runs whole s i answer t j runs;
