@@ -1,0 +1,92 @@
+-- The runs of the parsers of a field line, in any input of bytes.
+use Rattle.std.proofs.Common.{◌≡◌, ◌∙◌, ◌++◌, ◌∷◌, ℕ, List, [], None, Ok, Err, ap, append_assoc}
+use Rattle.std.proofs.Common.{arith, refl}
+use Rattle.std.specs.Borrow.{Bor}
+use Rattle.std.proofs.lemmas.List.Elements.{All-nil}
+use Rattle.winnow.specs.Form.{modal}
+use Rattle.winnow.specs.Input.{Input}
+use Rattle.winnow.specs.Kind.{Kind}
+use Rattle.winnow.specs.Reads.Known.{SliceRuns, TokenRuns, slice_leaves, slice_reads}
+use Rattle.winnow.specs.Reads.Known.{token_leaves, token_reads}
+use Rattle.winnow.specs.Reads.Sequences.{sequence5_reads}
+use Rattle.winnow.specs.Reads.SequencesLeave.{sequence5_leaves}
+use Rattle.winnow.specs.Runs.{Runs}
+use Rattle.winnow.specs.Sequence.{SequenceRuns5}
+use Rattle.winnow.specs.Sequence.Known.{sequence5_ok}
+use Rattle.winnow.specs.TakeWhile.Known.{TakesOf, take_leaves, take_reads, tells_of, took_by}
+use Rattle.winnow.specs.TakeWhile.Known.{took_stops}
+use Rattle.winnow.specs.{Range}
+use Rattle.uses_http.specs.FieldLine.{IsFieldLine, IsTokenByte, IsValueByte, IsWhite, any_bytes}
+use Rattle.uses_http.specs.FieldLine.{line_end, some_bytes}
+
+-- what the five parsers mean, and the states in which `line` makes them
+abbrev pub States : Type 0 → Type 0 → Type 0 → Type 0
+States A B C = (Range × A) × ℕ × (Range × B) × (Range × C) × Bor (List ℕ)
+
+abbrev pub Parts : Type 0
+Parts = Bor (List ℕ) × ℕ × Bor (List ℕ) × Bor (List ℕ) × Bor (List ℕ)
+
+abbrev pub LineMeans : {A B C : Type 0} → Runs (States A B C) ℕ Parts
+LineMeans = SequenceRuns5 (TakesOf modal IsTokenByte) (TokenRuns modal) (TakesOf modal IsWhite)
+    (TakesOf modal IsValueByte) (SliceRuns modal)
+
+abbrev pub IsMade : {A B C : Type 0} → States A B C → Type 0
+IsMade s = (s.0.0 ≡ some_bytes) × (s.1 ≡ 58) × (s.2.0 ≡ any_bytes) × (s.3.0 ≡ any_bytes)
+    × (s.4.now ≡ line_end)
+
+-- a take of all white space leaves none
+no_white : {A : Type 0} (x : Range × A) (i : Input ℕ) (text : Bor (List ℕ)) (y : Range × A)
+    (j : Input ℕ) → x.0 ≡ any_bytes → TakesOf modal IsWhite x i (Ok text) y j
+    → (b : ℕ) (more : List ℕ) → j.left.tokens ≡ b ∷ more → IsWhite b → ⊥
+no_white x i text y j is ran =
+    took_stops (λ b. IsWhite b → ⊥) _ 0 i text.now j (tells_of IsWhite).no
+    (took_by modal _ x.0 0 None i text j is ran.0)
+
+-- what they answer is a field line
+pub line_read : {A B C : Type 0} (s : States A B C) (i : Input ℕ) (o : Parts) (t : States A B C)
+    (j : Input ℕ) → IsMade s → LineMeans s i (Ok o) t j
+    → IsFieldLine o.0.now o.3.now i.left.tokens j.left.tokens
+line_read s i o t j made ran =
+    let reads = sequence5_reads (take_reads modal IsTokenByte some_bytes) (token_reads modal 58)
+    (take_reads modal IsWhite any_bytes) (take_reads modal IsValueByte any_bytes)
+    (slice_reads modal line_end) in
+    let (splits, (name, colon, white, text, end)) = reads.reads s i o t j made ran in
+    let (a, b, c, d, r1, r2, r3, r4, r5) = sequence5_ok o ran in
+    let behind = (take_reads modal IsValueByte any_bytes).reads _ _ _ _ _ made.3 r4 in
+    record {
+      white = o.2.now;
+      splits = simp append_assoc at splits;
+      some_name = name.1;
+      is_name = name.0;
+      is_white = white.0;
+      is_value = text.0;
+      bare = λ x more e. no_white s.2 b o.2 t.2 c made.2 r3 x (more ++ d.left.tokens)
+          (behind.0 ∙ ap (λ l. l ++ d.left.tokens) e);
+    }
+
+-- where a field line begins the input, they do not fail
+pub line_must : {A B C X : Type 0} {k : Kind} (s : States A B C) (i : Input ℕ)
+    (t : States A B C) (j : Input ℕ) (name value rest : List ℕ) → IsMade s
+    → IsFieldLine name value i.left.tokens rest → LineMeans s i (Err k) t j → X
+line_must s i t j name [] rest made line ran =
+    let must = sequence5_leaves
+    (take_leaves modal IsTokenByte some_bytes s.0 name 58 _ refl made.0 line.is_name
+    (λ h. omega (arith, h)) line.some_name)
+    (token_leaves modal 58 (line.white ++ (line_end ++ rest)) s.1 made.1)
+    (take_leaves modal IsWhite any_bytes s.2 line.white 13 (10 ∷ rest) refl made.2 line.is_white
+    (λ h. omega (arith, h)) (omega arith))
+    (take_leaves modal IsValueByte any_bytes s.3 [] 13 (10 ∷ rest) refl made.3
+    (All-nil IsValueByte) (λ h. omega (arith, h)) (omega arith))
+    (slice_leaves modal line_end rest s.4 made.4) in
+    absurd (must.answers i _ t j line.splits ran)
+line_must s i t j name (v ∷ value) rest made line ran =
+    let must = sequence5_leaves
+    (take_leaves modal IsTokenByte some_bytes s.0 name 58 _ refl made.0 line.is_name
+    (λ h. omega (arith, h)) line.some_name)
+    (token_leaves modal 58 (line.white ++ (v ∷ (value ++ (line_end ++ rest)))) s.1 made.1)
+    (take_leaves modal IsWhite any_bytes s.2 line.white v (value ++ (line_end ++ rest)) refl made.2
+    line.is_white (line.bare v value refl) (omega arith))
+    (take_leaves modal IsValueByte any_bytes s.3 (v ∷ value) 13 (10 ∷ rest) refl made.3
+    line.is_value (λ h. omega (arith, h)) (omega arith))
+    (slice_leaves modal line_end rest s.4 made.4) in
+    absurd (must.answers i _ t j line.splits ran)

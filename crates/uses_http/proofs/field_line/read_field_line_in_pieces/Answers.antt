@@ -1,0 +1,13 @@
+use Rattle.uses_http.proofs.FieldLines.{line_must, line_read}
+use Rattle.uses_http.proofs.field_line.read_field_line_in_pieces.Goals as goal
+
+pub returns-in-Ok-clause-line : goal.returns-in-Ok-clause-line
+returns-in-Ok-clause-line c =
+    let is = c.line.ensures in
+    line_read _ _ _ _ _ (is.name, is.colon, is.white, is.value, is.end) c.in-Ok.ensures.ran
+
+pub returns-in-Err-clause-accepts : goal.returns-in-Err-clause-accepts
+returns-in-Err-clause-accepts c name value rest line =
+    let is = c.line.ensures in
+    line_must _ _ _ _ name value rest (is.name, is.colon, is.white, is.value, is.end) line
+    c.in-Err.ensures.ran

@@ -1,0 +1,93 @@
+//! A header field line of HTTP/1.1 (RFC 9112, section 5): a name, a colon, white space that may be
+//! left out, a value, and a line end (a carriage return and a line feed).
+#![tactic(auto)]
+
+ghost use Rattle.std.specs.Prelude.{◌≡◌, IfOk, IsOk, List, ℕ};
+ghost use Rattle.winnow.specs.TakeWhile.{take_while_occurrences};
+ghost use Rattle.uses_http.specs.FieldLine.{IsFieldLine, any_bytes, line_end, some_bytes};
+
+use crate::sets::{TokenBytes, ValueBytes, White};
+use winnow::error::{EmptyError, ErrMode};
+use winnow::prelude::*;
+use winnow::stream::{Partial, Range};
+use winnow::token::impls::TakeWhile;
+use winnow::token::take_while;
+
+/// The parsers of the name, the colon, the white space, the value, and the line end.
+type Line<I, E> = (
+    TakeWhile<TokenBytes, I, E>,
+    u8,
+    TakeWhile<White, I, E>,
+    TakeWhile<ValueBytes, I, E>,
+    &'static [u8],
+);
+
+/// The parser of a field line.
+fn line<I: StreamIsPartial<Token = u8>, E: ParserError<I>>() -> Line<I, E>
+    ensures name { take_while_occurrences result.0 ≡ some_bytes }
+    ensures colon { result.1 ≡ 58 }
+    ensures white { take_while_occurrences result.2 ≡ any_bytes }
+    ensures value { take_while_occurrences result.3 ≡ any_bytes }
+    ensures end { result.4.now ≡ line_end }
+{
+    (
+        take_while(Range::from(1..), TokenBytes),
+        b':',
+        take_while(Range::from(0..), White),
+        take_while(Range::from(0..), ValueBytes),
+        b"\r\n".as_slice(),
+    )
+}
+
+/// The name and the value of a field line, with which the bytes begin.
+///
+/// The name is a token of one byte or more. The value is of visible bytes, spaces, tabs and bytes
+/// of 128 and above; it may have no bytes, and begins with no white space. White space behind it is
+/// part of it here; what a field means has none of it.
+///
+/// ```
+/// use uses_http::field_line::read_field_line;
+///
+/// let mut input = b"Host: example.org\r\n\r\n".as_slice();
+/// let line = read_field_line(&mut input);
+/// assert!(rt; matches!(line, Ok((name, _)) if name == b"Host".as_slice()));
+/// assert!(rt; matches!(line, Ok((_, value)) if value == b"example.org".as_slice()));
+/// assert_eq!(rt; input, b"\r\n".as_slice());
+/// assert!(rt; read_field_line(&mut b"Host : example.org\r\n".as_slice()).is_err());
+/// ```
+pub fn read_field_line<'i>(
+    input: &mut &'i [u8],
+) -> Result<(&'i [u8], &'i [u8]), ErrMode<EmptyError>>
+    ensures line { IfOk result (λ parts.
+        IsFieldLine parts.0.now parts.1.now input.old.now input.new.now) }
+    ensures accepts { (name value rest : List ℕ)
+        → IsFieldLine name value input.old.now rest → IsOk result }
+{
+    match line().parse_next(input) {
+        Ok((name, _, _, value, _)) => Ok((name, value)),
+        Err(error) => Err(error),
+    }
+}
+
+/// The same over bytes that come in pieces: it answers as soon as the line is there.
+///
+/// ```
+/// use uses_http::field_line::read_field_line_in_pieces;
+///
+/// let mut input = Partial::new(b"Host: example.".as_slice());
+/// assert!(rt; matches!(read_field_line_in_pieces(&mut input), Err(ErrMode::Incomplete(_))));
+/// ```
+pub fn read_field_line_in_pieces<'i>(
+    input: &mut Partial<&'i [u8]>,
+) -> Result<(&'i [u8], &'i [u8]), ErrMode<EmptyError>>
+    ensures line { IfOk result (λ parts. IsFieldLine parts.0.now parts.1.now
+        (⟦<Partial<&'static [u8]> as Stream>⟧.view input.old).left.tokens
+        (⟦<Partial<&'static [u8]> as Stream>⟧.view input.new).left.tokens) }
+    ensures accepts { (name value rest : List ℕ) → IsFieldLine name value
+        (⟦<Partial<&'static [u8]> as Stream>⟧.view input.old).left.tokens rest → IsOk result }
+{
+    match line().parse_next(input) {
+        Ok((name, _, _, value, _)) => Ok((name, value)),
+        Err(error) => Err(error),
+    }
+}

@@ -1,0 +1,73 @@
+//! Field lines of heads of HTTP/1.1.
+use std::fmt::Debug;
+use std::process::Abort;
+use uses_http::field_line::{read_field_line, read_field_line_in_pieces};
+use winnow::error::ErrMode;
+use winnow::stream::Partial;
+
+/// A text, the name and the value of the field line that it begins with, and what is left. The
+/// fields are those of the examples of RFC 9110 and RFC 9112, and some at the edges of the grammar.
+const LINES: &[(&[u8], &[u8], &[u8], &[u8])] = &[
+    (b"Host: www.example.org\r\n", b"Host", b"www.example.org", b""),
+    (b"Content-Length: 51\r\n\r\n", b"Content-Length", b"51", b"\r\n"),
+    (b"ETag:\"xyzzy\"\r\nrest", b"ETag", b"\"xyzzy\"", b"rest"),
+    (b"Example-Field: Foo, Bar\r\n", b"Example-Field", b"Foo, Bar", b""),
+    (b"X:\r\n", b"X", b"", b""),
+    (b"X: \t \r\n", b"X", b"", b""),
+    (b"X:\t a\tb\r\n", b"X", b"a\tb", b""),
+    (b"X: \xe9\xff\r\n", b"X", b"\xe9\xff", b""),
+    (b"!#$%&'*+-.^_`|~09azAZ: a:b\r\n", b"!#$%&'*+-.^_`|~09azAZ", b"a:b", b""),
+];
+
+/// Texts that begin with no field line: no name, white space before the colon, no colon, a control
+/// in the value, a line feed or a carriage return alone.
+const NO_LINES: &[&[u8]] = &[
+    b"\r\n",
+    b": a\r\n",
+    b"Host : a\r\n",
+    b" Host: a\r\n",
+    b"Host\r\n",
+    b"Host: a\x01\r\n",
+    b"Host: a\x7f\r\n",
+    b"Host: a\n",
+    b"Host: a\rb\r\n",
+    b"H\xe9: a\r\n",
+    b"Ho(st: a\r\n",
+];
+
+fn same<T: PartialEq + Debug + Drop>(rt: &impl Abort, row: &[u8], got: T, want: T) {
+    assert_eq!(rt; got, want, "{row:?}");
+}
+
+#[test]
+fn read_field_line_of_lines(rt: HostRuntime) {
+    for (text, name, value, rest) in LINES {
+        let mut input = *text;
+        same(&rt, text, read_field_line(&mut input).ok(), Some((*name, *value)));
+        same(&rt, text, input, *rest);
+        let mut pieces = Partial::new(*text);
+        let answer = read_field_line_in_pieces(&mut pieces).ok();
+        same(&rt, text, answer, Some((*name, *value)));
+    }
+}
+
+#[test]
+fn read_field_line_of_none(rt: HostRuntime) {
+    for text in NO_LINES {
+        let mut input = *text;
+        same(&rt, text, read_field_line(&mut input).is_err(), true);
+        let mut pieces = Partial::new(*text);
+        let answer = read_field_line_in_pieces(&mut pieces);
+        same(&rt, text, matches!(answer, Err(ErrMode::Backtrack(_))), true);
+    }
+}
+
+#[test]
+fn read_field_line_of_each_beginning(rt: HostRuntime) {
+    let text = b"Host: www.example.org\r\n".as_slice();
+    for count in 0..text.len() {
+        let mut pieces = Partial::new(&text[..count]);
+        let answer = read_field_line_in_pieces(&mut pieces);
+        same(&rt, text, matches!(answer, Err(ErrMode::Incomplete(_))), true);
+    }
+}
