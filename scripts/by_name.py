@@ -77,11 +77,7 @@ def calls():
 
 
 # The crates that use the library.
-CALLERS = ("uses", "uses_booleans", "uses_strings", "readers", "readers_calc")
-
-
-# What has no caller yet: the prover does not cover the functions that were tried.
-NO_CALLER = ("resume_after", "retry_after")
+CALLERS = ("uses", "uses_booleans", "uses_strings", "uses_settings", "readers", "readers_calc")
 
 
 def words_of_callers():
@@ -96,8 +92,7 @@ def uncalled():
     for crate, name in [*parsers(), *calls()]:
         camel = "".join(part.capitalize() for part in name.split("_"))
         if name not in words and camel not in words:
-            if name not in NO_CALLER:
-                yield crate, name, "a caller in uses or readers"
+            yield crate, name, "a caller in uses or readers"
 
 
 def lacks(crate, name, table, names, edited, on):

@@ -1,0 +1,5 @@
+//! Lists of lines that are read as far as they can be: each fault is recorded, and its line is
+//! skipped.
+#![tactic(auto)]
+
+pub mod lines;
