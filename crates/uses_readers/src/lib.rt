@@ -4,5 +4,6 @@
 //! `uses` have exact contracts.
 #![tactic(auto)]
 
+pub mod choices;
 pub mod lists;
 pub mod pieces;
