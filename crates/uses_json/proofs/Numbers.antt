@@ -1,16 +1,18 @@
 -- How numbers stand.
-use Rattle.std.proofs.Common.{◌≡◌, ◌∙◌, ◌⊎◌, ◌++◌, ◌<◌, ◌≤◌, ℕ, List, [], ◌∷◌, ap, arith, refl, sym}
+use Rattle.std.proofs.Common.{◌≡◌, ◌∙◌, ℕ, List, [], ◌∷◌, ap, arith, refl}
 use Rattle.std.proofs.Common.{inl, inr, length}
 use Rattle.std.specs.List.{All}
-use Rattle.uses_json.proofs.Standing.{Apart, Bars, Starts, Stays, byte_leaves, byte_none, start_less}
-use Rattle.uses_json.proofs.Standing.{bars_stays, byte_bars, byte_starts, either_left, either_right}
-use Rattle.uses_json.proofs.Standing.{either_starts, either_none, first_none, maybe_none, maybe_some}
-use Rattle.uses_json.proofs.Standing.{maybe_starts, maybe_stays, never_bars, shorter, starts_bars}
-use Rattle.uses_json.proofs.Standing.{starts_none, stays_bars, then_bars, then_exact, then_leaves}
-use Rattle.uses_json.proofs.Standing.{byte_empty, byte_stands, then_none, then_starts, then_stays, widen}
+use Rattle.uses_json.proofs.Standing.{Apart, Bars, Starts, Stays, byte_leaves, byte_none}
+use Rattle.uses_json.proofs.Standing.{byte_starts, either_left, either_right, start_less}
+use Rattle.uses_json.proofs.Standing.{either_starts, either_none, first_none, maybe_none}
+use Rattle.uses_json.proofs.Standing.{maybe_some, maybe_starts, maybe_stays, never_bars}
+use Rattle.uses_json.proofs.Standing.{starts_bars}
+use Rattle.uses_json.proofs.Standing.{then_bars, then_exact, then_leaves}
+use Rattle.uses_json.proofs.Standing.{byte_empty, then_none, then_starts, then_stays, widen}
 use Rattle.uses_json.specs.Number.{IsDigit, IsDigits, IsE, IsExponent, IsFraction, IsLeading}
-use Rattle.uses_json.specs.Number.{IsMinus, IsNumber, IsNumberByte, IsPoint, IsSign, IsWhole, IsZero}
-use Rattle.uses_json.specs.Texts.{GoesOn, IsByte, Leaves, Maybe, Never, NoneStands, Or, Stands, Then}
+use Rattle.uses_json.specs.Number.{IsMinus, IsNumber, IsNumberByte, IsPoint, IsSign, IsWhole}
+use Rattle.uses_json.specs.Number.{IsZero}
+use Rattle.uses_json.specs.Texts.{IsByte, Leaves, Maybe, Never, NoneStands, Or, Then}
 
 -- ---- digits
 
@@ -51,7 +53,8 @@ mark_empty P bytes e = maybe_none (IsByte P) (Or Never P) bytes (byte_empty P by
 
 pub minus_missing : (bytes : List ℕ) → ((more : List ℕ) → bytes ≡ 45 ∷ more → ⊥)
     → Leaves (Maybe (IsByte IsMinus)) (Or Never IsMinus) bytes bytes
-minus_missing bytes not = maybe_none (IsByte IsMinus) (Or Never IsMinus) bytes (this_none 45 bytes not)
+minus_missing bytes not =
+    maybe_none (IsByte IsMinus) (Or Never IsMinus) bytes (this_none 45 bytes not)
   where
     this_none : (c : ℕ) (bytes : List ℕ) → ((more : List ℕ) → bytes ≡ c ∷ more → ⊥)
         → NoneStands (IsByte (λ b. b ≡ c)) bytes
@@ -138,8 +141,8 @@ pub exponent_is : (bytes : List ℕ) (b : ℕ) (more digits rest : List ℕ) →
 exponent_is bytes b more digits rest e is sign all =
     then_exact (IsByte IsE) (Then (Maybe (IsByte IsSign)) IsDigits) Never IsDigit bytes more rest
     (never_bars (Then (Maybe (IsByte IsSign)) IsDigits)) (byte_leaves IsE bytes b more e is)
-    (then_exact (Maybe (IsByte IsSign)) IsDigits (Or Never IsSign) IsDigit more digits rest sign_bars
-    sign all)
+    (then_exact (Maybe (IsByte IsSign)) IsDigits (Or Never IsSign) IsDigit more digits rest
+    sign_bars sign all)
 
 pub exponent_none : (bytes : List ℕ) (b : ℕ) (more digits : List ℕ) → bytes ≡ b ∷ more → IsE b
     → Leaves (Maybe (IsByte IsSign)) (Or Never IsSign) more digits → NoneStands IsDigits digits

@@ -4,9 +4,8 @@ use Rattle.std.proofs.Common.{inl, inr, append_assoc, subst, length, length-appe
 use Rattle.std.proofs.Common.{◌-◌, Option, Some, None, IfNone, MatchOption}
 use Rattle.std.specs.List.{All}
 use Rattle.std.proofs.lemmas.List.Elements.{All-head, All-tail}
-use Rattle.uses_json.specs.Texts.{Either, GoesOn, IsByte, Leaves, Many, Maybe, Never, NoneStands}
+use Rattle.uses_json.specs.Texts.{Either, GoesOn, IsByte, Leaves, Maybe, Never, NoneStands}
 use Rattle.uses_json.specs.Texts.{IsLongest, Or, Stands, Then}
-use Rattle.std.specs.Borrow.{Bor}
 
 -- No text of Q begins with a byte of S.
 abbrev pub Bars : (Q : List ℕ → Type 0) (S : ℕ → Type 0) → Type 0
@@ -36,7 +35,7 @@ shorter P bytes rest it =
 pub byte_stands : (P : ℕ → Type 0) (bytes : List ℕ) (b : ℕ) (rest : List ℕ) → bytes ≡ b ∷ rest → P b
     → Stands (IsByte P) bytes rest
 byte_stands P bytes b rest e p =
-    record { text = b ∷ []; is = record { byte = b; is_byte = p; alone = refl }; splits = e; }
+    record { text = b ∷ []; is = record { byte = b; is_byte = p; alone = refl }; splits = e }
 
 -- the byte that stands there
 pub byte_first : (P : ℕ → Type 0) (bytes rest : List ℕ) → (it : Stands (IsByte P) bytes rest)
@@ -98,7 +97,7 @@ then_split P Q bytes rest it = (
     splits = it.splits ∙ ap (λ l. l ++ rest) it.is.joins
         ∙ append_assoc it.is.first it.is.second rest;
   },
-  record { text = it.is.second; is = it.is.is_second; splits = refl; },
+  record { text = it.is.second; is = it.is.is_second; splits = refl },
 )
 
 pub then_leaves : (P Q : List ℕ → Type 0) (S T : ℕ → Type 0) (bytes mid rest : List ℕ) → Stays Q S
@@ -169,36 +168,36 @@ stays_bars P Q S one two bytes rest b more e s it =
 pub either_left : (P Q : List ℕ → Type 0) (S : ℕ → Type 0) (bytes rest : List ℕ)
     → Leaves P S bytes rest → NoneStands Q bytes → Leaves (Either P Q) S bytes rest
 either_left P Q S bytes rest p none = record {
-  stands = record { text = p.stands.text; is = inl p.stands.is; splits = p.stands.splits; };
+  stands = record { text = p.stands.text; is = inl p.stands.is; splits = p.stands.splits };
   only = λ other it. left other it.text it.is it.splits;
 }
   where
     left : (other text : List ℕ) → Either P Q text → bytes ≡ text ++ other
         → (other ≡ rest) ⊎ GoesOn S other rest
-    left other text (inl is) e = p.only other (record { text = text; is = is; splits = e; })
+    left other text (inl is) e = p.only other (record { text = text; is = is; splits = e })
     left other text (inr is) e =
-        absurd (none other (record { text = text; is = is; splits = e; }))
+        absurd (none other (record { text = text; is = is; splits = e }))
 
 pub either_right : (P Q : List ℕ → Type 0) (S : ℕ → Type 0) (bytes rest : List ℕ)
     → NoneStands P bytes → Leaves Q S bytes rest → Leaves (Either P Q) S bytes rest
 either_right P Q S bytes rest none q = record {
-  stands = record { text = q.stands.text; is = inr q.stands.is; splits = q.stands.splits; };
+  stands = record { text = q.stands.text; is = inr q.stands.is; splits = q.stands.splits };
   only = λ other it. right other it.text it.is it.splits;
 }
   where
     right : (other text : List ℕ) → Either P Q text → bytes ≡ text ++ other
         → (other ≡ rest) ⊎ GoesOn S other rest
     right other text (inl is) e =
-        absurd (none other (record { text = text; is = is; splits = e; }))
-    right other text (inr is) e = q.only other (record { text = text; is = is; splits = e; })
+        absurd (none other (record { text = text; is = is; splits = e }))
+    right other text (inr is) e = q.only other (record { text = text; is = is; splits = e })
 
 pub either_none : (P Q : List ℕ → Type 0) (bytes : List ℕ) → NoneStands P bytes
     → NoneStands Q bytes → NoneStands (Either P Q) bytes
 either_none P Q bytes one two rest it = none it.text it.is it.splits
   where
     none : (text : List ℕ) → Either P Q text → bytes ≡ text ++ rest → ⊥
-    none text (inl is) e = one rest (record { text = text; is = is; splits = e; })
-    none text (inr is) e = two rest (record { text = text; is = is; splits = e; })
+    none text (inl is) e = one rest (record { text = text; is = is; splits = e })
+    none text (inr is) e = two rest (record { text = text; is = is; splits = e })
 
 pub either_bars : (P Q : List ℕ → Type 0) (S : ℕ → Type 0) → Bars P S → Bars Q S
     → Bars (Either P Q) S
@@ -212,7 +211,7 @@ pub maybe_some : (P : List ℕ → Type 0) (S F : ℕ → Type 0) (bytes rest : 
     (more : List ℕ) → bytes ≡ b ∷ more → F b → length rest < length bytes
     → Leaves P S bytes rest → Leaves (Maybe P) (Or S F) bytes rest
 maybe_some P S F bytes rest b more begins f less p = record {
-  stands = record { text = p.stands.text; is = inr p.stands.is; splits = p.stands.splits; };
+  stands = record { text = p.stands.text; is = inr p.stands.is; splits = p.stands.splits };
   only = λ other it. some other it.text it.is it.splits;
 }
   where
@@ -228,7 +227,7 @@ maybe_some P S F bytes rest b more begins f less p = record {
           is_more = subst (λ l. length rest < length l) same less;
         })
     some other text (inr is) e =
-        elim (p.only other (record { text = text; is = is; splits = e; })) [
+        elim (p.only other (record { text = text; is = is; splits = e })) [
           | inl same ↦ inl same
           | inr goes ↦ inr (record {
             byte = goes.byte;
@@ -242,7 +241,7 @@ maybe_some P S F bytes rest b more begins f less p = record {
 pub maybe_none : (P : List ℕ → Type 0) (S : ℕ → Type 0) (bytes : List ℕ) → NoneStands P bytes
     → Leaves (Maybe P) S bytes bytes
 maybe_none P S bytes none = record {
-  stands = record { text = []; is = inl refl; splits = refl; };
+  stands = record { text = []; is = inl refl; splits = refl };
   only = λ other it. some other it.text it.is it.splits;
 }
   where
@@ -250,7 +249,7 @@ maybe_none P S bytes none = record {
         → (other ≡ bytes) ⊎ GoesOn S other bytes
     some other text (inl is) e = inl (sym (e ∙ ap (λ l. l ++ other) is))
     some other text (inr is) e =
-        absurd (none other (record { text = text; is = is; splits = e; }))
+        absurd (none other (record { text = text; is = is; splits = e }))
 
 pub maybe_stays : (P : List ℕ → Type 0) (S : ℕ → Type 0) → Bars P S → Stays (Maybe P) S
 maybe_stays P S bars bytes rest b more e s it = stays it.text it.is it.splits
@@ -258,7 +257,7 @@ maybe_stays P S bars bytes rest b more e s it = stays it.text it.is it.splits
     stays : (text : List ℕ) → Maybe P text → bytes ≡ text ++ rest → rest ≡ bytes
     stays text (inl is) splits = sym (splits ∙ ap (λ l. l ++ rest) is)
     stays text (inr is) splits =
-        absurd (bars bytes rest b more e s (record { text = text; is = is; splits = splits; }))
+        absurd (bars bytes rest b more e s (record { text = text; is = is; splits = splits }))
 
 -- ---- any number of bytes
 
@@ -275,7 +274,7 @@ all_stays P S apart bytes rest b more e s it = stays it.text it.is it.splits
 pub all_leaves : (P : ℕ → Type 0) (text bytes rest : List ℕ) → All P text → bytes ≡ text ++ rest
     → ((b : ℕ) (more : List ℕ) → rest ≡ b ∷ more → P b → ⊥) → Leaves (All P) P bytes rest
 all_leaves P text bytes rest all splits stops = record {
-  stands = record { text = text; is = all; splits = splits; };
+  stands = record { text = text; is = all; splits = splits };
   only = λ other it. same text it.text other all it.is (sym splits ∙ it.splits);
 }
   where
@@ -382,11 +381,11 @@ either_starts P Q F G one two bytes rest it = begins it.text it.is it.splits
         → (b : ℕ) × (more : List ℕ) × (bytes ≡ b ∷ more) × Or F G b
     begins text (inl is) e =
         let (b, more, begins, f) =
-        one bytes rest (record { text = text; is = is; splits = e; }) in
+        one bytes rest (record { text = text; is = is; splits = e }) in
         (b, more, begins, inl f)
     begins text (inr is) e =
         let (b, more, begins, g) =
-        two bytes rest (record { text = text; is = is; splits = e; }) in
+        two bytes rest (record { text = text; is = is; splits = e }) in
         (b, more, begins, inr g)
 
 pub maybe_starts : (P Q : List ℕ → Type 0) (F G : ℕ → Type 0) → Starts P F → Starts Q G
@@ -402,7 +401,7 @@ maybe_starts P Q F G one two bytes rest it =
         (b, more, e ∙ ap (λ l. l ++ at) is ∙ begins, inr g)
     begins at second text (inr is) e =
         let (b, more, begins, f) =
-        one bytes at (record { text = text; is = is; splits = e; }) in
+        one bytes at (record { text = text; is = is; splits = e }) in
         (b, more, begins, inl f)
 
 -- ---- the longest text
@@ -424,10 +423,17 @@ longest P S bytes rest it =
       splits = it.stands.splits ∙ ap (λ l. l ++ rest) (sym same);
       longest = λ other more is e.
           let less : length rest ≤ length more =
-          no_less more (it.only more (record { text = other; is = is; splits = e; })) in
+          no_less more (it.only more (record { text = other; is = is; splits = e })) in
           let size = ap (λ l. length l) same in
-          omega (arith, less, size, ap (λ l. length l) e, length-append other more,
-          ap (λ l. length l) it.stands.splits, length-append it.stands.text rest);
+          omega (
+            arith,
+            less,
+            size,
+            ap (λ l. length l) e,
+            length-append other more,
+            ap (λ l. length l) it.stands.splits,
+            length-append it.stands.text rest,
+          );
     }
   where
     no_less : (more : List ℕ) → (more ≡ rest) ⊎ GoesOn S more rest → length rest ≤ length more
@@ -449,7 +455,7 @@ start_less P F bytes rest starts it = less it.text it.is it.splits
     less : (text : List ℕ) → P text → bytes ≡ text ++ rest → length rest < length bytes
     less [] is e =
         let (b, more, begins, f) =
-        starts [] [] (record { text = []; is = is; splits = refl; }) in
+        starts [] [] (record { text = []; is = is; splits = refl }) in
         absurd (no_bytes b more begins)
     less (c ∷ text) is e = omega (arith, ap (λ l. length l) e, length-append text rest)
 

@@ -1,5 +1,5 @@
 -- What takes of bytes read.
-use Rattle.std.proofs.Common.{◌≡◌, ℕ, List, None, Ok, Err, false, refl}
+use Rattle.std.proofs.Common.{◌≡◌, ℕ, List, None, Ok, Err, false}
 use Rattle.std.specs.Borrow.{Bor}
 use Rattle.std.specs.List.{All}
 use Rattle.winnow.specs.Counted.{counted_reading}

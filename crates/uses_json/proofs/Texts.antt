@@ -1,18 +1,19 @@
 -- How the texts of strings stand.
-use Rattle.std.proofs.Common.{◌≡◌, ◌∙◌, ◌⊎◌, ◌++◌, ◌<◌, ◌≤◌, ◌-◌, ℕ, List, [], ◌∷◌, ap, arith}
+use Rattle.std.proofs.Common.{◌≡◌, ◌∙◌, ◌⊎◌, ◌++◌, ◌<◌, ◌-◌, ℕ, List, [], ◌∷◌, ap, arith}
 use Rattle.std.proofs.Common.{inl, inr, append_assoc, length, length-append, refl, subst, sym, take}
 use Rattle.std.proofs.Common.{take_at}
 use Rattle.std.specs.List.{All}
 use Rattle.std.proofs.lemmas.List.Elements.{All-head, All-push, All-tail}
-use Rattle.uses_json.proofs.Standing.{Apart, Bars, Starts, alone, byte_empty, byte_first, byte_leaves}
+use Rattle.uses_json.proofs.Standing.{Starts, alone, byte_empty, byte_first, byte_leaves}
 use Rattle.uses_json.proofs.Standing.{byte_none, byte_stands, byte_starts, either_left, either_none}
-use Rattle.uses_json.proofs.Standing.{either_right, either_starts, first_none, never_bars, same_byte}
-use Rattle.uses_json.proofs.Standing.{shorter, starts_bars, then_exact, then_none, then_split}
+use Rattle.uses_json.proofs.Standing.{either_right, either_starts, first_none, never_bars}
+use Rattle.uses_json.proofs.Standing.{same_byte}
+use Rattle.uses_json.proofs.Standing.{shorter, then_exact, then_none, then_split}
 use Rattle.uses_json.proofs.Standing.{then_stands, then_starts}
 use Rattle.uses_json.specs.Strings.{IsBackslash, IsEscape, IsEscaped, IsFourDigits, IsHexDigit}
 use Rattle.uses_json.specs.Strings.{IsInQuotes, IsPiece, IsQuote, IsString, IsStringTail, IsU}
 use Rattle.uses_json.specs.Strings.{IsUnescaped}
-use Rattle.uses_json.specs.Texts.{Either, GoesOn, IsByte, Leaves, Many, Never, NoneStands, Or}
+use Rattle.uses_json.specs.Texts.{IsByte, Leaves, Many, Never, NoneStands, Or}
 use Rattle.uses_json.specs.Texts.{Stands, Then, nothing, one_more}
 
 -- ---- from one place to a later one
@@ -23,7 +24,7 @@ pub record Leads (T : List ℕ → Type 0) (start now : List ℕ) : Type 0 where
   pub back : (rest : List ℕ) → Stands T now rest → Stands T start rest
 
 pub leads_here : (T : List ℕ → Type 0) (start : List ℕ) → Leads T start start
-leads_here T start = record { on = λ rest it. it; back = λ rest it. it; }
+leads_here T start = record { on = λ rest it. it; back = λ rest it. it }
 
 pub leads_on : (T : List ℕ → Type 0) (start mid now : List ℕ) → Leads T start mid → Leads T mid now
     → Leads T start now
@@ -82,11 +83,11 @@ many_split P bytes rest it = split it.text it.is it.splits
         is = p;
         splits = splits ∙ ap (λ l. l ++ rest) e ∙ append_assoc first others rest;
       },
-      record { text = others; is = more; splits = refl; },
+      record { text = others; is = more; splits = refl },
     )
 
 pub many_here : (P : List ℕ → Type 0) (bytes : List ℕ) → Stands (Many P) bytes bytes
-many_here P bytes = record { text = []; is = nothing [] refl; splits = refl; }
+many_here P bytes = record { text = []; is = nothing [] refl; splits = refl }
 
 pub many_more : (P : List ℕ → Type 0) (bytes mid rest : List ℕ) → Stands P bytes mid
     → Stands (Many P) mid rest → Stands (Many P) bytes rest
@@ -182,7 +183,8 @@ escape_none bytes b more e one not =
 pub escape_empty : (bytes : List ℕ) → bytes ≡ [] → NoneStands IsEscape bytes
 escape_empty bytes e =
     either_none (IsByte IsEscaped) (Then (IsByte IsU) IsFourDigits) bytes
-    (byte_empty IsEscaped bytes e) (first_none (IsByte IsU) IsFourDigits bytes (byte_empty IsU bytes e))
+    (byte_empty IsEscaped bytes e)
+    (first_none (IsByte IsU) IsFourDigits bytes (byte_empty IsU bytes e))
 
 -- ---- pieces
 
@@ -218,8 +220,8 @@ pub piece_other : (start bytes : List ℕ) → Leaves (All IsUnescaped) IsUnesca
 piece_other start bytes run not =
     either_none (IsByte IsUnescaped) (Then (IsByte IsBackslash) IsEscape) bytes
     (λ rest it.
-        let (b, more, e, is) = byte_starts IsUnescaped bytes rest it in
-        all_stops IsUnescaped start bytes run b more e is)
+    let (b, more, e, is) = byte_starts IsUnescaped bytes rest it in
+    all_stops IsUnescaped start bytes run b more e is)
     (first_none (IsByte IsBackslash) IsEscape bytes (this_none 92 bytes not))
 
 piece_starts : Starts IsPiece (Or IsUnescaped IsBackslash)
@@ -287,7 +289,8 @@ tail_piece bytes next piece = record {
 
 pub tail_run : (text bytes next : List ℕ) → All IsUnescaped text → bytes ≡ text ++ next
     → Leads IsStringTail bytes next
-tail_run [] bytes next all e = subst (λ l. Leads IsStringTail l next) (sym e) (leads_here IsStringTail next)
+tail_run [] bytes next all e =
+    subst (λ l. Leads IsStringTail l next) (sym e) (leads_here IsStringTail next)
 tail_run (b ∷ text) bytes next all e =
     leads_on IsStringTail bytes (text ++ next) next
     (tail_piece bytes (text ++ next)
@@ -353,5 +356,9 @@ pub escape_less : (now ahead escape next : List ℕ)
     → Leaves (All IsUnescaped) IsUnescaped now ahead → ahead ≡ 92 ∷ escape
     → Leaves IsEscape Never escape next → length next < length now
 escape_less now ahead escape next run e it =
-    omega (arith, shorter (All IsUnescaped) now ahead run.stands, ap (λ l. length l) e,
-    shorter IsEscape escape next it.stands)
+    omega (
+      arith,
+      shorter (All IsUnescaped) now ahead run.stands,
+      ap (λ l. length l) e,
+      shorter IsEscape escape next it.stands,
+    )

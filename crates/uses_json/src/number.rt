@@ -127,7 +127,8 @@ pub fn behind_number<'i>(bytes: &'i [u8]) -> Option<&'i [u8]>
 /// assert!(rt; read_number(&mut b"+1".as_slice()).is_none());
 /// ```
 pub fn read_number<'i>(input: &mut &'i [u8]) -> Option<&'i [u8]>
-    ensures found { IfSome result (λ text. IsLongest IsNumber text.now input.old.now input.new.now) }
+    ensures found { IfSome result (λ text.
+        IsLongest IsNumber text.now input.old.now input.new.now) }
     ensures none { IfNone result (NoneStands IsNumber input.old.now) }
     ensures kept { IfNone result (input.new.now ≡ input.old.now) }
 {

@@ -1,4 +1,4 @@
-use Rattle.std.proofs.Common.{inl, inr, rules}
+use Rattle.std.proofs.Common.{rules}
 use Rattle.uses_json.proofs.Numbers.{mark_there}
 use Rattle.uses_json.specs.Number.{IsSign}
 use Rattle.uses_json.proofs.number.behind_sign.Goals as goal

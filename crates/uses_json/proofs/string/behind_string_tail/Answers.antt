@@ -36,5 +36,7 @@ pub returns-in_err-rest-in-None : goal.returns-in_err-rest-in-None
 returns-in_err-rest-in-None c =
     let none = leads_none IsStringTail c.args.bytes.now _
     (tail_ahead _ _ _ c.pieces.invariant c.behind_unescaped-ahead.ensures)
-    (tail_none _ (piece_none _ _ c.in_ok-escape-in-None.ensures c.in_err-rest-in-None.ensures) c.in-None.ensures) in
+    (tail_none _
+    (piece_none _ _ c.in_ok-escape-in-None.ensures c.in_err-rest-in-None.ensures)
+    c.in-None.ensures) in
     search rules
