@@ -1,11 +1,13 @@
 //! The workloads with nom 7, as its users write them.
 use crate::outcome::Outcome;
+use nom::bits::{bits, complete::take as take_bits};
 use nom::branch::alt;
 use nom::bytes::complete::{tag, tag_no_case, take_till, take_until, take_while, take_while1};
 use nom::character::complete::{alphanumeric1, char, multispace1, one_of, space0, u32 as number};
 use nom::character::streaming;
-use nom::combinator::{map_res, opt, recognize, rest, value};
-use nom::multi::{fold_many0, many0, many0_count, separated_list0};
+use nom::combinator::{map, map_res, opt, recognize, rest, value};
+use nom::multi::{fold_many0, length_data, many0, many0_count, separated_list0};
+use nom::number::complete::{be_u16, be_u32};
 use nom::sequence::{delimited, pair, preceded, separated_pair, terminated, tuple};
 use nom::{IResult, InputLength, Parser};
 use std::str::{from_utf8, Utf8Error};
@@ -208,6 +210,80 @@ pub fn words(s: &[u8]) -> Outcome {
     let Ok(text) = from_utf8(s) else { return Outcome::default() };
     let word = take_while1(|c| c != ' ');
     let read: IResult<&str, usize> = many0_count(terminated(word, char(' ')))(text);
+    read.map_or(Outcome::default(), |(rest, n)| count(n, rest))
+}
+
+// ---- integers as bytes, records and fields of bits
+
+pub fn integers(s: &[u8]) -> Outcome {
+    let read: IResult<In<'_>, Vec<u32>> = many0(be_u32)(s);
+    read.map_or(Outcome::default(), |(rest, all)| count(all.len(), rest))
+}
+
+pub fn records(s: &[u8]) -> Outcome {
+    let read: IResult<In<'_>, Vec<(u16, In<'_>)>> = many0(pair(be_u16, length_data(be_u16)))(s);
+    read.map_or(Outcome::default(), |(rest, all)| {
+        let mut told = count(all.len(), rest);
+        told.sum = all.iter().map(|(kind, data)| u64::from(*kind) + data.len() as u64).sum();
+        told
+    })
+}
+
+type Word = (u8, u8, u8, u16);
+type Bits<'i> = (In<'i>, usize);
+
+fn word(i: In<'_>) -> IResult<In<'_>, Word> {
+    type Error<'i> = nom::error::Error<Bits<'i>>;
+    let fields = tuple((take_bits(4usize), take_bits(4usize), take_bits(8usize), take_bits(16usize)));
+    bits::<_, _, Error<'_>, _, _>(fields)(i)
+}
+
+pub fn words_of_bits(s: &[u8]) -> Outcome {
+    let (mut told, mut rest) = (Outcome::default(), s);
+    while let Ok((left, (version, length, service, total))) = word(rest) {
+        told.count += 1;
+        told.sum += u64::from(version) + u64::from(length) + u64::from(service) + u64::from(total);
+        rest = left;
+    }
+    told.left = rest.len() as u64;
+    told
+}
+
+// ---- expressions: a level of operators a fold, since nom 7 has no parser of powers
+
+fn digit(i: In<'_>) -> IResult<In<'_>, u64> {
+    map(one_of("0123456789"), |c| c as u64 - 48)(i)
+}
+
+fn product(i: In<'_>) -> IResult<In<'_>, u64> {
+    let (i, first) = digit(i)?;
+    let join = |left: u64, (operator, right): (char, u64)| match operator {
+        '*' => left.wrapping_mul(right),
+        _ => left.checked_div(right).unwrap_or(0),
+    };
+    fold_many0(pair(one_of("*/"), digit), move || first, join)(i)
+}
+
+fn sum(i: In<'_>) -> IResult<In<'_>, u64> {
+    let (i, first) = product(i)?;
+    let join = |left: u64, (operator, right): (char, u64)| match operator {
+        '+' => left.wrapping_add(right),
+        _ => left.wrapping_sub(right),
+    };
+    fold_many0(pair(one_of("+-"), product), move || first, join)(i)
+}
+
+pub fn expression(s: &[u8]) -> Outcome {
+    sum(s).map_or(Outcome::default(), |(rest, value)| {
+        Outcome { count: 1, sum: value, left: rest.len() as u64 }
+    })
+}
+
+// ---- names of headers
+
+pub fn names(s: &[u8]) -> Outcome {
+    let name = terminated(take_while1(is_token), char(':'));
+    let read: IResult<In<'_>, usize> = many0_count(name)(s);
     read.map_or(Outcome::default(), |(rest, n)| count(n, rest))
 }
 

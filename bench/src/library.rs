@@ -14,6 +14,12 @@ extern "C" {
     fn timed_keywords(text: *const u8, size: usize, out: *mut Outcome);
     fn timed_any_case(text: *const u8, size: usize, out: *mut Outcome);
     fn timed_words(text: *const u8, size: usize, out: *mut Outcome);
+    fn timed_integers(text: *const u8, size: usize, out: *mut Outcome);
+    fn timed_records(text: *const u8, size: usize, out: *mut Outcome);
+    fn timed_words_of_bits(text: *const u8, size: usize, out: *mut Outcome);
+    fn timed_expression(text: *const u8, size: usize, out: *mut Outcome);
+    fn timed_names_by_table(text: *const u8, size: usize, out: *mut Outcome);
+    fn timed_names_by_ranges(text: *const u8, size: usize, out: *mut Outcome);
     fn timed_until(
         literal: *const u8,
         length: usize,
@@ -49,6 +55,12 @@ workloads! {
     keywords = timed_keywords;
     any_case = timed_any_case;
     words = timed_words;
+    integers = timed_integers;
+    records = timed_records;
+    words_of_bits = timed_words_of_bits;
+    expression = timed_expression;
+    names_by_table = timed_names_by_table;
+    names_by_ranges = timed_names_by_ranges;
 }
 
 pub fn until(text: &[u8], literal: &'static [u8]) -> Outcome {

@@ -130,6 +130,53 @@ pub fn words(size: usize) -> Vec<u8> {
     })
 }
 
+/// Bytes, whatever they are.
+pub fn bytes(size: usize) -> Vec<u8> {
+    parts(size, |dice, out| out.push(dice.below(256) as u8))
+}
+
+/// Records of a kind of two bytes, a length of two bytes, and so many bytes, up to 63.
+pub fn records(size: usize) -> Vec<u8> {
+    parts(size, |dice, out| {
+        out.extend((dice.below(1 << 16) as u16).to_be_bytes());
+        let length = dice.below(64);
+        out.extend((length as u16).to_be_bytes());
+        dice.letters(out, length);
+    })
+}
+
+/// An expression of digits from 1 to 9 with one of four operators between two.
+pub fn expression(size: usize) -> Vec<u8> {
+    let mut all = parts(size, |dice, out| {
+        out.push(b'1' + dice.below(9) as u8);
+        out.push(b"+-*/"[dice.below(4)]);
+    });
+    all.push(b'1');
+    all
+}
+
+/// Names of headers, a colon behind each.
+pub fn names(size: usize) -> Vec<u8> {
+    let names = [
+        "Host",
+        "User-Agent",
+        "Accept",
+        "Accept-Language",
+        "Accept-Encoding",
+        "Referer",
+        "Connection",
+        "Cookie",
+        "Upgrade-Insecure-Requests",
+        "Cache-Control",
+        "If-None-Match",
+        "X-Forwarded-For-2",
+    ];
+    parts(size, |dice, out| {
+        out.extend(names[dice.below(12)].bytes());
+        out.push(b':');
+    })
+}
+
 /// Letters and spaces, in which the literal stands about once in `every` bytes, and its first byte
 /// alone about once in `alone` bytes, unless that is 0.
 pub fn marked(size: usize, literal: &[u8], every: usize, alone: usize) -> Vec<u8> {

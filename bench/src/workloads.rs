@@ -75,6 +75,33 @@ pub fn all() -> Vec<Workload> {
             by_nom::any_case,
         ),
         Workload::new("words of text", texts::words, library::words, by_nom::words),
+        Workload::new("integers of 4 bytes", texts::bytes, library::integers, by_nom::integers)
+            .by_hand(by_hand::integers),
+        Workload::new("records with lengths", texts::records, library::records, by_nom::records)
+            .by_hand(by_hand::records),
+        Workload::new(
+            "fields of bits",
+            texts::bytes,
+            library::words_of_bits,
+            by_nom::words_of_bits,
+        )
+        .by_hand(by_hand::words_of_bits),
+        Workload::new("an expression", texts::expression, library::expression, by_nom::expression)
+            .by_hand(by_hand::expression),
+        Workload::new(
+            "names of headers by a table",
+            texts::names,
+            library::names_by_table,
+            by_nom::names,
+        )
+        .by_hand(by_hand::names),
+        Workload::new(
+            "names of headers by ranges",
+            texts::names,
+            library::names_by_ranges,
+            by_nom::names,
+        )
+        .by_hand(by_hand::names),
     ];
     let literals: [(&str, &'static [u8]); 4] =
         [("1 byte", b";"), ("2 bytes", b"--"), ("8 bytes", b"</title>"), ("40 bytes", LONG)];

@@ -1,9 +1,13 @@
 //! Workloads of the benchmarks: each is a call of the library, or some, over one text.
 #![tactic(auto)]
 
+pub mod binary;
+pub mod bits;
 pub mod documents;
 pub mod fields;
+pub mod formulas;
 pub mod heads;
+pub mod names;
 pub mod numbers;
 pub mod outcome;
 pub mod searches;

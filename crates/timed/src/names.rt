@@ -1,0 +1,65 @@
+//! Names of headers, by a set of their bytes.
+
+use crate::outcome::Outcome;
+use std::alloc::Global;
+use winnow::Parser;
+use winnow::combinator::{repeat, terminated};
+use winnow::error::{EmptyError, ErrMode};
+use winnow::stream::{ByteSet, Range};
+use winnow::token::take_while;
+
+/// How many names have a colon behind them, where the set of their bytes is a table.
+fn names_by_table<'i>(
+    alloc: Global,
+    set: ByteSet,
+    input: &mut &'i [u8],
+) -> Result<usize, ErrMode<EmptyError>> {
+    repeat(
+        alloc,
+        Range::from(0..),
+        terminated(take_while(Range::from(1..), set), b':'),
+    )
+    .parse_next(input)
+}
+
+/// Names of letters, digits and dashes, a colon behind each, by a table.
+#[unsafe(no_mangle)]
+pub extern "C" fn timed_names_by_table(alloc: Global, input: &[u8], out: &mut Outcome) {
+    let set = ByteSet::from_set(&(b'-', b'0'..=b'9', b'A'..=b'Z', b'a'..=b'z'));
+    let mut rest = input;
+    *out = Outcome {
+        count: 0,
+        sum: 0,
+        left: 0,
+    };
+    if let Ok(all) = names_by_table(alloc, set, &mut rest) {
+        out.count = all as u64;
+        out.left = rest.len() as u64;
+    }
+}
+
+/// The same where the set is a tuple of a byte and ranges.
+fn names_by_ranges<'i>(alloc: Global, input: &mut &'i [u8]) -> Result<usize, ErrMode<EmptyError>> {
+    let set = (b'-', b'0'..=b'9', b'A'..=b'Z', b'a'..=b'z');
+    repeat(
+        alloc,
+        Range::from(0..),
+        terminated(take_while(Range::from(1..), set), b':'),
+    )
+    .parse_next(input)
+}
+
+/// The same names by ranges.
+#[unsafe(no_mangle)]
+pub extern "C" fn timed_names_by_ranges(alloc: Global, input: &[u8], out: &mut Outcome) {
+    let mut rest = input;
+    *out = Outcome {
+        count: 0,
+        sum: 0,
+        left: 0,
+    };
+    if let Ok(all) = names_by_ranges(alloc, &mut rest) {
+        out.count = all as u64;
+        out.left = rest.len() as u64;
+    }
+}
