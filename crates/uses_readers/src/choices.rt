@@ -101,7 +101,11 @@ pub fn read_signed(input: &mut &str) -> Result<(bool, u32), ErrMode<EmptyError>>
 pub fn read_number_or_word<'i>(
     input: &mut &'i str,
 ) -> Result<(&'i str, bool), ErrMode<EmptyError>> {
-    alt((Digit1.map(|digits| (digits, true)), Alpha1.map(|word| (word, false)))).parse_next(input)
+    alt((
+        Digit1.map(|digits| (digits, true)),
+        Alpha1.map(|word| (word, false)),
+    ))
+    .parse_next(input)
 }
 
 /// Reads a port behind a colon; there is none where no colon stands.
