@@ -47,7 +47,8 @@ none_records run recover keeps skips s i t j (is, k, x, can, ran, (m, skipped, c
 
 -- what one line and those behind it recorded
 both_record : {T O : Type 0} (i n j : Input T) (first total : ℕ) (others : List (Option O))
-    → total ≡ first + faults others → ((kinds : List Kind) × (n.status.recorded ≡ i.status.recorded ++ kinds)
+    → total ≡ first + faults others
+    → ((kinds : List Kind) × (n.status.recorded ≡ i.status.recorded ++ kinds)
     × (length kinds ≡ first)) → Recorded n others j
     → (kinds : List Kind) × (j.status.recorded ≡ i.status.recorded ++ kinds)
     × (length kinds ≡ total)

@@ -13,8 +13,10 @@ returns g c =
     record {
       ran =
           retry_from (g.P.Parser.meaning g.E.HasKind.form) (g.S.Parser.meaning g.E.HasKind.form)
-          recovery (g.P.Parser.state (retry_after_parser c.retry_after.result)) (g.P.Parser.state c.args.line)
-          (g.S.Parser.state (retry_after_recover c.retry_after.result)) (g.S.Parser.state c.args.skip)
+          recovery (g.P.Parser.state (retry_after_parser c.retry_after.result))
+          (g.P.Parser.state c.args.line)
+          (g.S.Parser.state (retry_after_recover c.retry_after.result))
+          (g.S.Parser.state c.args.skip)
           (g.I.Stream.view c.args.input.now) (answer_by g.E.HasKind.kind c.parse_next.result) (
             g.P.Parser.state (retry_after_parser parser),
             g.S.Parser.state (retry_after_recover parser),
