@@ -14,6 +14,8 @@ ghost use Rattle.winnow_expression_trees.specs.Premises.{AlikePostfix, AlikePref
 ghost use Rattle.winnow_expression_trees.specs.Premises.{Premises};
 ghost use Rattle.winnow_expression_trees.specs.Tree.{Tree};
 
+pub mod parts;
+
 use stream_errors::parser_error::ParserError;
 use streams::stream::Stream;
 use winnow_core::parser::Parser;
