@@ -12,6 +12,7 @@ crate `winnow_ascii`, those of integers in the crates `winnow_integers` and `win
 the crate `winnow_stable` that all of these are stable. It prints the crates whose files it writes.
 """
 from family.choices import write_choices
+from family.chosen import write_chosen
 from family.classes import write_classes
 from family.integers import write_integers
 from family.known import write_known
@@ -29,5 +30,6 @@ if __name__ == "__main__":
     write_classes()
     write_stable()
     write_integers()
+    write_chosen()
     print("stream_sets winnow_core winnow_comb winnow_ascii winnow_integers winnow_binary")
     print("winnow_stable")

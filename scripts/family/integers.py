@@ -1,10 +1,10 @@
-"""The parsers of integers as bytes, in the crates `winnow_integers` and `winnow_binary`."""
+"""The parsers of integers as bytes, in the crate `winnow_integers`."""
 from family.common import camel, documented, write
 
 FIXED = "crates/winnow_integers/"
-CHOSEN = "crates/winnow_binary/"
 WIDTHS = {8: 1, 16: 2, 24: 3, 32: 4, 64: 8, 128: 16}
 ORDERS = {"be": ("Big", "highest"), "le": ("Little", "lowest")}
+FILES = {"be": "big_endian", "le": "little_endian"}
 
 
 class Integer:
@@ -49,11 +49,6 @@ def fixed():
     return found | {"u8": Integer("u", 8), "i8": Integer("i", 8)}
 
 
-def chosen():
-    """The integers of which the order is chosen, each by its name."""
-    return {"%s%d" % (sign, bits): Integer(sign, bits) for sign in "ui" for bits in WIDTHS if bits != 8}
-
-
 def about(one):
     return one.kind() + " of " + one.bytes() + (", of which the %s stands first" % one.first if one.width > 1 else "") + "."
 
@@ -90,14 +85,14 @@ def function(name, one):
     )
 
 
-FUNCTIONS = """//! Parsers of integers whose bytes stand in one order.
+FUNCTIONS = """//! Parsers of integers whose {first} byte stands first{others}.
 //!
 //! {head}
 #![tactic(auto, using(crate::specs::Integer::Std::integers))]
 ghost use Rattle.stream_errors.specs.Form.{{answer_by}};
 ghost use Rattle.streams.specs.Input.{{IsEndOf}};
 ghost use Rattle.winnow_integers.specs.Integer.{{IntegerRuns, signed_value, unsigned_value}};
-ghost use Rattle.winnow_integers.specs.declared.binary.endianness.Endianness.TheVariants.{{Big, Little}};
+ghost use Rattle.winnow_integers.specs.declared.binary.endianness.Endianness.TheVariants.{{{constructor}}};
 
 use crate::binary::bytes::{{signed_24, take_bytes}};
 use stream_errors::parser_error::ParserError;
@@ -113,7 +108,7 @@ use Rattle.std.proofs.Common.{{{rules}}}
 use Rattle.std.specs.Int.{{w{bits}}}
 use Rattle.winnow_integers.specs.Integer.Laws.{{integer_made}}
 use Rattle.winnow_integers.specs.Integer.Std.{{{lemma}}}
-use Rattle.winnow_integers.proofs.binary.integers.{name}.Goals as goal
+use Rattle.winnow_integers.proofs.binary.{file}.{name}.Goals as goal
 
 pub returns-clause-ran : goal.returns-clause-ran
 returns-clause-ran g c =
@@ -192,127 +187,6 @@ impl<I: StreamIsPartial + ByteStream, E: ParserError<I>> Parser<I, {type}, E> fo
 )
 
 
-def chosen_function(name, one):
-    row, number = one.sample()
-    own = camel(name)
-    return "\n".join(
-        [
-            documented("A parser of %s of %s, which stand in the order `endian`." % (one.kind().lower(), one.bytes())),
-            "///",
-            documented("Where fewer are left it fails, and consumes nothing; on a cut input it is incomplete: the need is how many bytes are missing."),
-            "///",
-            "/// ```",
-            '/// let input = b"%s;".as_slice();' % row,
-            "/// let mut parser = %s(Endianness::Big);" % name,
-            '/// assert_eq!(rt; parser.parse_peek(input), Ok::<_, EmptyError>((b";".as_slice(), %d)));' % number,
-            "/// ```",
-            "#[inline(always)]",
-            "pub fn %s<Input, Error>(endian: Endianness) -> %s<Input, Error>" % (name, own),
-            "where",
-            "    Input: StreamIsPartial + ByteStream,",
-            "    Error: ParserError<Input>,",
-            "    ensures { %s_endian result ≡ endian }" % name,
-            "{",
-            "    %s {" % own,
-            "        endian,",
-            "        input: PhantomData,",
-            "        error: PhantomData,",
-            "    }",
-            "}",
-        ]
-    )
-
-
-CHOSEN_FUNCTIONS = """//! Parsers of integers whose bytes stand in an order that is chosen.
-//!
-//! {head}
-ghost use Rattle.std.specs.Prelude.{{◌≡◌}};
-ghost use Rattle.winnow_binary.specs.Chosen.{{{projections}}};
-
-use crate::binary::impls::{{{structs}}};
-use std::marker::PhantomData;
-use stream_errors::parser_error::ParserError;
-use streams::byte_stream::ByteStream;
-use streams::stream::StreamIsPartial;
-use winnow_integers::binary::Endianness;
-
-{family}
-"""
-
-CHOSEN_STRUCT = (
-    """//! {about}
-//!
-//! {head}
-ghost use Rattle.std.specs.Prelude.{{◌≡◌}};
-ghost use Rattle.winnow_binary.specs.Chosen.{{ChosenRuns}};
-ghost use Rattle.winnow_integers.specs.Integer.{{{value}}};
-ghost use Rattle.winnow_integers.specs.Integer.Laws.{{integer_alike, integer_ends}};
-ghost use Rattle.winnow_integers.specs.declared.binary.endianness.Endianness.{{Endianness}};
-ghost use Rattle.winnow_core.specs.Agrees.{{agrees_by}};
-
-use std::marker::PhantomData;
-"""
-    + IMPORTS
-    + """use winnow_integers::binary::{{Endianness, be_{name}, le_{name}}};
-
-/// The parser that [`{name}`](crate::binary::{name}) makes.
-///
-/// ```
-/// let mut parser: {kind}<_, _> = {name}(Endianness::Big);
-/// let input = b"{row};".as_slice();
-/// assert_eq!(rt; parser.parse_peek(input), Ok::<_, EmptyError>((b";".as_slice(), {number})));
-/// ```
-#[derive(Drop)]
-pub struct {kind}<I, E> {{
-    pub(crate) endian: Endianness,
-    pub(crate) input: PhantomData<I>,
-    pub(crate) error: PhantomData<E>,
-}}
-
-impl<I: StreamIsPartial + ByteStream, E: ParserError<I>> Parser<I, {type}, E> for {own} {{
-    ghost State = {{ Endianness }};
-
-    ghost state = {{ λ s. s.endian }};
-
-    ghost meaning = {{ λ form. ChosenRuns {width} {value} I.reading form }};
-
-    ghost leaves_ends = {{ λ form x i answer y j r. integer_ends {width} ({value} x) I.reading form i answer j r.0 }};
-
-    #[inline(always)]
-    fn parse_next(&mut self, input: &mut I) -> Result<{type}, E> {{
-        match self.endian {{
-            Endianness::Big => be_{name}(input),
-            Endianness::Little | Endianness::Native => le_{name}(input),
-        }}
-    }}
-}}
-
-"""
-    + ALIKE
-)
-
-CHOSEN_SPECS = """-- Integers whose bytes stand in an order that is chosen.
--- {head}
-use Rattle.std.specs.Prelude.{{ℕ, List}}
-use Rattle.streams.specs.Reading.{{Reading}}
-use Rattle.stream_errors.specs.Form.{{ErrorForm}}
-use Rattle.winnow_core.specs.Runs.{{Keeps, Runs}}
-use Rattle.winnow_integers.specs.Integer.{{IntegerRuns}}
-use Rattle.winnow_integers.specs.declared.binary.endianness.Endianness.{{Endianness}}
-{uses}
-
--- A run of the parser of an integer of so many bytes, each list of which has a value in each order;
--- the order that is chosen stays.
-abbrev pub ChosenRuns : {{S O : Type 0}} → ℕ → (Endianness → List ℕ → O) → Reading ℕ S → ErrorForm
-    → Runs Endianness ℕ O
-ChosenRuns width value reading form =
-    Keeps (λ order. IntegerRuns width (value order) reading form)
-
--- the order in which the bytes stand
-{projections}
-"""
-
-
 LAWS = """//! Laws of integers, each proved by a function that does nothing.
 //!
 //! {head}
@@ -387,8 +261,11 @@ def struct_path(name, one):
 
 def write_fixed():
     rows = fixed()
-    functions = "\n\n".join(function(name, one) for name, one in rows.items())
-    write(FIXED + "src/binary/integers.rt", FUNCTIONS, family=functions)
+    for order, file in FILES.items():
+        family = "\n\n".join(function(name, one) for name, one in rows.items() if one.order == order)
+        constructor, first = ORDERS[order]
+        others = ", and those of one byte" if order == "be" else ""
+        write(FIXED + "src/binary/%s.rt" % file, FUNCTIONS, family=family, constructor=constructor, first=first, others=others)
     for name, one in rows.items():
         row, number = one.sample()
         own = camel(name)
@@ -402,28 +279,10 @@ def write_fixed():
             lemma = LEMMAS[one.sign] % one.order
             value = VALUES[one.sign].format(lemma=lemma, order=one.order, bits=one.bits)
             parts = {"rules": RULES[one.sign], "lemma": lemma, "value": value}
-            answers = FIXED + "proofs/binary/integers/%s/Answers.antt" % name
-            write(answers, ANSWERS, name=name, bits=one.bits, width=one.width, **parts)
-
-
-def write_chosen():
-    rows = chosen()
-    functions = "\n\n".join(chosen_function(name, one) for name, one in rows.items())
-    kinds = [camel(name) for name in rows]
-    write(CHOSEN + "src/binary/chosen.rt", CHOSEN_FUNCTIONS, family=functions, projections=", ".join("%s_endian" % name for name in rows), structs=", ".join(kinds))
-    uses = "\n".join("use Rattle.winnow_binary.specs.declared.binary.impls.%s.%s.{%s}" % (name, camel(name), camel(name)) for name in rows)
-    projections = "\n\n".join("abbrev pub {0}_endian : {{I E : Type 0}} → {1} I E → Endianness\n{0}_endian s = s.endian".format(name, camel(name)) for name in rows)
-    write(CHOSEN + "specs/Chosen.antt", CHOSEN_SPECS, uses=uses, projections=projections)
-    for name, one in rows.items():
-        row, number = one.sample()
-        kind = camel(name)
-        text = "%s of %s, which stand in an order that is chosen." % (one.kind(), one.bytes())
-        agrees = "agrees_by (λ p. p.endian) (λ q. q.endian) (integer_alike %d %s I.same_reading)" % (one.width, one.value)
-        parts = {"kind": kind, "own": kind + "<I, E>", "other": kind + "<J, F>", "like": "p.endian ≡ q.endian", "agrees": agrees, **vars(one)}
-        write(CHOSEN + "src/binary/impls/%s.rt" % name, CHOSEN_STRUCT, about=text, name=name, row=row, number=number, **parts)
+            answers = FIXED + "proofs/binary/%s/%s/Answers.antt" % (FILES[one.order], name)
+            write(answers, ANSWERS, file=FILES[one.order], name=name, bits=one.bits, width=one.width, **parts)
 
 
 def write_integers():
     write_fixed()
     write_laws()
-    write_chosen()

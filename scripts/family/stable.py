@@ -1,7 +1,8 @@
 """That parsers of families are stable where their children are, in the crate `winnow_stable`."""
 from family.classes import class_parsers
 from family.common import BETWEEN, MOST, block, camel, rust_tuple, upto, write
-from family.integers import chosen, fixed
+from family.chosen import chosen
+from family.integers import fixed
 
 # The lemmas of larger tuples stand in a file of their own.
 SMALL = 4

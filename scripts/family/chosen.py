@@ -1,0 +1,148 @@
+"""The parsers of integers whose bytes stand in an order that is chosen, in `winnow_binary`."""
+from family.common import camel, documented, write
+from family.integers import ALIKE, IMPORTS, WIDTHS, Integer
+
+CHOSEN = "crates/winnow_binary/"
+
+
+def chosen():
+    """The integers of which the order is chosen, each by its name."""
+    return {"%s%d" % (sign, bits): Integer(sign, bits) for sign in "ui" for bits in WIDTHS if bits != 8}
+
+
+def chosen_function(name, one):
+    row, number = one.sample()
+    own = camel(name)
+    return "\n".join(
+        [
+            documented("A parser of %s of %s, which stand in the order `endian`." % (one.kind().lower(), one.bytes())),
+            "///",
+            documented("Where fewer are left it fails, and consumes nothing; on a cut input it is incomplete: the need is how many bytes are missing."),
+            "///",
+            "/// ```",
+            '/// let input = b"%s;".as_slice();' % row,
+            "/// let mut parser = %s(Endianness::Big);" % name,
+            '/// assert_eq!(rt; parser.parse_peek(input), Ok::<_, EmptyError>((b";".as_slice(), %d)));' % number,
+            "/// ```",
+            "#[inline(always)]",
+            "pub fn %s<Input, Error>(endian: Endianness) -> %s<Input, Error>" % (name, own),
+            "where",
+            "    Input: StreamIsPartial + ByteStream,",
+            "    Error: ParserError<Input>,",
+            "    ensures { %s_endian result ≡ endian }" % name,
+            "{",
+            "    %s {" % own,
+            "        endian,",
+            "        input: PhantomData,",
+            "        error: PhantomData,",
+            "    }",
+            "}",
+        ]
+    )
+
+
+CHOSEN_FUNCTIONS = """//! Parsers of integers whose bytes stand in an order that is chosen.
+//!
+//! {head}
+ghost use Rattle.std.specs.Prelude.{{◌≡◌}};
+ghost use Rattle.winnow_binary.specs.Chosen.{{{projections}}};
+
+use crate::binary::impls::{{{structs}}};
+use std::marker::PhantomData;
+use stream_errors::parser_error::ParserError;
+use streams::byte_stream::ByteStream;
+use streams::stream::StreamIsPartial;
+use winnow_integers::binary::Endianness;
+
+{family}
+"""
+
+CHOSEN_STRUCT = (
+    """//! {about}
+//!
+//! {head}
+ghost use Rattle.std.specs.Prelude.{{◌≡◌}};
+ghost use Rattle.winnow_binary.specs.Chosen.{{ChosenRuns}};
+ghost use Rattle.winnow_integers.specs.Integer.{{{value}}};
+ghost use Rattle.winnow_integers.specs.Integer.Laws.{{integer_alike, integer_ends}};
+ghost use Rattle.winnow_integers.specs.declared.binary.endianness.Endianness.{{Endianness}};
+ghost use Rattle.winnow_core.specs.Agrees.{{agrees_by}};
+
+use std::marker::PhantomData;
+"""
+    + IMPORTS
+    + """use winnow_integers::binary::{{Endianness, be_{name}, le_{name}}};
+
+/// The parser that [`{name}`](crate::binary::{name}) makes.
+///
+/// ```
+/// let mut parser: {kind}<_, _> = {name}(Endianness::Big);
+/// let input = b"{row};".as_slice();
+/// assert_eq!(rt; parser.parse_peek(input), Ok::<_, EmptyError>((b";".as_slice(), {number})));
+/// ```
+#[derive(Drop)]
+pub struct {kind}<I, E> {{
+    pub(crate) endian: Endianness,
+    pub(crate) input: PhantomData<I>,
+    pub(crate) error: PhantomData<E>,
+}}
+
+impl<I: StreamIsPartial + ByteStream, E: ParserError<I>> Parser<I, {type}, E> for {own} {{
+    ghost State = {{ Endianness }};
+
+    ghost state = {{ λ s. s.endian }};
+
+    ghost meaning = {{ λ form. ChosenRuns {width} {value} I.reading form }};
+
+    ghost leaves_ends = {{ λ form x i answer y j r. integer_ends {width} ({value} x) I.reading form i answer j r.0 }};
+
+    #[inline(always)]
+    fn parse_next(&mut self, input: &mut I) -> Result<{type}, E> {{
+        match self.endian {{
+            Endianness::Big => be_{name}(input),
+            Endianness::Little | Endianness::Native => le_{name}(input),
+        }}
+    }}
+}}
+
+"""
+    + ALIKE
+)
+
+CHOSEN_SPECS = """-- Integers whose bytes stand in an order that is chosen.
+-- {head}
+use Rattle.std.specs.Prelude.{{ℕ, List}}
+use Rattle.streams.specs.Reading.{{Reading}}
+use Rattle.stream_errors.specs.Form.{{ErrorForm}}
+use Rattle.winnow_core.specs.Runs.{{Keeps, Runs}}
+use Rattle.winnow_integers.specs.Integer.{{IntegerRuns}}
+use Rattle.winnow_integers.specs.declared.binary.endianness.Endianness.{{Endianness}}
+{uses}
+
+-- A run of the parser of an integer of so many bytes, each list of which has a value in each order;
+-- the order that is chosen stays.
+abbrev pub ChosenRuns : {{S O : Type 0}} → ℕ → (Endianness → List ℕ → O) → Reading ℕ S → ErrorForm
+    → Runs Endianness ℕ O
+ChosenRuns width value reading form =
+    Keeps (λ order. IntegerRuns width (value order) reading form)
+
+-- the order in which the bytes stand
+{projections}
+"""
+
+
+def write_chosen():
+    rows = chosen()
+    functions = "\n\n".join(chosen_function(name, one) for name, one in rows.items())
+    kinds = [camel(name) for name in rows]
+    write(CHOSEN + "src/binary/chosen.rt", CHOSEN_FUNCTIONS, family=functions, projections=", ".join("%s_endian" % name for name in rows), structs=", ".join(kinds))
+    uses = "\n".join("use Rattle.winnow_binary.specs.declared.binary.impls.%s.%s.{%s}" % (name, camel(name), camel(name)) for name in rows)
+    projections = "\n\n".join("abbrev pub {0}_endian : {{I E : Type 0}} → {1} I E → Endianness\n{0}_endian s = s.endian".format(name, camel(name)) for name in rows)
+    write(CHOSEN + "specs/Chosen.antt", CHOSEN_SPECS, uses=uses, projections=projections)
+    for name, one in rows.items():
+        row, number = one.sample()
+        kind = camel(name)
+        text = "%s of %s, which stand in an order that is chosen." % (one.kind(), one.bytes())
+        agrees = "agrees_by (λ p. p.endian) (λ q. q.endian) (integer_alike %d %s I.same_reading)" % (one.width, one.value)
+        parts = {"kind": kind, "own": kind + "<I, E>", "other": kind + "<J, F>", "like": "p.endian ≡ q.endian", "agrees": agrees, **vars(one)}
+        write(CHOSEN + "src/binary/impls/%s.rt" % name, CHOSEN_STRUCT, about=text, name=name, row=row, number=number, **parts)
