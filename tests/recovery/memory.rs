@@ -70,6 +70,7 @@ fn recoverable_parse_refused(rt: HostRuntime) {
         |heap| output_of(&rt, heap, (Digit1.resume_after(to_comma()), ',', Digit1), "x,2"),
         (Ok(Some((None, ',', "2"))), 1),
     );
+    // The branch behind one that wants memory is not run.
     refused_in_turn(
         &rt,
         "a choice",
@@ -90,4 +91,14 @@ fn recoverable_parse_refused(rt: HostRuntime) {
         },
         (Ok(Some("1")), 10),
     );
+}
+
+/// Nothing is recorded where nothing fails, so no memory is asked for.
+#[test]
+fn recoverable_parse_that_takes_no_memory(rt: HostRuntime) {
+    let heap = Refusing::always_from(rt.alloc(), 0);
+    let skip = take_till(Range::from(0..), ',').void();
+    let got = output_of(&rt, &heap, Digit1.retry_after(skip), "12");
+    assert_eq!(rt; got, (Ok(Some("12")), 0), "a parse without errors");
+    assert!(rt; !heap.met(), "a parse without errors asks for no memory");
 }

@@ -1,4 +1,5 @@
 //! Parsers of ASCII's classes of characters, of line ends and of numbers as text.
 mod classes;
 mod line_ends;
+mod number_types;
 mod numbers;

@@ -13,13 +13,11 @@ use test_support::outcomes::Kind::{Backtrack, Incomplete};
 use test_support::outcomes::{BACKTRACKS, backtracks_behind, lacks, lacks_one_behind};
 use test_support::rows::{
     Modal, Row, answers, answers_at, answers_each, answers_on_cut, ends_each, like_ends,
-    moves_each, same, sweep,
+    moves_each, sweep,
 };
 use test_support::texts::OfText;
 use test_support::{at_located, at_streams};
 use winnow_numbers::ascii::impls::{DecInt, DecUint, HexUintParser};
-use winnow_numbers::ascii::impls::HexUint;
-use winnow_numbers::ascii::{Int, Uint};
 use winnow_token::token::impls::Any;
 
 /// Cut text and cut bytes.
@@ -383,34 +381,4 @@ fn hex_uint_of_the_greatest_number_of_digits(rt: HostRuntime) {
     digits_of!(rt; "hex_uint::<u64>", u64, 16);
     digits_of!(rt; "hex_uint::<u128>", u128, 32);
     digits_of!(rt; "hex_uint::<usize>", usize, 16);
-}
-
-#[test]
-fn numbers_by_their_types(rt: HostRuntime) {
-    for (text, want) in [("+255", Some(255)), ("256", None), ("-1", None), ("", None)] {
-        same(
-            &rt,
-            "try_from_dec_uint",
-            text,
-            u8::try_from_dec_uint(text),
-            want,
-        );
-    }
-    for (text, want) in [
-        ("-128", Some(-128)),
-        ("+0", Some(0)),
-        ("128", None),
-        ("+", None),
-    ] {
-        same(
-            &rt,
-            "try_from_dec_int",
-            text,
-            i8::try_from_dec_int(text),
-            want,
-        );
-    }
-    assert_eq!(rt; 0xA_u8.push_nibble(0xB), 0xAB, "push_nibble");
-    assert_eq!(rt; 0xFFF_u16.push_nibble(0xF), u16::MAX, "push_nibble");
-    assert_eq!(rt; 1_u128.push_nibble(2), 18, "push_nibble");
 }
