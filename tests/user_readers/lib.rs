@@ -5,3 +5,5 @@
 mod choices;
 #[cfg(test)]
 mod readers;
+#[cfg(test)]
+mod records;
