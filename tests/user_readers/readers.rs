@@ -1,6 +1,8 @@
 //! Each reader on a text that it reads, and on one that it refuses.
 
-use uses_readers::lists::{count_lines, read_array, read_numbers, read_settings, read_words};
+use uses_readers::lists::{
+    count_lines, read_array, read_named_words, read_numbers, read_settings, read_words,
+};
 use uses_readers::pieces::{read_frame, read_head, read_name};
 use winnow::error::{ErrMode, Needed};
 use winnow::stream::Partial;
@@ -15,6 +17,9 @@ fn lists(rt: HostRuntime) {
     assert!(rt; settings.is_some_and(|it| it.as_slice() == [("a", 1), ("b", 2)].as_slice()));
     let array = read_array(rt.alloc(), &mut b"[4,5]".as_slice()).ok();
     assert!(rt; array.is_some_and(|it| it.as_slice() == [4, 5].as_slice()));
+    let named = read_named_words(rt.alloc(), &mut "a:b,c,").ok();
+    assert!(rt; named.is_some_and(|it| it.0 == "a" && it.1.as_slice() == ["b", "c"].as_slice()));
+    assert!(rt; read_named_words(rt.alloc(), &mut "a b").is_err());
     assert_eq!(rt; count_lines(rt.alloc(), &mut "a\nb\n").ok(), Some(2));
 }
 

@@ -57,14 +57,7 @@ pub fn read_duration(input: &mut &str) -> Result<Duration, ErrMode<EmptyError>> 
 
 /// Reads a user's name; there is none where `-` stands.
 pub fn read_user<'i>(input: &mut &'i str) -> Result<Option<&'i str>, ErrMode<EmptyError>> {
-    let dash: Option<char> = opt('-').parse_next(input)?;
-    match dash {
-        Some(_) => Ok(None),
-        None => {
-            let name = Alpha1.parse_next(input)?;
-            Ok(Some(name))
-        }
-    }
+    alt(("-".value(None), Alpha1.map(Some))).parse_next(input)
 }
 
 /// A value of a setting.

@@ -52,3 +52,15 @@ pub fn count_lines<A: Allocator + Copy>(
 ) -> Result<usize, ErrMode<EmptyError>> {
     repeat(alloc, Range::from(0..), terminated(Alpha1, '\n')).parse_next(input)
 }
+
+/// Reads a name, a colon and the words of that name, with commas between them.
+pub fn read_named_words<'i, A: Allocator + Copy>(
+    alloc: A,
+    input: &mut &'i str,
+) -> Result<(&'i str, Vec<&'i str, A>), ErrMode<EmptyError>> {
+    (
+        terminated(Alpha1, ':'),
+        separated(alloc, Range::from(0..), Alpha1, ','),
+    )
+        .parse_next(input)
+}
