@@ -1,7 +1,7 @@
 //! Field lines of heads of HTTP/1.1.
 use std::fmt::Debug;
 use std::process::Abort;
-use uses_http::field_line::{read_field_line, read_field_line_in_pieces};
+use uses_http::field_line::{Field, read_field_line, read_field_line_in_pieces};
 use winnow::error::ErrMode;
 use winnow::stream::Partial;
 
@@ -15,6 +15,10 @@ const LINES: &[(&[u8], &[u8], &[u8], &[u8])] = &[
     (b"X:\r\n", b"X", b"", b""),
     (b"X: \t \r\n", b"X", b"", b""),
     (b"X:\t a\tb\r\n", b"X", b"a\tb", b""),
+    (b"X: a \r\n", b"X", b"a", b""),
+    (b"X:a\t \t\r\n \r\n", b"X", b"a", b" \r\n"),
+    (b"X: a b  \r\n", b"X", b"a b", b""),
+    (b"X: \xa0 \r\n", b"X", b"\xa0", b""),
     (b"X: \xe9\xff\r\n", b"X", b"\xe9\xff", b""),
     (b"!#$%&'*+-.^_`|~09azAZ: a:b\r\n", b"!#$%&'*+-.^_`|~09azAZ", b"a:b", b""),
 ];
@@ -42,12 +46,13 @@ fn same<T: PartialEq + Debug + Drop>(rt: &impl Abort, row: &[u8], got: T, want: 
 #[test]
 fn read_field_line_of_lines(rt: HostRuntime) {
     for (text, name, value, rest) in LINES {
+        let want = Some(Field { name: *name, value: *value });
         let mut input = *text;
-        same(&rt, text, read_field_line(&mut input).ok(), Some((*name, *value)));
+        same(&rt, text, read_field_line(&mut input).ok(), want);
         same(&rt, text, input, *rest);
         let mut pieces = Partial::new(*text);
-        let answer = read_field_line_in_pieces(&mut pieces).ok();
-        same(&rt, text, answer, Some((*name, *value)));
+        same(&rt, text, read_field_line_in_pieces(&mut pieces).ok(), want);
+        same(&rt, text, pieces.into_inner(), *rest);
     }
 }
 

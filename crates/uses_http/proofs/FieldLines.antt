@@ -16,8 +16,9 @@ use Rattle.winnow.specs.Sequence.Known.{sequence5_ok}
 use Rattle.winnow.specs.TakeWhile.Known.{TakesOf, take_leaves, take_reads, tells_of, took_by}
 use Rattle.winnow.specs.TakeWhile.Known.{took_stops}
 use Rattle.winnow.specs.{Range}
-use Rattle.uses_http.specs.FieldLine.{IsFieldLine, IsTokenByte, IsValueByte, IsWhite, any_bytes}
-use Rattle.uses_http.specs.FieldLine.{line_end, some_bytes}
+use Rattle.uses_http.specs.Bytes.{IsTokenByte, IsValueByte, IsWhite, line_end}
+use Rattle.uses_http.specs.Ranges.{any_bytes, some_bytes}
+use Rattle.uses_http.proofs.Values.{IsRead}
 
 -- what the five parsers mean, and the states in which `line` makes them
 abbrev pub States : Type 0 → Type 0 → Type 0 → Type 0
@@ -42,10 +43,10 @@ no_white x i text y j is ran =
     took_stops (λ b. IsWhite b → ⊥) _ 0 i text.now j (tells_of IsWhite).no
     (took_by modal _ x.0 0 None i text j is ran.0)
 
--- what they answer is a field line
+-- what they answer is a field line, with the white space behind the value
 pub line_read : {A B C : Type 0} (s : States A B C) (i : Input ℕ) (o : Parts) (t : States A B C)
     (j : Input ℕ) → IsMade s → LineMeans s i (Ok o) t j
-    → IsFieldLine o.0.now o.3.now i.left.tokens j.left.tokens
+    → IsRead o.0.now o.3.now i.left.tokens j.left.tokens
 line_read s i o t j made ran =
     let reads = sequence5_reads (take_reads modal IsTokenByte some_bytes) (token_reads modal 58)
     (take_reads modal IsWhite any_bytes) (take_reads modal IsValueByte any_bytes)
@@ -66,8 +67,8 @@ line_read s i o t j made ran =
 
 -- where a field line begins the input, they do not fail
 pub line_must : {A B C X : Type 0} {k : Kind} (s : States A B C) (i : Input ℕ)
-    (t : States A B C) (j : Input ℕ) (name value rest : List ℕ) → IsMade s
-    → IsFieldLine name value i.left.tokens rest → LineMeans s i (Err k) t j → X
+    (t : States A B C) (j : Input ℕ) (name text rest : List ℕ) → IsMade s
+    → IsRead name text i.left.tokens rest → LineMeans s i (Err k) t j → X
 line_must s i t j name [] rest made line ran =
     let must = sequence5_leaves
     (take_leaves modal IsTokenByte some_bytes s.0 name 58 _ refl made.0 line.is_name
@@ -79,14 +80,14 @@ line_must s i t j name [] rest made line ran =
     (All-nil IsValueByte) (λ h. omega (arith, h)) (omega arith))
     (slice_leaves modal line_end rest s.4 made.4) in
     absurd (must.answers i _ t j line.splits ran)
-line_must s i t j name (v ∷ value) rest made line ran =
+line_must s i t j name (v ∷ text) rest made line ran =
     let must = sequence5_leaves
     (take_leaves modal IsTokenByte some_bytes s.0 name 58 _ refl made.0 line.is_name
     (λ h. omega (arith, h)) line.some_name)
-    (token_leaves modal 58 (line.white ++ (v ∷ (value ++ (line_end ++ rest)))) s.1 made.1)
-    (take_leaves modal IsWhite any_bytes s.2 line.white v (value ++ (line_end ++ rest)) refl made.2
-    line.is_white (line.bare v value refl) (omega arith))
-    (take_leaves modal IsValueByte any_bytes s.3 (v ∷ value) 13 (10 ∷ rest) refl made.3
+    (token_leaves modal 58 (line.white ++ (v ∷ (text ++ (line_end ++ rest)))) s.1 made.1)
+    (take_leaves modal IsWhite any_bytes s.2 line.white v (text ++ (line_end ++ rest)) refl made.2
+    line.is_white (line.bare v text refl) (omega arith))
+    (take_leaves modal IsValueByte any_bytes s.3 (v ∷ text) 13 (10 ∷ rest) refl made.3
     line.is_value (λ h. omega (arith, h)) (omega arith))
     (slice_leaves modal line_end rest s.4 made.4) in
     absurd (must.answers i _ t j line.splits ran)

@@ -1,10 +1,12 @@
-//! A header field line of HTTP/1.1 (RFC 9112, section 5): a name, a colon, white space that may be
-//! left out, a value, and a line end (a carriage return and a line feed).
+//! A header field line of HTTP/1.1 (RFC 9112, section 5): a name, a colon, a value, and a line end
+//! (a carriage return and a line feed). White space may stand before the value and behind it.
 #![tactic(auto)]
 
 ghost use Rattle.std.specs.Prelude.{◌≡◌, IfOk, IsOk, List, ℕ};
 ghost use Rattle.winnow.specs.TakeWhile.{take_while_occurrences};
-ghost use Rattle.uses_http.specs.FieldLine.{IsFieldLine, any_bytes, line_end, some_bytes};
+ghost use Rattle.uses_http.specs.Bytes.{line_end};
+ghost use Rattle.uses_http.specs.FieldLine.{IsFieldLine, IsTrimmed};
+ghost use Rattle.uses_http.specs.Ranges.{any_bytes, some_bytes};
 
 use crate::sets::{TokenBytes, ValueBytes, White};
 use winnow::error::{EmptyError, ErrMode};
@@ -13,7 +15,24 @@ use winnow::stream::{Partial, Range};
 use winnow::token::impls::TakeWhile;
 use winnow::token::take_while;
 
-/// The parsers of the name, the colon, the white space, the value, and the line end.
+/// A field: its name and its value, as slices of the input.
+///
+/// ```
+/// use uses_http::field_line::Field;
+///
+/// let field = Field { name: b"Host".as_slice(), value: b"example.org".as_slice() };
+/// assert_eq!(rt; field.name.len(), 4);
+/// ```
+#[derive(Clone, Copy, Debug, PartialEq, Drop)]
+pub struct Field<'i> {
+    /// The name, a token of one byte or more.
+    pub name: &'i [u8],
+    /// The value, without the white space around it. It may have no bytes.
+    pub value: &'i [u8],
+}
+
+/// The parsers of the name, the colon, the white space, the value with the white space behind it,
+/// and the line end.
 type Line<I, E> = (
     TakeWhile<TokenBytes, I, E>,
     u8,
@@ -39,32 +58,48 @@ fn line<I: StreamIsPartial<Token = u8>, E: ParserError<I>>() -> Line<I, E>
     )
 }
 
-/// The name and the value of a field line, with which the bytes begin.
+/// A text without the white space at its end.
+fn trimmed<'i>(text: &'i [u8]) -> &'i [u8]
+    ensures { IsTrimmed result.now text.now }
+{
+    let mut value = text;
+    'bytes: while let Some((last, front)) = value.split_last() {
+        if *last != b' ' && *last != b'\t' {
+            return value;
+        }
+        value = front;
+    }
+    value
+}
+
+/// The field of the field line with which the bytes begin.
 ///
 /// The name is a token of one byte or more. The value is of visible bytes, spaces, tabs and bytes
-/// of 128 and above; it may have no bytes, and begins with no white space. White space behind it is
-/// part of it here; what a field means has none of it.
+/// of 128 and above; it may have no bytes. Spaces and tabs may stand before it and behind it, and
+/// are no part of it. An error says that no field line stands there, and the input may then stand
+/// behind some bytes of it.
 ///
 /// ```
 /// use uses_http::field_line::read_field_line;
 ///
-/// let mut input = b"Host: example.org\r\n\r\n".as_slice();
-/// let line = read_field_line(&mut input);
-/// assert!(rt; matches!(line, Ok((name, _)) if name == b"Host".as_slice()));
-/// assert!(rt; matches!(line, Ok((_, value)) if value == b"example.org".as_slice()));
+/// let mut input = b"Host: example.org \r\n\r\n".as_slice();
+/// let field = read_field_line(&mut input);
+/// assert!(rt; matches!(field, Ok(field) if field.name == b"Host".as_slice()));
+/// assert!(rt; matches!(field, Ok(field) if field.value == b"example.org".as_slice()));
 /// assert_eq!(rt; input, b"\r\n".as_slice());
 /// assert!(rt; read_field_line(&mut b"Host : example.org\r\n".as_slice()).is_err());
 /// ```
-pub fn read_field_line<'i>(
-    input: &mut &'i [u8],
-) -> Result<(&'i [u8], &'i [u8]), ErrMode<EmptyError>>
-    ensures line { IfOk result (λ parts.
-        IsFieldLine parts.0.now parts.1.now input.old.now input.new.now) }
+pub fn read_field_line<'i>(input: &mut &'i [u8]) -> Result<Field<'i>, ErrMode<EmptyError>>
+    ensures line { IfOk result (λ field.
+        IsFieldLine field.name.now field.value.now input.old.now input.new.now) }
     ensures accepts { (name value rest : List ℕ)
         → IsFieldLine name value input.old.now rest → IsOk result }
 {
     match line().parse_next(input) {
-        Ok((name, _, _, value, _)) => Ok((name, value)),
+        Ok((name, _, _, text, _)) => Ok(Field {
+            name,
+            value: trimmed(text),
+        }),
         Err(error) => Err(error),
     }
 }
@@ -79,15 +114,18 @@ pub fn read_field_line<'i>(
 /// ```
 pub fn read_field_line_in_pieces<'i>(
     input: &mut Partial<&'i [u8]>,
-) -> Result<(&'i [u8], &'i [u8]), ErrMode<EmptyError>>
-    ensures line { IfOk result (λ parts. IsFieldLine parts.0.now parts.1.now
+) -> Result<Field<'i>, ErrMode<EmptyError>>
+    ensures line { IfOk result (λ field. IsFieldLine field.name.now field.value.now
         (⟦<Partial<&'static [u8]> as Stream>⟧.view input.old).left.tokens
         (⟦<Partial<&'static [u8]> as Stream>⟧.view input.new).left.tokens) }
     ensures accepts { (name value rest : List ℕ) → IsFieldLine name value
         (⟦<Partial<&'static [u8]> as Stream>⟧.view input.old).left.tokens rest → IsOk result }
 {
     match line().parse_next(input) {
-        Ok((name, _, _, value, _)) => Ok((name, value)),
+        Ok((name, _, _, text, _)) => Ok(Field {
+            name,
+            value: trimmed(text),
+        }),
         Err(error) => Err(error),
     }
 }

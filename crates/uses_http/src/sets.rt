@@ -2,11 +2,11 @@
 #![tactic(auto)]
 
 ghost use Rattle.std.specs.Prelude.{◌↔◌, IsTrue};
-ghost use Rattle.uses_http.specs.FieldLine.{IsTokenByte, IsValueByte, IsWhite};
+ghost use Rattle.uses_http.specs.Bytes.{IsDigit, IsTokenByte, IsValueByte, IsVisible, IsWhite};
 
 use winnow::stream::ContainsToken;
 
-/// The bytes of tokens, of which names are made.
+/// The bytes of tokens, of which names and methods are made.
 #[derive(Clone, Copy, Drop)]
 pub struct TokenBytes;
 
@@ -27,7 +27,7 @@ impl ContainsToken<u8> for TokenBytes {
     }
 }
 
-/// The white space that may stand before a value.
+/// The white space that may stand before a value and behind it.
 #[derive(Clone, Copy, Drop)]
 pub struct White;
 
@@ -50,5 +50,31 @@ impl ContainsToken<u8> for ValueBytes {
     #[inline]
     fn contains_token(&self, b: u8) -> bool {
         (b >= 32 && b != 127) || b == b'\t'
+    }
+}
+
+/// The visible bytes, of which targets are made.
+#[derive(Clone, Copy, Drop)]
+pub struct Visible;
+
+impl ContainsToken<u8> for Visible {
+    ghost tells = { λ s b answer. IsTrue answer ↔ IsVisible b };
+
+    #[inline]
+    fn contains_token(&self, b: u8) -> bool {
+        b'!' <= b && b <= b'~'
+    }
+}
+
+/// The decimal digits.
+#[derive(Clone, Copy, Drop)]
+pub struct Digits;
+
+impl ContainsToken<u8> for Digits {
+    ghost tells = { λ s b answer. IsTrue answer ↔ IsDigit b };
+
+    #[inline]
+    fn contains_token(&self, b: u8) -> bool {
+        b.is_ascii_digit()
     }
 }

@@ -1,13 +1,17 @@
 use Rattle.uses_http.proofs.FieldLines.{line_must, line_read}
+use Rattle.uses_http.proofs.Values.{read_some, read_trimmed}
 use Rattle.uses_http.proofs.field_line.read_field_line_in_pieces.Goals as goal
 
 pub returns-in-Ok-clause-line : goal.returns-in-Ok-clause-line
 returns-in-Ok-clause-line c =
     let is = c.line.ensures in
-    line_read _ _ _ _ _ (is.name, is.colon, is.white, is.value, is.end) c.in-Ok.ensures.ran
+    read_trimmed _ _ _ _ _
+    (line_read _ _ _ _ _ (is.name, is.colon, is.white, is.value, is.end) c.in-Ok.ensures.ran)
+    c.trimmed.ensures
 
 pub returns-in-Err-clause-accepts : goal.returns-in-Err-clause-accepts
 returns-in-Err-clause-accepts c name value rest line =
     let is = c.line.ensures in
-    line_must _ _ _ _ name value rest (is.name, is.colon, is.white, is.value, is.end) line
+    let some = read_some name value _ rest line in
+    line_must _ _ _ _ name some.0 rest (is.name, is.colon, is.white, is.value, is.end) some.1
     c.in-Err.ensures.ran

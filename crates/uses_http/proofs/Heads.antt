@@ -1,0 +1,166 @@
+-- Heads: bytes begin with one at most.
+use Rattle.std.proofs.Common.{◌≡◌, ◌∙◌, ◌++◌, ◌∷◌, ◌+◌, ◌<◌, ℕ, List, [], ap, arith, length}
+use Rattle.std.proofs.Common.{length-append, map, refl, subst, sym}
+use Rattle.std.proofs.lemmas.List.{map_push}
+use Rattle.uses_http.specs.Bytes.{IsTokenByte, IsVisible, line_end}
+use Rattle.uses_http.specs.FieldLine.{IsFieldLine}
+use Rattle.uses_http.specs.Head.{AreFieldLines, AreFields, IsHead, Pair, Request, pair}
+use Rattle.uses_http.specs.RequestLine.{IsRequestLine, digits}
+use Rattle.uses_http.specs.declared.field_line.Field.{Field}
+use Rattle.uses_http.proofs.Texts.{one_text}
+use Rattle.uses_http.proofs.Values.{field_line_begins, field_line_one}
+
+-- ---- the request line
+
+-- what stands behind the target and a space
+abbrev behind_target : ℕ → ℕ → List ℕ → List ℕ
+behind_target major minor rest =
+    72 ∷ 84 ∷ 84 ∷ 80 ∷ 47 ∷ (digits major minor ++ (line_end ++ rest))
+
+same_versions : (a b c d : ℕ) (one two : List ℕ) → behind_target a b one ≡ behind_target c d two
+    → (48 + a ≡ 48 + c) × (48 + b ≡ 48 + d) × (one ≡ two)
+same_versions a b c d one two e = (cc, cc, cc)
+
+-- bytes begin with one request line at most
+pub request_line_one : (m o g h : List ℕ) (a b c d : ℕ) (bytes one two : List ℕ)
+    → IsRequestLine m g a b bytes one → IsRequestLine o h c d bytes two
+    → (m ≡ o) × (g ≡ h) × (a ≡ c) × (b ≡ d) × (one ≡ two)
+request_line_one m o g h a b c d bytes one two l k =
+    let methods = one_text IsTokenByte 32 m o (g ++ 32 ∷ behind_target a b one)
+    (h ++ 32 ∷ behind_target c d two) (λ t. omega (arith, t)) l.is_method k.is_method
+    (sym l.splits ∙ k.splits) in
+    let targets = one_text IsVisible 32 g h (behind_target a b one) (behind_target c d two)
+    (λ t. omega (arith, t.0)) l.is_target k.is_target methods.1 in
+    let others = same_versions a b c d one two targets.1 in (
+      methods.0,
+      targets.0,
+      omega (arith, others.0),
+      omega (arith, others.1),
+      others.2,
+    )
+
+-- ---- the fields
+
+-- one more field line
+pub lines_more : (fields : List Pair) (f : Pair) (bytes now rest : List ℕ)
+    → AreFieldLines fields bytes now → IsFieldLine f.0 f.1 now rest
+    → AreFieldLines (fields ++ f ∷ []) bytes rest
+lines_more [] f bytes now rest e line =
+    let P : List ℕ → Type 0 = λ l. IsFieldLine f.0 f.1 l rest in
+    (rest, subst P (sym e) line, refl)
+lines_more (g ∷ fields) f bytes now rest (behind, first, others) line =
+    (behind, first, lines_more fields f behind now rest others line)
+
+-- what is behind some field lines is field lines, where the whole is so and ends as fields do
+lines_behind : (fields others : List Pair) (bytes now end rest : List ℕ)
+    → AreFieldLines fields bytes now → AreFieldLines others bytes end → end ≡ line_end ++ rest
+    → (more : List Pair) × AreFieldLines more now end
+lines_behind [] others bytes now end rest e lines ended =
+    let P : List ℕ → Type 0 = λ l. AreFieldLines others l end in
+    (others, subst P e lines)
+lines_behind (f ∷ fields) [] bytes now end rest (behind, first, lines) e ended =
+    absurd (field_line_begins f.0 f.1 bytes behind (10 ∷ rest) first (e ∙ ended))
+lines_behind (f ∷ fields) (g ∷ others) bytes now end rest (behind, first, lines)
+    (behind', first', lines') ended =
+    let P : List ℕ → Type 0 = λ l. AreFieldLines others l end in
+    let same = field_line_one f.0 g.0 f.1 g.1 bytes behind behind' first first' in
+    lines_behind fields others behind now end rest lines (subst P (sym same.2) lines') ended
+
+-- where no field line stands behind some, and fields stand there, an empty line does
+pub ended_behind : (fields others : List Pair) (bytes now rest : List ℕ)
+    → AreFieldLines fields bytes now → AreFields others bytes rest
+    → ((name value more : List ℕ) → IsFieldLine name value now more → ⊥)
+    → now ≡ line_end ++ rest
+ended_behind fields others bytes now rest lines it none =
+    by (lines_behind fields others bytes now it.end rest lines it.lines it.ended)
+  where
+    by : (more : List Pair) × AreFieldLines more now it.end → now ≡ line_end ++ rest
+    by ([], e) = e ∙ it.ended
+    by (f ∷ more, (behind, line, lines)) = absurd (none f.0 f.1 behind line)
+
+-- fields from the same bytes are the same
+lines_one : (fields others : List Pair) (bytes end end' one two : List ℕ)
+    → AreFieldLines fields bytes end → AreFieldLines others bytes end' → end ≡ line_end ++ one
+    → end' ≡ line_end ++ two → (fields ≡ others) × (one ≡ two)
+lines_one [] [] bytes end end' one two e e' ended ended' =
+    (refl, same_ends one two (sym ended ∙ sym e ∙ e' ∙ ended'))
+  where
+    same_ends : (a b : List ℕ) → 13 ∷ 10 ∷ a ≡ 13 ∷ 10 ∷ b → a ≡ b
+    same_ends a b e = cc
+lines_one [] (g ∷ others) bytes end end' one two e (behind, line, lines) ended ended' =
+    absurd (field_line_begins g.0 g.1 bytes behind (10 ∷ one) line (e ∙ ended))
+lines_one (f ∷ fields) [] bytes end end' one two (behind, line, lines) e ended ended' =
+    absurd (field_line_begins f.0 f.1 bytes behind (10 ∷ two) line (e ∙ ended'))
+lines_one (f ∷ fields) (g ∷ others) bytes end end' one two (behind, line, lines)
+    (behind', line', lines') ended ended' =
+    let P : List ℕ → Type 0 = λ l. AreFieldLines others l end' in
+    let first = field_line_one f.0 g.0 f.1 g.1 bytes behind behind' line line' in
+    let again = lines_one fields others behind end end' one two lines
+    (subst P (sym first.2) lines') ended ended' in
+    let named : List ℕ → Pair = λ n. (n, f.1) in
+    let valued : List ℕ → Pair = λ v. (g.0, v) in (
+      ap (λ p. p ∷ fields) (ap named first.0 ∙ ap valued first.1) ∙ ap (λ l. g ∷ l) again.0,
+      again.1,
+    )
+
+pub fields_one : (fields others : List Pair) (bytes one two : List ℕ)
+    → AreFields fields bytes one → AreFields others bytes two → (fields ≡ others) × (one ≡ two)
+fields_one fields others bytes one two f g =
+    lines_one fields others bytes f.end g.end one two f.lines g.lines f.ended g.ended
+
+-- ---- heads
+
+-- bytes begin with one head at most
+pub head_one : (line other : Request) (fields others : List Pair) (bytes one two : List ℕ)
+    → IsHead line fields bytes one → IsHead other others bytes two
+    → (line ≡ other) × (fields ≡ others) × (one ≡ two)
+head_one line other fields others bytes one two h k =
+    let same = request_line_one line.method other.method line.target other.target line.major
+    line.minor other.major other.minor bytes h.behind k.behind h.is_line k.is_line in
+    let P : List ℕ → Type 0 = λ l. AreFields others l two in
+    let behind = fields_one fields others h.behind one two h.are_fields
+    (subst P (sym same.4) k.are_fields) in
+    let make : List ℕ → List ℕ → ℕ → ℕ → Request =
+    λ m t a b. record { method = m; target = t; major = a; minor = b } in (
+      ap (λ m. make m line.target line.major line.minor) same.0
+          ∙ ap (λ t. make other.method t line.major line.minor) same.1
+          ∙ ap (λ a. make other.method other.target a line.minor) same.2
+          ∙ ap (λ b. make other.method other.target other.major b) same.3,
+      behind.0,
+      behind.1,
+    )
+
+-- behind the request line of a head its fields stand
+pub head_fields : (line : Request) (fields : List Pair) (m g : List ℕ) (a b : ℕ)
+    (bytes now rest : List ℕ) → IsHead line fields bytes rest → IsRequestLine m g a b bytes now
+    → AreFields fields now rest
+head_fields line fields m g a b bytes now rest head read =
+    let same = request_line_one line.method m line.target g line.major line.minor a b bytes
+    head.behind now head.is_line read in
+    let P : List ℕ → Type 0 = λ l. AreFields fields l rest in
+    subst P same.4 head.are_fields
+
+-- ---- what a loop reads
+
+-- one more field
+pub read_more : (fields fields' : List Field) (f : Field) (bytes now rest : List ℕ)
+    → AreFieldLines (map pair fields) bytes now
+    → IsFieldLine f.name.now f.value.now now rest → fields' ≡ fields ++ f ∷ []
+    → AreFieldLines (map pair fields') bytes rest
+read_more fields fields' f bytes now rest lines line grew =
+    let P : List Pair → Type 0 = λ l. AreFieldLines l bytes rest in
+    subst P (sym (ap (λ l. map pair l) grew ∙ map_push pair fields f))
+    (lines_more (map pair fields) (pair f) bytes now rest lines line)
+
+-- a field line has a colon and a line end at least
+pub read_less : (name value now rest : List ℕ) → IsFieldLine name value now rest
+    → length rest < length now
+read_less name value now rest line =
+    omega (
+      arith,
+      ap (λ l. length l) line.splits,
+      length-append name (58 ∷ (line.before ++ (value ++ (line.behind ++ (line_end ++ rest))))),
+      length-append line.before (value ++ (line.behind ++ (line_end ++ rest))),
+      length-append value (line.behind ++ (line_end ++ rest)),
+      length-append line.behind (line_end ++ rest),
+    )

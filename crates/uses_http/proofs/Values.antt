@@ -1,0 +1,225 @@
+-- Values of fields: there is one without the white space that stands around it.
+use Rattle.std.proofs.Common.{◌≡◌, ◌∙◌, ◌++◌, ◌∷◌, ℕ, List, [], ap, append_assoc, arith, inl, inr}
+use Rattle.std.proofs.Common.{◌<◌, length, length-append, refl, subst, sym}
+use Rattle.std.specs.List.{All}
+use Rattle.std.proofs.lemmas.List.Elements.{All-append, All-cons, All-head, All-nil, All-tail}
+use Rattle.std.proofs.lemmas.List.Elements.{All-weaker}
+use Rattle.std.proofs.lemmas.List.{append-nil, same_from_push}
+use Rattle.uses_http.specs.Bytes.{IsTokenByte, IsValueByte, IsWhite, line_end}
+use Rattle.uses_http.specs.FieldLine.{BeginsBare, EndsBare, IsFieldLine, IsTrimmed}
+use Rattle.uses_http.proofs.Texts.{in_middle, one_stranger, one_text, same_first, same_others}
+
+pub white_is_value : (b : ℕ) → IsWhite b → IsValueByte b
+white_is_value b (inl space) = inl (omega (arith, space), λ e. omega (arith, space, e))
+white_is_value b (inr tab) = inr tab
+
+-- ---- the end of a text
+
+bare_tail : (x : ℕ) (xs : List ℕ) → EndsBare (x ∷ xs) → EndsBare xs
+bare_tail x xs ends = λ b front e white. ends b (x ∷ front) (ap (λ l. x ∷ l) e) white
+
+-- a text that ends bare is not all white
+white_last : (y : ℕ) (ys behind : List ℕ) → All IsWhite (y ∷ (ys ++ behind))
+    → EndsBare (y ∷ ys) → ⊥
+white_last y [] behind all ends = ends y [] refl (All-head IsWhite y behind all)
+white_last y (z ∷ zs) behind all ends =
+    white_last z zs behind (All-tail IsWhite y (z ∷ (zs ++ behind)) all)
+    (bare_tail y (z ∷ zs) ends)
+
+-- before white space one text ends bare
+ends_one : (v w a b : List ℕ) → All IsWhite a → All IsWhite b → EndsBare v → EndsBare w
+    → v ++ a ≡ w ++ b → v ≡ w
+ends_one [] [] a b p q ends other e = refl
+ends_one [] (y ∷ ys) a b p q ends other e =
+    let P : List ℕ → Type 0 = λ l. All IsWhite l in
+    absurd (white_last y ys b (subst P e p) other)
+ends_one (x ∷ xs) [] a b p q ends other e =
+    let P : List ℕ → Type 0 = λ l. All IsWhite l in
+    absurd (white_last x xs a (subst P (sym e) q) ends)
+ends_one (x ∷ xs) (y ∷ ys) a b p q ends other e =
+    ap (λ z. z ∷ xs) (same_first x y (xs ++ a) (ys ++ b) e)
+    ∙ ap (λ l. y ∷ l) (ends_one xs ys a b p q (bare_tail x xs ends) (bare_tail y ys other)
+    (same_others x y (xs ++ a) (ys ++ b) e))
+
+-- ---- both ends
+
+-- nothing begins bare within white space
+none_bare : (a b c : List ℕ) (y : ℕ) (ys d : List ℕ) → All IsWhite a → All IsWhite b
+    → BeginsBare (y ∷ ys) → a ++ b ≡ c ++ ((y ∷ ys) ++ d) → ⊥
+none_bare a b c y ys d p q begins e =
+    let P : List ℕ → Type 0 = λ l. All IsWhite l in
+    begins y ys refl
+    (in_middle IsWhite c y (ys ++ d) (subst P e (All-append IsWhite a b p q)))
+
+-- within white space stands one text that is bare at both ends
+value_one : (a v b c w d : List ℕ) → All IsWhite a → All IsWhite b → All IsWhite c
+    → All IsWhite d → BeginsBare v → EndsBare v → BeginsBare w → EndsBare w
+    → a ++ (v ++ b) ≡ c ++ (w ++ d) → v ≡ w
+value_one a [] b c [] d p q r s begins ends begins' ends' e = refl
+value_one a [] b c (y ∷ ys) d p q r s begins ends begins' ends' e =
+    absurd (none_bare a b c y ys d p q begins' e)
+value_one a (x ∷ xs) b c [] d p q r s begins ends begins' ends' e =
+    absurd (none_bare c d a x xs b r s begins (sym e))
+value_one a (x ∷ xs) b c (y ∷ ys) d p q r s begins ends begins' ends' e =
+    ends_one (x ∷ xs) (y ∷ ys) b d q s ends ends'
+    (one_stranger IsWhite x y a c (xs ++ b) (ys ++ d) (begins x xs refl) (begins' y ys refl) p r e)
+
+-- ---- field lines
+
+regroup : (a v b x : List ℕ) → a ++ (v ++ (b ++ x)) ≡ (a ++ (v ++ b)) ++ x
+regroup a v b x =
+    sym (append_assoc a (v ++ b) x ∙ ap (λ l. a ++ l) (append_assoc v b x))
+
+-- what stands between the colon and the line end is of bytes of values
+all_value : (a v b : List ℕ) → All IsWhite a → All IsValueByte v → All IsWhite b
+    → All IsValueByte (a ++ (v ++ b))
+all_value a v b p q r =
+    All-append IsValueByte a (v ++ b) (All-weaker IsWhite IsValueByte white_is_value a p)
+    (All-append IsValueByte v b q (All-weaker IsWhite IsValueByte white_is_value b r))
+
+-- bytes begin with one field line at most
+pub field_line_one : (name other value text bytes one two : List ℕ)
+    → IsFieldLine name value bytes one → IsFieldLine other text bytes two
+    → (name ≡ other) × (value ≡ text) × (one ≡ two)
+field_line_one name other value text bytes one two f g =
+    let ff = f.before ++ (value ++ f.behind) in
+    let gg = g.before ++ (text ++ g.behind) in
+    let names = one_text IsTokenByte 58 name other
+    (f.before ++ (value ++ (f.behind ++ (line_end ++ one))))
+    (g.before ++ (text ++ (g.behind ++ (line_end ++ two)))) (λ h. omega (arith, h)) f.is_name
+    g.is_name (sym f.splits ∙ g.splits) in
+    let texts = one_text IsValueByte 13 ff gg (10 ∷ one) (10 ∷ two) (λ h. omega (arith, h))
+    (all_value f.before value f.behind f.white_before f.is_value f.white_behind)
+    (all_value g.before text g.behind g.white_before g.is_value g.white_behind)
+    (sym (regroup f.before value f.behind (line_end ++ one)) ∙ names.1
+    ∙ regroup g.before text g.behind (line_end ++ two)) in (
+      names.0,
+      value_one f.before value f.behind g.before text g.behind f.white_before f.white_behind
+          g.white_before g.white_behind f.begins_bare f.ends_bare g.begins_bare g.ends_bare
+          texts.0,
+      same_others 10 10 one two texts.1,
+    )
+
+-- and none begins with a carriage return
+pub field_line_begins : (name value bytes rest more : List ℕ) → IsFieldLine name value bytes rest
+    → bytes ≡ 13 ∷ more → ⊥
+field_line_begins [] value bytes rest more line e = omega (arith, line.some_name)
+field_line_begins (n ∷ name) value bytes rest more line e =
+    let P : ℕ → Type 0 = λ b. IsTokenByte b in
+    let never : IsTokenByte 13 → ⊥ = λ h. omega (arith, h) in
+    never (subst P (sym (same_first 13 n more _ (sym e ∙ line.splits)))
+    (All-head IsTokenByte n name line.is_name))
+
+-- ---- a field line as it is read: its text is the value, and white space behind that
+
+pub record IsRead (name text bytes rest : List ℕ) : Type 0 where
+  pub white : List ℕ
+  pub splits : bytes ≡ name ++ 58 ∷ (white ++ (text ++ (line_end ++ rest)))
+  pub some_name : 0 < length name
+  pub is_name : All IsTokenByte name
+  pub is_white : All IsWhite white
+  pub is_value : All IsValueByte text
+  pub bare : BeginsBare text
+
+-- the text without the white space behind it is the value
+pub read_trimmed : (name text value bytes rest : List ℕ) → IsRead name text bytes rest
+    → IsTrimmed value text → IsFieldLine name value bytes rest
+read_trimmed name text value bytes rest line it =
+    let P : List ℕ → Type 0 = λ l. All IsValueByte l in
+    record {
+      before = line.white;
+      behind = it.behind;
+      splits = line.splits
+          ∙ ap (λ l. name ++ 58 ∷ (line.white ++ l)) (ap (λ l. l ++ (line_end ++ rest)) it.splits
+          ∙ append_assoc value it.behind (line_end ++ rest));
+      some_name = line.some_name;
+      is_name = line.is_name;
+      white_before = line.is_white;
+      white_behind = it.white_behind;
+      is_value = All-front IsValueByte value it.behind (subst P it.splits line.is_value);
+      begins_bare = λ b more e white. line.bare b (more ++ it.behind)
+          (it.splits ∙ ap (λ l. l ++ it.behind) e) white;
+      ends_bare = it.ends_bare;
+    }
+  where
+    All-front : (Q : ℕ → Type 0) (xs ys : List ℕ) → All Q (xs ++ ys) → All Q xs
+    All-front Q [] ys all = All-nil Q
+    All-front Q (x ∷ xs) ys all =
+        All-cons Q x xs (All-head Q x (xs ++ ys) all)
+        (All-front Q xs ys (All-tail Q x (xs ++ ys) all))
+
+-- each field line is read with some text
+pub read_some : (name value bytes rest : List ℕ) → IsFieldLine name value bytes rest
+    → (text : List ℕ) × IsRead name text bytes rest
+read_some name [] bytes rest line = (
+  [],
+  record {
+    white = line.before ++ line.behind;
+    splits = line.splits
+        ∙ ap (λ l. name ++ 58 ∷ l) (sym (append_assoc line.before line.behind (line_end ++ rest)));
+    some_name = line.some_name;
+    is_name = line.is_name;
+    is_white =
+        All-append IsWhite line.before line.behind line.white_before line.white_behind;
+    is_value = All-nil IsValueByte;
+    bare = line.begins_bare;
+  },
+)
+read_some name (v ∷ value) bytes rest line = (
+  (v ∷ value) ++ line.behind,
+  record {
+    white = line.before;
+    splits = line.splits
+        ∙ ap (λ l. name ++ 58 ∷ (line.before ++ l))
+        (sym (append_assoc (v ∷ value) line.behind (line_end ++ rest)));
+    some_name = line.some_name;
+    is_name = line.is_name;
+    is_white = line.white_before;
+    is_value = All-append IsValueByte (v ∷ value) line.behind line.is_value
+        (All-weaker IsWhite IsValueByte white_is_value line.behind line.white_behind);
+    bare = λ b more e white. line.begins_bare v value refl
+        (subst IsWhite (sym (same_first v b (value ++ line.behind) more e)) white);
+  },
+)
+
+-- ---- the white space at the end of a text
+
+-- So much was taken off so far.
+pub record IsCut (now text : List ℕ) : Type 0 where
+  pub behind : List ℕ
+  pub splits : text ≡ now ++ behind
+  pub white : All IsWhite behind
+
+pub cut_none : (text : List ℕ) → IsCut text text
+cut_none text = record {
+  behind = [];
+  splits = sym (append-nil text);
+  white = All-nil IsWhite;
+}
+
+-- one byte more
+pub cut_more : (now front text : List ℕ) (b : ℕ) → IsCut now text → now ≡ front ++ b ∷ []
+    → IsWhite b → IsCut front text
+cut_more now front text b it last is = record {
+  behind = b ∷ it.behind;
+  splits = it.splits ∙ ap (λ l. l ++ it.behind) last ∙ append_assoc front (b ∷ []) it.behind;
+  white = All-cons IsWhite b it.behind is it.white;
+}
+
+-- where the last byte is none, or nothing is left, that is all
+pub cut_all : (now text : List ℕ) → IsCut now text → EndsBare now → IsTrimmed now text
+cut_all now text it bare = record {
+  behind = it.behind;
+  splits = it.splits;
+  white_behind = it.white;
+  ends_bare = bare;
+}
+
+pub nothing_bare : (now : List ℕ) → length now ≡ 0 → EndsBare now
+nothing_bare now none = λ b front e white.
+    omega (arith, none, ap (λ l. length l) e, length-append front (b ∷ []))
+
+pub last_bare : (now front : List ℕ) (b : ℕ) → now ≡ front ++ b ∷ [] → (IsWhite b → ⊥)
+    → EndsBare now
+last_bare now front b last not = λ c others e white.
+    not (subst IsWhite (sym (same_from_push front others b c (sym last ∙ e)).1) white)

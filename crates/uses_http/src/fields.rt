@@ -1,0 +1,60 @@
+//! Field lines one behind the other, and the empty line behind them (RFC 9112, section 2.1).
+#![tactic(auto)]
+
+ghost use Rattle.std.specs.Prelude.{◌≡◌, ◌++◌, IfErr, IfOk, IsOk, List, ℕ, map};
+ghost use Rattle.winnow.specs.Kind.{memory};
+ghost use Rattle.uses_http.specs.Bytes.{line_end};
+ghost use Rattle.uses_http.specs.Head.{AreFields, Pair, pair};
+
+use crate::field_line::{Field, read_field_line_in_pieces};
+use std::alloc::Allocator;
+use winnow::error::{EmptyError, ErrMode, HasKind};
+use winnow::prelude::*;
+use winnow::stream::Partial;
+
+/// The empty line behind the fields: a carriage return and a line feed.
+fn read_line_end<'i>(input: &mut Partial<&'i [u8]>) -> Result<(), ErrMode<EmptyError>>
+    ensures line { IfOk result (λ _.
+        (⟦<Partial<&'static [u8]> as Stream>⟧.view input.old).left.tokens
+        ≡ line_end ++ (⟦<Partial<&'static [u8]> as Stream>⟧.view input.new).left.tokens) }
+    ensures accepts { (rest : List ℕ)
+        → (⟦<Partial<&'static [u8]> as Stream>⟧.view input.old).left.tokens ≡ line_end ++ rest
+        → IsOk result }
+{
+    match b"\r\n".as_slice().parse_next(input) {
+        Ok(_) => Ok(()),
+        Err(error) => Err(error),
+    }
+}
+
+/// The fields up to the empty line, and that line.
+pub fn read_fields<'i, A: Allocator + Copy>(
+    alloc: A,
+    input: &mut Partial<&'i [u8]>,
+) -> Result<Vec<Field<'i>, A>, ErrMode<EmptyError>>
+    ensures fields { IfOk result (λ fields. AreFields (map pair fields.items)
+        (⟦<Partial<&'static [u8]> as Stream>⟧.view input.old).left.tokens
+        (⟦<Partial<&'static [u8]> as Stream>⟧.view input.new).left.tokens) }
+    ensures accepts { (fields : List Pair) (rest : List ℕ) → AreFields fields
+        (⟦<Partial<&'static [u8]> as Stream>⟧.view input.old).left.tokens rest
+        → IfErr result (λ error. ⟦<ErrMode<EmptyError> as HasKind>⟧.kind error ≡ memory) }
+{
+    let mut fields = Vec::new(alloc);
+    'fields: loop {
+        let here = *input;
+        match read_field_line_in_pieces(input) {
+            Ok(field) => match fields.push(field) {
+                Ok(()) => (),
+                Err(_) => return Err(ParserError::no_memory(input)),
+            },
+            Err(error) => {
+                *input = here;
+                match read_line_end(input) {
+                    Ok(()) => return Ok(fields),
+                    // Where either asks for more input, so does this.
+                    Err(end) => return Err(ParserError::<Partial<&'i [u8]>>::or(error, end)),
+                }
+            }
+        }
+    }
+}

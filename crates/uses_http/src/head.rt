@@ -1,0 +1,109 @@
+//! The head of a request of HTTP/1.1 (RFC 9112, section 2.1): a request line, field lines one
+//! behind the other, and an empty line.
+#![tactic(auto)]
+
+ghost use Rattle.std.specs.Prelude.{◌≡◌, IfErr, IfOk, List, ℕ, map};
+ghost use Rattle.winnow.specs.Kind.{memory};
+ghost use Rattle.uses_http.specs.Head.{IsHead, Pair, Request, pair, request};
+
+use crate::field_line::Field;
+use crate::fields::read_fields;
+use crate::request_line::{RequestLine, read_request_line_in_pieces};
+use std::alloc::Allocator;
+use winnow::error::{EmptyError, ErrMode, HasKind};
+use winnow::prelude::*;
+use winnow::stream::Partial;
+
+/// A head: its request line, and its fields in order. `A` is the allocator of their list.
+///
+/// ```
+/// use uses_http::head::read_head;
+///
+/// let head = read_head(alloc, &mut b"GET / HTTP/1.1\r\nA: b\r\n\r\n".as_slice());
+/// assert!(rt; matches!(head, Ok(head) if head.fields[0].value == b"b".as_slice()));
+/// ```
+#[derive(Debug, Drop)]
+pub struct Head<'i, A: Allocator> {
+    /// The request line.
+    pub line: RequestLine<'i>,
+    /// The fields, those of one name too, as they stand.
+    pub fields: Vec<Field<'i>, A>,
+}
+
+/// The head with which bytes begin that come in pieces. It answers as soon as the empty line is
+/// there.
+///
+/// An error leaves the input as it was. It is [`Incomplete`](ErrMode::Incomplete) only where no
+/// head stands there and more input may make one, and it wants memory where the list of fields
+/// could not grow.
+///
+/// ```
+/// use uses_http::head::read_head_in_pieces;
+///
+/// let mut input = Partial::new(b"GET / HTTP/1.1\r\nHost: a\r\n".as_slice());
+/// assert!(rt; matches!(read_head_in_pieces(alloc, &mut input), Err(ErrMode::Incomplete(_))));
+/// let mut input = Partial::new(b"GET / HTTP/1.1\r\nHost: a\r\n\r\n".as_slice());
+/// assert!(rt; matches!(read_head_in_pieces(alloc, &mut input), Ok(head) if head.line.major == 1));
+/// ```
+pub fn read_head_in_pieces<'i, A: Allocator + Copy>(
+    alloc: A,
+    input: &mut Partial<&'i [u8]>,
+) -> Result<Head<'i, A>, ErrMode<EmptyError>>
+    ensures head { IfOk result (λ head. IsHead (request head.line) (map pair head.fields.items)
+        (⟦<Partial<&'static [u8]> as Stream>⟧.view input.old).left.tokens
+        (⟦<Partial<&'static [u8]> as Stream>⟧.view input.new).left.tokens) }
+    ensures accepts { (line : Request) (fields : List Pair) (rest : List ℕ) → IsHead line fields
+        (⟦<Partial<&'static [u8]> as Stream>⟧.view input.old).left.tokens rest
+        → IfErr result (λ error. ⟦<ErrMode<EmptyError> as HasKind>⟧.kind error ≡ memory) }
+    ensures stays { IfErr result (λ _. input.new ≡ input.old) }
+{
+    let start = *input;
+    let line = match read_request_line_in_pieces(input) {
+        Ok(line) => line,
+        Err(error) => {
+            *input = start;
+            return Err(error);
+        }
+    };
+    match read_fields(alloc, input) {
+        Ok(fields) => Ok(Head { line, fields }),
+        Err(error) => {
+            *input = start;
+            Err(error)
+        }
+    }
+}
+
+/// The head with which the bytes begin.
+///
+/// An error leaves the input as it was: it wants memory, or says that no head stands there.
+///
+/// ```
+/// use uses_http::head::read_head;
+///
+/// let mut input = b"GET / HTTP/1.1\r\nHost: example.org\r\n\r\nrest".as_slice();
+/// assert!(rt; matches!(read_head(alloc, &mut input), Ok(head) if head.fields.len() == 1));
+/// assert_eq!(rt; input, b"rest".as_slice());
+/// assert!(rt; read_head(alloc, &mut b"GET / HTTP/1.1\r\n".as_slice()).is_err());
+/// ```
+pub fn read_head<'i, A: Allocator + Copy>(
+    alloc: A,
+    input: &mut &'i [u8],
+) -> Result<Head<'i, A>, ErrMode<EmptyError>>
+    ensures head { IfOk result (λ head. IsHead (request head.line) (map pair head.fields.items)
+        input.old.now input.new.now) }
+    ensures accepts { (line : Request) (fields : List Pair) (rest : List ℕ)
+        → IsHead line fields input.old.now rest
+        → IfErr result (λ error. ⟦<ErrMode<EmptyError> as HasKind>⟧.kind error ≡ memory) }
+    ensures stays { IfErr result (λ _. input.new ≡ input.old) }
+{
+    let mut pieces = Partial::new(*input);
+    match read_head_in_pieces(alloc, &mut pieces) {
+        Ok(head) => {
+            *input = pieces.into_inner();
+            Ok(head)
+        }
+        Err(ErrMode::Incomplete(_)) => Err(ParserError::from_input(input)),
+        Err(error) => Err(error),
+    }
+}

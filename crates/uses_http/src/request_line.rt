@@ -1,0 +1,143 @@
+//! The request line of HTTP/1.1 (RFC 9112, section 3): a method, a request target and a version,
+//! with one space before the second and the third, and a line end (a carriage return and a line
+//! feed).
+//!
+//! Section 3.2 of the standard leaves the forms of a target to the grammar of URIs. Here a target
+//! is one visible byte of ASCII or more, so that each target of that grammar is one, and no space
+//! stands in it. The version is two digits: that it is one which the server speaks is no part of
+//! the grammar, and is the caller's to see.
+#![tactic(auto)]
+
+ghost use Rattle.std.specs.Prelude.{◌≡◌, IfOk, IsOk, List, ℕ};
+ghost use Rattle.winnow.specs.TakeWhile.{take_while_occurrences};
+ghost use Rattle.uses_http.specs.Bytes.{line_end};
+ghost use Rattle.uses_http.specs.Ranges.{some_bytes};
+ghost use Rattle.uses_http.specs.RequestLine.{IsRequestLine, protocol};
+
+use crate::sets::{Digits, TokenBytes, Visible};
+use winnow::error::{EmptyError, ErrMode};
+use winnow::prelude::*;
+use winnow::stream::{Partial, Range};
+use winnow::token::impls::{OneOf, TakeWhile};
+use winnow::token::{one_of, take_while};
+
+/// A request line: what it says, as slices of the input.
+///
+/// ```
+/// use uses_http::request_line::RequestLine;
+///
+/// let method = b"GET".as_slice();
+/// let line = RequestLine { method, target: b"/".as_slice(), major: 1, minor: 1 };
+/// assert!(rt; line.major == 1 && line.target.len() == 1);
+/// ```
+#[derive(Clone, Copy, Debug, PartialEq, Drop)]
+pub struct RequestLine<'i> {
+    /// The method, a token of one byte or more.
+    pub method: &'i [u8],
+    /// The request target, one visible byte or more.
+    pub target: &'i [u8],
+    /// The number before the point of the version, below 10.
+    pub major: u8,
+    /// The number behind the point of the version, below 10.
+    pub minor: u8,
+}
+
+/// The parsers of `HTTP/` with the space before it, of the two digits and the point between them,
+/// and of the line end.
+type Version<I, E> = (
+    &'static [u8],
+    OneOf<Digits, I, E>,
+    u8,
+    OneOf<Digits, I, E>,
+    &'static [u8],
+);
+
+/// The parsers of the method, the space behind it, the target, and the rest of a request line.
+type Line<I, E> = (
+    TakeWhile<TokenBytes, I, E>,
+    u8,
+    TakeWhile<Visible, I, E>,
+    Version<I, E>,
+);
+
+/// The parser of a request line.
+fn line<I: StreamIsPartial<Token = u8>, E: ParserError<I>>() -> Line<I, E>
+    ensures method { take_while_occurrences result.0 ≡ some_bytes }
+    ensures space { result.1 ≡ 32 }
+    ensures target { take_while_occurrences result.2 ≡ some_bytes }
+    ensures protocol { result.3.0.now ≡ protocol }
+    ensures point { result.3.2 ≡ 46 }
+    ensures end { result.3.4.now ≡ line_end }
+{
+    (
+        take_while(Range::from(1..), TokenBytes),
+        b' ',
+        take_while(Range::from(1..), Visible),
+        (
+            b" HTTP/".as_slice(),
+            one_of(Digits),
+            b'.',
+            one_of(Digits),
+            b"\r\n".as_slice(),
+        ),
+    )
+}
+
+/// The request line with which the bytes begin.
+///
+/// An error says that none stands there, and the input may then stand behind some bytes of it.
+///
+/// ```
+/// use uses_http::request_line::read_request_line;
+///
+/// let mut input = b"GET /index.html HTTP/1.1\r\nHost: example.org\r\n\r\n".as_slice();
+/// let line = read_request_line(&mut input);
+/// assert!(rt; matches!(line, Ok(line) if line.method == b"GET".as_slice() && line.minor == 1));
+/// assert_eq!(rt; input, b"Host: example.org\r\n\r\n".as_slice());
+/// assert!(rt; read_request_line(&mut b"GET  / HTTP/1.1\r\n".as_slice()).is_err());
+/// ```
+pub fn read_request_line<'i>(input: &mut &'i [u8]) -> Result<RequestLine<'i>, ErrMode<EmptyError>>
+    ensures line { IfOk result (λ line. IsRequestLine line.method.now line.target.now line.major
+        line.minor input.old.now input.new.now) }
+    ensures accepts { (method target : List ℕ) (major minor : ℕ) (rest : List ℕ)
+        → IsRequestLine method target major minor input.old.now rest → IsOk result }
+{
+    match line().parse_next(input) {
+        Ok((method, _, target, (_, major, _, minor, _))) => Ok(RequestLine {
+            method,
+            target,
+            major: major - b'0',
+            minor: minor - b'0',
+        }),
+        Err(error) => Err(error),
+    }
+}
+
+/// The same over bytes that come in pieces: it answers as soon as the line is there.
+///
+/// ```
+/// use uses_http::request_line::read_request_line_in_pieces;
+///
+/// let mut input = Partial::new(b"GET / HT".as_slice());
+/// assert!(rt; matches!(read_request_line_in_pieces(&mut input), Err(ErrMode::Incomplete(_))));
+/// ```
+pub fn read_request_line_in_pieces<'i>(
+    input: &mut Partial<&'i [u8]>,
+) -> Result<RequestLine<'i>, ErrMode<EmptyError>>
+    ensures line { IfOk result (λ line. IsRequestLine line.method.now line.target.now line.major
+        line.minor (⟦<Partial<&'static [u8]> as Stream>⟧.view input.old).left.tokens
+        (⟦<Partial<&'static [u8]> as Stream>⟧.view input.new).left.tokens) }
+    ensures accepts { (method target : List ℕ) (major minor : ℕ) (rest : List ℕ)
+        → IsRequestLine method target major minor
+        (⟦<Partial<&'static [u8]> as Stream>⟧.view input.old).left.tokens rest → IsOk result }
+{
+    match line().parse_next(input) {
+        Ok((method, _, target, (_, major, _, minor, _))) => Ok(RequestLine {
+            method,
+            target,
+            major: major - b'0',
+            minor: minor - b'0',
+        }),
+        Err(error) => Err(error),
+    }
+}
