@@ -1,10 +1,10 @@
 -- The runs of the parsers of a field line, in any input of bytes.
-use Rattle.std.proofs.Common.{◌≡◌, ◌∙◌, ◌++◌, ◌∷◌, ℕ, List, [], None, Ok, Err, ap, append_assoc}
+use Rattle.std.proofs.Common.{◌≡◌, ◌∙◌, ◌++◌, ◌∷◌, ℕ, List, [], None, Ok, Err, true, ap, append_assoc}
 use Rattle.std.proofs.Common.{arith, refl}
 use Rattle.std.specs.Borrow.{Bor}
 use Rattle.std.proofs.lemmas.List.Elements.{All-nil}
 use Rattle.winnow.specs.Form.{modal}
-use Rattle.winnow.specs.Input.{Input}
+use Rattle.winnow.specs.Input.{Input, with_more}
 use Rattle.winnow.specs.Kind.{Kind}
 use Rattle.winnow.specs.Reads.Known.{SliceRuns, TokenRuns, slice_leaves, slice_reads}
 use Rattle.winnow.specs.Reads.Known.{token_leaves, token_reads}
@@ -13,12 +13,17 @@ use Rattle.winnow.specs.Reads.SequencesLeave.{sequence5_leaves}
 use Rattle.winnow.specs.Runs.{Runs}
 use Rattle.winnow.specs.Sequence.{SequenceRuns5}
 use Rattle.winnow.specs.Sequence.Known.{sequence5_ok}
+use Rattle.winnow.specs.Stable.{IsFinalKind}
+use Rattle.winnow.specs.Stable.Grows.{Grows}
+use Rattle.winnow.specs.Stable.LargeTuples.{sequence5_grows}
 use Rattle.winnow.specs.TakeWhile.Known.{TakesOf, take_leaves, take_reads, tells_of, took_by}
 use Rattle.winnow.specs.TakeWhile.Known.{took_stops}
 use Rattle.winnow.specs.{Range}
 use Rattle.uses_http.specs.Bytes.{IsTokenByte, IsValueByte, IsWhite, line_end}
 use Rattle.uses_http.specs.Ranges.{any_bytes, some_bytes}
-use Rattle.uses_http.proofs.Values.{IsRead}
+use Rattle.uses_http.specs.FieldLine.{NoFieldLine}
+use Rattle.uses_http.proofs.Longer.{anything, fails_longer, slice_grows, take_grows, token_grows}
+use Rattle.uses_http.proofs.Values.{IsRead, read_some}
 
 -- what the five parsers mean, and the states in which `line` makes them
 abbrev pub States : Type 0 → Type 0 → Type 0 → Type 0
@@ -91,3 +96,18 @@ line_must s i t j name (v ∷ text) rest made line ran =
     line.is_value (λ h. omega (arith, h)) (omega arith))
     (slice_leaves modal line_end rest s.4 made.4) in
     absurd (must.answers i _ t j line.splits ran)
+
+-- where they fail for good on a cut input, no longer one begins with a field line
+line_grows : {A B C : Type 0} → Grows anything (LineMeans {A = A} {B = B} {C = C})
+line_grows =
+    sequence5_grows (take_grows IsTokenByte) token_grows (take_grows IsWhite)
+    (take_grows IsValueByte) slice_grows
+
+pub line_never : {A B C : Type 0} (k : Kind) (s : States A B C) (i : Input ℕ)
+    (t : States A B C) (j : Input ℕ) → IsMade s → i.status.cut ≡ true
+    → i.left.possible ≡ true → IsFinalKind k → LineMeans s i (Err k) t j
+    → NoFieldLine i.left.tokens
+line_never k s i t j made is_cut possible final ran name value more rest line =
+    let some = read_some name value (i.left.tokens ++ more) rest line in
+    line_must s (with_more i more true) t (with_more j more true) name some.0 rest made some.1
+    (fails_longer k s i t j line_grows is_cut possible final ran more)

@@ -1,11 +1,13 @@
 -- Heads: bytes begin with one at most.
-use Rattle.std.proofs.Common.{◌≡◌, ◌∙◌, ◌++◌, ◌∷◌, ◌+◌, ◌<◌, ℕ, List, [], ap, arith, length}
+use Rattle.std.proofs.Common.{◌≡◌, ◌∙◌, ◌++◌, ◌∷◌, ◌+◌, ◌<◌, ℕ, List, [], ap, append_assoc, arith}
+use Rattle.std.proofs.Common.{length}
 use Rattle.std.proofs.Common.{length-append, map, refl, subst, sym}
 use Rattle.std.proofs.lemmas.List.{map_push}
 use Rattle.uses_http.specs.Bytes.{IsTokenByte, IsVisible, line_end}
-use Rattle.uses_http.specs.FieldLine.{IsFieldLine}
-use Rattle.uses_http.specs.Head.{AreFieldLines, AreFields, IsHead, Pair, Request, pair}
-use Rattle.uses_http.specs.RequestLine.{IsRequestLine, digits}
+use Rattle.uses_http.specs.FieldLine.{IsFieldLine, NoFieldLine}
+use Rattle.uses_http.specs.Head.{AreFieldLines, AreFields, IsHead, NoFields, NoHead, Pair}
+use Rattle.uses_http.specs.Head.{Request, pair}
+use Rattle.uses_http.specs.RequestLine.{IsRequestLine, NoRequestLine, digits}
 use Rattle.uses_http.specs.declared.field_line.Field.{Field}
 use Rattle.uses_http.proofs.Texts.{one_text}
 use Rattle.uses_http.proofs.Values.{field_line_begins, field_line_one}
@@ -164,3 +166,70 @@ read_less name value now rest line =
       length-append value (line.behind ++ (line_end ++ rest)),
       length-append line.behind (line_end ++ rest),
     )
+
+-- ---- what begins with none, whatever comes behind it
+
+field_line_longer : (name value bytes rest more : List ℕ) → IsFieldLine name value bytes rest
+    → IsFieldLine name value (bytes ++ more) (rest ++ more)
+field_line_longer name value bytes rest more line =
+    let splits : bytes ++ more
+    ≡ (name ++ 58 ∷ (line.before ++ (value ++ (line.behind ++ (line_end ++ rest))))) ++ more =
+    ap (λ l. l ++ more) line.splits in
+    record {
+      before = line.before;
+      behind = line.behind;
+      splits = simp append_assoc at splits;
+      some_name = line.some_name;
+      is_name = line.is_name;
+      white_before = line.white_before;
+      white_behind = line.white_behind;
+      is_value = line.is_value;
+      begins_bare = line.begins_bare;
+      ends_bare = line.ends_bare;
+    }
+
+request_line_longer : (m g : List ℕ) (a b : ℕ) (bytes rest more : List ℕ)
+    → IsRequestLine m g a b bytes rest → IsRequestLine m g a b (bytes ++ more) (rest ++ more)
+request_line_longer m g a b bytes rest more line =
+    let splits : bytes ++ more ≡ (m ++ 32 ∷ (g ++ 32 ∷ behind_target a b rest)) ++ more =
+    ap (λ l. l ++ more) line.splits in
+    record {
+      splits = simp append_assoc at splits;
+      some_method = line.some_method;
+      is_method = line.is_method;
+      some_target = line.some_target;
+      is_target = line.is_target;
+      is_major = line.is_major;
+      is_minor = line.is_minor;
+    }
+
+lines_longer : (fields : List Pair) (bytes rest more : List ℕ)
+    → AreFieldLines fields bytes rest → AreFieldLines fields (bytes ++ more) (rest ++ more)
+lines_longer [] bytes rest more e = ap (λ l. l ++ more) e
+lines_longer (f ∷ fields) bytes rest more (behind, line, lines) = (
+  behind ++ more,
+  field_line_longer f.0 f.1 bytes behind more line,
+  lines_longer fields behind rest more lines,
+)
+
+-- behind some field lines there is neither one more nor the empty line
+pub fields_never : (fields : List Pair) (bytes now : List ℕ) → AreFieldLines fields bytes now
+    → NoFieldLine now → ((more rest : List ℕ) → now ++ more ≡ line_end ++ rest → ⊥)
+    → NoFields bytes
+fields_never fields bytes now lines no_line no_end others more rest it =
+    no_end more rest
+    (ended_behind fields others (bytes ++ more) (now ++ more) rest
+    (lines_longer fields bytes now more lines) it
+    (λ name value behind line. no_line name value more behind line))
+
+-- no request line stands first, or behind one no fields
+pub line_lacks : (bytes : List ℕ) → NoRequestLine bytes → NoHead bytes
+line_lacks bytes none line fields more rest head =
+    none line.method line.target line.major line.minor more head.behind head.is_line
+
+pub fields_lack : (m g : List ℕ) (a b : ℕ) (bytes now : List ℕ)
+    → IsRequestLine m g a b bytes now → NoFields now → NoHead bytes
+fields_lack m g a b bytes now read none line fields more rest head =
+    none fields more rest
+    (head_fields line fields m g a b (bytes ++ more) (now ++ more) rest head
+    (request_line_longer m g a b bytes now more read))

@@ -1,10 +1,12 @@
 -- The runs of a literal by value that is known, in any input of bytes.
-use Rattle.std.proofs.Common.{◌≡◌, ◌++◌, ℕ, List, Ok, Err}
+use Rattle.std.proofs.Common.{◌≡◌, ◌++◌, ℕ, List, Ok, Err, true}
 use Rattle.std.specs.Borrow.{Bor}
 use Rattle.winnow.specs.Form.{modal}
-use Rattle.winnow.specs.Input.{Input}
+use Rattle.winnow.specs.Input.{Input, with_more}
 use Rattle.winnow.specs.Kind.{Kind}
 use Rattle.winnow.specs.Reads.Known.{SliceRuns, slice_leaves, slice_reads}
+use Rattle.winnow.specs.Stable.{IsFinalKind}
+use Rattle.uses_http.proofs.Longer.{fails_longer, slice_grows}
 
 -- what is answered stood first
 pub end_read : (text : List ℕ) (s : Bor (List ℕ)) (i : Input ℕ) (o : Bor (List ℕ))
@@ -18,3 +20,12 @@ pub end_must : {X : Type 0} (text rest : List ℕ) (s : Bor (List ℕ)) (i : Inp
     → SliceRuns modal s i (Err k) t j → X
 end_must text rest s i k t j is begins ran =
     absurd ((slice_leaves modal text rest s is).answers i k t j begins ran)
+
+-- where it fails for good on a cut input, no longer one begins with it
+pub end_never : (text : List ℕ) (k : Kind) (s : Bor (List ℕ)) (i : Input ℕ) (t : Bor (List ℕ))
+    (j : Input ℕ) → s.now ≡ text → i.status.cut ≡ true → i.left.possible ≡ true → IsFinalKind k
+    → SliceRuns modal s i (Err k) t j
+    → (more rest : List ℕ) → i.left.tokens ++ more ≡ text ++ rest → ⊥
+end_never text k s i t j is is_cut possible final ran more rest begins =
+    end_must text rest s (with_more i more true) k t (with_more j more true) is begins
+    (fails_longer k s i t j slice_grows is_cut possible final ran more)

@@ -1,10 +1,10 @@
 -- The runs of the parsers of a request line, in any input of bytes.
-use Rattle.std.proofs.Common.{◌≡◌, ◌∙◌, ◌+◌, ◌-◌, ◌++◌, ◌∷◌, ℕ, List, Ok, Err, ap, append_assoc}
+use Rattle.std.proofs.Common.{◌≡◌, ◌∙◌, ◌+◌, ◌-◌, ◌++◌, ◌∷◌, ℕ, List, Ok, Err, true, ap, append_assoc}
 use Rattle.std.proofs.Common.{arith, refl}
 use Rattle.std.specs.Borrow.{Bor}
 use Rattle.std.specs.Prelude.{⊤}
 use Rattle.winnow.specs.Form.{modal}
-use Rattle.winnow.specs.Input.{Input}
+use Rattle.winnow.specs.Input.{Input, with_more}
 use Rattle.winnow.specs.Kind.{Kind}
 use Rattle.winnow.specs.Reads.{Reads}
 use Rattle.winnow.specs.Reads.Known.{SliceRuns, TokenRuns, slice_leaves, slice_reads}
@@ -13,11 +13,17 @@ use Rattle.winnow.specs.Reads.Sequences.{sequence4_reads, sequence5_reads}
 use Rattle.winnow.specs.Reads.SequencesLeave.{sequence4_leaves, sequence5_leaves}
 use Rattle.winnow.specs.Runs.{Runs}
 use Rattle.winnow.specs.Sequence.{SequenceRuns4, SequenceRuns5}
+use Rattle.winnow.specs.Stable.{IsFinalKind}
+use Rattle.winnow.specs.Stable.Grows.{Grows}
+use Rattle.winnow.specs.Stable.LargeTuples.{sequence5_grows}
+use Rattle.winnow.specs.Stable.Tuples.{sequence4_grows}
 use Rattle.winnow.specs.TakeWhile.Known.{TakesOf, take_leaves, take_reads}
 use Rattle.winnow.specs.{Range}
 use Rattle.uses_http.specs.Bytes.{IsDigit, IsTokenByte, IsVisible, line_end}
 use Rattle.uses_http.specs.Ranges.{some_bytes}
-use Rattle.uses_http.specs.RequestLine.{IsRequestLine, digits, protocol}
+use Rattle.uses_http.specs.RequestLine.{IsRequestLine, NoRequestLine, digits, protocol}
+use Rattle.uses_http.proofs.Longer.{anything, fails_longer, member_grows, slice_grows, take_grows}
+use Rattle.uses_http.proofs.Longer.{token_grows}
 use Rattle.uses_http.proofs.Members.{MemberOf, member_leaves, member_reads}
 
 -- what the parsers of a version mean, and those of a line, and the states in which `line` makes
@@ -114,3 +120,19 @@ line_must s i t j m g a b rest made line ran =
     (omega arith, omega (arith, line.is_minor)))
     (slice_leaves modal line_end rest s.3.4 made.3.4)) in
     absurd (must.answers i _ t j line.splits ran)
+
+-- where they fail for good on a cut input, no longer one begins with a request line
+line_grows : {A B C D : Type 0}
+    → Grows anything (LineMeans {A = A} {B = B} {C = C} {D = D})
+line_grows =
+    sequence4_grows (take_grows IsTokenByte) token_grows (take_grows IsVisible)
+    (sequence5_grows slice_grows (member_grows IsDigit) token_grows (member_grows IsDigit)
+    slice_grows)
+
+pub line_never : {A B C D : Type 0} (k : Kind) (s : States A B C D) (i : Input ℕ)
+    (t : States A B C D) (j : Input ℕ) → IsMade s → i.status.cut ≡ true
+    → i.left.possible ≡ true → IsFinalKind k → LineMeans s i (Err k) t j
+    → NoRequestLine i.left.tokens
+line_never k s i t j made is_cut possible final ran m g a b more rest line =
+    line_must s (with_more i more true) t (with_more j more true) m g a b rest made line
+    (fails_longer k s i t j line_grows is_cut possible final ran more)

@@ -31,3 +31,8 @@ pub record IsTrimmed (value text : List ℕ) : Type 0 where
   pub splits : text ≡ value ++ behind
   pub white_behind : All IsWhite behind
   pub ends_bare : EndsBare value
+
+-- Whatever comes behind the bytes, they begin with no field line.
+abbrev pub NoFieldLine : List ℕ → Type 0
+NoFieldLine bytes =
+    (name value more rest : List ℕ) → IsFieldLine name value (bytes ++ more) rest → ⊥

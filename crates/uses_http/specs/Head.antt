@@ -49,3 +49,14 @@ pub record IsHead (line : Request) (fields : List Pair) (bytes rest : List ℕ) 
   pub behind : List ℕ
   pub is_line : IsRequestLine line.method line.target line.major line.minor bytes behind
   pub are_fields : AreFields fields behind rest
+
+-- Whatever comes behind the bytes, they do not begin with fields and an empty line.
+abbrev pub NoFields : List ℕ → Type 0
+NoFields bytes =
+    (fields : List Pair) (more rest : List ℕ) → AreFields fields (bytes ++ more) rest → ⊥
+
+-- Whatever comes behind the bytes, they begin with no head.
+abbrev pub NoHead : List ℕ → Type 0
+NoHead bytes =
+    (line : Request) (fields : List Pair) (more rest : List ℕ)
+    → IsHead line fields (bytes ++ more) rest → ⊥

@@ -22,3 +22,9 @@ pub record IsRequestLine (method target : List ℕ) (major minor : ℕ) (bytes r
   pub is_target : All IsVisible target
   pub is_major : major < 10
   pub is_minor : minor < 10
+
+-- Whatever comes behind the bytes, they begin with no request line.
+abbrev pub NoRequestLine : List ℕ → Type 0
+NoRequestLine bytes =
+    (method target : List ℕ) (major minor : ℕ) (more rest : List ℕ)
+    → IsRequestLine method target major minor (bytes ++ more) rest → ⊥

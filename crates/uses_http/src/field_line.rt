@@ -2,14 +2,17 @@
 //! (a carriage return and a line feed). White space may stand before the value and behind it.
 #![tactic(auto)]
 
-ghost use Rattle.std.specs.Prelude.{◌≡◌, IfOk, IsOk, List, ℕ};
+ghost use Rattle.std.specs.Prelude.{◌≡◌, IfErr, IfOk, IsOk, List, ℕ, true};
+ghost use Rattle.winnow.specs.Bytes.{bytes_input, bytes_reading};
+ghost use Rattle.winnow.specs.Input.{IsEndOf};
+ghost use Rattle.winnow.specs.Stable.{IsFinalKind};
 ghost use Rattle.winnow.specs.TakeWhile.{take_while_occurrences};
 ghost use Rattle.uses_http.specs.Bytes.{line_end};
-ghost use Rattle.uses_http.specs.FieldLine.{IsFieldLine, IsTrimmed};
+ghost use Rattle.uses_http.specs.FieldLine.{IsFieldLine, IsTrimmed, NoFieldLine};
 ghost use Rattle.uses_http.specs.Ranges.{any_bytes, some_bytes};
 
 use crate::sets::{TokenBytes, ValueBytes, White};
-use winnow::error::{EmptyError, ErrMode};
+use winnow::error::{EmptyError, ErrMode, HasKind};
 use winnow::prelude::*;
 use winnow::stream::{Partial, Range};
 use winnow::token::impls::TakeWhile;
@@ -76,8 +79,8 @@ fn trimmed<'i>(text: &'i [u8]) -> &'i [u8]
 ///
 /// The name is a token of one byte or more. The value is of visible bytes, spaces, tabs and bytes
 /// of 128 and above; it may have no bytes. Spaces and tabs may stand before it and behind it, and
-/// are no part of it. An error says that no field line stands there, and the input may then stand
-/// behind some bytes of it.
+/// are no part of it. An error says that no field line stands there; some bytes may then have been
+/// passed.
 ///
 /// ```
 /// use uses_http::field_line::read_field_line;
@@ -94,6 +97,7 @@ pub fn read_field_line<'i>(input: &mut &'i [u8]) -> Result<Field<'i>, ErrMode<Em
         IsFieldLine field.name.now field.value.now input.old.now input.new.now) }
     ensures accepts { (name value rest : List ℕ)
         → IsFieldLine name value input.old.now rest → IsOk result }
+    ensures ends { IsEndOf bytes_reading (bytes_input input.new.now) (bytes_input input.old.now) }
 {
     match line().parse_next(input) {
         Ok((name, _, _, text, _)) => Ok(Field {
@@ -104,7 +108,8 @@ pub fn read_field_line<'i>(input: &mut &'i [u8]) -> Result<Field<'i>, ErrMode<Em
     }
 }
 
-/// The same over bytes that come in pieces: it answers as soon as the line is there.
+/// The same over bytes that come in pieces: it answers as soon as the line is there. An error that
+/// is not [`Incomplete`](ErrMode::Incomplete) says that more input makes none either.
 ///
 /// ```
 /// use uses_http::field_line::read_field_line_in_pieces;
@@ -120,6 +125,11 @@ pub fn read_field_line_in_pieces<'i>(
         (⟦<Partial<&'static [u8]> as Stream>⟧.view input.new).left.tokens) }
     ensures accepts { (name value rest : List ℕ) → IsFieldLine name value
         (⟦<Partial<&'static [u8]> as Stream>⟧.view input.old).left.tokens rest → IsOk result }
+    ensures never { IfErr result (λ error. IsFinalKind (⟦<ErrMode<EmptyError> as HasKind>⟧.kind error)
+        → (⟦<Partial<&'static [u8]> as Stream>⟧.view input.old).status.cut ≡ true
+        → NoFieldLine (⟦<Partial<&'static [u8]> as Stream>⟧.view input.old).left.tokens) }
+    ensures ends { IsEndOf bytes_reading (⟦<Partial<&'static [u8]> as Stream>⟧.view input.new)
+        (⟦<Partial<&'static [u8]> as Stream>⟧.view input.old) }
 {
     match line().parse_next(input) {
         Ok((name, _, _, text, _)) => Ok(Field {

@@ -1,10 +1,13 @@
 //! Field lines one behind the other, and the empty line behind them (RFC 9112, section 2.1).
 #![tactic(auto)]
 
-ghost use Rattle.std.specs.Prelude.{◌≡◌, ◌++◌, IfErr, IfOk, IsOk, List, ℕ, map};
+ghost use Rattle.std.specs.Prelude.{◌≡◌, ◌++◌, IfErr, IfOk, IsOk, List, ℕ, map, true};
+ghost use Rattle.winnow.specs.Bytes.{bytes_reading};
+ghost use Rattle.winnow.specs.Input.{IsEndOf};
 ghost use Rattle.winnow.specs.Kind.{memory};
+ghost use Rattle.winnow.specs.Stable.{IsFinalKind};
 ghost use Rattle.uses_http.specs.Bytes.{line_end};
-ghost use Rattle.uses_http.specs.Head.{AreFields, Pair, pair};
+ghost use Rattle.uses_http.specs.Head.{AreFields, NoFields, Pair, pair};
 
 use crate::field_line::{Field, read_field_line_in_pieces};
 use std::alloc::Allocator;
@@ -20,6 +23,13 @@ fn read_line_end<'i>(input: &mut Partial<&'i [u8]>) -> Result<(), ErrMode<EmptyE
     ensures accepts { (rest : List ℕ)
         → (⟦<Partial<&'static [u8]> as Stream>⟧.view input.old).left.tokens ≡ line_end ++ rest
         → IsOk result }
+    ensures never { IfErr result (λ error. IsFinalKind (⟦<ErrMode<EmptyError> as HasKind>⟧.kind error)
+        → (⟦<Partial<&'static [u8]> as Stream>⟧.view input.old).status.cut ≡ true
+        → (more rest : List ℕ)
+        → (⟦<Partial<&'static [u8]> as Stream>⟧.view input.old).left.tokens ++ more
+        ≡ line_end ++ rest → ⊥) }
+    ensures ends { IsEndOf bytes_reading (⟦<Partial<&'static [u8]> as Stream>⟧.view input.new)
+        (⟦<Partial<&'static [u8]> as Stream>⟧.view input.old) }
 {
     match b"\r\n".as_slice().parse_next(input) {
         Ok(_) => Ok(()),
@@ -38,6 +48,9 @@ pub fn read_fields<'i, A: Allocator + Copy>(
     ensures accepts { (fields : List Pair) (rest : List ℕ) → AreFields fields
         (⟦<Partial<&'static [u8]> as Stream>⟧.view input.old).left.tokens rest
         → IfErr result (λ error. ⟦<ErrMode<EmptyError> as HasKind>⟧.kind error ≡ memory) }
+    ensures never { IfErr result (λ error. IsFinalKind (⟦<ErrMode<EmptyError> as HasKind>⟧.kind error)
+        → (⟦<Partial<&'static [u8]> as Stream>⟧.view input.old).status.cut ≡ true
+        → NoFields (⟦<Partial<&'static [u8]> as Stream>⟧.view input.old).left.tokens) }
 {
     let mut fields = Vec::new(alloc);
     'fields: loop {

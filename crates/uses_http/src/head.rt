@@ -2,9 +2,10 @@
 //! behind the other, and an empty line.
 #![tactic(auto)]
 
-ghost use Rattle.std.specs.Prelude.{◌≡◌, IfErr, IfOk, List, ℕ, map};
-ghost use Rattle.winnow.specs.Kind.{memory};
-ghost use Rattle.uses_http.specs.Head.{IsHead, Pair, Request, pair, request};
+ghost use Rattle.std.specs.Prelude.{◌≡◌, ◌⊎◌, IfErr, IfOk, List, ℕ, map, true};
+ghost use Rattle.winnow.specs.Kind.{backtrack, memory};
+ghost use Rattle.winnow.specs.Stable.{IsFinalKind};
+ghost use Rattle.uses_http.specs.Head.{IsHead, NoHead, Pair, Request, pair, request};
 
 use crate::field_line::Field;
 use crate::fields::read_fields;
@@ -33,9 +34,9 @@ pub struct Head<'i, A: Allocator> {
 /// The head with which bytes begin that come in pieces. It answers as soon as the empty line is
 /// there.
 ///
-/// An error leaves the input as it was. It is [`Incomplete`](ErrMode::Incomplete) only where no
-/// head stands there and more input may make one, and it wants memory where the list of fields
-/// could not grow.
+/// An error leaves the input as it was. One that wants memory says that the list of fields could not
+/// grow, [`Incomplete`](ErrMode::Incomplete) that no head stands there, and each other error that
+/// more input makes none either.
 ///
 /// ```
 /// use uses_http::head::read_head_in_pieces;
@@ -55,6 +56,9 @@ pub fn read_head_in_pieces<'i, A: Allocator + Copy>(
     ensures accepts { (line : Request) (fields : List Pair) (rest : List ℕ) → IsHead line fields
         (⟦<Partial<&'static [u8]> as Stream>⟧.view input.old).left.tokens rest
         → IfErr result (λ error. ⟦<ErrMode<EmptyError> as HasKind>⟧.kind error ≡ memory) }
+    ensures never { IfErr result (λ error. IsFinalKind (⟦<ErrMode<EmptyError> as HasKind>⟧.kind error)
+        → (⟦<Partial<&'static [u8]> as Stream>⟧.view input.old).status.cut ≡ true
+        → NoHead (⟦<Partial<&'static [u8]> as Stream>⟧.view input.old).left.tokens) }
     ensures stays { IfErr result (λ _. input.new ≡ input.old) }
 {
     let start = *input;
@@ -95,6 +99,8 @@ pub fn read_head<'i, A: Allocator + Copy>(
     ensures accepts { (line : Request) (fields : List Pair) (rest : List ℕ)
         → IsHead line fields input.old.now rest
         → IfErr result (λ error. ⟦<ErrMode<EmptyError> as HasKind>⟧.kind error ≡ memory) }
+    ensures fails { IfErr result (λ error. (⟦<ErrMode<EmptyError> as HasKind>⟧.kind error ≡ backtrack)
+        ⊎ (⟦<ErrMode<EmptyError> as HasKind>⟧.kind error ≡ memory)) }
     ensures stays { IfErr result (λ _. input.new ≡ input.old) }
 {
     let mut pieces = Partial::new(*input);
@@ -103,7 +109,12 @@ pub fn read_head<'i, A: Allocator + Copy>(
             *input = pieces.into_inner();
             Ok(head)
         }
-        Err(ErrMode::Incomplete(_)) => Err(ParserError::from_input(input)),
-        Err(error) => Err(error),
+        Err(error) => {
+            if ParserError::<&'i [u8]>::is_memory(&error) {
+                Err(error)
+            } else {
+                Err(ParserError::from_input(input))
+            }
+        }
     }
 }

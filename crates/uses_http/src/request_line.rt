@@ -1,21 +1,22 @@
 //! The request line of HTTP/1.1 (RFC 9112, section 3): a method, a request target and a version,
-//! with one space before the second and the third, and a line end (a carriage return and a line
-//! feed).
+//! with one space between them, and a line end (a carriage return and a line feed).
 //!
 //! Section 3.2 of the standard leaves the forms of a target to the grammar of URIs. Here a target
 //! is one visible byte of ASCII or more, so that each target of that grammar is one, and no space
-//! stands in it. The version is two digits: that it is one which the server speaks is no part of
-//! the grammar, and is the caller's to see.
+//! stands in it. The version is two digits; whether the server speaks it is the caller's to see.
 #![tactic(auto)]
 
-ghost use Rattle.std.specs.Prelude.{◌≡◌, IfOk, IsOk, List, ℕ};
+ghost use Rattle.std.specs.Prelude.{◌≡◌, IfErr, IfOk, IsOk, List, ℕ, true};
+ghost use Rattle.winnow.specs.Bytes.{bytes_input, bytes_reading};
+ghost use Rattle.winnow.specs.Input.{IsEndOf};
+ghost use Rattle.winnow.specs.Stable.{IsFinalKind};
 ghost use Rattle.winnow.specs.TakeWhile.{take_while_occurrences};
 ghost use Rattle.uses_http.specs.Bytes.{line_end};
 ghost use Rattle.uses_http.specs.Ranges.{some_bytes};
-ghost use Rattle.uses_http.specs.RequestLine.{IsRequestLine, protocol};
+ghost use Rattle.uses_http.specs.RequestLine.{IsRequestLine, NoRequestLine, protocol};
 
 use crate::sets::{Digits, TokenBytes, Visible};
-use winnow::error::{EmptyError, ErrMode};
+use winnow::error::{EmptyError, ErrMode, HasKind};
 use winnow::prelude::*;
 use winnow::stream::{Partial, Range};
 use winnow::token::impls::{OneOf, TakeWhile};
@@ -26,8 +27,7 @@ use winnow::token::{one_of, take_while};
 /// ```
 /// use uses_http::request_line::RequestLine;
 ///
-/// let method = b"GET".as_slice();
-/// let line = RequestLine { method, target: b"/".as_slice(), major: 1, minor: 1 };
+/// let line = RequestLine { method: b"GET", target: b"/", major: 1, minor: 1 };
 /// assert!(rt; line.major == 1 && line.target.len() == 1);
 /// ```
 #[derive(Clone, Copy, Debug, PartialEq, Drop)]
@@ -42,8 +42,7 @@ pub struct RequestLine<'i> {
     pub minor: u8,
 }
 
-/// The parsers of `HTTP/` with the space before it, of the two digits and the point between them,
-/// and of the line end.
+/// The parsers of `HTTP/` behind a space, of the two digits and their point, and of the line end.
 type Version<I, E> = (
     &'static [u8],
     OneOf<Digits, I, E>,
@@ -85,7 +84,7 @@ fn line<I: StreamIsPartial<Token = u8>, E: ParserError<I>>() -> Line<I, E>
 
 /// The request line with which the bytes begin.
 ///
-/// An error says that none stands there, and the input may then stand behind some bytes of it.
+/// An error says that none stands there; some bytes may then have been passed.
 ///
 /// ```
 /// use uses_http::request_line::read_request_line;
@@ -101,6 +100,7 @@ pub fn read_request_line<'i>(input: &mut &'i [u8]) -> Result<RequestLine<'i>, Er
         line.minor input.old.now input.new.now) }
     ensures accepts { (method target : List ℕ) (major minor : ℕ) (rest : List ℕ)
         → IsRequestLine method target major minor input.old.now rest → IsOk result }
+    ensures ends { IsEndOf bytes_reading (bytes_input input.new.now) (bytes_input input.old.now) }
 {
     match line().parse_next(input) {
         Ok((method, _, target, (_, major, _, minor, _))) => Ok(RequestLine {
@@ -113,7 +113,8 @@ pub fn read_request_line<'i>(input: &mut &'i [u8]) -> Result<RequestLine<'i>, Er
     }
 }
 
-/// The same over bytes that come in pieces: it answers as soon as the line is there.
+/// The same over bytes that come in pieces: it answers as soon as the line is there. An error that
+/// is not [`Incomplete`](ErrMode::Incomplete) says that more input makes none either.
 ///
 /// ```
 /// use uses_http::request_line::read_request_line_in_pieces;
@@ -130,6 +131,11 @@ pub fn read_request_line_in_pieces<'i>(
     ensures accepts { (method target : List ℕ) (major minor : ℕ) (rest : List ℕ)
         → IsRequestLine method target major minor
         (⟦<Partial<&'static [u8]> as Stream>⟧.view input.old).left.tokens rest → IsOk result }
+    ensures never { IfErr result (λ error. IsFinalKind (⟦<ErrMode<EmptyError> as HasKind>⟧.kind error)
+        → (⟦<Partial<&'static [u8]> as Stream>⟧.view input.old).status.cut ≡ true
+        → NoRequestLine (⟦<Partial<&'static [u8]> as Stream>⟧.view input.old).left.tokens) }
+    ensures ends { IsEndOf bytes_reading (⟦<Partial<&'static [u8]> as Stream>⟧.view input.new)
+        (⟦<Partial<&'static [u8]> as Stream>⟧.view input.old) }
 {
     match line().parse_next(input) {
         Ok((method, _, target, (_, major, _, minor, _))) => Ok(RequestLine {

@@ -1,4 +1,5 @@
-use Rattle.uses_http.proofs.FieldLines.{line_must, line_read}
+use Rattle.std.proofs.Common.{refl}
+use Rattle.uses_http.proofs.FieldLines.{line_must, line_never, line_read}
 use Rattle.uses_http.proofs.Values.{read_some, read_trimmed}
 use Rattle.uses_http.proofs.field_line.read_field_line_in_pieces.Goals as goal
 
@@ -14,4 +15,10 @@ returns-in-Err-clause-accepts c name value rest line =
     let is = c.line.ensures in
     let some = read_some name value _ rest line in
     line_must _ _ _ _ name some.0 rest (is.name, is.colon, is.white, is.value, is.end) some.1
+    c.in-Err.ensures.ran
+
+pub returns-in-Err-clause-never : goal.returns-in-Err-clause-never
+returns-in-Err-clause-never c final is_cut =
+    let is = c.line.ensures in
+    line_never _ _ _ _ _ (is.name, is.colon, is.white, is.value, is.end) is_cut refl final
     c.in-Err.ensures.ran

@@ -1,15 +1,26 @@
-use Rattle.std.proofs.Common.{sym}
+use Rattle.std.proofs.Common.{sym, ◌∙◌}
 use Rattle.std.proofs.lemmas.Bool.{true≢false}
-use Rattle.uses_http.proofs.Heads.{ended_behind, read_more}
+use Rattle.uses_http.proofs.Heads.{ended_behind, fields_never, read_more}
+use Rattle.uses_http.proofs.Longer.{both_final}
 use Rattle.uses_http.proofs.fields.read_fields.Goals as goal
 
 pub fields-preserved : goal.fields-preserved
-fields-preserved g c =
-    read_more _ _ c.in-Ok.field _ _ _ c.fields.invariant c.in-Ok.ensures.line
-    c.in-Ok-push.ensures.items
+fields-preserved g c = record {
+  lines =
+      read_more _ _ c.in-Ok.field _ _ _ c.fields.invariant.lines c.in-Ok.ensures.line
+      c.in-Ok-push.ensures.items;
+  cut = c.in-Ok.ensures.ends.cut ∙ c.fields.invariant.cut;
+}
 
 pub returns-in-Err-read_line_end-clause-accepts : goal.returns-in-Err-read_line_end-clause-accepts
 returns-in-Err-read_line_end-clause-accepts g c fields rest it =
     absurd (true≢false (sym (c.in-Err-read_line_end.ensures.accepts rest
-    (ended_behind _ fields _ _ rest c.fields.invariant it (λ name value more line.
+    (ended_behind _ fields _ _ rest c.fields.invariant.lines it (λ name value more line.
     true≢false (sym (c.in-Err.ensures.accepts name value more line)))))))
+
+pub returns-in-Err-read_line_end-clause-never : goal.returns-in-Err-read_line_end-clause-never
+returns-in-Err-read_line_end-clause-never g c final is_cut =
+    let both = both_final _ _ _ c.or.ensures final in
+    let still = c.fields.invariant.cut ∙ is_cut in
+    fields_never _ _ _ c.fields.invariant.lines (c.in-Err.ensures.never both.0 still)
+    (c.in-Err-read_line_end.ensures.never both.1 still)

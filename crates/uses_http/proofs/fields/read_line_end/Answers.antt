@@ -1,6 +1,6 @@
-use Rattle.std.proofs.Common.{rules}
+use Rattle.std.proofs.Common.{refl, rules}
 use Rattle.uses_http.specs.Bytes.{line_end}
-use Rattle.uses_http.proofs.LineEnds.{end_must, end_read}
+use Rattle.uses_http.proofs.LineEnds.{end_must, end_never, end_read}
 use Rattle.uses_http.proofs.fields.read_line_end.Goals as goal
 
 pub returns-in-Ok-clause-line : goal.returns-in-Ok-clause-line
@@ -9,3 +9,7 @@ returns-in-Ok-clause-line c = end_read line_end _ _ _ _ _ (search rules) c.in-Ok
 pub returns-in-Err-clause-accepts : goal.returns-in-Err-clause-accepts
 returns-in-Err-clause-accepts c rest begins =
     end_must line_end rest _ _ _ _ _ (search rules) begins c.in-Err.ensures.ran
+
+pub returns-in-Err-clause-never : goal.returns-in-Err-clause-never
+returns-in-Err-clause-never c final is_cut =
+    end_never line_end _ _ _ _ _ (search rules) is_cut refl final c.in-Err.ensures.ran

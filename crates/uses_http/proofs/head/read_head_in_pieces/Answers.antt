@@ -1,7 +1,17 @@
-use Rattle.uses_http.proofs.Heads.{head_fields}
+use Rattle.std.proofs.Common.{◌∙◌}
+use Rattle.uses_http.proofs.Heads.{fields_lack, head_fields, line_lacks}
 use Rattle.uses_http.proofs.head.read_head_in_pieces.Goals as goal
 
 pub returns-in-Err-read_fields-clause-accepts : goal.returns-in-Err-read_fields-clause-accepts
 returns-in-Err-read_fields-clause-accepts g c line fields rest head =
     c.in-Err-read_fields.ensures.accepts fields rest
     (head_fields line fields _ _ _ _ _ _ rest head c.in-Ok.ensures.line)
+
+pub returns-in-Err-clause-never : goal.returns-in-Err-clause-never
+returns-in-Err-clause-never g c final is_cut =
+    line_lacks _ (c.in-Err.ensures.never final is_cut)
+
+pub returns-in-Err-read_fields-clause-never : goal.returns-in-Err-read_fields-clause-never
+returns-in-Err-read_fields-clause-never g c final is_cut =
+    fields_lack _ _ _ _ _ _ c.in-Ok.ensures.line
+    (c.in-Err-read_fields.ensures.never final (c.in-Ok.ensures.ends.cut ∙ is_cut))

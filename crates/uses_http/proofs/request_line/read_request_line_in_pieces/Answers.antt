@@ -1,4 +1,5 @@
-use Rattle.uses_http.proofs.RequestLines.{digits_read, line_must, line_read}
+use Rattle.std.proofs.Common.{refl}
+use Rattle.uses_http.proofs.RequestLines.{digits_read, line_must, line_never, line_read}
 use Rattle.uses_http.proofs.request_line.read_request_line_in_pieces.Goals as goal
 
 pub overflow_sub-result : goal.overflow_sub-result
@@ -40,3 +41,13 @@ returns-in-Err-clause-accepts c method target major minor rest line =
       is.target,
       (is.protocol, tt, is.point, tt, is.end),
     ) line c.in-Err.ensures.ran
+
+pub returns-in-Err-clause-never : goal.returns-in-Err-clause-never
+returns-in-Err-clause-never c final is_cut =
+    let is = c.line.ensures in
+    line_never _ _ _ _ _ (
+      is.method,
+      is.space,
+      is.target,
+      (is.protocol, tt, is.point, tt, is.end),
+    ) is_cut refl final c.in-Err.ensures.ran
