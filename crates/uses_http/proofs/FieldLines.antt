@@ -1,11 +1,12 @@
 -- The runs of the parsers of a field line, in any input of bytes.
 use Rattle.std.proofs.Common.{◌≡◌, ◌∙◌, ◌++◌, ◌∷◌, ℕ, List, [], None, Ok, Err, true, ap, append_assoc}
-use Rattle.std.proofs.Common.{arith, refl}
+use Rattle.std.proofs.Common.{◌≤◌, Option, arith, inl, inr, length, refl, sym}
+use Rattle.std.specs.List.{All}
 use Rattle.std.specs.Borrow.{Bor}
-use Rattle.std.proofs.lemmas.List.Elements.{All-nil}
+use Rattle.std.proofs.lemmas.List.Elements.{All-append, All-nil, All-weaker}
 use Rattle.winnow.specs.Form.{modal}
 use Rattle.winnow.specs.Input.{Input, with_more}
-use Rattle.winnow.specs.Kind.{Kind}
+use Rattle.winnow.specs.Kind.{Kind, incomplete}
 use Rattle.winnow.specs.Reads.Known.{SliceRuns, TokenRuns, slice_leaves, slice_reads}
 use Rattle.winnow.specs.Reads.Known.{token_leaves, token_reads}
 use Rattle.winnow.specs.Reads.Sequences.{sequence5_reads}
@@ -21,9 +22,11 @@ use Rattle.winnow.specs.TakeWhile.Known.{took_stops}
 use Rattle.winnow.specs.{Range}
 use Rattle.uses_http.specs.Bytes.{IsTokenByte, IsValueByte, IsWhite, line_end}
 use Rattle.uses_http.specs.Ranges.{any_bytes, some_bytes}
-use Rattle.uses_http.specs.FieldLine.{NoFieldLine}
+use Rattle.uses_http.specs.FieldLine.{BeginsFieldLine, IsFieldLine, NoFieldLine}
+use Rattle.uses_http.proofs.Begun.{Begins, slice_begins, take_begins, token_begins}
+use Rattle.uses_http.proofs.BegunSequences.{Joined5, sequence5_begins}
 use Rattle.uses_http.proofs.Longer.{anything, fails_longer, slice_grows, take_grows, token_grows}
-use Rattle.uses_http.proofs.Values.{IsRead, read_some}
+use Rattle.uses_http.proofs.Values.{IsRead, field_line_some, read_some, white_is_value}
 
 -- what the five parsers mean, and the states in which `line` makes them
 abbrev pub States : Type 0 → Type 0 → Type 0 → Type 0
@@ -111,3 +114,37 @@ line_never k s i t j made is_cut possible final ran name value more rest line =
     let some = read_some name value (i.left.tokens ++ more) rest line in
     line_must s (with_more i more true) t (with_more j more true) name some.0 rest made some.1
     (fails_longer k s i t j line_grows is_cut possible final ran more)
+
+-- where they ask for more, more makes a field line
+line_begins : {A B C : Type 0}
+    → Begins (LineMeans {A = A} {B = B} {C = C}) IsMade
+    (Joined5 (λ w. All IsTokenByte w × (1 ≤ length w)) (λ w. w ≡ 58 ∷ [])
+    (λ w. All IsWhite w × (0 ≤ length w)) (λ w. All IsValueByte w × (0 ≤ length w))
+    (λ w. w ≡ line_end))
+line_begins =
+    sequence5_begins
+    (take_begins IsTokenByte some_bytes 48 refl (inl (omega arith, omega arith)) (omega arith))
+    (token_begins 58) (take_begins IsWhite any_bytes 32 refl (inl refl) (omega arith))
+    (take_begins IsValueByte any_bytes 9 refl (inr refl) (omega arith)) (slice_begins line_end)
+
+joined_line : (bytes : List ℕ)
+    → Joined5 (λ w. All IsTokenByte w × (1 ≤ length w)) (λ w. w ≡ 58 ∷ [])
+    (λ w. All IsWhite w × (0 ≤ length w)) (λ w. All IsValueByte w × (0 ≤ length w))
+    (λ w. w ≡ line_end) bytes
+    → (name : List ℕ) × (value : List ℕ) × IsFieldLine name value bytes []
+joined_line bytes (n, c, w, v, e, is_n, is_c, is_w, is_v, is_e, all) =
+    let splits : bytes ≡ n ++ 58 ∷ ((w ++ v) ++ line_end) =
+    all ∙ ap (λ l. n ++ (l ++ (w ++ (v ++ e)))) is_c
+    ∙ ap (λ l. n ++ 58 ∷ (w ++ (v ++ l))) is_e
+    ∙ ap (λ l. n ++ 58 ∷ l) (sym (append_assoc w v line_end)) in
+    let (value, line) = field_line_some n (w ++ v) bytes splits is_n.1 is_n.0
+    (All-append IsValueByte w v (All-weaker IsWhite IsValueByte white_is_value w is_w.0) is_v.0)
+    in (n, value, line)
+
+pub line_asks : {A B C : Type 0} (need : Option ℕ) (s : States A B C) (i : Input ℕ)
+    (t : States A B C) (j : Input ℕ) → IsMade s → LineMeans s i (Err (incomplete need)) t j
+    → BeginsFieldLine i.left.tokens
+line_asks need s i t j made ran =
+    let (more, joined) = line_begins.asks s i need t j made ran in
+    let (name, value, line) = joined_line (i.left.tokens ++ more) joined in
+    (name, value, more, line)

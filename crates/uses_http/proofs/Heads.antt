@@ -1,13 +1,16 @@
 -- Heads: bytes begin with one at most.
 use Rattle.std.proofs.Common.{◌≡◌, ◌∙◌, ◌++◌, ◌∷◌, ◌+◌, ◌<◌, ℕ, List, [], ap, append_assoc, arith}
-use Rattle.std.proofs.Common.{length}
+use Rattle.std.proofs.Common.{◌⊎◌, Option, inl, inr, length}
 use Rattle.std.proofs.Common.{length-append, map, refl, subst, sym}
 use Rattle.std.proofs.lemmas.List.{map_push}
+use Rattle.winnow.specs.Kind.{Kind, incomplete}
 use Rattle.uses_http.specs.Bytes.{IsTokenByte, IsVisible, line_end}
-use Rattle.uses_http.specs.FieldLine.{IsFieldLine, NoFieldLine}
-use Rattle.uses_http.specs.Head.{AreFieldLines, AreFields, IsHead, NoFields, NoHead, Pair}
+use Rattle.uses_http.specs.FieldLine.{BeginsFieldLine, IsFieldLine, NoFieldLine}
+use Rattle.uses_http.specs.Head.{AreFieldLines, AreFields, BeginsFields, BeginsHead}
+use Rattle.uses_http.specs.Head.{IsHead, NoFields, NoHead, Pair}
 use Rattle.uses_http.specs.Head.{Request, pair}
-use Rattle.uses_http.specs.RequestLine.{IsRequestLine, NoRequestLine, digits}
+use Rattle.uses_http.specs.RequestLine.{BeginsRequestLine, IsRequestLine, NoRequestLine}
+use Rattle.uses_http.specs.RequestLine.{digits}
 use Rattle.uses_http.specs.declared.field_line.Field.{Field}
 use Rattle.uses_http.proofs.Texts.{one_text}
 use Rattle.uses_http.proofs.Values.{field_line_begins, field_line_one}
@@ -233,3 +236,72 @@ fields_lack m g a b bytes now read none line fields more rest head =
     none fields more rest
     (head_fields line fields m g a b (bytes ++ more) (now ++ more) rest head
     (request_line_longer m g a b bytes now more read))
+
+-- ---- what begins with one, with more behind it
+
+-- behind some field lines, one more that is begun, or the empty line
+pub begun_line : (fields : List Pair) (bytes now : List ℕ) → AreFieldLines fields bytes now
+    → BeginsFieldLine now → BeginsFields bytes
+begun_line fields bytes now lines (name, value, more, line) =
+    let P : List ℕ → Type 0 = λ l. IsFieldLine name value l line_end in
+    let tail = more ++ line_end in (
+      fields ++ (name, value) ∷ [],
+      tail,
+      record {
+        end = line_end;
+        lines =
+            lines_more fields (name, value) (bytes ++ tail) (now ++ tail) line_end
+            (lines_longer fields bytes now tail lines)
+            (subst P (append_assoc now more line_end)
+            (field_line_longer name value (now ++ more) [] line_end line));
+        ended = refl;
+      },
+    )
+
+pub begun_end : (fields : List Pair) (bytes now : List ℕ) → AreFieldLines fields bytes now
+    → (more : List ℕ) × (now ++ more ≡ line_end) → BeginsFields bytes
+begun_end fields bytes now lines (more, e) = (
+  fields,
+  more,
+  record { end = now ++ more; lines = lines_longer fields bytes now more lines; ended = e },
+)
+
+pub begun_either : (fields : List Pair) (bytes now : List ℕ) (a b : Kind)
+    → ((n : Option ℕ) × (a ≡ incomplete n)) ⊎ ((n : Option ℕ) × (b ≡ incomplete n))
+    → AreFieldLines fields bytes now
+    → ((n : Option ℕ) → a ≡ incomplete n → BeginsFieldLine now)
+    → ((n : Option ℕ) → b ≡ incomplete n → (more : List ℕ) × (now ++ more ≡ line_end))
+    → BeginsFields bytes
+begun_either fields bytes now a b (inl (n, e)) lines line end =
+    begun_line fields bytes now lines (line n e)
+begun_either fields bytes now a b (inr (n, e)) lines line end =
+    begun_end fields bytes now lines (end n e)
+
+-- a request line that is begun, or fields behind one
+pub begun_request : (bytes : List ℕ) → BeginsRequestLine bytes → BeginsHead bytes
+begun_request bytes (m, g, a, b, more, line) =
+    let P : List ℕ → Type 0 = λ l. IsRequestLine m g a b l line_end in (
+      record { method = m; target = g; major = a; minor = b },
+      [],
+      more ++ line_end,
+      record {
+        behind = line_end;
+        is_line =
+            subst P (append_assoc bytes more line_end)
+            (request_line_longer m g a b (bytes ++ more) [] line_end line);
+        are_fields = record { end = line_end; lines = refl; ended = refl };
+      },
+    )
+
+pub begun_fields : (m g : List ℕ) (a b : ℕ) (bytes now : List ℕ)
+    → IsRequestLine m g a b bytes now → BeginsFields now → BeginsHead bytes
+begun_fields m g a b bytes now line (fields, more, it) = (
+  record { method = m; target = g; major = a; minor = b },
+  fields,
+  more,
+  record {
+    behind = now ++ more;
+    is_line = request_line_longer m g a b bytes now more line;
+    are_fields = it;
+  },
+)

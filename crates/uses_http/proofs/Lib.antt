@@ -1,3 +1,5 @@
+pub mod Begun
+pub mod BegunSequences
 pub mod FieldLines
 pub mod Heads
 pub mod LineEnds

@@ -1,11 +1,12 @@
 -- The runs of a literal by value that is known, in any input of bytes.
-use Rattle.std.proofs.Common.{◌≡◌, ◌++◌, ℕ, List, Ok, Err, true}
+use Rattle.std.proofs.Common.{◌≡◌, ◌++◌, ℕ, List, Ok, Err, Option, true}
 use Rattle.std.specs.Borrow.{Bor}
 use Rattle.winnow.specs.Form.{modal}
 use Rattle.winnow.specs.Input.{Input, with_more}
-use Rattle.winnow.specs.Kind.{Kind}
+use Rattle.winnow.specs.Kind.{Kind, incomplete}
 use Rattle.winnow.specs.Reads.Known.{SliceRuns, slice_leaves, slice_reads}
 use Rattle.winnow.specs.Stable.{IsFinalKind}
+use Rattle.uses_http.proofs.Begun.{slice_begins}
 use Rattle.uses_http.proofs.Longer.{fails_longer, slice_grows}
 
 -- what is answered stood first
@@ -29,3 +30,9 @@ pub end_never : (text : List ℕ) (k : Kind) (s : Bor (List ℕ)) (i : Input ℕ
 end_never text k s i t j is is_cut possible final ran more rest begins =
     end_must text rest s (with_more i more true) k t (with_more j more true) is begins
     (fails_longer k s i t j slice_grows is_cut possible final ran more)
+
+-- where it asks for more, more makes it
+pub end_asks : (text : List ℕ) (need : Option ℕ) (s : Bor (List ℕ)) (i : Input ℕ)
+    (t : Bor (List ℕ)) (j : Input ℕ) → s.now ≡ text → SliceRuns modal s i (Err (incomplete need)) t j
+    → (more : List ℕ) × (i.left.tokens ++ more ≡ text)
+end_asks text need s i t j is ran = (slice_begins text).asks s i need t j is ran

@@ -1,5 +1,6 @@
 -- Parsers that fail for good on a cut input fail on each longer one.
-use Rattle.std.proofs.Common.{◌≡◌, ◌↔◌, ◌∷◌, ℕ, Bool, List, [], IsTrue, true, Err, inl, inr, subst}
+use Rattle.std.proofs.Common.{◌≡◌, ◌↔◌, ◌∷◌, ℕ, Bool, List, [], IsTrue, Option, true, Err, inl, inr}
+use Rattle.std.proofs.Common.{◌⊎◌, ◌∙◌, refl, subst, sym}
 use Rattle.std.specs.Prelude.{⊤}
 use Rattle.winnow.specs.Counted.{counted_reading}
 use Rattle.winnow.specs.Following.{Following}
@@ -26,7 +27,7 @@ anything = record { can_follow = λ left more. ⊤; kept = λ dropped later more
 
 -- ---- the parts
 
-abbrev Seen : (ℕ → Type 0) → ℕ → Bool → Type 0
+abbrev pub Seen : (ℕ → Type 0) → ℕ → Bool → Type 0
 Seen P = AnswersSeen (λ t. t) (λ t answer. IsTrue answer ↔ P t)
 
 pub take_grows : {A : Type 0} (P : ℕ → Type 0) → Grows anything (TakesOf {A = A} modal P)
@@ -88,3 +89,26 @@ pub both_final : {G : Type 0} (a b k : Kind) → IsOrMemory (joint_kind a b) G k
     → IsFinalKind a × IsFinalKind b
 both_final a b k (inl e) final = joint_final a b (subst IsFinalKind e final)
 both_final a b k (inr (e, grew)) final = absurd (subst IsFinalKind e final)
+
+never_memory : (need : Option ℕ) → memory ≡ incomplete need → ⊥
+never_memory need e = cc
+
+never_cut : (need : Option ℕ) → cut ≡ incomplete need → ⊥
+never_cut need e = cc
+
+joint_asks : (a b : Kind) (need : Option ℕ) → joint_kind a b ≡ incomplete need
+    → ((n : Option ℕ) × (a ≡ incomplete n)) ⊎ ((n : Option ℕ) × (b ≡ incomplete n))
+joint_asks memory b need e = absurd (never_memory need e)
+joint_asks backtrack b need e = inr (need, e)
+joint_asks cut memory need e = absurd (never_memory need e)
+joint_asks cut backtrack need e = absurd (never_cut need e)
+joint_asks cut cut need e = absurd (never_cut need e)
+joint_asks cut (incomplete n) need e = inr (n, refl)
+joint_asks (incomplete n) b need e = inl (n, refl)
+
+-- where the whole asks for more, one of them does
+pub one_asks : {G : Type 0} (a b k : Kind) (need : Option ℕ) → IsOrMemory (joint_kind a b) G k
+    → k ≡ incomplete need
+    → ((n : Option ℕ) × (a ≡ incomplete n)) ⊎ ((n : Option ℕ) × (b ≡ incomplete n))
+one_asks a b k need (inl e) asked = joint_asks a b need (sym e ∙ asked)
+one_asks a b k need (inr (e, grew)) asked = absurd (never_memory need (sym e ∙ asked))

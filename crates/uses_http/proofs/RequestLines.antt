@@ -1,11 +1,12 @@
 -- The runs of the parsers of a request line, in any input of bytes.
 use Rattle.std.proofs.Common.{◌≡◌, ◌∙◌, ◌+◌, ◌-◌, ◌++◌, ◌∷◌, ℕ, List, Ok, Err, true, ap, append_assoc}
-use Rattle.std.proofs.Common.{arith, refl}
+use Rattle.std.proofs.Common.{[], ◌≤◌, Option, arith, inl, length, refl}
 use Rattle.std.specs.Borrow.{Bor}
+use Rattle.std.specs.List.{All}
 use Rattle.std.specs.Prelude.{⊤}
 use Rattle.winnow.specs.Form.{modal}
 use Rattle.winnow.specs.Input.{Input, with_more}
-use Rattle.winnow.specs.Kind.{Kind}
+use Rattle.winnow.specs.Kind.{Kind, incomplete}
 use Rattle.winnow.specs.Reads.{Reads}
 use Rattle.winnow.specs.Reads.Known.{SliceRuns, TokenRuns, slice_leaves, slice_reads}
 use Rattle.winnow.specs.Reads.Known.{token_leaves, token_reads}
@@ -21,7 +22,11 @@ use Rattle.winnow.specs.TakeWhile.Known.{TakesOf, take_leaves, take_reads}
 use Rattle.winnow.specs.{Range}
 use Rattle.uses_http.specs.Bytes.{IsDigit, IsTokenByte, IsVisible, line_end}
 use Rattle.uses_http.specs.Ranges.{some_bytes}
-use Rattle.uses_http.specs.RequestLine.{IsRequestLine, NoRequestLine, digits, protocol}
+use Rattle.uses_http.specs.RequestLine.{BeginsRequestLine, IsRequestLine, NoRequestLine}
+use Rattle.uses_http.specs.RequestLine.{digits, protocol}
+use Rattle.uses_http.proofs.Begun.{Begins, OneOf, member_begins, slice_begins, take_begins}
+use Rattle.uses_http.proofs.Begun.{token_begins}
+use Rattle.uses_http.proofs.BegunSequences.{Joined4, Joined5, sequence4_begins, sequence5_begins}
 use Rattle.uses_http.proofs.Longer.{anything, fails_longer, member_grows, slice_grows, take_grows}
 use Rattle.uses_http.proofs.Longer.{token_grows}
 use Rattle.uses_http.proofs.Members.{MemberOf, member_leaves, member_reads}
@@ -136,3 +141,86 @@ pub line_never : {A B C D : Type 0} (k : Kind) (s : States A B C D) (i : Input �
 line_never k s i t j made is_cut possible final ran m g a b more rest line =
     line_must s (with_more i more true) t (with_more j more true) m g a b rest made line
     (fails_longer k s i t j line_grows is_cut possible final ran more)
+
+-- where they ask for more, more makes a request line
+line_begins : {A B C D : Type 0}
+    → Begins (LineMeans {A = A} {B = B} {C = C} {D = D}) IsMade
+    (Joined4 (λ w. All IsTokenByte w × (1 ≤ length w)) (λ w. w ≡ 32 ∷ [])
+    (λ w. All IsVisible w × (1 ≤ length w))
+    (Joined5 (λ w. w ≡ protocol) (OneOf IsDigit) (λ w. w ≡ 46 ∷ []) (OneOf IsDigit)
+    (λ w. w ≡ line_end)))
+line_begins =
+    sequence4_begins
+    (take_begins IsTokenByte some_bytes 48 refl (inl (omega arith, omega arith)) (omega arith))
+    (token_begins 32)
+    (take_begins IsVisible some_bytes 48 refl (omega arith, omega arith) (omega arith))
+    (sequence5_begins (slice_begins protocol)
+    (member_begins IsDigit 48 (omega arith, omega arith)) (token_begins 46)
+    (member_begins IsDigit 48 (omega arith, omega arith)) (slice_begins line_end))
+
+joined_line : (text : List ℕ)
+    → Joined4 (λ w. All IsTokenByte w × (1 ≤ length w)) (λ w. w ≡ 32 ∷ [])
+    (λ w. All IsVisible w × (1 ≤ length w))
+    (Joined5 (λ w. w ≡ protocol) (OneOf IsDigit) (λ w. w ≡ 46 ∷ []) (OneOf IsDigit)
+    (λ w. w ≡ line_end)) text
+    → (method : List ℕ) × (target : List ℕ) × (major : ℕ) × (minor : ℕ)
+    × IsRequestLine method target major minor text []
+joined_line text (
+  m,
+  b,
+  g,
+  d,
+  is_m,
+  is_b,
+  is_g,
+  (
+    p,
+    x,
+    y,
+    z,
+    e,
+    is_p,
+    (n, two, is_x),
+    is_y,
+    (o, three, is_z),
+    is_e,
+    version,
+  ),
+  all,
+) =
+    let major : n ≡ 48 + (n - 48) = omega (arith, two) in
+    let minor : o ≡ 48 + (o - 48) = omega (arith, three) in
+    let behind : d ≡ protocol ++ (n ∷ 46 ∷ o ∷ line_end) =
+    version
+    ∙ ap (λ l. l ++ (x ++ (y ++ (z ++ e)))) is_p
+    ∙ ap (λ l. protocol ++ (l ++ (y ++ (z ++ e)))) is_x
+    ∙ ap (λ l. protocol ++ (n ∷ (l ++ (z ++ e)))) is_y
+    ∙ ap (λ l. protocol ++ (n ∷ 46 ∷ (l ++ e))) is_z
+    ∙ ap (λ l. protocol ++ (n ∷ 46 ∷ o ∷ l)) is_e in (
+      m,
+      g,
+      n - 48,
+      o - 48,
+      record {
+        splits = all
+            ∙ ap (λ l. m ++ (l ++ (g ++ d))) is_b
+            ∙ ap (λ l. m ++ 32 ∷ (g ++ l)) behind
+            ∙ ap (λ v. m ++ 32 ∷ (g ++ (protocol ++ (v ∷ 46 ∷ o ∷ line_end)))) major
+            ∙ ap (λ v. m ++ 32 ∷ (g ++ (protocol ++ ((48 + (n - 48)) ∷ 46 ∷ v ∷ line_end))))
+            minor;
+        some_method = is_m.1;
+        is_method = is_m.0;
+        some_target = is_g.1;
+        is_target = is_g.0;
+        is_major = omega (arith, two.1);
+        is_minor = omega (arith, three.1);
+      },
+    )
+
+pub line_asks : {A B C D : Type 0} (need : Option ℕ) (s : States A B C D) (i : Input ℕ)
+    (t : States A B C D) (j : Input ℕ) → IsMade s → LineMeans s i (Err (incomplete need)) t j
+    → BeginsRequestLine i.left.tokens
+line_asks need s i t j made ran =
+    let (more, joined) = line_begins.asks s i need t j made ran in
+    let (m, g, a, b, line) = joined_line (i.left.tokens ++ more) joined in
+    (m, g, a, b, more, line)

@@ -1,7 +1,8 @@
 -- Values of fields: there is one without the white space that stands around it.
 use Rattle.std.proofs.Common.{◌≡◌, ◌∙◌, ◌++◌, ◌∷◌, ℕ, List, [], ap, append_assoc, arith, inl, inr}
-use Rattle.std.proofs.Common.{◌<◌, length, length-append, refl, subst, sym}
+use Rattle.std.proofs.Common.{◌⊎◌, ◌<◌, length, length-append, refl, subst, sym}
 use Rattle.std.specs.List.{All}
+use Rattle.std.proofs.lemmas.Bool.Decides.{eqb_tells}
 use Rattle.std.proofs.lemmas.List.Elements.{All-append, All-cons, All-head, All-nil, All-tail}
 use Rattle.std.proofs.lemmas.List.Elements.{All-weaker}
 use Rattle.std.proofs.lemmas.List.{append-nil, same_from_push}
@@ -121,6 +122,12 @@ pub record IsRead (name text bytes rest : List ℕ) : Type 0 where
   pub is_value : All IsValueByte text
   pub bare : BeginsBare text
 
+all_front : (Q : ℕ → Type 0) (xs ys : List ℕ) → All Q (xs ++ ys) → All Q xs
+all_front Q [] ys all = All-nil Q
+all_front Q (x ∷ xs) ys all =
+    All-cons Q x xs (All-head Q x (xs ++ ys) all)
+    (all_front Q xs ys (All-tail Q x (xs ++ ys) all))
+
 -- the text without the white space behind it is the value
 pub read_trimmed : (name text value bytes rest : List ℕ) → IsRead name text bytes rest
     → IsTrimmed value text → IsFieldLine name value bytes rest
@@ -136,17 +143,11 @@ read_trimmed name text value bytes rest line it =
       is_name = line.is_name;
       white_before = line.is_white;
       white_behind = it.white_behind;
-      is_value = All-front IsValueByte value it.behind (subst P it.splits line.is_value);
+      is_value = all_front IsValueByte value it.behind (subst P it.splits line.is_value);
       begins_bare = λ b more e white. line.bare b (more ++ it.behind)
           (it.splits ∙ ap (λ l. l ++ it.behind) e) white;
       ends_bare = it.ends_bare;
     }
-  where
-    All-front : (Q : ℕ → Type 0) (xs ys : List ℕ) → All Q (xs ++ ys) → All Q xs
-    All-front Q [] ys all = All-nil Q
-    All-front Q (x ∷ xs) ys all =
-        All-cons Q x xs (All-head Q x (xs ++ ys) all)
-        (All-front Q xs ys (All-tail Q x (xs ++ ys) all))
 
 -- each field line is read with some text
 pub read_some : (name value bytes rest : List ℕ) → IsFieldLine name value bytes rest
@@ -223,3 +224,135 @@ pub last_bare : (now front : List ℕ) (b : ℕ) → now ≡ front ++ b ∷ [] �
     → EndsBare now
 last_bare now front b last not = λ c others e white.
     not (subst IsWhite (sym (same_from_push front others b c (sym last ∙ e)).1) white)
+
+-- ---- each text has a value
+
+is_white : (b : ℕ) → IsWhite b ⊎ (IsWhite b → ⊥)
+is_white b = elim (eqb_tells b 32) [
+  | inl (_, space) ↦ inl (inl space)
+  | inr (_, none) ↦
+      elim (eqb_tells b 9) [
+        | inl (_, tab) ↦ inl (inr tab)
+        | inr (_, other) ↦ inr (λ white. elim white [ inl e ↦ none e | inr e ↦ other e ])
+      ]
+]
+
+-- one byte more before a text that ends bare
+bare_more : (x y : ℕ) (ys : List ℕ) → EndsBare (y ∷ ys) → EndsBare (x ∷ y ∷ ys)
+bare_more x y ys bare b [] e white = omega (arith, ap (λ l. length l) e)
+bare_more x y ys bare b (f ∷ front) e white =
+    bare b front (same_others x f (y ∷ ys) (front ++ b ∷ []) e) white
+
+bare_one : (x : ℕ) → (IsWhite x → ⊥) → EndsBare (x ∷ [])
+bare_one x not b front e white =
+    not (subst IsWhite (sym (same_from_push [] front x b e).1) white)
+
+trimmed_some : (text : List ℕ) → (value : List ℕ) × IsTrimmed value text
+trimmed_some [] = (
+  [],
+  record {
+    behind = [];
+    splits = refl;
+    white_behind = All-nil IsWhite;
+    ends_bare = nothing_bare [] refl;
+  },
+)
+trimmed_some (x ∷ xs) = by (trimmed_some xs) (is_white x)
+  where
+    by : (value : List ℕ) × IsTrimmed value xs → IsWhite x ⊎ (IsWhite x → ⊥)
+        → (value : List ℕ) × IsTrimmed value (x ∷ xs)
+    by (y ∷ ys, it) known = (
+      x ∷ y ∷ ys,
+      record {
+        behind = it.behind;
+        splits = ap (λ l. x ∷ l) it.splits;
+        white_behind = it.white_behind;
+        ends_bare = bare_more x y ys it.ends_bare;
+      },
+    )
+    by ([], it) (inl white) = (
+      [],
+      record {
+        behind = x ∷ it.behind;
+        splits = ap (λ l. x ∷ l) it.splits;
+        white_behind = All-cons IsWhite x it.behind white it.white_behind;
+        ends_bare = nothing_bare [] refl;
+      },
+    )
+    by ([], it) (inr not) = (
+      x ∷ [],
+      record {
+        behind = it.behind;
+        splits = ap (λ l. x ∷ l) it.splits;
+        white_behind = it.white_behind;
+        ends_bare = bare_one x not;
+      },
+    )
+
+-- white space, and a text that begins with none
+pub record IsShifted (front text all : List ℕ) : Type 0 where
+  pub splits : all ≡ front ++ text
+  pub white : All IsWhite front
+  pub bare : BeginsBare text
+
+shifted_some : (all : List ℕ) → (front : List ℕ) × (text : List ℕ) × IsShifted front text all
+shifted_some [] = (
+  [],
+  [],
+  record {
+    splits = refl;
+    white = All-nil IsWhite;
+    bare = λ b more e white. nothing_first b more e;
+  },
+)
+  where
+    nothing_first : (b : ℕ) (more : List ℕ) → [] ≡ b ∷ more → ⊥
+    nothing_first b more e = cc
+shifted_some (x ∷ xs) = by (shifted_some xs) (is_white x)
+  where
+    by : (front : List ℕ) × (text : List ℕ) × IsShifted front text xs
+        → IsWhite x ⊎ (IsWhite x → ⊥)
+        → (front : List ℕ) × (text : List ℕ) × IsShifted front text (x ∷ xs)
+    by (front, text, it) (inl white) = (
+      x ∷ front,
+      text,
+      record {
+        splits = ap (λ l. x ∷ l) it.splits;
+        white = All-cons IsWhite x front white it.white;
+        bare = it.bare;
+      },
+    )
+    by rest (inr not) = (
+      [],
+      x ∷ xs,
+      record {
+        splits = refl;
+        white = All-nil IsWhite;
+        bare = λ b more e white. not (subst IsWhite (sym (same_first x b xs more e)) white);
+      },
+    )
+
+all_back : (Q : ℕ → Type 0) (xs ys : List ℕ) → All Q (xs ++ ys) → All Q ys
+all_back Q [] ys all = all
+all_back Q (x ∷ xs) ys all = all_back Q xs ys (All-tail Q x (xs ++ ys) all)
+
+-- a name, a colon, bytes of values and a line end are a field line
+pub field_line_some : (name all bytes : List ℕ) → bytes ≡ name ++ 58 ∷ (all ++ line_end)
+    → 0 < length name → All IsTokenByte name → All IsValueByte all
+    → (value : List ℕ) × IsFieldLine name value bytes []
+field_line_some name all bytes splits some is_name is_value =
+    let (front, text, it) = shifted_some all in
+    let P : List ℕ → Type 0 = λ l. All IsValueByte l in
+    let (value, trimmed) = trimmed_some text in
+    let line : IsRead name text bytes [] = record {
+      white = front;
+      splits = splits
+          ∙ ap (λ l. name ++ 58 ∷ l) (ap (λ l. l ++ line_end) it.splits
+          ∙ append_assoc front text line_end);
+      some_name = some;
+      is_name = is_name;
+      is_white = it.white;
+      is_value = all_back IsValueByte front text (subst P it.splits is_value);
+      bare = it.bare;
+    } in
+    (value, read_trimmed name text value bytes [] line trimmed)

@@ -36,3 +36,9 @@ pub record IsTrimmed (value text : List ℕ) : Type 0 where
 abbrev pub NoFieldLine : List ℕ → Type 0
 NoFieldLine bytes =
     (name value more rest : List ℕ) → IsFieldLine name value (bytes ++ more) rest → ⊥
+
+-- With more behind them the bytes are a field line.
+abbrev pub BeginsFieldLine : List ℕ → Type 0
+BeginsFieldLine bytes =
+    (name : List ℕ) × (value : List ℕ) × (more : List ℕ)
+    × IsFieldLine name value (bytes ++ more) []

@@ -60,3 +60,14 @@ abbrev pub NoHead : List ℕ → Type 0
 NoHead bytes =
     (line : Request) (fields : List Pair) (more rest : List ℕ)
     → IsHead line fields (bytes ++ more) rest → ⊥
+
+-- With more behind them the bytes are fields and an empty line.
+abbrev pub BeginsFields : List ℕ → Type 0
+BeginsFields bytes =
+    (fields : List Pair) × (more : List ℕ) × AreFields fields (bytes ++ more) []
+
+-- With more behind them the bytes are a head.
+abbrev pub BeginsHead : List ℕ → Type 0
+BeginsHead bytes =
+    (line : Request) × (fields : List Pair) × (more : List ℕ)
+    × IsHead line fields (bytes ++ more) []

@@ -28,3 +28,9 @@ abbrev pub NoRequestLine : List ℕ → Type 0
 NoRequestLine bytes =
     (method target : List ℕ) (major minor : ℕ) (more rest : List ℕ)
     → IsRequestLine method target major minor (bytes ++ more) rest → ⊥
+
+-- With more behind them the bytes are a request line.
+abbrev pub BeginsRequestLine : List ℕ → Type 0
+BeginsRequestLine bytes =
+    (method : List ℕ) × (target : List ℕ) × (major : ℕ) × (minor : ℕ) × (more : List ℕ)
+    × IsRequestLine method target major minor (bytes ++ more) []

@@ -2,13 +2,14 @@
 //! (a carriage return and a line feed). White space may stand before the value and behind it.
 #![tactic(auto)]
 
-ghost use Rattle.std.specs.Prelude.{◌≡◌, IfErr, IfOk, IsOk, List, ℕ, true};
+ghost use Rattle.std.specs.Prelude.{◌≡◌, IfErr, IfOk, IsOk, List, Option, ℕ, true};
 ghost use Rattle.winnow.specs.Bytes.{bytes_input, bytes_reading};
 ghost use Rattle.winnow.specs.Input.{IsEndOf};
+ghost use Rattle.winnow.specs.Kind.{incomplete};
 ghost use Rattle.winnow.specs.Stable.{IsFinalKind};
 ghost use Rattle.winnow.specs.TakeWhile.{take_while_occurrences};
 ghost use Rattle.uses_http.specs.Bytes.{line_end};
-ghost use Rattle.uses_http.specs.FieldLine.{IsFieldLine, IsTrimmed, NoFieldLine};
+ghost use Rattle.uses_http.specs.FieldLine.{BeginsFieldLine, IsFieldLine, IsTrimmed, NoFieldLine};
 ghost use Rattle.uses_http.specs.Ranges.{any_bytes, some_bytes};
 
 use crate::sets::{TokenBytes, ValueBytes, White};
@@ -108,8 +109,10 @@ pub fn read_field_line<'i>(input: &mut &'i [u8]) -> Result<Field<'i>, ErrMode<Em
     }
 }
 
-/// The same over bytes that come in pieces: it answers as soon as the line is there. An error that
-/// is not [`Incomplete`](ErrMode::Incomplete) says that more input makes none either.
+/// The same over bytes that come in pieces: it answers as soon as the line is there.
+///
+/// [`Incomplete`](ErrMode::Incomplete) says that more input can make one, and another error that
+/// none can.
 ///
 /// ```
 /// use uses_http::field_line::read_field_line_in_pieces;
@@ -128,6 +131,8 @@ pub fn read_field_line_in_pieces<'i>(
     ensures never { IfErr result (λ error. IsFinalKind (⟦<ErrMode<EmptyError> as HasKind>⟧.kind error)
         → (⟦<Partial<&'static [u8]> as Stream>⟧.view input.old).status.cut ≡ true
         → NoFieldLine (⟦<Partial<&'static [u8]> as Stream>⟧.view input.old).left.tokens) }
+    ensures asks { IfErr result (λ error. (need : Option ℕ) → ⟦<ErrMode<EmptyError> as HasKind>⟧.kind error ≡ incomplete need
+        → BeginsFieldLine (⟦<Partial<&'static [u8]> as Stream>⟧.view input.old).left.tokens) }
     ensures ends { IsEndOf bytes_reading (⟦<Partial<&'static [u8]> as Stream>⟧.view input.new)
         (⟦<Partial<&'static [u8]> as Stream>⟧.view input.old) }
 {

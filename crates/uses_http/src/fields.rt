@@ -1,13 +1,13 @@
 //! Field lines one behind the other, and the empty line behind them (RFC 9112, section 2.1).
 #![tactic(auto)]
 
-ghost use Rattle.std.specs.Prelude.{◌≡◌, ◌++◌, IfErr, IfOk, IsOk, List, ℕ, map, true};
+ghost use Rattle.std.specs.Prelude.{◌≡◌, ◌++◌, IfErr, IfOk, IsOk, List, Option, ℕ, map, true};
 ghost use Rattle.winnow.specs.Bytes.{bytes_reading};
 ghost use Rattle.winnow.specs.Input.{IsEndOf};
-ghost use Rattle.winnow.specs.Kind.{memory};
+ghost use Rattle.winnow.specs.Kind.{incomplete, memory};
 ghost use Rattle.winnow.specs.Stable.{IsFinalKind};
 ghost use Rattle.uses_http.specs.Bytes.{line_end};
-ghost use Rattle.uses_http.specs.Head.{AreFields, NoFields, Pair, pair};
+ghost use Rattle.uses_http.specs.Head.{AreFields, BeginsFields, NoFields, Pair, pair};
 
 use crate::field_line::{Field, read_field_line_in_pieces};
 use std::alloc::Allocator;
@@ -28,6 +28,9 @@ fn read_line_end<'i>(input: &mut Partial<&'i [u8]>) -> Result<(), ErrMode<EmptyE
         → (more rest : List ℕ)
         → (⟦<Partial<&'static [u8]> as Stream>⟧.view input.old).left.tokens ++ more
         ≡ line_end ++ rest → ⊥) }
+    ensures asks { IfErr result (λ error. (need : Option ℕ) → ⟦<ErrMode<EmptyError> as HasKind>⟧.kind error ≡ incomplete need
+        → (more : List ℕ)
+        × ((⟦<Partial<&'static [u8]> as Stream>⟧.view input.old).left.tokens ++ more ≡ line_end)) }
     ensures ends { IsEndOf bytes_reading (⟦<Partial<&'static [u8]> as Stream>⟧.view input.new)
         (⟦<Partial<&'static [u8]> as Stream>⟧.view input.old) }
 {
@@ -51,6 +54,8 @@ pub fn read_fields<'i, A: Allocator + Copy>(
     ensures never { IfErr result (λ error. IsFinalKind (⟦<ErrMode<EmptyError> as HasKind>⟧.kind error)
         → (⟦<Partial<&'static [u8]> as Stream>⟧.view input.old).status.cut ≡ true
         → NoFields (⟦<Partial<&'static [u8]> as Stream>⟧.view input.old).left.tokens) }
+    ensures asks { IfErr result (λ error. (need : Option ℕ) → ⟦<ErrMode<EmptyError> as HasKind>⟧.kind error ≡ incomplete need
+        → BeginsFields (⟦<Partial<&'static [u8]> as Stream>⟧.view input.old).left.tokens) }
 {
     let mut fields = Vec::new(alloc);
     'fields: loop {

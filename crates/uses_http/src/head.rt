@@ -1,11 +1,14 @@
 //! The head of a request of HTTP/1.1 (RFC 9112, section 2.1): a request line, field lines one
 //! behind the other, and an empty line.
+//!
+//! An empty line before the request line, which a server may pass over, is no part of it, and a
+//! line that goes on behind white space, which senders must not write, is no field line.
 #![tactic(auto)]
 
-ghost use Rattle.std.specs.Prelude.{◌≡◌, ◌⊎◌, IfErr, IfOk, List, ℕ, map, true};
-ghost use Rattle.winnow.specs.Kind.{backtrack, memory};
+ghost use Rattle.std.specs.Prelude.{◌≡◌, ◌⊎◌, IfErr, IfOk, List, Option, ℕ, map, true};
+ghost use Rattle.winnow.specs.Kind.{backtrack, incomplete, memory};
 ghost use Rattle.winnow.specs.Stable.{IsFinalKind};
-ghost use Rattle.uses_http.specs.Head.{IsHead, NoHead, Pair, Request, pair, request};
+ghost use Rattle.uses_http.specs.Head.{BeginsHead, IsHead, NoHead, Pair, Request, pair, request};
 
 use crate::field_line::Field;
 use crate::fields::read_fields;
@@ -35,8 +38,8 @@ pub struct Head<'i, A: Allocator> {
 /// there.
 ///
 /// An error leaves the input as it was. One that wants memory says that the list of fields could not
-/// grow, [`Incomplete`](ErrMode::Incomplete) that no head stands there, and each other error that
-/// more input makes none either.
+/// grow, [`Incomplete`](ErrMode::Incomplete) that no head stands there and more input can make one,
+/// and each other error that no more input can.
 ///
 /// ```
 /// use uses_http::head::read_head_in_pieces;
@@ -59,6 +62,8 @@ pub fn read_head_in_pieces<'i, A: Allocator + Copy>(
     ensures never { IfErr result (λ error. IsFinalKind (⟦<ErrMode<EmptyError> as HasKind>⟧.kind error)
         → (⟦<Partial<&'static [u8]> as Stream>⟧.view input.old).status.cut ≡ true
         → NoHead (⟦<Partial<&'static [u8]> as Stream>⟧.view input.old).left.tokens) }
+    ensures asks { IfErr result (λ error. (need : Option ℕ) → ⟦<ErrMode<EmptyError> as HasKind>⟧.kind error ≡ incomplete need
+        → BeginsHead (⟦<Partial<&'static [u8]> as Stream>⟧.view input.old).left.tokens) }
     ensures stays { IfErr result (λ _. input.new ≡ input.old) }
 {
     let start = *input;

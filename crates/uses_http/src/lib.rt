@@ -7,4 +7,5 @@ mod fields;
 pub mod head;
 pub mod laws;
 pub mod request_line;
+mod request_parts;
 mod sets;

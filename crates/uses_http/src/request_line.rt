@@ -6,21 +6,17 @@
 //! stands in it. The version is two digits; whether the server speaks it is the caller's to see.
 #![tactic(auto)]
 
-ghost use Rattle.std.specs.Prelude.{◌≡◌, IfErr, IfOk, IsOk, List, ℕ, true};
+ghost use Rattle.std.specs.Prelude.{◌≡◌, IfErr, IfOk, IsOk, List, Option, ℕ, true};
 ghost use Rattle.winnow.specs.Bytes.{bytes_input, bytes_reading};
 ghost use Rattle.winnow.specs.Input.{IsEndOf};
+ghost use Rattle.winnow.specs.Kind.{incomplete};
 ghost use Rattle.winnow.specs.Stable.{IsFinalKind};
-ghost use Rattle.winnow.specs.TakeWhile.{take_while_occurrences};
-ghost use Rattle.uses_http.specs.Bytes.{line_end};
-ghost use Rattle.uses_http.specs.Ranges.{some_bytes};
-ghost use Rattle.uses_http.specs.RequestLine.{IsRequestLine, NoRequestLine, protocol};
+ghost use Rattle.uses_http.specs.RequestLine.{BeginsRequestLine, IsRequestLine, NoRequestLine};
 
-use crate::sets::{Digits, TokenBytes, Visible};
+use crate::request_parts::line;
 use winnow::error::{EmptyError, ErrMode, HasKind};
 use winnow::prelude::*;
-use winnow::stream::{Partial, Range};
-use winnow::token::impls::{OneOf, TakeWhile};
-use winnow::token::{one_of, take_while};
+use winnow::stream::Partial;
 
 /// A request line: what it says, as slices of the input.
 ///
@@ -40,46 +36,6 @@ pub struct RequestLine<'i> {
     pub major: u8,
     /// The number behind the point of the version, below 10.
     pub minor: u8,
-}
-
-/// The parsers of `HTTP/` behind a space, of the two digits and their point, and of the line end.
-type Version<I, E> = (
-    &'static [u8],
-    OneOf<Digits, I, E>,
-    u8,
-    OneOf<Digits, I, E>,
-    &'static [u8],
-);
-
-/// The parsers of the method, the space behind it, the target, and the rest of a request line.
-type Line<I, E> = (
-    TakeWhile<TokenBytes, I, E>,
-    u8,
-    TakeWhile<Visible, I, E>,
-    Version<I, E>,
-);
-
-/// The parser of a request line.
-fn line<I: StreamIsPartial<Token = u8>, E: ParserError<I>>() -> Line<I, E>
-    ensures method { take_while_occurrences result.0 ≡ some_bytes }
-    ensures space { result.1 ≡ 32 }
-    ensures target { take_while_occurrences result.2 ≡ some_bytes }
-    ensures protocol { result.3.0.now ≡ protocol }
-    ensures point { result.3.2 ≡ 46 }
-    ensures end { result.3.4.now ≡ line_end }
-{
-    (
-        take_while(Range::from(1..), TokenBytes),
-        b' ',
-        take_while(Range::from(1..), Visible),
-        (
-            b" HTTP/".as_slice(),
-            one_of(Digits),
-            b'.',
-            one_of(Digits),
-            b"\r\n".as_slice(),
-        ),
-    )
 }
 
 /// The request line with which the bytes begin.
@@ -113,8 +69,10 @@ pub fn read_request_line<'i>(input: &mut &'i [u8]) -> Result<RequestLine<'i>, Er
     }
 }
 
-/// The same over bytes that come in pieces: it answers as soon as the line is there. An error that
-/// is not [`Incomplete`](ErrMode::Incomplete) says that more input makes none either.
+/// The same over bytes that come in pieces: it answers as soon as the line is there.
+///
+/// [`Incomplete`](ErrMode::Incomplete) says that more input can make one, and another error that
+/// none can.
 ///
 /// ```
 /// use uses_http::request_line::read_request_line_in_pieces;
@@ -134,6 +92,8 @@ pub fn read_request_line_in_pieces<'i>(
     ensures never { IfErr result (λ error. IsFinalKind (⟦<ErrMode<EmptyError> as HasKind>⟧.kind error)
         → (⟦<Partial<&'static [u8]> as Stream>⟧.view input.old).status.cut ≡ true
         → NoRequestLine (⟦<Partial<&'static [u8]> as Stream>⟧.view input.old).left.tokens) }
+    ensures asks { IfErr result (λ error. (need : Option ℕ) → ⟦<ErrMode<EmptyError> as HasKind>⟧.kind error ≡ incomplete need
+        → BeginsRequestLine (⟦<Partial<&'static [u8]> as Stream>⟧.view input.old).left.tokens) }
     ensures ends { IsEndOf bytes_reading (⟦<Partial<&'static [u8]> as Stream>⟧.view input.new)
         (⟦<Partial<&'static [u8]> as Stream>⟧.view input.old) }
 {

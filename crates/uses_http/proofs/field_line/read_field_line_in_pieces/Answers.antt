@@ -1,5 +1,5 @@
 use Rattle.std.proofs.Common.{refl}
-use Rattle.uses_http.proofs.FieldLines.{line_must, line_never, line_read}
+use Rattle.uses_http.proofs.FieldLines.{line_asks, line_must, line_never, line_read}
 use Rattle.uses_http.proofs.Values.{read_some, read_trimmed}
 use Rattle.uses_http.proofs.field_line.read_field_line_in_pieces.Goals as goal
 
@@ -22,3 +22,9 @@ returns-in-Err-clause-never c final is_cut =
     let is = c.line.ensures in
     line_never _ _ _ _ _ (is.name, is.colon, is.white, is.value, is.end) is_cut refl final
     c.in-Err.ensures.ran
+
+pub returns-in-Err-clause-asks : goal.returns-in-Err-clause-asks
+returns-in-Err-clause-asks c need asked =
+    let is = c.line.ensures in
+    line_asks need _ _ _ _ (is.name, is.colon, is.white, is.value, is.end)
+    (rw asked at c.in-Err.ensures.ran)

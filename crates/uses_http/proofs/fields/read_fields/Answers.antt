@@ -1,7 +1,8 @@
 use Rattle.std.proofs.Common.{sym, ◌∙◌}
 use Rattle.std.proofs.lemmas.Bool.{true≢false}
-use Rattle.uses_http.proofs.Heads.{ended_behind, fields_never, read_more}
-use Rattle.uses_http.proofs.Longer.{both_final}
+use Rattle.uses_http.proofs.Heads.{begun_either, ended_behind, fields_never}
+use Rattle.uses_http.proofs.Heads.{read_more}
+use Rattle.uses_http.proofs.Longer.{both_final, one_asks}
 use Rattle.uses_http.proofs.fields.read_fields.Goals as goal
 
 pub fields-preserved : goal.fields-preserved
@@ -24,3 +25,8 @@ returns-in-Err-read_line_end-clause-never g c final is_cut =
     let still = c.fields.invariant.cut ∙ is_cut in
     fields_never _ _ _ c.fields.invariant.lines (c.in-Err.ensures.never both.0 still)
     (c.in-Err-read_line_end.ensures.never both.1 still)
+
+pub returns-in-Err-read_line_end-clause-asks : goal.returns-in-Err-read_line_end-clause-asks
+returns-in-Err-read_line_end-clause-asks g c need asked =
+    begun_either _ _ _ _ _ (one_asks _ _ _ need c.or.ensures asked) c.fields.invariant.lines
+    c.in-Err.ensures.asks c.in-Err-read_line_end.ensures.asks

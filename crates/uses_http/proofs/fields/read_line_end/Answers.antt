@@ -1,6 +1,6 @@
 use Rattle.std.proofs.Common.{refl, rules}
 use Rattle.uses_http.specs.Bytes.{line_end}
-use Rattle.uses_http.proofs.LineEnds.{end_must, end_never, end_read}
+use Rattle.uses_http.proofs.LineEnds.{end_asks, end_must, end_never, end_read}
 use Rattle.uses_http.proofs.fields.read_line_end.Goals as goal
 
 pub returns-in-Ok-clause-line : goal.returns-in-Ok-clause-line
@@ -13,3 +13,7 @@ returns-in-Err-clause-accepts c rest begins =
 pub returns-in-Err-clause-never : goal.returns-in-Err-clause-never
 returns-in-Err-clause-never c final is_cut =
     end_never line_end _ _ _ _ _ (search rules) is_cut refl final c.in-Err.ensures.ran
+
+pub returns-in-Err-clause-asks : goal.returns-in-Err-clause-asks
+returns-in-Err-clause-asks c need asked =
+    end_asks line_end need _ _ _ _ (search rules) (rw asked at c.in-Err.ensures.ran)

@@ -1,5 +1,6 @@
 use Rattle.std.proofs.Common.{◌∙◌}
-use Rattle.uses_http.proofs.Heads.{fields_lack, head_fields, line_lacks}
+use Rattle.uses_http.proofs.Heads.{begun_fields, begun_request, fields_lack, head_fields}
+use Rattle.uses_http.proofs.Heads.{line_lacks}
 use Rattle.uses_http.proofs.head.read_head_in_pieces.Goals as goal
 
 pub returns-in-Err-read_fields-clause-accepts : goal.returns-in-Err-read_fields-clause-accepts
@@ -15,3 +16,11 @@ pub returns-in-Err-read_fields-clause-never : goal.returns-in-Err-read_fields-cl
 returns-in-Err-read_fields-clause-never g c final is_cut =
     fields_lack _ _ _ _ _ _ c.in-Ok.ensures.line
     (c.in-Err-read_fields.ensures.never final (c.in-Ok.ensures.ends.cut ∙ is_cut))
+
+pub returns-in-Err-clause-asks : goal.returns-in-Err-clause-asks
+returns-in-Err-clause-asks g c need asked =
+    begun_request _ (c.in-Err.ensures.asks need asked)
+
+pub returns-in-Err-read_fields-clause-asks : goal.returns-in-Err-read_fields-clause-asks
+returns-in-Err-read_fields-clause-asks g c need asked =
+    begun_fields _ _ _ _ _ _ c.in-Ok.ensures.line (c.in-Err-read_fields.ensures.asks need asked)

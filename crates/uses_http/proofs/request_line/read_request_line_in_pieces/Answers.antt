@@ -1,5 +1,6 @@
 use Rattle.std.proofs.Common.{refl}
-use Rattle.uses_http.proofs.RequestLines.{digits_read, line_must, line_never, line_read}
+use Rattle.uses_http.proofs.RequestLines.{digits_read, line_asks, line_must, line_never}
+use Rattle.uses_http.proofs.RequestLines.{line_read}
 use Rattle.uses_http.proofs.request_line.read_request_line_in_pieces.Goals as goal
 
 pub overflow_sub-result : goal.overflow_sub-result
@@ -51,3 +52,13 @@ returns-in-Err-clause-never c final is_cut =
       is.target,
       (is.protocol, tt, is.point, tt, is.end),
     ) is_cut refl final c.in-Err.ensures.ran
+
+pub returns-in-Err-clause-asks : goal.returns-in-Err-clause-asks
+returns-in-Err-clause-asks c need asked =
+    let is = c.line.ensures in
+    line_asks need _ _ _ _ (
+      is.method,
+      is.space,
+      is.target,
+      (is.protocol, tt, is.point, tt, is.end),
+    ) (rw asked at c.in-Err.ensures.ran)
