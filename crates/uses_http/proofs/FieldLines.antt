@@ -1,6 +1,6 @@
 -- The runs of the parsers of a field line, in any input of bytes.
-use Rattle.std.proofs.Common.{◌≡◌, ◌∙◌, ◌++◌, ◌∷◌, ℕ, List, [], None, Ok, Err, true, ap, append_assoc}
-use Rattle.std.proofs.Common.{◌≤◌, Option, arith, inl, inr, length, refl, sym}
+use Rattle.std.proofs.Common.{◌≡◌, ◌∙◌, ◌++◌, ◌∷◌, ℕ, List, [], None, Ok, Err, true, ap}
+use Rattle.std.proofs.Common.{◌≤◌, Option, append_assoc, arith, inl, inr, length, refl, sym}
 use Rattle.std.specs.List.{All}
 use Rattle.std.specs.Borrow.{Bor}
 use Rattle.std.proofs.lemmas.List.Elements.{All-append, All-nil, All-weaker}

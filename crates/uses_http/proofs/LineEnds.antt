@@ -33,6 +33,7 @@ end_never text k s i t j is is_cut possible final ran more rest begins =
 
 -- where it asks for more, more makes it
 pub end_asks : (text : List ℕ) (need : Option ℕ) (s : Bor (List ℕ)) (i : Input ℕ)
-    (t : Bor (List ℕ)) (j : Input ℕ) → s.now ≡ text → SliceRuns modal s i (Err (incomplete need)) t j
+    (t : Bor (List ℕ)) (j : Input ℕ) → s.now ≡ text
+    → SliceRuns modal s i (Err (incomplete need)) t j
     → (more : List ℕ) × (i.left.tokens ++ more ≡ text)
 end_asks text need s i t j is ran = (slice_begins text).asks s i need t j is ran

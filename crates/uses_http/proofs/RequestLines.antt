@@ -1,6 +1,6 @@
 -- The runs of the parsers of a request line, in any input of bytes.
-use Rattle.std.proofs.Common.{◌≡◌, ◌∙◌, ◌+◌, ◌-◌, ◌++◌, ◌∷◌, ℕ, List, Ok, Err, true, ap, append_assoc}
-use Rattle.std.proofs.Common.{[], ◌≤◌, Option, arith, inl, length, refl}
+use Rattle.std.proofs.Common.{◌≡◌, ◌∙◌, ◌+◌, ◌-◌, ◌++◌, ◌∷◌, ℕ, List, Ok, Err, true, ap}
+use Rattle.std.proofs.Common.{[], ◌≤◌, Option, append_assoc, arith, inl, length, refl}
 use Rattle.std.specs.Borrow.{Bor}
 use Rattle.std.specs.List.{All}
 use Rattle.std.specs.Prelude.{⊤}

@@ -128,10 +128,12 @@ pub fn read_field_line_in_pieces<'i>(
         (⟦<Partial<&'static [u8]> as Stream>⟧.view input.new).left.tokens) }
     ensures accepts { (name value rest : List ℕ) → IsFieldLine name value
         (⟦<Partial<&'static [u8]> as Stream>⟧.view input.old).left.tokens rest → IsOk result }
-    ensures never { IfErr result (λ error. IsFinalKind (⟦<ErrMode<EmptyError> as HasKind>⟧.kind error)
+    ensures never { IfErr result (λ error.
+        IsFinalKind (⟦<ErrMode<EmptyError> as HasKind>⟧.kind error)
         → (⟦<Partial<&'static [u8]> as Stream>⟧.view input.old).status.cut ≡ true
         → NoFieldLine (⟦<Partial<&'static [u8]> as Stream>⟧.view input.old).left.tokens) }
-    ensures asks { IfErr result (λ error. (need : Option ℕ) → ⟦<ErrMode<EmptyError> as HasKind>⟧.kind error ≡ incomplete need
+    ensures asks { IfErr result (λ error. (need : Option ℕ)
+        → ⟦<ErrMode<EmptyError> as HasKind>⟧.kind error ≡ incomplete need
         → BeginsFieldLine (⟦<Partial<&'static [u8]> as Stream>⟧.view input.old).left.tokens) }
     ensures ends { IsEndOf bytes_reading (⟦<Partial<&'static [u8]> as Stream>⟧.view input.new)
         (⟦<Partial<&'static [u8]> as Stream>⟧.view input.old) }

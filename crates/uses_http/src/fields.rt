@@ -23,12 +23,14 @@ fn read_line_end<'i>(input: &mut Partial<&'i [u8]>) -> Result<(), ErrMode<EmptyE
     ensures accepts { (rest : List ℕ)
         → (⟦<Partial<&'static [u8]> as Stream>⟧.view input.old).left.tokens ≡ line_end ++ rest
         → IsOk result }
-    ensures never { IfErr result (λ error. IsFinalKind (⟦<ErrMode<EmptyError> as HasKind>⟧.kind error)
+    ensures never { IfErr result (λ error.
+        IsFinalKind (⟦<ErrMode<EmptyError> as HasKind>⟧.kind error)
         → (⟦<Partial<&'static [u8]> as Stream>⟧.view input.old).status.cut ≡ true
         → (more rest : List ℕ)
         → (⟦<Partial<&'static [u8]> as Stream>⟧.view input.old).left.tokens ++ more
         ≡ line_end ++ rest → ⊥) }
-    ensures asks { IfErr result (λ error. (need : Option ℕ) → ⟦<ErrMode<EmptyError> as HasKind>⟧.kind error ≡ incomplete need
+    ensures asks { IfErr result (λ error. (need : Option ℕ)
+        → ⟦<ErrMode<EmptyError> as HasKind>⟧.kind error ≡ incomplete need
         → (more : List ℕ)
         × ((⟦<Partial<&'static [u8]> as Stream>⟧.view input.old).left.tokens ++ more ≡ line_end)) }
     ensures ends { IsEndOf bytes_reading (⟦<Partial<&'static [u8]> as Stream>⟧.view input.new)
@@ -51,10 +53,12 @@ pub fn read_fields<'i, A: Allocator + Copy>(
     ensures accepts { (fields : List Pair) (rest : List ℕ) → AreFields fields
         (⟦<Partial<&'static [u8]> as Stream>⟧.view input.old).left.tokens rest
         → IfErr result (λ error. ⟦<ErrMode<EmptyError> as HasKind>⟧.kind error ≡ memory) }
-    ensures never { IfErr result (λ error. IsFinalKind (⟦<ErrMode<EmptyError> as HasKind>⟧.kind error)
+    ensures never { IfErr result (λ error.
+        IsFinalKind (⟦<ErrMode<EmptyError> as HasKind>⟧.kind error)
         → (⟦<Partial<&'static [u8]> as Stream>⟧.view input.old).status.cut ≡ true
         → NoFields (⟦<Partial<&'static [u8]> as Stream>⟧.view input.old).left.tokens) }
-    ensures asks { IfErr result (λ error. (need : Option ℕ) → ⟦<ErrMode<EmptyError> as HasKind>⟧.kind error ≡ incomplete need
+    ensures asks { IfErr result (λ error. (need : Option ℕ)
+        → ⟦<ErrMode<EmptyError> as HasKind>⟧.kind error ≡ incomplete need
         → BeginsFields (⟦<Partial<&'static [u8]> as Stream>⟧.view input.old).left.tokens) }
 {
     let mut fields = Vec::new(alloc);

@@ -37,9 +37,9 @@ pub struct Head<'i, A: Allocator> {
 /// The head with which bytes begin that come in pieces. It answers as soon as the empty line is
 /// there.
 ///
-/// An error leaves the input as it was. One that wants memory says that the list of fields could not
-/// grow, [`Incomplete`](ErrMode::Incomplete) that no head stands there and more input can make one,
-/// and each other error that no more input can.
+/// An error leaves the input as it was. One that wants memory says that the list of fields could
+/// not grow, [`Incomplete`](ErrMode::Incomplete) that no head stands there and more input can make
+/// one, and each other error that no more input can.
 ///
 /// ```
 /// use uses_http::head::read_head_in_pieces;
@@ -59,10 +59,12 @@ pub fn read_head_in_pieces<'i, A: Allocator + Copy>(
     ensures accepts { (line : Request) (fields : List Pair) (rest : List ℕ) → IsHead line fields
         (⟦<Partial<&'static [u8]> as Stream>⟧.view input.old).left.tokens rest
         → IfErr result (λ error. ⟦<ErrMode<EmptyError> as HasKind>⟧.kind error ≡ memory) }
-    ensures never { IfErr result (λ error. IsFinalKind (⟦<ErrMode<EmptyError> as HasKind>⟧.kind error)
+    ensures never { IfErr result (λ error.
+        IsFinalKind (⟦<ErrMode<EmptyError> as HasKind>⟧.kind error)
         → (⟦<Partial<&'static [u8]> as Stream>⟧.view input.old).status.cut ≡ true
         → NoHead (⟦<Partial<&'static [u8]> as Stream>⟧.view input.old).left.tokens) }
-    ensures asks { IfErr result (λ error. (need : Option ℕ) → ⟦<ErrMode<EmptyError> as HasKind>⟧.kind error ≡ incomplete need
+    ensures asks { IfErr result (λ error. (need : Option ℕ)
+        → ⟦<ErrMode<EmptyError> as HasKind>⟧.kind error ≡ incomplete need
         → BeginsHead (⟦<Partial<&'static [u8]> as Stream>⟧.view input.old).left.tokens) }
     ensures stays { IfErr result (λ _. input.new ≡ input.old) }
 {
@@ -104,7 +106,8 @@ pub fn read_head<'i, A: Allocator + Copy>(
     ensures accepts { (line : Request) (fields : List Pair) (rest : List ℕ)
         → IsHead line fields input.old.now rest
         → IfErr result (λ error. ⟦<ErrMode<EmptyError> as HasKind>⟧.kind error ≡ memory) }
-    ensures fails { IfErr result (λ error. (⟦<ErrMode<EmptyError> as HasKind>⟧.kind error ≡ backtrack)
+    ensures fails { IfErr result (λ error.
+        (⟦<ErrMode<EmptyError> as HasKind>⟧.kind error ≡ backtrack)
         ⊎ (⟦<ErrMode<EmptyError> as HasKind>⟧.kind error ≡ memory)) }
     ensures stays { IfErr result (λ _. input.new ≡ input.old) }
 {

@@ -89,10 +89,12 @@ pub fn read_request_line_in_pieces<'i>(
     ensures accepts { (method target : List ℕ) (major minor : ℕ) (rest : List ℕ)
         → IsRequestLine method target major minor
         (⟦<Partial<&'static [u8]> as Stream>⟧.view input.old).left.tokens rest → IsOk result }
-    ensures never { IfErr result (λ error. IsFinalKind (⟦<ErrMode<EmptyError> as HasKind>⟧.kind error)
+    ensures never { IfErr result (λ error.
+        IsFinalKind (⟦<ErrMode<EmptyError> as HasKind>⟧.kind error)
         → (⟦<Partial<&'static [u8]> as Stream>⟧.view input.old).status.cut ≡ true
         → NoRequestLine (⟦<Partial<&'static [u8]> as Stream>⟧.view input.old).left.tokens) }
-    ensures asks { IfErr result (λ error. (need : Option ℕ) → ⟦<ErrMode<EmptyError> as HasKind>⟧.kind error ≡ incomplete need
+    ensures asks { IfErr result (λ error. (need : Option ℕ)
+        → ⟦<ErrMode<EmptyError> as HasKind>⟧.kind error ≡ incomplete need
         → BeginsRequestLine (⟦<Partial<&'static [u8]> as Stream>⟧.view input.old).left.tokens) }
     ensures ends { IsEndOf bytes_reading (⟦<Partial<&'static [u8]> as Stream>⟧.view input.new)
         (⟦<Partial<&'static [u8]> as Stream>⟧.view input.old) }
