@@ -1,5 +1,7 @@
-//! The tests of numbers and strings of JSON.
+//! The tests of JSON.
 #![tactic(auto)]
 
 #[cfg(test)]
 mod tokens;
+#[cfg(test)]
+mod values;

@@ -1,4 +1,11 @@
+pub mod Answered
+pub mod Beginnings
+pub mod Firsts
+pub mod Items
+pub mod Leading
 pub mod Numbers
 pub mod Standing
 pub mod Taking
 pub mod Texts
+pub mod Values
+pub mod Words

@@ -2,13 +2,12 @@
 use Rattle.std.proofs.Common.{◌≡◌, ◌∙◌, ℕ, List, [], ◌∷◌, ap, arith, refl}
 use Rattle.std.proofs.Common.{inl, inr, length}
 use Rattle.std.specs.List.{All}
-use Rattle.uses_json.proofs.Standing.{Apart, Bars, Starts, Stays, byte_leaves, byte_none}
-use Rattle.uses_json.proofs.Standing.{byte_starts, either_left, either_right, start_less}
-use Rattle.uses_json.proofs.Standing.{either_starts, either_none, first_none, maybe_none}
-use Rattle.uses_json.proofs.Standing.{maybe_some, maybe_starts, maybe_stays, never_bars}
-use Rattle.uses_json.proofs.Standing.{starts_bars}
-use Rattle.uses_json.proofs.Standing.{then_bars, then_exact, then_leaves}
-use Rattle.uses_json.proofs.Standing.{byte_empty, then_none, then_starts, then_stays, widen}
+use Rattle.uses_json.proofs.Beginnings.{Starts, byte_starts, either_starts, maybe_starts}
+use Rattle.uses_json.proofs.Beginnings.{start_less, starts_bars, then_starts, this_none}
+use Rattle.uses_json.proofs.Standing.{Apart, Bars, Stays, byte_empty, byte_leaves, byte_none}
+use Rattle.uses_json.proofs.Standing.{either_left, either_none, either_right, first_none}
+use Rattle.uses_json.proofs.Standing.{maybe_none, maybe_some, maybe_stays, never_bars, then_bars}
+use Rattle.uses_json.proofs.Standing.{then_exact, then_leaves, then_none, then_stays, widen}
 use Rattle.uses_json.specs.Number.{IsDigit, IsDigits, IsE, IsExponent, IsFraction, IsLeading}
 use Rattle.uses_json.specs.Number.{IsMinus, IsNumber, IsNumberByte, IsPoint, IsSign, IsWhole}
 use Rattle.uses_json.specs.Number.{IsZero}
@@ -55,12 +54,6 @@ pub minus_missing : (bytes : List ℕ) → ((more : List ℕ) → bytes ≡ 45 �
     → Leaves (Maybe (IsByte IsMinus)) (Or Never IsMinus) bytes bytes
 minus_missing bytes not =
     maybe_none (IsByte IsMinus) (Or Never IsMinus) bytes (this_none 45 bytes not)
-  where
-    this_none : (c : ℕ) (bytes : List ℕ) → ((more : List ℕ) → bytes ≡ c ∷ more → ⊥)
-        → NoneStands (IsByte (λ b. b ≡ c)) bytes
-    this_none c bytes not rest it =
-        let (b, more, e, is) = byte_starts (λ b. b ≡ c) bytes rest it in
-        not more (e ∙ ap (λ x. x ∷ more) is)
 
 -- ---- the whole part
 

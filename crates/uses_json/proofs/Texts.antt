@@ -4,53 +4,19 @@ use Rattle.std.proofs.Common.{inl, inr, append_assoc, length, length-append, ref
 use Rattle.std.proofs.Common.{take_at}
 use Rattle.std.specs.List.{All}
 use Rattle.std.proofs.lemmas.List.Elements.{All-head, All-push, All-tail}
-use Rattle.uses_json.proofs.Standing.{Starts, alone, byte_empty, byte_first, byte_leaves}
-use Rattle.uses_json.proofs.Standing.{byte_none, byte_stands, byte_starts, either_left, either_none}
-use Rattle.uses_json.proofs.Standing.{either_right, either_starts, first_none, never_bars}
-use Rattle.uses_json.proofs.Standing.{same_byte}
-use Rattle.uses_json.proofs.Standing.{shorter, then_exact, then_none, then_split}
-use Rattle.uses_json.proofs.Standing.{then_stands, then_starts}
+use Rattle.uses_json.proofs.Beginnings.{Starts, byte_starts, either_starts, then_starts, this_none}
+use Rattle.uses_json.proofs.Leading.{Leads, leads_here, leads_on}
+use Rattle.uses_json.proofs.Standing.{alone, byte_empty, byte_first, byte_leaves, byte_none}
+use Rattle.uses_json.proofs.Standing.{byte_stands, either_left, either_none, either_right}
+use Rattle.uses_json.proofs.Standing.{first_none, never_bars, same_byte, shorter, then_exact}
+use Rattle.uses_json.proofs.Standing.{then_none, then_split, then_stands}
 use Rattle.uses_json.specs.Strings.{IsBackslash, IsEscape, IsEscaped, IsFourDigits, IsHexDigit}
 use Rattle.uses_json.specs.Strings.{IsInQuotes, IsPiece, IsQuote, IsString, IsStringTail, IsU}
 use Rattle.uses_json.specs.Strings.{IsUnescaped}
 use Rattle.uses_json.specs.Texts.{IsByte, Leaves, Many, Never, NoneStands, Or}
 use Rattle.uses_json.specs.Texts.{Stands, Then, nothing, one_more}
 
--- ---- from one place to a later one
-
--- A text of T stands at the one place where it stands at the other, with the same rest.
-pub record Leads (T : List ℕ → Type 0) (start now : List ℕ) : Type 0 where
-  pub on : (rest : List ℕ) → Stands T start rest → Stands T now rest
-  pub back : (rest : List ℕ) → Stands T now rest → Stands T start rest
-
-pub leads_here : (T : List ℕ → Type 0) (start : List ℕ) → Leads T start start
-leads_here T start = record { on = λ rest it. it; back = λ rest it. it }
-
-pub leads_on : (T : List ℕ → Type 0) (start mid now : List ℕ) → Leads T start mid → Leads T mid now
-    → Leads T start now
-leads_on T start mid now one two = record {
-  on = λ rest it. two.on rest (one.on rest it);
-  back = λ rest it. one.back rest (two.back rest it);
-}
-
-pub leads_leaves : (T : List ℕ → Type 0) (S : ℕ → Type 0) (start now rest : List ℕ)
-    → Leads T start now → Leaves T S now rest → Leaves T S start rest
-leads_leaves T S start now rest leads it = record {
-  stands = leads.back rest it.stands;
-  only = λ other is. it.only other (leads.on other is);
-}
-
-pub leads_none : (T : List ℕ → Type 0) (start now : List ℕ) → Leads T start now → NoneStands T now
-    → NoneStands T start
-leads_none T start now leads none rest it = none rest (leads.on rest it)
-
--- ---- none of a byte
-
-pub this_none : (c : ℕ) (bytes : List ℕ) → ((more : List ℕ) → bytes ≡ c ∷ more → ⊥)
-    → NoneStands (IsByte (λ b. b ≡ c)) bytes
-this_none c bytes not rest it =
-    let (b, more, e, is) = byte_starts (λ b. b ≡ c) bytes rest it in
-    not more (e ∙ ap (λ x. x ∷ more) is)
+-- ---- bytes of a set
 
 -- behind all bytes of P stands none
 pub all_stops : (P : ℕ → Type 0) (bytes rest : List ℕ) → Leaves (All P) P bytes rest → (b : ℕ)

@@ -43,12 +43,22 @@ IsKey = Then IsGap (Then IsString (Then IsGap (IsByte IsColon)))
 abbrev pub IsMember : (List ℕ → Type 0) → List ℕ → Type 0
 IsMember V = Then IsKey (IsElement V)
 
--- what an array has in it, or else an object
+-- The name and the colon before a value that an object has in it; nothing before one of an array.
+abbrev pub IsName : Bool → List ℕ → Type 0
+IsName true = IsKey
+IsName false = Only []
+
+-- What an object has in it, or else an array.
 abbrev pub IsItem : Bool → (List ℕ → Type 0) → List ℕ → Type 0
 IsItem true V = IsMember V
 IsItem false V = IsElement V
 
--- the bracket behind what an object has in it, or else an array
+-- the bracket before what an object has in it, or else an array
+abbrev pub opening : Bool → ℕ
+opening true = 123
+opening false = 91
+
+-- the bracket behind it
 abbrev pub closing : Bool → ℕ
 closing true = 125
 closing false = 93
@@ -57,17 +67,23 @@ closing false = 93
 abbrev pub IsClosing : Bool → ℕ → Type 0
 IsClosing keyed b = b ≡ closing keyed
 
--- What stands behind the opening bracket: white space or items, and the closing bracket.
+-- White space at most, and the closing bracket.
+abbrev pub IsEmptyTail : Bool → List ℕ → Type 0
+IsEmptyTail keyed = Then IsGap (IsByte (IsClosing keyed))
+
+-- Items with commas between them, and the closing bracket.
+abbrev pub IsItemsTail : Bool → (List ℕ → Type 0) → List ℕ → Type 0
+IsItemsTail keyed V = Then (List_of (IsItem keyed V)) (IsByte (IsClosing keyed))
+
+-- What stands behind the opening bracket.
 abbrev pub IsNestedTail : Bool → (List ℕ → Type 0) → List ℕ → Type 0
-IsNestedTail keyed V =
-    Either (Then IsGap (IsByte (IsClosing keyed)))
-    (Then (List_of (IsItem keyed V)) (IsByte (IsClosing keyed)))
+IsNestedTail keyed V = Either (IsEmptyTail keyed) (IsItemsTail keyed V)
 
 -- An array of values, or an object of them.
 abbrev pub IsNested : (List ℕ → Type 0) → List ℕ → Type 0
 IsNested V =
-    Either (Then (IsByte (λ b. b ≡ 91)) (IsNestedTail false V))
-    (Then (IsByte (λ b. b ≡ 123)) (IsNestedTail true V))
+    Either (Then (IsByte (λ b. b ≡ opening false)) (IsNestedTail false V))
+    (Then (IsByte (λ b. b ≡ opening true)) (IsNestedTail true V))
 
 -- A value, of which no more than so many arrays and objects stand in one another.
 abbrev pub IsValue : ℕ → List ℕ → Type 0

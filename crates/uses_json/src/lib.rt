@@ -4,3 +4,4 @@
 pub mod number;
 pub mod string;
 mod tokens;
+pub mod value;

@@ -1,6 +1,6 @@
 use Rattle.std.proofs.Common.{◌∷◌, ◌≡◌, rules}
 use Rattle.uses_json.proofs.Numbers.{exponent_is, exponent_none}
-use Rattle.uses_json.proofs.Standing.{match_on}
+use Rattle.uses_json.proofs.Answered.{match_on}
 use Rattle.uses_json.specs.Number.{IsE}
 use Rattle.uses_json.proofs.number.behind_exponent.Goals as goal
 

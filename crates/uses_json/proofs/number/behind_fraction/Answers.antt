@@ -1,5 +1,5 @@
 use Rattle.uses_json.proofs.Numbers.{fraction_is, fraction_none}
-use Rattle.uses_json.proofs.Standing.{match_on}
+use Rattle.uses_json.proofs.Answered.{match_on}
 use Rattle.uses_json.proofs.number.behind_fraction.Goals as goal
 
 pub returns : goal.returns

@@ -1,4 +1,4 @@
-use Rattle.uses_json.proofs.Standing.{longest}
+use Rattle.uses_json.proofs.Answered.{longest}
 use Rattle.uses_json.specs.Number.{IsNumber, IsNumberByte}
 use Rattle.uses_json.proofs.number.read_number.Goals as goal
 

@@ -1,5 +1,5 @@
 use Rattle.std.proofs.Common.{◌∷◌, ◌≡◌, ◌∙◌, ap, rules}
-use Rattle.uses_json.proofs.Standing.{match_on}
+use Rattle.uses_json.proofs.Answered.{match_on}
 use Rattle.uses_json.proofs.Texts.{escape_one, escape_u, escape_u_none}
 use Rattle.uses_json.proofs.string.behind_escape.Goals as goal
 

@@ -1,5 +1,5 @@
 use Rattle.std.proofs.Common.{rules}
-use Rattle.uses_json.proofs.Standing.{match_on}
+use Rattle.uses_json.proofs.Answered.{match_on}
 use Rattle.uses_json.proofs.Texts.{no_string, string_is, string_none}
 use Rattle.uses_json.proofs.string.behind_string.Goals as goal
 

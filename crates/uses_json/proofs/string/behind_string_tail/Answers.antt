@@ -1,6 +1,7 @@
 use Rattle.std.proofs.Common.{rules}
-use Rattle.uses_json.proofs.Texts.{escape_leads, escape_less, leads_here, leads_leaves, leads_none}
-use Rattle.uses_json.proofs.Texts.{piece_none, piece_other, tail_ahead, tail_ends, tail_none}
+use Rattle.uses_json.proofs.Leading.{leads_here, leads_leaves, leads_none}
+use Rattle.uses_json.proofs.Texts.{escape_leads, escape_less, piece_none, piece_other, tail_ahead}
+use Rattle.uses_json.proofs.Texts.{tail_ends, tail_none}
 use Rattle.uses_json.specs.Strings.{IsStringTail}
 use Rattle.uses_json.specs.Texts.{Never}
 use Rattle.uses_json.proofs.string.behind_string_tail.Goals as goal

@@ -1,6 +1,6 @@
 -- A string goes on from here as from behind its first quote.
 use Rattle.std.proofs.Common.{length}
-use Rattle.uses_json.proofs.Texts.{Leads}
+use Rattle.uses_json.proofs.Leading.{Leads}
 use Rattle.uses_json.specs.Strings.{IsStringTail}
 use Rattle.uses_json.proofs.string.behind_string_tail.Given as goal
 

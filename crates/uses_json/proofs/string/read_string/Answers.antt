@@ -1,4 +1,5 @@
-use Rattle.uses_json.proofs.Standing.{alone, if_none}
+use Rattle.uses_json.proofs.Answered.{if_none}
+use Rattle.uses_json.proofs.Standing.{alone}
 use Rattle.uses_json.proofs.Texts.{in_quotes, string_is, string_none}
 use Rattle.uses_json.specs.Strings.{IsString}
 use Rattle.uses_json.proofs.string.read_string.Goals as goal

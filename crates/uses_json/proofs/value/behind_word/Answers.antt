@@ -1,0 +1,19 @@
+use Rattle.std.proofs.Common.{subst}
+use Rattle.uses_json.proofs.Answered.{match_on}
+use Rattle.uses_json.proofs.Words.{word_false, word_none, word_null, word_true}
+use Rattle.uses_json.specs.Texts.{Leaves, Never, NoneStands}
+use Rattle.uses_json.specs.Value.{Only}
+use Rattle.uses_json.proofs.value.behind_word.Goals as goal
+
+pub returns-in-None-behind_this : goal.returns-in-None-behind_this
+returns-in-None-behind_this c =
+    let bytes = c.args.bytes.now in
+    let null = subst (λ w. NoneStands (Only w) bytes) c.as_slice.ensures c.in-None.ensures in
+    let true = subst (λ w. NoneStands (Only w) bytes) c.as_slice-in-None.ensures
+    c.in-None-behind_this.ensures in
+    match_on _ _ _ _ c.behind_this-in-None-behind_this.result
+    (λ none. word_none bytes null true
+    (subst (λ w. NoneStands (Only w) bytes) c.as_slice-in-None-behind_this.ensures none))
+    (λ rest it. word_false bytes rest.now null true
+    (subst (λ w. Leaves (Only w) Never bytes rest.now) c.as_slice-in-None-behind_this.ensures it))
+    c.behind_this-in-None-behind_this.ensures
