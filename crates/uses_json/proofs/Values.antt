@@ -1,5 +1,5 @@
 -- How values stand, and what arrays and objects have in them.
-use Rattle.std.proofs.Common.{◌≡◌, ◌∙◌, ◌↔◌, ◌⊎◌, ◌++◌, ◌≤◌, ℕ, zero, suc, Bool, true, false, List, []}
+use Rattle.std.proofs.Common.{◌≡◌, ◌∙◌, ◌↔◌, ◌++◌, ℕ, zero, suc, Bool, true, false, List, []}
 use Rattle.std.proofs.Common.{◌∷◌, ◌<◌, ap, arith, inl, inr, length, refl, subst, sym}
 use Rattle.std.proofs.Common.{IsTrue, ◌==◌}
 use Rattle.std.proofs.lemmas.Bool.{eq-eqb, eqb-true}
@@ -19,7 +19,7 @@ use Rattle.uses_json.proofs.Texts.{string_starts}
 use Rattle.uses_json.proofs.Words.{IsFirstOfScalar, scalar_starts}
 use Rattle.uses_json.specs.Number.{IsNumberByte}
 use Rattle.uses_json.specs.Strings.{IsQuote, IsString}
-use Rattle.uses_json.specs.Texts.{GoesOn, IsByte, Leaves, List_of, Never, NoneStands, Or, Stands}
+use Rattle.uses_json.specs.Texts.{IsByte, Leaves, Never, NoneStands, Stands}
 use Rattle.uses_json.specs.Texts.{Then}
 use Rattle.uses_json.specs.Value.{IsClosing, IsColon, IsElement, IsEmptyTail, IsGap, IsItem}
 use Rattle.uses_json.specs.Value.{IsItemsTail, IsKey, IsName, IsNested, IsNestedTail, IsScalar}

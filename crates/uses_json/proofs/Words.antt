@@ -1,10 +1,10 @@
 -- How words and scalars stand.
-use Rattle.std.proofs.Common.{◌≡◌, ◌∙◌, ◌++◌, ℕ, Bool, List, [], ◌∷◌, ap, arith, inl, inr, sym}
+use Rattle.std.proofs.Common.{◌≡◌, ◌∙◌, ◌++◌, ℕ, List, [], ◌∷◌, ap, arith, inl, inr, sym}
 use Rattle.std.proofs.Common.{◌<◌, refl}
 use Rattle.std.proofs.lemmas.List.{append_cancel_left}
 use Rattle.uses_json.proofs.Beginnings.{Starts, either_starts, starts_bars, starts_none}
 use Rattle.uses_json.proofs.Numbers.{number_starts}
-use Rattle.uses_json.proofs.Standing.{Apart, Bars, either_left, either_none, either_right, widen}
+use Rattle.uses_json.proofs.Standing.{Apart, either_left, either_none, either_right, widen}
 use Rattle.uses_json.proofs.Texts.{string_starts}
 use Rattle.uses_json.specs.Number.{IsLeading, IsMinus, IsNumber, IsNumberByte, IsZero}
 use Rattle.uses_json.specs.Strings.{IsQuote, IsString}

@@ -2,6 +2,7 @@
 #![tactic(auto)]
 
 pub mod number;
+mod scalar;
 pub mod string;
 mod tokens;
 pub mod value;

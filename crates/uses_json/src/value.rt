@@ -3,48 +3,12 @@
 ghost use Rattle.std.specs.Prelude.{◌≡◌, ◌↔◌, ◌∷◌, Bool, List, ℕ, IfNone, IfSome, IsTrue, MatchOption};
 ghost use Rattle.uses_json.specs.Number.{IsNumberByte};
 ghost use Rattle.uses_json.specs.Texts.{IsLongest, Leaves, Never, NoneStands};
-ghost use Rattle.uses_json.specs.Value.{IsEmptyTail, IsItemsTail, IsName, IsScalar, IsText, IsValue};
-ghost use Rattle.uses_json.specs.Value.{IsWord, Only, closing, opening};
+ghost use Rattle.uses_json.specs.Value.{IsEmptyTail, IsItemsTail, IsName, IsText, IsValue, closing};
+ghost use Rattle.uses_json.specs.Value.{opening};
 
-use crate::number::behind_number;
+use crate::scalar::behind_scalar;
 use crate::string::behind_string;
 use crate::tokens::{behind, behind_gap};
-
-/// What stands behind this word.
-fn behind_this<'i>(word: &[u8], bytes: &'i [u8]) -> Option<&'i [u8]>
-    ensures { MatchOption result (NoneStands (Only word.now) bytes.now)
-        (λ rest. Leaves (Only word.now) Never bytes.now rest.now) }
-{
-    bytes.strip_prefix(word)
-}
-
-/// What stands behind one of the words null, true and false.
-fn behind_word<'i>(bytes: &'i [u8]) -> Option<&'i [u8]>
-    ensures { MatchOption result (NoneStands IsWord bytes.now)
-        (λ rest. Leaves IsWord Never bytes.now rest.now) }
-{
-    match behind_this(b"null".as_slice(), bytes) {
-        Some(rest) => Some(rest),
-        None => match behind_this(b"true".as_slice(), bytes) {
-            Some(rest) => Some(rest),
-            None => behind_this(b"false".as_slice(), bytes),
-        },
-    }
-}
-
-/// What stands behind a value that has no others in it.
-fn behind_scalar<'i>(bytes: &'i [u8]) -> Option<&'i [u8]>
-    ensures { MatchOption result (NoneStands IsScalar bytes.now)
-        (λ rest. Leaves IsScalar IsNumberByte bytes.now rest.now) }
-{
-    match behind_string(bytes) {
-        Some(rest) => Some(rest),
-        None => match behind_number(bytes) {
-            Some(rest) => Some(rest),
-            None => behind_word(bytes),
-        },
-    }
-}
 
 /// What stands behind an opening bracket, and whether names stand behind it.
 fn behind_opening<'i>(bytes: &'i [u8]) -> Option<(bool, &'i [u8])>
@@ -65,7 +29,11 @@ fn behind_closing<'i>(keyed: bool, bytes: &'i [u8]) -> Option<&'i [u8]>
     ensures { MatchOption result ((more : List ℕ) → bytes.now ≡ closing keyed ∷ more → ⊥)
         (λ rest. bytes.now ≡ closing keyed ∷ rest.now) }
 {
-    if keyed { behind(b'}', bytes) } else { behind(b']', bytes) }
+    if keyed {
+        behind(b'}', bytes)
+    } else {
+        behind(b']', bytes)
+    }
 }
 
 /// What stands behind the closing bracket of what has nothing in it.
@@ -128,12 +96,13 @@ fn behind_value<'i>(level: usize, bytes: &'i [u8]) -> Option<&'i [u8]>
     }
 }
 
-/// The longest value that the bytes begin with, in which no more than `level` arrays and objects
-/// stand in one another: none at level 0, and `[[1], {}]` at level 2. The input then stands
-/// behind it. White space before it is not passed.
+/// The longest value that the bytes begin with in which no more than `level` arrays and objects
+/// stand in one another: at level 0 there are none, and `[1, {}]` has two levels. The input then
+/// stands behind the value. White space before it is not passed.
 ///
-/// Of a number the bytes may go on: of `1.x` the value is `1`. Each array and object within another
-/// takes a frame of the stack, so `level` is to be no more than there is a stack for.
+/// A number may be a shorter one than the writer meant, as [`read_number`](crate::number::read_number)
+/// says. Each level takes a frame of the stack, so `level` is to be no more than there is a stack
+/// for; the time is that of the length.
 ///
 /// `None` exactly where the bytes begin with no such value; then nothing is read.
 ///

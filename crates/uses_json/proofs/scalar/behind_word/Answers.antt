@@ -3,7 +3,20 @@ use Rattle.uses_json.proofs.Answered.{match_on}
 use Rattle.uses_json.proofs.Words.{word_false, word_none, word_null, word_true}
 use Rattle.uses_json.specs.Texts.{Leaves, Never, NoneStands}
 use Rattle.uses_json.specs.Value.{Only}
-use Rattle.uses_json.proofs.value.behind_word.Goals as goal
+use Rattle.uses_json.proofs.scalar.behind_word.Goals as goal
+
+pub returns-in-Some : goal.returns-in-Some
+returns-in-Some c =
+    word_null _ _
+    (subst (λ w. Leaves (Only w) Never c.args.bytes.now c.in-Some.rest.now) c.as_slice.ensures
+    c.in-Some.ensures)
+
+pub returns-in-Some-behind_this : goal.returns-in-Some-behind_this
+returns-in-Some-behind_this c =
+    word_true _ _
+    (subst (λ w. NoneStands (Only w) c.args.bytes.now) c.as_slice.ensures c.in-None.ensures)
+    (subst (λ w. Leaves (Only w) Never c.args.bytes.now c.in-Some-behind_this.rest.now)
+    c.as_slice-in-None.ensures c.in-Some-behind_this.ensures)
 
 pub returns-in-None-behind_this : goal.returns-in-None-behind_this
 returns-in-None-behind_this c =

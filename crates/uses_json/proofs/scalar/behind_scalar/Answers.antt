@@ -1,6 +1,6 @@
 use Rattle.uses_json.proofs.Answered.{match_on}
 use Rattle.uses_json.proofs.Words.{scalar_none, scalar_number, scalar_string, scalar_word}
-use Rattle.uses_json.proofs.value.behind_scalar.Goals as goal
+use Rattle.uses_json.proofs.scalar.behind_scalar.Goals as goal
 
 pub returns-in-Some : goal.returns-in-Some
 returns-in-Some c = scalar_string _ _ c.in-Some.ensures

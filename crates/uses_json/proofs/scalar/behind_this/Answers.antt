@@ -2,7 +2,7 @@ use Rattle.std.proofs.lemmas.Bool.Decides.{Decides-eqb}
 use Rattle.std.proofs.lemmas.Slice.Eq.{strip_prefix_is}
 use Rattle.uses_json.proofs.Answered.{match_on}
 use Rattle.uses_json.proofs.Words.{only_leaves, only_none}
-use Rattle.uses_json.proofs.value.behind_this.Goals as goal
+use Rattle.uses_json.proofs.scalar.behind_this.Goals as goal
 
 pub returns : goal.returns
 returns c =
