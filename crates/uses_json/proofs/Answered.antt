@@ -1,7 +1,7 @@
 -- What calls answer.
-use Rattle.std.proofs.Common.{◌≡◌, ◌∙◌, ◌⊎◌, ◌++◌, ◌-◌, ◌≤◌, ℕ, List, Option, Some, None, ap, arith}
-use Rattle.std.proofs.Common.{IfNone, MatchOption, inl, inr, length, length-append, subst, sym, take}
-use Rattle.std.proofs.Common.{take_at}
+use Rattle.std.proofs.Common.{◌≡◌, ◌∙◌, ◌⊎◌, ◌++◌, ◌-◌, ◌≤◌, ℕ, IfNone, List, MatchOption, None}
+use Rattle.std.proofs.Common.{Option, Some, ap, arith, inl, inr, length, length-append, subst, sym}
+use Rattle.std.proofs.Common.{take, take_at}
 use Rattle.uses_json.specs.Texts.{GoesOn, IsLongest, Leaves}
 
 -- ---- the longest text

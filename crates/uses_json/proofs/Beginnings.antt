@@ -1,5 +1,5 @@
 -- What texts begin with.
-use Rattle.std.proofs.Common.{◌≡◌, ◌∙◌, ◌++◌, ◌<◌, ℕ, List, [], ◌∷◌, ap, arith, inl, inr, length}
+use Rattle.std.proofs.Common.{◌≡◌, ◌∙◌, ◌++◌, ◌<◌, ℕ, [], ◌∷◌, List, ap, arith, inl, inr, length}
 use Rattle.std.proofs.Common.{length-append, refl, subst, sym}
 use Rattle.uses_json.proofs.Standing.{Apart, Bars, byte_first, same_byte, then_split}
 use Rattle.uses_json.specs.Texts.{Either, IsByte, Maybe, NoneStands, Or, Stands, Then}

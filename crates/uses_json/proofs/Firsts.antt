@@ -1,12 +1,13 @@
 -- With which bytes values begin, and with which they may go on.
-use Rattle.std.proofs.Common.{◌≡◌, ◌⊎◌, ◌<◌, ◌≤◌, ℕ, zero, suc, Bool, true, false, List, arith, inl, inr}
-use Rattle.std.proofs.Common.{refl}
+use Rattle.std.proofs.Common.{◌≡◌, ◌⊎◌, ◌<◌, ◌≤◌, ℕ, Bool, List, arith, false, inl, inr, refl, suc}
+use Rattle.std.proofs.Common.{true, zero}
 use Rattle.uses_json.proofs.Beginnings.{Starts, byte_starts, either_starts, then_starts}
 use Rattle.uses_json.proofs.Standing.{Apart}
 use Rattle.uses_json.proofs.Words.{IsFirstOfScalar, scalar_starts}
 use Rattle.uses_json.specs.Number.{IsNumberByte}
 use Rattle.uses_json.specs.Texts.{IsByte, Or, Then}
-use Rattle.uses_json.specs.Value.{IsNested, IsNestedTail, IsScalar, IsSpace, IsValue, closing, opening}
+use Rattle.uses_json.specs.Value.{IsNested, IsNestedTail, IsScalar, IsSpace, IsValue, closing}
+use Rattle.uses_json.specs.Value.{opening}
 
 -- ---- what values begin with
 

@@ -1,5 +1,5 @@
 -- How lists of texts with commas stand.
-use Rattle.std.proofs.Common.{◌≡◌, ◌∙◌, ◌⊎◌, ◌++◌, ℕ, List, ◌∷◌, ap, append_assoc, inl, inr, refl}
+use Rattle.std.proofs.Common.{◌≡◌, ◌∙◌, ◌⊎◌, ◌++◌, ℕ, ◌∷◌, List, ap, append_assoc, inl, inr, refl}
 use Rattle.std.proofs.Common.{subst, sym}
 use Rattle.uses_json.proofs.Leading.{Leads}
 use Rattle.uses_json.proofs.Standing.{byte_first, byte_stands, ended, same_byte, then_split}

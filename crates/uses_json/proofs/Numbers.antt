@@ -1,6 +1,5 @@
 -- How numbers stand.
-use Rattle.std.proofs.Common.{◌≡◌, ◌∙◌, ℕ, List, [], ◌∷◌, ap, arith, refl}
-use Rattle.std.proofs.Common.{inl, inr, length}
+use Rattle.std.proofs.Common.{◌≡◌, ◌∙◌, ℕ, [], ◌∷◌, List, ap, arith, inl, inr, length, refl}
 use Rattle.std.specs.List.{All}
 use Rattle.uses_json.proofs.Beginnings.{Starts, byte_starts, either_starts, maybe_starts}
 use Rattle.uses_json.proofs.Beginnings.{start_less, starts_bars, then_starts, this_none}

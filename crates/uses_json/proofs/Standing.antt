@@ -1,10 +1,10 @@
 -- How texts stand one behind the other.
-use Rattle.std.proofs.Common.{◌≡◌, ◌∙◌, ◌⊎◌, ◌++◌, ◌<◌, ◌≤◌, ℕ, List, [], ◌∷◌, ap, arith, refl, sym}
-use Rattle.std.proofs.Common.{inl, inr, append_assoc, subst, length, length-append}
+use Rattle.std.proofs.Common.{◌≡◌, ◌∙◌, ◌⊎◌, ◌++◌, ◌<◌, ◌≤◌, ℕ, [], ◌∷◌, List, ap, append_assoc}
+use Rattle.std.proofs.Common.{arith, inl, inr, length, length-append, refl, subst, sym}
 use Rattle.std.specs.List.{All}
 use Rattle.std.proofs.lemmas.List.Elements.{All-head, All-tail}
-use Rattle.uses_json.specs.Texts.{Either, GoesOn, IsByte, Leaves, Maybe, Never, NoneStands}
-use Rattle.uses_json.specs.Texts.{Or, Stands, Then}
+use Rattle.uses_json.specs.Texts.{Either, GoesOn, IsByte, Leaves, Maybe, Never, NoneStands, Or}
+use Rattle.uses_json.specs.Texts.{Stands, Then}
 
 -- No text of Q begins with a byte of S.
 abbrev pub Bars : (Q : List ℕ → Type 0) (S : ℕ → Type 0) → Type 0

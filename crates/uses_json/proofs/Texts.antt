@@ -1,6 +1,6 @@
 -- How the texts of strings stand.
-use Rattle.std.proofs.Common.{◌≡◌, ◌∙◌, ◌⊎◌, ◌++◌, ◌<◌, ◌-◌, ℕ, List, [], ◌∷◌, ap, arith}
-use Rattle.std.proofs.Common.{inl, inr, append_assoc, length, length-append, refl, subst, sym, take}
+use Rattle.std.proofs.Common.{◌≡◌, ◌∙◌, ◌⊎◌, ◌++◌, ◌<◌, ◌-◌, ℕ, [], ◌∷◌, List, ap, append_assoc}
+use Rattle.std.proofs.Common.{arith, inl, inr, length, length-append, refl, subst, sym, take}
 use Rattle.std.proofs.Common.{take_at}
 use Rattle.std.specs.List.{All}
 use Rattle.std.proofs.lemmas.List.Elements.{All-head, All-push, All-tail}
@@ -13,8 +13,8 @@ use Rattle.uses_json.proofs.Standing.{then_none, then_split, then_stands}
 use Rattle.uses_json.specs.Strings.{IsBackslash, IsEscape, IsEscaped, IsFourDigits, IsHexDigit}
 use Rattle.uses_json.specs.Strings.{IsInQuotes, IsPiece, IsQuote, IsString, IsStringTail, IsU}
 use Rattle.uses_json.specs.Strings.{IsUnescaped}
-use Rattle.uses_json.specs.Texts.{IsByte, Leaves, Many, Never, NoneStands, Or}
-use Rattle.uses_json.specs.Texts.{Stands, Then, nothing, one_more}
+use Rattle.uses_json.specs.Texts.{IsByte, Leaves, Many, Never, NoneStands, Or, Stands, Then}
+use Rattle.uses_json.specs.Texts.{nothing, one_more}
 
 -- ---- bytes of a set
 

@@ -1,7 +1,6 @@
 -- How values stand, and what arrays and objects have in them.
-use Rattle.std.proofs.Common.{◌≡◌, ◌∙◌, ◌↔◌, ◌++◌, ℕ, zero, suc, Bool, true, false, List, []}
-use Rattle.std.proofs.Common.{◌∷◌, ◌<◌, ap, arith, inl, inr, length, refl, subst, sym}
-use Rattle.std.proofs.Common.{IsTrue, ◌==◌}
+use Rattle.std.proofs.Common.{◌≡◌, ◌∙◌, ◌↔◌, ◌++◌, ℕ, [], ◌∷◌, ◌<◌, ◌==◌, Bool, IsTrue, List, ap}
+use Rattle.std.proofs.Common.{arith, false, inl, inr, length, refl, subst, suc, sym, true, zero}
 use Rattle.std.proofs.lemmas.Bool.{eq-eqb, eqb-true}
 use Rattle.std.proofs.lemmas.List.{append-nil, nil_from_length}
 use Rattle.uses_json.proofs.Beginnings.{Starts, no_bytes, starts_bars, starts_none, this_none}
@@ -13,14 +12,14 @@ use Rattle.uses_json.proofs.Items.{ends, goes, never_begins, stops}
 use Rattle.uses_json.proofs.Leading.{Leads}
 use Rattle.uses_json.proofs.Standing.{Apart, Bars, all_leaves, all_stays, byte_bars, byte_first}
 use Rattle.uses_json.proofs.Standing.{byte_leaves, byte_none, either_left, either_none}
-use Rattle.uses_json.proofs.Standing.{either_right, first_none, never_bars, same_byte, then_bars}
-use Rattle.uses_json.proofs.Standing.{shorter, then_exact, then_leaves, then_none, then_split, widen}
+use Rattle.uses_json.proofs.Standing.{either_right, first_none, never_bars, same_byte, shorter}
+use Rattle.uses_json.proofs.Standing.{then_bars, then_exact, then_leaves, then_none, then_split}
+use Rattle.uses_json.proofs.Standing.{widen}
 use Rattle.uses_json.proofs.Texts.{string_starts}
 use Rattle.uses_json.proofs.Words.{IsFirstOfScalar, scalar_starts}
 use Rattle.uses_json.specs.Number.{IsNumberByte}
 use Rattle.uses_json.specs.Strings.{IsQuote, IsString}
-use Rattle.uses_json.specs.Texts.{IsByte, Leaves, Never, NoneStands, Stands}
-use Rattle.uses_json.specs.Texts.{Then}
+use Rattle.uses_json.specs.Texts.{IsByte, Leaves, Never, NoneStands, Stands, Then}
 use Rattle.uses_json.specs.Value.{IsClosing, IsColon, IsElement, IsEmptyTail, IsGap, IsItem}
 use Rattle.uses_json.specs.Value.{IsItemsTail, IsKey, IsName, IsNested, IsNestedTail, IsScalar}
 use Rattle.uses_json.specs.Value.{IsSpace, IsText, IsValue, Only, closing, opening}

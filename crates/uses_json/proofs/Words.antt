@@ -1,6 +1,5 @@
 -- How words and scalars stand.
-use Rattle.std.proofs.Common.{◌≡◌, ◌∙◌, ◌++◌, ℕ, List, [], ◌∷◌, ap, arith, inl, inr, sym}
-use Rattle.std.proofs.Common.{◌<◌, refl}
+use Rattle.std.proofs.Common.{◌≡◌, ◌∙◌, ◌++◌, ℕ, [], ◌∷◌, ◌<◌, List, ap, arith, inl, inr, refl, sym}
 use Rattle.std.proofs.lemmas.List.{append_cancel_left}
 use Rattle.uses_json.proofs.Beginnings.{Starts, either_starts, starts_bars, starts_none}
 use Rattle.uses_json.proofs.Numbers.{number_starts}

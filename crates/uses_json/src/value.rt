@@ -1,6 +1,7 @@
 //! Values of JSON and what stands in them, as they stand in a text (RFC 8259, sections 2 to 5).
 
-ghost use Rattle.std.specs.Prelude.{◌≡◌, ◌↔◌, ◌∷◌, Bool, List, ℕ, IfNone, IfSome, IsTrue, MatchOption};
+ghost use Rattle.std.specs.Prelude.{◌≡◌, ◌↔◌, ◌∷◌, Bool, List, ℕ, IfNone, IfSome, IsTrue};
+ghost use Rattle.std.specs.Prelude.{MatchOption};
 ghost use Rattle.uses_json.specs.Number.{IsNumberByte};
 ghost use Rattle.uses_json.specs.Texts.{IsLongest, Leaves, Never, NoneStands};
 ghost use Rattle.uses_json.specs.Value.{IsEmptyTail, IsItemsTail, IsName, IsText, IsValue, closing};
@@ -100,9 +101,8 @@ fn behind_value<'i>(level: usize, bytes: &'i [u8]) -> Option<&'i [u8]>
 /// stand in one another: at level 0 there are none, and `[1, {}]` has two levels. The input then
 /// stands behind the value. White space before it is not passed.
 ///
-/// A number may be a shorter one than the writer meant, as [`read_number`](crate::number::read_number)
-/// says. Each level takes a frame of the stack, so `level` is to be no more than there is a stack
-/// for; the time is that of the length.
+/// A number may be a shorter one than the writer meant, as `read_number` says. Each level takes
+/// frames of the stack, so `level` is to be no more than there is a stack for.
 ///
 /// `None` exactly where the bytes begin with no such value; then nothing is read.
 ///

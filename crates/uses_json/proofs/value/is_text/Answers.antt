@@ -9,7 +9,7 @@ returns-in-Some c =
     let whole = element_is (IsValue c.args.level) c.args.bytes.now _ _ _
     (value_starts c.args.level) c.behind_gap.ensures c.in-Some.ensures
     c.behind_gap-in-Some.ensures in
-    let empty = empty_tells c.is_empty.result c.behind_gap-in-Some.result.now c.is_empty.ensures in (
+    let empty = empty_tells c.is_empty.result _ c.is_empty.ensures in (
       λ yes. text_is c.args.level IsItemByte c.args.bytes.now _ whole (empty.0 yes),
       λ is. empty.1 (text_ends c.args.level IsItemByte c.args.bytes.now _ whole is),
     )
