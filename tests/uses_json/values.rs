@@ -183,3 +183,17 @@ fn is_text_of_texts(rt: HostRuntime) {
         same(&rt, text, is_text(2, text), false);
     }
 }
+
+/// A text of this many arrays, one in the other, is one at that level, and at none below.
+#[test]
+fn is_text_of_many_levels(rt: HostRuntime) {
+    let mut text = [b'['; 600];
+    for place in 300..600 {
+        text[place] = b']';
+    }
+    assert!(rt; is_text(300, text.as_slice()));
+    assert!(rt; is_text(usize::MAX, text.as_slice()));
+    assert!(rt; !is_text(299, text.as_slice()));
+    assert!(rt; !is_text(300, &text[1..]));
+    assert!(rt; !is_text(300, &text[..599]));
+}
