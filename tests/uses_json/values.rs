@@ -124,6 +124,8 @@ const TEXTS: &[&[u8]] = &[
     b"\n{\"a\" :\t[ 1,2 ] }\r\n",
     b"[1.5,-0,1E-2,\"\\u00e9\"]",
     b"[[],{}]",
+    // Bytes of 128 and above are not looked at.
+    b"\"\xff\"",
 ];
 
 /// Texts that are none.

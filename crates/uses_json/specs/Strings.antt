@@ -10,7 +10,7 @@ IsQuote b = b ≡ 34
 abbrev pub IsBackslash : ℕ → Type 0
 IsBackslash b = b ≡ 92
 
--- A byte that stands for itself: no control, no quote and no backslash.
+-- A byte that stands for itself: 32 or above, no quote and no backslash.
 abbrev pub IsUnescaped : ℕ → Type 0
 IsUnescaped b = (32 ≤ b) × (b ≡ 34 → ⊥) × (b ≡ 92 → ⊥)
 

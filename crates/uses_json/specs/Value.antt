@@ -90,6 +90,6 @@ abbrev pub IsValue : ℕ → List ℕ → Type 0
 IsValue zero text = IsScalar text
 IsValue (suc level) text = Either IsScalar (IsNested (IsValue level)) text
 
--- a text of JSON: a value with white space round it
+-- a text of JSON, where it is UTF-8: a value with white space round it
 abbrev pub IsText : ℕ → List ℕ → Type 0
 IsText level = IsElement (IsValue level)

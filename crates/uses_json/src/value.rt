@@ -102,7 +102,8 @@ fn behind_value<'i>(level: usize, bytes: &'i [u8]) -> Option<&'i [u8]>
 /// stands behind the value. White space before it is not passed.
 ///
 /// A number may be a shorter one than the writer meant, as `read_number` says. Each level takes
-/// frames of the stack, so `level` is to be no more than there is a stack for.
+/// frames of the stack, so `level` is to be no more than there is a stack for. Bytes of 128 and
+/// above are not looked at: what is found is JSON where it is UTF-8.
 ///
 /// `None` exactly where the bytes begin with no such value; then nothing is read.
 ///
@@ -127,7 +128,8 @@ pub fn read_value<'i>(level: usize, input: &mut &'i [u8]) -> Option<&'i [u8]>
 }
 
 /// Whether the bytes are a text of JSON, a value with white space round it, in which no more than
-/// `level` arrays and objects stand in one another. `level` is as [`read_value`] has it.
+/// `level` arrays and objects stand in one another. `level` is as [`read_value`] has it. Bytes of
+/// 128 and above are not looked at: these bytes are JSON where they are UTF-8.
 ///
 /// ```
 /// use uses_json::value::is_text;
