@@ -1,7 +1,7 @@
 //! What takes of bits share.
 #![tactic(auto, using(streams::specs::Ends::ends_follow))]
 
-ghost use Rattle.std.specs.Prelude.{◌≡◌, ◌≤◌, length, true};
+ghost use Rattle.std.specs.Prelude.{◌≡◌, ◌<◌, ◌≤◌, ◌+◌, length, true};
 ghost use Rattle.stream_bits.specs.BitReading.{bits_reading};
 ghost use Rattle.stream_bits.specs.Within.{ReadsNumber};
 ghost use Rattle.stream_errors.specs.Form.{answer_by};
@@ -16,9 +16,27 @@ use streams::needed::Needed;
 use streams::stream::{Stream, StreamIsPartial};
 use winnow_core::short::short;
 
+/// The next `count` bits as a number, which stand in one byte.
+#[inline(always)]
+fn take_within_byte<I: ByteStream, O: BitOutput>(input: &mut Bits<I>, count: usize) -> O
+    requires possible { (⟦<Bits<I> as Stream>⟧.view input.old).left.possible ≡ true }
+    requires there { count ≤ length (⟦<Bits<I> as Stream>⟧.view input.old).left.tokens }
+    requires fits { count ≤ O.WIDTH }
+    requires some { 0 < count }
+    requires within { input.old.1 + count ≤ 8 }
+    ensures { ReadsNumber (bits_reading I.reading) count (⟦<Bits<I> as Stream>⟧.view input.old)
+        (O.number result) (⟦<Bits<I> as Stream>⟧.view input.new) }
+{
+    let number = O::default();
+    match input.next_of_byte(count) {
+        Some(bits) => number.push_bits(bits, count),
+        None => number,
+    }
+}
+
 /// The next `count` bits as a number: those of a byte at once.
 #[inline(always)]
-fn take_number<I: ByteStream, O: BitOutput>(input: &mut Bits<I>, count: usize) -> O
+fn take_across_bytes<I: ByteStream, O: BitOutput>(input: &mut Bits<I>, count: usize) -> O
     requires possible { (⟦<Bits<I> as Stream>⟧.view input.old).left.possible ≡ true }
     requires there { count ≤ length (⟦<Bits<I> as Stream>⟧.view input.old).left.tokens }
     requires fits { count ≤ O.WIDTH }
@@ -40,6 +58,24 @@ fn take_number<I: ByteStream, O: BitOutput>(input: &mut Bits<I>, count: usize) -
         }
     }
     number
+}
+
+/// The next `count` bits as a number. Those of one byte take no loop, so that the compiler folds
+/// counts that it knows.
+#[inline(always)]
+fn take_number<I: ByteStream, O: BitOutput>(input: &mut Bits<I>, count: usize) -> O
+    requires possible { (⟦<Bits<I> as Stream>⟧.view input.old).left.possible ≡ true }
+    requires there { count ≤ length (⟦<Bits<I> as Stream>⟧.view input.old).left.tokens }
+    requires fits { count ≤ O.WIDTH }
+    requires some { 0 < count }
+    ensures { ReadsNumber (bits_reading I.reading) count (⟦<Bits<I> as Stream>⟧.view input.old)
+        (O.number result) (⟦<Bits<I> as Stream>⟧.view input.new) }
+{
+    if count <= 8 - input.1 {
+        take_within_byte(input, count)
+    } else {
+        take_across_bytes(input, count)
+    }
 }
 
 /// A run of a take of `count` bits.

@@ -3,7 +3,7 @@ use Rattle.stream_bits.specs.BitInput.{bits_input}
 use Rattle.stream_bits.specs.BitReading.{bits_reading}
 use Rattle.winnow_bits.specs.InParts.{reads_below, reads_both, reads_fewer, reads_none}
 use Rattle.winnow_bits.specs.InParts.{reads_within}
-use Rattle.winnow_bits.proofs.bits.fields.take_number.Goals as goal
+use Rattle.winnow_bits.proofs.bits.fields.take_across_bytes.Goals as goal
 
 pub loop-missing-init : goal.loop-missing-init
 loop-missing-init g c =

@@ -2,7 +2,7 @@ use Rattle.std.proofs.Common.{◌≡◌, ◌-◌, ◌≤◌, length, true}
 use Rattle.stream_bits.specs.BitInput.{bits_from, bits_input, can_be_read}
 use Rattle.stream_bits.specs.BitReading.{bits_reading}
 use Rattle.stream_bits.specs.Within.{ReadsNumber}
-use Rattle.winnow_bits.proofs.bits.fields.take_number.Given as goal
+use Rattle.winnow_bits.proofs.bits.fields.take_across_bytes.Given as goal
 
 abbrev pub invariant-loop-missing : goal.invariant-loop-missing
 invariant-loop-missing g l = record {
