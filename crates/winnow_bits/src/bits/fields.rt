@@ -34,6 +34,26 @@ fn take_within_byte<I: ByteStream, O: BitOutput>(input: &mut Bits<I>, count: usi
     }
 }
 
+/// The next `count` bits as a number, which begin in one byte and end in the next.
+#[inline(always)]
+fn take_of_two_bytes<I: ByteStream, O: BitOutput>(input: &mut Bits<I>, count: usize) -> O
+    requires possible { (⟦<Bits<I> as Stream>⟧.view input.old).left.possible ≡ true }
+    requires there { count ≤ length (⟦<Bits<I> as Stream>⟧.view input.old).left.tokens }
+    requires fits { count ≤ O.WIDTH }
+    requires across { 8 < input.old.1 + count }
+    requires within { input.old.1 + count ≤ 16 }
+    ensures { ReadsNumber (bits_reading I.reading) count (⟦<Bits<I> as Stream>⟧.view input.old)
+        (O.number result) (⟦<Bits<I> as Stream>⟧.view input.new) }
+{
+    let here = 8 - input.1;
+    let missing = count - here;
+    let number: O = take_within_byte(input, here);
+    match input.next_of_byte(missing) {
+        Some(bits) => number.push_bits(bits, missing),
+        None => number,
+    }
+}
+
 /// The next `count` bits as a number: those of a byte at once.
 #[inline(always)]
 fn take_across_bytes<I: ByteStream, O: BitOutput>(input: &mut Bits<I>, count: usize) -> O
@@ -60,8 +80,8 @@ fn take_across_bytes<I: ByteStream, O: BitOutput>(input: &mut Bits<I>, count: us
     number
 }
 
-/// The next `count` bits as a number. Those of one byte take no loop, so that the compiler folds
-/// counts that it knows.
+/// The next `count` bits as a number. Those of one byte or two take no loop, so that the compiler
+/// folds counts that it knows.
 #[inline(always)]
 fn take_number<I: ByteStream, O: BitOutput>(input: &mut Bits<I>, count: usize) -> O
     requires possible { (⟦<Bits<I> as Stream>⟧.view input.old).left.possible ≡ true }
@@ -71,8 +91,11 @@ fn take_number<I: ByteStream, O: BitOutput>(input: &mut Bits<I>, count: usize) -
     ensures { ReadsNumber (bits_reading I.reading) count (⟦<Bits<I> as Stream>⟧.view input.old)
         (O.number result) (⟦<Bits<I> as Stream>⟧.view input.new) }
 {
-    if count <= 8 - input.1 {
+    let here = 8 - input.1;
+    if count <= here {
         take_within_byte(input, count)
+    } else if count <= here + 8 {
+        take_of_two_bytes(input, count)
     } else {
         take_across_bytes(input, count)
     }
