@@ -144,6 +144,7 @@ lines_read {S} {W} {T} {O} {A} run recover assert_kind keeps skips s t i all j r
         chain = subst P (sym are) told.chain;
         ended = told.ended;
         left = ap (λ (y : Input _). y.left) told.back;
+        so_far = records.1;
         recorded = back ∙ records.1;
         each = subst Q (sym are) records.2;
       },

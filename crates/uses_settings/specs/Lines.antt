@@ -30,6 +30,7 @@ pub record LinesRead {Q T O : Type 0} (line : Runs Q T (Option O)) (s : Q) (i : 
   pub chain : Items line s i outputs state last
   pub ended : line state last (Err backtrack) next_state next
   pub left : j.left ≡ last.left
+  pub so_far : last.status.recorded ≡ i.status.recorded ++ kinds
   pub recorded : j.status.recorded ≡ i.status.recorded ++ kinds
   pub each : length kinds ≡ faults outputs
 

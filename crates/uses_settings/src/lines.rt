@@ -64,8 +64,9 @@ pub fn first_line<
 ///
 /// It answers the input, back at its start, the outputs, and the faults in order: as many as there
 /// are lines without an output, where neither parser records anything itself. Where something is
-/// left behind the lines, an error that backtracks is the last. Where memory is refused, the input
-/// alone comes back.
+/// left behind the lines, an error that backtracks is the last. There are no outputs where the list
+/// itself fails: that error is the last. Where memory is refused, the input alone comes back. The
+/// stream is one that is never partial.
 pub fn read_lines<
     P: Parser<Recoverable<I, R, A>, O, E> + Drop,
     S: Parser<Recoverable<I, R, A>, (), E> + Drop,
