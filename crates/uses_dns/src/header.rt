@@ -173,8 +173,8 @@ pub fn header_of<I: ByteStream + StreamIsPartial + Copy>(
     })
 }
 
-/// The header of a message, with which the bytes begin: twelve bytes, whatever they are. No more
-/// than 2 to the 61 bytes have bits that can be counted.
+/// The header of a message, with which the bytes begin: twelve bytes, whatever they are. Only of
+/// fewer than 2 to the 61 bytes the bits can be counted.
 ///
 /// ```
 /// use uses_dns::header::read_header;
