@@ -8,14 +8,14 @@ use Rattle.std.specs.declared.vec.Vec.{Vec}
 use Rattle.std.proofs.lemmas.List.{append-nil, flat_map_more, map_push}
 use Rattle.std.proofs.lemmas.List.Concat.{flat_map-cons}
 use Rattle.std.proofs.lemmas.List.Elements.{All-head, All-nil, All-push, All-tail}
-use Rattle.uses_csv.specs.Document.{IsDocument, IsRefusedAt, line}
-use Rattle.uses_csv.specs.Field.{IsTextByte}
+use Rattle.uses_csv.specs.Document.{BeginsField, IsDocument, IsRefusedAt, line}
+use Rattle.uses_csv.specs.Field.{IsTextByte, SomeStands}
 use Rattle.uses_csv.specs.Record.{BeginsRecord, Cell, IsCell, IsRecord, LacksField, cell, row}
 use Rattle.uses_csv.specs.Record.{with_commas}
 use Rattle.std.proofs.lemmas.Bool.{true≢false}
 use Rattle.std.proofs.lemmas.Bool.Decides.{eqb_tells}
 use Rattle.uses_csv.specs.declared.field.Field.{Field}
-use Rattle.uses_csv.proofs.Rows.{lacking, record_one}
+use Rattle.uses_csv.proofs.Rows.{lacking, record_one, record_some}
 
 -- ---- a record before a line end, or alone
 
@@ -265,3 +265,17 @@ read_refused records bytes now here it lacks =
       );
     } in
     (at, refused_none bytes _ at)
+
+-- a field stands first where one does behind what was read
+pub read_begins : (records : List (List Cell)) (bytes now : List ℕ) → IsRead records bytes now
+    → 0 < length now → SomeStands now → BeginsField bytes
+read_begins [] bytes now it some stands = (
+  λ none. omega (arith, some, ap (λ l. length l) (sym it.splits ∙ none)),
+  subst SomeStands (sym it.splits) stands,
+)
+read_begins (r ∷ records) bytes now it some stands =
+    let split = first_line r records bytes now it.splits in (
+      line_not_nothing r bytes _ split,
+      record_some r bytes _
+          (line_begins r bytes _ (All-head IsRecord r records it.are) split),
+    )

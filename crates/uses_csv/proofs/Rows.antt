@@ -7,9 +7,9 @@ use Rattle.std.proofs.lemmas.List.{append-nil, append_cancel_right, flat_map_mor
 use Rattle.std.proofs.lemmas.List.{map_push}
 use Rattle.std.proofs.lemmas.List.Concat.{flat_map-cons}
 use Rattle.std.proofs.lemmas.List.Elements.{All-head, All-nil, All-push, All-tail}
-use Rattle.uses_csv.specs.Field.{IsEnd, IsField, NoneStands, written}
+use Rattle.uses_csv.specs.Field.{IsEnd, IsField, NoneStands, SomeStands, written}
 use Rattle.uses_csv.specs.Record.{BeginsRecord, Cell, IsCell, IsRecordEnd, LacksField, cell}
-use Rattle.uses_csv.specs.Record.{row, with_commas, written_cell}
+use Rattle.uses_csv.specs.Record.{PassesFields, row, with_commas, written_cell}
 use Rattle.uses_csv.specs.declared.field.Field.{Field}
 use Rattle.uses_csv.proofs.Scans.{closing_ends, end_no_quote, end_no_text, quote_no_text, same_end}
 use Rattle.uses_csv.proofs.Scans.{same_text_end}
@@ -283,3 +283,35 @@ pub lacking : (bytes here : List ℕ) → LacksField bytes here → (cells : Lis
     (rest : List ℕ) → BeginsRecord cells bytes rest → ⊥
 lacking bytes here it cells rest stands =
     lacks_none it.cells cells bytes here rest it.are it.splits it.none stands
+
+-- ---- where memory is refused
+
+-- a field was read for which there was no room
+pub begun_passes : (fields : List Field) (field : Field) (start now rest : List ℕ)
+    → IsBegun (map cell fields) start now → IsField field.is_quoted field.text.now now rest
+    → PassesFields start rest
+begun_passes fields field start now rest it read = record {
+  cells = map cell fields;
+  are = it.are;
+  here = now;
+  splits = it.splits;
+  last = cell field;
+  field = read;
+}
+
+-- so a field stands first
+passes_first : (cells : List Cell) (bytes here : List ℕ) → All IsCell cells
+    → bytes ≡ with_commas cells ++ here → SomeStands here → SomeStands bytes
+passes_first [] bytes here are e stands = subst SomeStands (sym e) stands
+passes_first (c ∷ cells) bytes here are e stands =
+    (c.0, c.1, _, comma_field c cells bytes here are e)
+
+pub passes_some : (bytes rest : List ℕ) → PassesFields bytes rest → SomeStands bytes
+passes_some bytes rest it =
+    passes_first it.cells bytes it.here it.are it.splits (it.last.0, it.last.1, rest, it.field)
+
+-- and so it does where a record stands
+pub record_some : (cells : List Cell) (bytes rest : List ℕ) → BeginsRecord cells bytes rest
+    → SomeStands bytes
+record_some [] bytes rest it = absurd (omega (arith, it.is.some))
+record_some (c ∷ cells) bytes rest it = (c.0, c.1, _, first_field c cells bytes rest it)

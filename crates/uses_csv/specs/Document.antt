@@ -1,7 +1,8 @@
 -- Documents of comma separated values (RFC 4180, section 2): records with line ends between them,
 -- and the last may have one too.
-use Rattle.std.specs.Prelude.{◌≡◌, ◌⊎◌, ◌+◌, ℕ, List, [], ◌∷◌, ◌++◌, length, ⊤}
+use Rattle.std.specs.Prelude.{◌≡◌, ◌⊎◌, ◌+◌, ℕ, List, [], ◌∷◌, ◌++◌, length}
 use Rattle.std.specs.List.{All, flat_map}
+use Rattle.uses_csv.specs.Field.{SomeStands}
 use Rattle.uses_csv.specs.Record.{Cell, IsRecord, LacksField, row}
 use Rattle.uses_csv.specs.declared.fault.Fault.{Fault}
 use Rattle.uses_csv.specs.declared.fault.Fault.TheVariants.{NoMemory, Refused}
@@ -31,9 +32,13 @@ pub record IsRefusedAt (bytes : List ℕ) (offset : ℕ) : Type 0 where
   pub lacks : LacksField rest here
   pub place : offset + length here ≡ length bytes
 
+-- There are bytes, and they begin with a field.
+abbrev pub BeginsField : List ℕ → Type 0
+BeginsField bytes = (bytes ≡ [] → ⊥) × SomeStands bytes
+
 -- A fault of the reader of a document: the bytes are none, and this is the place where no field
--- stands.
+-- stands; or memory was refused, of which none is asked for without a field.
 abbrev pub IsDocumentFault : List ℕ → Fault → Type 0
 IsDocumentFault bytes (Refused offset) =
     IsRefusedAt bytes offset × ((records : List (List Cell)) → IsDocument records bytes → ⊥)
-IsDocumentFault bytes NoMemory = ⊤
+IsDocumentFault bytes NoMemory = BeginsField bytes

@@ -20,7 +20,8 @@ doubled b = if b == 34 then 34 ∷ 34 ∷ [] else b ∷ []
 abbrev pub IsContent : ℕ → Type 0
 IsContent b = (b ≡ 34) ⊎ IsQuotedByte b
 
--- What stands between quotes, or else without: the second is what the field stands for itself.
+-- The text of a field: between quotes, content with each quote twice; without, bytes that stand for
+-- themselves.
 abbrev pub IsFieldText : Bool → List ℕ → Type 0
 IsFieldText true text =
     (content : List ℕ) × All IsContent content × (text ≡ flat_map doubled content)
@@ -67,3 +68,8 @@ pub record IsOpen (bytes : List ℕ) : Type 0 where
 -- no field stands first
 abbrev pub NoneStands : List ℕ → Type 0
 NoneStands bytes = (quoted : Bool) (text rest : List ℕ) → IsField quoted text bytes rest → ⊥
+
+-- a field stands first
+abbrev pub SomeStands : List ℕ → Type 0
+SomeStands bytes =
+    (quoted : Bool) × (text : List ℕ) × (rest : List ℕ) × IsField quoted text bytes rest

@@ -1,8 +1,8 @@
 -- Records of comma separated values (RFC 4180, section 2): one field or more, with commas between
 -- them.
-use Rattle.std.specs.Prelude.{◌≡◌, ◌<◌, ◌⊎◌, ◌+◌, ℕ, Bool, List, [], ◌∷◌, ◌++◌, length, ⊤}
+use Rattle.std.specs.Prelude.{◌≡◌, ◌<◌, ◌⊎◌, ◌+◌, ℕ, Bool, List, [], ◌∷◌, ◌++◌, length}
 use Rattle.std.specs.List.{All, flat_map, join_by}
-use Rattle.uses_csv.specs.Field.{IsFieldText, NoneStands, written}
+use Rattle.uses_csv.specs.Field.{IsField, IsFieldText, NoneStands, written}
 use Rattle.uses_csv.specs.declared.fault.Fault.{Fault}
 use Rattle.uses_csv.specs.declared.fault.Fault.TheVariants.{NoMemory, Refused}
 use Rattle.uses_csv.specs.declared.field.Field.{Field}
@@ -15,6 +15,7 @@ Cell = Bool × List ℕ
 abbrev pub cell : Field → Cell
 cell f = (f.is_quoted, f.text.now)
 
+-- A field that may stand in a record.
 abbrev pub IsCell : Cell → Type 0
 IsCell c = IsFieldText c.0 c.1
 
@@ -52,10 +53,20 @@ pub record LacksField (bytes rest : List ℕ) : Type 0 where
   pub splits : bytes ≡ with_commas cells ++ rest
   pub none : NoneStands rest
 
+-- Fields with a comma behind each, then one more field, and then the rest.
+pub record PassesFields (bytes rest : List ℕ) : Type 0 where
+  pub cells : List Cell
+  pub are : All IsCell cells
+  pub here : List ℕ
+  pub splits : bytes ≡ with_commas cells ++ here
+  pub last : Cell
+  pub field : IsField last.0 last.1 here rest
+
 -- A fault of the reader of a record: no record stands first, and what is left now begins with no
--- field, so many bytes from the start.
+-- field, so many bytes from the start; or memory was refused to a field that was read, and what is
+-- left now stands behind it.
 abbrev pub IsRecordFault : List ℕ → List ℕ → Fault → Type 0
 IsRecordFault bytes rest (Refused offset) =
     LacksField bytes rest × (offset + length rest ≡ length bytes)
     × ((cells : List Cell) (more : List ℕ) → BeginsRecord cells bytes more → ⊥)
-IsRecordFault bytes rest NoMemory = ⊤
+IsRecordFault bytes rest NoMemory = PassesFields bytes rest

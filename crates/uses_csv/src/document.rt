@@ -1,8 +1,9 @@
 //! Documents of comma separated values (RFC 4180, section 2).
 //!
 //! A document is records with line ends between them, and the last may have a line end too. So a
-//! line end in the last place has no record behind it; no bytes are a document of no record, and
-//! one line end alone is a record of one field, which is empty.
+//! line end in the last place has no record behind it, and one line end alone is a record of one
+//! field, which is empty. By its letter the grammar of the standard reads no bytes as one record of
+//! one empty field; here they are a document of no record.
 #![tactic(auto)]
 
 ghost use Rattle.std.specs.Prelude.{◌≡◌, ◌∷◌, List, ℕ, IfErr, IfOk, MatchOption, map};
@@ -30,9 +31,10 @@ fn behind_line_end<'i>(bytes: &'i [u8]) -> Option<&'i [u8]>
 
 /// The records of a document, and the fields of each.
 ///
-/// [`Refused`](Fault::Refused) exactly where the bytes are no document: at the place that is told,
+/// [`Refused`](Fault::Refused) only where the bytes are no document: at the place that is told,
 /// records with a line end behind each and then fields with a comma behind each have ended, and no
-/// field stands. [`NoMemory`](Fault::NoMemory) where a list could not grow.
+/// field stands. [`NoMemory`](Fault::NoMemory) where a list could not grow, so only where a field
+/// stands first.
 ///
 /// ```
 /// use uses_csv::document::read_document;

@@ -134,25 +134,8 @@ pub struct Field<'i> {
     pub is_quoted: bool,
 }
 
-/// The field that the bytes begin with, where nothing, a comma or a line end (a carriage return and
-/// a line feed) stands behind it; that is left. A field may be empty.
-///
-/// Without quotes it has no control character, no quote and no comma. In quotes there are also
-/// commas, carriage returns and line feeds, and a quote is written twice. Bytes of 128 and above
-/// stand in both, as the character set that is in use allows. No memory is taken.
-///
-/// `None` exactly where no field stands so; the input may then stand behind some bytes of it.
-///
-/// ```
-/// use uses_csv::field::read_field;
-///
-/// let mut input = b"\"a,\"\"b\"\"\",c".as_slice();
-/// let field = read_field(&mut input);
-/// assert!(rt; field.is_some_and(|it| it.is_quoted && it.text == b"a,\"\"b\"\"".as_slice()));
-/// assert_eq!(rt; input, b",c".as_slice());
-/// assert!(rt; read_field(&mut b"\"a\"b".as_slice()).is_none());
-/// ```
-pub fn read_field<'i>(input: &mut &'i [u8]) -> Option<Field<'i>>
+/// The field that the bytes begin with. Where there is none, some bytes may have been passed.
+fn any_field<'i>(input: &mut &'i [u8]) -> Option<Field<'i>>
     ensures found { IfSome result (λ it.
         IsField it.is_quoted it.text.now input.old.now input.new.now) }
     ensures none { IfNone result (NoneStands input.old.now) }
@@ -178,6 +161,40 @@ pub fn read_field<'i>(input: &mut &'i [u8]) -> Option<Field<'i>>
                 text,
                 is_quoted: false,
             })
+        }
+    }
+}
+
+/// The field that the bytes begin with, where nothing, a comma or a line end (a carriage return and
+/// a line feed) stands behind it; that is left. A field may be empty.
+///
+/// Without quotes it has no control character, no quote and no comma. In quotes there are also
+/// commas, carriage returns and line feeds, and a quote is written twice. Bytes of 128 and above
+/// stand in both, as the character set that is in use allows. No memory is taken.
+///
+/// `None` exactly where no field stands so; the input is then as it was.
+///
+/// ```
+/// use uses_csv::field::read_field;
+///
+/// let mut input = b"\"a,\"\"b\"\"\",c".as_slice();
+/// let field = read_field(&mut input);
+/// assert!(rt; field.is_some_and(|it| it.is_quoted && it.text == b"a,\"\"b\"\"".as_slice()));
+/// assert_eq!(rt; input, b",c".as_slice());
+/// assert!(rt; read_field(&mut b"\"a\"b".as_slice()).is_none());
+/// ```
+pub fn read_field<'i>(input: &mut &'i [u8]) -> Option<Field<'i>>
+    ensures found { IfSome result (λ it.
+        IsField it.is_quoted it.text.now input.old.now input.new.now) }
+    ensures none { IfNone result (NoneStands input.old.now) }
+    ensures stays { IfNone result (input.new ≡ input.old) }
+{
+    let start = *input;
+    match any_field(input) {
+        Some(field) => Some(field),
+        None => {
+            *input = start;
+            None
         }
     }
 }

@@ -20,9 +20,10 @@ fn behind_comma<'i>(bytes: &'i [u8]) -> Option<&'i [u8]>
 /// The fields of the record that the bytes begin with, one or more with commas between them, where
 /// nothing or a line end (a carriage return and a line feed) stands behind it; that is left.
 ///
-/// [`Refused`](Fault::Refused) exactly where no record stands so: fields with commas behind them
-/// may stand first, and then, at the place that is told and at which the input then stands, no
-/// field does. [`NoMemory`](Fault::NoMemory) where the list could not grow.
+/// [`Refused`](Fault::Refused) only where no record stands so: fields with commas behind them may
+/// stand first, and then, at the place that is told and at which the input then stands, no field
+/// does. [`NoMemory`](Fault::NoMemory) where the list could not grow: the input then stands behind
+/// the field for which there was no room.
 ///
 /// ```
 /// use uses_csv::fault::Fault;

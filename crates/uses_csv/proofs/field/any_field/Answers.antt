@@ -1,7 +1,7 @@
 use Rattle.std.proofs.Common.{◌∙◌, sym}
 use Rattle.std.proofs.lemmas.Bool.{true≢false}
 use Rattle.uses_csv.proofs.Scans.{closed_none, if_none, open_none, text_none}
-use Rattle.uses_csv.proofs.field.read_field.Goals as goal
+use Rattle.uses_csv.proofs.field.any_field.Goals as goal
 
 pub returns-in_err-text-in-Some-clause-none : goal.returns-in_err-text-in-Some-clause-none
 returns-in_err-text-in-Some-clause-none c =
