@@ -25,6 +25,8 @@ use Rattle.uses_http.specs.Ranges.{any_bytes, some_bytes}
 use Rattle.uses_http.specs.FieldLine.{BeginsFieldLine, IsFieldLine, NoFieldLine}
 use Rattle.uses_http.proofs.Begun.{Begins, slice_begins, take_begins, token_begins}
 use Rattle.uses_http.proofs.BegunSequences.{Joined5, sequence5_begins}
+use Rattle.uses_http.proofs.Fails.{Fails, FailsSo, sequence5_fails, slice_fails, take_fails}
+use Rattle.uses_http.proofs.Fails.{token_fails}
 use Rattle.uses_http.proofs.Longer.{anything, fails_longer, slice_grows, take_grows, token_grows}
 use Rattle.uses_http.proofs.Values.{IsRead, field_line_some, read_some, white_is_value}
 
@@ -148,3 +150,15 @@ line_asks need s i t j made ran =
     let (more, joined) = line_begins.asks s i need t j made ran in
     let (name, value, line) = joined_line (i.left.tokens ++ more) joined in
     (name, value, more, line)
+
+-- they fail for good, or ask for more where more may come
+line_so : {A B C : Type 0} → Fails (LineMeans {A = A} {B = B} {C = C}) IsMade
+line_so =
+    sequence5_fails (take_fails IsTokenByte some_bytes refl) (token_fails 58)
+    (take_fails IsWhite any_bytes refl) (take_fails IsValueByte any_bytes refl)
+    (slice_fails line_end)
+
+pub line_fails : {A B C : Type 0} (k : Kind) (s : States A B C) (i : Input ℕ)
+    (t : States A B C) (j : Input ℕ) → IsMade s → LineMeans s i (Err k) t j
+    → FailsSo k i.status.cut
+line_fails k s i t j made ran = line_so.fails s i k t j made ran

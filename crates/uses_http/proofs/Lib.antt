@@ -1,5 +1,6 @@
 pub mod Begun
 pub mod BegunSequences
+pub mod Fails
 pub mod FieldLines
 pub mod Heads
 pub mod LineEnds

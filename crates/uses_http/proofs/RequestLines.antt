@@ -27,6 +27,8 @@ use Rattle.uses_http.specs.RequestLine.{digits, protocol}
 use Rattle.uses_http.proofs.Begun.{Begins, OneOf, member_begins, slice_begins, take_begins}
 use Rattle.uses_http.proofs.Begun.{token_begins}
 use Rattle.uses_http.proofs.BegunSequences.{Joined4, Joined5, sequence4_begins, sequence5_begins}
+use Rattle.uses_http.proofs.Fails.{Fails, FailsSo, member_fails, sequence4_fails, sequence5_fails}
+use Rattle.uses_http.proofs.Fails.{slice_fails, take_fails, token_fails}
 use Rattle.uses_http.proofs.Longer.{anything, fails_longer, member_grows, slice_grows, take_grows}
 use Rattle.uses_http.proofs.Longer.{token_grows}
 use Rattle.uses_http.proofs.Members.{MemberOf, member_leaves, member_reads}
@@ -224,3 +226,16 @@ line_asks need s i t j made ran =
     let (more, joined) = line_begins.asks s i need t j made ran in
     let (m, g, a, b, line) = joined_line (i.left.tokens ++ more) joined in
     (m, g, a, b, more, line)
+
+-- they fail for good, or ask for more where more may come
+line_so : {A B C D : Type 0} → Fails (LineMeans {A = A} {B = B} {C = C} {D = D}) IsMade
+line_so =
+    sequence4_fails (take_fails IsTokenByte some_bytes refl) (token_fails 32)
+    (take_fails IsVisible some_bytes refl)
+    (sequence5_fails (slice_fails protocol) (member_fails IsDigit) (token_fails 46)
+    (member_fails IsDigit) (slice_fails line_end))
+
+pub line_fails : {A B C D : Type 0} (k : Kind) (s : States A B C D) (i : Input ℕ)
+    (t : States A B C D) (j : Input ℕ) → IsMade s → LineMeans s i (Err k) t j
+    → FailsSo k i.status.cut
+line_fails k s i t j made ran = line_so.fails s i k t j made ran

@@ -5,7 +5,7 @@
 ghost use Rattle.std.specs.Prelude.{◌≡◌, IfErr, IfOk, IsOk, List, Option, ℕ, true};
 ghost use Rattle.winnow.specs.Bytes.{bytes_input, bytes_reading};
 ghost use Rattle.winnow.specs.Input.{IsEndOf};
-ghost use Rattle.winnow.specs.Kind.{incomplete};
+ghost use Rattle.winnow.specs.Kind.{backtrack, incomplete, memory};
 ghost use Rattle.winnow.specs.Stable.{IsFinalKind};
 ghost use Rattle.winnow.specs.TakeWhile.{take_while_occurrences};
 ghost use Rattle.uses_http.specs.Bytes.{line_end};
@@ -98,6 +98,8 @@ pub fn read_field_line<'i>(input: &mut &'i [u8]) -> Result<Field<'i>, ErrMode<Em
         IsFieldLine field.name.now field.value.now input.old.now input.new.now) }
     ensures accepts { (name value rest : List ℕ)
         → IsFieldLine name value input.old.now rest → IsOk result }
+    ensures fails { IfErr result (λ error.
+        ⟦<ErrMode<EmptyError> as HasKind>⟧.kind error ≡ backtrack) }
     ensures ends { IsEndOf bytes_reading (bytes_input input.new.now) (bytes_input input.old.now) }
 {
     match line().parse_next(input) {
@@ -112,7 +114,7 @@ pub fn read_field_line<'i>(input: &mut &'i [u8]) -> Result<Field<'i>, ErrMode<Em
 /// The same over bytes that come in pieces: it answers as soon as the line is there.
 ///
 /// [`Incomplete`](ErrMode::Incomplete) says that more input can make one, and another error that
-/// none can.
+/// none can. After an error some bytes may have been passed: go back to a checkpoint.
 ///
 /// ```
 /// use uses_http::field_line::read_field_line_in_pieces;
@@ -135,6 +137,11 @@ pub fn read_field_line_in_pieces<'i>(
     ensures asks { IfErr result (λ error. (need : Option ℕ)
         → ⟦<ErrMode<EmptyError> as HasKind>⟧.kind error ≡ incomplete need
         → BeginsFieldLine (⟦<Partial<&'static [u8]> as Stream>⟧.view input.old).left.tokens) }
+    ensures kinds { IfErr result (λ error.
+        ⟦<ErrMode<EmptyError> as HasKind>⟧.kind error ≡ memory → ⊥) }
+    ensures whole { IfErr result (λ error. (need : Option ℕ)
+        → ⟦<ErrMode<EmptyError> as HasKind>⟧.kind error ≡ incomplete need
+        → (⟦<Partial<&'static [u8]> as Stream>⟧.view input.old).status.cut ≡ true) }
     ensures ends { IsEndOf bytes_reading (⟦<Partial<&'static [u8]> as Stream>⟧.view input.new)
         (⟦<Partial<&'static [u8]> as Stream>⟧.view input.old) }
 {

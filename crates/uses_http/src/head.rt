@@ -1,8 +1,9 @@
 //! The head of a request of HTTP/1.1 (RFC 9112, section 2.1): a request line, field lines one
 //! behind the other, and an empty line.
 //!
-//! An empty line before the request line, which a server may pass over, is no part of it, and a
-//! line that goes on behind white space, which senders must not write, is no field line.
+//! An empty line before the request line, which a server should pass over (section 2.2), is no part
+//! of it, and a line that goes on behind white space, which senders must not write, is no field
+//! line.
 #![tactic(auto)]
 
 ghost use Rattle.std.specs.Prelude.{◌≡◌, ◌⊎◌, IfErr, IfOk, List, Option, ℕ, map, true};

@@ -1,15 +1,15 @@
 //! The request line of HTTP/1.1 (RFC 9112, section 3): a method, a request target and a version,
 //! with one space between them, and a line end (a carriage return and a line feed).
 //!
-//! Section 3.2 of the standard leaves the forms of a target to the grammar of URIs. Here a target
-//! is one visible byte of ASCII or more, so that each target of that grammar is one, and no space
-//! stands in it. The version is two digits; whether the server speaks it is the caller's to see.
+//! Section 3.2 makes four forms of a target of the grammar of URIs. Here a target is one visible
+//! byte of ASCII or more, so that each target of that grammar is one, and no space stands in it.
+//! The version is two digits; whether the server speaks it is the caller's to see.
 #![tactic(auto)]
 
 ghost use Rattle.std.specs.Prelude.{◌≡◌, IfErr, IfOk, IsOk, List, Option, ℕ, true};
 ghost use Rattle.winnow.specs.Bytes.{bytes_input, bytes_reading};
 ghost use Rattle.winnow.specs.Input.{IsEndOf};
-ghost use Rattle.winnow.specs.Kind.{incomplete};
+ghost use Rattle.winnow.specs.Kind.{backtrack, incomplete, memory};
 ghost use Rattle.winnow.specs.Stable.{IsFinalKind};
 ghost use Rattle.uses_http.specs.RequestLine.{BeginsRequestLine, IsRequestLine, NoRequestLine};
 
@@ -56,6 +56,8 @@ pub fn read_request_line<'i>(input: &mut &'i [u8]) -> Result<RequestLine<'i>, Er
         line.minor input.old.now input.new.now) }
     ensures accepts { (method target : List ℕ) (major minor : ℕ) (rest : List ℕ)
         → IsRequestLine method target major minor input.old.now rest → IsOk result }
+    ensures fails { IfErr result (λ error.
+        ⟦<ErrMode<EmptyError> as HasKind>⟧.kind error ≡ backtrack) }
     ensures ends { IsEndOf bytes_reading (bytes_input input.new.now) (bytes_input input.old.now) }
 {
     match line().parse_next(input) {
@@ -72,7 +74,7 @@ pub fn read_request_line<'i>(input: &mut &'i [u8]) -> Result<RequestLine<'i>, Er
 /// The same over bytes that come in pieces: it answers as soon as the line is there.
 ///
 /// [`Incomplete`](ErrMode::Incomplete) says that more input can make one, and another error that
-/// none can.
+/// none can. After an error some bytes may have been passed: go back to a checkpoint.
 ///
 /// ```
 /// use uses_http::request_line::read_request_line_in_pieces;
@@ -96,6 +98,11 @@ pub fn read_request_line_in_pieces<'i>(
     ensures asks { IfErr result (λ error. (need : Option ℕ)
         → ⟦<ErrMode<EmptyError> as HasKind>⟧.kind error ≡ incomplete need
         → BeginsRequestLine (⟦<Partial<&'static [u8]> as Stream>⟧.view input.old).left.tokens) }
+    ensures kinds { IfErr result (λ error.
+        ⟦<ErrMode<EmptyError> as HasKind>⟧.kind error ≡ memory → ⊥) }
+    ensures whole { IfErr result (λ error. (need : Option ℕ)
+        → ⟦<ErrMode<EmptyError> as HasKind>⟧.kind error ≡ incomplete need
+        → (⟦<Partial<&'static [u8]> as Stream>⟧.view input.old).status.cut ≡ true) }
     ensures ends { IsEndOf bytes_reading (⟦<Partial<&'static [u8]> as Stream>⟧.view input.new)
         (⟦<Partial<&'static [u8]> as Stream>⟧.view input.old) }
 {

@@ -1,3 +1,6 @@
+use Rattle.std.proofs.Common.{refl}
+use Rattle.uses_http.proofs.Fails.{fails_whole}
+use Rattle.uses_http.proofs.FieldLines.{line_fails}
 use Rattle.uses_http.proofs.FieldLines.{line_must, line_read}
 use Rattle.uses_http.proofs.Values.{read_some, read_trimmed}
 use Rattle.uses_http.proofs.field_line.read_field_line.Goals as goal
@@ -15,3 +18,9 @@ returns-in-Err-clause-accepts c name value rest line =
     let some = read_some name value _ rest line in
     line_must _ _ _ _ name some.0 rest (is.name, is.colon, is.white, is.value, is.end) some.1
     c.in-Err.ensures.ran
+
+pub returns-in-Err-clause-fails : goal.returns-in-Err-clause-fails
+returns-in-Err-clause-fails c =
+    let is = c.line.ensures in
+    fails_whole _ _ refl (line_fails _ _ _ _ _ (is.name, is.colon, is.white, is.value, is.end)
+    c.in-Err.ensures.ran)

@@ -1,3 +1,6 @@
+use Rattle.std.proofs.Common.{refl}
+use Rattle.uses_http.proofs.Fails.{fails_whole}
+use Rattle.uses_http.proofs.RequestLines.{line_fails}
 use Rattle.uses_http.proofs.RequestLines.{digits_read, line_must, line_read}
 use Rattle.uses_http.proofs.request_line.read_request_line.Goals as goal
 
@@ -40,3 +43,14 @@ returns-in-Err-clause-accepts c method target major minor rest line =
       is.target,
       (is.protocol, tt, is.point, tt, is.end),
     ) line c.in-Err.ensures.ran
+
+pub returns-in-Err-clause-fails : goal.returns-in-Err-clause-fails
+returns-in-Err-clause-fails c =
+    let is = c.line.ensures in
+    fails_whole _ _ refl (line_fails _ _ _ _ _ (
+      is.method,
+      is.space,
+      is.target,
+      (is.protocol, tt, is.point, tt, is.end),
+    )
+    c.in-Err.ensures.ran)

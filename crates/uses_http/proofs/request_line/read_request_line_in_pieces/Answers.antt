@@ -1,4 +1,6 @@
 use Rattle.std.proofs.Common.{refl}
+use Rattle.uses_http.proofs.Fails.{fails_cut, fails_not_memory}
+use Rattle.uses_http.proofs.RequestLines.{line_fails}
 use Rattle.uses_http.proofs.RequestLines.{digits_read, line_asks, line_must, line_never}
 use Rattle.uses_http.proofs.RequestLines.{line_read}
 use Rattle.uses_http.proofs.request_line.read_request_line_in_pieces.Goals as goal
@@ -62,3 +64,25 @@ returns-in-Err-clause-asks c need asked =
       is.target,
       (is.protocol, tt, is.point, tt, is.end),
     ) (rw asked at c.in-Err.ensures.ran)
+
+pub returns-in-Err-clause-kinds : goal.returns-in-Err-clause-kinds
+returns-in-Err-clause-kinds c wants =
+    let is = c.line.ensures in
+    fails_not_memory _ _ (line_fails _ _ _ _ _ (
+      is.method,
+      is.space,
+      is.target,
+      (is.protocol, tt, is.point, tt, is.end),
+    )
+    c.in-Err.ensures.ran) wants
+
+pub returns-in-Err-clause-whole : goal.returns-in-Err-clause-whole
+returns-in-Err-clause-whole c need asked =
+    let is = c.line.ensures in
+    fails_cut _ _ need (line_fails _ _ _ _ _ (
+      is.method,
+      is.space,
+      is.target,
+      (is.protocol, tt, is.point, tt, is.end),
+    )
+    c.in-Err.ensures.ran) asked
