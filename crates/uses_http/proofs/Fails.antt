@@ -63,6 +63,14 @@ fails_cut k may need (inl e) asked = absurd (never (sym e ∙ asked))
     never e = cc
 fails_cut k may need (inr (other, e, cut)) asked = cut
 
+-- and so where either of two asks for it
+pub either_cut : (a b : Kind) (may : Bool)
+    → ((n : Option ℕ) × (a ≡ incomplete n)) ⊎ ((n : Option ℕ) × (b ≡ incomplete n))
+    → ((n : Option ℕ) → a ≡ incomplete n → may ≡ true)
+    → ((n : Option ℕ) → b ≡ incomplete n → may ≡ true) → may ≡ true
+either_cut a b may (inl (n, e)) one other = one n e
+either_cut a b may (inr (n, e)) one other = other n e
+
 -- ---- the parts
 
 open_fails : (P : ℕ → Type 0) (least : ℕ) (i : Input ℕ) (k : Kind) (j : Input ℕ)

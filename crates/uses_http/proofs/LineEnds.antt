@@ -7,6 +7,7 @@ use Rattle.winnow.specs.Kind.{Kind, incomplete}
 use Rattle.winnow.specs.Reads.Known.{SliceRuns, slice_leaves, slice_reads}
 use Rattle.winnow.specs.Stable.{IsFinalKind}
 use Rattle.uses_http.proofs.Begun.{slice_begins}
+use Rattle.uses_http.proofs.Fails.{FailsSo, slice_fails}
 use Rattle.uses_http.proofs.Longer.{fails_longer, slice_grows}
 
 -- what is answered stood first
@@ -37,3 +38,8 @@ pub end_asks : (text : List ℕ) (need : Option ℕ) (s : Bor (List ℕ)) (i : I
     → SliceRuns modal s i (Err (incomplete need)) t j
     → (more : List ℕ) × (i.left.tokens ++ more ≡ text)
 end_asks text need s i t j is ran = (slice_begins text).asks s i need t j is ran
+
+-- it fails for good, or asks for more where more may come
+pub end_fails : (text : List ℕ) (k : Kind) (s : Bor (List ℕ)) (i : Input ℕ) (t : Bor (List ℕ))
+    (j : Input ℕ) → s.now ≡ text → SliceRuns modal s i (Err k) t j → FailsSo k i.status.cut
+end_fails text k s i t j is ran = (slice_fails text).fails s i k t j is ran

@@ -33,6 +33,9 @@ fn read_line_end<'i>(input: &mut Partial<&'i [u8]>) -> Result<(), ErrMode<EmptyE
         → ⟦<ErrMode<EmptyError> as HasKind>⟧.kind error ≡ incomplete need
         → (more : List ℕ)
         × ((⟦<Partial<&'static [u8]> as Stream>⟧.view input.old).left.tokens ++ more ≡ line_end)) }
+    ensures whole { IfErr result (λ error. (need : Option ℕ)
+        → ⟦<ErrMode<EmptyError> as HasKind>⟧.kind error ≡ incomplete need
+        → (⟦<Partial<&'static [u8]> as Stream>⟧.view input.old).status.cut ≡ true) }
     ensures ends { IsEndOf bytes_reading (⟦<Partial<&'static [u8]> as Stream>⟧.view input.new)
         (⟦<Partial<&'static [u8]> as Stream>⟧.view input.old) }
 {
@@ -60,6 +63,11 @@ pub fn read_fields<'i, A: Allocator + Copy>(
     ensures asks { IfErr result (λ error. (need : Option ℕ)
         → ⟦<ErrMode<EmptyError> as HasKind>⟧.kind error ≡ incomplete need
         → BeginsFields (⟦<Partial<&'static [u8]> as Stream>⟧.view input.old).left.tokens) }
+    ensures whole { IfErr result (λ error. (need : Option ℕ)
+        → ⟦<ErrMode<EmptyError> as HasKind>⟧.kind error ≡ incomplete need
+        → (⟦<Partial<&'static [u8]> as Stream>⟧.view input.old).status.cut ≡ true) }
+    ensures ends { IsEndOf bytes_reading (⟦<Partial<&'static [u8]> as Stream>⟧.view input.new)
+        (⟦<Partial<&'static [u8]> as Stream>⟧.view input.old) }
 {
     let mut fields = Vec::new(alloc);
     'fields: loop {

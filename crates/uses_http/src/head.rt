@@ -7,6 +7,8 @@
 #![tactic(auto)]
 
 ghost use Rattle.std.specs.Prelude.{◌≡◌, ◌⊎◌, IfErr, IfOk, List, Option, ℕ, map, true};
+ghost use Rattle.winnow.specs.Bytes.{bytes_reading};
+ghost use Rattle.winnow.specs.Input.{IsEndOf};
 ghost use Rattle.winnow.specs.Kind.{backtrack, incomplete, memory};
 ghost use Rattle.winnow.specs.Stable.{IsFinalKind};
 ghost use Rattle.uses_http.specs.Head.{BeginsHead, IsHead, NoHead, Pair, Request, pair, request};
@@ -67,6 +69,11 @@ pub fn read_head_in_pieces<'i, A: Allocator + Copy>(
     ensures asks { IfErr result (λ error. (need : Option ℕ)
         → ⟦<ErrMode<EmptyError> as HasKind>⟧.kind error ≡ incomplete need
         → BeginsHead (⟦<Partial<&'static [u8]> as Stream>⟧.view input.old).left.tokens) }
+    ensures whole { IfErr result (λ error. (need : Option ℕ)
+        → ⟦<ErrMode<EmptyError> as HasKind>⟧.kind error ≡ incomplete need
+        → (⟦<Partial<&'static [u8]> as Stream>⟧.view input.old).status.cut ≡ true) }
+    ensures ends { IsEndOf bytes_reading (⟦<Partial<&'static [u8]> as Stream>⟧.view input.new)
+        (⟦<Partial<&'static [u8]> as Stream>⟧.view input.old) }
     ensures stays { IfErr result (λ _. input.new ≡ input.old) }
 {
     let start = *input;

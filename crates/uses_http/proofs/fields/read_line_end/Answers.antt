@@ -1,6 +1,7 @@
 use Rattle.std.proofs.Common.{refl, rules}
 use Rattle.uses_http.specs.Bytes.{line_end}
-use Rattle.uses_http.proofs.LineEnds.{end_asks, end_must, end_never, end_read}
+use Rattle.uses_http.proofs.Fails.{fails_cut}
+use Rattle.uses_http.proofs.LineEnds.{end_asks, end_fails, end_must, end_never, end_read}
 use Rattle.uses_http.proofs.fields.read_line_end.Goals as goal
 
 pub returns-in-Ok-clause-line : goal.returns-in-Ok-clause-line
@@ -17,3 +18,7 @@ returns-in-Err-clause-never c final is_cut =
 pub returns-in-Err-clause-asks : goal.returns-in-Err-clause-asks
 returns-in-Err-clause-asks c need asked =
     end_asks line_end need _ _ _ _ (search rules) (rw asked at c.in-Err.ensures.ran)
+
+pub returns-in-Err-clause-whole : goal.returns-in-Err-clause-whole
+returns-in-Err-clause-whole c need asked =
+    fails_cut _ _ need (end_fails line_end _ _ _ _ _ (search rules) c.in-Err.ensures.ran) asked

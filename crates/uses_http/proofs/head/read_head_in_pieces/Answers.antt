@@ -1,4 +1,5 @@
-use Rattle.std.proofs.Common.{◌∙◌}
+use Rattle.std.proofs.Common.{◌∙◌, sym}
+use Rattle.winnow.specs.Input.{is_end_of_trans}
 use Rattle.uses_http.proofs.Heads.{begun_fields, begun_request, fields_lack, head_fields}
 use Rattle.uses_http.proofs.Heads.{line_lacks}
 use Rattle.uses_http.proofs.head.read_head_in_pieces.Goals as goal
@@ -24,3 +25,11 @@ returns-in-Err-clause-asks g c need asked =
 pub returns-in-Err-read_fields-clause-asks : goal.returns-in-Err-read_fields-clause-asks
 returns-in-Err-read_fields-clause-asks g c need asked =
     begun_fields _ _ _ _ _ _ c.in-Ok.ensures.line (c.in-Err-read_fields.ensures.asks need asked)
+
+pub returns-in-Err-read_fields-clause-whole : goal.returns-in-Err-read_fields-clause-whole
+returns-in-Err-read_fields-clause-whole g c need asked =
+    sym c.in-Ok.ensures.ends.cut ∙ c.in-Err-read_fields.ensures.whole need asked
+
+pub returns-in-Ok-read_fields-clause-ends : goal.returns-in-Ok-read_fields-clause-ends
+returns-in-Ok-read_fields-clause-ends g c =
+    is_end_of_trans c.in-Ok-read_fields.ensures.ends c.in-Ok.ensures.ends
