@@ -184,20 +184,20 @@ pub sequence5_fails : {S1 S2 S3 S4 S5 O1 O2 O3 O4 O5 : Type 0} {run1 : Runs S1 �
     (λ s. known1 s.0 × known2 s.1 × known3 s.2 × known4 s.3 × known5 s.4)
 sequence5_fails {run1 = run1} {run2 = run2} {run3 = run3} {run4 = run4} {run5 = run5} f1 f2 f3 f4
     f5 = record {
-  fails = λ s i k t j is ran. elim (sequence5_err k ran) [
-    | inl (f, _, _, _, _) ↦ f1.fails _ _ _ _ _ is.0 f
-    | inr (inl (o1, a, r1, f, _, _, _)) ↦
-        so_before k i a (f1.ends _ _ _ _ _ r1).cut (f2.fails _ _ _ _ _ is.1 f)
-    | inr (inr (inl (o1, o2, a, b, r1, r2, f, _, _))) ↦
-        so_before k i b ((f2.ends _ _ _ _ _ r2).cut ∙ (f1.ends _ _ _ _ _ r1).cut)
-        (f3.fails _ _ _ _ _ is.2 f)
-    | inr (inr (inr (inl (o1, o2, o3, a, b, c, r1, r2, r3, f, _)))) ↦
-        so_before k i c ((f3.ends _ _ _ _ _ r3).cut ∙ (f2.ends _ _ _ _ _ r2).cut
-        ∙ (f1.ends _ _ _ _ _ r1).cut) (f4.fails _ _ _ _ _ is.3 f)
-    | inr (inr (inr (inr (o1, o2, o3, o4, a, b, c, d, r1, r2, r3, r4, f)))) ↦
-        so_before k i d ((f4.ends _ _ _ _ _ r4).cut ∙ (f3.ends _ _ _ _ _ r3).cut
-        ∙ (f2.ends _ _ _ _ _ r2).cut ∙ (f1.ends _ _ _ _ _ r1).cut) (f5.fails _ _ _ _ _ is.4 f)
-  ];
-  ends = sequence5_ends counted_reading run1 run2 run3 run4 run5 f1.ends f2.ends f3.ends f4.ends
-      f5.ends;
-}
+      fails = λ s i k t j is ran. elim (sequence5_err k ran) [
+        | inl (f, _, _, _, _) ↦ f1.fails _ _ _ _ _ is.0 f
+        | inr (inl (o1, a, r1, f, _, _, _)) ↦
+            so_before k i a (f1.ends _ _ _ _ _ r1).cut (f2.fails _ _ _ _ _ is.1 f)
+        | inr (inr (inl (o1, o2, a, b, r1, r2, f, _, _))) ↦
+            so_before k i b ((f2.ends _ _ _ _ _ r2).cut ∙ (f1.ends _ _ _ _ _ r1).cut)
+            (f3.fails _ _ _ _ _ is.2 f)
+        | inr (inr (inr (inl (o1, o2, o3, a, b, c, r1, r2, r3, f, _)))) ↦
+            so_before k i c ((f3.ends _ _ _ _ _ r3).cut ∙ (f2.ends _ _ _ _ _ r2).cut
+            ∙ (f1.ends _ _ _ _ _ r1).cut) (f4.fails _ _ _ _ _ is.3 f)
+        | inr (inr (inr (inr (o1, o2, o3, o4, a, b, c, d, r1, r2, r3, r4, f)))) ↦
+            so_before k i d ((f4.ends _ _ _ _ _ r4).cut ∙ (f3.ends _ _ _ _ _ r3).cut
+            ∙ (f2.ends _ _ _ _ _ r2).cut ∙ (f1.ends _ _ _ _ _ r1).cut) (f5.fails _ _ _ _ _ is.4 f)
+      ];
+      ends = sequence5_ends counted_reading run1 run2 run3 run4 run5 f1.ends f2.ends f3.ends f4.ends
+          f5.ends;
+    }
