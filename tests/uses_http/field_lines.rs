@@ -3,7 +3,7 @@ use std::fmt::Debug;
 use std::process::Abort;
 use uses_http::field_line::{Field, read_field_line, read_field_line_in_pieces};
 use winnow::error::ErrMode;
-use winnow::stream::Partial;
+use winnow::stream::{Partial, StreamIsPartial};
 
 /// A text, the name and the value of the field line that it begins with, and what is left. The
 /// fields are those of the examples of RFC 9110 and RFC 9112, and some at the edges of the grammar.
@@ -74,5 +74,16 @@ fn read_field_line_of_each_beginning(rt: HostRuntime) {
         let mut pieces = Partial::new(&text[..count]);
         let answer = read_field_line_in_pieces(&mut pieces);
         same(&rt, text, matches!(answer, Err(ErrMode::Incomplete(_))), true);
+    }
+}
+
+#[test]
+fn read_field_line_of_each_beginning_that_is_whole(rt: HostRuntime) {
+    let text = b"Host: www.example.org\r\n".as_slice();
+    for count in 0..text.len() {
+        let mut pieces = Partial::new(&text[..count]);
+        let _state = pieces.complete();
+        let answer = read_field_line_in_pieces(&mut pieces);
+        same(&rt, text, matches!(answer, Err(ErrMode::Backtrack(_))), true);
     }
 }

@@ -6,7 +6,7 @@ use test_support::refusing::Refusing;
 use uses_http::field_line::Field;
 use uses_http::head::{read_head, read_head_in_pieces};
 use winnow::error::{EmptyError, ErrMode, ParserError};
-use winnow::stream::Partial;
+use winnow::stream::{Partial, StreamIsPartial};
 
 /// A text, the method and the target of the head that it begins with, its fields, and what is left.
 type Row = (
@@ -134,6 +134,10 @@ fn read_head_of_each_beginning(rt: HostRuntime) {
             let answer = read_head_in_pieces(rt.alloc(), &mut pieces);
             same(&rt, begun, matches!(answer, Err(ErrMode::Incomplete(_))), true);
             same(&rt, begun, pieces.into_inner(), begun);
+            let mut all = Partial::new(begun);
+            let _state = all.complete();
+            let ended = read_head_in_pieces(rt.alloc(), &mut all);
+            same(&rt, begun, matches!(ended, Err(ErrMode::Backtrack(_))), true);
             let mut input = begun;
             let whole = read_head(rt.alloc(), &mut input);
             same(&rt, begun, matches!(whole, Err(ErrMode::Backtrack(_))), true);

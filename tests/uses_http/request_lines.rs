@@ -3,7 +3,7 @@ use std::fmt::Debug;
 use std::process::Abort;
 use uses_http::request_line::{RequestLine, read_request_line, read_request_line_in_pieces};
 use winnow::error::ErrMode;
-use winnow::stream::Partial;
+use winnow::stream::{Partial, StreamIsPartial};
 
 /// A text, the method, the target and the two numbers of the version of the request line that it
 /// begins with, and what is left.
@@ -96,5 +96,16 @@ fn read_request_line_of_each_beginning(rt: HostRuntime) {
         let mut pieces = Partial::new(&text[..count]);
         let answer = read_request_line_in_pieces(&mut pieces);
         same(&rt, text, matches!(answer, Err(ErrMode::Incomplete(_))), true);
+    }
+}
+
+#[test]
+fn read_request_line_of_each_beginning_that_is_whole(rt: HostRuntime) {
+    let text = b"GET /where?q=now HTTP/1.1\r\n".as_slice();
+    for count in 0..text.len() {
+        let mut pieces = Partial::new(&text[..count]);
+        let _state = pieces.complete();
+        let answer = read_request_line_in_pieces(&mut pieces);
+        same(&rt, text, matches!(answer, Err(ErrMode::Backtrack(_))), true);
     }
 }
