@@ -8,8 +8,8 @@ Run it at the top of the repository, and then `rt fmt` in the crates that it nam
 It writes the sets that are tuples in the crate `stream_sets`, the meanings and the impls of
 sequences (tuples of one to six) in the crate `winnow_core`, those of choices among as many
 branches in the crate `winnow_comb`, with their laws, the parsers of classes of characters in the
-crate `winnow_ascii`, those of integers in the crates `winnow_integers` and `winnow_binary`, and in
-the crate `winnow_stable` that all of these are stable. It prints the crates whose files it writes.
+crate `winnow_ascii`, and those of integers in the crates `winnow_integers` and `winnow_binary`;
+and that all of these are stable. It prints the crates whose files it writes.
 """
 from family.choices import write_choices
 from family.chosen import write_chosen
@@ -32,4 +32,3 @@ if __name__ == "__main__":
     write_integers()
     write_chosen()
     print("stream_sets winnow_core winnow_comb winnow_ascii winnow_integers winnow_binary")
-    print("winnow_stable")

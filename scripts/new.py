@@ -23,8 +23,9 @@ MODELS = {
 NEXT = """Now change, in this order:
   {spec}: the definition, `{kind}Runs`, a line a case
   {file}: the clauses and the documentation of `{name}`, and what it runs
-  {impls}: the struct `{kind}` and its parser
-  {laws}: that its runs leave an end, and mean the same over streams that are read alike
+  {impls}: the struct `{kind}`, its parser, and that it is stable
+  {laws}: that its runs leave an end, stay on longer inputs, and mean the same over streams that
+    are read alike
   {known}: what a caller knows of a run that answered
 and write: a test `{name}` in tests/, a line of CHANGELOG.md, and an edit
   {edits}{name}_ANSWERS_WRONG.edit, a line of the code and a wrong one in its place.

@@ -1,5 +1,6 @@
 """Choices among the members of a tuple, with their laws, in the crate `winnow_comb`."""
 from family.common import LIKE, MOST, NUMBER, block, conjunction, rust_tuple, upto, write
+from family.stable import choice_block
 
 
 def nested(of, n, pair):
@@ -85,13 +86,16 @@ def choice_agrees(n):
 CHOICE_IMPLS = """//! Tuples as branches.
 //!
 //! {head}
+ghost use Rattle.stream_errors.specs.Form.{{modal}};
 ghost use Rattle.winnow_comb.specs.Alt.{{OrElse}};
-ghost use Rattle.winnow_comb.specs.Alt.Laws.{{or_else_ends}};
+ghost use Rattle.winnow_comb.specs.Alt.Laws.{{or_else_ends, or_else_grows}};
+ghost use Rattle.winnow_core.specs.Stable.Grows.{{grows, stays}};
 
-use crate::combinator::impls::alt::{{Alt, attempt}};
+use crate::combinator::impls::alt::{{Alt, AltParser, attempt}};
 use stream_errors::parser_error::ParserError;
 use streams::stream::Stream;
 use winnow_core::parser::Parser;
+use winnow_core::stable::Stable;
 
 {family}
 """
@@ -251,7 +255,8 @@ def write_choices():
     comb = "crates/winnow_comb/"
     sizes = range(2, MOST + 1)
     impls = comb + "src/combinator/impls/alt/"
-    write(impls + "tuples.rt", CHOICE_IMPLS, family="\n\n".join(choice_impl(n) for n in upto(MOST)))
+    family = "\n\n".join("%s\n\n%s" % (choice_impl(n), choice_block(n)) for n in upto(MOST))
+    write(impls + "tuples.rt", CHOICE_IMPLS, family=family)
     write(impls + "agreeing.rt", CHOICES_AGREE, family="\n\n".join(choice_agrees(n) for n in upto(MOST)))
     # what the prover does not find: choices behind three branches that backtracked
     for n in range(4, MOST + 1):

@@ -1,6 +1,7 @@
 """The parsers of integers whose bytes stand in an order that is chosen, in `winnow_binary`."""
 from family.common import camel, documented, write
 from family.integers import ALIKE, IMPORTS, WIDTHS, Integer
+from family.stable import integer_block
 
 CHOSEN = "crates/winnow_binary/"
 
@@ -64,9 +65,10 @@ CHOSEN_STRUCT = (
 ghost use Rattle.std.specs.Prelude.{{◌≡◌}};
 ghost use Rattle.winnow_binary.specs.Chosen.{{ChosenRuns}};
 ghost use Rattle.winnow_integers.specs.Integer.{{{value}}};
-ghost use Rattle.winnow_integers.specs.Integer.Laws.{{integer_alike, integer_ends}};
+ghost use Rattle.winnow_integers.specs.Integer.Laws.{{integer_alike, integer_ends, integer_stays}};
 ghost use Rattle.winnow_integers.specs.declared.binary.endianness.Endianness.{{Endianness}};
 ghost use Rattle.winnow_core.specs.Agrees.{{agrees_by}};
+ghost use Rattle.winnow_core.specs.Stable.Grows.{{leaf_stays}};
 
 use std::marker::PhantomData;
 """
@@ -104,6 +106,8 @@ impl<I: StreamIsPartial + ByteStream, E: ParserError<I>> Parser<I, {type}, E> fo
         }}
     }}
 }}
+
+{stable}
 
 """
     + ALIKE
@@ -144,5 +148,6 @@ def write_chosen():
         kind = camel(name)
         text = "%s of %s, which stand in an order that is chosen." % (one.kind(), one.bytes())
         agrees = "agrees_by (λ p. p.endian) (λ q. q.endian) (integer_alike %d %s I.same_reading)" % (one.width, one.value)
-        parts = {"kind": kind, "own": kind + "<I, E>", "other": kind + "<J, F>", "like": "p.endian ≡ q.endian", "agrees": agrees, **vars(one)}
+        stable = integer_block(one, kind + "<I, E>", "x", "(%s x)" % one.value)
+        parts = {"stable": stable, "kind": kind, "own": kind + "<I, E>", "other": kind + "<J, F>", "like": "p.endian ≡ q.endian", "agrees": agrees, **vars(one)}
         write(CHOSEN + "src/binary/impls/%s.rt" % name, CHOSEN_STRUCT, about=text, name=name, row=row, number=number, **parts)

@@ -1,5 +1,6 @@
 """The parsers of classes of ASCII characters, in the crate `winnow_ascii`."""
 from family.common import camel, documented, write
+from family.stable import class_block
 
 CLASSES = [
     ("alpha", "ASCII letters", "letter", "Letters", "IsAlpha", "ab", "1"),
@@ -84,12 +85,15 @@ use streams::stream::StreamIsPartial;
 CLASS_STRUCT = """//! {about}
 //!
 //! {head}
-ghost use Rattle.std.specs.Prelude.{{⊤}};
+ghost use Rattle.std.specs.Prelude.{{None, ⊤}};
 ghost use Rattle.stream_sets.specs.AsChar.{{{member}}};
+ghost use Rattle.stream_sets.specs.Range.{{from_to}};
 ghost use Rattle.winnow_ascii.specs.Class.{{ClassRuns}};
 ghost use Rattle.winnow_ascii.specs.Class.Laws.{{class_alike, class_ends}};
 ghost use Rattle.winnow_core.specs.Agrees.{{agrees_plain}};
 ghost use Rattle.winnow_core.specs.Runs.{{Keeps}};
+ghost use Rattle.winnow_core.specs.Stable.Grows.{{leaf_stays}};
+ghost use Rattle.winnow_token.specs.TakeWhile.Laws.{{take_while_stays}};
 
 use crate::ascii::{call};
 use stream_errors::parser_error::ParserError;
@@ -98,6 +102,7 @@ use streams::reads_like::ReadsLike;
 use streams::stream::{{Stream, StreamIsPartial}};
 use winnow_core::agrees_with::AgreesWith;
 use winnow_core::parser::Parser;
+use winnow_core::stable::Stable;
 
 /// The parser [`{call}`](crate::ascii::{call}).
 ///
@@ -125,6 +130,8 @@ where
     }}
 }}
 
+{stable}
+
 impl<I: StreamIsPartial + ReadsLike<J>, J: StreamIsPartial + Stream<Token = I::Token, Seen = I::Seen, Slice = I::Slice>, E: ParserError<I>, F: ParserError<J>> AgreesWith<I, I::Slice, E, {kind}, J, F> for {kind}
 where
     I::Token: AsChar,
@@ -147,4 +154,5 @@ def write_classes():
     for name, members, one, chars, is_member, front, rest, least in rows:
         call = "%s%d" % (name, least)
         about = "The longest beginning of %s, %s." % (members, "at least one" if least else "none too")
-        write(ascii_crate + "src/ascii/impls/%s.rt" % call, CLASS_STRUCT, about=about, call=call, kind=camel(call), member=is_member, least=least, front=front, rest=rest)
+        stable = class_block(camel(call), least)
+        write(ascii_crate + "src/ascii/impls/%s.rt" % call, CLASS_STRUCT, about=about, stable=stable, call=call, kind=camel(call), member=is_member, least=least, front=front, rest=rest)

@@ -1,5 +1,6 @@
 """The parsers of integers as bytes, in the crate `winnow_integers`."""
 from family.common import camel, documented, write
+from family.stable import integer_block
 
 FIXED = "crates/winnow_integers/"
 WIDTHS = {8: 1, 16: 2, 24: 3, 32: 4, 64: 8, 128: 16}
@@ -129,6 +130,7 @@ use streams::reads_like::ReadsLike;
 use streams::stream::{{Stream, StreamIsPartial}};
 use winnow_core::agrees_with::AgreesWith;
 use winnow_core::parser::Parser;
+use winnow_core::stable::Stable;
 """
 
 ALIKE = """impl<
@@ -149,10 +151,11 @@ STRUCT = (
 //! {head}
 ghost use Rattle.std.specs.Prelude.{{⊤}};
 ghost use Rattle.winnow_integers.specs.Integer.{{IntegerRuns, {value}}};
-ghost use Rattle.winnow_integers.specs.Integer.Laws.{{integer_alike, integer_ends}};
+ghost use Rattle.winnow_integers.specs.Integer.Laws.{{integer_alike, integer_ends, integer_stays}};
 ghost use Rattle.winnow_integers.specs.declared.binary.endianness.Endianness.TheVariants.{{{constructor}}};
 ghost use Rattle.winnow_core.specs.Agrees.{{agrees_plain}};
 ghost use Rattle.winnow_core.specs.Runs.{{Keeps}};
+ghost use Rattle.winnow_core.specs.Stable.Grows.{{leaf_stays}};
 
 use crate::binary::{name};
 """
@@ -181,6 +184,8 @@ impl<I: StreamIsPartial + ByteStream, E: ParserError<I>> Parser<I, {type}, E> fo
         {name}(input)
     }}
 }}
+
+{stable}
 
 """
     + ALIKE
@@ -270,7 +275,8 @@ def write_fixed():
         row, number = one.sample()
         own = camel(name)
         agrees = "agrees_plain (integer_alike %d (λ _. %s %s) I.same_reading)" % (one.width, one.value, one.constructor)
-        parts = {"own": own, "other": own, "like": "⊤", "agrees": agrees, **vars(one)}
+        stable = integer_block(one, own, "_", "(%s %s)" % (one.value, one.constructor))
+        parts = {"own": own, "other": own, "like": "⊤", "agrees": agrees, "stable": stable, **vars(one)}
         write(FIXED + "src/binary/impls/%s.rt" % name, STRUCT, about=about(one), name=name, row=row, number=number, **parts)
         path = struct_path(name, one)
         answers = FIXED + "proofs/binary/impls/%s/Answers.antt" % "/".join(path)

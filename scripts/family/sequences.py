@@ -62,7 +62,9 @@ use Rattle.streams.specs.Kind.{{Kind}}
 use Rattle.winnow_core.specs.Runs.{{Runs}}
 
 pub mod Cases
+pub mod Grows
 pub mod Known
+pub mod LargeGrows
 pub mod Laws
 
 -- no children: nothing is taken
@@ -191,6 +193,8 @@ ghost use Rattle.winnow_core.specs.Ends.{{same_ends}};
 ghost use Rattle.winnow_core.specs.SameMeaning.{{same_refl}};
 ghost use Rattle.winnow_core.specs.Sequence.{{{names}}};
 ghost use Rattle.winnow_core.specs.Sequence.Laws.{{{laws}}};
+
+mod stable;
 
 use crate::agrees_with::AgreesWith;
 use crate::parser::Parser;

@@ -1,23 +1,10 @@
-"""That parsers of families are stable where their children are, in the crate `winnow_stable`."""
-from family.classes import class_parsers
-from family.common import BETWEEN, MOST, block, camel, rust_tuple, upto, write
-from family.chosen import chosen
-from family.integers import fixed
+"""That parsers of families are stable where their children are: the lemmas and the blocks."""
+from family.common import BETWEEN, MOST, block, rust_tuple, upto, write
 
 # The lemmas of larger tuples stand in a file of their own.
 SMALL = 4
 # What a combinator takes of the child P.
 CHILD = "(grows (P%d.leaves_ends modal) P%d.stable)"
-LITERALS = [
-    ("", "u8", "u8", "u8"),
-    ("'t, ", "&'t [u8]", "&'t [u8]", "I::Slice"),
-    ("'t, const N: usize, ", "&'t [u8; N]", "&'t [u8; N]", "I::Slice"),
-    ("", "char", "char", "char"),
-    ("'t, ", "&'t str", "&'t str", "I::Slice"),
-    ("'t, ", "Caseless<&'t [u8]>", "Caseless<&'t [u8]>", "I::Slice"),
-    ("'t, const N: usize, ", "Caseless<&'t [u8; N]>", "Caseless<&'t [u8; N]>", "I::Slice"),
-    ("'t, ", "Caseless<&'t str>", "Caseless<&'t str>", "I::Slice"),
-]
 
 
 def child(k):
@@ -88,7 +75,7 @@ use Rattle.streams.specs.Following.{{Following}}
 use Rattle.streams.specs.Input.{{with_more}}
 use Rattle.winnow_core.specs.Runs.{{Runs}}
 use Rattle.winnow_core.specs.Sequence.{{{sequences}}}
-use Rattle.winnow_stable.specs.Stable.Grows.{{Grows, final_by}}
+use Rattle.winnow_core.specs.Stable.Grows.{{Grows, final_by}}
 {imports}
 module _ {{T : Type 0}} {{following : Following T}} where
 {family}
@@ -102,9 +89,9 @@ TUPLES = """//! Tuples are stable where their members are.
 //!
 //! {head}
 ghost use Rattle.stream_errors.specs.Form.{{modal}};
-ghost use Rattle.winnow_stable.specs.Stable.Grows.{{grows, stays}};
-ghost use Rattle.winnow_stable.specs.Stable.LargeTuples.{{{large}}};
-ghost use Rattle.winnow_stable.specs.Stable.Tuples.{{{small}}};
+ghost use Rattle.winnow_core.specs.Sequence.Grows.{{{small}}};
+ghost use Rattle.winnow_core.specs.Sequence.LargeGrows.{{{large}}};
+ghost use Rattle.winnow_core.specs.Stable.Grows.{{grows, stays}};
 
 use crate::stable::Stable;
 use stream_errors::parser_error::ParserError;
@@ -113,71 +100,6 @@ use streams::stream::Stream;
 impl<I: Stream, E: ParserError<I>> Stable<I, (), E> for () {{
     ghost stable = {{ stays sequence0_grows }};
 }}
-
-{family}
-"""
-
-CHOICES = """//! Choices among the members of a tuple are stable where these are.
-//!
-//! {head}
-ghost use Rattle.stream_errors.specs.Form.{{modal}};
-ghost use Rattle.winnow_stable.specs.Stable.Choices.{{or_else_grows}};
-ghost use Rattle.winnow_stable.specs.Stable.Grows.{{grows, stays}};
-
-use crate::stable::Stable;
-use stream_errors::parser_error::ParserError;
-use streams::stream::Stream;
-use winnow_comb::combinator::impls::AltParser;
-
-{family}
-"""
-
-CLASSES = """//! Takes of classes of characters are stable.
-//!
-//! {head}
-ghost use Rattle.std.specs.Prelude.{{None}};
-ghost use Rattle.stream_sets.specs.Range.{{from_to}};
-ghost use Rattle.winnow_stable.specs.Stable.Grows.{{leaf_stays}};
-ghost use Rattle.winnow_stable.specs.Stable.Leaves.{{take_while_stays}};
-
-use crate::stable::Stable;
-use stream_errors::parser_error::ParserError;
-use stream_sets::as_char::AsChar;
-use streams::stream::StreamIsPartial;
-use winnow_ascii::ascii::impls::{{{kinds}}};
-
-{family}
-"""
-
-BY_VALUE = """//! Literals by value are stable.
-//!
-//! {head}
-ghost use Rattle.winnow_stable.specs.Stable.Grows.{{leaf_stays}};
-ghost use Rattle.winnow_stable.specs.Stable.Leaves.{{literal_stays}};
-
-use crate::stable::Stable;
-use stream_errors::parser_error::ParserError;
-use stream_searches::caseless::Caseless;
-use stream_searches::compare::Compare;
-use streams::stream::StreamIsPartial;
-
-{family}
-"""
-
-INTEGERS = """//! Integers as bytes are stable.
-//!
-//! {head}
-ghost use Rattle.winnow_integers.specs.Integer.{{signed_value, unsigned_value}};
-ghost use Rattle.winnow_integers.specs.declared.binary.endianness.Endianness.TheVariants.{{Big, Little}};
-ghost use Rattle.winnow_stable.specs.Stable.Grows.{{leaf_stays}};
-ghost use Rattle.winnow_stable.specs.Stable.Integers.{{integer_stays}};
-
-use crate::stable::Stable;
-use stream_errors::parser_error::ParserError;
-use streams::byte_stream::ByteStream;
-use streams::stream::StreamIsPartial;
-use winnow_binary::binary::impls::{{{chosen}}};
-use winnow_integers::binary::impls::{{{fixed}}};
 
 {family}
 """
@@ -201,60 +123,29 @@ def choice_block(n):
     return block(["I: Stream", "O", "E: ParserError<I>", *parsers], "Stable<I, O, E>", kind, "", "    ghost stable = { stays %s };" % law)
 
 
-def class_block(name, least):
-    return "\n".join(
-        [
-            "impl<I: StreamIsPartial, E: ParserError<I>> Stable<I, I::Slice, E> for %s" % camel("%s%d" % (name, least)),
-            "where",
-            "    I::Token: AsChar,",
-            "{",
-            "    ghost stable = { leaf_stays I.following _ (λ _. take_while_stays I.reading _ (from_to %d None)) };" % least,
-            "}",
-        ]
-    )
-
-
-def literal_block(parameters, literal, kind, output):
-    shown = "(λ _. s)" if output == kind else "(λ slice. slice)"
-    law = "leaf_stays I.following _ (λ s. literal_stays I.reading (I.spells s) %s)" % shown
-    # A block of a type with a length states its bounds where it has a function.
-    own = "\n\n    fn stay() {}" if "const N" in parameters else ""
-    bounds = [*parameters.rstrip(", ").split(", ")] if parameters else []
-    bounds += ["I: StreamIsPartial + Compare<%s>" % literal, "E: ParserError<I>"]
-    return block(bounds, "Stable<I, %s, E>" % output, kind, "", "    ghost stable = { %s };%s" % (law, own))
+def class_block(kind, least):
+    """A take of a class of characters, of so many at least."""
+    law = "leaf_stays I.following _ (λ _. take_while_stays I.reading _ (from_to %d None))" % least
+    bounds = ["I: StreamIsPartial", "E: ParserError<I>"]
+    where = "\nwhere\n    I::Token: AsChar,\n{"
+    return block(bounds, "Stable<I, I::Slice, E>", kind, where, "    ghost stable = { %s };" % law)
 
 
 def integer_block(one, kind, order, value):
-    """An integer by the name of its order: a constructor, or the parser's state."""
+    """An integer by the name of its order: none, or the parser's state."""
     law = "leaf_stays I.following _ (λ %s. integer_stays %d %s I.reading)" % (order, one.width, value)
     bounds = ["I: StreamIsPartial + ByteStream", "E: ParserError<I>"]
     return block(bounds, "Stable<I, %s, E>" % one.type, kind, "", "    ghost stable = { %s };" % law)
 
 
-def integer_blocks():
-    for name, one in fixed().items():
-        yield integer_block(one, camel(name), "_", "(%s %s)" % (one.value, one.constructor))
-    for name, one in chosen().items():
-        yield integer_block(one, camel(name) + "<I, E>", "x", "(%s x)" % one.value)
-
-
 def write_stable():
-    stable = "crates/winnow_stable/"
-    same = "use Rattle.winnow_stable.specs.Stable.Longer.{same_grows}\n"
-    for name, sizes, imports in [("Tuples", range(SMALL + 1), same), ("LargeTuples", range(SMALL + 1, MOST + 1), "")]:
+    core = "crates/winnow_core/"
+    same = "use Rattle.winnow_core.specs.Stable.Longer.{same_grows}\n"
+    for name, sizes, imports in [("Grows", range(SMALL + 1), same), ("LargeGrows", range(SMALL + 1, MOST + 1), "")]:
         sequences = ", ".join("SequenceRuns%d" % n for n in sizes)
         family = "\n\n".join(sequence_lemma(n) if n else NONE for n in sizes)
-        write(stable + "specs/Stable/%s.antt" % name, SEQUENCES, sequences=sequences, family=family, imports=imports)
+        write(core + "specs/Sequence/%s.antt" % name, SEQUENCES, sequences=sequences, family=family, imports=imports)
     small = ", ".join("sequence%d_grows" % n for n in range(SMALL + 1))
     large = ", ".join("sequence%d_grows" % n for n in range(SMALL + 1, MOST + 1))
-    kinds = ", ".join(camel("%s%d" % (row[0], row[-1])) for row in class_parsers())
     family = "\n\n".join(tuple_block(n) for n in upto(MOST))
-    write(stable + "src/stable/tuples.rt", TUPLES, small=small, large=large, family=family)
-    family = "\n\n".join(choice_block(n) for n in upto(MOST))
-    write(stable + "src/stable/alt_tuples.rt", CHOICES, family=family)
-    family = "\n\n".join(class_block(row[0], row[-1]) for row in class_parsers())
-    write(stable + "src/stable/classes.rt", CLASSES, kinds=kinds, family=family)
-    family = "\n\n".join(literal_block(*row) for row in LITERALS)
-    write(stable + "src/stable/literals.rt", BY_VALUE, family=family)
-    kinds = {"fixed": ", ".join(map(camel, fixed())), "chosen": ", ".join(map(camel, chosen()))}
-    write(stable + "src/stable/integers.rt", INTEGERS, family="\n\n".join(integer_blocks()), **kinds)
+    write(core + "src/parser/tuples/stable.rt", TUPLES, small=small, large=large, family=family)

@@ -11,9 +11,9 @@ use winnow_ascii::ascii::impls::Digit1;
 use winnow_comb::combinator::cut_err;
 use winnow_comb::combinator::impls::CutErr;
 use winnow_core::combinator::impls::ErrInto;
+use winnow_core::combinator::impls::MapErrKept;
 use winnow_core::parser::Parser;
-use winnow_stable::combinator::impls::MapErrKept;
-use winnow_stable::stable::Stable;
+use winnow_core::stable::Stable;
 
 /// Another error of the same mode.
 fn forget(error: ErrMode<InputError<Text>>) -> Modal {

@@ -15,7 +15,7 @@ use winnow_comb::combinator::{alt, not, opt};
 use winnow_numbers::ascii::impls::HexUintParser;
 use winnow_separated::combinator::impls::Separated;
 use winnow_separated::combinator::separated;
-use winnow_stable::stable::Stable;
+use winnow_core::stable::Stable;
 use winnow_token::token::impls::TakeWhile;
 use winnow_token::token::take_while;
 

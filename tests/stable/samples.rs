@@ -8,7 +8,7 @@ use streams::stream::{Stream, StreamIsPartial};
 use test_support::outcomes::{Kind, outcome_of};
 use test_support::rows::Modal;
 use test_support::texts::completed;
-use winnow_stable::stable::Stable;
+use winnow_core::stable::Stable;
 
 /// How a sample is answered: from how many of its bytes on, by what, and how many units are taken.
 pub(crate) type Settled<O> = (usize, Result<O, Kind>, usize);

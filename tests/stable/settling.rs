@@ -6,7 +6,7 @@ use streams::stream::Stream;
 use test_support::outcomes::{Kind, outcome_of};
 use test_support::rows::Modal;
 use test_support::texts::{OfText, completed};
-use winnow_stable::stable::Stable;
+use winnow_core::stable::Stable;
 
 /// The answer of a run, and how many units it took.
 type Ran<O> = (Result<O, Kind>, usize);

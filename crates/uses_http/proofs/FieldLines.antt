@@ -14,9 +14,9 @@ use Rattle.winnow.specs.Reads.SequencesLeave.{sequence5_leaves}
 use Rattle.winnow.specs.Runs.{Runs}
 use Rattle.winnow.specs.Sequence.{SequenceRuns5}
 use Rattle.winnow.specs.Sequence.Known.{sequence5_ok}
+use Rattle.winnow.specs.Sequence.LargeGrows.{sequence5_grows}
 use Rattle.winnow.specs.Stable.{IsFinalKind}
 use Rattle.winnow.specs.Stable.Grows.{Grows}
-use Rattle.winnow.specs.Stable.LargeTuples.{sequence5_grows}
 use Rattle.winnow.specs.TakeWhile.Known.{TakesOf, take_leaves, take_reads, tells_of, took_by}
 use Rattle.winnow.specs.TakeWhile.Known.{took_stops}
 use Rattle.winnow.specs.{Range}

@@ -8,17 +8,16 @@ use Rattle.winnow.specs.Form.{modal}
 use Rattle.winnow.specs.Input.{Input, with_more}
 use Rattle.winnow.specs.Join.{IsOrMemory, joint_kind}
 use Rattle.winnow.specs.Kind.{Kind, backtrack, cut, incomplete, memory}
-use Rattle.winnow.specs.Literal.Laws.{literal_ends}
-use Rattle.winnow.specs.OneOf.Laws.{one_of_ends}
+use Rattle.winnow.specs.Literal.Laws.{literal_ends, literal_stays}
+use Rattle.winnow.specs.OneOf.Laws.{one_of_ends, one_of_stays}
 use Rattle.winnow.specs.Range.{bounds_of}
 use Rattle.winnow.specs.Reads.Known.{SliceRuns, TokenRuns}
 use Rattle.winnow.specs.Runs.{Runs}
 use Rattle.winnow.specs.Stable.{IsFinalKind}
 use Rattle.winnow.specs.Stable.Grows.{Grows, grows, leaf_stays}
-use Rattle.winnow.specs.Stable.Leaves.{literal_stays, one_of_stays, take_while_stays}
 use Rattle.winnow.specs.Stream.{AnswersSeen}
 use Rattle.winnow.specs.TakeWhile.Known.{TakesOf}
-use Rattle.winnow.specs.TakeWhile.Laws.{take_while_ends}
+use Rattle.winnow.specs.TakeWhile.Laws.{take_while_ends, take_while_stays}
 use Rattle.uses_http.proofs.Members.{MemberOf, Tells}
 
 -- Any bytes may come behind any.

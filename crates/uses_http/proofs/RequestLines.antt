@@ -14,10 +14,10 @@ use Rattle.winnow.specs.Reads.Sequences.{sequence4_reads, sequence5_reads}
 use Rattle.winnow.specs.Reads.SequencesLeave.{sequence4_leaves, sequence5_leaves}
 use Rattle.winnow.specs.Runs.{Runs}
 use Rattle.winnow.specs.Sequence.{SequenceRuns4, SequenceRuns5}
+use Rattle.winnow.specs.Sequence.Grows.{sequence4_grows}
+use Rattle.winnow.specs.Sequence.LargeGrows.{sequence5_grows}
 use Rattle.winnow.specs.Stable.{IsFinalKind}
 use Rattle.winnow.specs.Stable.Grows.{Grows}
-use Rattle.winnow.specs.Stable.LargeTuples.{sequence5_grows}
-use Rattle.winnow.specs.Stable.Tuples.{sequence4_grows}
 use Rattle.winnow.specs.TakeWhile.Known.{TakesOf, take_leaves, take_reads}
 use Rattle.winnow.specs.{Range}
 use Rattle.uses_http.specs.Bytes.{IsDigit, IsTokenByte, IsVisible, line_end}

@@ -30,9 +30,10 @@ pub use Rattle.winnow_expression_trees.specs.Reading as ReadingOfParts
 pub use Rattle.winnow_expression_trees.specs.Value as ValueOfTree
 -- Modules that only proofs of these crates cite:
 -- Rattle.stream_bits.specs.Moves, Rattle.stream_bits.specs.Offsets,
--- Rattle.winnow_bits.specs.BitAgree,
+-- Rattle.winnow_bits.specs.BitAgree, Rattle.winnow_bits.specs.LongerBits,
 -- Rattle.winnow_core.specs.Chain, Rattle.winnow_core.specs.Elements,
--- Rattle.winnow_numbers.specs.Lanes, Rattle.winnow_repeat.specs.Room
+-- Rattle.winnow_numbers.specs.Lanes, Rattle.winnow_repeat.specs.Room,
+-- Rattle.winnow_token.specs.Unstable
 -- What stands below is written by scripts/registries.py: do not edit.
 -- Streams: the input of a parser, and what a parser sees of it.
 pub use Rattle.streams.specs.ByteStream
@@ -94,6 +95,7 @@ pub use Rattle.winnow_core.specs.ByRef
 pub use Rattle.winnow_core.specs.CompleteErr
 pub use Rattle.winnow_core.specs.Context
 pub use Rattle.winnow_core.specs.ContextWith
+pub use Rattle.winnow_core.specs.Decides
 pub use Rattle.winnow_core.specs.DefaultValue
 pub use Rattle.winnow_core.specs.Eof
 pub use Rattle.winnow_core.specs.ErrInto
@@ -104,6 +106,7 @@ pub use Rattle.winnow_core.specs.MakesError
 pub use Rattle.winnow_core.specs.MakesOutput
 pub use Rattle.winnow_core.specs.Map
 pub use Rattle.winnow_core.specs.MapErr
+pub use Rattle.winnow_core.specs.MapErrKept
 pub use Rattle.winnow_core.specs.OutputInto
 pub use Rattle.winnow_core.specs.Parse
 pub use Rattle.winnow_core.specs.ParseIter
@@ -117,6 +120,7 @@ pub use Rattle.winnow_core.specs.Settles
 pub use Rattle.winnow_core.specs.Short
 pub use Rattle.winnow_core.specs.Span
 pub use Rattle.winnow_core.specs.Splits
+pub use Rattle.winnow_core.specs.Stable
 pub use Rattle.winnow_core.specs.TryMap
 pub use Rattle.winnow_core.specs.Value
 pub use Rattle.winnow_core.specs.Verify
@@ -234,9 +238,6 @@ pub use Rattle.winnow_recovery.specs.RecoveryLaws
 pub use Rattle.winnow_recovery.specs.ResumeAfter
 pub use Rattle.winnow_recovery.specs.RetryAfter
 -- Text with escapes: parts that stand for themselves, and parts behind a control, as a backslash.
+pub use Rattle.winnow_escapes.specs.Controls
 pub use Rattle.winnow_escapes.specs.Escaped
 pub use Rattle.winnow_escapes.specs.TakeEscaped
--- Stable parsers: on a cut input each asks for more, or answers what it answers on every longer
--- input.
-pub use Rattle.winnow_stable.specs.MapErrKept
-pub use Rattle.winnow_stable.specs.Stable

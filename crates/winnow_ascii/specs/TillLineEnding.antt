@@ -1,5 +1,5 @@
 -- What stands before a line end.
-use Rattle.std.specs.Prelude.{◌≡◌, ℕ, List, [], ◌∷◌, None, Ok, Err, ◌⊎◌}
+use Rattle.std.specs.Prelude.{◌≡◌, ℕ, List, [], ◌∷◌, None, Ok, Err, ◌⊎◌, length}
 use Rattle.std.specs.Borrow.{Bor}
 use Rattle.streams.specs.Input.{Input, Takes}
 use Rattle.streams.specs.Kind.{Kind, backtrack}
@@ -65,3 +65,12 @@ TillLineEndingRuns {T} {S} spells sought reading form i answer j =
     × (StandsFirst (spells both) j.left.tokens → ⊥) × (answer ≡ Err backtrack))
     -- no line is taken
     ⊎ ((k : Kind) × LacksLineEnd sought form i k j × (answer ≡ Err k)))))
+
+-- The two characters that end a line are not sought by an empty list.
+abbrev pub SeeksSome : {T : Type 0} → (ℕ × ℕ → List T → Type 0) → Type 0
+SeeksSome {T} sought = (xs : List T) → sought (13, 10) xs → xs ≡ [] → ⊥
+
+-- A text of a carriage return stands for one token.
+abbrev pub SpellsOne : {T : Type 0} → (Bor (List ℕ) → List T → Type 0) → Type 0
+SpellsOne {T} spells =
+    (text : Bor (List ℕ)) (xs : List T) → text.now ≡ 13 ∷ [] → spells text xs → length xs ≡ 1

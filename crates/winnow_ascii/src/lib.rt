@@ -6,3 +6,4 @@
 #![tactic(auto)]
 
 pub mod ascii;
+pub mod stable;

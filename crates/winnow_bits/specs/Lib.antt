@@ -7,4 +7,5 @@ pub mod BitTake
 pub mod BitsOfBytes
 pub mod BytesOfBits
 pub mod InParts
+pub mod LongerBits
 pub mod Needs

@@ -3,6 +3,7 @@ use Rattle.std.specs.Prelude.{◌≡◌, Err}
 use Rattle.streams.specs.Input.{Input}
 use Rattle.streams.specs.Kind.{backtrack}
 use Rattle.stream_errors.specs.Form.{Answer}
+pub mod Laws
 
 -- A run that backtracks and takes nothing.
 abbrev pub FailRuns : {T O : Type 0} → Input T → Answer O → Input T → Type 0

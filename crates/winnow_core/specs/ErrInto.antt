@@ -4,6 +4,7 @@ use Rattle.streams.specs.Kind.{Kind}
 use Rattle.winnow_core.specs.MakesError.{MakesError}
 use Rattle.winnow_core.specs.Runs.{Runs}
 use Rattle.winnow_core.specs.declared.combinator.impls.err_into.ErrInto.{ErrInto}
+pub mod Laws
 
 -- the parser whose errors are converted
 abbrev pub err_into_parser : {F I O E D : Type 0} → ErrInto F I O E D → F

@@ -6,6 +6,7 @@ pub mod Chain
 pub mod CompleteErr
 pub mod Context
 pub mod ContextWith
+pub mod Decides
 pub mod DefaultValue
 pub mod Elements
 pub mod Ends
@@ -19,6 +20,7 @@ pub mod MakesError
 pub mod MakesOutput
 pub mod Map
 pub mod MapErr
+pub mod MapErrKept
 pub mod OutputInto
 pub mod Parse
 pub mod ParseIter
@@ -32,6 +34,7 @@ pub mod Settles
 pub mod Short
 pub mod Span
 pub mod Splits
+pub mod Stable
 pub mod Take
 pub mod TryMap
 pub mod Value

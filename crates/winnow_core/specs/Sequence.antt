@@ -6,7 +6,9 @@ use Rattle.streams.specs.Input.{Input}
 use Rattle.streams.specs.Kind.{Kind}
 use Rattle.winnow_core.specs.Runs.{Runs}
 pub mod Cases
+pub mod Grows
 pub mod Known
+pub mod LargeGrows
 pub mod Laws
 
 -- no children: nothing is taken

@@ -1,13 +1,18 @@
 //! Laws of the parsers, for those that build on them.
-ghost use Rattle.std.specs.Prelude.{◌≡◌, List};
+ghost use Rattle.std.specs.Prelude.{◌≡◌, List, [], ◌∷◌};
 ghost use Rattle.std.specs.Str.{chars};
+ghost use Rattle.stream_errors.specs.Form.{modal};
+ghost use Rattle.winnow_core.specs.Decides.{Decides, DecidesOutputs};
 ghost use Rattle.winnow_core.specs.Laws.{AnswersAlike, GoesBackOnFailure};
 ghost use Rattle.winnow_core.specs.Laws.{ShowsOne, TakesFromTheFront};
 ghost use Rattle.winnow_core.specs.Runs.{LeaveEnds};
+ghost use Rattle.winnow_core.specs.Stable.{EachSettlesOnCut, IsStable};
+ghost use Rattle.winnow_core.specs.Stable.Decided.{NoOtherOnLonger, SameOutputOnLonger};
 
 use crate::agrees_with::AgreesWith;
-use crate::combinator::impls::{AndThen, ParseTo, Take, TryMap, Verify, VerifyMap, WithTaken};
+use crate::combinator::impls::{AndThen, Eof, ParseTo, Take, TryMap, Verify, VerifyMap, WithTaken};
 use crate::parser::Parser;
+use crate::stable::Stable;
 use stream_errors::external::FromExternalError;
 use stream_errors::parser_error::ParserError;
 use stream_sets::parse_slice::ParseSlice;
@@ -205,4 +210,33 @@ pub fn the_slice_with_the_output_and_the_rest_are_the_input<
     ensures { (tokens_of : I.Slice → List I.Seen) → ShowsOne I.reading tokens_of
         → TakesFromTheFront (λ both. tokens_of both.1)
         (⟦<WithTaken<P, I, O, E> as Parser<I, (O, I::Slice), E>>⟧.meaning E.form) }
+{}
+
+/// On a cut input a stable parser asks for more, or wants memory, or answers what every longer
+/// input gets, still cut or complete.
+pub fn a_cut_input_is_answered_as_each_longer_one<
+    P: Stable<I, O, E>,
+    I: Stream,
+    O,
+    E: ParserError<I>,
+>()
+    ensures { E.form ≡ modal → EachSettlesOnCut I.following (P.meaning E.form) }
+{}
+
+/// Where one state and one input decide how a stable parser ends, want of memory aside, a longer
+/// input gets no other answer than the cut one: an output or the same kind, the same new state, and
+/// the rest with what was added; and the same output, where they decide that too.
+pub fn a_longer_input_gets_no_other_answer<P: Stable<I, O, E>, I: Stream, O, E: ParserError<I>>()
+    ensures outcome { E.form ≡ modal → Decides (P.meaning E.form)
+        → NoOtherOnLonger I.following (P.meaning E.form) }
+    ensures output { E.form ≡ modal → DecidesOutputs (P.meaning E.form)
+        → SameOutputOnLonger I.following (P.meaning E.form) }
+{}
+
+/// [`Eof`](crate::combinator::impls::Eof) is not stable, and no block can say that it is: what is
+/// the end of a cut input is none where a token follows.
+pub fn eof_is_not_stable<I: Stream, E: ParserError<I>>()
+    ensures { (slice : I.Slice) (x : I.Seen) → I.reading.shows slice []
+        → I.following.can_follow [] (x ∷ [])
+        → IsStable I.following (⟦<Eof as Parser<I, I::Slice, E>>⟧.meaning modal) → ⊥ }
 {}

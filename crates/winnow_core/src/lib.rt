@@ -11,5 +11,6 @@ pub mod laws;
 pub mod literal;
 pub mod parser;
 pub mod short;
+pub mod stable;
 
 pub use crate::parser::Parser;

@@ -5,3 +5,4 @@
 
 pub mod ascii;
 pub mod laws;
+pub mod stable;

@@ -11,7 +11,8 @@ use Rattle.winnow_core.specs.Runs.{Runs}
 use Rattle.winnow_core.specs.Sequence.{SequenceRuns2}
 use Rattle.winnow_repeat.specs.Repeat.{RepeatManyRuns}
 use Rattle.winnow_repeat.specs.Repeat.Known.{Items, RepeatedAll, repeat_any_ok, repeated_list}
-use Rattle.winnow_separated.specs.FoldLaws.{Consumes, Decides, DecidesOutputs, FoldTheSame, Turns}
+use Rattle.winnow_core.specs.Decides.{Decides, DecidesOutputs}
+use Rattle.winnow_separated.specs.FoldLaws.{Consumes, FoldTheSame, Turns}
 use Rattle.winnow_separated.specs.Link.{LinkFails, PairLinkRuns}
 use Rattle.winnow_separated.specs.SeparatedFoldl1.{FoldsLeft, SeparatedFoldl1Runs}
 use Rattle.winnow_separated.specs.SeparatedFoldr1.{FoldsRight, SeparatedFoldr1Runs}

@@ -1,32 +1,10 @@
 -- Laws of elements that are folded.
-use Rattle.std.specs.Prelude.{◌≡◌, ◌<◌, List, [], ◌∷◌, length, Ok, Err, ⊤}
+use Rattle.std.specs.Prelude.{◌≡◌, ◌<◌, List, [], ◌∷◌, length, Ok, ⊤}
 use Rattle.streams.specs.Input.{Input}
-use Rattle.streams.specs.Kind.{memory}
-use Rattle.stream_errors.specs.Form.{Answer}
+use Rattle.winnow_core.specs.Decides.{DecidesOutputs}
 use Rattle.winnow_core.specs.Runs.{Runs}
 use Rattle.winnow_separated.specs.SeparatedFoldl1.{FoldsLeft}
 use Rattle.winnow_separated.specs.SeparatedFoldr1.{FoldsRight}
-
--- Both answers are outputs, or errors of one kind.
-abbrev pub SameOutcome : {O : Type 0} → Answer O → Answer O → Type 0
-SameOutcome (Ok m) (Ok n) = ⊤
-SameOutcome (Ok m) (Err l) = ⊥
-SameOutcome (Err k) (Ok n) = ⊥
-SameOutcome (Err k) (Err l) = k ≡ l
-
--- One state and one input decide whether a run succeeds, the kind of its error, its new state and
--- what it leaves, where it does not want for memory; its outputs may differ.
-abbrev pub Decides : {S T O : Type 0} → Runs S T O → Type 0
-Decides {S} {T} {O} run =
-    (s : S) (i : Input T) (answer other : Answer O) (t u : S) (j k : Input T)
-    → (answer ≡ Err memory → ⊥) → (other ≡ Err memory → ⊥)
-    → run s i answer t j → run s i other u k → SameOutcome answer other × (t ≡ u) × (j ≡ k)
-
--- One state and one input decide the output of a run that succeeds.
-abbrev pub DecidesOutputs : {S T O : Type 0} → Runs S T O → Type 0
-DecidesOutputs {S} {T} {O} run =
-    (s : S) (i : Input T) (o p : O) (t u : S) (j k : Input T)
-    → run s i (Ok o) t j → run s i (Ok p) u k → o ≡ p
 
 -- each run that succeeds consumes
 abbrev pub Consumes : {S T O : Type 0} → Runs S T O → Type 0

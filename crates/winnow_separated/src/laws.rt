@@ -1,5 +1,6 @@
 //! Laws of elements with separators, each proved by a function that does nothing.
-ghost use Rattle.winnow_separated.specs.FoldLaws.{Consumes, Decides, FoldTheSame};
+ghost use Rattle.winnow_core.specs.Decides.{Decides};
+ghost use Rattle.winnow_separated.specs.FoldLaws.{Consumes, FoldTheSame};
 ghost use Rattle.winnow_separated.specs.SeparatedLaws.{LeavesTheSeparator};
 
 use crate::combinator::impls::{Separated, SeparatedFoldl1, SeparatedFoldr1};

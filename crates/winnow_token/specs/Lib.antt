@@ -10,3 +10,4 @@ pub mod Take
 pub mod TakeTill
 pub mod TakeUntil
 pub mod TakeWhile
+pub mod Unstable

@@ -6,8 +6,8 @@ pub use winnow_comb::combinator::impls::{
 };
 pub use winnow_core::combinator::impls::{
     AndThen, ByRef, CompleteErr, Context, ContextWith, DefaultValue, Eof, ErrInto, FlatMap, Map,
-    MapErr, OutputInto, ParseIter, ParseTo, Span, Take, TryMap, Value, Verify, VerifyMap, Void,
-    WithSpan, WithTaken,
+    MapErr, MapErrKept, OutputInto, ParseIter, ParseTo, Span, Take, TryMap, Value, Verify,
+    VerifyMap, Void, WithSpan, WithTaken,
 };
 pub use winnow_expression::combinator::impls::Expression;
 pub use winnow_recovery::combinator::impls::{ResumeAfter, RetryAfter};
@@ -15,4 +15,3 @@ pub use winnow_repeat::combinator::impls::{
     Fill, ParserIterator, Repeat, RepeatFold, RepeatTill, RepeatTryFold, RepeatVerifyFold,
 };
 pub use winnow_separated::combinator::impls::{Separated, SeparatedFoldl1, SeparatedFoldr1};
-pub use winnow_stable::combinator::impls::MapErrKept;

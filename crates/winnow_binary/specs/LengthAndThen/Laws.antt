@@ -1,19 +1,22 @@
 -- What holds of the runs of a length and a parser of so many tokens.
-use Rattle.std.specs.Prelude.{◌≡◌, ℕ, Bool, false, List}
+use Rattle.std.specs.Prelude.{◌≡◌, ℕ, Bool, false, List, Err}
 use Rattle.std.proofs.Common.{ap, subst, ◌∙◌, inl, inr}
 use Rattle.streams.specs.Input.{Input, Status, Takes, passes_end}
 use Rattle.streams.specs.Place.{Place}
 use Rattle.streams.specs.Reading.{Reading, ShowsOneList}
 use Rattle.streams.specs.SameReading.{SameReading, reading_path}
 use Rattle.streams.specs.Stream.{IsUpdate, update_begins, update_tokens}
-use Rattle.stream_errors.specs.Form.{ErrorForm}
+use Rattle.stream_errors.specs.Form.{ErrorForm, modal}
+use Rattle.streams.specs.Following.{Following, follows_end}
 use Rattle.winnow_core.specs.Agrees.{Agrees}
 use Rattle.winnow_core.specs.Agrees.Sizes.{agrees2}
 use Rattle.winnow_core.specs.AndThen.{completed}
 use Rattle.winnow_core.specs.Ends.{same_ends}
 use Rattle.winnow_core.specs.Runs.{LeaveEnds, Meaning, Runs}
-use Rattle.winnow_binary.specs.Length.Laws.{length_ends}
+use Rattle.winnow_binary.specs.Length.Laws.{length_ends, length_grows}
 use Rattle.winnow_binary.specs.LengthAndThen.{LengthAndThenRuns, TakenRuns, only_first}
+use Rattle.winnow_core.specs.Stable.Grows.{Grows, final_by}
+use Rattle.winnow_core.specs.Stable.Longer.{passes_cut, passes_more, short_final}
 
 -- what is taken leaves an end
 pub taken_ends : {S T L O : Type 0} (reading : Reading T L) (form : ErrorForm) (counts : Bool)
@@ -83,3 +86,24 @@ length_and_then_agrees number part1 other_part1 part2 other_part2 {a} {b} {count
     subst (λ c. At b c) missing (subst (λ r. At r counts) (reading_path reading)
     (agrees2 part1 other_part1 part2 other_part2
     (λ X Y x y form. LengthAndThenRuns number a form counts (x form) (y form)) first second))
+
+module _ {T : Type 0} {following : Following T} where
+  module _ {L : Type 0} (reading : Reading T L) (counts : Bool) where
+    -- so many tokens as an input of their own, which no more input changes: whatever the parser is
+    taken_grows : {V O : Type 0} (run : Runs V T O) (n : ℕ)
+        → Grows following (TakenRuns reading modal counts run n)
+    taken_grows run n more flag s i answer t j may final
+        (inl (taken, rest, many, passes, ran)) = (
+          inl (taken, rest, many, passes_more more flag passes, ran),
+          (passes_cut passes may.0, follows_end following more (passes_end passes) may.1),
+        )
+    taken_grows run n more flag s i answer t j may final
+        (inr (k, few, short, e, kept, same)) =
+        short_final i may.0 short (final_by (Err k) e final)
+
+    -- they grow where those of the length do, whatever the parser is
+    pub length_and_then_grows : {S V N O : Type 0} (number : N → ℕ) {count : Runs S T N}
+        (run : Runs V T O) → Grows following count
+        → Grows following (LengthAndThenRuns number reading modal counts count run)
+    length_and_then_grows number run reads =
+        length_grows number (TakenRuns reading modal counts run) reads (taken_grows run)

@@ -1,15 +1,18 @@
 -- What holds of the runs of a length and so many tokens.
-use Rattle.std.specs.Prelude.{◌≡◌, ℕ, Bool}
+use Rattle.std.specs.Prelude.{◌≡◌, ℕ, Bool, ⊤}
 use Rattle.std.proofs.Common.{subst}
 use Rattle.streams.specs.Reading.{Reading}
 use Rattle.streams.specs.SameReading.{SameReading, reading_path}
-use Rattle.stream_errors.specs.Form.{ErrorForm}
+use Rattle.stream_errors.specs.Form.{ErrorForm, modal}
+use Rattle.streams.specs.Following.{Following}
 use Rattle.winnow_core.specs.Agrees.{Agrees, agrees1}
 use Rattle.winnow_core.specs.Runs.{Keeps, LeaveEnds, Meaning, Runs}
 use Rattle.winnow_token.specs.Take.{TakeRuns}
-use Rattle.winnow_token.specs.Take.Laws.{take_ends}
-use Rattle.winnow_binary.specs.Length.Laws.{length_ends}
+use Rattle.winnow_token.specs.Take.Laws.{take_ends, take_stays}
+use Rattle.winnow_binary.specs.Length.Laws.{length_ends, length_grows}
 use Rattle.winnow_binary.specs.LengthTake.{LengthTakeRuns}
+use Rattle.winnow_core.specs.Stable.Grows.{Grows, grows, leaf_stays, stays_beside}
+use Rattle.winnow_core.specs.Stable.{IsStable}
 
 -- they leave an end, where those of the length do
 pub length_take_ends : {S T N L : Type 0} (number : N → ℕ) (reading : Reading T L)
@@ -35,3 +38,17 @@ length_take_agrees number part other_part {a} {b} {counts} {others} {state} {oth
     (λ form. LengthTakeRuns number r form c (n form)) in
     subst (λ c. At b c) missing (subst (λ r. At r counts) (reading_path reading)
     (agrees1 part other_part (λ X x form. LengthTakeRuns number a form counts (x form)) child))
+
+module _ {T : Type 0} {following : Following T} where
+  module _ {L : Type 0} (reading : Reading T L) (counts : Bool) where
+    -- so many tokens
+    take_grows : (n : ℕ)
+        → Grows following (Keeps {S = ⊤} (λ _. TakeRuns reading modal counts n))
+    take_grows n = grows (λ s i answer t j r. take_ends reading modal counts n i answer j r.0)
+        (leaf_stays following _ (λ _. take_stays reading counts n))
+
+    -- no longer input changes them, where those of the length grow
+    pub length_take_stays : {S N : Type 0} (number : N → ℕ) {count : Runs S T N}
+        → Grows following count
+        → IsStable following (LengthTakeRuns number reading modal counts count)
+    length_take_stays number reads = stays_beside tt (length_grows number _ reads take_grows)

@@ -1,14 +1,16 @@
 -- What holds of the runs of one bit.
-use Rattle.std.specs.Prelude.{Bool, ⊤}
+use Rattle.std.specs.Prelude.{Bool, ⊤, Err}
 use Rattle.std.proofs.Common.{inl, inr}
 use Rattle.streams.specs.Input.{Input, IsEndOf, passes_end}
 use Rattle.streams.specs.Reading.{Reading}
 use Rattle.streams.specs.SameReading.{SameReading, reading_path}
-use Rattle.stream_errors.specs.Form.{Answer, ErrorForm}
+use Rattle.stream_errors.specs.Form.{Answer, ErrorForm, modal}
 use Rattle.winnow_core.specs.Ends.{same_ends}
 use Rattle.winnow_core.specs.Runs.{Keeps}
 use Rattle.winnow_core.specs.SameMeaning.{SameMeaning, same_by}
 use Rattle.winnow_bits.specs.BitBool.{BitBoolRuns}
+use Rattle.winnow_core.specs.Stable.Grows.{Stays, final_by}
+use Rattle.winnow_core.specs.Stable.Longer.{passes_more, same_more, short_final}
 
 -- they leave an end
 pub bit_bool_ends : {L : Type 0} (reading : Reading Bool L) (form : ErrorForm) (i : Input Bool)
@@ -25,3 +27,14 @@ pub bit_bool_alike : {L : Type 0} {a b : Reading Bool L} → SameReading a b
     (λ form. Keeps (λ _. BitBoolRuns b form))
 bit_bool_alike reading =
     same_by (λ r form. Keeps (λ _. BitBoolRuns r form)) (reading_path reading)
+
+module _ {L : Type 0} (reading : Reading Bool L) where
+  -- one bit
+  pub bit_bool_stays : Stays (BitBoolRuns reading modal)
+  bit_bool_stays more flag i answer j is_cut final (inl (b, passes, e)) =
+      inl (b, passes_more more flag passes, e)
+  bit_bool_stays more flag i answer j is_cut final (inr (inl (cannot, e, same))) =
+      inr (inl (cannot, e, same_more more flag same))
+  bit_bool_stays more flag i answer j is_cut final
+      (inr (inr (k, possible, none, short, e, same))) =
+      short_final i is_cut short (final_by (Err k) e final)

@@ -1,13 +1,14 @@
 -- What holds of the runs of the slice that a parser read.
 use Rattle.std.specs.Prelude.{◌≡◌, List, ◌++◌, Ok, Err}
-use Rattle.std.proofs.Common.{ap, sym, ◌∙◌, inl, inr}
+use Rattle.std.proofs.Common.{ap, sym, ◌∙◌, inl, inr, subst, append_assoc}
 use Rattle.streams.specs.Reading.{Reading}
 use Rattle.streams.specs.SameReading.{SameReading, reading_path}
+use Rattle.streams.specs.Following.{Following}
 use Rattle.winnow_core.specs.Laws.{TakesFromTheFront}
 use Rattle.winnow_core.specs.Take.{TakeRuns}
 use Rattle.winnow_core.specs.Agrees.{Agrees, agrees1}
 use Rattle.winnow_core.specs.Runs.{Runs, LeaveEnds, Meaning}
-use Rattle.std.proofs.Common.{subst}
+use Rattle.winnow_core.specs.Stable.Grows.{Grows, final_by}
 
 -- they leave an end, where those of the child do
 pub take_ends : {S T L O : Type 0} (reading : Reading T L) (run : Runs S T O)
@@ -41,3 +42,17 @@ taken_from_the_front reading run tokens_of told s i slice t j
     split ∙ ap (λ l. l ++ j.left.tokens) (sym (told x front shown))
     ∙ ap (λ y. tokens_of y ++ j.left.tokens) (sym same)
 taken_from_the_front reading run tokens_of told s i slice t j (inr (k, r, e)) = cc
+
+module _ {T : Type 0} {following : Following T} where
+  -- they grow where those of the child do
+  pub take_adapter_grows : {S L O : Type 0} {run : Runs S T O} (reading : Reading T L)
+      → Grows following run → Grows following (TakeRuns reading run)
+  take_adapter_grows reading child more flag s i answer t j may final
+      (inl (o, front, slice, r, splits, shown, e)) =
+      let (q, still) = child more flag s i (Ok o) t j may tt r in
+      let split =
+      ap (λ l. l ++ more) splits ∙ append_assoc front j.left.tokens more in
+      (inl (o, front, slice, q, split, shown, e), still)
+  take_adapter_grows reading child more flag s i answer t j may final (inr (k, r, e)) =
+      let (q, still) = child more flag s i (Err k) t j may (final_by (Err k) e final) r in
+      (inr (k, q, e), still)

@@ -1,12 +1,13 @@
 -- What holds of the runs of an output with the slice that was read.
 use Rattle.std.specs.Prelude.{◌≡◌, List, ◌++◌, Ok, Err}
-use Rattle.std.proofs.Common.{ap, sym, subst, ◌∙◌, inl, inr}
+use Rattle.std.proofs.Common.{ap, sym, subst, ◌∙◌, inl, inr, append_assoc}
 use Rattle.streams.specs.Reading.{Reading}
 use Rattle.streams.specs.SameReading.{SameReading, reading_path}
 use Rattle.winnow_core.specs.Agrees.{Agrees, agrees1}
 use Rattle.winnow_core.specs.Laws.{TakesFromTheFront}
 use Rattle.winnow_core.specs.Runs.{Runs, Meaning}
 use Rattle.winnow_core.specs.WithTaken.{WithTakenRuns}
+use Rattle.winnow_core.specs.MakesOutput.Laws.{MakesMore}
 
 -- over streams that are read alike it agrees, where the child does
 pub with_taken_agrees : {P P' Q Q' S U T L O : Type 0} (part : P' → P) (other_part : Q' → Q)
@@ -34,3 +35,10 @@ with_taken_from_the_front reading run tokens_of told s i both t j
     split ∙ ap (λ l. l ++ j.left.tokens) (sym (told x.1 front shown))
     ∙ ap (λ y. tokens_of y.1 ++ j.left.tokens) (sym same)
 with_taken_from_the_front reading run tokens_of told s i both t j (inr (k, r, e)) = cc
+
+-- what is made of the tokens between is made of them in a longer input
+pub made_with_taken : {T L O : Type 0} (reading : Reading T L)
+    → MakesMore {T = T} {O = O} {U = O × L} (λ i o j both. (both.0 ≡ o) × ((front : List T)
+    × (i.left.tokens ≡ front ++ j.left.tokens) × reading.shows both.1 front))
+made_with_taken reading more flag i o j both (is, (front, splits, shown)) =
+    (is, (front, ap (λ l. l ++ more) splits ∙ append_assoc front j.left.tokens more, shown))

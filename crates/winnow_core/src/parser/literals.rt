@@ -2,12 +2,14 @@
 ghost use Rattle.std.specs.Prelude.{◌≡◌};
 ghost use Rattle.winnow_core.specs.Agrees.{agrees_by};
 ghost use Rattle.winnow_core.specs.Literal.{LiteralRuns};
-ghost use Rattle.winnow_core.specs.Literal.Laws.{literal_alike, literal_ends};
+ghost use Rattle.winnow_core.specs.Literal.Laws.{literal_alike, literal_ends, literal_stays};
 ghost use Rattle.winnow_core.specs.Runs.{Keeps};
+ghost use Rattle.winnow_core.specs.Stable.Grows.{leaf_stays};
 
 use crate::agrees_with::AgreesWith;
 use crate::literal::take_literal;
 use crate::parser::Parser;
+use crate::stable::Stable;
 use stream_errors::parser_error::ParserError;
 use stream_searches::caseless::Caseless;
 use stream_searches::compare::Compare;
@@ -33,6 +35,11 @@ impl<I: StreamIsPartial + Compare<u8>, E: ParserError<I>> Parser<I, u8, E> for u
         let _slice = take_literal(input, *self)?;
         Ok(*self)
     }
+}
+
+impl<I: StreamIsPartial + Compare<u8>, E: ParserError<I>> Stable<I, u8, E> for u8 {
+    ghost stable = { leaf_stays I.following _
+        (λ s. literal_stays I.reading (I.spells s) (λ _. s)) };
 }
 
 impl<
@@ -64,6 +71,12 @@ impl<'t, I: StreamIsPartial + Compare<&'t [u8]>, E: ParserError<I>> Parser<I, I:
     fn parse_next(&mut self, input: &mut I) -> Result<I::Slice, E> {
         take_literal(input, *self)
     }
+}
+
+impl<'t, I: StreamIsPartial + Compare<&'t [u8]>, E: ParserError<I>> Stable<I, I::Slice, E>
+    for &'t [u8] {
+    ghost stable = { leaf_stays I.following _
+        (λ s. literal_stays I.reading (I.spells s) (λ slice. slice)) };
 }
 
 impl<
@@ -101,6 +114,17 @@ impl<'t, const N: usize, I: StreamIsPartial + Compare<&'t [u8; N]>, E: ParserErr
     fn parse_next(&mut self, input: &mut I) -> Result<I::Slice, E> {
         take_literal(input, *self)
     }
+}
+
+impl<'t, const N: usize, I: StreamIsPartial + Compare<&'t [u8; N]>, E: ParserError<I>> Stable<
+    I,
+    I::Slice,
+    E,
+> for &'t [u8; N] {
+    ghost stable = { leaf_stays I.following _
+        (λ s. literal_stays I.reading (I.spells s) (λ slice. slice)) };
+
+    fn stay() {}
 }
 
 impl<
@@ -142,6 +166,11 @@ impl<I: StreamIsPartial + Compare<char>, E: ParserError<I>> Parser<I, char, E> f
     }
 }
 
+impl<I: StreamIsPartial + Compare<char>, E: ParserError<I>> Stable<I, char, E> for char {
+    ghost stable = { leaf_stays I.following _
+        (λ s. literal_stays I.reading (I.spells s) (λ _. s)) };
+}
+
 impl<
     I: StreamIsPartial + ComparesLike<char, J>,
     J: StreamIsPartial + Compare<char> + Stream<Token = I::Token, Seen = I::Seen, Slice = I::Slice>,
@@ -171,6 +200,12 @@ impl<'t, I: StreamIsPartial + Compare<&'t str>, E: ParserError<I>> Parser<I, I::
     fn parse_next(&mut self, input: &mut I) -> Result<I::Slice, E> {
         take_literal(input, *self)
     }
+}
+
+impl<'t, I: StreamIsPartial + Compare<&'t str>, E: ParserError<I>> Stable<I, I::Slice, E>
+    for &'t str {
+    ghost stable = { leaf_stays I.following _
+        (λ s. literal_stays I.reading (I.spells s) (λ slice. slice)) };
 }
 
 impl<
@@ -205,6 +240,12 @@ impl<'t, I: StreamIsPartial + Compare<Caseless<&'t [u8]>>, E: ParserError<I>> Pa
     fn parse_next(&mut self, input: &mut I) -> Result<I::Slice, E> {
         take_literal(input, *self)
     }
+}
+
+impl<'t, I: StreamIsPartial + Compare<Caseless<&'t [u8]>>, E: ParserError<I>> Stable<I, I::Slice, E>
+    for Caseless<&'t [u8]> {
+    ghost stable = { leaf_stays I.following _
+        (λ s. literal_stays I.reading (I.spells s) (λ slice. slice)) };
 }
 
 impl<
@@ -248,6 +289,18 @@ impl<
 impl<
     't,
     const N: usize,
+    I: StreamIsPartial + Compare<Caseless<&'t [u8; N]>>,
+    E: ParserError<I>,
+> Stable<I, I::Slice, E> for Caseless<&'t [u8; N]> {
+    ghost stable = { leaf_stays I.following _
+        (λ s. literal_stays I.reading (I.spells s) (λ slice. slice)) };
+
+    fn stay() {}
+}
+
+impl<
+    't,
+    const N: usize,
     I: StreamIsPartial + ComparesLike<Caseless<&'t [u8; N]>, J>,
     J: StreamIsPartial
         + Compare<Caseless<&'t [u8; N]>>
@@ -280,6 +333,12 @@ impl<'t, I: StreamIsPartial + Compare<Caseless<&'t str>>, E: ParserError<I>> Par
     fn parse_next(&mut self, input: &mut I) -> Result<I::Slice, E> {
         take_literal(input, *self)
     }
+}
+
+impl<'t, I: StreamIsPartial + Compare<Caseless<&'t str>>, E: ParserError<I>> Stable<I, I::Slice, E>
+    for Caseless<&'t str> {
+    ghost stable = { leaf_stays I.following _
+        (λ s. literal_stays I.reading (I.spells s) (λ slice. slice)) };
 }
 
 impl<

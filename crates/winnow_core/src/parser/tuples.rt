@@ -13,6 +13,8 @@ ghost use Rattle.winnow_core.specs.Sequence.{SequenceRuns6};
 ghost use Rattle.winnow_core.specs.Sequence.Laws.{sequence1_ends, sequence2_ends, sequence3_ends};
 ghost use Rattle.winnow_core.specs.Sequence.Laws.{sequence4_ends, sequence5_ends, sequence6_ends};
 
+mod stable;
+
 use crate::agrees_with::AgreesWith;
 use crate::parser::Parser;
 use stream_errors::parser_error::ParserError;

@@ -3,15 +3,17 @@ ghost use Rattle.std.specs.Prelude.{◌≡◌, MatchOption};
 ghost use Rattle.winnow_core.specs.Agrees.{agrees_by};
 ghost use Rattle.winnow_core.specs.Runs.{Keeps};
 ghost use Rattle.winnow_core.specs.SameMeaning.{same_refl};
+ghost use Rattle.winnow_core.specs.Stable.Grows.{leaf_stays};
 ghost use Rattle.winnow_expression.specs.Operators.{IsInfixClone, IsPostfixClone, IsPrefixClone};
 ghost use Rattle.winnow_expression.specs.Operators.{OperatorRuns, fold_of, left_power};
 ghost use Rattle.winnow_expression.specs.Operators.{neither_power, right_power};
-ghost use Rattle.winnow_expression.specs.Operators.Laws.{operator_ends};
+ghost use Rattle.winnow_expression.specs.Operators.Laws.{operator_ends, operator_stays};
 
 use stream_errors::parser_error::ParserError;
 use streams::stream::Stream;
 use winnow_core::agrees_with::AgreesWith;
 use winnow_core::parser::Parser;
+use winnow_core::stable::Stable;
 
 /// A prefix operator: its power, and what it does with its operand.
 ///
@@ -158,6 +160,11 @@ impl<I: Stream, F: Clone, E: ParserError<I>> Parser<I, Infix<F>, E> for Infix<F>
     }
 }
 
+impl<I: Stream, F: Clone, E: ParserError<I>> Stable<I, Prefix<F>, E> for Prefix<F> {
+    ghost stable = { leaf_stays I.following _
+        (operator_stays (IsPrefixClone F.is_clone) (λ s. F.is_infallible s.1)) };
+}
+
 impl<
     I: Stream,
     J: Stream<Token = I::Token, Seen = I::Seen, Slice = I::Slice>,
@@ -170,6 +177,11 @@ impl<
     ghost agrees = { agrees_by (λ p. p) (λ q. q) (same_refl _) };
 }
 
+impl<I: Stream, F: Clone, E: ParserError<I>> Stable<I, Postfix<F>, E> for Postfix<F> {
+    ghost stable = { leaf_stays I.following _
+        (operator_stays (IsPostfixClone F.is_clone) (λ s. F.is_infallible s.1)) };
+}
+
 impl<
     I: Stream,
     J: Stream<Token = I::Token, Seen = I::Seen, Slice = I::Slice>,
@@ -180,6 +192,11 @@ impl<
     ghost like = { λ p q. p ≡ q };
 
     ghost agrees = { agrees_by (λ p. p) (λ q. q) (same_refl _) };
+}
+
+impl<I: Stream, F: Clone, E: ParserError<I>> Stable<I, Infix<F>, E> for Infix<F> {
+    ghost stable = { leaf_stays I.following _
+        (operator_stays (IsInfixClone F.is_clone) (λ s. F.is_infallible (fold_of s))) };
 }
 
 impl<

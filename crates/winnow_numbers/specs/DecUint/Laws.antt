@@ -1,15 +1,18 @@
 -- What holds of the runs of decimal unsigned numbers.
-use Rattle.std.specs.Prelude.{◌≡◌, ℕ, false, ⊤, []}
+use Rattle.std.specs.Prelude.{◌≡◌, ℕ, false, ⊤, [], Err}
 use Rattle.std.proofs.Common.{inl, inr}
-use Rattle.streams.specs.Input.{Input, IsEndOf}
+use Rattle.streams.specs.Input.{Input, IsEndOf, with_more}
 use Rattle.streams.specs.Reading.{Reading}
 use Rattle.streams.specs.SameReading.{SameReading, reading_path}
-use Rattle.stream_errors.specs.Form.{Answer, ErrorForm}
+use Rattle.stream_errors.specs.Form.{Answer, ErrorForm, modal}
 use Rattle.winnow_core.specs.Ends.{same_ends}
 use Rattle.winnow_core.specs.Runs.{Keeps}
 use Rattle.winnow_core.specs.SameMeaning.{SameMeaning, same_by, same_trans}
 use Rattle.winnow_numbers.specs.DecUint.{DecUintRuns}
-use Rattle.winnow_numbers.specs.Numeral.Laws.{no_numeral_ends, numeral_ends}
+use Rattle.winnow_numbers.specs.Numeral.Laws.{no_numeral_ends, numeral_ends, numeral_more}
+use Rattle.winnow_numbers.specs.Numeral.Laws.{no_numeral_more}
+use Rattle.winnow_core.specs.Stable.Longer.{same_more}
+use Rattle.winnow_core.specs.Stable.Grows.{Stays, final_by}
 
 -- they leave an end
 pub dec_uint_ends : {N K T S : Type 0} (number : N → ℕ) (bound : ℕ) (seen : K → T)
@@ -33,3 +36,24 @@ dec_uint_alike number bound code {seen} {others} {a} {b} reading tokens =
     (same_by (λ r form. Keeps (λ _. DecUintRuns number bound seen code r form))
     (reading_path reading))
     (same_by (λ f form. Keeps (λ _. DecUintRuns number bound f code b form)) tokens)
+
+module _ {K T L : Type 0} (seen : K → T) (code : K → ℕ) (reading : Reading T L) where
+  -- on a cut input, runs of a final answer are runs on each longer one
+  pub dec_uint_stays : {N : Type 0} (number : N → ℕ) (bound : ℕ)
+      → Stays (DecUintRuns number bound seen code reading modal)
+  dec_uint_stays number bound more flag i answer j is_cut final
+      (inl (digits, n, runs, fits, is, e)) =
+      inl (digits, n, numeral_more seen code reading false more flag i [] digits j is_cut runs, fits, is, e)
+  dec_uint_stays number bound more flag i answer j is_cut final
+      (inr (inl (digits, a, runs, large, e, same))) =
+      inr (inl (
+        digits,
+        with_more a more flag,
+        numeral_more seen code reading false more flag i [] digits a is_cut runs,
+        large,
+        e,
+        same_more more flag same,
+      ))
+  dec_uint_stays number bound more flag i answer j is_cut final (inr (inr (k, none, e))) =
+      let known = final_by (Err k) e final in
+      inr (inr (k, no_numeral_more seen code reading false more flag i k j is_cut known none, e))

@@ -1,14 +1,17 @@
 -- What holds of the runs of one token.
-use Rattle.std.specs.Prelude.{◌≡◌, ⊤}
+use Rattle.std.specs.Prelude.{◌≡◌, ⊤, true, Err}
 use Rattle.std.proofs.Common.{inl, inr}
 use Rattle.streams.specs.Input.{Input, IsEndOf, passes_end}
 use Rattle.streams.specs.Reading.{Reading}
 use Rattle.streams.specs.SameReading.{SameReading, reading_path}
-use Rattle.stream_errors.specs.Form.{Answer, ErrorForm}
+use Rattle.stream_errors.specs.Form.{Answer, ErrorForm, modal}
 use Rattle.winnow_core.specs.Ends.{same_ends}
 use Rattle.winnow_core.specs.Runs.{Keeps}
 use Rattle.winnow_core.specs.SameMeaning.{SameMeaning, same_by, same_trans}
-use Rattle.winnow_token.specs.Any.{AnyRuns}
+use Rattle.winnow_token.specs.Any.{AnyRuns, NoTokenRuns}
+use Rattle.winnow_core.specs.Stable.Longer.{short_final, passes_more}
+use Rattle.winnow_core.specs.Stable.{IsFinal}
+use Rattle.winnow_core.specs.Stable.Grows.{final_by, Stays}
 
 -- it leaves an end
 pub any_ends : {K T L : Type 0} (seen : K → T) (reading : Reading T L) (form : ErrorForm)
@@ -25,3 +28,18 @@ any_alike {seen = seen} {others} {a} {b} reading tokens =
     same_trans
     (same_by (λ r form. Keeps (λ _. AnyRuns seen r form)) (reading_path reading))
     (same_by (λ f form. Keeps (λ _. AnyRuns f b form)) tokens)
+
+-- no token is left
+pub no_token_final : {T O P : Type 0} (i : Input T) {j : Input T} {answer : Answer O}
+    → i.status.cut ≡ true
+    → IsFinal answer → NoTokenRuns modal i answer j → P
+no_token_final i is_cut final (k, none, short, e, same) =
+    short_final i is_cut short (final_by (Err k) e final)
+
+-- on a cut input, runs of a final answer are runs on each longer one
+pub any_stays : {K T L : Type 0} (seen : K → T) (reading : Reading T L)
+    → Stays (AnyRuns seen reading modal)
+any_stays seen reading more flag i answer j is_cut final (inl (x, passes, e)) =
+    inl (x, passes_more more flag passes, e)
+any_stays seen reading more flag i answer j is_cut final (inr none) =
+    no_token_final i is_cut final none

@@ -1,14 +1,17 @@
 -- What holds of the runs of one token of a set.
-use Rattle.std.specs.Prelude.{◌≡◌, Bool}
-use Rattle.std.proofs.Common.{inl, inr}
+use Rattle.std.specs.Prelude.{◌≡◌, Bool, ◌++◌}
+use Rattle.std.proofs.Common.{inl, inr, ap}
 use Rattle.streams.specs.Input.{Input, IsEndOf, passes_end}
 use Rattle.streams.specs.Reading.{Reading}
 use Rattle.streams.specs.SameReading.{SameReading, reading_path}
-use Rattle.stream_errors.specs.Form.{Answer, ErrorForm}
+use Rattle.stream_errors.specs.Form.{Answer, ErrorForm, modal}
 use Rattle.winnow_core.specs.Ends.{same_ends}
 use Rattle.winnow_core.specs.Runs.{Keeps}
 use Rattle.winnow_core.specs.SameMeaning.{SameMeaning, same_by, same_trans}
 use Rattle.winnow_token.specs.OneOf.{OneOfRuns}
+use Rattle.winnow_core.specs.Stable.Longer.{same_more, passes_more}
+use Rattle.winnow_core.specs.Stable.Grows.{Stays}
+use Rattle.winnow_token.specs.Any.Laws.{no_token_final}
 
 -- it leaves an end
 pub one_of_ends : {K T L : Type 0} (seen : K → T) (reading : Reading T L) (form : ErrorForm)
@@ -29,3 +32,14 @@ one_of_alike member {seen} {others} {a} {b} reading tokens =
     same_trans
     (same_by (λ r form. Keeps (λ x. OneOfRuns seen r form (member x))) (reading_path reading))
     (same_by (λ f form. Keeps (λ x. OneOfRuns f b form (member x))) tokens)
+
+-- on a cut input, runs of a final answer are runs on each longer one
+pub one_of_stays : {K T L : Type 0} (seen : K → T) (reading : Reading T L)
+    (member : K → Bool → Type 0) → Stays (OneOfRuns seen reading modal member)
+one_of_stays seen reading member more flag i answer j is_cut final (inl (x, passes, is, e)) =
+    inl (x, passes_more more flag passes, is, e)
+one_of_stays seen reading member more flag i answer j is_cut final
+    (inr (inl (x, rest, first, is, e, same))) =
+    inr (inl (x, rest ++ more, ap (λ l. l ++ more) first, is, e, same_more more flag same))
+one_of_stays seen reading member more flag i answer j is_cut final (inr (inr none)) =
+    no_token_final i is_cut final none

@@ -1,9 +1,10 @@
 //! A carriage return and a line feed.
 ghost use Rattle.std.specs.Prelude.{⊤};
 ghost use Rattle.winnow_ascii.specs.Crlf.{CrlfRuns};
-ghost use Rattle.winnow_ascii.specs.Crlf.Laws.{crlf_alike, crlf_ends};
+ghost use Rattle.winnow_ascii.specs.Crlf.Laws.{crlf_alike, crlf_ends, crlf_stays};
 ghost use Rattle.winnow_core.specs.Agrees.{agrees_plain};
 ghost use Rattle.winnow_core.specs.Runs.{Keeps};
+ghost use Rattle.winnow_core.specs.Stable.Grows.{leaf_stays};
 
 use crate::ascii::crlf;
 use stream_errors::parser_error::ParserError;
@@ -12,6 +13,7 @@ use stream_searches::compare::like::ComparesLike;
 use streams::stream::{Stream, StreamIsPartial};
 use winnow_core::agrees_with::AgreesWith;
 use winnow_core::parser::Parser;
+use winnow_core::stable::Stable;
 
 /// The parser [`crlf`](crate::ascii::crlf).
 ///
@@ -36,6 +38,11 @@ impl<I: StreamIsPartial + Compare<&'static str>, E: ParserError<I>> Parser<I, I:
     fn parse_next(&mut self, input: &mut I) -> Result<I::Slice, E> {
         crlf(input)
     }
+}
+
+impl<I: StreamIsPartial + Compare<&'static str>, E: ParserError<I>> Stable<I, I::Slice, E>
+    for Crlf {
+    ghost stable = { leaf_stays I.following _ (λ _. crlf_stays I.spells I.reading) };
 }
 
 impl<

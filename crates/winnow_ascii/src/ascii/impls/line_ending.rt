@@ -2,8 +2,10 @@
 ghost use Rattle.std.specs.Prelude.{⊤};
 ghost use Rattle.winnow_ascii.specs.LineEnding.{LineEndingRuns};
 ghost use Rattle.winnow_ascii.specs.LineEnding.Laws.{line_ending_alike, line_ending_ends};
+ghost use Rattle.winnow_ascii.specs.LineEnding.Laws.{line_ending_stays};
 ghost use Rattle.winnow_core.specs.Agrees.{agrees_plain};
 ghost use Rattle.winnow_core.specs.Runs.{Keeps};
+ghost use Rattle.winnow_core.specs.Stable.Grows.{leaf_stays};
 
 use crate::ascii::line_ending;
 use stream_errors::parser_error::ParserError;
@@ -12,6 +14,7 @@ use stream_searches::compare::like::ComparesLike;
 use streams::stream::{Stream, StreamIsPartial};
 use winnow_core::agrees_with::AgreesWith;
 use winnow_core::parser::Parser;
+use winnow_core::stable::Stable;
 
 /// The parser [`line_ending`](crate::ascii::line_ending).
 ///
@@ -36,6 +39,11 @@ impl<I: StreamIsPartial + Compare<&'static str>, E: ParserError<I>> Parser<I, I:
     fn parse_next(&mut self, input: &mut I) -> Result<I::Slice, E> {
         line_ending(input)
     }
+}
+
+impl<I: StreamIsPartial + Compare<&'static str>, E: ParserError<I>> Stable<I, I::Slice, E>
+    for LineEnding {
+    ghost stable = { leaf_stays I.following _ (λ _. line_ending_stays I.spells I.reading) };
 }
 
 impl<

@@ -1,12 +1,15 @@
 //! The longest beginning of spaces, tabs, carriage returns and line feeds, at least one.
 //!
 //! Written by scripts/families.py: do not edit.
-ghost use Rattle.std.specs.Prelude.{⊤};
+ghost use Rattle.std.specs.Prelude.{None, ⊤};
 ghost use Rattle.stream_sets.specs.AsChar.{IsMultispace};
+ghost use Rattle.stream_sets.specs.Range.{from_to};
 ghost use Rattle.winnow_ascii.specs.Class.{ClassRuns};
 ghost use Rattle.winnow_ascii.specs.Class.Laws.{class_alike, class_ends};
 ghost use Rattle.winnow_core.specs.Agrees.{agrees_plain};
 ghost use Rattle.winnow_core.specs.Runs.{Keeps};
+ghost use Rattle.winnow_core.specs.Stable.Grows.{leaf_stays};
+ghost use Rattle.winnow_token.specs.TakeWhile.Laws.{take_while_stays};
 
 use crate::ascii::multispace1;
 use stream_errors::parser_error::ParserError;
@@ -15,6 +18,7 @@ use streams::reads_like::ReadsLike;
 use streams::stream::{Stream, StreamIsPartial};
 use winnow_core::agrees_with::AgreesWith;
 use winnow_core::parser::Parser;
+use winnow_core::stable::Stable;
 
 /// The parser [`multispace1`](crate::ascii::multispace1).
 ///
@@ -42,6 +46,14 @@ where
     fn parse_next(&mut self, input: &mut I) -> Result<I::Slice, E> {
         multispace1(input)
     }
+}
+
+impl<I: StreamIsPartial, E: ParserError<I>> Stable<I, I::Slice, E> for Multispace1
+where
+    I::Token: AsChar,
+{
+    ghost stable = { leaf_stays I.following _
+        (λ _. take_while_stays I.reading _ (from_to 1 None)) };
 }
 
 impl<

@@ -3,7 +3,9 @@ ghost use Rattle.std.specs.Prelude.{⊤};
 ghost use Rattle.winnow_ascii.specs.Tab.{TabRuns};
 ghost use Rattle.winnow_ascii.specs.Tab.Laws.{tab_alike, tab_ends};
 ghost use Rattle.winnow_core.specs.Agrees.{agrees_plain};
+ghost use Rattle.winnow_core.specs.Literal.Laws.{literal_stays};
 ghost use Rattle.winnow_core.specs.Runs.{Keeps};
+ghost use Rattle.winnow_core.specs.Stable.Grows.{leaf_stays};
 
 use crate::ascii::tab;
 use stream_errors::parser_error::ParserError;
@@ -12,6 +14,7 @@ use stream_searches::compare::like::ComparesLike;
 use streams::stream::{Stream, StreamIsPartial};
 use winnow_core::agrees_with::AgreesWith;
 use winnow_core::parser::Parser;
+use winnow_core::stable::Stable;
 
 /// The parser [`tab`](crate::ascii::tab).
 ///
@@ -35,6 +38,11 @@ impl<I: StreamIsPartial + Compare<char>, E: ParserError<I>> Parser<I, char, E> f
     fn parse_next(&mut self, input: &mut I) -> Result<char, E> {
         tab(input)
     }
+}
+
+impl<I: StreamIsPartial + Compare<char>, E: ParserError<I>> Stable<I, char, E> for Tab {
+    ghost stable = { leaf_stays I.following _
+        (λ _. literal_stays I.reading (I.spells 9) (λ _. 9)) };
 }
 
 impl<

@@ -3,10 +3,13 @@ ghost use Rattle.std.specs.Prelude.{⊤};
 ghost use Rattle.winnow_ascii.specs.TillLineEnding.{TillLineEndingRuns};
 ghost use Rattle.winnow_ascii.specs.TillLineEnding.Laws.{till_line_ending_alike};
 ghost use Rattle.winnow_ascii.specs.TillLineEnding.Laws.{till_line_ending_ends};
+ghost use Rattle.winnow_ascii.specs.TillLineEnding.Laws.{till_line_ending_stays};
 ghost use Rattle.winnow_core.specs.Agrees.{agrees_plain};
 ghost use Rattle.winnow_core.specs.Runs.{Keeps};
+ghost use Rattle.winnow_core.specs.Stable.Grows.{leaf_stays};
 
 use crate::ascii::till_line_ending;
+use crate::stable::LineEnds;
 use stream_errors::parser_error::ParserError;
 use stream_searches::compare::Compare;
 use stream_searches::compare::like::ComparesLike;
@@ -15,6 +18,7 @@ use stream_searches::find::like::FindsLike;
 use streams::stream::{Stream, StreamIsPartial};
 use winnow_core::agrees_with::AgreesWith;
 use winnow_core::parser::Parser;
+use winnow_core::stable::Stable;
 
 /// The parser [`till_line_ending`](crate::ascii::till_line_ending).
 ///
@@ -41,6 +45,12 @@ impl<
     fn parse_next(&mut self, input: &mut I) -> Result<I::Slice, E> {
         till_line_ending(input)
     }
+}
+
+impl<I: LineEnds, E: ParserError<I>> Stable<I, I::Slice, E> for TillLineEnding {
+    ghost stable = { leaf_stays I.following _
+        (λ _. till_line_ending_stays I.spells I.sought I.reading (I.stays_first (13, 10))
+        I.seeks_some I.spells_one) };
 }
 
 impl<

@@ -1,11 +1,13 @@
 //! A length, and a parser of so many tokens.
 
-ghost use Rattle.stream_errors.specs.Form.{answer_by};
+ghost use Rattle.stream_errors.specs.Form.{answer_by, modal};
 ghost use Rattle.streams.specs.Input.{IsEndOf};
 ghost use Rattle.winnow_binary.specs.LengthAndThen.{LengthAndThenRuns, TakenRuns};
 ghost use Rattle.winnow_binary.specs.LengthAndThen.Laws.{length_and_then_agrees};
 ghost use Rattle.winnow_binary.specs.LengthAndThen.Laws.{length_and_then_ends};
+ghost use Rattle.winnow_binary.specs.LengthAndThen.Laws.{length_and_then_grows};
 ghost use Rattle.winnow_core.specs.CompleteErr.{CompleteErrRuns};
+ghost use Rattle.winnow_core.specs.Stable.Grows.{grows, stays};
 
 use std::marker::PhantomData;
 use stream_errors::parser_error::ParserError;
@@ -15,6 +17,7 @@ use streams::stream::{Stream, StreamIsPartial, UpdateSlice};
 use winnow_core::agrees_with::AgreesWith;
 use winnow_core::parser::Parser;
 use winnow_core::short::short;
+use winnow_core::stable::Stable;
 
 /// The parser that [`length_and_then`](crate::binary::length_and_then) makes.
 ///
@@ -104,6 +107,19 @@ fn parse_complete<P: Parser<I, O, E>, I: Stream, O, E: ParserError<I>>(
             }
         }
     }
+}
+
+impl<
+    P: Stable<I, N, E>,
+    G: Parser<I, O, E>,
+    I: StreamIsPartial + UpdateSlice + Copy,
+    N: ToUsize + Drop,
+    O,
+    E: ParserError<I>,
+> Stable<I, O, E> for LengthAndThen<P, G, I, N, O, E> {
+    ghost stable = { stays
+        (length_and_then_grows I.reading I.counts_missing N.number (G.meaning modal)
+        (grows (P.leaves_ends modal) P.stable)) };
 }
 
 impl<

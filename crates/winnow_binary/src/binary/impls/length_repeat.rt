@@ -1,8 +1,9 @@
 //! A length, and so many items.
-ghost use Rattle.stream_errors.specs.Form.{assert_kind};
+ghost use Rattle.stream_errors.specs.Form.{assert_kind, modal};
 ghost use Rattle.winnow_binary.specs.LengthRepeat.{LengthRepeatRuns};
-ghost use Rattle.winnow_binary.specs.LengthRepeat.Laws.{length_repeat_ends};
+ghost use Rattle.winnow_binary.specs.LengthRepeat.Laws.{length_repeat_ends, length_repeat_grows};
 ghost use Rattle.winnow_core.specs.Agrees.Sizes.{agrees2};
+ghost use Rattle.winnow_core.specs.Stable.Grows.{grows, stays};
 
 use std::alloc::Allocator;
 use std::marker::PhantomData;
@@ -12,6 +13,7 @@ use stream_sets::numbers::ToUsize;
 use streams::stream::Stream;
 use winnow_core::agrees_with::AgreesWith;
 use winnow_core::parser::Parser;
+use winnow_core::stable::Stable;
 use winnow_repeat::combinator::items::repeat_many;
 
 /// The parser that [`length_repeat`](crate::binary::length_repeat) makes.
@@ -56,6 +58,21 @@ impl<
         let count = self.count.parse_next(input)?.to_usize();
         repeat_many(self.alloc, count, Some(count), &mut self.parser, input)
     }
+}
+
+impl<
+    P: Stable<I, N, E>,
+    G: Stable<I, O, E>,
+    I: Stream,
+    N: ToUsize + Drop,
+    O: Drop,
+    C: Accumulate<O, A>,
+    E: ParserError<I>,
+    A: Allocator + Copy,
+> Stable<I, C, E> for LengthRepeat<P, G, I, N, O, C, E, A> {
+    ghost stable = { stays
+        (length_repeat_grows N.number C.accumulator (assert_kind modal) (G.meaning modal)
+        (grows (P.leaves_ends modal) P.stable) (grows (G.leaves_ends modal) G.stable)) };
 }
 
 impl<

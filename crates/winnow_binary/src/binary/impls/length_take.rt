@@ -1,6 +1,9 @@
 //! A length, and so many tokens.
+ghost use Rattle.stream_errors.specs.Form.{modal};
 ghost use Rattle.winnow_binary.specs.LengthTake.{LengthTakeRuns};
 ghost use Rattle.winnow_binary.specs.LengthTake.Laws.{length_take_agrees, length_take_ends};
+ghost use Rattle.winnow_binary.specs.LengthTake.Laws.{length_take_stays};
+ghost use Rattle.winnow_core.specs.Stable.Grows.{grows};
 
 use std::marker::PhantomData;
 use stream_errors::parser_error::ParserError;
@@ -9,6 +12,7 @@ use streams::reads_like::ReadsLike;
 use streams::stream::{Stream, StreamIsPartial};
 use winnow_core::agrees_with::AgreesWith;
 use winnow_core::parser::Parser;
+use winnow_core::stable::Stable;
 use winnow_token::token::take;
 
 /// The parser that [`length_take`](crate::binary::length_take) makes.
@@ -46,6 +50,15 @@ impl<P: Parser<I, N, E>, I: StreamIsPartial, N: ToUsize + Drop, E: ParserError<I
         let count = self.count.parse_next(input)?;
         take(count).parse_next(input)
     }
+}
+
+impl<P: Stable<I, N, E>, I: StreamIsPartial, N: ToUsize + Drop, E: ParserError<I>> Stable<
+    I,
+    I::Slice,
+    E,
+> for LengthTake<P, I, N, E> {
+    ghost stable = { length_take_stays I.reading I.counts_missing N.number
+        (grows (P.leaves_ends modal) P.stable) };
 }
 
 impl<

@@ -4,9 +4,10 @@
 ghost use Rattle.std.specs.Prelude.{◌≡◌};
 ghost use Rattle.winnow_binary.specs.Chosen.{ChosenRuns};
 ghost use Rattle.winnow_integers.specs.Integer.{unsigned_value};
-ghost use Rattle.winnow_integers.specs.Integer.Laws.{integer_alike, integer_ends};
+ghost use Rattle.winnow_integers.specs.Integer.Laws.{integer_alike, integer_ends, integer_stays};
 ghost use Rattle.winnow_integers.specs.declared.binary.endianness.Endianness.{Endianness};
 ghost use Rattle.winnow_core.specs.Agrees.{agrees_by};
+ghost use Rattle.winnow_core.specs.Stable.Grows.{leaf_stays};
 
 use std::marker::PhantomData;
 use stream_errors::parser_error::ParserError;
@@ -15,6 +16,7 @@ use streams::reads_like::ReadsLike;
 use streams::stream::{Stream, StreamIsPartial};
 use winnow_core::agrees_with::AgreesWith;
 use winnow_core::parser::Parser;
+use winnow_core::stable::Stable;
 use winnow_integers::binary::{Endianness, be_u128, le_u128};
 
 /// The parser that [`u128`](crate::binary::u128) makes.
@@ -48,6 +50,11 @@ impl<I: StreamIsPartial + ByteStream, E: ParserError<I>> Parser<I, u128, E> for 
             Endianness::Little | Endianness::Native => le_u128(input),
         }
     }
+}
+
+impl<I: StreamIsPartial + ByteStream, E: ParserError<I>> Stable<I, u128, E> for U128<I, E> {
+    ghost stable = { leaf_stays I.following _
+        (λ x. integer_stays 16 (unsigned_value x) I.reading) };
 }
 
 impl<

@@ -1,12 +1,14 @@
 //! A parser of bits, run on bytes.
 ghost use Rattle.stream_bits.specs.BitReading.{bits_reading};
+ghost use Rattle.stream_errors.specs.Form.{modal};
 ghost use Rattle.winnow_bits.specs.BitAgree.{bits_agree};
 ghost use Rattle.winnow_bits.specs.BitsOfBytes.{BitsOfBytesRuns};
-ghost use Rattle.winnow_bits.specs.BitsOfBytes.Laws.{bits_of_bytes_ends};
+ghost use Rattle.winnow_bits.specs.BitsOfBytes.Laws.{bits_of_bytes_ends, bits_of_bytes_stays};
 
 use crate::bits::whole::{in_bytes, whole_bytes};
 use std::marker::PhantomData;
 pub use stream_bits::bits::Bits;
+use stream_bits::bits::Bits;
 pub use stream_bits::offsets::BitOffsets;
 use stream_errors::convert::ErrorConvert;
 use stream_errors::parser_error::ParserError;
@@ -15,6 +17,7 @@ use streams::reads_like::ReadsLike;
 use streams::stream::Stream;
 use winnow_core::agrees_with::AgreesWith;
 use winnow_core::parser::Parser;
+use winnow_core::stable::Stable;
 
 /// The parser that [`bits`](crate::bits::bits) makes.
 ///
@@ -68,6 +71,17 @@ impl<
             Err(error) => Err(in_bytes(input, error)),
         }
     }
+}
+
+impl<
+    I: ByteStream + Copy,
+    P: Stable<Bits<I>, O, E>,
+    O: Drop,
+    E: ParserError<Bits<I>> + ErrorConvert<F>,
+    F: ParserError<I>,
+> Stable<I, O, F> for BitsParser<P, I, O, E, F> {
+    ghost stable = { bits_of_bytes_stays I.reading I.following I.followed_by_bytes
+        (P.meaning modal) P.stable };
 }
 
 impl<

@@ -1,10 +1,12 @@
 //! One bit.
 ghost use Rattle.std.specs.Prelude.{⊤};
+ghost use Rattle.stream_bits.specs.BitInput.{bits_follow};
 ghost use Rattle.stream_bits.specs.BitReading.{bits_alike, bits_reading};
 ghost use Rattle.winnow_bits.specs.BitBool.{BitBoolRuns};
-ghost use Rattle.winnow_bits.specs.BitBool.Laws.{bit_bool_alike, bit_bool_ends};
+ghost use Rattle.winnow_bits.specs.BitBool.Laws.{bit_bool_alike, bit_bool_ends, bit_bool_stays};
 ghost use Rattle.winnow_core.specs.Agrees.{agrees_plain};
 ghost use Rattle.winnow_core.specs.Runs.{Keeps};
+ghost use Rattle.winnow_core.specs.Stable.Grows.{leaf_stays};
 
 use crate::bits;
 use stream_bits::bits::Bits;
@@ -14,6 +16,7 @@ use streams::reads_like::ReadsLike;
 use streams::stream::{Stream, StreamIsPartial};
 use winnow_core::agrees_with::AgreesWith;
 use winnow_core::parser::Parser;
+use winnow_core::stable::Stable;
 
 /// The parser [`bool`](crate::bits::bool).
 ///
@@ -40,6 +43,11 @@ impl<I: ByteStream + StreamIsPartial, E: ParserError<Bits<I>>> Parser<Bits<I>, b
     fn parse_next(&mut self, input: &mut Bits<I>) -> Result<bool, E> {
         bits::bool(input)
     }
+}
+
+impl<I: ByteStream + StreamIsPartial, E: ParserError<Bits<I>>> Stable<Bits<I>, bool, E> for Bool {
+    ghost stable = { leaf_stays (bits_follow I.reading) _
+        (λ _. bit_bool_stays (bits_reading I.reading)) };
 }
 
 impl<

@@ -1,8 +1,9 @@
 //! A parser of bytes, run on bits.
 ghost use Rattle.stream_bits.specs.BitReading.{bits_reading};
+ghost use Rattle.stream_errors.specs.Form.{modal};
 ghost use Rattle.winnow_bits.specs.BitAgree.{bytes_agree};
 ghost use Rattle.winnow_bits.specs.BytesOfBits.{BytesOfBitsRuns};
-ghost use Rattle.winnow_bits.specs.BytesOfBits.Laws.{bytes_of_bits_ends};
+ghost use Rattle.winnow_bits.specs.BytesOfBits.Laws.{bytes_of_bits_ends, bytes_of_bits_stays};
 
 use crate::bits::whole::{in_bits, whole_bytes};
 use std::marker::PhantomData;
@@ -14,6 +15,7 @@ use streams::reads_like::ReadsLike;
 use streams::stream::Stream;
 use winnow_core::agrees_with::AgreesWith;
 use winnow_core::parser::Parser;
+use winnow_core::stable::Stable;
 
 /// The parser that [`bytes`](crate::bits::bytes) makes.
 ///
@@ -63,6 +65,17 @@ impl<
             Err(error) => Err(in_bits(input, error)),
         }
     }
+}
+
+impl<
+    P: Stable<I, O, E>,
+    I: ByteStream + Copy,
+    O,
+    E: ParserError<I> + ErrorConvert<F>,
+    F: ParserError<Bits<I>>,
+> Stable<Bits<I>, O, F> for Bytes<P, I, O, E, F> {
+    ghost stable = { bytes_of_bits_stays I.reading I.following I.followed_by_bytes
+        (P.meaning modal) (P.leaves_ends modal) P.stable };
 }
 
 impl<

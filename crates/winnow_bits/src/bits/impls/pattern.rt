@@ -1,10 +1,13 @@
 //! So many bits, which must be a number.
 ghost use Rattle.std.specs.Prelude.{◌≡◌, ℕ};
+ghost use Rattle.stream_bits.specs.BitInput.{bits_follow};
 ghost use Rattle.stream_bits.specs.BitReading.{bits_alike, bits_reading};
 ghost use Rattle.winnow_bits.specs.BitPattern.{BitPatternRuns};
 ghost use Rattle.winnow_bits.specs.BitPattern.Laws.{bit_pattern_alike, bit_pattern_ends};
+ghost use Rattle.winnow_bits.specs.BitPattern.Laws.{bit_pattern_stays};
 ghost use Rattle.winnow_core.specs.Agrees.{agrees_by_parts};
 ghost use Rattle.winnow_core.specs.Runs.{Keeps};
+ghost use Rattle.winnow_core.specs.Stable.Grows.{leaf_stays};
 
 use crate::bits::fields::take_counted;
 use crate::bits::output::BitOutput;
@@ -16,6 +19,7 @@ use streams::reads_like::ReadsLike;
 use streams::stream::{Stream, StreamIsPartial};
 use winnow_core::agrees_with::AgreesWith;
 use winnow_core::parser::Parser;
+use winnow_core::stable::Stable;
 
 /// The parser that [`pattern`](crate::bits::pattern) makes.
 ///
@@ -62,6 +66,12 @@ impl<I: ByteStream + StreamIsPartial, O: BitOutput, E: ParserError<Bits<I>>> Par
             Err(error) => Err(error),
         }
     }
+}
+
+impl<I: ByteStream + StreamIsPartial, O: BitOutput, E: ParserError<Bits<I>>> Stable<Bits<I>, O, E>
+    for Pattern<I, O, E> {
+    ghost stable = { leaf_stays (bits_follow I.reading) _
+        (λ x. bit_pattern_stays (bits_reading I.reading) O.number O.WIDTH x.0 x.1) };
 }
 
 impl<

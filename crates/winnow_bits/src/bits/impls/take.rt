@@ -1,10 +1,12 @@
 //! So many bits, as a number.
 ghost use Rattle.std.specs.Prelude.{◌≡◌, ℕ};
+ghost use Rattle.stream_bits.specs.BitInput.{bits_follow};
 ghost use Rattle.stream_bits.specs.BitReading.{bits_alike, bits_reading};
 ghost use Rattle.winnow_bits.specs.BitTake.{BitTakeRuns};
-ghost use Rattle.winnow_bits.specs.BitTake.Laws.{bit_take_alike, bit_take_ends};
+ghost use Rattle.winnow_bits.specs.BitTake.Laws.{bit_take_alike, bit_take_ends, bit_take_stays};
 ghost use Rattle.winnow_core.specs.Agrees.{agrees_by};
 ghost use Rattle.winnow_core.specs.Runs.{Keeps};
+ghost use Rattle.winnow_core.specs.Stable.Grows.{leaf_stays};
 
 use crate::bits::fields::take_counted;
 use crate::bits::output::BitOutput;
@@ -16,6 +18,7 @@ use streams::reads_like::ReadsLike;
 use streams::stream::{Stream, StreamIsPartial};
 use winnow_core::agrees_with::AgreesWith;
 use winnow_core::parser::Parser;
+use winnow_core::stable::Stable;
 
 /// The parser that [`take`](crate::bits::take) makes.
 ///
@@ -51,6 +54,12 @@ impl<I: ByteStream + StreamIsPartial, O: BitOutput, E: ParserError<Bits<I>>> Par
     fn parse_next(&mut self, input: &mut Bits<I>) -> Result<O, E> {
         take_counted(input, self.count)
     }
+}
+
+impl<I: ByteStream + StreamIsPartial, O: BitOutput, E: ParserError<Bits<I>>> Stable<Bits<I>, O, E>
+    for Take<I, O, E> {
+    ghost stable = { leaf_stays (bits_follow I.reading) _
+        (bit_take_stays (bits_reading I.reading) O.number O.WIDTH) };
 }
 
 impl<

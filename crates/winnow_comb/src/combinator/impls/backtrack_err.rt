@@ -1,7 +1,9 @@
 //! A child whose errors backtrack.
+ghost use Rattle.stream_errors.specs.Form.{modal};
 ghost use Rattle.winnow_comb.specs.BacktrackErr.{BacktrackErrRuns};
-ghost use Rattle.winnow_comb.specs.BacktrackErr.Laws.{backtrack_err_ends};
+ghost use Rattle.winnow_comb.specs.BacktrackErr.Laws.{backtrack_err_ends, backtrack_err_grows};
 ghost use Rattle.winnow_core.specs.Agrees.{agrees1};
+ghost use Rattle.winnow_core.specs.Stable.Grows.{grows, stays};
 
 use std::marker::PhantomData;
 use stream_errors::modal::ModalError;
@@ -9,6 +11,7 @@ use stream_errors::parser_error::ParserError;
 use streams::stream::Stream;
 use winnow_core::agrees_with::AgreesWith;
 use winnow_core::parser::Parser;
+use winnow_core::stable::Stable;
 
 /// The parser that [`backtrack_err`](crate::combinator::backtrack_err) makes.
 ///
@@ -44,6 +47,11 @@ impl<P: Parser<I, O, E>, I: Stream, O, E: ParserError<I> + ModalError> Parser<I,
             Err(error) => Err(error.backtrack()),
         }
     }
+}
+
+impl<P: Stable<I, O, E>, I: Stream, O, E: ParserError<I> + ModalError> Stable<I, O, E>
+    for BacktrackErr<P, I, O, E> {
+    ghost stable = { stays (backtrack_err_grows (grows (P.leaves_ends modal) P.stable)) };
 }
 
 impl<

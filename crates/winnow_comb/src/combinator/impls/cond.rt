@@ -1,14 +1,17 @@
 //! A child that is run on a condition.
 ghost use Rattle.std.specs.Prelude.{◌≡◌, Bool};
+ghost use Rattle.stream_errors.specs.Form.{modal};
 ghost use Rattle.winnow_comb.specs.Cond.{CondRuns};
-ghost use Rattle.winnow_comb.specs.Cond.Laws.{cond_ends};
+ghost use Rattle.winnow_comb.specs.Cond.Laws.{cond_ends, cond_grows};
 ghost use Rattle.winnow_core.specs.Agrees.{agrees_with};
+ghost use Rattle.winnow_core.specs.Stable.Grows.{grows, stays};
 
 use std::marker::PhantomData;
 use stream_errors::parser_error::ParserError;
 use streams::stream::Stream;
 use winnow_core::agrees_with::AgreesWith;
 use winnow_core::parser::Parser;
+use winnow_core::stable::Stable;
 
 /// The parser that [`cond`](crate::combinator::cond) makes.
 ///
@@ -46,6 +49,11 @@ impl<P: Parser<I, O, E>, I: Stream, O, E: ParserError<I>> Parser<I, Option<O>, E
             Ok(None)
         }
     }
+}
+
+impl<I: Stream, O, E: ParserError<I>, P: Stable<I, O, E>> Stable<I, Option<O>, E>
+    for Cond<P, I, O, E> {
+    ghost stable = { stays (cond_grows (grows (P.leaves_ends modal) P.stable)) };
 }
 
 impl<

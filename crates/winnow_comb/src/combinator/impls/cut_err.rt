@@ -1,7 +1,9 @@
 //! A child whose errors cut.
+ghost use Rattle.stream_errors.specs.Form.{modal};
 ghost use Rattle.winnow_comb.specs.CutErr.{CutErrRuns};
-ghost use Rattle.winnow_comb.specs.CutErr.Laws.{cut_err_ends};
+ghost use Rattle.winnow_comb.specs.CutErr.Laws.{cut_err_ends, cut_err_grows};
 ghost use Rattle.winnow_core.specs.Agrees.{agrees1};
+ghost use Rattle.winnow_core.specs.Stable.Grows.{grows, stays};
 
 use std::marker::PhantomData;
 use stream_errors::modal::ModalError;
@@ -9,6 +11,7 @@ use stream_errors::parser_error::ParserError;
 use streams::stream::Stream;
 use winnow_core::agrees_with::AgreesWith;
 use winnow_core::parser::Parser;
+use winnow_core::stable::Stable;
 
 /// The parser that [`cut_err`](crate::combinator::cut_err) makes.
 ///
@@ -43,6 +46,11 @@ impl<P: Parser<I, O, E>, I: Stream, O, E: ParserError<I> + ModalError> Parser<I,
             Err(error) => Err(error.cut()),
         }
     }
+}
+
+impl<P: Stable<I, O, E>, I: Stream, O, E: ParserError<I> + ModalError> Stable<I, O, E>
+    for CutErr<P, I, O, E> {
+    ghost stable = { stays (cut_err_grows (grows (P.leaves_ends modal) P.stable)) };
 }
 
 impl<

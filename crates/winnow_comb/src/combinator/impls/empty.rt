@@ -1,16 +1,19 @@
 //! The parser that takes nothing.
 ghost use Rattle.std.specs.Prelude.{⊤};
 ghost use Rattle.winnow_comb.specs.Empty.{EmptyRuns};
+ghost use Rattle.winnow_comb.specs.Empty.Laws.{empty_stays};
 ghost use Rattle.winnow_core.specs.Agrees.{agrees_plain};
 ghost use Rattle.winnow_core.specs.Ends.{same_ends};
 ghost use Rattle.winnow_core.specs.Runs.{Keeps};
 ghost use Rattle.winnow_core.specs.SameMeaning.{same_refl};
+ghost use Rattle.winnow_core.specs.Stable.Grows.{leaf_stays};
 
 use crate::combinator::basic::empty;
 use stream_errors::parser_error::ParserError;
 use streams::stream::Stream;
 use winnow_core::agrees_with::AgreesWith;
 use winnow_core::parser::Parser;
+use winnow_core::stable::Stable;
 
 /// The parser [`empty`](crate::combinator::empty).
 ///
@@ -34,6 +37,10 @@ impl<I: Stream, E: ParserError<I>> Parser<I, (), E> for Empty {
     fn parse_next(&mut self, input: &mut I) -> Result<(), E> {
         empty(input)
     }
+}
+
+impl<I: Stream, E: ParserError<I>> Stable<I, (), E> for Empty {
+    ghost stable = { leaf_stays I.following _ (λ _. empty_stays) };
 }
 
 impl<

@@ -1,16 +1,19 @@
 //! The parser that fails.
 ghost use Rattle.std.specs.Prelude.{⊤};
 ghost use Rattle.winnow_comb.specs.Fail.{FailRuns};
+ghost use Rattle.winnow_comb.specs.Fail.Laws.{fail_stays};
 ghost use Rattle.winnow_core.specs.Agrees.{agrees_plain};
 ghost use Rattle.winnow_core.specs.Ends.{same_ends};
 ghost use Rattle.winnow_core.specs.Runs.{Keeps};
 ghost use Rattle.winnow_core.specs.SameMeaning.{same_refl};
+ghost use Rattle.winnow_core.specs.Stable.Grows.{leaf_stays};
 
 use crate::combinator::basic::fail;
 use stream_errors::parser_error::ParserError;
 use streams::stream::Stream;
 use winnow_core::agrees_with::AgreesWith;
 use winnow_core::parser::Parser;
+use winnow_core::stable::Stable;
 
 /// The parser [`fail`](crate::combinator::fail).
 ///
@@ -34,6 +37,10 @@ impl<I: Stream, O, E: ParserError<I>> Parser<I, O, E> for Fail {
     fn parse_next(&mut self, input: &mut I) -> Result<O, E> {
         fail(input)
     }
+}
+
+impl<I: Stream, O, E: ParserError<I>> Stable<I, O, E> for Fail {
+    ghost stable = { leaf_stays I.following _ (λ _. fail_stays) };
 }
 
 impl<

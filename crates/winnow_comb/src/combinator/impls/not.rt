@@ -1,13 +1,16 @@
 //! A child that is not to succeed.
+ghost use Rattle.stream_errors.specs.Form.{modal};
 ghost use Rattle.winnow_comb.specs.Not.{NotRuns};
-ghost use Rattle.winnow_comb.specs.Not.Laws.{not_ends};
+ghost use Rattle.winnow_comb.specs.Not.Laws.{not_ends, not_grows};
 ghost use Rattle.winnow_core.specs.Agrees.{agrees1};
+ghost use Rattle.winnow_core.specs.Stable.Grows.{grows, stays};
 
 use std::marker::PhantomData;
 use stream_errors::parser_error::ParserError;
 use streams::stream::Stream;
 use winnow_core::agrees_with::AgreesWith;
 use winnow_core::parser::Parser;
+use winnow_core::stable::Stable;
 
 /// The parser that [`not`](crate::combinator::not) makes.
 ///
@@ -51,6 +54,11 @@ impl<P: Parser<I, O, E>, I: Stream, O: Drop, E: ParserError<I>> Parser<I, (), E>
             }
         }
     }
+}
+
+impl<P: Stable<I, O, E>, I: Stream, O: Drop, E: ParserError<I>> Stable<I, (), E>
+    for Not<P, I, O, E> {
+    ghost stable = { stays (not_grows (grows (P.leaves_ends modal) P.stable)) };
 }
 
 impl<

@@ -1,13 +1,16 @@
 //! A child that may be left out.
+ghost use Rattle.stream_errors.specs.Form.{modal};
 ghost use Rattle.winnow_comb.specs.Opt.{OptRuns};
-ghost use Rattle.winnow_comb.specs.Opt.Laws.{opt_ends};
+ghost use Rattle.winnow_comb.specs.Opt.Laws.{opt_ends, opt_grows};
 ghost use Rattle.winnow_core.specs.Agrees.{agrees1};
+ghost use Rattle.winnow_core.specs.Stable.Grows.{grows, stays};
 
 use std::marker::PhantomData;
 use stream_errors::parser_error::ParserError;
 use streams::stream::Stream;
 use winnow_core::agrees_with::AgreesWith;
 use winnow_core::parser::Parser;
+use winnow_core::stable::Stable;
 
 /// The parser that [`opt`](crate::combinator::opt) makes.
 ///
@@ -50,6 +53,11 @@ impl<P: Parser<I, O, E>, I: Stream, O, E: ParserError<I>> Parser<I, Option<O>, E
             }
         }
     }
+}
+
+impl<P: Stable<I, O, E>, I: Stream, O, E: ParserError<I>> Stable<I, Option<O>, E>
+    for Opt<P, I, O, E> {
+    ghost stable = { stays (opt_grows (grows (P.leaves_ends modal) P.stable)) };
 }
 
 impl<

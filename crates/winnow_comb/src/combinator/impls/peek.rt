@@ -1,13 +1,16 @@
 //! A child whose run consumes nothing.
+ghost use Rattle.stream_errors.specs.Form.{modal};
 ghost use Rattle.winnow_comb.specs.Peek.{PeekRuns};
-ghost use Rattle.winnow_comb.specs.Peek.Laws.{peek_ends};
+ghost use Rattle.winnow_comb.specs.Peek.Laws.{peek_ends, peek_grows};
 ghost use Rattle.winnow_core.specs.Agrees.{agrees1};
+ghost use Rattle.winnow_core.specs.Stable.Grows.{grows, stays};
 
 use std::marker::PhantomData;
 use stream_errors::parser_error::ParserError;
 use streams::stream::Stream;
 use winnow_core::agrees_with::AgreesWith;
 use winnow_core::parser::Parser;
+use winnow_core::stable::Stable;
 
 /// The parser that [`peek`](crate::combinator::peek) makes.
 ///
@@ -41,6 +44,10 @@ impl<P: Parser<I, O, E>, I: Stream, O, E: ParserError<I>> Parser<I, O, E> for Pe
         input.reset(&start);
         seen
     }
+}
+
+impl<P: Stable<I, O, E>, I: Stream, O, E: ParserError<I>> Stable<I, O, E> for Peek<P, I, O, E> {
+    ghost stable = { stays (peek_grows (grows (P.leaves_ends modal) P.stable)) };
 }
 
 impl<

@@ -1,13 +1,16 @@
 //! Two children with one between them whose output is let go.
-ghost use Rattle.winnow_comb.specs.InOrder.Laws.{three_ends};
+ghost use Rattle.stream_errors.specs.Form.{modal};
+ghost use Rattle.winnow_comb.specs.InOrder.Laws.{three_ends, three_grow};
 ghost use Rattle.winnow_comb.specs.SeparatedPair.{SeparatedPairRuns};
 ghost use Rattle.winnow_core.specs.Agrees.Sizes.{agrees3};
+ghost use Rattle.winnow_core.specs.Stable.Grows.{grows, stays};
 
 use std::marker::PhantomData;
 use stream_errors::parser_error::ParserError;
 use streams::stream::Stream;
 use winnow_core::agrees_with::AgreesWith;
 use winnow_core::parser::Parser;
+use winnow_core::stable::Stable;
 
 /// The parser that [`separated_pair`](crate::combinator::separated_pair) makes.
 ///
@@ -58,6 +61,22 @@ impl<
         let second = self.second.parse_next(input)?;
         Ok((first, second))
     }
+}
+
+impl<
+    P1: Stable<I, O1, E>,
+    P2: Stable<I, O2, E>,
+    P3: Stable<I, O3, E>,
+    I: Stream,
+    O1: Drop,
+    O2: Drop,
+    O3,
+    E: ParserError<I>,
+> Stable<I, (O1, O3), E> for SeparatedPair<P1, P2, P3, I, O1, O2, O3, E> {
+    ghost stable = { stays
+        (three_grow (λ o1 o2 o3. (o1, o3)) (grows (P1.leaves_ends modal) P1.stable)
+        (grows (P2.leaves_ends modal) P2.stable)
+        (grows (P3.leaves_ends modal) P3.stable)) };
 }
 
 impl<

@@ -1,13 +1,16 @@
 //! A child before one whose output is let go.
-ghost use Rattle.winnow_comb.specs.InOrder.Laws.{both_ends};
+ghost use Rattle.stream_errors.specs.Form.{modal};
+ghost use Rattle.winnow_comb.specs.InOrder.Laws.{both_ends, both_grows};
 ghost use Rattle.winnow_comb.specs.Terminated.{TerminatedRuns};
 ghost use Rattle.winnow_core.specs.Agrees.Sizes.{agrees2};
+ghost use Rattle.winnow_core.specs.Stable.Grows.{grows, stays};
 
 use std::marker::PhantomData;
 use stream_errors::parser_error::ParserError;
 use streams::stream::Stream;
 use winnow_core::agrees_with::AgreesWith;
 use winnow_core::parser::Parser;
+use winnow_core::stable::Stable;
 
 /// The parser that [`terminated`](crate::combinator::terminated) makes.
 ///
@@ -50,6 +53,19 @@ impl<
         let _behind = self.ignored.parse_next(input)?;
         Ok(output)
     }
+}
+
+impl<
+    P1: Stable<I, O1, E>,
+    P2: Stable<I, O2, E>,
+    I: Stream,
+    O1: Drop,
+    O2: Drop,
+    E: ParserError<I>,
+> Stable<I, O1, E> for Terminated<P1, P2, I, O1, O2, E> {
+    ghost stable = { stays
+        (both_grows (λ o1 o2. o1) (grows (P1.leaves_ends modal) P1.stable)
+        (grows (P2.leaves_ends modal) P2.stable)) };
 }
 
 impl<

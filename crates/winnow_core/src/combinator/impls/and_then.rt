@@ -1,12 +1,15 @@
 //! Outputs that another parser reads.
 ghost use Rattle.std.specs.Prelude.{◌≡◌};
+ghost use Rattle.stream_errors.specs.Form.{modal};
 ghost use Rattle.winnow_core.specs.Agrees.{agrees_with};
 ghost use Rattle.winnow_core.specs.AndThen.{AndThenSettles, AndThenRuns, and_then_inner};
 ghost use Rattle.winnow_core.specs.AndThen.{and_then_outer};
-ghost use Rattle.winnow_core.specs.Settles.Laws.{settles_ends};
+ghost use Rattle.winnow_core.specs.Settles.Laws.{settles_ends, settles_grows};
+ghost use Rattle.winnow_core.specs.Stable.Grows.{grows, stays};
 
 use crate::agrees_with::AgreesWith;
 use crate::parser::Parser;
+use crate::stable::Stable;
 use std::marker::PhantomData;
 use stream_errors::parser_error::ParserError;
 use streams::stream::{Stream, StreamIsPartial};
@@ -74,6 +77,20 @@ impl<
 
 // The inner parser reads the same stream in both, an output; so it is one parser under one type of
 // errors.
+
+impl<
+    F: Stable<I, O, E>,
+    G: Parser<O, O2, E>,
+    I: Stream,
+    O: StreamIsPartial + Drop,
+    O2,
+    E: ParserError<I> + ParserError<O>,
+> Stable<I, O2, E> for AndThen<F, G, I, O, O2, E> {
+    ghost stable = { stays
+        (settles_grows (AndThenSettles O.view (G.meaning modal))
+        (grows (F.leaves_ends modal) F.stable)) };
+}
+
 impl<
     P: AgreesWith<I, O, E, Q, J, E>,
     Q: Parser<J, O, E>,

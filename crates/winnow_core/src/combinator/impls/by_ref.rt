@@ -1,10 +1,14 @@
 //! The parser behind a reference.
 ghost use Rattle.std.specs.Prelude.{◌≡◌, ℕ};
+ghost use Rattle.stream_errors.specs.Form.{modal};
 ghost use Rattle.winnow_core.specs.Agrees.{agrees_with};
 ghost use Rattle.winnow_core.specs.ByRef.{ByRefRuns};
+ghost use Rattle.winnow_core.specs.ByRef.Laws.{by_ref_grows};
+ghost use Rattle.winnow_core.specs.Stable.Grows.{grows, stays};
 
 use crate::agrees_with::AgreesWith;
 use crate::parser::Parser;
+use crate::stable::Stable;
 use std::marker::PhantomData;
 use stream_errors::parser_error::ParserError;
 use streams::stream::Stream;
@@ -36,6 +40,11 @@ impl<'p, P: Parser<I, O, E>, I: Stream, O, E: ParserError<I>> Parser<I, O, E>
     fn parse_next(&mut self, input: &mut I) -> Result<O, E> {
         self.parser.parse_next(input)
     }
+}
+
+impl<'p, P: Stable<I, O, E>, I: Stream, O, E: ParserError<I>> Stable<I, O, E>
+    for ByRef<'p, P, I, O, E> {
+    ghost stable = { stays (by_ref_grows (grows (P.leaves_ends modal) P.stable)) };
 }
 
 impl<

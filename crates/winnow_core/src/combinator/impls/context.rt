@@ -1,13 +1,17 @@
 //! Errors that are told what was being parsed.
 ghost use Rattle.std.specs.Prelude.{◌≡◌};
+ghost use Rattle.stream_errors.specs.Form.{modal};
 ghost use Rattle.stream_errors.specs.Given.{Keeping};
 ghost use Rattle.winnow_core.specs.Agrees.{agrees_with};
 ghost use Rattle.winnow_core.specs.Context.{ContextBecomes, ContextRuns, context_parser};
 ghost use Rattle.winnow_core.specs.Context.{context_told};
-ghost use Rattle.winnow_core.specs.MakesError.Laws.{makes_error_ends};
+ghost use Rattle.winnow_core.specs.Context.Laws.{context_keeps};
+ghost use Rattle.winnow_core.specs.MakesError.Laws.{makes_error_ends, makes_error_grows};
+ghost use Rattle.winnow_core.specs.Stable.Grows.{grows, stays};
 
 use crate::agrees_with::AgreesWith;
 use crate::parser::Parser;
+use crate::stable::Stable;
 use std::alloc::Allocator;
 use std::marker::PhantomData;
 use stream_errors::context::AddContext;
@@ -79,6 +83,20 @@ impl<
             }
         }
     }
+}
+
+impl<
+    F: Stable<I, O, E>,
+    I: Stream,
+    O,
+    E: ParserError<I> + AddContext<I, C, A>,
+    C: Clone,
+    A: Allocator + Copy,
+> Stable<I, O, E> for Context<F, I, O, E, C, A> {
+    ghost stable = { stays
+        (makes_error_grows (ContextBecomes C.is_clone C.is_infallible)
+        (context_keeps C.is_clone C.is_infallible)
+        (grows (F.leaves_ends modal) F.stable)) };
 }
 
 impl<

@@ -1,14 +1,18 @@
 //! Errors that are told what was being parsed by a closure.
 ghost use Rattle.std.specs.Iterator.{IsFinite};
 ghost use Rattle.std.specs.Prelude.{◌≡◌};
+ghost use Rattle.stream_errors.specs.Form.{modal};
 ghost use Rattle.stream_errors.specs.Given.{Keeping};
 ghost use Rattle.winnow_core.specs.Agrees.{agrees_with};
 ghost use Rattle.winnow_core.specs.ContextWith.{ContextWithBecomes, ContextWithRuns};
 ghost use Rattle.winnow_core.specs.ContextWith.{context_with_closure, context_with_parser};
-ghost use Rattle.winnow_core.specs.MakesError.Laws.{makes_error_ends};
+ghost use Rattle.winnow_core.specs.ContextWith.Laws.{context_with_keeps};
+ghost use Rattle.winnow_core.specs.MakesError.Laws.{makes_error_ends, makes_error_grows};
+ghost use Rattle.winnow_core.specs.Stable.Grows.{grows, stays};
 
 use crate::agrees_with::AgreesWith;
 use crate::parser::Parser;
+use crate::stable::Stable;
 use std::alloc::Allocator;
 use std::marker::PhantomData;
 use stream_errors::context::AddContext;
@@ -81,6 +85,24 @@ impl<
             }
         }
     }
+}
+
+impl<
+    P: Stable<I, O, E>,
+    I: Stream,
+    O,
+    E: ParserError<I> + AddContext<I, C, A>,
+    F: Fn() -> FI,
+    C,
+    FI: Iterator<Item = C>,
+    A: Allocator + Copy,
+> Stable<I, O, E> for ContextWith<P, I, O, E, F, C, FI, A> {
+    ghost stable = { stays
+        (makes_error_grows (ContextWithBecomes F.post FI.next_gives)
+        (context_with_keeps F.post FI.next_gives)
+        (grows (P.leaves_ends modal) P.stable)) };
+
+    fn stay() {}
 }
 
 impl<

@@ -1,11 +1,15 @@
 //! Default values in the place of outputs.
 ghost use Rattle.std.specs.Prelude.{◌≡◌};
+ghost use Rattle.stream_errors.specs.Form.{modal};
 ghost use Rattle.winnow_core.specs.Agrees.{agrees1};
 ghost use Rattle.winnow_core.specs.DefaultValue.{DefaultValueRuns, default_value_parser};
-ghost use Rattle.winnow_core.specs.MakesOutput.Laws.{makes_output_ends};
+ghost use Rattle.winnow_core.specs.MakesOutput.Laws.{makes_output_ends, made_of_output};
+ghost use Rattle.winnow_core.specs.MakesOutput.Laws.{makes_output_grows};
+ghost use Rattle.winnow_core.specs.Stable.Grows.{grows, stays};
 
 use crate::agrees_with::AgreesWith;
 use crate::parser::Parser;
+use crate::stable::Stable;
 use std::marker::PhantomData;
 use stream_errors::parser_error::ParserError;
 use streams::stream::Stream;
@@ -51,6 +55,13 @@ impl<F: Parser<I, O, E>, I: Stream, O: Drop, O2: Default, E: ParserError<I>> Par
         let _output = self.parser.parse_next(input)?;
         Ok(O2::default())
     }
+}
+
+impl<F: Stable<I, O, E>, I: Stream, O: Drop, O2: Default, E: ParserError<I>> Stable<I, O2, E>
+    for DefaultValue<F, I, O, O2, E> {
+    ghost stable = { stays
+        (makes_output_grows (λ i o j u. O2.is_default u) (made_of_output _)
+        (grows (F.leaves_ends modal) F.stable)) };
 }
 
 impl<

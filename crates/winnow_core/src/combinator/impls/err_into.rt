@@ -2,10 +2,13 @@
 ghost use Rattle.std.specs.Prelude.{◌≡◌};
 ghost use Rattle.winnow_core.specs.Agrees.{agrees1};
 ghost use Rattle.winnow_core.specs.ErrInto.{ErrIntoBecomes, ErrIntoRuns, err_into_parser};
-ghost use Rattle.winnow_core.specs.MakesError.Laws.{makes_error_ends};
+ghost use Rattle.winnow_core.specs.ErrInto.Laws.{err_into_keeps};
+ghost use Rattle.winnow_core.specs.MakesError.Laws.{makes_error_ends, makes_error_grows};
+ghost use Rattle.winnow_core.specs.Stable.Grows.{grows_at, stays_beside};
 
 use crate::agrees_with::AgreesWith;
 use crate::parser::Parser;
+use crate::stable::{KeepsKinds, Stable};
 use std::marker::PhantomData;
 use stream_errors::parser_error::ParserError;
 use streams::stream::Stream;
@@ -57,6 +60,19 @@ impl<F: Parser<I, O, E>, I: Stream, O, E: ParserError<I>, E2: ParserError<I> + F
             Err(error) => Err(E2::from(error)),
         }
     }
+}
+
+impl<
+    F: Stable<I, O, E>,
+    I: Stream,
+    O,
+    E: ParserError<I>,
+    E2: ParserError<I> + KeepsKinds<E>,
+> Stable<I, O, E2> for ErrInto<F, I, O, E, E2> {
+    ghost stable = { stays_beside tt
+        (makes_error_grows (ErrIntoBecomes E.kind E2.kind E2.from_gives)
+        (err_into_keeps E.kind E2.kind E2.from_gives E2.keeps)
+        (grows_at F.meaning E.form E2.from_modal F.leaves_ends F.stable)) };
 }
 
 /// The conversion is of one type of error, so both parsers have that.

@@ -1,11 +1,14 @@
 //! Parsers that outputs decide.
 ghost use Rattle.std.specs.Prelude.{◌≡◌};
-ghost use Rattle.winnow_core.specs.FlatMap.Laws.{flat_map_ends};
+ghost use Rattle.stream_errors.specs.Form.{modal};
+ghost use Rattle.winnow_core.specs.FlatMap.Laws.{flat_map_ends, flat_map_grows};
 ghost use Rattle.winnow_core.specs.FlatMap.{FlatMapRuns, MakesParsers, flat_map_closure};
 ghost use Rattle.winnow_core.specs.FlatMap.{flat_map_parser};
+ghost use Rattle.winnow_core.specs.Stable.Grows.{grows, stays};
 
 use crate::agrees_with::AgreesWith;
 use crate::parser::Parser;
+use crate::stable::Stable;
 use std::marker::PhantomData;
 use stream_errors::parser_error::ParserError;
 use streams::stream::Stream;
@@ -63,4 +66,20 @@ impl<
         let mut second = (self.map)(output);
         second.parse_next(input)
     }
+}
+
+impl<
+    F: Stable<I, O, E>,
+    G: FnMut(O) -> H,
+    H: Stable<I, O2, E> + Drop,
+    I: Stream,
+    O,
+    O2,
+    E: ParserError<I>,
+> Stable<I, O2, E> for FlatMap<F, G, H, I, O, O2, E> {
+    ghost stable = { stays
+        (flat_map_grows G.step H.state (grows (F.leaves_ends modal) F.stable)
+        (grows (H.leaves_ends modal) H.stable)) };
+
+    fn stay() {}
 }

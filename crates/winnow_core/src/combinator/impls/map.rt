@@ -1,11 +1,14 @@
 //! Outputs made of outputs by a closure.
 ghost use Rattle.std.specs.Prelude.{◌≡◌};
+ghost use Rattle.stream_errors.specs.Form.{modal};
 ghost use Rattle.winnow_core.specs.Agrees.{agrees_with};
 ghost use Rattle.winnow_core.specs.Map.{MapRuns, map_parser, map_closure};
-ghost use Rattle.winnow_core.specs.Map.Laws.{map_ends};
+ghost use Rattle.winnow_core.specs.Map.Laws.{map_ends, map_grows};
+ghost use Rattle.winnow_core.specs.Stable.Grows.{grows, stays};
 
 use crate::agrees_with::AgreesWith;
 use crate::parser::Parser;
+use crate::stable::Stable;
 use std::marker::PhantomData;
 use stream_errors::parser_error::ParserError;
 use streams::stream::Stream;
@@ -53,6 +56,13 @@ impl<F: Parser<I, O, E>, G: FnMut(O) -> O2, I: Stream, O, O2, E: ParserError<I>>
         let output = self.parser.parse_next(input)?;
         Ok((self.map)(output))
     }
+}
+
+impl<F: Stable<I, O, E>, G: FnMut(O) -> O2, I: Stream, O, O2, E: ParserError<I>> Stable<I, O2, E>
+    for Map<F, G, I, O, O2, E> {
+    ghost stable = { stays (map_grows G.step (grows (F.leaves_ends modal) F.stable)) };
+
+    fn stay() {}
 }
 
 impl<

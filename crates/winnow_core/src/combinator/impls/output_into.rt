@@ -1,11 +1,15 @@
 //! Outputs that are converted.
 ghost use Rattle.std.specs.Prelude.{◌≡◌};
+ghost use Rattle.stream_errors.specs.Form.{modal};
 ghost use Rattle.winnow_core.specs.Agrees.{agrees1};
-ghost use Rattle.winnow_core.specs.MakesOutput.Laws.{makes_output_ends};
+ghost use Rattle.winnow_core.specs.MakesOutput.Laws.{makes_output_ends, made_of_output};
+ghost use Rattle.winnow_core.specs.MakesOutput.Laws.{makes_output_grows};
 ghost use Rattle.winnow_core.specs.OutputInto.{OutputIntoRuns, output_into_parser};
+ghost use Rattle.winnow_core.specs.Stable.Grows.{grows, stays};
 
 use crate::agrees_with::AgreesWith;
 use crate::parser::Parser;
+use crate::stable::Stable;
 use std::marker::PhantomData;
 use stream_errors::parser_error::ParserError;
 use streams::stream::Stream;
@@ -51,6 +55,13 @@ impl<F: Parser<I, O, E>, I: Stream, O, O2: From<O>, E: ParserError<I>> Parser<I,
         let output = self.parser.parse_next(input)?;
         Ok(O2::from(output))
     }
+}
+
+impl<F: Stable<I, O, E>, I: Stream, O, O2: From<O>, E: ParserError<I>> Stable<I, O2, E>
+    for OutputInto<F, I, O, O2, E> {
+    ghost stable = { stays
+        (makes_output_grows (λ i o j u. O2.from_gives o u) (made_of_output _)
+        (grows (F.leaves_ends modal) F.stable)) };
 }
 
 impl<

@@ -1,11 +1,14 @@
 //! Outputs that are read as text.
 ghost use Rattle.std.specs.Prelude.{◌≡◌};
+ghost use Rattle.stream_errors.specs.Form.{modal};
 ghost use Rattle.winnow_core.specs.Agrees.{agrees1};
 ghost use Rattle.winnow_core.specs.ParseTo.{ParseToSettles, ParseToRuns, parse_to_parser};
-ghost use Rattle.winnow_core.specs.Settles.Laws.{settles_ends};
+ghost use Rattle.winnow_core.specs.Settles.Laws.{settles_ends, settles_grows};
+ghost use Rattle.winnow_core.specs.Stable.Grows.{grows, stays_beside};
 
 use crate::agrees_with::AgreesWith;
 use crate::parser::Parser;
+use crate::stable::Stable;
 use std::marker::PhantomData;
 use stream_errors::parser_error::ParserError;
 use stream_sets::parse_slice::ParseSlice;
@@ -63,6 +66,15 @@ impl<F: Parser<I, O, E>, I: Stream, O: ParseSlice<O2> + Drop, O2, E: ParserError
             }
         }
     }
+}
+
+impl<F: Stable<I, O, E>, I: Stream, O: ParseSlice<O2> + Drop, O2, E: ParserError<I>> Stable<
+    I,
+    O2,
+    E,
+> for ParseTo<F, I, O, O2, E> {
+    ghost stable = { stays_beside tt
+        (settles_grows (ParseToSettles O.reads) (grows (F.leaves_ends modal) F.stable)) };
 }
 
 impl<

@@ -1,11 +1,14 @@
 //! The places between which a parser read.
 ghost use Rattle.std.specs.Prelude.{◌≡◌};
+ghost use Rattle.stream_errors.specs.Form.{modal};
 ghost use Rattle.winnow_core.specs.Agrees.{agrees1};
-ghost use Rattle.winnow_core.specs.MakesOutput.Laws.{makes_output_ends};
-ghost use Rattle.winnow_core.specs.Span.{SpanRuns, span_parser};
+ghost use Rattle.winnow_core.specs.MakesOutput.Laws.{makes_output_ends, makes_output_grows};
+ghost use Rattle.winnow_core.specs.Span.{SpanRuns, span_parser, places};
+ghost use Rattle.winnow_core.specs.Stable.Grows.{grows, stays};
 
 use crate::agrees_with::AgreesWith;
 use crate::parser::Parser;
+use crate::stable::Stable;
 use std::marker::PhantomData;
 use std::ops::Range;
 use stream_errors::parser_error::ParserError;
@@ -54,6 +57,13 @@ impl<F: Parser<I, O, E>, I: Location, O: Drop, E: ParserError<I>> Parser<I, Rang
         let end = input.previous_token_end();
         Ok(start..end)
     }
+}
+
+impl<F: Stable<I, O, E>, I: Location, O: Drop, E: ParserError<I>> Stable<I, Range<usize>, E>
+    for Span<F, I, O, E> {
+    ghost stable = { stays
+        (makes_output_grows (λ i o j span. span ≡ places i j) (λ more flag i o j span is. is)
+        (grows (F.leaves_ends modal) F.stable)) };
 }
 
 impl<

@@ -1,11 +1,14 @@
 //! The slice that a parser read, in the place of its output.
 ghost use Rattle.std.specs.Prelude.{◌≡◌, List, ◌++◌};
+ghost use Rattle.stream_errors.specs.Form.{modal};
 ghost use Rattle.streams.specs.Input.{Ends};
+ghost use Rattle.winnow_core.specs.Stable.Grows.{grows, stays};
 ghost use Rattle.winnow_core.specs.Take.{TakeRuns, take_parser};
-ghost use Rattle.winnow_core.specs.Take.Laws.{take_agrees, take_ends};
+ghost use Rattle.winnow_core.specs.Take.Laws.{take_agrees, take_ends, take_adapter_grows};
 
 use crate::agrees_with::AgreesWith;
 use crate::parser::Parser;
+use crate::stable::Stable;
 use std::marker::PhantomData;
 use stream_errors::parser_error::ParserError;
 use streams::reads_like::ReadsLike;
@@ -66,6 +69,11 @@ pub(crate) fn slice_from<I: Stream>(start: &I::Checkpoint, input: &mut I) -> I::
     let offset = input.offset_from(start);
     input.reset(start);
     input.next_slice(offset)
+}
+
+impl<F: Stable<I, O, E>, I: Stream, O: Drop, E: ParserError<I>> Stable<I, I::Slice, E>
+    for Take<F, I, O, E> {
+    ghost stable = { stays (take_adapter_grows I.reading (grows (F.leaves_ends modal) F.stable)) };
 }
 
 impl<

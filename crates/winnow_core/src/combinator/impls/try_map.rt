@@ -1,13 +1,16 @@
 //! Outputs made of outputs by a closure that may fail.
 ghost use Rattle.std.specs.Prelude.{◌≡◌};
+ghost use Rattle.stream_errors.specs.Form.{modal};
 ghost use Rattle.stream_errors.specs.Given.{Keeping};
 ghost use Rattle.winnow_core.specs.Agrees.{agrees_with};
-ghost use Rattle.winnow_core.specs.Settles.Laws.{settles_ends};
+ghost use Rattle.winnow_core.specs.Settles.Laws.{settles_ends, settles_grows};
+ghost use Rattle.winnow_core.specs.Stable.Grows.{grows, stays};
 ghost use Rattle.winnow_core.specs.TryMap.{TryMapSettles, TryMapRuns, try_map_closure};
 ghost use Rattle.winnow_core.specs.TryMap.{try_map_parser};
 
 use crate::agrees_with::AgreesWith;
 use crate::parser::Parser;
+use crate::stable::Stable;
 use std::marker::PhantomData;
 use stream_errors::external::FromExternalError;
 use stream_errors::parser_error::ParserError;
@@ -72,6 +75,21 @@ impl<
             }
         }
     }
+}
+
+impl<
+    F: Stable<I, O, E>,
+    G: FnMut(O) -> Result<O2, E2>,
+    I: Stream,
+    O,
+    O2,
+    E: ParserError<I> + FromExternalError<I, E2>,
+    E2,
+> Stable<I, O2, E> for TryMap<F, G, I, O, O2, E, E2> {
+    ghost stable = { stays
+        (settles_grows (TryMapSettles G.step) (grows (F.leaves_ends modal) F.stable)) };
+
+    fn stay() {}
 }
 
 impl<

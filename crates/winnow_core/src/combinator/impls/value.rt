@@ -1,11 +1,14 @@
 //! Values in the place of outputs.
 ghost use Rattle.std.specs.Prelude.{◌≡◌};
+ghost use Rattle.stream_errors.specs.Form.{modal};
 ghost use Rattle.winnow_core.specs.Agrees.{agrees_with};
-ghost use Rattle.winnow_core.specs.Value.Laws.{value_ends};
+ghost use Rattle.winnow_core.specs.Stable.Grows.{grows, stays};
+ghost use Rattle.winnow_core.specs.Value.Laws.{value_ends, value_grows};
 ghost use Rattle.winnow_core.specs.Value.{ValueRuns, value_kept, value_parser};
 
 use crate::agrees_with::AgreesWith;
 use crate::parser::Parser;
+use crate::stable::Stable;
 use std::marker::PhantomData;
 use stream_errors::parser_error::ParserError;
 use streams::stream::Stream;
@@ -57,6 +60,12 @@ impl<F: Parser<I, O, E>, I: Stream, O: Drop, O2: Clone, E: ParserError<I>> Parse
             Err(_) => Err(E::no_memory(input)),
         }
     }
+}
+
+impl<F: Stable<I, O, E>, I: Stream, O: Drop, O2: Clone, E: ParserError<I>> Stable<I, O2, E>
+    for Value<F, I, O, O2, E> {
+    ghost stable = { stays
+        (value_grows O2.is_clone O2.is_infallible (grows (F.leaves_ends modal) F.stable)) };
 }
 
 impl<

@@ -1,13 +1,16 @@
 //! Outputs that a closure tests.
 ghost use Rattle.std.specs.Fn.{CalledAt};
 ghost use Rattle.std.specs.Prelude.{◌≡◌};
+ghost use Rattle.stream_errors.specs.Form.{modal};
 ghost use Rattle.winnow_core.specs.Agrees.{agrees_with};
-ghost use Rattle.winnow_core.specs.Settles.Laws.{settles_ends};
+ghost use Rattle.winnow_core.specs.Settles.Laws.{settles_ends, settles_grows};
+ghost use Rattle.winnow_core.specs.Stable.Grows.{grows, stays};
 ghost use Rattle.winnow_core.specs.Verify.{VerifySettles, VerifyRuns, verify_closure};
 ghost use Rattle.winnow_core.specs.Verify.{verify_parser};
 
 use crate::agrees_with::AgreesWith;
 use crate::parser::Parser;
+use crate::stable::Stable;
 use std::marker::PhantomData;
 use stream_errors::parser_error::ParserError;
 use streams::stream::Stream;
@@ -66,6 +69,18 @@ impl<F: Parser<I, O, E>, G: FnMut(&O) -> bool, I: Stream, O: Drop, E: ParserErro
             Err(E::from_input(input))
         }
     }
+}
+
+impl<F: Stable<I, O, E>, G: FnMut(&O) -> bool, I: Stream, O: Drop, E: ParserError<I>> Stable<
+    I,
+    O,
+    E,
+> for Verify<F, G, I, O, E> {
+    ghost stable = { stays
+        (settles_grows (VerifySettles (CalledAt G.FnMut))
+        (grows (F.leaves_ends modal) F.stable)) };
+
+    fn stay() {}
 }
 
 impl<

@@ -1,11 +1,14 @@
 //! Outputs made of outputs by a closure that may refuse them.
 ghost use Rattle.std.specs.Prelude.{◌≡◌};
+ghost use Rattle.stream_errors.specs.Form.{modal};
 ghost use Rattle.winnow_core.specs.Agrees.{agrees_with};
+ghost use Rattle.winnow_core.specs.Stable.Grows.{grows, stays};
 ghost use Rattle.winnow_core.specs.VerifyMap.{VerifyMapRuns, verify_map_parser, verify_map_closure};
-ghost use Rattle.winnow_core.specs.VerifyMap.Laws.{verify_map_ends};
+ghost use Rattle.winnow_core.specs.VerifyMap.Laws.{verify_map_ends, verify_map_grows};
 
 use crate::agrees_with::AgreesWith;
 use crate::parser::Parser;
+use crate::stable::Stable;
 use std::marker::PhantomData;
 use stream_errors::parser_error::ParserError;
 use streams::stream::Stream;
@@ -64,6 +67,16 @@ impl<F: Parser<I, O, E>, G: FnMut(O) -> Option<O2>, I: Stream, O, O2, E: ParserE
             }
         }
     }
+}
+
+impl<F: Stable<I, O, E>, G: FnMut(O) -> Option<O2>, I: Stream, O, O2, E: ParserError<I>> Stable<
+    I,
+    O2,
+    E,
+> for VerifyMap<F, G, I, O, O2, E> {
+    ghost stable = { stays (verify_map_grows G.step (grows (F.leaves_ends modal) F.stable)) };
+
+    fn stay() {}
 }
 
 impl<

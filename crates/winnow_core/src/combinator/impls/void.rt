@@ -1,11 +1,14 @@
 //! Outputs that are dropped.
 ghost use Rattle.std.specs.Prelude.{◌≡◌};
+ghost use Rattle.stream_errors.specs.Form.{modal};
 ghost use Rattle.winnow_core.specs.Agrees.{agrees1};
+ghost use Rattle.winnow_core.specs.Stable.Grows.{grows, stays};
 ghost use Rattle.winnow_core.specs.Void.{VoidRuns, void_parser};
-ghost use Rattle.winnow_core.specs.Void.Laws.{void_ends};
+ghost use Rattle.winnow_core.specs.Void.Laws.{void_ends, void_grows};
 
 use crate::agrees_with::AgreesWith;
 use crate::parser::Parser;
+use crate::stable::Stable;
 use std::marker::PhantomData;
 use stream_errors::parser_error::ParserError;
 use streams::stream::Stream;
@@ -50,6 +53,11 @@ impl<F: Parser<I, O, E>, I: Stream, O: Drop, E: ParserError<I>> Parser<I, (), E>
         let _output = self.parser.parse_next(input)?;
         Ok(())
     }
+}
+
+impl<F: Stable<I, O, E>, I: Stream, O: Drop, E: ParserError<I>> Stable<I, (), E>
+    for Void<F, I, O, E> {
+    ghost stable = { stays (void_grows (grows (F.leaves_ends modal) F.stable)) };
 }
 
 impl<

@@ -1,11 +1,15 @@
 //! Outputs with the places between which they were read.
 ghost use Rattle.std.specs.Prelude.{◌≡◌};
+ghost use Rattle.stream_errors.specs.Form.{modal};
 ghost use Rattle.winnow_core.specs.Agrees.{agrees1};
-ghost use Rattle.winnow_core.specs.MakesOutput.Laws.{makes_output_ends};
+ghost use Rattle.winnow_core.specs.MakesOutput.Laws.{makes_output_ends, makes_output_grows};
+ghost use Rattle.winnow_core.specs.Span.{places};
+ghost use Rattle.winnow_core.specs.Stable.Grows.{grows, stays};
 ghost use Rattle.winnow_core.specs.WithSpan.{WithSpanRuns, with_span_parser};
 
 use crate::agrees_with::AgreesWith;
 use crate::parser::Parser;
+use crate::stable::Stable;
 use std::marker::PhantomData;
 use std::ops::Range;
 use stream_errors::parser_error::ParserError;
@@ -54,6 +58,13 @@ impl<F: Parser<I, O, E>, I: Location, O, E: ParserError<I>> Parser<I, (O, Range<
         let end = input.previous_token_end();
         Ok((output, start..end))
     }
+}
+
+impl<F: Stable<I, O, E>, I: Location, O, E: ParserError<I>> Stable<I, (O, Range<usize>), E>
+    for WithSpan<F, I, O, E> {
+    ghost stable = { stays
+        (makes_output_grows (λ i o j both. (both.0 ≡ o) × (both.1 ≡ places i j))
+        (λ more flag i o j both is. is) (grows (F.leaves_ends modal) F.stable)) };
 }
 
 impl<

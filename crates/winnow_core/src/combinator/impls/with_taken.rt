@@ -1,12 +1,15 @@
 //! Outputs with the slices that were read.
 ghost use Rattle.std.specs.Prelude.{◌≡◌};
-ghost use Rattle.winnow_core.specs.MakesOutput.Laws.{makes_output_ends};
-ghost use Rattle.winnow_core.specs.WithTaken.Laws.{with_taken_agrees};
+ghost use Rattle.stream_errors.specs.Form.{modal};
+ghost use Rattle.winnow_core.specs.MakesOutput.Laws.{makes_output_ends, makes_output_grows};
+ghost use Rattle.winnow_core.specs.Stable.Grows.{grows, stays};
+ghost use Rattle.winnow_core.specs.WithTaken.Laws.{with_taken_agrees, made_with_taken};
 ghost use Rattle.winnow_core.specs.WithTaken.{WithTakenRuns, with_taken_parser};
 
 use crate::agrees_with::AgreesWith;
 use crate::combinator::impls::take::slice_from;
 use crate::parser::Parser;
+use crate::stable::Stable;
 use std::marker::PhantomData;
 use stream_errors::parser_error::ParserError;
 use streams::reads_like::ReadsLike;
@@ -54,6 +57,13 @@ impl<F: Parser<I, O, E>, I: Stream, O, E: ParserError<I>> Parser<I, (O, I::Slice
         let output = self.parser.parse_next(input)?;
         Ok((output, slice_from(&start, input)))
     }
+}
+
+impl<F: Stable<I, O, E>, I: Stream, O, E: ParserError<I>> Stable<I, (O, I::Slice), E>
+    for WithTaken<F, I, O, E> {
+    ghost stable = { stays
+        (makes_output_grows _ (made_with_taken I.reading)
+        (grows (F.leaves_ends modal) F.stable)) };
 }
 
 impl<

@@ -1,12 +1,15 @@
 //! Text with escapes, and what it stands for.
 ghost use Rattle.std.specs.Prelude.{◌≡◌, None};
-ghost use Rattle.stream_errors.specs.Form.{assert_kind, incomplete_kind, plain};
+ghost use Rattle.stream_errors.specs.Form.{assert_kind, incomplete_kind, plain, modal};
 ghost use Rattle.winnow_core.specs.Agrees.Sizes.{agrees3};
+ghost use Rattle.winnow_core.specs.Stable.Grows.{grows, stays};
+ghost use Rattle.winnow_escapes.specs.Controls.{grows_on_some};
 ghost use Rattle.winnow_escapes.specs.Escaped.{EscapedRuns, escaped_control, escaped_escape};
 ghost use Rattle.winnow_escapes.specs.Escaped.{escaped_normal, turns_kept};
-ghost use Rattle.winnow_escapes.specs.Escaped.Laws.{escaped_ends};
+ghost use Rattle.winnow_escapes.specs.Escaped.Laws.{escaped_ends, escaped_grows};
 
 use crate::ascii::turns::read_turns;
+use crate::stable::SettledControl;
 use std::marker::PhantomData;
 use stream_errors::control::ControlError;
 use stream_errors::parser_error::ParserError;
@@ -14,6 +17,7 @@ use stream_sets::accumulate::Accumulate;
 use streams::stream::{Stream, StreamIsPartial};
 use winnow_core::agrees_with::AgreesWith;
 use winnow_core::parser::Parser;
+use winnow_core::stable::Stable;
 
 /// The parser that [`escaped`](crate::ascii::escaped) makes.
 ///
@@ -91,6 +95,27 @@ impl<
             Err(_) => Err(E::no_memory(input)),
         }
     }
+}
+
+impl<
+    N: Stable<I, O, E>,
+    K: SettledControl<I, D>,
+    X: Stable<I, P, E>,
+    I: StreamIsPartial,
+    O: Drop,
+    D: Drop,
+    P: Drop,
+    C: Accumulate<O, A> + Accumulate<P, A>,
+    E: ParserError<I>,
+    A: Copy,
+> Stable<I, C, E> for Escaped<N, K, X, I, O, D, P, C, E, A> {
+    ghost stable = { stays
+        (escaped_grows (N.meaning modal) (K.meaning plain) (X.meaning modal)
+        (grows (N.leaves_ends modal) N.stable)
+        (grows_on_some (K.leaves_ends plain) K.settled)
+        (grows (X.leaves_ends modal) X.stable)
+        (turns_kept ⟦<C as Accumulate<O, A>>⟧.accumulator ⟦<C as Accumulate<P, A>>⟧.accumulator)
+        (assert_kind modal)) };
 }
 
 impl<

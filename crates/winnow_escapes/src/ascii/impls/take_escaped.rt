@@ -1,15 +1,19 @@
 //! Text with escapes, as it stands.
 ghost use Rattle.std.specs.Prelude.{◌≡◌, None};
-ghost use Rattle.stream_errors.specs.Form.{assert_kind, incomplete_kind, plain};
+ghost use Rattle.stream_errors.specs.Form.{assert_kind, incomplete_kind, plain, modal};
 ghost use Rattle.winnow_core.specs.Agrees.Sizes.{agrees3};
-ghost use Rattle.winnow_core.specs.Take.Laws.{take_agrees};
+ghost use Rattle.winnow_core.specs.Stable.Grows.{grows, stays};
+ghost use Rattle.winnow_core.specs.Take.Laws.{take_agrees, take_adapter_grows};
+ghost use Rattle.winnow_escapes.specs.Controls.{grows_on_some};
 ghost use Rattle.winnow_escapes.specs.Escaped.{EscapedRuns};
+ghost use Rattle.winnow_escapes.specs.Escaped.Laws.{escaped_grows};
 ghost use Rattle.winnow_escapes.specs.TakeEscaped.{TakeEscapedRuns, no_turns_kept};
 ghost use Rattle.winnow_escapes.specs.TakeEscaped.{take_escaped_control, take_escaped_escapable};
 ghost use Rattle.winnow_escapes.specs.TakeEscaped.{take_escaped_normal};
 ghost use Rattle.winnow_escapes.specs.TakeEscaped.Laws.{take_escaped_ends};
 
 use crate::ascii::impls::Escaped;
+use crate::stable::SettledControl;
 use stream_errors::control::ControlError;
 use stream_errors::parser_error::ParserError;
 use streams::reads_like::ReadsLike;
@@ -17,6 +21,7 @@ use streams::stream::{Stream, StreamIsPartial};
 use winnow_core::agrees_with::AgreesWith;
 use winnow_core::combinator::impls::Take;
 use winnow_core::parser::Parser;
+use winnow_core::stable::Stable;
 
 /// The parser that [`take_escaped`](crate::ascii::take_escaped) makes: the slice of what is read
 /// into nothing.
@@ -89,6 +94,24 @@ impl<
     fn parse_next(&mut self, input: &mut I) -> Result<I::Slice, E> {
         self.taken.parse_next(input)
     }
+}
+
+impl<
+    N: Stable<I, O, E>,
+    K: SettledControl<I, D>,
+    X: Stable<I, P, E>,
+    I: StreamIsPartial,
+    O: Drop,
+    D: Drop,
+    P: Drop,
+    E: ParserError<I>,
+> Stable<I, I::Slice, E> for TakeEscaped<N, K, X, I, O, D, P, E> {
+    ghost stable = { stays
+        (take_adapter_grows I.reading
+        (escaped_grows (N.meaning modal) (K.meaning plain) (X.meaning modal)
+        (grows (N.leaves_ends modal) N.stable)
+        (grows_on_some (K.leaves_ends plain) K.settled)
+        (grows (X.leaves_ends modal) X.stable) no_turns_kept (assert_kind modal))) };
 }
 
 impl<

@@ -3,10 +3,11 @@
 //! Written by scripts/families.py: do not edit.
 ghost use Rattle.std.specs.Prelude.{⊤};
 ghost use Rattle.winnow_integers.specs.Integer.{IntegerRuns, unsigned_value};
-ghost use Rattle.winnow_integers.specs.Integer.Laws.{integer_alike, integer_ends};
+ghost use Rattle.winnow_integers.specs.Integer.Laws.{integer_alike, integer_ends, integer_stays};
 ghost use Rattle.winnow_integers.specs.declared.binary.endianness.Endianness.TheVariants.{Big};
 ghost use Rattle.winnow_core.specs.Agrees.{agrees_plain};
 ghost use Rattle.winnow_core.specs.Runs.{Keeps};
+ghost use Rattle.winnow_core.specs.Stable.Grows.{leaf_stays};
 
 use crate::binary::u8;
 use stream_errors::parser_error::ParserError;
@@ -15,6 +16,7 @@ use streams::reads_like::ReadsLike;
 use streams::stream::{Stream, StreamIsPartial};
 use winnow_core::agrees_with::AgreesWith;
 use winnow_core::parser::Parser;
+use winnow_core::stable::Stable;
 
 /// The parser [`u8`](crate::binary::u8).
 ///
@@ -39,6 +41,11 @@ impl<I: StreamIsPartial + ByteStream, E: ParserError<I>> Parser<I, u8, E> for U8
     fn parse_next(&mut self, input: &mut I) -> Result<u8, E> {
         u8(input)
     }
+}
+
+impl<I: StreamIsPartial + ByteStream, E: ParserError<I>> Stable<I, u8, E> for U8 {
+    ghost stable = { leaf_stays I.following _
+        (λ _. integer_stays 1 (unsigned_value Big) I.reading) };
 }
 
 impl<

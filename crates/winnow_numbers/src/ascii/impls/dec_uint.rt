@@ -1,7 +1,8 @@
 //! Decimal unsigned numbers.
 ghost use Rattle.std.specs.Prelude.{⊤};
+ghost use Rattle.winnow_core.specs.Stable.Grows.{leaf_stays};
 ghost use Rattle.winnow_numbers.specs.DecUint.{DecUintRuns};
-ghost use Rattle.winnow_numbers.specs.DecUint.Laws.{dec_uint_alike, dec_uint_ends};
+ghost use Rattle.winnow_numbers.specs.DecUint.Laws.{dec_uint_alike, dec_uint_ends, dec_uint_stays};
 ghost use Rattle.winnow_core.specs.Agrees.{agrees_plain};
 ghost use Rattle.winnow_core.specs.Runs.{Keeps};
 
@@ -13,6 +14,7 @@ use streams::reads_like::ReadsLike;
 use streams::stream::{Stream, StreamIsPartial};
 use winnow_core::agrees_with::AgreesWith;
 use winnow_core::parser::Parser;
+use winnow_core::stable::Stable;
 
 /// The parser [`dec_uint`](crate::ascii::dec_uint), of each type of output.
 ///
@@ -41,6 +43,15 @@ where
     fn parse_next(&mut self, input: &mut I) -> Result<O, E> {
         dec_uint(input)
     }
+}
+
+impl<I: StreamIsPartial + SlicesAsBytes, O: Uint, E: ParserError<I>> Stable<I, O, E> for DecUint
+where
+    I::Token: AsChar,
+    I::Slice: AsBStr,
+{
+    ghost stable = { leaf_stays I.following _
+        (λ _. dec_uint_stays I.seen_as I.Token.code I.reading O.number O.bound) };
 }
 
 impl<

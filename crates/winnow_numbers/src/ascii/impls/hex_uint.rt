@@ -1,8 +1,9 @@
 //! Hexadecimal numbers.
 ghost use Rattle.std.proofs.Common.{arith};
 ghost use Rattle.std.specs.Prelude.{◌≡◌, ◌+◌, ◌*◌, ◌^◌, ◌<◌, ℕ, ⊤};
+ghost use Rattle.winnow_core.specs.Stable.Grows.{leaf_stays};
 ghost use Rattle.winnow_numbers.specs.HexUint.{HexUintRuns};
-ghost use Rattle.winnow_numbers.specs.HexUint.Laws.{hex_uint_alike, hex_uint_ends};
+ghost use Rattle.winnow_numbers.specs.HexUint.Laws.{hex_uint_alike, hex_uint_ends, hex_uint_stays};
 ghost use Rattle.winnow_core.specs.Agrees.{agrees_plain};
 ghost use Rattle.winnow_core.specs.Runs.{Keeps};
 
@@ -15,6 +16,7 @@ use streams::reads_like::ReadsLike;
 use streams::stream::{Stream, StreamIsPartial};
 use winnow_core::agrees_with::AgreesWith;
 use winnow_core::parser::Parser;
+use winnow_core::stable::Stable;
 
 pub(crate) mod sealed {
     /// What only this crate can pass to [`max_nibbles`](crate::ascii::impls::HexUint::max_nibbles).
@@ -200,6 +202,16 @@ where
     fn parse_next(&mut self, input: &mut I) -> Result<O, E> {
         hex_uint(input)
     }
+}
+
+impl<I: StreamIsPartial + SlicesAsBytes, O: HexUint, E: ParserError<I>> Stable<I, O, E>
+    for HexUintParser
+where
+    I::Token: AsChar,
+    I::Slice: AsBStr,
+{
+    ghost stable = { leaf_stays I.following _
+        (λ _. hex_uint_stays I.seen_as I.Token.code I.reading O.number O.nibbles) };
 }
 
 impl<

@@ -1,9 +1,10 @@
 //! A buffer that is filled.
 ghost use Rattle.std.specs.Prelude.{◌≡◌};
-ghost use Rattle.stream_errors.specs.Form.{answer_by};
+ghost use Rattle.stream_errors.specs.Form.{answer_by, modal};
 ghost use Rattle.streams.specs.Input.{IsEndOf};
+ghost use Rattle.winnow_core.specs.Stable.Grows.{grows, stays};
 ghost use Rattle.winnow_repeat.specs.Fill.{Buffer, FillRuns, FillsElements, fill_buffer};
-ghost use Rattle.winnow_repeat.specs.Fill.Laws.{fill_ends};
+ghost use Rattle.winnow_repeat.specs.Fill.Laws.{fill_ends, fill_grows};
 ghost use Rattle.winnow_core.specs.Agrees.{agrees_with};
 
 use std::marker::PhantomData;
@@ -11,6 +12,7 @@ use stream_errors::parser_error::ParserError;
 use streams::stream::Stream;
 use winnow_core::agrees_with::AgreesWith;
 use winnow_core::parser::Parser;
+use winnow_core::stable::Stable;
 
 /// The parser that [`fill`](crate::combinator::fill) makes.
 ///
@@ -39,6 +41,11 @@ impl<'b, P: Parser<I, O, E>, I: Stream, O: Drop, E: ParserError<I>> Parser<I, ()
     fn parse_next(&mut self, input: &mut I) -> Result<(), E> {
         fill_each(&mut self.parser, self.buffer, input)
     }
+}
+
+impl<'b, P: Stable<I, O, E>, I: Stream, O: Drop, E: ParserError<I>> Stable<I, (), E>
+    for Fill<'b, P, I, O, E> {
+    ghost stable = { stays (fill_grows (P.meaning modal) (grows (P.leaves_ends modal) P.stable)) };
 }
 
 impl<

@@ -1,12 +1,13 @@
 //! Repetition whose outputs a closure folds into a value.
 ghost use Rattle.std.specs.Prelude.{◌≡◌, ⊤};
-ghost use Rattle.stream_errors.specs.Form.{answer_by, assert_kind};
+ghost use Rattle.stream_errors.specs.Form.{answer_by, assert_kind, modal};
 ghost use Rattle.stream_sets.specs.declared.range.Range.{Range};
 ghost use Rattle.streams.specs.Input.{IsEndOf};
 ghost use Rattle.streams.specs.Kind.{Kind, backtrack};
+ghost use Rattle.winnow_core.specs.Stable.Grows.{grows, stays};
 ghost use Rattle.winnow_repeat.specs.Fold.{FoldOneRuns, FoldTakes, RangedFolds, fold_closure};
 ghost use Rattle.winnow_repeat.specs.Fold.{fold_init, fold_occurrences, fold_parser};
-ghost use Rattle.winnow_repeat.specs.Fold.Laws.{ranged_folds_end};
+ghost use Rattle.winnow_repeat.specs.Fold.Laws.{ranged_folds_end, fold_grows};
 ghost use Rattle.winnow_core.specs.Agrees.{agrees_with};
 
 use crate::combinator::folding::{Folding, fold_items, fold_range};
@@ -16,6 +17,7 @@ use stream_sets::range::Range;
 use streams::stream::Stream;
 use winnow_core::agrees_with::AgreesWith;
 use winnow_core::parser::Parser;
+use winnow_core::stable::Stable;
 
 /// A closure that folds each output into a value.
 #[derive(Drop)]
@@ -118,6 +120,22 @@ impl<
             )
         }
     }
+}
+
+impl<
+    P: Stable<I, O, E>,
+    G: FnMut() -> R,
+    H: FnMut(R, O) -> R,
+    I: Stream,
+    O: Drop,
+    R: Drop,
+    E: ParserError<I>,
+> Stable<I, R, E> for RepeatFold<P, G, H, I, O, R, E> {
+    ghost stable = { stays
+        (fold_grows G.step H.step (P.meaning modal) (assert_kind modal)
+        (grows (P.leaves_ends modal) P.stable)) };
+
+    fn stay() {}
 }
 
 impl<

@@ -1,12 +1,13 @@
 //! Repetition.
 ghost use Rattle.std.specs.Prelude.{◌≡◌};
-ghost use Rattle.stream_errors.specs.Form.{answer_by, assert_kind};
+ghost use Rattle.stream_errors.specs.Form.{answer_by, assert_kind, modal};
 ghost use Rattle.stream_sets.specs.declared.range.Range.{Range};
 ghost use Rattle.streams.specs.Input.{IsEndOf};
+ghost use Rattle.winnow_core.specs.Stable.Grows.{grows, stays};
 ghost use Rattle.winnow_repeat.specs.Repeat.{RangedRuns, RepeatOneRuns};
 ghost use Rattle.winnow_repeat.specs.Fold.{fold_closure, fold_init, fold_occurrences, fold_parser};
 ghost use Rattle.winnow_repeat.specs.Repeat.{repeat_occurrences, repeat_parser};
-ghost use Rattle.winnow_repeat.specs.Repeat.Laws.{ranged_ends};
+ghost use Rattle.winnow_repeat.specs.Repeat.Laws.{ranged_ends, repeat_grows};
 ghost use Rattle.winnow_repeat.specs.TryFold.{try_fold_closure, try_fold_init};
 ghost use Rattle.winnow_repeat.specs.TryFold.{try_fold_occurrences};
 ghost use Rattle.winnow_repeat.specs.TryFold.{try_fold_parser};
@@ -25,6 +26,7 @@ use stream_sets::range::Range;
 use streams::stream::Stream;
 use winnow_core::agrees_with::AgreesWith;
 use winnow_core::parser::Parser;
+use winnow_core::stable::Stable;
 
 /// The parser that [`repeat`](crate::combinator::repeat) makes.
 ///
@@ -138,6 +140,19 @@ impl<
             Some(most) => repeat_many(self.alloc, least, Some(most), &mut self.parser, input),
         }
     }
+}
+
+impl<
+    P: Stable<I, O, E>,
+    I: Stream,
+    O: Drop,
+    C: Accumulate<O, A>,
+    E: ParserError<I>,
+    A: Allocator + Copy,
+> Stable<I, C, E> for Repeat<P, I, O, C, E, A> {
+    ghost stable = { stays
+        (repeat_grows (P.meaning modal) C.accumulator (assert_kind modal)
+        (grows (P.leaves_ends modal) P.stable)) };
 }
 
 impl<

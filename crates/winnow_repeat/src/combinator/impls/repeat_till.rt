@@ -1,10 +1,11 @@
 //! Repetition until a terminator.
 ghost use Rattle.std.specs.Prelude.{◌≡◌};
-ghost use Rattle.stream_errors.specs.Form.{answer_by, assert_kind};
+ghost use Rattle.stream_errors.specs.Form.{answer_by, assert_kind, modal};
 ghost use Rattle.stream_sets.specs.declared.range.Range.{Range};
 ghost use Rattle.streams.specs.Input.{IsEndOf};
+ghost use Rattle.winnow_core.specs.Stable.Grows.{grows, stays};
 ghost use Rattle.winnow_repeat.specs.RepeatTill.{LeastItemsRun, RangedTillRuns, TurnsRun};
-ghost use Rattle.winnow_repeat.specs.RepeatTill.Laws.{repeat_till_ends};
+ghost use Rattle.winnow_repeat.specs.RepeatTill.Laws.{repeat_till_ends, repeat_till_grows};
 ghost use Rattle.winnow_core.specs.Agrees.Beside.{agrees2_with};
 
 use crate::combinator::items::is_descending;
@@ -16,6 +17,7 @@ use stream_sets::range::Range;
 use streams::stream::Stream;
 use winnow_core::agrees_with::AgreesWith;
 use winnow_core::parser::Parser;
+use winnow_core::stable::Stable;
 
 /// The parser that [`repeat_till`](crate::combinator::repeat_till) makes.
 ///
@@ -68,6 +70,22 @@ impl<
             Err(_) => Err(E::no_memory(input)),
         }
     }
+}
+
+impl<
+    P: Stable<I, O, E>,
+    G: Stable<I, D, E>,
+    I: Stream,
+    O: Drop,
+    D,
+    C: Accumulate<O, A>,
+    E: ParserError<I>,
+    A: Allocator + Copy,
+> Stable<I, (C, D), E> for RepeatTill<P, G, I, O, D, C, E, A> {
+    ghost stable = { stays
+        (repeat_till_grows (P.meaning modal) (G.meaning modal) C.accumulator
+        (assert_kind modal) (grows (P.leaves_ends modal) P.stable)
+        (grows (G.leaves_ends modal) G.stable)) };
 }
 
 impl<

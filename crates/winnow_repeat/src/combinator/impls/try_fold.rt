@@ -1,10 +1,11 @@
 //! Repetition whose outputs are folded into a value by a closure that may fail.
 ghost use Rattle.std.specs.Prelude.{◌≡◌};
-ghost use Rattle.stream_errors.specs.Form.{assert_kind};
+ghost use Rattle.stream_errors.specs.Form.{assert_kind, modal};
 ghost use Rattle.stream_errors.specs.Given.{Keeping, KindGiven};
 ghost use Rattle.stream_sets.specs.declared.range.Range.{Range};
 ghost use Rattle.streams.specs.Kind.{backtrack};
-ghost use Rattle.winnow_repeat.specs.Fold.Laws.{ranged_fold_many_ends};
+ghost use Rattle.winnow_core.specs.Stable.Grows.{grows, stays};
+ghost use Rattle.winnow_repeat.specs.Fold.Laws.{ranged_fold_many_ends, fold_any_grows};
 ghost use Rattle.winnow_repeat.specs.TryFold.{TryFoldRuns, TryFoldTakes};
 ghost use Rattle.winnow_repeat.specs.TryFold.{try_fold_closure, try_fold_init};
 ghost use Rattle.winnow_repeat.specs.TryFold.{try_fold_occurrences, try_fold_parser};
@@ -18,6 +19,7 @@ use stream_sets::range::Range;
 use streams::stream::Stream;
 use winnow_core::agrees_with::AgreesWith;
 use winnow_core::parser::Parser;
+use winnow_core::stable::Stable;
 
 /// A closure that folds each output into a value, or fails.
 #[derive(Drop)]
@@ -130,6 +132,23 @@ impl<
             input,
         )
     }
+}
+
+impl<
+    P: Stable<I, O, E>,
+    G: FnMut() -> R,
+    H: FnMut(R, O) -> Result<R, X>,
+    I: Stream,
+    O: Drop,
+    R: Drop,
+    E: ParserError<I> + FromExternalError<I, X>,
+    X,
+> Stable<I, R, E> for RepeatTryFold<P, G, H, I, O, R, E, X> {
+    ghost stable = { stays
+        (fold_any_grows G.step (TryFoldTakes H.step) (P.meaning modal) (assert_kind modal)
+        (grows (P.leaves_ends modal) P.stable)) };
+
+    fn stay() {}
 }
 
 impl<

@@ -1,9 +1,10 @@
 //! Repetition whose outputs a closure folds into a value, or refuses.
 ghost use Rattle.std.specs.Prelude.{◌≡◌};
-ghost use Rattle.stream_errors.specs.Form.{assert_kind};
+ghost use Rattle.stream_errors.specs.Form.{assert_kind, modal};
 ghost use Rattle.stream_sets.specs.declared.range.Range.{Range};
 ghost use Rattle.streams.specs.Kind.{backtrack};
-ghost use Rattle.winnow_repeat.specs.Fold.Laws.{ranged_fold_many_ends};
+ghost use Rattle.winnow_core.specs.Stable.Grows.{grows, stays};
+ghost use Rattle.winnow_repeat.specs.Fold.Laws.{ranged_fold_many_ends, fold_any_grows};
 ghost use Rattle.winnow_repeat.specs.VerifyFold.{VerifyFoldRuns, VerifyFoldTakes};
 ghost use Rattle.winnow_repeat.specs.VerifyFold.{verify_fold_closure, verify_fold_init};
 ghost use Rattle.winnow_repeat.specs.VerifyFold.{verify_fold_occurrences, verify_fold_parser};
@@ -16,6 +17,7 @@ use stream_sets::range::Range;
 use streams::stream::Stream;
 use winnow_core::agrees_with::AgreesWith;
 use winnow_core::parser::Parser;
+use winnow_core::stable::Stable;
 
 /// A closure that folds each output into a value, or refuses it.
 #[derive(Drop)]
@@ -119,6 +121,22 @@ impl<
             input,
         )
     }
+}
+
+impl<
+    P: Stable<I, O, E>,
+    G: FnMut() -> R,
+    H: FnMut(R, O) -> Option<R>,
+    I: Stream,
+    O: Drop,
+    R: Drop,
+    E: ParserError<I>,
+> Stable<I, R, E> for RepeatVerifyFold<P, G, H, I, O, R, E> {
+    ghost stable = { stays
+        (fold_any_grows G.step (VerifyFoldTakes H.step) (P.meaning modal) (assert_kind modal)
+        (grows (P.leaves_ends modal) P.stable)) };
+
+    fn stay() {}
 }
 
 impl<

@@ -1,12 +1,13 @@
 //! Elements with separators between them.
 ghost use Rattle.std.specs.Prelude.{◌≡◌};
-ghost use Rattle.stream_errors.specs.Form.{answer_by, assert_kind};
+ghost use Rattle.stream_errors.specs.Form.{answer_by, assert_kind, modal};
 ghost use Rattle.stream_sets.specs.Range.{IsWithin, from_to};
 ghost use Rattle.stream_sets.specs.declared.range.Range.{Range};
 ghost use Rattle.streams.specs.Input.{IsEndOf};
+ghost use Rattle.winnow_core.specs.Stable.Grows.{grows, stays};
 ghost use Rattle.winnow_separated.specs.Separated.{ElementsRun, LinksRun, RangedElements};
 ghost use Rattle.winnow_separated.specs.Separated.{SeparatedRuns};
-ghost use Rattle.winnow_separated.specs.Separated.Laws.{separated_ends};
+ghost use Rattle.winnow_separated.specs.Separated.Laws.{separated_ends, separated_grows};
 ghost use Rattle.winnow_core.specs.Agrees.Beside.{agrees2_with};
 
 use crate::combinator::impls::link::Link;
@@ -18,6 +19,7 @@ use stream_sets::range::Range;
 use streams::stream::Stream;
 use winnow_core::agrees_with::AgreesWith;
 use winnow_core::parser::Parser;
+use winnow_core::stable::Stable;
 use winnow_repeat::combinator::items::is_descending;
 
 /// The parser that [`separated`](crate::combinator::separated) makes.
@@ -60,6 +62,21 @@ impl<
         let greatest = self.occurrences.greatest();
         separated_many(self.alloc, least, greatest, &mut self.link, input)
     }
+}
+
+impl<
+    P: Stable<I, O, E>,
+    S: Stable<I, D, E>,
+    I: Stream,
+    O: Drop,
+    D: Drop,
+    C: Accumulate<O, A>,
+    E: ParserError<I>,
+    A: Allocator + Copy,
+> Stable<I, C, E> for Separated<P, S, I, O, D, C, E, A> {
+    ghost stable = { stays
+        (separated_grows (P.meaning modal) (S.meaning modal) C.accumulator (assert_kind modal)
+        (grows (P.leaves_ends modal) P.stable) (grows (S.leaves_ends modal) S.stable)) };
 }
 
 impl<

@@ -1,11 +1,12 @@
 //! Elements with separators between them, folded to the left.
 ghost use Rattle.std.specs.Prelude.{◌≡◌};
-ghost use Rattle.stream_errors.specs.Form.{answer_by, assert_kind};
+ghost use Rattle.stream_errors.specs.Form.{answer_by, assert_kind, modal};
 ghost use Rattle.streams.specs.Input.{IsEndOf};
+ghost use Rattle.winnow_core.specs.Stable.Grows.{grows, stays};
 ghost use Rattle.winnow_separated.specs.SeparatedFoldl1.{JoinedLinksRun, SeparatedFoldl1Runs};
 ghost use Rattle.winnow_separated.specs.SeparatedFoldl1.{foldl1_closure, foldl1_parser};
 ghost use Rattle.winnow_separated.specs.SeparatedFoldl1.{foldl1_separator};
-ghost use Rattle.winnow_separated.specs.SeparatedFoldl1.Laws.{foldl1_ends};
+ghost use Rattle.winnow_separated.specs.SeparatedFoldl1.Laws.{foldl1_ends, foldl1_grows};
 ghost use Rattle.winnow_core.specs.Agrees.Beside.{agrees2_with};
 
 use crate::combinator::impls::link::Link;
@@ -14,6 +15,7 @@ use stream_errors::parser_error::ParserError;
 use streams::stream::Stream;
 use winnow_core::agrees_with::AgreesWith;
 use winnow_core::parser::Parser;
+use winnow_core::stable::Stable;
 
 /// The parser that [`separated_foldl1`](crate::combinator::separated_foldl1) makes.
 ///
@@ -69,6 +71,22 @@ impl<
         let first = self.link.parser.parse_next(input)?;
         join_left(first, &mut self.link, &mut self.op, input)
     }
+}
+
+impl<
+    P: Stable<I, O, E>,
+    S: Stable<I, D, E>,
+    H: FnMut(O, D, O) -> O,
+    I: Stream,
+    O: Drop,
+    D: Drop,
+    E: ParserError<I>,
+> Stable<I, O, E> for SeparatedFoldl1<P, S, H, I, O, D, E> {
+    ghost stable = { stays
+        (foldl1_grows H.step (P.meaning modal) (S.meaning modal) (assert_kind modal)
+        (grows (P.leaves_ends modal) P.stable) (grows (S.leaves_ends modal) S.stable)) };
+
+    fn stay() {}
 }
 
 impl<

@@ -1,10 +1,11 @@
 //! Elements with separators between them, folded to the right.
 ghost use Rattle.std.specs.Prelude.{◌≡◌};
-ghost use Rattle.stream_errors.specs.Form.{assert_kind};
+ghost use Rattle.stream_errors.specs.Form.{assert_kind, modal};
+ghost use Rattle.winnow_core.specs.Stable.Grows.{grows, stays};
 ghost use Rattle.winnow_separated.specs.SeparatedFoldr1.{FoldsRight, SeparatedFoldr1Runs};
 ghost use Rattle.winnow_separated.specs.SeparatedFoldr1.{foldr1_closure, foldr1_parser};
 ghost use Rattle.winnow_separated.specs.SeparatedFoldr1.{foldr1_separator};
-ghost use Rattle.winnow_separated.specs.SeparatedFoldr1.Laws.{foldr1_ends};
+ghost use Rattle.winnow_separated.specs.SeparatedFoldr1.Laws.{foldr1_ends, foldr1_grows};
 ghost use Rattle.winnow_core.specs.Agrees.Beside.{agrees2_with};
 
 use std::alloc::Allocator;
@@ -13,6 +14,7 @@ use stream_errors::parser_error::ParserError;
 use streams::stream::Stream;
 use winnow_core::agrees_with::AgreesWith;
 use winnow_core::parser::Parser;
+use winnow_core::stable::Stable;
 use winnow_repeat::combinator::items::repeat_many;
 
 /// The parser that [`separated_foldr1`](crate::combinator::separated_foldr1) makes.
@@ -78,6 +80,23 @@ impl<
         let links: Vec<(D, O), A> = repeat_many(self.alloc, 0, None, &mut self.pair, input)?;
         Ok(join_right(first, links, &mut self.op))
     }
+}
+
+impl<
+    P: Stable<I, O, E>,
+    S: Stable<I, D, E>,
+    H: FnMut(O, D, O) -> O,
+    I: Stream,
+    O: Drop,
+    D: Drop,
+    E: ParserError<I>,
+    A: Allocator + Copy,
+> Stable<I, O, E> for SeparatedFoldr1<P, S, H, I, O, D, E, A> {
+    ghost stable = { stays
+        (foldr1_grows A H.step (P.meaning modal) (S.meaning modal) (assert_kind modal)
+        (grows (P.leaves_ends modal) P.stable) (grows (S.leaves_ends modal) S.stable)) };
+
+    fn stay() {}
 }
 
 impl<

@@ -2,8 +2,9 @@
 ghost use Rattle.std.specs.Prelude.{⊤};
 ghost use Rattle.winnow_core.specs.Agrees.{agrees_plain};
 ghost use Rattle.winnow_core.specs.Runs.{Keeps};
+ghost use Rattle.winnow_core.specs.Stable.Grows.{leaf_stays};
 ghost use Rattle.winnow_token.specs.Any.{AnyRuns};
-ghost use Rattle.winnow_token.specs.Any.Laws.{any_alike, any_ends};
+ghost use Rattle.winnow_token.specs.Any.Laws.{any_alike, any_ends, any_stays};
 
 use crate::token::any;
 use stream_errors::parser_error::ParserError;
@@ -11,6 +12,7 @@ use streams::reads_like::ReadsLike;
 use streams::stream::{Stream, StreamIsPartial};
 use winnow_core::agrees_with::AgreesWith;
 use winnow_core::parser::Parser;
+use winnow_core::stable::Stable;
 
 /// The parser [`any`](crate::token::any).
 ///
@@ -35,6 +37,10 @@ impl<I: StreamIsPartial, E: ParserError<I>> Parser<I, I::Token, E> for Any {
     fn parse_next(&mut self, input: &mut I) -> Result<I::Token, E> {
         any(input)
     }
+}
+
+impl<I: StreamIsPartial, E: ParserError<I>> Stable<I, I::Token, E> for Any {
+    ghost stable = { leaf_stays I.following _ (λ _. any_stays I.seen_as I.reading) };
 }
 
 impl<

@@ -2,8 +2,9 @@
 ghost use Rattle.std.specs.Prelude.{◌≡◌};
 ghost use Rattle.winnow_core.specs.Agrees.{agrees_by};
 ghost use Rattle.winnow_core.specs.Literal.{LiteralRuns};
-ghost use Rattle.winnow_core.specs.Literal.Laws.{literal_alike, literal_ends};
+ghost use Rattle.winnow_core.specs.Literal.Laws.{literal_alike, literal_ends, literal_stays};
 ghost use Rattle.winnow_core.specs.Runs.{Keeps};
+ghost use Rattle.winnow_core.specs.Stable.Grows.{leaf_stays};
 
 use std::marker::PhantomData;
 use stream_errors::parser_error::ParserError;
@@ -13,6 +14,7 @@ use streams::stream::{Stream, StreamIsPartial};
 use winnow_core::agrees_with::AgreesWith;
 use winnow_core::literal::take_literal;
 use winnow_core::parser::Parser;
+use winnow_core::stable::Stable;
 
 /// The parser that [`literal`](crate::token::literal) makes.
 ///
@@ -43,6 +45,12 @@ impl<T: Copy, I: StreamIsPartial + Compare<T>, E: ParserError<I>> Parser<I, I::S
     fn parse_next(&mut self, input: &mut I) -> Result<I::Slice, E> {
         take_literal(input, self.literal)
     }
+}
+
+impl<T: Copy, I: StreamIsPartial + Compare<T>, E: ParserError<I>> Stable<I, I::Slice, E>
+    for Literal<T, I, E> {
+    ghost stable = { leaf_stays I.following _
+        (λ x. literal_stays I.reading (I.spells x) (λ slice. slice)) };
 }
 
 impl<

@@ -2,8 +2,9 @@
 ghost use Rattle.std.specs.Prelude.{◌≡◌};
 ghost use Rattle.winnow_core.specs.Agrees.{agrees_by};
 ghost use Rattle.winnow_core.specs.Runs.{Keeps};
+ghost use Rattle.winnow_core.specs.Stable.Grows.{leaf_stays};
 ghost use Rattle.winnow_token.specs.OneOf.{OneOfRuns};
-ghost use Rattle.winnow_token.specs.OneOf.Laws.{one_of_alike, one_of_ends};
+ghost use Rattle.winnow_token.specs.OneOf.Laws.{one_of_alike, one_of_ends, one_of_stays};
 
 use crate::token::one::take_member;
 use std::marker::PhantomData;
@@ -13,6 +14,7 @@ use streams::reads_like::ReadsLike;
 use streams::stream::{Stream, StreamIsPartial};
 use winnow_core::agrees_with::AgreesWith;
 use winnow_core::parser::Parser;
+use winnow_core::stable::Stable;
 
 /// The parser that [`one_of`](crate::token::one_of) makes.
 ///
@@ -47,6 +49,14 @@ where
     fn parse_next(&mut self, input: &mut I) -> Result<I::Token, E> {
         take_member(input, &self.set)
     }
+}
+
+impl<S: ContainsToken<I::Token>, I: StreamIsPartial, E: ParserError<I>> Stable<I, I::Token, E>
+    for OneOf<S, I, E>
+where
+    I::Token: Copy,
+{
+    ghost stable = { leaf_stays I.following _ (λ x. one_of_stays I.seen_as I.reading (S.tells x)) };
 }
 
 impl<

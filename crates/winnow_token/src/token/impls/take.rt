@@ -2,8 +2,9 @@
 ghost use Rattle.std.specs.Prelude.{◌≡◌, ℕ};
 ghost use Rattle.winnow_core.specs.Agrees.{agrees_by};
 ghost use Rattle.winnow_core.specs.Runs.{Keeps};
+ghost use Rattle.winnow_core.specs.Stable.Grows.{leaf_stays};
 ghost use Rattle.winnow_token.specs.Take.{TakeRuns};
-ghost use Rattle.winnow_token.specs.Take.Laws.{take_alike, take_ends};
+ghost use Rattle.winnow_token.specs.Take.Laws.{take_alike, take_ends, take_stays};
 
 use std::marker::PhantomData;
 use stream_errors::parser_error::ParserError;
@@ -12,6 +13,7 @@ use streams::stream::{Stream, StreamIsPartial};
 use winnow_core::agrees_with::AgreesWith;
 use winnow_core::parser::Parser;
 use winnow_core::short::short;
+use winnow_core::stable::Stable;
 
 /// The parser that [`take`](crate::token::take) makes.
 ///
@@ -43,6 +45,10 @@ impl<I: StreamIsPartial, E: ParserError<I>> Parser<I, I::Slice, E> for Take<I, E
             Err(needed) => Err(short(input, needed)),
         }
     }
+}
+
+impl<I: StreamIsPartial, E: ParserError<I>> Stable<I, I::Slice, E> for Take<I, E> {
+    ghost stable = { leaf_stays I.following _ (take_stays I.reading I.counts_missing) };
 }
 
 impl<

@@ -5,8 +5,10 @@ ghost use Rattle.stream_sets.specs.declared.range.Range.{Range};
 ghost use Rattle.streams.specs.Stream.{AnswersSeen};
 ghost use Rattle.winnow_core.specs.Agrees.{agrees_by_parts};
 ghost use Rattle.winnow_core.specs.Runs.{Keeps};
+ghost use Rattle.winnow_core.specs.Stable.Grows.{leaf_stays};
 ghost use Rattle.winnow_token.specs.TakeWhile.{TakeWhileRuns};
 ghost use Rattle.winnow_token.specs.TakeWhile.Laws.{take_while_alike, take_while_ends};
+ghost use Rattle.winnow_token.specs.TakeWhile.Laws.{take_while_stays};
 
 use crate::token::members::{Others, take_members};
 use std::marker::PhantomData;
@@ -17,6 +19,7 @@ use streams::reads_like::ReadsLike;
 use streams::stream::{Stream, StreamIsPartial};
 use winnow_core::agrees_with::AgreesWith;
 use winnow_core::parser::Parser;
+use winnow_core::stable::Stable;
 
 /// The parser that [`take_till`](crate::token::take_till) makes.
 ///
@@ -51,6 +54,13 @@ impl<S: ContainsToken<I::Token>, I: StreamIsPartial, E: ParserError<I>> Parser<I
     fn parse_next(&mut self, input: &mut I) -> Result<I::Slice, E> {
         take_members(input, self.occurrences, &Others(&self.set))
     }
+}
+
+impl<S: ContainsToken<I::Token>, I: StreamIsPartial, E: ParserError<I>> Stable<I, I::Slice, E>
+    for TakeTill<S, I, E> {
+    ghost stable = { leaf_stays I.following _
+        (λ x. take_while_stays I.reading
+        (AnswersSeen I.seen_as (λ k b. S.tells x.1 k (not b))) (bounds_of x.0)) };
 }
 
 impl<

@@ -4,8 +4,10 @@ ghost use Rattle.stream_sets.specs.Range.{bounds_of};
 ghost use Rattle.stream_sets.specs.declared.range.Range.{Range};
 ghost use Rattle.winnow_core.specs.Agrees.{agrees_by_parts};
 ghost use Rattle.winnow_core.specs.Runs.{Keeps};
+ghost use Rattle.winnow_core.specs.Stable.Grows.{leaf_stays};
 ghost use Rattle.winnow_token.specs.TakeUntil.{TakeUntilRuns};
 ghost use Rattle.winnow_token.specs.TakeUntil.Laws.{take_until_alike, take_until_ends};
+ghost use Rattle.winnow_token.specs.TakeUntil.Laws.{take_until_stays};
 
 use crate::token::until::take_before;
 use std::marker::PhantomData;
@@ -16,6 +18,7 @@ use stream_sets::range::Range;
 use streams::stream::{Stream, StreamIsPartial};
 use winnow_core::agrees_with::AgreesWith;
 use winnow_core::parser::Parser;
+use winnow_core::stable::Stable;
 
 /// The parser that [`take_until`](crate::token::take_until) makes.
 ///
@@ -48,6 +51,13 @@ impl<T: Copy, I: StreamIsPartial + FindSlice<T>, E: ParserError<I>> Parser<I, I:
     fn parse_next(&mut self, input: &mut I) -> Result<I::Slice, E> {
         take_before(input, self.occurrences, self.literal)
     }
+}
+
+impl<T: Copy, I: StreamIsPartial + FindSlice<T>, E: ParserError<I>> Stable<I, I::Slice, E>
+    for TakeUntil<T, I, E> {
+    ghost stable = { leaf_stays I.following _
+        (λ x. take_until_stays I.reading (I.sought x.1) (I.stays_first x.1)
+        (bounds_of x.0)) };
 }
 
 impl<

@@ -1,19 +1,21 @@
 //! Arrays and slices as branches.
 ghost use Rattle.std.specs.List.{All};
 ghost use Rattle.std.specs.Prelude.{◌≡◌, List, map, ℕ};
-ghost use Rattle.stream_errors.specs.Form.{answer_by, assert_kind};
+ghost use Rattle.stream_errors.specs.Form.{answer_by, assert_kind, modal};
 ghost use Rattle.streams.specs.Input.{IsEndOf};
 ghost use Rattle.winnow_comb.specs.Alt.Slice.{AltSliceRuns};
-ghost use Rattle.winnow_comb.specs.Alt.Slice.Laws.{alt_slice_ends, slice_agrees};
+ghost use Rattle.winnow_comb.specs.Alt.Slice.Laws.{alt_slice_ends, slice_agrees, alt_slice_grows};
 ghost use Rattle.winnow_core.specs.Agrees.{AllAlike, agrees_list};
 ghost use Rattle.winnow_core.specs.ByRef.{ByRefRuns};
-ghost use Rattle.winnow_core.specs.ByRef.Laws.{by_ref_ends};
+ghost use Rattle.winnow_core.specs.ByRef.Laws.{by_ref_ends, by_ref_grows};
+ghost use Rattle.winnow_core.specs.Stable.Grows.{grows, stays};
 
 use crate::combinator::impls::alt::{Alt, AltParser, attempt};
 use stream_errors::parser_error::ParserError;
 use streams::stream::Stream;
 use winnow_core::agrees_with::AgreesWith;
 use winnow_core::parser::Parser;
+use winnow_core::stable::Stable;
 
 impl<const N: usize, I: Stream, O, E: ParserError<I>, P: Parser<I, O, E>> Alt<I, O, E> for [P; N] {
     ghost can_choose = { All P.can_parse };
@@ -31,6 +33,22 @@ impl<const N: usize, I: Stream, O, E: ParserError<I>, P: Parser<I, O, E>> Alt<I,
     fn choice(&mut self, input: &mut I) -> Result<O, E> {
         choose(self, input)
     }
+}
+
+impl<const N: usize, P: Stable<I, O, E>, I: Stream, O, E: ParserError<I>> Stable<I, O, E>
+    for AltParser<[P; N], I, O, E> {
+    ghost stable = { stays
+        (alt_slice_grows (P.meaning modal) (assert_kind modal)
+        (grows (P.leaves_ends modal) P.stable)) };
+
+    fn stay() {}
+}
+
+impl<'a, P: Stable<I, O, E>, I: Stream, O, E: ParserError<I>> Stable<I, O, E>
+    for AltParser<&'a mut [P], I, O, E> {
+    ghost stable = { stays
+        (by_ref_grows (alt_slice_grows (P.meaning modal) (assert_kind modal)
+        (grows (P.leaves_ends modal) P.stable))) };
 }
 
 impl<

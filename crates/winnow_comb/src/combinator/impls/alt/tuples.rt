@@ -1,13 +1,16 @@
 //! Tuples as branches.
 //!
 //! Written by scripts/families.py: do not edit.
+ghost use Rattle.stream_errors.specs.Form.{modal};
 ghost use Rattle.winnow_comb.specs.Alt.{OrElse};
-ghost use Rattle.winnow_comb.specs.Alt.Laws.{or_else_ends};
+ghost use Rattle.winnow_comb.specs.Alt.Laws.{or_else_ends, or_else_grows};
+ghost use Rattle.winnow_core.specs.Stable.Grows.{grows, stays};
 
-use crate::combinator::impls::alt::{Alt, attempt};
+use crate::combinator::impls::alt::{Alt, AltParser, attempt};
 use stream_errors::parser_error::ParserError;
 use streams::stream::Stream;
 use winnow_core::parser::Parser;
+use winnow_core::stable::Stable;
 
 impl<I: Stream, O, E: ParserError<I>, P1: Parser<I, O, E>> Alt<I, O, E> for (P1,) {
     ghost can_choose = { λ s. P1.can_parse s.0 };
@@ -24,6 +27,11 @@ impl<I: Stream, O, E: ParserError<I>, P1: Parser<I, O, E>> Alt<I, O, E> for (P1,
     fn choice(&mut self, input: &mut I) -> Result<O, E> {
         self.0.parse_next(input)
     }
+}
+
+impl<I: Stream, O, E: ParserError<I>, P1: Stable<I, O, E>> Stable<I, O, E>
+    for AltParser<(P1,), I, O, E> {
+    ghost stable = { stays (grows (P1.leaves_ends modal) P1.stable) };
 }
 
 impl<I: Stream, O, E: ParserError<I>, P1: Parser<I, O, E>, P2: Parser<I, O, E>> Alt<I, O, E>
@@ -47,6 +55,13 @@ impl<I: Stream, O, E: ParserError<I>, P1: Parser<I, O, E>, P2: Parser<I, O, E>> 
         }
         self.1.parse_next(input)
     }
+}
+
+impl<I: Stream, O, E: ParserError<I>, P1: Stable<I, O, E>, P2: Stable<I, O, E>> Stable<I, O, E>
+    for AltParser<(P1, P2), I, O, E> {
+    ghost stable = { stays
+        (or_else_grows (grows (P1.leaves_ends modal) P1.stable)
+        (grows (P2.leaves_ends modal) P2.stable)) };
 }
 
 impl<
@@ -82,6 +97,20 @@ impl<
         }
         self.2.parse_next(input)
     }
+}
+
+impl<
+    I: Stream,
+    O,
+    E: ParserError<I>,
+    P1: Stable<I, O, E>,
+    P2: Stable<I, O, E>,
+    P3: Stable<I, O, E>,
+> Stable<I, O, E> for AltParser<(P1, P2, P3), I, O, E> {
+    ghost stable = { stays
+        (or_else_grows (grows (P1.leaves_ends modal) P1.stable)
+        (or_else_grows (grows (P2.leaves_ends modal) P2.stable)
+        (grows (P3.leaves_ends modal) P3.stable))) };
 }
 
 impl<
@@ -125,6 +154,22 @@ impl<
         }
         self.3.parse_next(input)
     }
+}
+
+impl<
+    I: Stream,
+    O,
+    E: ParserError<I>,
+    P1: Stable<I, O, E>,
+    P2: Stable<I, O, E>,
+    P3: Stable<I, O, E>,
+    P4: Stable<I, O, E>,
+> Stable<I, O, E> for AltParser<(P1, P2, P3, P4), I, O, E> {
+    ghost stable = { stays
+        (or_else_grows (grows (P1.leaves_ends modal) P1.stable)
+        (or_else_grows (grows (P2.leaves_ends modal) P2.stable)
+        (or_else_grows (grows (P3.leaves_ends modal) P3.stable)
+        (grows (P4.leaves_ends modal) P4.stable)))) };
 }
 
 impl<
@@ -178,6 +223,24 @@ impl<
         }
         self.4.parse_next(input)
     }
+}
+
+impl<
+    I: Stream,
+    O,
+    E: ParserError<I>,
+    P1: Stable<I, O, E>,
+    P2: Stable<I, O, E>,
+    P3: Stable<I, O, E>,
+    P4: Stable<I, O, E>,
+    P5: Stable<I, O, E>,
+> Stable<I, O, E> for AltParser<(P1, P2, P3, P4, P5), I, O, E> {
+    ghost stable = { stays
+        (or_else_grows (grows (P1.leaves_ends modal) P1.stable)
+        (or_else_grows (grows (P2.leaves_ends modal) P2.stable)
+        (or_else_grows (grows (P3.leaves_ends modal) P3.stable)
+        (or_else_grows (grows (P4.leaves_ends modal) P4.stable)
+        (grows (P5.leaves_ends modal) P5.stable))))) };
 }
 
 impl<
@@ -246,4 +309,24 @@ impl<
         }
         self.5.parse_next(input)
     }
+}
+
+impl<
+    I: Stream,
+    O,
+    E: ParserError<I>,
+    P1: Stable<I, O, E>,
+    P2: Stable<I, O, E>,
+    P3: Stable<I, O, E>,
+    P4: Stable<I, O, E>,
+    P5: Stable<I, O, E>,
+    P6: Stable<I, O, E>,
+> Stable<I, O, E> for AltParser<(P1, P2, P3, P4, P5, P6), I, O, E> {
+    ghost stable = { stays
+        (or_else_grows (grows (P1.leaves_ends modal) P1.stable)
+        (or_else_grows (grows (P2.leaves_ends modal) P2.stable)
+        (or_else_grows (grows (P3.leaves_ends modal) P3.stable)
+        (or_else_grows (grows (P4.leaves_ends modal) P4.stable)
+        (or_else_grows (grows (P5.leaves_ends modal) P5.stable)
+        (grows (P6.leaves_ends modal) P6.stable)))))) };
 }

@@ -1,0 +1,83 @@
+//! The trait of stable parsers.
+ghost use Rattle.std.specs.Prelude.{◌≡◌, true};
+ghost use Rattle.stream_errors.specs.Form.{answer_by, modal};
+ghost use Rattle.winnow_core.specs.MapErrKept.{map_err_kept_closure, map_err_kept_parser};
+ghost use Rattle.winnow_core.specs.Stable.{IsStable, SettlesOnCut};
+
+mod keeps_kinds;
+mod one_token;
+
+use crate::combinator::impls::MapErrKept;
+use crate::parser::Parser;
+pub use crate::stable::keeps_kinds::KeepsKinds;
+pub use crate::stable::one_token::ComparesOneToken;
+use stream_errors::parser_error::ParserError;
+use streams::stream::Stream;
+
+/// A parser that on a cut input asks for more, or answers what it answers on every longer input.
+///
+/// The longer input may be cut still, or complete; it gets the same output or kind of error, the
+/// same new state, and what was left with what was added. Want of memory is no such answer. What
+/// may be added is what the stream says may follow: any bytes, any valid text, or whole bytes of
+/// bits.
+///
+/// The law is about errors with a mode, as `ErrMode`, since only these tell a need of more input
+/// from a failure. A parser of a caller's own may implement the trait by proving the law.
+///
+/// ```
+/// let asks: Result<&str, ErrMode<EmptyError>> = Digit1.parse_next(&mut Partial::new("12"));
+/// assert_eq!(rt; asks, Err(ErrMode::Incomplete(Needed::new(1))));
+/// let answer: Result<&str, ErrMode<EmptyError>> = Digit1.parse_next(&mut Partial::new("12;"));
+/// assert_eq!(rt; answer, Ok("12"));
+/// ```
+pub trait Stable<I: Stream, O, E: ParserError<I>>: Parser<I, O, E> {
+    /// Does nothing: the prover states a bound on a closure only in a block that has a function.
+    #[inline(always)]
+    fn stay() {}
+
+    // Each run of a final answer on a cut input is one on each longer input.
+    ghost stable: { IsStable I.following (Self.meaning modal) };
+
+    /// As [`parse_next`](crate::parser::Parser::parse_next) on a cut input: it asks for more,
+    /// or wants memory, or every longer input gets this answer, this new state and this rest with
+    /// what was added. The caller owes errors with a mode, and a cut input.
+    ///
+    /// ```
+    /// let mut input = Partial::new("12;");
+    /// assert_eq!(rt; Digit1.parse_cut(&mut input), Ok::<_, ErrMode<EmptyError>>("12"));
+    /// assert_eq!(rt; *input.as_inner(), ";");
+    /// ```
+    #[inline(always)]
+    final fn parse_cut(&mut self, input: &mut I) -> Result<O, E>
+        requires callable { Self.can_parse self.old }
+        requires modal { E.form ≡ modal }
+        requires is_cut { (I.view input.old).status.cut ≡ true }
+        ensures again { Self.can_parse self.new }
+        ensures ran { Self.meaning E.form (Self.state self.old) (I.view input.old)
+            (answer_by E.kind result) (Self.state self.new) (I.view input.new) }
+        ensures settles { SettlesOnCut I.following (Self.meaning E.form) (Self.state self.old)
+            (I.view input.old) (answer_by E.kind result) (Self.state self.new)
+            (I.view input.new) }
+    {
+        self.parse_next(input)
+    }
+
+    /// The output; an error becomes what `map` makes of it, and the input stays where it arose.
+    /// Whoever runs the parser owes that `map` keeps the kind of each error, and that both types
+    /// of errors have a mode or none.
+    ///
+    /// ```
+    /// let mut digits = Digit1.map_err_kept(|error: ErrMode<EmptyError>| error);
+    /// let mut input = Partial::new("12;");
+    /// assert_eq!(rt; digits.parse_next(&mut input), Ok::<_, ErrMode<EmptyError>>("12"));
+    /// ```
+    #[inline(always)]
+    final fn map_err_kept<G, E2>(self, map: G) -> MapErrKept<Self, G, I, O, E, E2>
+    where
+        G: FnMut(E) -> E2,
+        ensures parser { map_err_kept_parser result ≡ self }
+        ensures map { map_err_kept_closure result ≡ map }
+    {
+        MapErrKept::new(self, map)
+    }
+}

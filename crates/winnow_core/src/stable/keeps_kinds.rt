@@ -1,0 +1,31 @@
+//! Types of errors to which errors are converted so that they keep their kinds.
+ghost use Rattle.std.proofs.Common.{ap, refl};
+ghost use Rattle.std.specs.Prelude.{◌≡◌};
+ghost use Rattle.stream_errors.specs.Form.{modal};
+ghost use Rattle.stream_errors.specs.Mode.{mode_kind};
+
+use stream_errors::has_kind::HasKind;
+use stream_errors::mode::ErrMode;
+
+/// A type of errors to which errors with a mode are converted so that they keep their kinds.
+///
+/// Over it [`ErrInto`](crate::combinator::impls::ErrInto) is stable. Errors with a mode keep
+/// their kinds where they are converted to their own type.
+///
+/// ```text
+/// impl From<ErrMode<EmptyError>> for MyError { .. }          makes of each kind an error of it
+/// impl KeepsKinds<ErrMode<EmptyError>> for MyError { .. }    proves so
+/// ```
+pub trait KeepsKinds<E: HasKind>: HasKind + From<E> {
+    // The errors that are converted have a mode.
+    ghost from_modal: { E.form ≡ modal };
+
+    // The kind of an error is kept.
+    ghost keeps: { (old : E) (new : Self) → Self.from_gives old new → Self.kind new ≡ E.kind old };
+}
+
+impl<E: HasKind> KeepsKinds<ErrMode<E>> for ErrMode<E> {
+    ghost from_modal = { refl };
+
+    ghost keeps = { λ old new is. ap (λ e. mode_kind E.kind e) is };
+}

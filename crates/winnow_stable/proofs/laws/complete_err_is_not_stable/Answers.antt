@@ -1,6 +1,0 @@
-use Rattle.winnow_stable.specs.Stable.Unstable.{complete_err_unstable}
-use Rattle.winnow_stable.proofs.laws.complete_err_is_not_stable.Goals as goal
-
-pub returns : goal.returns
-returns g c = λ x follows stable. complete_err_unstable g.I.Stream.seen_as g.I.Stream.reading
-    g.I.Stream.following x follows stable

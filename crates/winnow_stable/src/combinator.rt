@@ -1,2 +1,0 @@
-//! An adapter of stable parsers.
-pub mod impls;
