@@ -13,23 +13,23 @@ use test_support::rows::Modal;
 use test_support::texts::OfText;
 use winnow_ascii::ascii::impls::{Alpha1, Digit1, LineEnding, TillLineEnding};
 use winnow_ascii::stable::LineEnds;
-use winnow_comb::combinator::{
-    alt, cond, cut_err, delimited, not, opt, peek, preceded, separated_pair, terminated,
-};
 use winnow_comb::combinator::impls::{
     Cond, CutErr, Delimited, Not, Opt, Peek, Preceded, SeparatedPair, Terminated,
+};
+use winnow_comb::combinator::{
+    alt, cond, cut_err, delimited, not, opt, peek, preceded, separated_pair, terminated,
 };
 use winnow_core::combinator::impls::{
     AndThen, Map, ParseTo, Take, Value, Verify, VerifyMap, Void, WithTaken,
 };
 use winnow_core::parser::Parser;
 use winnow_numbers::ascii::impls::{DecInt, DecUint, HexUintParser};
-use winnow_repeat::combinator::{repeat, repeat_till};
 use winnow_repeat::combinator::impls::{Repeat, RepeatTill};
-use winnow_separated::combinator::{separated, separated_foldl1, separated_foldr1};
+use winnow_repeat::combinator::{repeat, repeat_till};
 use winnow_separated::combinator::impls::{Separated, SeparatedFoldl1, SeparatedFoldr1};
-use winnow_token::token::{literal, take, take_till, take_until, take_while};
+use winnow_separated::combinator::{separated, separated_foldl1, separated_foldr1};
 use winnow_token::token::impls::Any;
+use winnow_token::token::{literal, take, take_till, take_until, take_while};
 
 /// Leaves.
 fn leaves<I>(rt: &impl Abort)

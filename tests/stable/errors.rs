@@ -10,8 +10,7 @@ use test_support::rows::{Modal, answers_on_cut};
 use winnow_ascii::ascii::impls::Digit1;
 use winnow_comb::combinator::cut_err;
 use winnow_comb::combinator::impls::CutErr;
-use winnow_core::combinator::impls::ErrInto;
-use winnow_core::combinator::impls::MapErrKept;
+use winnow_core::combinator::impls::{ErrInto, MapErrKept};
 use winnow_core::parser::Parser;
 use winnow_core::stable::Stable;
 

@@ -12,8 +12,8 @@ use winnow_core::stable::Stable;
 use winnow_escapes::ascii;
 use winnow_escapes::ascii::impls::{Escaped, TakeEscaped};
 use winnow_escapes::stable::SettledControl;
-use winnow_token::token::{none_of, one_of};
 use winnow_token::token::impls::{Any, NoneOf, OneOf};
+use winnow_token::token::{none_of, one_of};
 
 /// Letters and escapes up to a semicolon, which the first nine beginnings do not have.
 const ESCAPED: &str = "ab\\ncd\\\\;e\\x";

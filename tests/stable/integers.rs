@@ -6,12 +6,12 @@ use std::fmt::Debug;
 use std::process::Abort;
 use test_support::rows::Modal;
 use winnow_binary::binary as chosen;
+use winnow_core::stable::Stable;
 use winnow_integers::binary::Endianness::{Big, Little, Native};
 use winnow_integers::binary::impls::{
     BeI128, BeI16, BeI24, BeI32, BeI64, BeI8, BeU128, BeU16, BeU24, BeU32, BeU64, BeU8, I8, LeI128,
     LeI16, LeI24, LeI32, LeI64, LeI8, LeU128, LeU16, LeU24, LeU32, LeU64, LeU8, U8,
 };
-use winnow_core::stable::Stable;
 
 /// 1 to 18.
 const UP: &[u8] = b"\x01\x02\x03\x04\x05\x06\x07\x08\x09\x0A\x0B\x0C\x0D\x0E\x0F\x10\x11\x12";

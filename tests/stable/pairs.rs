@@ -12,10 +12,10 @@ use test_support::texts::whole;
 use winnow_ascii::ascii::impls::Digit1;
 use winnow_comb::combinator::impls::{AltParser, Not, Opt};
 use winnow_comb::combinator::{alt, not, opt};
+use winnow_core::stable::Stable;
 use winnow_numbers::ascii::impls::HexUintParser;
 use winnow_separated::combinator::impls::Separated;
 use winnow_separated::combinator::separated;
-use winnow_core::stable::Stable;
 use winnow_token::token::impls::TakeWhile;
 use winnow_token::token::take_while;
 

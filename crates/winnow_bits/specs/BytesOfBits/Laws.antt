@@ -17,7 +17,6 @@ use Rattle.stream_bits.specs.BitReading.{advance_bits, bits_reading, byte_step, 
 use Rattle.stream_bits.specs.Moves.{Moves, bytes_move, moves_pass, passed_bits, passed_length}
 use Rattle.stream_bits.specs.Moves.{still_readable}
 use Rattle.streams.specs.Following.{most_bytes, Following, Follows}
-use Rattle.streams.specs.Kind.{cut}
 use Rattle.winnow_core.specs.Ends.{same_ends}
 use Rattle.winnow_core.specs.Runs.{LeaveEnds, Runs}
 use Rattle.winnow_bits.specs.BytesOfBits.{BytesOfBitsRuns, WholeBytesOf}

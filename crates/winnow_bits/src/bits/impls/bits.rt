@@ -8,7 +8,6 @@ ghost use Rattle.winnow_bits.specs.BitsOfBytes.Laws.{bits_of_bytes_ends, bits_of
 use crate::bits::whole::{in_bytes, whole_bytes};
 use std::marker::PhantomData;
 pub use stream_bits::bits::Bits;
-use stream_bits::bits::Bits;
 pub use stream_bits::offsets::BitOffsets;
 use stream_errors::convert::ErrorConvert;
 use stream_errors::parser_error::ParserError;
