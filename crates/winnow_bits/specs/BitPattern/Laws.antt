@@ -47,4 +47,5 @@ module _ {L : Type 0} (reading : Reading Bool L) where
   bit_pattern_stays number width wanted n more flag i answer j is_cut final
       (inr (inr (k, failed, e))) =
       let fin = final_by (Err k) e final in
-      inr (inr (k, bit_take_stays reading number width n more flag i (Err k) j is_cut fin failed, e))
+      let q = bit_take_stays reading number width n more flag i (Err k) j is_cut fin failed in
+      inr (inr (k, q, e))

@@ -44,7 +44,15 @@ module _ {K T L : Type 0} (seen : K → T) (code : K → ℕ) (reading : Reading
       → Stays (DecIntRuns number fits seen code reading modal)
   dec_int_stays number fits more flag i answer j is_cut final
       (inl (sign, digits, n, runs, fit, is, e)) =
-      inl (sign, digits, n, numeral_more seen code reading true more flag i sign digits j is_cut runs, fit, is, e)
+      inl (
+        sign,
+        digits,
+        n,
+        numeral_more seen code reading true more flag i sign digits j is_cut runs,
+        fit,
+        is,
+        e,
+      )
   dec_int_stays number fits more flag i answer j is_cut final
       (inr (inl (sign, digits, a, runs, large, e, same))) =
       inr (inl (

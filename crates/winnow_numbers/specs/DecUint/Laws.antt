@@ -43,7 +43,14 @@ module _ {K T L : Type 0} (seen : K → T) (code : K → ℕ) (reading : Reading
       → Stays (DecUintRuns number bound seen code reading modal)
   dec_uint_stays number bound more flag i answer j is_cut final
       (inl (digits, n, runs, fits, is, e)) =
-      inl (digits, n, numeral_more seen code reading false more flag i [] digits j is_cut runs, fits, is, e)
+      inl (
+        digits,
+        n,
+        numeral_more seen code reading false more flag i [] digits j is_cut runs,
+        fits,
+        is,
+        e,
+      )
   dec_uint_stays number bound more flag i answer j is_cut final
       (inr (inl (digits, a, runs, large, e, same))) =
       inr (inl (
