@@ -105,10 +105,9 @@ class Edit:
         texts = self.applied({}, folder)
         for path, old, new in self.pairs if texts else []:
             whole = (folder / path).read_text(encoding="utf-8")
-            spot = whole.find(old) + len(old) - len(old.lstrip())
-            line = whole[:spot].count("\n")
-            in_source = path.startswith("src/") and spot >= 0
-            self.functions.append(function_at(path, whole, line) if in_source else None)
+            is_there = path.startswith("src/") and old in whole
+            line = whole[: whole.find(old)].count("\n")
+            self.functions.append(function_at(path, whole, line) if is_there else None)
         return bool(texts) and bool(self.pairs)
 
     def take_names(self, names):
