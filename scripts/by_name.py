@@ -6,12 +6,13 @@ Run it at the top of the repository:
     python3 scripts/by_name.py
 
 A public parser is a struct in a file of its own under `src/*/impls/` of a library crate, which
-`impls.rt` beside that folder re-exports, and its name is that of the file. It has a row in `docs/PARSERS.md`, which links its definition, a file of
-`specs/`; a test, a function of `tests/` whose name begins with the parser's, or a row that is
-labelled with it; and an edit that the prover must refuse, `must-fail/NAME_*.edit` or
-`edits/NAME_*.edit`, of its crate or of one that it stands on, where no longer parser's name begins
-the edit's. And `uses` or `readers` names it, as they name each adapter of `Parser` and each call of
-a stream, so that the prover has seen each at a concrete type. It fails where one lacks any of these.
+`impls.rt` beside that folder re-exports, and its name is that of the file. It has a row in
+`docs/PARSERS.md`, which links its definition, a file of `specs/`; a test, a function of `tests/`
+whose name begins with the parser's, or a row that is labelled with it; and an edit that the prover
+must refuse, `must-fail/NAME_*.edit` or `edits/NAME_*.edit`, of its crate or of one that it stands
+on, where no longer parser's name begins the edit's. And a test calls its function or runs its
+struct, as one calls each adapter of `Parser` and each call of a stream, so that each is seen to
+type-check at a concrete type. It fails where one lacks any of these.
 """
 import pathlib
 import re
@@ -76,23 +77,22 @@ def calls():
             yield crate, name
 
 
-# The crates that use the library.
-CALLERS = ("uses", "uses_booleans", "uses_strings", "uses_settings", "readers", "readers_calc")
-
-
-def words_of_callers():
-    """The words of the crates that use the library."""
-    paths = [it for crate in CALLERS for it in (CRATES / crate / "src").rglob("*.rt")]
-    return {word for it in paths for word in re.findall(r"\w+", it.read_text(encoding="utf-8"))}
+def code_of_tests():
+    """The code of the tests, without comments, texts and imports."""
+    texts = [path.read_text(encoding="utf-8") for path in (TOP / "tests").glob("**/*.rs")]
+    code = re.sub(r'"(?:[^"\\\n]|\\.)*"|//.*', "", "\n".join(texts))
+    return re.sub(r"^\s*(?:pub )?use [^;]*;", "", code, flags=re.MULTILINE)
 
 
 def uncalled():
-    """What no caller here names, neither the function nor its struct."""
-    words = words_of_callers()
+    """What no test calls, neither the function nor its struct."""
+    code = code_of_tests()
+    called = {*re.findall(r"(?<!fn )\b(\w+)(?:::<[^;(]*>)?\(", code)}
+    called |= {*re.findall(r"\b[A-Z]\w*", code)}
     for crate, name in [*parsers(), *calls()]:
         camel = "".join(part.capitalize() for part in name.split("_"))
-        if name not in words and camel not in words:
-            yield crate, name, "a caller in uses or readers"
+        if not called & {name, camel, f"{camel}Parser"}:
+            yield crate, name, "a call in tests/"
 
 
 def lacks(crate, name, table, names, edited, on):

@@ -27,7 +27,7 @@ NEXT = """Now change, in this order:
   {laws}: that its runs leave an end, stay on longer inputs, and mean the same over streams that
     are read alike
   {known}: what a caller knows of a run that answered
-and write: a test `{name}` in tests/, a line of CHANGELOG.md, and an edit
+and write: a test `{name}` in tests/, a note changes/{name}.md, and an edit
   {edits}{name}_ANSWERS_WRONG.edit, a line of the code and a wrong one in its place.
 `./x quick` says what is missing."""
 

@@ -1,8 +1,10 @@
-//! Tests of the small readers.
+//! Tests of the small readers, and of functions that are parsers as users call them.
 #![tactic(auto)]
 
 #[cfg(test)]
 mod choices;
+#[cfg(test)]
+mod functions;
 #[cfg(test)]
 mod readers;
 #[cfg(test)]

@@ -1,0 +1,276 @@
+"""Tries edits of one crate, many in one check, and says of each whether the prover refuses it.
+
+`Trial` checks the functions that the edits change as they stand, and then puts edits of different
+functions into one check, over a copy of what the first one proved. An edit is refused where the
+prover does not prove a goal of a function that it changes. That a function waits for another one,
+or that its proof names what the edit took away, says nothing. What a group does not settle is
+tried alone, and so is an edit outside the bodies of functions, over a check of the whole crate.
+"""
+import os
+import re
+import shutil
+import subprocess
+import tempfile
+import time
+
+# How many edits stand in one check.
+SIZE = 12
+FUNCTION = re.compile(r"( *)(?:pub(?:\([^)]*\))? |const |final |unsafe |extern \"C\" )*fn (\w+)")
+# An error in a proof that only misses a name, and with it what cites that proof.
+NAMES = re.compile(r"has no field|is not in scope|has no `|was not admitted")
+# An error that the front end found: the text is no Rattle.
+BAD_TEXT = re.compile(r"\berror\[[\w-]+\]", re.MULTILINE)
+BAD_CLAUSE = re.compile(r"is not in scope|has no field|is no name|expected the end|cannot cont")
+# A line that says what is not proved, or not read, and where.
+ERROR = re.compile(r"(\./)?(src|specs|proofs)/\S+: error|note: src/\S+: it is not proved")
+
+
+class Function:
+    """A function as the source has it: its module, its name, and the words of its impl's head."""
+
+    def __init__(self, path, lines, at):
+        parts = os.path.splitext(path)[0].split("/")[1:]
+        self.modules = parts[:-1] if parts[-1] in ("lib", "main") else parts
+        indent, self.name = FUNCTION.match(lines[at]).groups()
+        self.head = head_above(lines, at) if indent else []
+
+    def among(self, names):
+        """Those of the prover's names of functions that can be this one's."""
+        depth = 1 + len(self.modules)
+        found = [
+            name
+            for name in names
+            if name.split("::")[1:depth] == self.modules
+            and name.split("::")[-1] == self.name
+            and len(name.split("::")) <= depth + 2
+        ]
+        near = [it for it in found if all(word in it.split("::")[depth] for word in self.head)]
+        # (a type such as `&str` has another name there, so that none may be near)
+        return near or found
+
+
+def head_above(lines, at):
+    """The trait and the type that the impl or the trait above a line names."""
+    begins = [it for it in range(at) if re.match(r"(pub )?(impl|trait)\b", lines[it])]
+    text = " ".join(lines[begins[-1] if begins else at : at]).partition("{")[0].replace("->", "")
+    while re.search(r"<[^<>]*>", text):
+        text = re.sub(r"<[^<>]*>", " ", text)
+    return re.findall(r"\b[A-Z]\w*", re.split(r"\bwhere\b|:", text)[0])
+
+
+def function_at(path, text, at):
+    """The function in whose body, or on whose first line, a line stands; None outside of all."""
+    lines = text.split("\n")
+    indent, closed = len(lines[at]) - len(lines[at].lstrip()), set()
+    for number in range(at, -1, -1):
+        found = FUNCTION.match(lines[number])
+        if found and (number == at or len(found[1]) < indent):
+            return None if len(found[1]) in closed else Function(path, lines, number)
+        if number < at and lines[number].lstrip().startswith("}"):
+            closed.add(len(lines[number]) - len(lines[number].lstrip()))
+    return None
+
+
+class Edit:
+    """An edit of a crate: the pairs of lines that it changes."""
+
+    def __init__(self, file):
+        self.name, self.pairs, path, old = file.stem, [], "", None
+        for line in file.read_text(encoding="utf-8").split("\n"):
+            if line.startswith("file: "):
+                path = line[len("file: ") :].strip()
+            elif line.startswith("old: "):
+                old = line[len("old: ") :]
+            elif line.startswith("new:") and path and old:
+                self.pairs.append((path, old, line[len("new:") :].removeprefix(" ")))
+                old = None
+        # What it changes: functions, None for what is none, and their names for the prover.
+        self.functions, self.names = [], []
+
+    def applied(self, texts, folder):
+        """The texts with this edit, by their paths, or None where a line does not stand once."""
+        texts = dict(texts)
+        for path, old, new in self.pairs:
+            if path not in texts:
+                if not (folder / path).is_file():
+                    return None
+                texts[path] = (folder / path).read_text(encoding="utf-8")
+            if texts[path].count(old) != 1:
+                return None
+            texts[path] = texts[path].replace(old, new)
+        return texts
+
+    def find(self, folder):
+        """Finds what it changes in the texts as they stand, and says whether it can be applied."""
+        texts = self.applied({}, folder)
+        for path, old, new in self.pairs if texts else []:
+            whole = (folder / path).read_text(encoding="utf-8")
+            is_there = path.startswith("src/") and old in whole
+            line = whole[: whole.find(old)].count("\n")
+            self.functions.append(function_at(path, whole, line) if is_there else None)
+        return bool(texts) and bool(self.pairs)
+
+    def take_names(self, names):
+        """Takes the names of its functions out of those that the prover told; none where one of
+        its places is in no function, or has no name."""
+        found = [it.among(names) if it else [] for it in self.functions]
+        self.names = sorted({name for each in found for name in each}) if all(found) else []
+        self.is_clear = bool(found) and all(len(each) == 1 for each in found)
+
+
+def own_refusal(said, name):
+    """What the prover says against a goal of a function's own, or None."""
+    at = re.escape("./proofs/" + "/".join(name.split("::")[1:]) + "/")
+    for line in said:
+        if re.match(rf"{at}\S*: error", line) and not NAMES.search(line):
+            return line.split(": error: ", 1)[-1]
+        if re.match(rf"fn {re.escape(name)}(::\S+)?: .*did not prove", line):
+            return re.search(r"`search` did not prove.*", line)[0]
+    return None
+
+
+class Trial:
+    """The edits of one crate, tried over what was proved of it. `laid` is the crate as the kit
+    knows it, over proved libraries; `say` prints a line about an edit."""
+
+    def __init__(self, lib, laid, folder, edits, say):
+        self.lib, self.laid, self.folder, self.edits, self.say = lib, laid, folder, edits, say
+        self.missed = []
+
+    def checked(self, texts, only, over):
+        """Checks the crate with these texts in place of its own: the status and the lines said."""
+        with tempfile.TemporaryDirectory(prefix="edit-") as room:
+            for part in ("src", "specs", "proofs"):
+                if (self.folder / part).is_dir():
+                    shutil.copytree(self.folder / part, f"{room}/{part}")
+            for path, text in texts.items():
+                with open(f"{room}/{path}", "w", encoding="utf-8") as file:
+                    file.write(text)
+            words = [word for it in only for word in ("--only", it)]
+            words = self.laid.words(["--jobs", "1", *words], keeps=False)
+            ran = subprocess.run(
+                [*self.lib.guarded(), self.lib.RATTLE, "check", *words, "--incremental", over],
+                cwd=room, stdin=subprocess.DEVNULL, stdout=subprocess.PIPE,
+                stderr=subprocess.STDOUT, text=True, errors="replace", check=False,
+            )
+        return ran.returncode, ran.stdout.rstrip("\n").split("\n")
+
+    def over_seed(self, texts, only):
+        """A check over a copy of what was proved of the crate as it stands."""
+        with tempfile.TemporaryDirectory(prefix="over-") as over:
+            link_all(self.seed, over)
+            return self.checked(texts, only, over)
+
+    def run(self, start):
+        """Tries all edits; `start` is a folder of work that an earlier check kept, or None. Returns
+        the names of those that were not refused."""
+        ready = []
+        for edit in self.edits:
+            if edit.find(self.folder):
+                ready.append(edit)
+            else:
+                self.miss(edit, "it cannot be applied")
+        with tempfile.TemporaryDirectory(prefix="seed-") as self.seed:
+            if start:
+                link_all(start, self.seed)
+            modules = {"::".join(it.modules) for edit in ready for it in edit.functions if it}
+            self.is_whole = not modules or "" in modules
+            status, said = self.checked({}, [] if self.is_whole else sorted(modules), self.seed)
+            if status:
+                print(*said[-20:], sep="\n")
+                for edit in ready:
+                    self.miss(edit, "the crate is not proved as it stands")
+                return self.missed
+            names = [line.split(": ")[0][len("fn ") :] for line in said if line.startswith("fn ")]
+            for edit in ready:
+                edit.take_names(names)
+            self.in_groups(ready)
+        return self.missed
+
+    def miss(self, edit, why):
+        self.missed.append(edit.name)
+        self.say(edit, f"NOT REFUSED: {why}")
+
+    def in_groups(self, edits):
+        """Tries edits in groups, and alone what no group settles."""
+        waiting = [it for it in edits if it.is_clear]
+        alone = [it for it in edits if not it.is_clear]
+        while waiting:
+            group, texts = self.next_group(waiting)
+            waiting = [it for it in waiting if it not in group]
+            alone += self.unsettled(group, texts) if len(group) > 1 else group
+        for edit in alone:
+            self.alone(edit)
+
+    def next_group(self, waiting):
+        """The next edits that change different functions, and the texts with all of them."""
+        group, texts, used = [], {}, set()
+        for edit in waiting:
+            with_it = None if used & {*edit.names} else edit.applied(texts, self.folder)
+            if with_it and len(group) < SIZE:
+                group, texts, used = [*group, edit], with_it, used | {*edit.names}
+        return group, texts
+
+    def unsettled(self, group, texts):
+        """Tries a group, and returns those edits of which it does not say that they are refused."""
+        begun, left = time.monotonic(), []
+        names = sorted({name for edit in group for name in edit.names})
+        status, said = self.over_seed(texts, names)
+        if not said[-1].startswith("only="):
+            # One of them does not compile, or met a limit, and then nothing is said of the others.
+            halves = [group[: len(group) // 2], group[len(group) // 2 :]]
+            if len(group) == 2:
+                return group
+            for half in halves:
+                with_half = {}
+                for edit in half:
+                    with_half = edit.applied(with_half, self.folder)
+                left += self.unsettled(half, with_half) if len(half) > 1 else half
+            return left
+        for edit in group:
+            if not self.is_refused(edit, said):
+                left.append(edit)
+        took = time.monotonic() - begun
+        print(f"{self.laid.name}: {len(group)} in one check, {took:.0f} s", flush=True)
+        return left
+
+    def is_refused(self, edit, said):
+        """Whether a goal of a function that an edit changes is refused; says so where one is."""
+        told = [it for it in (own_refusal(said, name) for name in edit.names) if it]
+        if told:
+            self.say(edit, f"refused: {told[0][:100]}")
+        return bool(told)
+
+    def alone(self, edit):
+        """Tries one edit: its functions, or the whole crate where it changes no function."""
+        texts = edit.applied({}, self.folder)
+        if not edit.names and not self.is_whole:
+            self.is_whole = not self.checked({}, [], self.seed)[0]
+        status, said = self.over_seed(texts, edit.names)
+        errors = [it for it in said if ERROR.match(it)]
+        bad = [it for it in errors if not it.startswith("./proofs/") and BAD_CLAUSE.search(it)]
+        if status == 0:
+            self.miss(edit, "it is still proved")
+        elif bad or BAD_TEXT.search("\n".join(said)):
+            self.miss(edit, f"it cannot be read: {(bad or said)[0]}")
+        elif not said[-1].startswith(("only=", "logic=not-proved")):
+            self.miss(edit, f"its check came to no end: {said[-1]}")
+        elif edit.names:
+            if not self.is_refused(edit, said):
+                self.miss(edit, "no goal of its function fails")
+        elif told := [it for it in errors if not NAMES.search(it)]:
+            self.say(edit, f"refused: {told[0][:100]}")
+        else:
+            self.miss(edit, "a proof only misses a name that it took away")
+
+
+def link_all(of, to):
+    """Copies kept work into a folder, by links: a check replaces a file there, and changes none."""
+
+    def copy(one, other):
+        try:
+            return os.link(one, other) if one.endswith(".oantt") else shutil.copy2(one, other)
+        except OSError:
+            return shutil.copy2(one, other)
+
+    shutil.copytree(of, to, symlinks=True, copy_function=copy, dirs_exist_ok=True)
