@@ -29,8 +29,17 @@ const FORMULA_LIMIT: usize = 4_096;
 
 /// What a run comes to.
 ///
-/// ```text
-/// Outcome { status: 1, is_told: true }   says that the input is refused, and the errors say where
+/// ```
+/// use readers::program::{Outcome, run_and_tell};
+///
+/// let mut output = [0_u8; 4];
+/// let mut errors = [0_u8; 4];
+/// let mut writer = output.as_mut_slice();
+/// let mut teller = errors.as_mut_slice();
+/// let words = ["pair"];
+/// let outcome = run_and_tell(alloc, &words, &mut b"=".as_slice(), &mut writer, &mut teller);
+/// // It is refused, but no room is left for where.
+/// assert_eq!(rt; outcome, Outcome { status: 1, is_told: false });
 /// ```
 #[derive(Clone, Copy, Debug, PartialEq)]
 pub struct Outcome {
@@ -43,8 +52,18 @@ pub struct Outcome {
 
 /// Why there is no answer: each ends the program with status 2.
 ///
-/// ```text
-/// Stop::TooLong   prints "input too long"
+/// ```
+/// use readers::program::run;
+///
+/// let formula = [b'1'; 4_097];
+/// let mut output = [0_u8; 4];
+/// let mut errors = [0_u8; 16];
+/// let mut writer = output.as_mut_slice();
+/// let mut teller = errors.as_mut_slice();
+/// let status = run(alloc, &["calc"], &mut formula.as_slice(), &mut writer, &mut teller);
+/// // Why: `Stop::TooLong`.
+/// assert_eq!(rt; status, 2);
+/// assert!(rt; errors.starts_with(b"input too long\n"));
 /// ```
 #[derive(Clone, Copy, Debug, PartialEq)]
 pub enum Stop {
@@ -77,8 +96,17 @@ impl Stop {
 
 /// What an input is read as.
 ///
-/// ```text
-/// Format::Ini   is asked for by the word "ini"
+/// ```
+/// use readers::program::run;
+///
+/// let mut output = [0_u8; 16];
+/// let mut errors = [0_u8; 4];
+/// let mut writer = output.as_mut_slice();
+/// let mut teller = errors.as_mut_slice();
+/// // The word `ini` asks for `Format::Ini`.
+/// let status = run(alloc, &["ini"], &mut b"[a]".as_slice(), &mut writer, &mut teller);
+/// assert_eq!(rt; status, 0);
+/// assert!(rt; output.starts_with(b"section a\n"));
 /// ```
 #[derive(Clone, Copy, Debug, PartialEq)]
 pub enum Format {
@@ -158,9 +186,17 @@ pub fn run<A: Allocator + Copy, R: Read, W: Write, E: Write>(
 /// [`run`], with its status and also whether what it owes to `errors` stands there whole: the line
 /// of a refusal, the usage line, or why there is no answer.
 ///
-/// ```text
-/// run_and_tell(alloc, &["pair"], &mut b"key".as_slice(), &mut output, &mut errors)
-///     is Outcome { status: 1, is_told: true }, and errors holds "refused at 3\n"
+/// ```
+/// use readers::program::{Outcome, run_and_tell};
+///
+/// let mut output = [0_u8; 4];
+/// let mut errors = [0_u8; 16];
+/// let mut writer = output.as_mut_slice();
+/// let mut teller = errors.as_mut_slice();
+/// let words = ["pair"];
+/// let outcome = run_and_tell(alloc, &words, &mut b"key".as_slice(), &mut writer, &mut teller);
+/// assert_eq!(rt; outcome, Outcome { status: 1, is_told: true });
+/// assert!(rt; errors.starts_with(b"refused at 3\n"));
 /// ```
 pub fn run_and_tell<A: Allocator + Copy, R: Read, W: Write, E: Write>(
     alloc: A,

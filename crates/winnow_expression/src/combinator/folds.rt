@@ -13,8 +13,29 @@ use streams::stream::Stream;
 /// The operand has been read, and `input` stands behind it. A fold may refuse, as where a sum is
 /// too large: its error is the expression's, and the input is left where the fold left it.
 ///
-/// ```text
-/// impl FoldUnary<I, i64, E> for Negate: apply(&self, input, operand) is Ok(-operand)
+/// ```
+/// ghost use Rattle.streams.specs.Input.{IsEndOf};
+///
+/// use winnow::combinator::FoldUnary;
+/// use winnow::error::EmptyError;
+/// use winnow::prelude::*;
+/// use winnow::stream::Stream;
+///
+/// struct Not;
+///
+/// impl<I: Stream, E: ParserError<I>> FoldUnary<I, bool, E> for Not {
+///     ghost folds = { λ _ _ i _ _ j. IsEndOf I.reading j i };
+///
+///     ghost leaves_ends = { λ _ _ _ _ _ _ ends. ends };
+///
+///     fn apply(&self, _input: &mut I, operand: bool) -> Result<bool, E> {
+///         Ok(!operand)
+///     }
+/// }
+///
+/// fn main(rt: HostRuntime) {
+///     assert_eq!(rt; Not.apply(&mut "", true), Ok::<_, EmptyError>(false));
+/// }
 /// ```
 pub trait FoldUnary<I: Stream, O, E: ParserError<I>>: Drop {
     // What it answers and leaves, by the form of the errors.
