@@ -7,7 +7,7 @@ use streams::stream::Stream;
 /// A parser under errors with a mode: each [`Parser`] over `ErrMode<E>` is one.
 ///
 /// ```
-/// fn taken_by<P: ModalParser<&'static str, char, EmptyError>>(mut parser: P) -> usize {
+/// fn taken_by<P: ModalParser<&'static str, char, EmptyError> + Drop>(mut parser: P) -> usize {
 ///     let mut input = "ab";
 ///     let _answer: Result<char, ErrMode<EmptyError>> = parser.parse_next(&mut input);
 ///     2 - input.len()

@@ -29,8 +29,12 @@ use winnow_token::token::impls::{Any, NoneOf, OneOf};
 ///
 /// So are a byte on bytes and a character on text; a character on bytes may be several.
 ///
-/// ```text
-/// impl ComparesOneToken<u8> for &[u8]    proves so
+/// ```
+/// fn one_token<'i, I: ComparesOneToken<char> + Drop>(input: I) -> CompareResult {
+///     input.compare('é')
+/// }
+///
+/// assert_eq!(rt; one_token("éa"), CompareResult::Ok(2));
 /// ```
 pub trait ComparesOneToken<T>: Compare<T> {
     // A literal stands for lists of one token.
@@ -60,8 +64,12 @@ impl<T, I: ComparesOneToken<T>> ComparesOneToken<T> for LocatingSlice<I> {
 /// end there. A byte over bytes, a character over text, [`Any`], [`OneOf`] and [`NoneOf`] are never
 /// cut off, since a turn begins where something is left.
 ///
-/// ```text
-/// impl SettledControl<I, char> for char    proves so over text
+/// ```
+/// fn stands<C: SettledControl<&'static str, char>>(control: &mut C) -> bool {
+///     control.parse_next(&mut "\\n").is_ok()
+/// }
+///
+/// assert!(rt; stands(&mut '\\'));
 /// ```
 pub trait SettledControl<I: Stream, D>: Parser<I, D, ControlError> {
     // Each run of a final answer on a cut input of which something is left is one on each longer
