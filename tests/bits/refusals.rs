@@ -89,14 +89,14 @@ fn plain_errors_of_bits(rt: HostRuntime) {
 #[test]
 fn bits_that_leave_an_impossible_place(rt: HostRuntime) {
     let input = b"\xAB\xCD".as_slice();
-    let leaves = |bits: &mut Bits<&'static [u8]>| {
+    let leaves = |bits: &mut Bits<&[u8]>| {
         bits.1 = 8;
         Ok::<u8, EmptyError>(7)
     };
     let mut parser = bits::bits::<_, u8, EmptyError, EmptyError, _>(Func(leaves));
     let got = outcome_of::<_, u8, EmptyError, _>(&mut parser, input);
     same(&rt, "bits", "a plain error", got, (Err(Kind::Backtrack), input));
-    let leaves = |bits: &mut Bits<&'static [u8]>| {
+    let leaves = |bits: &mut Bits<&[u8]>| {
         *bits = Bits(b"".as_slice(), 1);
         Ok::<u8, Modal>(7)
     };
