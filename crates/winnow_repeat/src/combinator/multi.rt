@@ -105,7 +105,8 @@ where
 /// failure of it, and each failure of `parser`. A greatest count below the least is an assert
 /// error, and nothing is run. Memory is taken by the accumulator alone.
 ///
-/// Only the form `0..` has no greatest count: of `n..` with another `n` it is the greatest `usize`.
+/// Only the forms `0..` and `1..` have no greatest count: of `n..` with another `n` it is the
+/// greatest `usize`.
 ///
 /// Known as `many_till` in nom.
 ///
