@@ -3,10 +3,6 @@ use crate::settling::{Bytes, Text, settles};
 use std::alloc::Global;
 use std::fmt::Debug;
 use std::process::Abort;
-use stream_errors::context_error::ContextError;
-use stream_errors::empty::EmptyError;
-use stream_errors::mode::ErrMode;
-use stream_errors::parser_error::ParserError;
 use stream_searches::caseless::Caseless;
 use stream_searches::compare::Compare;
 use stream_sets::as_bstr::{AsBStr, SlicesAsBytes};
@@ -21,16 +17,16 @@ use winnow_ascii::ascii::impls::{
     Alpha0, Alpha1, Alphanumeric0, Alphanumeric1, Crlf, Digit0, Digit1, HexDigit0, HexDigit1,
     Multispace0, Multispace1, Newline, OctDigit0, OctDigit1, Space0, Space1, Tab,
 };
-use winnow_comb::combinator::impls::{BacktrackErr, Fail};
+use winnow_comb::combinator::impls::{BacktrackErr, CutErr, Fail};
 use winnow_comb::combinator::{backtrack_err, cut_err};
-use winnow_comb::combinator::impls::CutErr;
 use winnow_core::combinator::impls::{
-    DefaultValue, FlatMap, Map, Span, Take as Taken, TryMap, Void, WithSpan, WithTaken,
+    Context, ContextWith, DefaultValue, FlatMap, Map, OutputInto, Span, Take as Taken, TryMap, Void,
+    WithSpan, WithTaken,
 };
 use winnow_core::parser::Parser;
 use winnow_numbers::ascii::impls::DecUint;
 use winnow_repeat::combinator::impls::Repeat;
-use winnow_repeat::combinator::repeat;
+use winnow_repeat::combinator::{fill, repeat};
 use winnow_stable::stable::LineEnds;
 use winnow_token::token::impls::{Any, NoneOf, OneOf, Take};
 use winnow_token::token::{none_of, one_of, take};
@@ -132,6 +128,16 @@ where
         |sum: u8, (n, _): (u8, char)| if n == 2 { None } else { Some(sum.wrapping_add(n)) },
     );
     settles::<I, u8, _>(rt, "verify_fold", parser);
+    let numbers: Repeat<(DecUint, char), I, (u8, char), (), Modal, Global> = repeat(
+        alloc,
+        any,
+        (DecUint, ','),
+    );
+    let parser = numbers.try_fold(
+        || 0_u8,
+        |sum: u8, (n, _): (u8, char)| if n == 2 { Err("two") } else { Ok(sum.wrapping_add(n)) },
+    );
+    settles::<I, u8, _>(rt, "try_fold", parser);
 }
 
 #[test]
@@ -170,6 +176,16 @@ fn adapters_of_text_on_all_cuts(rt: HostRuntime) {
         Digit1.try_map(|digits: &str| digits.parse::<u8>());
     settles::<Text, u8, _>(&rt, "try_map", parser);
     let mut digits = Digit1;
-    let parser = (digits.by_ref(), ',').void();
+    let parser: Void<_, Text, (&str, char), Modal> = (digits.by_ref(), ',').void();
     settles::<Text, (), _>(&rt, "by_ref", parser);
+    let parser: OutputInto<Any, Text, char, u32, Modal> = Any.output_into();
+    settles::<Text, u32, _>(&rt, "output_into", parser);
+    let mut letters = ['x', 'y'];
+    settles::<Text, (), _>(&rt, "fill", fill(Any, &mut letters));
+    let parser: Context<Digit1, Text, &str, Modal, &str, Global> =
+        Digit1.context(rt.alloc(), "a number");
+    settles::<Text, &str, _>(&rt, "context", parser);
+    let parser: ContextWith<Digit1, Text, &str, Modal, _, &str, _, Global> =
+        Digit1.context_with(rt.alloc(), || ["a number"].into_iter());
+    settles::<Text, &str, _>(&rt, "context_with", parser);
 }
