@@ -32,14 +32,11 @@ const FORMULA_LIMIT: usize = 4_096;
 /// ```
 /// use readers::program::{Outcome, run_and_tell};
 ///
-/// let mut output = [0_u8; 4];
-/// let mut errors = [0_u8; 4];
-/// let mut writer = output.as_mut_slice();
-/// let mut teller = errors.as_mut_slice();
-/// let words = ["pair"];
-/// let outcome = run_and_tell(alloc, &words, &mut b"=".as_slice(), &mut writer, &mut teller);
+/// let (mut output, mut errors): (Vec<u8>, [u8; 4]) = (Vec::new(alloc), [0; 4]);
+/// let mut short = errors.as_mut_slice();
+/// let told = run_and_tell(alloc, &["pair"], &mut b"=".as_slice(), &mut output, &mut short);
 /// // It is refused, but no room is left for where.
-/// assert_eq!(rt; outcome, Outcome { status: 1, is_told: false });
+/// assert_eq!(rt; told, Outcome { status: 1, is_told: false });
 /// ```
 #[derive(Clone, Copy, Debug, PartialEq)]
 pub struct Outcome {
@@ -55,15 +52,10 @@ pub struct Outcome {
 /// ```
 /// use readers::program::run;
 ///
-/// let formula = [b'1'; 4_097];
-/// let mut output = [0_u8; 4];
-/// let mut errors = [0_u8; 16];
-/// let mut writer = output.as_mut_slice();
-/// let mut teller = errors.as_mut_slice();
-/// let status = run(alloc, &["calc"], &mut formula.as_slice(), &mut writer, &mut teller);
-/// // Why: `Stop::TooLong`.
-/// assert_eq!(rt; status, 2);
-/// assert!(rt; errors.starts_with(b"input too long\n"));
+/// let (mut output, mut errors): (Vec<u8>, Vec<u8>) = (Vec::new(alloc), Vec::new(alloc));
+/// let long = [b'1'; 4_097];
+/// let status = run(alloc, &["calc"], &mut long.as_slice(), &mut output, &mut errors);
+/// assert_eq!(rt; (status, errors.as_slice()), (2, b"input too long\n".as_slice()));
 /// ```
 #[derive(Clone, Copy, Debug, PartialEq)]
 pub enum Stop {
@@ -99,14 +91,9 @@ impl Stop {
 /// ```
 /// use readers::program::run;
 ///
-/// let mut output = [0_u8; 16];
-/// let mut errors = [0_u8; 4];
-/// let mut writer = output.as_mut_slice();
-/// let mut teller = errors.as_mut_slice();
-/// // The word `ini` asks for `Format::Ini`.
-/// let status = run(alloc, &["ini"], &mut b"[a]".as_slice(), &mut writer, &mut teller);
-/// assert_eq!(rt; status, 0);
-/// assert!(rt; output.starts_with(b"section a\n"));
+/// let (mut output, mut errors): (Vec<u8>, Vec<u8>) = (Vec::new(alloc), Vec::new(alloc));
+/// let status = run(alloc, &["ini"], &mut b"[a]".as_slice(), &mut output, &mut errors);
+/// assert_eq!(rt; (status, output.as_slice()), (0, b"section a\n".as_slice()));
 /// ```
 #[derive(Clone, Copy, Debug, PartialEq)]
 pub enum Format {
@@ -189,14 +176,10 @@ pub fn run<A: Allocator + Copy, R: Read, W: Write, E: Write>(
 /// ```
 /// use readers::program::{Outcome, run_and_tell};
 ///
-/// let mut output = [0_u8; 4];
-/// let mut errors = [0_u8; 16];
-/// let mut writer = output.as_mut_slice();
-/// let mut teller = errors.as_mut_slice();
-/// let words = ["pair"];
-/// let outcome = run_and_tell(alloc, &words, &mut b"key".as_slice(), &mut writer, &mut teller);
-/// assert_eq!(rt; outcome, Outcome { status: 1, is_told: true });
-/// assert!(rt; errors.starts_with(b"refused at 3\n"));
+/// let (mut output, mut errors): (Vec<u8>, Vec<u8>) = (Vec::new(alloc), Vec::new(alloc));
+/// let told = run_and_tell(alloc, &["pair"], &mut b"key".as_slice(), &mut output, &mut errors);
+/// assert_eq!(rt; told, Outcome { status: 1, is_told: true });
+/// assert_eq!(rt; errors.as_slice(), b"refused at 3\n".as_slice());
 /// ```
 pub fn run_and_tell<A: Allocator + Copy, R: Read, W: Write, E: Write>(
     alloc: A,
