@@ -24,8 +24,8 @@ use winnow_integers::binary::impls::{
 use winnow_token::token::impls::Take;
 use winnow_token::token::take;
 
-/// The values of an integer, each with its bytes and one behind them; and how it ends where the
-/// bytes of the first are cut off.
+/// The values of an integer, each with its bytes and others behind them, of which the first has
+/// one; and how it ends where the bytes of the first are cut off.
 fn integer<I, O, E, P>(rt: &impl Abort, name: &str, mut parser: P, rows: &[(&'static [u8], O)])
 where
     I: OfBytes,
@@ -33,11 +33,12 @@ where
     E: ParserError<I>,
     P: Parser<I, O, E> + Drop,
 {
-    for (bytes, value) in rows {
-        answers::<I, O, E, P>(rt, name, &mut parser, bytes, *value, 1);
-    }
     if let Some((bytes, _)) = rows.first() {
         let width = bytes.len() - 1;
+        for (bytes, value) in rows {
+            let left = bytes.len() - width;
+            answers::<I, O, E, P>(rt, name, &mut parser, bytes, *value, left);
+        }
         for count in 0..width {
             let as_cut = lacks(width - count);
             ends::<I, O, E, P>(rt, name, &mut parser, &bytes[..count], BACKTRACKS, as_cut);
@@ -54,6 +55,7 @@ fn unsigned_big<I: OfBytes, E: ParserError<I>>(rt: &impl Abort) {
         (b"\xFF\x3B".as_slice(), 255),
         (b"\x80\x3B".as_slice(), 128),
         (b"\x11\x3B".as_slice(), 17),
+        (b"\x11\x3B\x00\xC7", 17),
     ];
     integer::<I, _, E, _>(rt, "be_u8", BeU8, &rows);
     integer::<I, _, E, _>(rt, "u8", U8, &rows);
@@ -62,6 +64,7 @@ fn unsigned_big<I: OfBytes, E: ParserError<I>>(rt: &impl Abort) {
         (b"\xFF\xFF\x3B".as_slice(), 65535),
         (b"\x80\x00\x3B".as_slice(), 32768),
         (b"\x11\x27\x3B".as_slice(), 4391),
+        (b"\x11\x27\x3B\x00\xC7", 4391),
     ];
     integer::<I, _, E, _>(rt, "be_u16", BeU16, &rows);
     integer::<I, _, E, _>(rt, "u16", chosen::u16(Endianness::Big), &rows);
@@ -70,6 +73,7 @@ fn unsigned_big<I: OfBytes, E: ParserError<I>>(rt: &impl Abort) {
         (b"\xFF\xFF\xFF\x3B".as_slice(), 16777215),
         (b"\x80\x00\x00\x3B".as_slice(), 8388608),
         (b"\x11\x27\x47\x3B".as_slice(), 1124167),
+        (b"\x11\x27\x47\x3B\x00\xC7", 1124167),
     ];
     integer::<I, _, E, _>(rt, "be_u24", BeU24, &rows);
     integer::<I, _, E, _>(rt, "u24", chosen::u24(Endianness::Big), &rows);
@@ -78,6 +82,7 @@ fn unsigned_big<I: OfBytes, E: ParserError<I>>(rt: &impl Abort) {
         (b"\xFF\xFF\xFF\xFF\x3B".as_slice(), 4294967295),
         (b"\x80\x00\x00\x00\x3B".as_slice(), 2147483648),
         (b"\x11\x27\x47\x71\x3B".as_slice(), 287786865),
+        (b"\x11\x27\x47\x71\x3B\x00\xC7", 287786865),
     ];
     integer::<I, _, E, _>(rt, "be_u32", BeU32, &rows);
     integer::<I, _, E, _>(rt, "u32", chosen::u32(Endianness::Big), &rows);
@@ -86,6 +91,7 @@ fn unsigned_big<I: OfBytes, E: ParserError<I>>(rt: &impl Abort) {
         (b"\xFF\xFF\xFF\xFF\xFF\xFF\xFF\xFF\x3B".as_slice(), 18446744073709551615),
         (b"\x80\x00\x00\x00\x00\x00\x00\x00\x3B".as_slice(), 9223372036854775808),
         (b"\x11\x27\x47\x71\xA5\xE3\x2B\x7D\x3B".as_slice(), 1236035176176495485),
+        (b"\x11\x27\x47\x71\xA5\xE3\x2B\x7D\x3B\x00\xC7", 1236035176176495485),
     ];
     integer::<I, _, E, _>(rt, "be_u64", BeU64, &rows);
     integer::<I, _, E, _>(rt, "u64", chosen::u64(Endianness::Big), &rows);
@@ -94,6 +100,7 @@ fn unsigned_big<I: OfBytes, E: ParserError<I>>(rt: &impl Abort) {
         (b"\xFF\xFF\xFF\xFF\xFF\xFF\xFF\xFF\xFF\xFF\xFF\xFF\xFF\xFF\xFF\xFF\x3B".as_slice(), 340282366920938463463374607431768211455),
         (b"\x80\x00\x00\x00\x00\x00\x00\x00\x00\x00\x00\x00\x00\x00\x00\x00\x3B".as_slice(), 170141183460469231731687303715884105728),
         (b"\x11\x27\x47\x71\xA5\xE3\x2B\x7D\xD9\x3F\xAF\x29\xAD\x3B\xD3\x75\x3B".as_slice(), 22800824561030309662178310900896486261),
+        (b"\x11\x27\x47\x71\xA5\xE3\x2B\x7D\xD9\x3F\xAF\x29\xAD\x3B\xD3\x75\x3B\x00\xC7", 22800824561030309662178310900896486261),
     ];
     integer::<I, _, E, _>(rt, "be_u128", BeU128, &rows);
     integer::<I, _, E, _>(rt, "u128", chosen::u128(Endianness::Big), &rows);
@@ -106,6 +113,7 @@ fn signed_big<I: OfBytes, E: ParserError<I>>(rt: &impl Abort) {
         (b"\x7F\x3B".as_slice(), 127),
         (b"\xFF\x3B".as_slice(), -1),
         (b"\x11\x3B".as_slice(), 17),
+        (b"\x11\x3B\x00\xC7", 17),
     ];
     integer::<I, _, E, _>(rt, "be_i8", BeI8, &rows);
     integer::<I, _, E, _>(rt, "i8", I8, &rows);
@@ -114,6 +122,7 @@ fn signed_big<I: OfBytes, E: ParserError<I>>(rt: &impl Abort) {
         (b"\x7F\xFF\x3B".as_slice(), 32767),
         (b"\xFF\xFF\x3B".as_slice(), -1),
         (b"\x11\x27\x3B".as_slice(), 4391),
+        (b"\x11\x27\x3B\x00\xC7", 4391),
     ];
     integer::<I, _, E, _>(rt, "be_i16", BeI16, &rows);
     integer::<I, _, E, _>(rt, "i16", chosen::i16(Endianness::Big), &rows);
@@ -122,6 +131,7 @@ fn signed_big<I: OfBytes, E: ParserError<I>>(rt: &impl Abort) {
         (b"\x7F\xFF\xFF\x3B".as_slice(), 8388607),
         (b"\xFF\xFF\xFF\x3B".as_slice(), -1),
         (b"\x11\x27\x47\x3B".as_slice(), 1124167),
+        (b"\x11\x27\x47\x3B\x00\xC7", 1124167),
     ];
     integer::<I, _, E, _>(rt, "be_i24", BeI24, &rows);
     integer::<I, _, E, _>(rt, "i24", chosen::i24(Endianness::Big), &rows);
@@ -130,6 +140,7 @@ fn signed_big<I: OfBytes, E: ParserError<I>>(rt: &impl Abort) {
         (b"\x7F\xFF\xFF\xFF\x3B".as_slice(), 2147483647),
         (b"\xFF\xFF\xFF\xFF\x3B".as_slice(), -1),
         (b"\x11\x27\x47\x71\x3B".as_slice(), 287786865),
+        (b"\x11\x27\x47\x71\x3B\x00\xC7", 287786865),
     ];
     integer::<I, _, E, _>(rt, "be_i32", BeI32, &rows);
     integer::<I, _, E, _>(rt, "i32", chosen::i32(Endianness::Big), &rows);
@@ -138,6 +149,7 @@ fn signed_big<I: OfBytes, E: ParserError<I>>(rt: &impl Abort) {
         (b"\x7F\xFF\xFF\xFF\xFF\xFF\xFF\xFF\x3B".as_slice(), 9223372036854775807),
         (b"\xFF\xFF\xFF\xFF\xFF\xFF\xFF\xFF\x3B".as_slice(), -1),
         (b"\x11\x27\x47\x71\xA5\xE3\x2B\x7D\x3B".as_slice(), 1236035176176495485),
+        (b"\x11\x27\x47\x71\xA5\xE3\x2B\x7D\x3B\x00\xC7", 1236035176176495485),
     ];
     integer::<I, _, E, _>(rt, "be_i64", BeI64, &rows);
     integer::<I, _, E, _>(rt, "i64", chosen::i64(Endianness::Big), &rows);
@@ -146,6 +158,7 @@ fn signed_big<I: OfBytes, E: ParserError<I>>(rt: &impl Abort) {
         (b"\x7F\xFF\xFF\xFF\xFF\xFF\xFF\xFF\xFF\xFF\xFF\xFF\xFF\xFF\xFF\xFF\x3B".as_slice(), 170141183460469231731687303715884105727),
         (b"\xFF\xFF\xFF\xFF\xFF\xFF\xFF\xFF\xFF\xFF\xFF\xFF\xFF\xFF\xFF\xFF\x3B".as_slice(), -1),
         (b"\x11\x27\x47\x71\xA5\xE3\x2B\x7D\xD9\x3F\xAF\x29\xAD\x3B\xD3\x75\x3B".as_slice(), 22800824561030309662178310900896486261),
+        (b"\x11\x27\x47\x71\xA5\xE3\x2B\x7D\xD9\x3F\xAF\x29\xAD\x3B\xD3\x75\x3B\x00\xC7", 22800824561030309662178310900896486261),
     ];
     integer::<I, _, E, _>(rt, "be_i128", BeI128, &rows);
     integer::<I, _, E, _>(rt, "i128", chosen::i128(Endianness::Big), &rows);
@@ -158,6 +171,7 @@ fn unsigned_little<I: OfBytes, E: ParserError<I>>(rt: &impl Abort) {
         (b"\xFF\x3B".as_slice(), 255),
         (b"\x80\x3B".as_slice(), 128),
         (b"\x11\x3B".as_slice(), 17),
+        (b"\x11\x3B\x00\xC7", 17),
     ];
     integer::<I, _, E, _>(rt, "le_u8", LeU8, &rows);
     integer::<I, _, E, _>(rt, "u8", U8, &rows);
@@ -166,6 +180,7 @@ fn unsigned_little<I: OfBytes, E: ParserError<I>>(rt: &impl Abort) {
         (b"\xFF\xFF\x3B".as_slice(), 65535),
         (b"\x00\x80\x3B".as_slice(), 32768),
         (b"\x11\x27\x3B".as_slice(), 10001),
+        (b"\x11\x27\x3B\x00\xC7", 10001),
     ];
     integer::<I, _, E, _>(rt, "le_u16", LeU16, &rows);
     integer::<I, _, E, _>(rt, "u16", chosen::u16(Endianness::Little), &rows);
@@ -175,6 +190,7 @@ fn unsigned_little<I: OfBytes, E: ParserError<I>>(rt: &impl Abort) {
         (b"\xFF\xFF\xFF\x3B".as_slice(), 16777215),
         (b"\x00\x00\x80\x3B".as_slice(), 8388608),
         (b"\x11\x27\x47\x3B".as_slice(), 4663057),
+        (b"\x11\x27\x47\x3B\x00\xC7", 4663057),
     ];
     integer::<I, _, E, _>(rt, "le_u24", LeU24, &rows);
     integer::<I, _, E, _>(rt, "u24", chosen::u24(Endianness::Little), &rows);
@@ -184,6 +200,7 @@ fn unsigned_little<I: OfBytes, E: ParserError<I>>(rt: &impl Abort) {
         (b"\xFF\xFF\xFF\xFF\x3B".as_slice(), 4294967295),
         (b"\x00\x00\x00\x80\x3B".as_slice(), 2147483648),
         (b"\x11\x27\x47\x71\x3B".as_slice(), 1900488465),
+        (b"\x11\x27\x47\x71\x3B\x00\xC7", 1900488465),
     ];
     integer::<I, _, E, _>(rt, "le_u32", LeU32, &rows);
     integer::<I, _, E, _>(rt, "u32", chosen::u32(Endianness::Little), &rows);
@@ -193,6 +210,7 @@ fn unsigned_little<I: OfBytes, E: ParserError<I>>(rt: &impl Abort) {
         (b"\xFF\xFF\xFF\xFF\xFF\xFF\xFF\xFF\x3B".as_slice(), 18446744073709551615),
         (b"\x00\x00\x00\x00\x00\x00\x00\x80\x3B".as_slice(), 9223372036854775808),
         (b"\x11\x27\x47\x71\xA5\xE3\x2B\x7D\x3B".as_slice(), 9019552978449147665),
+        (b"\x11\x27\x47\x71\xA5\xE3\x2B\x7D\x3B\x00\xC7", 9019552978449147665),
     ];
     integer::<I, _, E, _>(rt, "le_u64", LeU64, &rows);
     integer::<I, _, E, _>(rt, "u64", chosen::u64(Endianness::Little), &rows);
@@ -202,6 +220,7 @@ fn unsigned_little<I: OfBytes, E: ParserError<I>>(rt: &impl Abort) {
         (b"\xFF\xFF\xFF\xFF\xFF\xFF\xFF\xFF\xFF\xFF\xFF\xFF\xFF\xFF\xFF\xFF\x3B".as_slice(), 340282366920938463463374607431768211455),
         (b"\x00\x00\x00\x00\x00\x00\x00\x00\x00\x00\x00\x00\x00\x00\x00\x80\x3B".as_slice(), 170141183460469231731687303715884105728),
         (b"\x11\x27\x47\x71\xA5\xE3\x2B\x7D\xD9\x3F\xAF\x29\xAD\x3B\xD3\x75\x3B".as_slice(), 156616460525525485117809923033554954001),
+        (b"\x11\x27\x47\x71\xA5\xE3\x2B\x7D\xD9\x3F\xAF\x29\xAD\x3B\xD3\x75\x3B\x00\xC7", 156616460525525485117809923033554954001),
     ];
     integer::<I, _, E, _>(rt, "le_u128", LeU128, &rows);
     integer::<I, _, E, _>(rt, "u128", chosen::u128(Endianness::Little), &rows);
@@ -215,6 +234,7 @@ fn signed_little<I: OfBytes, E: ParserError<I>>(rt: &impl Abort) {
         (b"\x7F\x3B".as_slice(), 127),
         (b"\xFF\x3B".as_slice(), -1),
         (b"\x11\x3B".as_slice(), 17),
+        (b"\x11\x3B\x00\xC7", 17),
     ];
     integer::<I, _, E, _>(rt, "le_i8", LeI8, &rows);
     integer::<I, _, E, _>(rt, "i8", I8, &rows);
@@ -223,6 +243,7 @@ fn signed_little<I: OfBytes, E: ParserError<I>>(rt: &impl Abort) {
         (b"\xFF\x7F\x3B".as_slice(), 32767),
         (b"\xFF\xFF\x3B".as_slice(), -1),
         (b"\x11\x27\x3B".as_slice(), 10001),
+        (b"\x11\x27\x3B\x00\xC7", 10001),
     ];
     integer::<I, _, E, _>(rt, "le_i16", LeI16, &rows);
     integer::<I, _, E, _>(rt, "i16", chosen::i16(Endianness::Little), &rows);
@@ -232,6 +253,7 @@ fn signed_little<I: OfBytes, E: ParserError<I>>(rt: &impl Abort) {
         (b"\xFF\xFF\x7F\x3B".as_slice(), 8388607),
         (b"\xFF\xFF\xFF\x3B".as_slice(), -1),
         (b"\x11\x27\x47\x3B".as_slice(), 4663057),
+        (b"\x11\x27\x47\x3B\x00\xC7", 4663057),
     ];
     integer::<I, _, E, _>(rt, "le_i24", LeI24, &rows);
     integer::<I, _, E, _>(rt, "i24", chosen::i24(Endianness::Little), &rows);
@@ -241,6 +263,7 @@ fn signed_little<I: OfBytes, E: ParserError<I>>(rt: &impl Abort) {
         (b"\xFF\xFF\xFF\x7F\x3B".as_slice(), 2147483647),
         (b"\xFF\xFF\xFF\xFF\x3B".as_slice(), -1),
         (b"\x11\x27\x47\x71\x3B".as_slice(), 1900488465),
+        (b"\x11\x27\x47\x71\x3B\x00\xC7", 1900488465),
     ];
     integer::<I, _, E, _>(rt, "le_i32", LeI32, &rows);
     integer::<I, _, E, _>(rt, "i32", chosen::i32(Endianness::Little), &rows);
@@ -250,6 +273,7 @@ fn signed_little<I: OfBytes, E: ParserError<I>>(rt: &impl Abort) {
         (b"\xFF\xFF\xFF\xFF\xFF\xFF\xFF\x7F\x3B".as_slice(), 9223372036854775807),
         (b"\xFF\xFF\xFF\xFF\xFF\xFF\xFF\xFF\x3B".as_slice(), -1),
         (b"\x11\x27\x47\x71\xA5\xE3\x2B\x7D\x3B".as_slice(), 9019552978449147665),
+        (b"\x11\x27\x47\x71\xA5\xE3\x2B\x7D\x3B\x00\xC7", 9019552978449147665),
     ];
     integer::<I, _, E, _>(rt, "le_i64", LeI64, &rows);
     integer::<I, _, E, _>(rt, "i64", chosen::i64(Endianness::Little), &rows);
@@ -259,6 +283,7 @@ fn signed_little<I: OfBytes, E: ParserError<I>>(rt: &impl Abort) {
         (b"\xFF\xFF\xFF\xFF\xFF\xFF\xFF\xFF\xFF\xFF\xFF\xFF\xFF\xFF\xFF\x7F\x3B".as_slice(), 170141183460469231731687303715884105727),
         (b"\xFF\xFF\xFF\xFF\xFF\xFF\xFF\xFF\xFF\xFF\xFF\xFF\xFF\xFF\xFF\xFF\x3B".as_slice(), -1),
         (b"\x11\x27\x47\x71\xA5\xE3\x2B\x7D\xD9\x3F\xAF\x29\xAD\x3B\xD3\x75\x3B".as_slice(), 156616460525525485117809923033554954001),
+        (b"\x11\x27\x47\x71\xA5\xE3\x2B\x7D\xD9\x3F\xAF\x29\xAD\x3B\xD3\x75\x3B\x00\xC7", 156616460525525485117809923033554954001),
     ];
     integer::<I, _, E, _>(rt, "le_i128", LeI128, &rows);
     integer::<I, _, E, _>(rt, "i128", chosen::i128(Endianness::Little), &rows);

@@ -79,6 +79,62 @@ fn length_take(rt: HostRuntime) {
     same(&rt, "length_take(dec_uint)", "3éa", got, (Err(Backtrack), "éa"));
 }
 
+/// Text that may get more.
+type Text = Partial<&'static str>;
+
+/// Counts of characters of a text that may get more: what is answered, and what is left. A count
+/// that ends the text may go on, and how many bytes take the characters that lack is not known.
+#[test]
+fn length_take_of_cut_text(rt: HostRuntime) {
+    let one = Incomplete(Needed::new(1));
+    let mut parser = binary::length_take::<Text, u8, Modal, DecUint>(DecUint);
+    for (text, want, rest) in [
+        ("", Err(one), ""),
+        ("2", Err(one), ""),
+        ("2é", Err(Incomplete(Needed::Unknown)), "é"),
+        ("2éa", Ok("éa"), ""),
+        ("2éab", Ok("éa"), "b"),
+        ("0é", Ok(""), "é"),
+        ("é", Err(Backtrack), "é"),
+    ] {
+        let got = outcome_of::<Text, &str, Modal, _>(&mut parser, Text::new(text));
+        same(&rt, "length_take(dec_uint), cut", text, got, (want, Text::new(rest)));
+    }
+}
+
+#[test]
+fn length_and_then_of_cut_text(rt: HostRuntime) {
+    let one = Incomplete(Needed::new(1));
+    let mut parser = binary::length_and_then::<Text, char, u8, Modal, DecUint, Any>(DecUint, Any);
+    for (text, want, rest) in [
+        ("", Err(one), ""),
+        ("2", Err(one), ""),
+        ("2é", Err(Incomplete(Needed::Unknown)), "é"),
+        ("2éab", Ok('é'), "b"),
+        ("0é", Err(Backtrack), "é"),
+    ] {
+        let got = outcome_of::<Text, char, Modal, _>(&mut parser, Text::new(text));
+        same(&rt, "length_and_then(dec_uint, any), cut", text, got, (want, Text::new(rest)));
+    }
+}
+
+#[test]
+fn length_repeat_of_cut_text(rt: HostRuntime) {
+    let one = Incomplete(Needed::new(1));
+    let mut parser: LengthRepeat<DecUint, Any, Text, u8, char, usize, Modal, Global> =
+        binary::length_repeat(rt.alloc(), DecUint, Any);
+    for (text, want, rest) in [
+        ("", Err(one), ""),
+        ("2", Err(one), ""),
+        ("3éa", Err(one), ""),
+        ("2éab", Ok(2), "b"),
+        ("0é", Ok(0), "é"),
+    ] {
+        let got = outcome_of::<Text, usize, Modal, _>(&mut parser, Text::new(text));
+        same(&rt, "length_repeat(dec_uint, any), cut", text, got, (want, Text::new(rest)));
+    }
+}
+
 /// A parser on so many bytes alone.
 fn thens_of_bytes<I: OfBytes + UpdateSlice + Copy, E: ParserError<I>>(rt: &impl Abort) {
     let name = "length_and_then(u8, any)";

@@ -5,11 +5,13 @@ use stream_bits::bits::Bits;
 use stream_errors::empty::EmptyError;
 use stream_errors::parser_error::ParserError;
 use streams::byte_stream::ByteStream;
+use streams::locating::LocatingSlice;
 use streams::needed::Needed;
 use streams::partial::Partial;
-use streams::stream::{Stream, StreamIsPartial};
+use streams::stream::{Location, Stream, StreamIsPartial};
 use test_support::outcomes::{Kind, kind_of, outcome_of};
 use test_support::rows::{Modal, ModalAt, same};
+use test_support::texts::completed;
 use winnow_bits::bits;
 use winnow_bits::bits::BitOutput;
 use winnow_bits::bits::impls::Bool;
@@ -55,6 +57,37 @@ fn take(rt: HostRuntime) {
                 assert_eq!(rt; on_cut, want, "{count} bits from {read}, cut");
             }
         }
+    }
+}
+
+/// Takes of each count from each place of four bytes of which no two are alike, over a stream that
+/// counts its place and over one that is marked complete, against the number that they are.
+#[test]
+fn take_over_other_streams(rt: HostRuntime) {
+    let bytes = b"\x12\x8F\x63\xD4".as_slice();
+    for read in 0..8 {
+        for count in 0..=32 - read {
+            let end = read + count;
+            let number = (0x128F_63D4_u64 >> (32 - end)) % (1 << count);
+            let located = Bits(LocatingSlice::new(bytes), read);
+            let (answer, rest) = outcome_of::<_, u64, Modal, _>(&mut bits::take(count), located);
+            assert_eq!(rt; answer, Ok(number), "{count} bits from {read}, by place");
+            let stands = (rest.current_token_start(), rest.1);
+            assert_eq!(rt; stands, (end / 8, end % 8), "{count} bits from {read}, by place");
+            let complete = Bits(completed(cut(bytes)), read);
+            let got = outcome_of::<_, u64, Modal, _>(&mut bits::take(count), complete);
+            let want = (Ok(number), Bits(completed(cut(&bytes[end / 8..])), end % 8));
+            assert_eq!(rt; got, want, "{count} bits from {read}, complete");
+        }
+        let count = 33 - read;
+        let located = Bits(LocatingSlice::new(bytes), read);
+        let (answer, rest) = outcome_of::<_, u64, Modal, _>(&mut bits::take(count), located);
+        assert_eq!(rt; answer, Err(Kind::Backtrack), "{count} bits from {read}, by place");
+        let stands = (rest.current_token_start(), rest.1);
+        assert_eq!(rt; stands, (0, read), "{count} bits from {read}, by place");
+        let complete = Bits(completed(cut(bytes)), read);
+        let got = outcome_of::<_, u64, Modal, _>(&mut bits::take(count), complete);
+        assert_eq!(rt; got, (Err(Kind::Backtrack), complete), "{count} bits from {read}, complete");
     }
 }
 

@@ -9,6 +9,7 @@ use test_support::outcomes::{Kind, outcome_of};
 use test_support::rows::{Modal, same};
 use winnow_bits::bits;
 use winnow_bits::bits::impls::Bool;
+use winnow_core::parser::Func;
 use winnow_token::token;
 use winnow_token::token::impls::Any;
 
@@ -79,4 +80,27 @@ fn plain_errors_of_bits(rt: HostRuntime) {
     let mut parser = bits::bits::<_, u8, EmptyError, EmptyError, _>(bits::take(9u8));
     let got = outcome_of::<_, u8, EmptyError, _>(&mut parser, few.0);
     same(&rt, "bits", "past the width", got, (Err(Kind::Backtrack), few.0));
+    let none = Bits(Partial::new(b"".as_slice()), 0);
+    let got = outcome_of::<_, bool, EmptyError, _>(&mut Bool, none);
+    same(&rt, "bool", "cut nothing", got, (Err(Kind::Backtrack), none));
+}
+
+/// A parser that succeeds and leaves a place that cannot be read.
+#[test]
+fn bits_that_leave_an_impossible_place(rt: HostRuntime) {
+    let input = b"\xAB\xCD".as_slice();
+    let leaves = |bits: &mut Bits<&[u8]>| {
+        bits.1 = 8;
+        Ok::<u8, EmptyError>(7)
+    };
+    let mut parser = bits::bits::<_, u8, EmptyError, EmptyError, _>(Func(leaves));
+    let got = outcome_of::<_, u8, EmptyError, _>(&mut parser, input);
+    same(&rt, "bits", "a plain error", got, (Err(Kind::Backtrack), input));
+    let leaves = |bits: &mut Bits<&[u8]>| {
+        *bits = Bits(b"".as_slice(), 1);
+        Ok::<u8, Modal>(7)
+    };
+    let mut parser = bits::bits::<_, u8, Modal, Modal, _>(Func(leaves));
+    let got = outcome_of::<_, u8, Modal, _>(&mut parser, input);
+    same(&rt, "bits", "an error with a mode", got, (Err(Kind::Cut), input));
 }

@@ -159,6 +159,22 @@ fn bits_in_wrappers(rt: HostRuntime) {
     assert_eq!(rt; recovers, false);
 }
 
+/// Bits of a stream that counts its place, and of one that may be cut, are those from its first.
+#[test]
+fn inputs_of_bits(rt: HostRuntime) {
+    let cut = Partial::new(BYTES.as_slice());
+    let bits: Bits<Partial<&[u8]>> = cut.convert_input();
+    assert_eq!(rt; bits, Bits(cut, 0));
+    let back: Partial<&[u8]> = Bits(cut, 3).convert_input();
+    assert_eq!(rt; back, cut);
+    let mut located = LocatingSlice::new(BYTES.as_slice());
+    assert_eq!(rt; located.next_token(), Some(0xAB));
+    let bits: Bits<LocatingSlice<&[u8]>> = located.convert_input();
+    assert_eq!(rt; (bits.current_token_start(), bits.1, bits.eof_offset()), (1, 0, 8));
+    let back: LocatingSlice<&[u8]> = Bits(bits.0, 3).convert_input();
+    assert_eq!(rt; (back.current_token_start(), *back.as_inner()), (1, b"\xCD".as_slice()));
+}
+
 /// An error that keeps its input keeps the bits of the bytes, and the bytes of the bits.
 #[test]
 fn errors_of_bits(rt: HostRuntime) {

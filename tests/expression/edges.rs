@@ -1,8 +1,10 @@
 //! Operators and operands that consume nothing, and operators as parsers of themselves.
 use crate::grammar::{Writes, operand_of};
 use crate::shape::Shape;
+use streams::needed::Needed;
+use streams::partial::Partial;
 use streams::stream::Stream;
-use test_support::outcomes::Kind::{Backtrack, Cut};
+use test_support::outcomes::Kind::{Backtrack, Cut, Incomplete};
 use test_support::outcomes::{Kind, Outcome, outcome_of};
 use test_support::rows::{Modal, same};
 use winnow_comb::combinator::opt;
@@ -52,14 +54,38 @@ fn expression_of_nothing(rt: HostRuntime) {
 /// Operators are parsers that consume nothing.
 #[test]
 fn operators_as_parsers(rt: HostRuntime) {
-    let (answer, rest) = outcome_of::<&str, Prefix<Writes>, Modal, _>(&mut Prefix(3, POINT), "a");
-    same(&rt, "Prefix", "a", (answer.map(|it| it.0), rest), (Ok(3), "a"));
-    let (answer, rest) = outcome_of::<&str, Postfix<Writes>, Modal, _>(&mut Postfix(4, POINT), "a");
-    same(&rt, "Postfix", "a", (answer.map(|it| it.0), rest), (Ok(4), "a"));
-    let mut infix = Infix::Right(5, POINT);
+    let mut prefix = Prefix(3, Writes('-'));
+    let (answer, rest) = outcome_of::<&str, Prefix<Writes>, Modal, _>(&mut prefix, "a");
+    same(&rt, "Prefix", "a", (answer.map(|it| (it.0, it.1.0)), rest), (Ok((3, '-')), "a"));
+    let mut postfix = Postfix(4, Writes('!'));
+    let (answer, rest) = outcome_of::<&str, Postfix<Writes>, Modal, _>(&mut postfix, "a");
+    same(&rt, "Postfix", "a", (answer.map(|it| (it.0, it.1.0)), rest), (Ok((4, '!')), "a"));
+    let mut infix = Infix::Right(5, Writes('^'));
     let (answer, rest) = outcome_of::<&str, Infix<Writes>, Modal, _>(&mut infix, "a");
-    let is_right = answer.map(|it| matches!(&it, Infix::Right(5, _)));
-    same(&rt, "Infix", "a", (is_right, rest), (Ok(true), "a"));
+    let is_it = answer.map(|it| matches!(&it, Infix::Right(5, Writes('^'))));
+    same(&rt, "Infix", "a", (is_it, rest), (Ok(true), "a"));
+}
+
+/// Operators of two characters, of which a text that may get more has one: what lacks is handed on
+/// from the place of a postfix, and from that of an infix.
+#[test]
+fn expression_on_cut_operators(rt: HostRuntime) {
+    for (text, want, rest) in [
+        ("1!", Err(Incomplete(Needed::Unknown)), "!"),
+        ("1!!", Ok("(!1)"), ""),
+        ("1*", Err(Incomplete(Needed::Unknown)), "*"),
+        ("1!!*", Err(Incomplete(Needed::Unknown)), "*"),
+        ("1**", Err(Incomplete(Needed::new(1))), ""),
+        ("1**2!", Err(Incomplete(Needed::Unknown)), "!"),
+        ("1**2;", Ok("(1*2)"), ";"),
+    ] {
+        let mut parser = expression(rt.alloc(), Any.verify_map(operand_of))
+            .postfix("!!".value(Postfix(9, Writes('!'))))
+            .infix("**".value(Infix::Left(5, Writes('*'))));
+        let got = outcome_of::<_, Shape, Modal, _>(&mut parser, Partial::new(text));
+        let want = (want.map(Shape::of), Partial::new(rest));
+        same(&rt, "expression, cut", text, got, want);
+    }
 }
 
 /// An expression without operators is its operand.

@@ -1,11 +1,16 @@
 //! The trees of rows.
 use crate::grammar::Operator::{Left, Neither, Postfix, Prefix, Right};
-use crate::grammar::{Table, read};
+use crate::grammar::{Table, infix_of, read};
 use crate::shape::Shape;
 use streams::partial::Partial;
 use streams::needed::Needed;
 use test_support::outcomes::Kind::{Backtrack, Incomplete};
-use test_support::rows::same;
+use test_support::outcomes::{Kind, outcome_of};
+use test_support::rows::{Modal, same};
+use winnow_ascii::ascii::impls::Digit1;
+use winnow_core::parser::Parser;
+use winnow_expression::combinator::expression;
+use winnow_token::token::impls::Any;
 
 /// A table, a level, a text, the tree as it is written, and what is left.
 type Row = (Table, i64, &'static str, &'static str, &'static str);
@@ -110,6 +115,25 @@ fn expression_trees(rt: HostRuntime) {
     for (table, level, text, tree, rest) in ROWS {
         let got = read::<&str, _>(rt.alloc(), table, *level, text);
         same(&rt, "expression", text, got, (Ok(Shape::of(tree)), *rest));
+    }
+}
+
+/// Numbers of more than one digit, with operators between them.
+#[test]
+fn expression_of_long_numbers(rt: HostRuntime) {
+    let rows: [(Table, &str, Result<&str, Kind>, &str); 4] = [
+        (&[Right('^', 9), Left('*', 8)], "12^345*67", Ok("((12^345)*67)"), ""),
+        (&[Left('&', 3), Neither('=', 5)], "10&23=345=4", Ok("(10&(23=345))"), "=4"),
+        (&[Left('+', 5)], "12+", Err(Backtrack), ""),
+        (&[Left('+', 5)], "12+34-5", Ok("(12+34)"), "-5"),
+    ];
+    for (table, text, want, rest) in rows {
+        let number = Digit1.map(|digits: &str| Shape::of(digits));
+        let mut parser = expression(rt.alloc(), number).infix(Any.verify_map(
+            move |symbol: char| infix_of(table, symbol),
+        ));
+        let got = outcome_of::<&str, Shape, Modal, _>(&mut parser, text);
+        same(&rt, "expression", text, got, (want.map(Shape::of), rest));
     }
 }
 

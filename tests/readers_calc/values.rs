@@ -70,11 +70,11 @@ fn value_wants_memory(rt: HostRuntime) {
     same(&rt, "value", "-1", value(&heap, "-1"), Err(Fault::NoMemory));
 }
 
-/// A hundred thousand operators, one in another.
+/// Twenty thousand operators, one in another.
 #[test]
 fn value_of_deep_formulas(rt: HostRuntime) {
     let mut text = String::new(rt.alloc());
-    for _ in 0..100_000 {
+    for _ in 0..20_000 {
         if text.push('-').is_err() {
             return;
         }
@@ -87,7 +87,7 @@ fn value_of_deep_formulas(rt: HostRuntime) {
     if text.push('1').is_err() {
         return;
     }
-    for _ in 0..50_000 {
+    for _ in 0..20_000 {
         if text.push('^').is_err() || text.push('1').is_err() {
             return;
         }

@@ -9,6 +9,7 @@ use stream_sets::as_bstr::{AsBStr, SlicesAsBytes};
 use stream_sets::as_char::AsChar;
 use stream_sets::classes::DecimalDigits;
 use stream_sets::range::Range;
+use streams::locating::LocatingSlice;
 use test_support::rows::Modal;
 use test_support::texts::OfText;
 use winnow_ascii::ascii::impls::{Alpha1, Digit1, LineEnding, TillLineEnding};
@@ -175,18 +176,24 @@ fn adapters(rt: &impl Abort) {
 fn leaves_on_all_cuts(rt: HostRuntime) {
     leaves::<Text>(&rt);
     leaves::<Bytes>(&rt);
+    leaves::<LocatingSlice<Text>>(&rt);
+    leaves::<LocatingSlice<Bytes>>(&rt);
 }
 
 #[test]
 fn choices_on_all_cuts(rt: HostRuntime) {
     choices::<Text>(&rt);
     choices::<Bytes>(&rt);
+    choices::<LocatingSlice<Text>>(&rt);
+    choices::<LocatingSlice<Bytes>>(&rt);
 }
 
 #[test]
 fn repetitions_on_all_cuts(rt: HostRuntime) {
     repetitions::<Text>(&rt, rt.alloc());
     repetitions::<Bytes>(&rt, rt.alloc());
+    repetitions::<LocatingSlice<Text>>(&rt, rt.alloc());
+    repetitions::<LocatingSlice<Bytes>>(&rt, rt.alloc());
 }
 
 #[test]

@@ -14,6 +14,8 @@ mod integers;
 #[cfg(test)]
 mod lengths;
 #[cfg(test)]
+mod more_cuts;
+#[cfg(test)]
 mod operators;
 #[cfg(test)]
 mod pairs;

@@ -3,6 +3,7 @@ use std::alloc::Global;
 use std::process::Abort;
 use stream_errors::context::AddContext;
 use stream_errors::context_error::ContextError;
+use stream_errors::control::ControlError;
 use stream_errors::empty::EmptyError;
 use stream_errors::external::FromExternalError;
 use stream_errors::input_error::InputError;
@@ -112,6 +113,10 @@ fn add_context(rt: HostRuntime) {
         <EmptyError as ParserError<Bytes>>::no_memory(&INPUT),
         Memory,
     );
+    let error = told(&rt, alloc, "ControlError", ControlError::Refused, Backtrack);
+    assert_eq!(rt; error, ControlError::Refused, "add_context, ControlError");
+    let error = told(&rt, alloc, "ControlError", ControlError::NoMemory, Memory);
+    assert_eq!(rt; error, ControlError::NoMemory, "add_context, ControlError");
     let error = told(&rt, alloc, "InputError", InputError::at(INPUT), Backtrack);
     assert_eq!(rt; error.input, INPUT, "add_context, the input of InputError");
     told(
@@ -184,6 +189,8 @@ fn made<E: ParserError<Bytes> + FromExternalError<Bytes, &'static str>>(
 #[test]
 fn from_external_error(rt: HostRuntime) {
     let _error: EmptyError = made(&rt, "EmptyError");
+    let error: ControlError = made(&rt, "ControlError");
+    assert_eq!(rt; error, ControlError::Refused, "from_external_error, ControlError");
     let error: InputError<Bytes> = made(&rt, "InputError");
     assert_eq!(rt;
         error.input,

@@ -29,8 +29,14 @@ const FORMULA_LIMIT: usize = 4_096;
 
 /// What a run comes to.
 ///
-/// ```text
-/// Outcome { status: 1, is_told: true }   says that the input is refused, and the errors say where
+/// ```
+/// use readers::program::{Outcome, run_and_tell};
+///
+/// let (mut output, mut errors): (Vec<u8>, [u8; 4]) = (Vec::new(alloc), [0; 4]);
+/// let mut short = errors.as_mut_slice();
+/// let told = run_and_tell(alloc, &["pair"], &mut b"=".as_slice(), &mut output, &mut short);
+/// // It is refused, but no room is left for where.
+/// assert_eq!(rt; told, Outcome { status: 1, is_told: false });
 /// ```
 #[derive(Clone, Copy, Debug, PartialEq)]
 pub struct Outcome {
@@ -43,8 +49,13 @@ pub struct Outcome {
 
 /// Why there is no answer: each ends the program with status 2.
 ///
-/// ```text
-/// Stop::TooLong   prints "input too long"
+/// ```
+/// use readers::program::run;
+///
+/// let (mut output, mut errors): (Vec<u8>, Vec<u8>) = (Vec::new(alloc), Vec::new(alloc));
+/// let long = [b'1'; 4_097];
+/// let status = run(alloc, &["calc"], &mut long.as_slice(), &mut output, &mut errors);
+/// assert_eq!(rt; (status, errors.as_slice()), (2, b"input too long\n".as_slice()));
 /// ```
 #[derive(Clone, Copy, Debug, PartialEq)]
 pub enum Stop {
@@ -77,8 +88,12 @@ impl Stop {
 
 /// What an input is read as.
 ///
-/// ```text
-/// Format::Ini   is asked for by the word "ini"
+/// ```
+/// use readers::program::run;
+///
+/// let (mut output, mut errors): (Vec<u8>, Vec<u8>) = (Vec::new(alloc), Vec::new(alloc));
+/// let status = run(alloc, &["ini"], &mut b"[a]".as_slice(), &mut output, &mut errors);
+/// assert_eq!(rt; (status, output.as_slice()), (0, b"section a\n".as_slice()));
 /// ```
 #[derive(Clone, Copy, Debug, PartialEq)]
 pub enum Format {
@@ -158,9 +173,13 @@ pub fn run<A: Allocator + Copy, R: Read, W: Write, E: Write>(
 /// [`run`], with its status and also whether what it owes to `errors` stands there whole: the line
 /// of a refusal, the usage line, or why there is no answer.
 ///
-/// ```text
-/// run_and_tell(alloc, &["pair"], &mut b"key".as_slice(), &mut output, &mut errors)
-///     is Outcome { status: 1, is_told: true }, and errors holds "refused at 3\n"
+/// ```
+/// use readers::program::{Outcome, run_and_tell};
+///
+/// let (mut output, mut errors): (Vec<u8>, Vec<u8>) = (Vec::new(alloc), Vec::new(alloc));
+/// let told = run_and_tell(alloc, &["pair"], &mut b"key".as_slice(), &mut output, &mut errors);
+/// assert_eq!(rt; told, Outcome { status: 1, is_told: true });
+/// assert_eq!(rt; errors.as_slice(), b"refused at 3\n".as_slice());
 /// ```
 pub fn run_and_tell<A: Allocator + Copy, R: Read, W: Write, E: Write>(
     alloc: A,

@@ -27,9 +27,10 @@ const MOST_BYTES: usize = usize::MAX / 8;
 /// value is impossible where that is 8 or more, or not 0 where no byte is left, or where there are
 /// more than `usize::MAX / 8` bytes: it has no bits left, and stays as it is.
 ///
-/// ```text
+/// ```
 /// let mut input = Bits(b"\x80".as_slice(), 0);
-/// input.next_token()   is Some(true), and Bits(b"\x80", 1) is left
+/// assert_eq!(rt; input.next_token(), Some(true));
+/// assert_eq!(rt; input, Bits(b"\x80".as_slice(), 1));
 /// ```
 #[derive(Clone, Copy, Debug, PartialEq, Eq, Drop)]
 pub struct Bits<I>(pub I, pub usize);
@@ -46,8 +47,8 @@ pub struct BitsCheckpoint<I: ByteStream> {
 impl<I: ByteStream> Bits<I> {
     /// Whether the value is possible: whether its bits can be read.
     ///
-    /// ```text
-    /// Bits(b"\x80".as_slice(), 8).is_possible()   is false
+    /// ```
+    /// assert!(rt; !Bits(b"\x80".as_slice(), 8).is_possible());
     /// ```
     #[inline(always)]
     pub fn is_possible(&self) -> bool
@@ -61,8 +62,8 @@ impl<I: ByteStream> Bits<I> {
     ///
     /// The caller owes a possible value, and that the bits stand in one byte.
     ///
-    /// ```text
-    /// Bits(b"\xAB".as_slice(), 4).next_of_byte(4)   is Some(0xB)
+    /// ```
+    /// assert_eq!(rt; Bits(b"\xAB".as_slice(), 4).next_of_byte(4), Some(0xB));
     /// ```
     #[inline(always)]
     pub fn next_of_byte(&mut self, count: usize) -> Option<u8>

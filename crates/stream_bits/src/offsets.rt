@@ -12,8 +12,11 @@ use streams::byte_stream::ByteStream;
 
 /// The bits left, each with its offset in bits.
 ///
-/// ```text
-/// Bits(b"\x80".as_slice(), 6).iter_offsets()   gives (0, false), then (1, false)
+/// ```
+/// let mut bits = Bits(b"\x81".as_slice(), 6).iter_offsets();
+/// assert_eq!(rt; bits.next(), Some((0, false)));
+/// assert_eq!(rt; bits.next(), Some((1, true)));
+/// assert_eq!(rt; bits.next(), None);
 /// ```
 #[derive(Drop)]
 pub struct BitOffsets<I: ByteStream> {

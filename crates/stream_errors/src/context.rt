@@ -13,8 +13,12 @@ use streams::stream::Stream;
 
 /// An error that can be told what was being parsed. The list of contexts grows by an allocator.
 ///
-/// ```text
-/// error.add_context(Global, &input, &start, "number")   is an error of the same kind
+/// ```
+/// let input = "a";
+/// let error: ContextError<&str> = ContextError::from_input(&input);
+/// let told = error.add_context(alloc, &input, &input.checkpoint(), "number");
+/// assert!(rt; ParserError::<&str>::is_backtrack(&told));
+/// assert_eq!(rt; told.context(), ["number"].as_slice());
 /// ```
 pub trait AddContext<I: Stream, C, A: Allocator>: HasKind {
     // Whether keeping a context asks for memory.

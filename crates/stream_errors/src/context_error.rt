@@ -16,9 +16,13 @@ use streams::stream::Stream;
 /// A plain error that keeps what was being parsed: the contexts that were added to it, the
 /// innermost first. It has no list before its first context.
 ///
-/// ```text
-/// digit1.context(Global, "number").parse_next(&mut b"a".as_slice())
-///     is an error whose context() is ["number"]
+/// ```
+/// let mut number = Digit1.context(alloc, "number");
+/// let answer: Result<&str, ContextError<&str>> = number.parse_next(&mut "a");
+/// match answer {
+///     Err(error) => assert_eq!(rt; error.context(), ["number"].as_slice()),
+///     Ok(_) => assert!(rt; false),
+/// }
 /// ```
 #[derive(Debug, PartialEq, Drop)]
 pub struct ContextError<C, A: Allocator = Global> {

@@ -17,9 +17,9 @@ use streams::stream::Stream;
 /// A plain error of a parser that says only whether something stands at a place, as the control
 /// character of an escape does.
 ///
-/// ```text
-/// ParserError::<&[u8]>::is_backtrack(&ControlError::Refused)   is true
-/// ParserError::<&[u8]>::is_memory(&ControlError::NoMemory)     is true
+/// ```
+/// assert!(rt; ParserError::<&[u8]>::is_backtrack(&ControlError::Refused));
+/// assert!(rt; ParserError::<&[u8]>::is_memory(&ControlError::NoMemory));
 /// ```
 #[derive(Clone, Copy, Debug, PartialEq, Eq)]
 pub enum ControlError {

@@ -11,8 +11,10 @@ use std::alloc::Allocator;
 /// An error that becomes one of another type, as of a parser over the bits of bytes. The kind
 /// stays: it backtracks, cuts, is incomplete with the same need, or wants memory, as before.
 ///
-/// ```text
-/// ErrMode::Cut(EmptyError::from_input(&input)).convert()   is an ErrMode<EmptyError> that cuts
+/// ```
+/// let converted: ErrMode<InputError<Bits<&[u8]>>> =
+///     ErrMode::Cut(InputError::at(b"a".as_slice())).convert();
+/// assert_eq!(rt; converted, ErrMode::Cut(InputError::at(Bits(b"a".as_slice(), 0))));
 /// ```
 pub trait ErrorConvert<E: HasKind>: HasKind {
     /// The error as one of the other type, of the same kind.
@@ -25,8 +27,9 @@ pub trait ErrorConvert<E: HasKind>: HasKind {
 
 /// An input of which another can be made, for an error that keeps it. Each input is one of itself.
 ///
-/// ```text
-/// b"ab".as_slice().convert_input()   is b"ab", as an input of the same type
+/// ```
+/// let same: &[u8] = b"ab".as_slice().convert_input();
+/// assert_eq!(rt; same, b"ab".as_slice());
 /// ```
 pub trait ConvertInput<J> {
     // What may be made of an input.

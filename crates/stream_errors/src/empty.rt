@@ -11,8 +11,9 @@ use streams::stream::Stream;
 
 /// A plain error that keeps nothing but whether memory was wanted.
 ///
-/// ```text
-/// ParserError::<&[u8]>::is_backtrack(&EmptyError::from_input(&input))   is true
+/// ```
+/// let error = EmptyError::from_input(&"ab");
+/// assert!(rt; ParserError::<&str>::is_backtrack(&error));
 /// ```
 #[derive(Clone, Copy, Debug, PartialEq, Eq)]
 pub struct EmptyError {

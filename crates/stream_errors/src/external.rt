@@ -13,8 +13,9 @@ use streams::stream::Stream;
 
 /// An error that is made where something other than a parser failed, as a conversion does.
 ///
-/// ```text
-/// EmptyError::from_external_error(&input, "not a day")   backtracks
+/// ```
+/// let error = EmptyError::from_external_error(&"32", "not a day");
+/// assert!(rt; ParserError::<&str>::is_backtrack(&error));
 /// ```
 pub trait FromExternalError<I: Stream, E>: HasKind {
     // Whether keeping the other error asks for memory.

@@ -7,8 +7,14 @@ use streams::stream::Stream;
 
 /// Where and why a whole parse refuses its input.
 ///
-/// ```text
-/// the error of `digit1.parse("12a")`   has offset() 2 and input() "12a"
+/// ```
+/// match Parser::<_, &str, EmptyError>::parse(&mut Digit1, "12a") {
+///     Err(ParseFault::Refused(error)) => {
+///         assert_eq!(rt; error.offset(), 2);
+///         assert_eq!(rt; *error.input(), "12a");
+///     }
+///     _ => assert!(rt; false),
+/// }
 /// ```
 #[derive(Debug, PartialEq, Drop)]
 pub struct ParseError<I, E> {

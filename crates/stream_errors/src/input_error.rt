@@ -12,8 +12,8 @@ use streams::stream::Stream;
 
 /// A plain error that keeps the input as it stood where the error arose.
 ///
-/// ```text
-/// InputError::at(input).input   is the input
+/// ```
+/// assert_eq!(rt; InputError::at("ab").input, "ab");
 /// ```
 #[derive(Clone, Copy, Debug, PartialEq, Eq)]
 pub struct InputError<I> {

@@ -7,9 +7,10 @@ use crate::mode::ErrMode;
 
 /// An error that says whether other branches may be tried, and can be told.
 ///
-/// ```text
-/// ErrMode::Backtrack(error).cut()     is ErrMode::Cut(error)
-/// ErrMode::Cut(error).backtrack()     is ErrMode::Backtrack(error)
+/// ```
+/// let error = EmptyError::from_input(&"");
+/// assert_eq!(rt; ErrMode::Backtrack(error).cut(), ErrMode::Cut(error));
+/// assert_eq!(rt; ErrMode::Cut(error).backtrack(), ErrMode::Backtrack(error));
 /// ```
 pub trait ModalError: HasKind {
     /// The error, such that no other branch is tried. Incomplete stays, and so does want of memory.

@@ -16,8 +16,9 @@ use streams::stream::Stream;
 /// Its kind is memory where the inner error is marked so, else that of the variant. `N` is
 /// [`Needed`] wherever the error is used.
 ///
-/// ```text
-/// ErrMode::Backtrack(1).map(|v| v + 1)   is ErrMode::Backtrack(2)
+/// ```
+/// let error: ErrMode<u8, Needed> = ErrMode::Backtrack(1);
+/// assert_eq!(rt; error.map(|v: u8| v == 1), ErrMode::Backtrack(true));
 /// ```
 #[derive(Debug, PartialEq, Drop)]
 pub enum ErrMode<E, N = Needed> {

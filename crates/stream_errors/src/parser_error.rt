@@ -17,9 +17,11 @@ use streams::stream::Stream;
 /// memory, a modal one, as [`ErrMode`](crate::mode::ErrMode), all four. Kind memory says that a
 /// request for memory was refused; no parser backtracks over it.
 ///
-/// ```text
-/// EmptyError::from_input(&input)                 backtracks
-/// ErrMode::<EmptyError>::assert(&input, "why")   cuts
+/// ```
+/// let plain = EmptyError::assert(&"", "why");
+/// assert!(rt; ParserError::<&str>::is_backtrack(&plain));
+/// let modal = ErrMode::<EmptyError>::assert(&"", "why");
+/// assert_eq!(rt; modal, ErrMode::Cut(plain));
 /// ```
 pub trait ParserError<I: Stream>: HasKind + Drop {
     /// The error without its mode.

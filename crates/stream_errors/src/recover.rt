@@ -10,8 +10,8 @@ use streams::token_slice::TokenSlice;
 
 /// A stream that may record the errors from which parsers recover.
 ///
-/// ```text
-/// <&[u8] as Recover<EmptyError>>::is_recovery_supported()   is false
+/// ```
+/// assert!(rt; !<&[u8] as Recover<EmptyError>>::is_recovery_supported());
 /// ```
 pub trait Recover<E: HasKind>: Stream {
     // Whether errors are recorded.

@@ -13,8 +13,12 @@ use streams::stream::Stream;
 
 /// An error that is made of one from which a parser recovers, or could not recover.
 ///
-/// ```text
-/// EmptyError::from_recoverable_error(&token_start, &err_start, &input, error)   is error
+/// ```
+/// let input = "a";
+/// let error = EmptyError::from_input(&input);
+/// let start = input.checkpoint();
+/// let kept = EmptyError::from_recoverable_error(&start, &input.checkpoint(), &input, error);
+/// assert_eq!(rt; kept, error);
 /// ```
 pub trait FromRecoverableError<I: Stream, E: HasKind>: HasKind {
     // Whether keeping the error asks for memory.

@@ -17,10 +17,12 @@ use streams::token_test::TokenTest;
 /// back what was read, and no error that was recorded. `R` is the type of the errors that are kept,
 /// and their list grows by the allocator `A`.
 ///
-/// ```text
-/// let mut input: Recoverable<&str, EmptyError> = Recoverable::new(Global, "ab");
-/// input.next_token()   is Some('a')
-/// input.into_parts()   is ("b", []), where no parser recovered
+/// ```
+/// let mut input: Recoverable<&str, EmptyError> = Recoverable::new(alloc, "ab");
+/// assert_eq!(rt; input.next_token(), Some('a'));
+/// let (rest, errors) = input.into_parts();
+/// assert_eq!(rt; rest, "b");
+/// assert_eq!(rt; errors.len(), 0);
 /// ```
 #[derive(Debug, Drop)]
 pub struct Recoverable<I, R, A: Allocator = Global> {

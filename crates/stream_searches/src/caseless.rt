@@ -14,8 +14,8 @@ pub struct Caseless<T>(pub T);
 impl<'a> Caseless<&'a str> {
     /// The literal as its bytes, without regard to case too.
     ///
-    /// ```text
-    /// Caseless("é").as_bytes()   is Caseless of [0xC3, 0xA9]
+    /// ```
+    /// assert_eq!(rt; Caseless("é").as_bytes().0, [0xC3, 0xA9].as_slice());
     /// ```
     #[inline(always)]
     pub fn as_bytes(&self) -> Caseless<&'a [u8]>

@@ -93,8 +93,9 @@ impl<S: SliceLen> SliceLen for Caseless<S> {
 ///
 /// It has no functions. Contracts of parsers that ask a slice for its length speak by it of tokens.
 ///
-/// ```text
-/// of the text "é7"   a slice of all takes 3 units, also where the stream locates or is partial
+/// ```
+/// let mut input = Partial::new(LocatingSlice::new("é7"));
+/// assert_eq!(rt; input.next_slice(3).slice_len(), 3);
 /// ```
 pub trait SlicesWithLength: Stream
 where

@@ -48,8 +48,9 @@ impl<'a> AsBStr for &'a str {
 /// It has no functions. Contracts of parsers that look at the bytes of a slice speak by it of
 /// tokens.
 ///
-/// ```text
-/// of the text "é7"   the bytes are [0xC3, 0xA9, 0x37], also where the stream locates or is partial
+/// ```
+/// let mut input = Partial::new(LocatingSlice::new("é7"));
+/// assert_eq!(rt; input.next_slice(3).as_bstr(), [0xC3, 0xA9, 0x37].as_slice());
 /// ```
 pub trait SlicesAsBytes: Stream
 where

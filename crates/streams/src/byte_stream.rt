@@ -13,8 +13,9 @@ use crate::stream::Stream;
 /// It is implemented by `&[u8]` and by the streams that wrap one. What contracts and laws of
 /// parsers of bytes need of any stream of bytes stands here.
 ///
-/// ```text
-/// b"ab".as_slice().shows_bytes()   does nothing; its contract says that 97 and 98 are below 256
+/// ```
+/// // It does nothing; its contract says that 97 and 98 are below 256.
+/// b"ab".as_slice().shows_bytes();
 /// ```
 pub trait ByteStream: Stream<Token = u8, Seen = u8> {
     /// Does nothing, and says that each token left is below 256.
@@ -39,8 +40,9 @@ pub trait ByteStream: Stream<Token = u8, Seen = u8> {
 
 /// Does nothing, and says that each byte of a slice is below 256.
 ///
-/// ```text
-/// each_is_a_byte(b"ab")   says that 97 and 98 are below 256
+/// ```
+/// // Behind it 97 and 98 are known to be below 256.
+/// each_is_a_byte(b"ab");
 /// ```
 #[inline(always)]
 pub fn each_is_a_byte(bytes: &[u8])

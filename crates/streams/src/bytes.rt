@@ -14,8 +14,11 @@ use crate::token_test::TokenTest;
 
 /// The bytes left, each with its offset in bytes.
 ///
-/// ```text
-/// b"ab".as_slice().iter_offsets()   gives (0, b'a'), then (1, b'b')
+/// ```
+/// let mut bytes = b"ab".as_slice().iter_offsets();
+/// assert_eq!(rt; bytes.next(), Some((0, b'a')));
+/// assert_eq!(rt; bytes.next(), Some((1, b'b')));
+/// assert_eq!(rt; bytes.next(), None);
 /// ```
 #[derive(Drop)]
 pub struct ByteOffsets<'a> {

@@ -7,8 +7,14 @@ ghost use Rattle.streams.specs.Kind.{ErrorForm, Kind};
 /// of one kind, and a stream that records errors shows their kinds. It has no functions: an error
 /// type says which kind each of its values has, and which kinds it has at all.
 ///
-/// ```text
-/// ErrMode::Cut(error)   has the kind cut, or memory where `error` wants memory
+/// ```
+/// fn kind_of<E: HasKind + ParserError<&'static str>>(error: &E) -> bool {
+///     error.is_memory()
+/// }
+///
+/// assert!(rt; !kind_of(&ErrMode::Cut(EmptyError::from_input(&"a"))));
+/// // The kind of the inner error goes before that of the mode.
+/// assert!(rt; kind_of(&ErrMode::Cut(EmptyError::no_memory(&"a"))));
 /// ```
 pub trait HasKind {
     // The kind of an error.

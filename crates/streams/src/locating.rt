@@ -11,9 +11,11 @@ use std::alloc::AllocError;
 ///
 /// The place is a number of units: bytes of bytes and text, items of token lists.
 ///
-/// ```text
+/// ```
 /// let mut input = LocatingSlice::new(b"ab".as_slice());
-/// input.next_token()   is Some(b'a'), and b"b" is left, at place 1
+/// assert_eq!(rt; input.next_token(), Some(b'a'));
+/// assert_eq!(rt; input.current_token_start(), 1);
+/// assert_eq!(rt; *input.as_inner(), b"b".as_slice());
 /// ```
 #[derive(Debug, PartialEq, Eq, Drop)]
 pub struct LocatingSlice<I: Stream> {

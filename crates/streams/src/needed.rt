@@ -8,9 +8,11 @@ use std::num::NonZeroUsize;
 /// The unit is that of the stream's offsets: bytes of bytes and text, items of token lists, bits
 /// of bits.
 ///
-/// ```text
-/// Needed::new(0) is Needed::Unknown
-/// Needed::new(3) asks for three units more
+/// ```
+/// assert_eq!(rt; Needed::new(0), Needed::Unknown);
+/// // An empty text lacks one byte at least.
+/// let asks: Result<char, ErrMode<EmptyError>> = Any.parse_next(&mut Partial::new(""));
+/// assert_eq!(rt; asks, Err(ErrMode::Incomplete(Needed::new(1))));
 /// ```
 #[derive(Clone, Copy, Debug, PartialEq, Eq)]
 pub enum Needed {

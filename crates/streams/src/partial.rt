@@ -12,10 +12,11 @@ use crate::token_test::TokenTest;
 /// A parser whose answer more input could change answers that it is incomplete, until the stream
 /// is marked as complete.
 ///
-/// ```text
+/// ```
 /// let mut input = Partial::new(b"ab".as_slice());
-/// input.is_partial()   is true
-/// input.complete()     is true, and then input.is_partial() is false
+/// assert!(rt; input.is_partial());
+/// assert!(rt; input.complete());
+/// assert!(rt; !input.is_partial());
 /// ```
 #[derive(Clone, Copy, Debug, PartialEq, Eq, Drop)]
 pub struct Partial<I> {

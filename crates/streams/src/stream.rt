@@ -15,10 +15,10 @@ use crate::token_test::TokenTest;
 ///
 /// Offsets count units: bytes of bytes and text, items of token lists, bits of bits.
 ///
-/// ```text
+/// ```
 /// let mut input = b"ab".as_slice();
-/// input.next_token()   is Some(b'a'), and b"b" is left
-/// input.eof_offset()   is 1
+/// assert_eq!(rt; input.next_token(), Some(b'a'));
+/// assert_eq!(rt; input.eof_offset(), 1);
 /// ```
 pub trait Stream: Drop {
     /// The smallest part of the input.
@@ -127,8 +127,8 @@ pub trait Stream: Drop {
 ///
 /// A stream that does not support this is always whole.
 ///
-/// ```text
-/// b"ab".as_slice().is_partial()   is false
+/// ```
+/// assert!(rt; !b"ab".as_slice().is_partial());
 /// ```
 pub trait StreamIsPartial: Stream {
     /// What `complete` answers and `restore_partial` takes.
@@ -170,10 +170,10 @@ pub trait StreamIsPartial: Stream {
 
 /// A stream that knows its place.
 ///
-/// ```text
+/// ```
 /// let mut input = LocatingSlice::new(b"ab".as_slice());
-/// input.next_token()            is Some(b'a')
-/// input.current_token_start()   is 1
+/// assert_eq!(rt; input.next_token(), Some(b'a'));
+/// assert_eq!(rt; input.current_token_start(), 1);
 /// ```
 pub trait Location: Stream {
     /// Where the next token begins, in units from the start.
@@ -188,8 +188,8 @@ pub trait Location: Stream {
 /// A stream in whose place one over a part of it can be put: over exactly the tokens that a slice
 /// of it shows.
 ///
-/// ```text
-/// b"abc".as_slice().update_slice(b"b".as_slice())   is b"b"
+/// ```
+/// assert_eq!(rt; b"abc".as_slice().update_slice(b"b".as_slice()), b"b".as_slice());
 /// ```
 pub trait UpdateSlice: Stream {
     /// A stream over `slice`, with the same flag. Where the slice is what was just taken of this

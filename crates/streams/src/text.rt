@@ -4,12 +4,13 @@
 //! bytes of UTF-8, one to four a character. Where an offset is asked for behind more characters
 //! than there are, the need is unknown, since nothing tells how many bytes a missing one takes.
 //!
-//! ```text
+//! ```
 //! let mut input = "aé€";
-//! input.offset_at(2)    is Ok(3), since 'é' takes two bytes
-//! input.offset_at(4)    is Err(Needed::Unknown)
-//! input.next_token()    is Some('a'), and "é€" is left
-//! input.next_slice(2)   is "é", and "€" is left
+//! assert_eq!(rt; input.offset_at(2), Ok(3));
+//! assert_eq!(rt; input.offset_at(4), Err(Needed::Unknown));
+//! assert_eq!(rt; input.next_token(), Some('a'));
+//! assert_eq!(rt; input.next_slice(2), "é");
+//! assert_eq!(rt; input, "€");
 //! ```
 ghost use Rattle.std.specs.Prelude.{◌≡◌, false, refl};
 ghost use Rattle.std.specs.Str.{chars};

@@ -16,10 +16,11 @@ use std::slice::Iter;
 ///
 /// A token is handed out by reference. Each offset and each need counts items.
 ///
-/// ```text
+/// ```
 /// let mut input = TokenSlice::new(&[7, 8]);
-/// input.next_token()   is Some(&7), and [8] is left
-/// input.offset_at(3)   is Err(Needed::new(2))
+/// assert_eq!(rt; input.next_token(), Some(&7));
+/// assert_eq!(rt; input.as_slice(), [8].as_slice());
+/// assert_eq!(rt; input.offset_at(3), Err(Needed::new(2)));
 /// ```
 #[derive(Debug, PartialEq, Eq)]
 pub struct TokenSlice<'t, T> {
@@ -41,8 +42,8 @@ impl<'t, T> Clone for TokenSlice<'t, T> {
 impl<'t, T> TokenSlice<'t, T> {
     /// The stream of `tokens`, from the first on.
     ///
-    /// ```text
-    /// TokenSlice::new(&[7, 8]).eof_offset()   is 2
+    /// ```
+    /// assert_eq!(rt; TokenSlice::new(&[7, 8]).eof_offset(), 2);
     /// ```
     pub fn new(tokens: &'t [T]) -> Self
         ensures { tokens_of result ≡ tokens.now }
@@ -52,8 +53,8 @@ impl<'t, T> TokenSlice<'t, T> {
 
     /// The tokens left.
     ///
-    /// ```text
-    /// TokenSlice::new(&[7, 8]).as_slice()   is [7, 8]
+    /// ```
+    /// assert_eq!(rt; TokenSlice::new(&[7, 8]).as_slice(), [7, 8].as_slice());
     /// ```
     #[inline(always)]
     pub fn as_slice(&self) -> &'t [T]

@@ -67,8 +67,8 @@ pub fn word_of<I: ByteStream + StreamIsPartial + Copy>(
     }
 }
 
-/// The first word of a header, with which the bytes begin: four bytes, whatever they are. No more
-/// than 2 to the 61 bytes have bits that can be counted.
+/// The first word of a header, with which the bytes begin: four bytes, whatever they are. Only of
+/// fewer than 2 to the 61 bytes the bits can be counted.
 ///
 /// ```
 /// use uses::first_word::first_word;

@@ -221,8 +221,12 @@ impl<'i> Parser<&'i [u8], Infix<Logic>, EmptyError> for Part {
 /// The answer is the value of the one tree over these bytes that keeps the powers, and what is
 /// behind it is left. It fails where there is none, and for want of memory.
 ///
-/// ```text
-/// truth(alloc, &mut input)   on b"!t|t&f'=t" is Ok(true), and nothing is left
+/// ```
+/// use uses_booleans::booleans::truth;
+///
+/// let mut input = b"!t|t&f'=t;".as_slice();
+/// assert_eq!(rt; truth(alloc, &mut input), Ok(true));
+/// assert_eq!(rt; input, b";".as_slice());
 /// ```
 pub fn truth<'i, A: Allocator + Copy>(alloc: A, input: &mut &'i [u8]) -> Result<bool, EmptyError>
     ensures { ReadsItems (ByteItem operand_at) (ByteItem prefix_at) (ByteItem postfix_at)

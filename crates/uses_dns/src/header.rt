@@ -27,9 +27,9 @@ pub struct Header {
     pub is_authoritative: bool,
     /// Whether the message was cut off.
     pub is_truncated: bool,
-    /// Whether the query is to be pursued by the server.
+    /// Whether the server is asked to pursue the query recursively.
     pub recursion_desired: bool,
-    /// Whether the server does so.
+    /// Whether the server that responds can do so, for any query.
     pub recursion_available: bool,
     /// What is reserved, a number of 3 bits.
     pub reserved: u8,

@@ -14,9 +14,11 @@ use streams::stream::StreamIsPartial;
 /// is stable: bytes, text, and [`Partial`](streams::partial::Partial) or
 /// [`LocatingSlice`](streams::locating::LocatingSlice) of these.
 ///
-/// ```text
-/// till_line_ending on cut b"ab"     asks for more
-/// till_line_ending on cut b"ab\n"   is Ok(b"ab"), with whatever follows
+/// ```
+/// let asks: Result<&str, ErrMode<EmptyError>> = till_line_ending(&mut Partial::new("ab"));
+/// assert_eq!(rt; asks, Err(ErrMode::Incomplete(Needed::Unknown)));
+/// let line: Result<&str, ErrMode<EmptyError>> = till_line_ending(&mut Partial::new("ab\n"));
+/// assert_eq!(rt; line, Ok("ab"));
 /// ```
 pub trait LineEnds: StreamIsPartial + Compare<&'static str> + FindSlice<(char, char)> {
     // A list that ends a line is not empty.

@@ -14,10 +14,12 @@ use streams::stream::Stream;
 /// of a composition by naming it over both streams. A closure over the stream, as in
 /// [`Func`](crate::parser::Func), takes one type of stream, and has no like parser.
 ///
-/// ```text
+/// ```
 /// let mut input = Partial::new(b"ab".as_slice());
 /// input.complete();
-/// (Any, b'b').parse_next(&mut input)   is Ok((b'a', b'b')), as on b"ab"
+/// let answer = (Any, b'b').parse_next(&mut input);
+/// assert_eq!(rt; answer, Ok::<_, EmptyError>((b'a', b'b')));
+/// assert_eq!(rt; (Any, b'b').parse_next(&mut b"ab".as_slice()), answer);
 /// ```
 pub trait AgreesWith<
     I: Stream,

@@ -60,9 +60,8 @@ use streams::stream::{Location, Stream, StreamIsPartial};
 /// Parsers are made of parsers: a value such as `b'='` or `b"key"` is a parser of itself, a tuple
 /// runs its members in order.
 ///
-/// ```text
-/// let mut input = b"a=1".as_slice();
-/// (b'a', b'=').parse_next(&mut input)   is Ok((b'a', b'=')), and b"1" is left
+/// ```
+/// assert_eq!(rt; ('a', '=').parse_peek("a=1"), Ok::<_, EmptyError>(("1", ('a', '='))));
 /// ```
 pub trait Parser<I: Stream, O, E: ParserError<I>>: Sized {
     // The states in which it may be run: closures in it may be called.
@@ -93,8 +92,8 @@ pub trait Parser<I: Stream, O, E: ParserError<I>>: Sized {
     /// bytes), with the error less its mode; or, where a parser asked for more of an input that is
     /// whole, how much. The caller owes a stream type that is not partial.
     ///
-    /// ```text
-    /// (b'a', b'=').parse(b"a=1")   is Refused at offset 2
+    /// ```
+    /// assert!(rt; Parser::<_, char, EmptyError>::parse(&mut 'a', "ab").is_err());
     /// ```
     final fn parse(&mut self, input: I) -> Result<O, ParseFault<I, E::Inner>>
     where
@@ -129,8 +128,9 @@ pub trait Parser<I: Stream, O, E: ParserError<I>>: Sized {
     /// counted from the start of `input`; then it gives `None` for good. The caller owes a stream
     /// type that is not partial.
     ///
-    /// ```text
-    /// b'a'.parse_iter(b"aab")   gives Ok(b'a') twice, and then Refused at offset 2
+    /// ```
+    /// // Two items, and then the fault at offset 2.
+    /// assert_eq!(rt; Parser::<_, char, EmptyError>::parse_iter(&mut 'a', "aab").count(), 3);
     /// ```
     #[inline(always)]
     final fn parse_iter(&mut self, input: I) -> ParseIter<'_, Self, I, O, E>
@@ -148,8 +148,8 @@ pub trait Parser<I: Stream, O, E: ParserError<I>>: Sized {
 
     /// Runs the parser on a stream that is handed over: the rest and the output, or the error.
     ///
-    /// ```text
-    /// b'a'.parse_peek(b"ab".as_slice())   is Ok((b"b", b'a'))
+    /// ```
+    /// assert_eq!(rt; 'a'.parse_peek("ab"), Ok::<_, EmptyError>(("b", 'a')));
     /// ```
     #[inline(always)]
     final fn parse_peek(&mut self, input: I) -> Result<(I, O), E>

@@ -18,8 +18,12 @@ use winnow_token::token::impls::{Any, NoneOf, OneOf};
 /// end there. A byte over bytes, a character over text, [`Any`], [`OneOf`] and [`NoneOf`] are never
 /// cut off, since a turn begins where something is left.
 ///
-/// ```text
-/// impl SettledControl<I, char> for char    proves so over text
+/// ```
+/// fn stands<C: SettledControl<&'static str, char>>(control: &mut C) -> bool {
+///     control.parse_next(&mut "\\n").is_ok()
+/// }
+///
+/// assert!(rt; stands(&mut '\\'));
 /// ```
 pub trait SettledControl<I: Stream, D>: Parser<I, D, ControlError> {
     // Each run of a final answer on a cut input of which something is left is one on each longer

@@ -23,8 +23,14 @@ use winnow_expression::combinator::{FoldBinary, FoldUnary, Infix, Postfix, Prefi
 
 /// Which outputs count as the same: equal numbers, or slices that show the same text.
 ///
-/// ```text
-/// impl Likeness<i64> for Equal: alike is equality
+/// ```
+/// use winnow_expression_trees::laws::Likeness;
+///
+/// struct Equal;
+///
+/// impl Likeness<i64> for Equal {
+///     ghost alike = { λ v w. v ≡ w };
+/// }
 /// ```
 pub trait Likeness<O> {
     // the outputs that are alike
@@ -43,8 +49,29 @@ pub trait Likeness<O> {
 /// each operator that is read consumes, a failure has the kind and the rest of the answer that
 /// ended the reading, and clause `ended` that this answer is one. Want of memory is left aside.
 ///
-/// ```text
-/// expression_reads_the_one_tree::<&[u8], i64, _, _, _, _, _, _, _, EmptyError, Equal>()
+/// ```
+/// use winnow_expression_trees::laws::{Likeness, expression_reads_the_one_tree};
+///
+/// struct Equal;
+///
+/// impl Likeness<u8> for Equal {
+///     ghost alike = { λ v w. v ≡ w };
+/// }
+///
+/// // Of the expression over a byte that has no operators.
+/// expression_reads_the_one_tree::<
+///     &[u8],
+///     u8,
+///     u8,
+///     Fail,
+///     Fail,
+///     Fail,
+///     NoFold,
+///     NoFold,
+///     NoFold,
+///     EmptyError,
+///     Equal,
+/// >();
 /// ```
 pub fn expression_reads_the_one_tree<
     I: Stream,
@@ -111,9 +138,32 @@ pub fn expression_reads_the_one_tree<
 /// of the folds, of what parts consume or of their states, and nothing need be run. Two such trees
 /// have the same shape, powers and end, and end in the same way.
 ///
-/// ```text
-/// at_most_one_tree_keeps_the_powers::<&[u8], i64, _, _, _, _, _, _, _, EmptyError,
-///     Equal, Equal, Equal, Equal>()
+/// ```
+/// use winnow_expression_trees::laws::{Likeness, at_most_one_tree_keeps_the_powers};
+///
+/// struct Equal;
+///
+/// impl<O> Likeness<O> for Equal {
+///     ghost alike = { λ v w. v ≡ w };
+/// }
+///
+/// // Of the expression over a byte that has no operators.
+/// at_most_one_tree_keeps_the_powers::<
+///     &[u8],
+///     u8,
+///     u8,
+///     Fail,
+///     Fail,
+///     Fail,
+///     NoFold,
+///     NoFold,
+///     NoFold,
+///     EmptyError,
+///     Equal,
+///     Equal,
+///     Equal,
+///     Equal,
+/// >();
 /// ```
 pub fn at_most_one_tree_keeps_the_powers<
     I: Stream,
@@ -155,8 +205,29 @@ pub fn at_most_one_tree_keeps_the_powers<
 /// that the first are among the second, `run` that these are runs of the expression, and `either`
 /// that each other run of it ends with the answer of a fold that refuses.
 ///
-/// ```text
-/// no_tree_where_an_assert_rule_refuses::<&[u8], i64, _, _, _, _, _, _, _, EmptyError, Equal>()
+/// ```
+/// use winnow_expression_trees::laws::{Likeness, no_tree_where_an_assert_rule_refuses};
+///
+/// struct Equal;
+///
+/// impl Likeness<u8> for Equal {
+///     ghost alike = { λ v w. v ≡ w };
+/// }
+///
+/// // Of the expression over a byte that has no operators.
+/// no_tree_where_an_assert_rule_refuses::<
+///     &[u8],
+///     u8,
+///     u8,
+///     Fail,
+///     Fail,
+///     Fail,
+///     NoFold,
+///     NoFold,
+///     NoFold,
+///     EmptyError,
+///     Equal,
+/// >();
 /// ```
 pub fn no_tree_where_an_assert_rule_refuses<
     I: Stream,

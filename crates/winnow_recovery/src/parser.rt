@@ -24,9 +24,13 @@ use winnow_core::parser::Parser;
 /// In the crate winnow these are methods of `Parser`. Here that trait stands below the streams that
 /// record errors, and it can name neither them nor the structs of this crate.
 ///
-/// ```text
-/// digit1.retry_after((take_till(0.., b','), b',').void())
-///     tries again behind each comma, until there are digits
+/// ```
+/// let mut input: Recoverable<&str, EmptyError> = Recoverable::new(alloc, "a,b,12");
+/// // It tries again behind each comma, until there are digits.
+/// let mut number = Digit1.retry_after((take_till(Range::from(0..), ','), ',').void());
+/// assert_eq!(rt; number.parse_next(&mut input), Ok::<_, EmptyError>("12"));
+/// let (_, errors) = input.into_parts();
+/// assert_eq!(rt; errors.len(), 2);
 /// ```
 pub trait RecoveringParser<
     I: Recover<E>,
@@ -74,9 +78,20 @@ pub struct NoMemory<I>(pub I);
 /// A parser with which a whole input is parsed and all errors are answered: each [`Parser`] over
 /// [`Recoverable`](stream_recovery::recoverable::Recoverable) is one.
 ///
-/// ```text
-/// digit1.recoverable_parse(Global, "12ab")
-///     is Ok(("12ab", Some("12"), errors)), where errors has one that backtracks
+/// ```
+/// type Input<'i> = Recoverable<&'i str, EmptyError>;
+/// let mut digits = Digit1.map_err(|error: EmptyError| error);
+/// match RecoverableParser::<&str, &str, EmptyError, EmptyError, _>::recoverable_parse(
+///     &mut digits,
+///     alloc,
+///     "12ab",
+/// ) {
+///     Ok((input, output, errors)) => {
+///         assert_eq!(rt; (input, output), ("12ab", Some("12")));
+///         assert_eq!(rt; errors.len(), 1);
+///     }
+///     Err(NoMemory(_)) => assert!(rt; false),
+/// }
 /// ```
 pub trait RecoverableParser<
     I: StreamIsPartial,

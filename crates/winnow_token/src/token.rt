@@ -217,10 +217,11 @@ where
 /// tokens as `occurrences` says; the output is the slice of the input.
 ///
 /// A tuple of one to three bytes or characters is matched by each of them. Where nothing matches
-/// it fails, and on a cut input it is incomplete with an unknown need. With a greatest count, a
-/// match behind fewer tokens than the least is the same, and one behind more than the greatest
-/// fails; without one, in the form `1..`, a match at the start fails. Nothing is then consumed. A
-/// greatest count below the least is an assert error.
+/// it fails, and on a cut input it is incomplete with an unknown need. The forms `0..` and `1..`
+/// have no greatest count, and in `1..` a match at the start fails; of `n..` with another `n` it is
+/// the greatest `usize`. With a greatest count, a match behind fewer tokens than the least is as
+/// no match is, and one behind more than the greatest fails. Nothing is then consumed. A greatest
+/// count below the least is an assert error.
 ///
 /// Known as `take_until` and `take_until1` in nom.
 ///

@@ -1,12 +1,13 @@
 //! Repetitions and elements with separators that are folded into a value.
 use crate::common::letter;
 use std::alloc::Allocator;
+use stream_errors::empty::EmptyError;
 use stream_errors::input_error::InputError;
 use stream_sets::range::Range;
 use streams::needed::Needed;
 use streams::partial::Partial;
 use test_support::outcomes::Kind::{Backtrack, Cut, Incomplete, Memory};
-use test_support::outcomes::{Outcome, outcome_of};
+use test_support::outcomes::{Kind, Outcome, outcome_of};
 use test_support::refusing::refused_in_turn;
 use test_support::rows::{Modal, outcome_at, same};
 use test_support::wanting::{TooLarge, Wanting};
@@ -202,6 +203,37 @@ fn separated_foldl1_of_differences(rt: HostRuntime) {
         );
         let got = outcome_at::<&str, u32, Modal, _>(&mut parser, text);
         same(&rt, "separated_foldl1", text, got, (want, rest));
+    }
+}
+
+/// Texts of differences under plain errors, what they come to nested to the left and to the right,
+/// and what is left: the last separator where no element stands behind it.
+const PLAIN_DIFFERENCES: [(&str, Result<u32, Kind>, Result<u32, Kind>, &str); 5] = [
+    ("9-5-", Ok(4), Ok(4), "-"),
+    ("90-50-20", Ok(20), Ok(60), ""),
+    ("90-50-20-;", Ok(20), Ok(60), "-;"),
+    ("9--5", Ok(9), Ok(9), "--5"),
+    ("-9", Err(Backtrack), Err(Backtrack), "-9"),
+];
+
+#[test]
+fn separated_foldl1_under_plain_errors(rt: HostRuntime) {
+    let number: ParseTo<Digit1, &str, &str, u32, EmptyError> = Digit1.parse_to();
+    let mut parser = separated_foldl1(number, '-', |left: u32, _: char, right: u32| left - right);
+    for (text, want, _, rest) in PLAIN_DIFFERENCES {
+        let got = outcome_at::<&str, u32, EmptyError, _>(&mut parser, text);
+        same(&rt, "separated_foldl1, plainly", text, got, (want, rest));
+    }
+}
+
+#[test]
+fn separated_foldr1_under_plain_errors(rt: HostRuntime) {
+    let number: ParseTo<Digit1, &str, &str, u32, EmptyError> = Digit1.parse_to();
+    let take_off = |left: u32, _: char, right: u32| left - right;
+    let mut parser = separated_foldr1(rt.alloc(), number, '-', take_off);
+    for (text, _, want, rest) in PLAIN_DIFFERENCES {
+        let got = outcome_at::<&str, u32, EmptyError, _>(&mut parser, text);
+        same(&rt, "separated_foldr1, plainly", text, got, (want, rest));
     }
 }
 

@@ -16,8 +16,10 @@ use test_support::texts::OfText;
 use winnow_ascii::ascii::impls::Digit1;
 use winnow_comb::combinator;
 use winnow_comb::combinator::impls::{Empty, Opt};
+use winnow_core::combinator::impls::ParseTo;
 use winnow_core::parser::Parser;
 use winnow_separated::combinator::impls::Separated;
+use winnow_separated::combinator::separated_foldl1;
 use winnow_token::token::impls::TakeWhile;
 
 /// One run of a separation into a list, and the units left.
@@ -239,4 +241,20 @@ fn separated_of_options(rt: HostRuntime) {
         Ok(&[None, None, None]),
     );
     same(&rt, "separated(0.., opt)", ",,", left, "");
+}
+
+/// Sums of numbers: behind the last one a plus may stand without a number, and is left.
+#[test]
+fn separated_foldl1_of_sums(rt: HostRuntime) {
+    let number: ParseTo<Digit1, &str, &str, u32, Modal> = Digit1.parse_to();
+    let mut parser = separated_foldl1(number, '+', |left: u32, _: char, right: u32| left + right);
+    for (text, want, rest) in [
+        ("12+", Ok(12), "+"),
+        ("12+345", Ok(357), ""),
+        ("12+345+;", Ok(357), "+;"),
+        ("+12", Err(Backtrack), "+12"),
+    ] {
+        let got = outcome_at::<&str, u32, Modal, _>(&mut parser, text);
+        same(&rt, "separated_foldl1", text, got, (want, rest));
+    }
 }

@@ -16,8 +16,18 @@ use std::process::ExitCode;
 /// Words that are not text are no reader's name: they give the usage line. Where there is no memory
 /// for the words, `out of memory` is on `errors`. Both have the exit code 2, and nothing is read.
 ///
-/// ```text
-/// serve(&rt, &mut rt.stdin(), &mut rt.stdout(), &mut rt.stderr())   is what `main` answers
+/// ```
+/// use readers::program::serve;
+/// use std::process::ExitCode;
+///
+/// // No word stands behind the name of an example: the usage line is told.
+/// let mut output = [0_u8; 4];
+/// let mut errors = [0_u8; 32];
+/// let mut writer = output.as_mut_slice();
+/// let mut teller = errors.as_mut_slice();
+/// let code = serve(&rt, &mut b"key=value".as_slice(), &mut writer, &mut teller);
+/// assert_eq!(rt; code, ExitCode::from(2));
+/// assert!(rt; errors.starts_with(b"usage: "));
 /// ```
 pub fn serve<A: Allocator + Copy, R: Env + Alloc<A = A>, I: Read, W: Write, E: Write>(
     rt: &R,

@@ -14,15 +14,28 @@ use streams::stream::Stream;
 ///
 /// A plain function owes one clause, over bytes, or over any stream where it is then used at one:
 ///
-/// ```text
-/// fn word(input: &mut &[u8]) -> ..
+/// ```
+/// ghost use Rattle.streams.specs.Bytes.{bytes_input, bytes_reading};
+/// ghost use Rattle.streams.specs.Input.{IsEndOf};
+///
+/// fn word<'i>(input: &mut &'i [u8]) -> Result<u8, EmptyError>
 ///     ensures { IsEndOf bytes_reading (bytes_input input.new.now) (bytes_input input.old.now) }
+/// {
+///     b'a'.parse_next(input)
+/// }
 ///
-/// fn word<I: Stream, E: ParserError<I>>(input: &mut I) -> ..
+/// fn nothing_of<I: Stream, E: ParserError<I>>(input: &mut I) -> Result<(), E>
 ///     ensures { IsEndOf I.reading (I.view input.new) (I.view input.old) }
+/// {
+///     ().parse_next(input)
+/// }
 ///
-/// Func(word), Func(word::<&[u8], EmptyError>)        are parsers of them
-/// Func(|input: &mut &[u8]| b'a'.parse_next(input))   is a parser of b'a'
+/// assert_eq!(rt; Func(word).parse_peek(b"ab".as_slice()), Ok((b"b".as_slice(), b'a')));
+/// let mut nothing = Func(nothing_of::<&[u8], EmptyError>);
+/// assert_eq!(rt; nothing.parse_peek(b"ab".as_slice()), Ok((b"ab".as_slice(), ())));
+/// let mut closure = Func(|input: &mut &[u8]| b'a'.parse_next(input));
+/// let answer: Result<(&[u8], u8), EmptyError> = closure.parse_peek(b"ab".as_slice());
+/// assert_eq!(rt; answer, Ok((b"b".as_slice(), b'a')));
 /// ```
 #[derive(Clone, Copy, Drop)]
 pub struct Func<F>(pub F);

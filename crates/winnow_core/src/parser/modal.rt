@@ -6,9 +6,14 @@ use streams::stream::Stream;
 
 /// A parser under errors with a mode: each [`Parser`] over `ErrMode<E>` is one.
 ///
-/// ```text
-/// fn word<P: ModalParser<I, O, EmptyError>, ..>(parser: P)
-///     takes a Parser<I, O, ErrMode<EmptyError>>
+/// ```
+/// fn taken_by<P: ModalParser<&'static str, char, EmptyError> + Drop>(mut parser: P) -> usize {
+///     let mut input = "ab";
+///     let _answer: Result<char, ErrMode<EmptyError>> = parser.parse_next(&mut input);
+///     2 - input.len()
+/// }
+///
+/// assert_eq!(rt; taken_by('a'), 1);
 /// ```
 pub trait ModalParser<I: Stream, O, E: ParserError<I>>: Parser<I, O, ErrMode<E>> {}
 

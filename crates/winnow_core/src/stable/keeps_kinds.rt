@@ -12,9 +12,13 @@ use stream_errors::mode::ErrMode;
 /// Over it [`ErrInto`](crate::combinator::impls::ErrInto) is stable. Errors with a mode keep
 /// their kinds where they are converted to their own type.
 ///
-/// ```text
-/// impl From<ErrMode<EmptyError>> for MyError { .. }          makes of each kind an error of it
-/// impl KeepsKinds<ErrMode<EmptyError>> for MyError { .. }    proves so
+/// ```
+/// fn keeps<E: KeepsKinds<ErrMode<EmptyError>>>(error: ErrMode<EmptyError>) -> E {
+///     E::from(error)
+/// }
+///
+/// let error = EmptyError::from_input(&"");
+/// assert_eq!(rt; keeps::<ErrMode<EmptyError>>(ErrMode::Cut(error)), ErrMode::Cut(error));
 /// ```
 pub trait KeepsKinds<E: HasKind>: HasKind + From<E> {
     // The errors that are converted have a mode.

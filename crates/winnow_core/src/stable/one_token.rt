@@ -11,8 +11,12 @@ use streams::partial::Partial;
 ///
 /// So are a byte on bytes and a character on text; a character on bytes may be several.
 ///
-/// ```text
-/// impl ComparesOneToken<u8> for &[u8]    proves so
+/// ```
+/// fn one_token<'i, I: ComparesOneToken<char> + Drop>(input: I) -> CompareResult {
+///     input.compare('é')
+/// }
+///
+/// assert_eq!(rt; one_token("éa"), CompareResult::Ok(2));
 /// ```
 pub trait ComparesOneToken<T>: Compare<T> {
     // A literal stands for lists of one token.

@@ -13,8 +13,23 @@ use streams::stream::Stream;
 /// The operand has been read, and `input` stands behind it. A fold may refuse, as where a sum is
 /// too large: its error is the expression's, and the input is left where the fold left it.
 ///
-/// ```text
-/// impl FoldUnary<I, i64, E> for Negate: apply(&self, input, operand) is Ok(-operand)
+/// ```
+/// ghost use Rattle.streams.specs.Input.{IsEndOf};
+///
+/// #[derive(Drop)]
+/// struct Not;
+///
+/// impl<I: Stream, E: ParserError<I>> FoldUnary<I, bool, E> for Not {
+///     ghost folds = { λ _ _ i _ _ j. IsEndOf I.reading j i };
+///
+///     ghost leaves_ends = { λ _ _ _ _ _ _ ends. ends };
+///
+///     fn apply(&self, _input: &mut I, operand: bool) -> Result<bool, E> {
+///         Ok(!operand)
+///     }
+/// }
+///
+/// assert_eq!(rt; Not.apply(&mut "", true), Ok::<_, EmptyError>(false));
 /// ```
 pub trait FoldUnary<I: Stream, O, E: ParserError<I>>: Drop {
     // What it answers and leaves, by the form of the errors.
@@ -37,8 +52,23 @@ pub trait FoldUnary<I: Stream, O, E: ParserError<I>>: Drop {
 /// where a sum is too large: its error is the expression's, and the input is left where the fold
 /// left it.
 ///
-/// ```text
-/// impl FoldBinary<I, i64, E> for Add: apply(&self, input, left, right) is Ok(left + right)
+/// ```
+/// ghost use Rattle.streams.specs.Input.{IsEndOf};
+///
+/// #[derive(Drop)]
+/// struct And;
+///
+/// impl<I: Stream, E: ParserError<I>> FoldBinary<I, bool, E> for And {
+///     ghost folds = { λ _ _ i _ _ _ j. IsEndOf I.reading j i };
+///
+///     ghost leaves_ends = { λ _ _ _ _ _ _ _ ends. ends };
+///
+///     fn apply(&self, _input: &mut I, left: bool, right: bool) -> Result<bool, E> {
+///         Ok(left && right)
+///     }
+/// }
+///
+/// assert_eq!(rt; And.apply(&mut "", true, false), Ok::<_, EmptyError>(false));
 /// ```
 pub trait FoldBinary<I: Stream, O, E: ParserError<I>>: Drop {
     // What it answers and leaves, by the form of the errors.
@@ -59,8 +89,14 @@ pub trait FoldBinary<I: Stream, O, E: ParserError<I>>: Drop {
 ///
 /// So the expressions over both are alike, as one over text is like that over text that may be cut.
 ///
-/// ```text
-/// impl FoldsUnaryLike<I, i64, E, J, D> for Negate   says that it negates over both
+/// ```
+/// fn over_both<'i, F>(_fold: F)
+/// where
+///     F: FoldsUnaryLike<&'i str, bool, EmptyError, Partial<&'i str>, EmptyError>,
+/// {
+/// }
+///
+/// over_both(NoFold);
 /// ```
 pub trait FoldsUnaryLike<
     I: Stream,
@@ -77,8 +113,14 @@ pub trait FoldsUnaryLike<
 
 /// A fold of two operands that does over the stream `J` what it does over `I`.
 ///
-/// ```text
-/// impl FoldsBinaryLike<I, i64, E, J, D> for Add   says that it adds over both
+/// ```
+/// fn over_both<'i, F>(_fold: F)
+/// where
+///     F: FoldsBinaryLike<&'i str, bool, EmptyError, Partial<&'i str>, EmptyError>,
+/// {
+/// }
+///
+/// over_both(NoFold);
 /// ```
 pub trait FoldsBinaryLike<
     I: Stream,
@@ -95,8 +137,10 @@ pub trait FoldsBinaryLike<
 
 /// The fold of an expression that has no such operators: it is never applied.
 ///
-/// ```text
-/// expression(alloc, operand)   has NoFold three times
+/// ```
+/// // This one has `NoFold` three times.
+/// let mut number = expression(alloc, Digit1.parse_to::<u32>());
+/// assert_eq!(rt; number.parse_peek("12;"), Ok::<_, EmptyError>((";", 12)));
 /// ```
 #[derive(Clone, Copy, Debug, PartialEq, Eq)]
 pub struct NoFold;

@@ -19,16 +19,20 @@ use winnow_core::stable::Stable;
 ///
 /// The operand takes in all operators that are at least as strong as the power.
 ///
-/// ```text
-/// b'-'.value(Prefix(12, Negate))   is a parser of prefix operators
+/// ```
+/// let mut minus = '-'.value(Prefix(12, "negated"));
+/// let answer: Result<Prefix<&str>, EmptyError> = minus.parse_next(&mut "-3");
+/// assert!(rt; matches!(answer, Ok(Prefix(12, "negated"))));
 /// ```
 #[derive(Clone, Drop)]
 pub struct Prefix<F>(pub i64, pub F);
 
 /// A postfix operator: its power, and what it does with its operand.
 ///
-/// ```text
-/// b'!'.value(Postfix(13, Factorial))   is a parser of postfix operators
+/// ```
+/// let mut mark = '!'.value(Postfix(13, "factorial"));
+/// let answer: Result<Postfix<&str>, EmptyError> = mark.parse_next(&mut "!");
+/// assert!(rt; matches!(answer, Ok(Postfix(13, "factorial"))));
 /// ```
 #[derive(Clone, Drop)]
 pub struct Postfix<F>(pub i64, pub F);
@@ -39,9 +43,10 @@ pub struct Postfix<F>(pub i64, pub F);
 /// and those that are `Right` from the right; behind a `Neither` another infix of its power ends
 /// the expression.
 ///
-/// ```text
-/// alt((b'+'.value(Infix::Left(5, Add)), b'^'.value(Infix::Right(9, Power))))
-///     is a parser of infix operators
+/// ```
+/// let mut operator = alt(('+'.value(Infix::Left(5, "sum")), '^'.value(Infix::Right(9, "power"))));
+/// let answer: Result<Infix<&str>, EmptyError> = operator.parse_next(&mut "^2");
+/// assert!(rt; matches!(answer, Ok(Infix::Right(9, "power"))));
 /// ```
 #[derive(Clone, Drop)]
 pub enum Infix<F> {
@@ -65,8 +70,9 @@ pub struct Binding<F> {
 impl<F> Infix<F> {
     /// The powers and the fold.
     ///
-    /// ```text
-    /// Infix::Left(5, Add).binding()   has the left power 5 and the right power 6
+    /// ```
+    /// let binding = Infix::Left(5, "sum").binding();
+    /// assert_eq!(rt; (binding.left, binding.right), (5, 6));
     /// ```
     #[inline(always)]
     pub fn binding(self) -> Binding<F>

@@ -32,9 +32,28 @@ use winnow_core::parser::Parser;
 ///
 /// Known as Pratt's method, or precedence climbing.
 ///
-/// ```text
-/// expression(alloc, number).infix(b'-'.value(Infix::Left(5, Subtract)))
-///     on b"5-2-1" is 2, and nothing is left
+/// ```
+/// ghost use Rattle.streams.specs.Input.{IsEndOf};
+///
+/// #[derive(Clone, Copy, Drop)]
+/// struct Minus;
+///
+/// impl<I: Stream, E: ParserError<I>> FoldBinary<I, u32, E> for Minus {
+///     ghost folds = { λ _ _ i _ _ _ j. IsEndOf I.reading j i };
+///
+///     ghost leaves_ends = { λ _ _ _ _ _ _ _ ends. ends };
+///
+///     fn apply(&self, input: &mut I, left: u32, right: u32) -> Result<u32, E> {
+///         match left.checked_sub(right) {
+///             Some(value) => Ok(value),
+///             None => Err(E::from_input(input)),
+///         }
+///     }
+/// }
+///
+/// let number = Digit1.parse_to::<u32>();
+/// let mut differences = expression(alloc, number).infix('-'.value(Infix::Left(5, Minus)));
+/// assert_eq!(rt; differences.parse_peek("5-2-1;"), Ok::<_, EmptyError>((";", 2)));
 /// ```
 ///
 /// [`prefix`]: crate::combinator::impls::Expression::prefix

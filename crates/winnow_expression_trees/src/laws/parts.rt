@@ -17,8 +17,11 @@ type Bytes = &'static [u8];
 /// A number of digits over bytes is an operand as the laws of trees ask, where equal numbers are
 /// alike.
 ///
-/// ```text
-/// a_number_is_stateless::<EmptyError>()   is about Digit1.parse_to::<i64>()
+/// ```
+/// use winnow_expression_trees::laws::parts::a_number_is_stateless;
+///
+/// // Of `Digit1.parse_to::<i64>()`.
+/// a_number_is_stateless::<EmptyError>();
 /// ```
 pub fn a_number_is_stateless<E: ParserError<Bytes>>()
     ensures { IsStateless (λ v w. v ≡ w)
@@ -27,8 +30,11 @@ pub fn a_number_is_stateless<E: ParserError<Bytes>>()
 
 /// A byte is a part as the laws of trees ask.
 ///
-/// ```text
-/// a_byte_is_stateless::<EmptyError>()   is about b'-'
+/// ```
+/// use winnow_expression_trees::laws::parts::a_byte_is_stateless;
+///
+/// // Of a byte, as `b'-'`.
+/// a_byte_is_stateless::<EmptyError>();
 /// ```
 pub fn a_byte_is_stateless<E: ParserError<Bytes>>()
     ensures { (b : ℕ) → IsStateless (λ v w. v ≡ w)
@@ -38,9 +44,18 @@ pub fn a_byte_is_stateless<E: ParserError<Bytes>>()
 /// A value in the place of an output is a part as the laws of trees ask, where its clones are
 /// alike and the parser is such a part: so is an operator behind what is read for it.
 ///
-/// ```text
-/// a_value_is_stateless::<&[u8], u8, Prefix<Sign>, u8, EmptyError, Byte, Equal>()
-///     is about b'-'.value(Prefix(12, Sign::Minus))
+/// ```
+/// use winnow_expression_trees::laws::Likeness;
+/// use winnow_expression_trees::laws::parts::a_value_is_stateless;
+///
+/// struct Equal;
+///
+/// impl<O> Likeness<O> for Equal {
+///     ghost alike = { λ v w. v ≡ w };
+/// }
+///
+/// // Of `b'-'.value(Prefix(12, "negated"))`.
+/// a_value_is_stateless::<&[u8], u8, Prefix<&str>, u8, EmptyError, Equal, Equal>();
 /// ```
 pub fn a_value_is_stateless<
     I: Stream,
@@ -58,9 +73,18 @@ pub fn a_value_is_stateless<
 
 /// A choice between two parts is one, as the laws of trees ask.
 ///
-/// ```text
-/// a_choice_is_stateless::<&[u8], Infix<Pair>, _, _, EmptyError, Equal>()
-///     is about alt((b'+'.value(Infix::Left(5, Pair::Plus)), b'*'.value(..)))
+/// ```
+/// use winnow_expression_trees::laws::Likeness;
+/// use winnow_expression_trees::laws::parts::a_choice_is_stateless;
+///
+/// struct Equal;
+///
+/// impl<O> Likeness<O> for Equal {
+///     ghost alike = { λ v w. v ≡ w };
+/// }
+///
+/// // Of `alt((b'+', b'-'))`.
+/// a_choice_is_stateless::<&[u8], u8, u8, u8, EmptyError, Equal>();
 /// ```
 pub fn a_choice_is_stateless<
     I: Stream,
@@ -78,8 +102,18 @@ pub fn a_choice_is_stateless<
 
 /// The parser that stands where no operators were set is a part as the laws of trees ask.
 ///
-/// ```text
-/// an_unset_parser_is_stateless::<&[u8], Prefix<NoFold>, EmptyError, Equal>()   is about Fail
+/// ```
+/// use winnow_expression_trees::laws::Likeness;
+/// use winnow_expression_trees::laws::parts::an_unset_parser_is_stateless;
+///
+/// struct Equal;
+///
+/// impl<O> Likeness<O> for Equal {
+///     ghost alike = { λ v w. v ≡ w };
+/// }
+///
+/// // Of `Fail`, which stands where no prefix was set.
+/// an_unset_parser_is_stateless::<&[u8], Prefix<NoFold>, EmptyError, Equal>();
 /// ```
 pub fn an_unset_parser_is_stateless<I: Stream, O, E: ParserError<I>, A: Likeness<O>>()
     ensures { IsStateless A.alike (⟦<Fail as Parser<I, O, E>>⟧.meaning E.form) tt }

@@ -27,11 +27,12 @@ use winnow_core::parser::Parser;
 /// `finish` answers the error that ended it, and `Ok(())` where a backtrack did or where it could
 /// give more items.
 ///
-/// ```text
-/// let mut input = b"aab".as_slice();
-/// let mut items = iterator(&mut input, b'a');
-/// for item in &mut items { .. }   runs twice
-/// items.finish()   is Ok(()), and b"b" is left
+/// ```
+/// let mut input = "aab";
+/// let mut items: ParserIterator<_, &str, char, EmptyError> = iterator(&mut input, 'a');
+/// assert_eq!(rt; (&mut items).count(), 2);
+/// assert_eq!(rt; items.finish(), Ok(()));
+/// assert_eq!(rt; input, "b");
 /// ```
 #[inline(always)]
 pub fn iterator<P, I, O, E>(input: &mut I, parser: P) -> ParserIterator<'_, P, I, O, E>
@@ -64,9 +65,12 @@ where
 ///
 /// Known as `many0`, `many1`, `many_m_n` and `count` in nom.
 ///
-/// ```text
-/// repeat(alloc, Range::from(0..), b"ab").parse_next(&mut b"ababa".as_slice())
-///     is Ok of two slices in a Vec, and b"a" is left
+/// ```
+/// let mut parser = repeat(alloc, Range::from(0..), "ab");
+/// let mut input = "ababa";
+/// let slices: Result<Vec<&str>, EmptyError> = parser.parse_next(&mut input);
+/// assert_eq!(rt; slices.map(|all| all.len()), Ok(2));
+/// assert_eq!(rt; input, "a");
 /// ```
 #[inline(always)]
 pub fn repeat<P, I, O, C, E, A>(alloc: A, occurrences: Range, parser: P) -> Repeat<P, I, O, C, E, A>
@@ -101,13 +105,17 @@ where
 /// failure of it, and each failure of `parser`. A greatest count below the least is an assert
 /// error, and nothing is run. Memory is taken by the accumulator alone.
 ///
-/// Only the form `0..` has no greatest count: of `n..` with another `n` it is the greatest `usize`.
+/// Only the forms `0..` and `1..` have no greatest count: of `n..` with another `n` it is the
+/// greatest `usize`.
 ///
 /// Known as `many_till` in nom.
 ///
-/// ```text
-/// repeat_till(alloc, Range::from(0..), Any, b';').parse_next(&mut b"ab;c".as_slice())
-///     is Ok of a Vec of b'a' and b'b', and of b';', and b"c" is left
+/// ```
+/// let mut parser = repeat_till(alloc, Range::from(0..), Any, ';');
+/// let mut input = "ab;c";
+/// let answer: Result<(Vec<char>, char), EmptyError> = parser.parse_next(&mut input);
+/// assert!(rt; matches!(answer, Ok((all, ';')) if all.as_slice() == ['a', 'b'].as_slice()));
+/// assert_eq!(rt; input, "c");
 /// ```
 #[inline(always)]
 pub fn repeat_till<P, G, I, O, D, C, E, A>(
@@ -143,10 +151,13 @@ where
 /// stay overwritten, that one and those behind it stay as they were. An empty buffer runs nothing.
 /// An item need not consume. No memory is taken.
 ///
-/// ```text
-/// let mut letters = [b'x', b'y', b'z'];
-/// fill(Any, &mut letters).parse_next(&mut b"ab".as_slice())
-///     is an error that backtracks, at the end; letters is [b'a', b'b', b'z']
+/// ```
+/// let mut letters = ['x', 'y', 'z'];
+/// let mut input = "ab";
+/// let answer = fill(Any, &mut letters).parse_next(&mut input);
+/// assert_eq!(rt; answer, Err(EmptyError::from_input(&"")));
+/// assert_eq!(rt; input, "");
+/// assert_eq!(rt; letters, ['a', 'b', 'z']);
 /// ```
 #[inline(always)]
 pub fn fill<P, I, O, E>(parser: P, buffer: &mut [O]) -> Fill<'_, P, I, O, E>

@@ -29,9 +29,12 @@ use winnow_core::parser::Parser;
 ///
 /// Known as `separated_list0` and `separated_list1` in nom.
 ///
-/// ```text
-/// separated(alloc, Range::from(0..), Digit1, b',').parse_next(&mut b"1,2,".as_slice())
-///     is Ok of two slices in a Vec, and b"," is left
+/// ```
+/// let mut parser = separated(alloc, Range::from(0..), Digit1, ',');
+/// let mut input = "1,2,";
+/// let slices: Result<Vec<&str>, EmptyError> = parser.parse_next(&mut input);
+/// assert_eq!(rt; slices.map(|all| all.len()), Ok(2));
+/// assert_eq!(rt; input, ",");
 /// ```
 #[inline(always)]
 pub fn separated<P, S, I, O, D, C, E, A>(
@@ -69,9 +72,10 @@ where
 ///
 /// Known as `chainl1` elsewhere.
 ///
-/// ```text
-/// separated_foldl1(number, b'-', |left: u32, _, right: u32| left - right)
-///     on b"9-5-2;" is Ok(2), and b";" is left
+/// ```
+/// let number = Digit1.parse_to::<u32>();
+/// let mut parser = separated_foldl1(number, '-', |left: u32, _: char, right: u32| left - right);
+/// assert_eq!(rt; parser.parse_peek("9-5-2;"), Ok::<_, EmptyError>((";", 2)));
 /// ```
 #[inline(always)]
 pub fn separated_foldl1<P, S, H, I, O, D, E>(
@@ -102,9 +106,11 @@ where
 ///
 /// Known as `chainr1` elsewhere.
 ///
-/// ```text
-/// separated_foldr1(alloc, number, b'-', |left: u32, _, right: u32| left - right)
-///     on b"9-5-2;" is Ok(6), and b";" is left
+/// ```
+/// let number = Digit1.parse_to::<u32>();
+/// let take_off = |left: u32, _: char, right: u32| left - right;
+/// let mut parser = separated_foldr1(alloc, number, '-', take_off);
+/// assert_eq!(rt; parser.parse_peek("9-5-2;"), Ok::<_, EmptyError>((";", 6)));
 /// ```
 #[inline(always)]
 pub fn separated_foldr1<P, S, H, I, O, D, E, A>(

@@ -16,8 +16,9 @@ use streams::stream::{Stream, StreamIsPartial};
 
 /// The parser that [`Parser::and_then`](crate::parser::Parser::and_then) makes.
 ///
-/// ```text
-/// Take::new(3).and_then(digit1)   is an AndThen
+/// ```
+/// let mut parser = take(3_u8).and_then(Digit1);
+/// assert_eq!(rt; parser.parse_peek("12;3"), Ok::<_, EmptyError>(("3", "12")));
 /// ```
 #[derive(Drop)]
 pub struct AndThen<F, G, I, O, O2, E> {

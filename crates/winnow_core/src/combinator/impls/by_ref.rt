@@ -15,8 +15,10 @@ use streams::stream::Stream;
 
 /// The parser that [`Parser::by_ref`](crate::parser::Parser::by_ref) makes.
 ///
-/// ```text
-/// digits.by_ref()   is a ByRef
+/// ```
+/// let mut digits = take_while(Range::from(1..), '0'..='9');
+/// assert_eq!(rt; digits.by_ref().parse_peek("12;"), Ok::<_, EmptyError>((";", "12")));
+/// assert_eq!(rt; digits.parse_peek("3"), Ok::<_, EmptyError>(("", "3")));
 /// ```
 #[derive(Drop)]
 pub struct ByRef<'p, P, I, O, E> {

@@ -13,8 +13,10 @@ use streams::stream::Stream;
 
 /// The parser that [`Parser::complete_err`](crate::parser::Parser::complete_err) makes.
 ///
-/// ```text
-/// digit1.complete_err()   is a CompleteErr
+/// ```
+/// let answer: Result<&str, ErrMode<EmptyError>> =
+///     Digit1.complete_err().parse_next(&mut Partial::new("12"));
+/// assert_eq!(rt; answer, Err(ErrMode::Backtrack(EmptyError::from_input(&""))));
 /// ```
 #[derive(Drop)]
 pub struct CompleteErr<F, I, O, E> {

@@ -20,8 +20,13 @@ use streams::stream::Stream;
 
 /// The parser that [`Parser::context`](crate::parser::Parser::context) makes.
 ///
-/// ```text
-/// digit1.context(Global, "number")   is a Context
+/// ```
+/// let answer: Result<&str, ContextError<&str>> =
+///     Digit1.context(alloc, "number").parse_next(&mut "a");
+/// match answer {
+///     Err(error) => assert_eq!(rt; error.context(), ["number"].as_slice()),
+///     Ok(_) => assert!(rt; false),
+/// }
 /// ```
 #[derive(Drop)]
 pub struct Context<F, I, O, E, C, A> {

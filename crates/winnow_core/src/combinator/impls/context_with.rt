@@ -21,8 +21,13 @@ use streams::stream::Stream;
 
 /// The parser that [`Parser::context_with`](crate::parser::Parser::context_with) makes.
 ///
-/// ```text
-/// digit1.context_with(Global, || ["number"].into_iter())   is a ContextWith
+/// ```
+/// let mut parser = Digit1.context_with(alloc, || ["digit", "number"].into_iter());
+/// let answer: Result<&str, ContextError<&str>> = parser.parse_next(&mut "a");
+/// match answer {
+///     Err(error) => assert_eq!(rt; error.context(), ["digit", "number"].as_slice()),
+///     Ok(_) => assert!(rt; false),
+/// }
 /// ```
 #[derive(Drop)]
 pub struct ContextWith<P, I, O, E, F, C, FI, A> {

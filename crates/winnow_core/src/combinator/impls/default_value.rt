@@ -16,8 +16,9 @@ use streams::stream::Stream;
 
 /// The parser that [`Parser::default_value`](crate::parser::Parser::default_value) makes.
 ///
-/// ```text
-/// b'a'.default_value::<u8>()   is a DefaultValue
+/// ```
+/// let mut parser = b'a'.default_value::<u8>();
+/// assert_eq!(rt; parser.parse_peek(b"ab".as_slice()), Ok::<_, EmptyError>((b"b".as_slice(), 0)));
 /// ```
 #[derive(Drop)]
 pub struct DefaultValue<F, I, O, O2, E> {

@@ -14,8 +14,9 @@ use streams::stream::Stream;
 
 /// The parser [`eof`](crate::combinator::eof).
 ///
-/// ```text
-/// (b'a', Eof).parse_next(&mut b"a".as_slice())   is Ok((b'a', b""))
+/// ```
+/// let answer = (b'a', Eof).parse_next(&mut b"a".as_slice());
+/// assert_eq!(rt; answer, Ok::<_, EmptyError>((b'a', b"".as_slice())));
 /// ```
 #[derive(Clone, Copy, Debug, PartialEq, Eq)]
 pub struct Eof;

@@ -15,8 +15,9 @@ use streams::stream::Stream;
 
 /// The parser that [`Parser::err_into`](crate::parser::Parser::err_into) makes.
 ///
-/// ```text
-/// digit1.err_into::<Fault>()   is an ErrInto
+/// ```
+/// let mut parser = Digit1.map_err(|error: EmptyError| error).err_into::<EmptyError>();
+/// assert_eq!(rt; parser.parse_peek("12;"), Ok((";", "12")));
 /// ```
 #[derive(Drop)]
 pub struct ErrInto<F, I, O, E, E2> {

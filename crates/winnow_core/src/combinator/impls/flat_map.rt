@@ -15,8 +15,10 @@ use streams::stream::Stream;
 
 /// The parser that [`Parser::flat_map`](crate::parser::Parser::flat_map) makes.
 ///
-/// ```text
-/// length.flat_map(|n: usize| take(n))   is a FlatMap
+/// ```
+/// let mut parser = Any.flat_map(|count: u8| take(count));
+/// assert_eq!(rt; parser.parse_peek(b"\x02abc".as_slice()),
+///     Ok::<_, EmptyError>((b"c".as_slice(), b"ab".as_slice())));
 /// ```
 #[derive(Drop)]
 pub struct FlatMap<F, G, H, I, O, O2, E> {

@@ -15,8 +15,9 @@ use streams::stream::Stream;
 
 /// The parser that [`Parser::map`](crate::parser::Parser::map) makes.
 ///
-/// ```text
-/// digits.map(|slice: &[u8]| slice.len())   is a Map
+/// ```
+/// let mut parser = Digit1.map(|digits: &str| digits.len());
+/// assert_eq!(rt; parser.parse_peek("12;"), Ok::<_, EmptyError>((";", 2)));
 /// ```
 #[derive(Drop)]
 pub struct Map<F, G, I, O, O2, E> {

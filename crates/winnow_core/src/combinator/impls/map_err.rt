@@ -13,8 +13,10 @@ use streams::stream::Stream;
 
 /// The parser that [`Parser::map_err`](crate::parser::Parser::map_err) makes.
 ///
-/// ```text
-/// digit1.map_err(|_: ErrMode<EmptyError>| Fault::NoDigit)   is a MapErr
+/// ```
+/// let mut parser = Digit1.map_err(|error: EmptyError| ErrMode::Cut(error));
+/// let answer: Result<&str, ErrMode<EmptyError>> = parser.parse_next(&mut "a");
+/// assert_eq!(rt; answer, Err(ErrMode::Cut(EmptyError::from_input(&"a"))));
 /// ```
 #[derive(Drop)]
 pub struct MapErr<F, G, I, O, E, E2> {

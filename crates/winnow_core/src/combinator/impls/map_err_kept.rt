@@ -16,8 +16,10 @@ use streams::stream::Stream;
 /// It is stable where its child is. [`MapErr`](crate::combinator::impls::MapErr) is not: its
 /// closure may make a failure of a need of more input.
 ///
-/// ```text
-/// Digit1.map_err_kept(|error: ErrMode<EmptyError>| error)   is a MapErrKept
+/// ```
+/// let mut digits = Digit1.map_err_kept(|error: ErrMode<EmptyError>| error);
+/// let answer: Result<&str, ErrMode<EmptyError>> = digits.parse_next(&mut Partial::new("12"));
+/// assert_eq!(rt; answer, Err(ErrMode::Incomplete(Needed::new(1))));
 /// ```
 #[derive(Drop)]
 pub struct MapErrKept<F, G, I, O, E, E2> {

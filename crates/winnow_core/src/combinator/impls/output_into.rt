@@ -16,8 +16,9 @@ use streams::stream::Stream;
 
 /// The parser that [`Parser::output_into`](crate::parser::Parser::output_into) makes.
 ///
-/// ```text
-/// digits.output_into::<u64>()   is an OutputInto
+/// ```
+/// let mut parser = Any.output_into::<u64>();
+/// assert_eq!(rt; parser.parse_peek(b"\x02".as_slice()), Ok::<_, EmptyError>((b"".as_slice(), 2)));
 /// ```
 #[derive(Drop)]
 pub struct OutputInto<F, I, O, O2, E> {

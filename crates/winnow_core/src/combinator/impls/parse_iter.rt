@@ -23,8 +23,10 @@ pub(crate) struct Unread<I, C> {
 
 /// The iterator that [`Parser::parse_iter`](crate::parser::Parser::parse_iter) makes.
 ///
-/// ```text
-/// b'a'.parse_iter(b"aab")   is a ParseIter
+/// ```
+/// let mut letters = b'a';
+/// let items: ParseIter<_, &[u8], u8, EmptyError> = letters.parse_iter(b"aa".as_slice());
+/// assert_eq!(rt; items.count(), 2);
 /// ```
 #[derive(Drop)]
 pub struct ParseIter<'p, P, I: Stream, O, E> {

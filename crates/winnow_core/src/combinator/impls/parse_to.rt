@@ -16,8 +16,9 @@ use streams::stream::Stream;
 
 /// The parser that [`Parser::parse_to`](crate::parser::Parser::parse_to) makes.
 ///
-/// ```text
-/// digits.parse_to::<u8>()   is a ParseTo
+/// ```
+/// let mut parser = Digit1.parse_to::<u8>();
+/// assert_eq!(rt; parser.parse_peek("12;"), Ok::<_, EmptyError>((";", 12)));
 /// ```
 #[derive(Drop)]
 pub struct ParseTo<F, I, O, O2, E> {

@@ -16,8 +16,10 @@ use streams::stream::Location;
 
 /// The parser that [`Parser::span`](crate::parser::Parser::span) makes.
 ///
-/// ```text
-/// (b'a', b'b').span()   is a Span
+/// ```
+/// let mut parser = ('a', 'b').span();
+/// let answer = parser.parse_next(&mut LocatingSlice::new("abc"));
+/// assert_eq!(rt; answer, Ok::<_, EmptyError>(0..2));
 /// ```
 #[derive(Drop)]
 pub struct Span<F, I, O, E> {

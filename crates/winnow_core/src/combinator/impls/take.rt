@@ -16,8 +16,9 @@ use streams::stream::Stream;
 
 /// The parser that [`Parser::take`](crate::parser::Parser::take) makes.
 ///
-/// ```text
-/// (b'a', b'b').take()   is a Take
+/// ```
+/// let mut parser = ('a', 'b').take();
+/// assert_eq!(rt; parser.parse_peek("abc"), Ok::<_, EmptyError>(("c", "ab")));
 /// ```
 #[derive(Drop)]
 pub struct Take<F, I, O, E> {

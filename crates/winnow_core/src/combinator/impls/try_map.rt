@@ -18,8 +18,9 @@ use streams::stream::Stream;
 
 /// The parser that [`Parser::try_map`](crate::parser::Parser::try_map) makes.
 ///
-/// ```text
-/// digits.try_map(|s: &str| s.parse::<u8>())   is a TryMap
+/// ```
+/// let mut parser = Digit1.try_map(|digits: &str| digits.parse::<u8>());
+/// assert_eq!(rt; parser.parse_peek("12;"), Ok::<_, EmptyError>((";", 12)));
 /// ```
 #[derive(Drop)]
 pub struct TryMap<F, G, I, O, O2, E, E2> {

@@ -15,8 +15,8 @@ use streams::stream::Stream;
 
 /// The parser that [`Parser::value`](crate::parser::Parser::value) makes.
 ///
-/// ```text
-/// b't'.value(true)   is a Value
+/// ```
+/// assert_eq!(rt; 't'.value(true).parse_peek("t;"), Ok::<_, EmptyError>((";", true)));
 /// ```
 #[derive(Drop)]
 pub struct Value<F, I, O, O2, E> {

@@ -17,8 +17,9 @@ use streams::stream::Stream;
 
 /// The parser that [`Parser::verify`](crate::parser::Parser::verify) makes.
 ///
-/// ```text
-/// Any.verify(|b: &u8| *b < 10)   is a Verify
+/// ```
+/// let mut parser = Any.verify(|letter: &char| *letter == 'a');
+/// assert_eq!(rt; parser.parse_peek("ab"), Ok::<_, EmptyError>(("b", 'a')));
 /// ```
 #[derive(Drop)]
 pub struct Verify<F, G, I, O, E> {

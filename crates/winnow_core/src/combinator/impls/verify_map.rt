@@ -15,8 +15,9 @@ use streams::stream::Stream;
 
 /// The parser that [`Parser::verify_map`](crate::parser::Parser::verify_map) makes.
 ///
-/// ```text
-/// digits.verify_map(|slice: &[u8]| slice.first().copied())   is a VerifyMap
+/// ```
+/// let mut parser = Any.verify_map(|letter: char| letter.to_digit(10));
+/// assert_eq!(rt; parser.parse_peek("7;"), Ok::<_, EmptyError>((";", 7)));
 /// ```
 #[derive(Drop)]
 pub struct VerifyMap<F, G, I, O, O2, E> {

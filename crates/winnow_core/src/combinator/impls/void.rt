@@ -15,8 +15,8 @@ use streams::stream::Stream;
 
 /// The parser that [`Parser::void`](crate::parser::Parser::void) makes.
 ///
-/// ```text
-/// b"key".void()   is a Void
+/// ```
+/// assert_eq!(rt; "key".void().parse_peek("key="), Ok::<_, EmptyError>(("=", ())));
 /// ```
 #[derive(Drop)]
 pub struct Void<F, I, O, E> {

@@ -17,8 +17,10 @@ use streams::stream::Location;
 
 /// The parser that [`Parser::with_span`](crate::parser::Parser::with_span) makes.
 ///
-/// ```text
-/// (b'a', b'b').with_span()   is a WithSpan
+/// ```
+/// let mut parser = ('a', 'b').with_span();
+/// let answer = parser.parse_next(&mut LocatingSlice::new("abc"));
+/// assert_eq!(rt; answer, Ok::<_, EmptyError>((('a', 'b'), 0..2)));
 /// ```
 #[derive(Drop)]
 pub struct WithSpan<F, I, O, E> {

@@ -17,8 +17,9 @@ use streams::stream::Stream;
 
 /// The parser that [`Parser::with_taken`](crate::parser::Parser::with_taken) makes.
 ///
-/// ```text
-/// (b'a', b'b').with_taken()   is a WithTaken
+/// ```
+/// let mut parser = ('a', 'b').with_taken();
+/// assert_eq!(rt; parser.parse_peek("abc"), Ok::<_, EmptyError>(("c", (('a', 'b'), "ab"))));
 /// ```
 #[derive(Drop)]
 pub struct WithTaken<F, I, O, E> {

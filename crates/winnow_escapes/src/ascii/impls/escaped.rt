@@ -21,8 +21,10 @@ use winnow_core::stable::Stable;
 
 /// The parser that [`escaped`](crate::ascii::escaped) makes.
 ///
-/// ```text
-/// escaped(alloc, Alpha1, '\\', Any)   is an Escaped
+/// ```
+/// let mut parser = escaped(alloc, Alpha1, '\\', Any.void());
+/// let answer: Result<(&str, ()), EmptyError> = parser.parse_peek("a\\n;");
+/// assert_eq!(rt; answer, Ok((";", ())));
 /// ```
 #[derive(Drop)]
 pub struct Escaped<N, K, X, I, O, D, P, C, E, A> {

@@ -26,8 +26,9 @@ use winnow_core::stable::Stable;
 /// The parser that [`take_escaped`](crate::ascii::take_escaped) makes: the slice of what is read
 /// into nothing.
 ///
-/// ```text
-/// take_escaped(Digit1, '\\', Any)   is a TakeEscaped
+/// ```
+/// let mut parser = take_escaped(Digit1, '\\', Any);
+/// assert_eq!(rt; parser.parse_peek("1\\n;"), Ok::<_, EmptyError>((";", "1\\n")));
 /// ```
 #[derive(Drop)]
 pub struct TakeEscaped<N, K, X, I, O, D, P, E> {

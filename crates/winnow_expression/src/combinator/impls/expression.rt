@@ -22,8 +22,9 @@ use winnow_core::parser::Parser;
 
 /// The parser that [`expression`](crate::combinator::expression) makes.
 ///
-/// ```text
-/// expression(alloc, number).infix(b'+'.value(Infix::Left(5, Add)))   is an Expression
+/// ```
+/// let mut number = expression(alloc, Digit1.parse_to::<u32>()).current_precedence_level(5);
+/// assert_eq!(rt; number.parse_peek("12;"), Ok::<_, EmptyError>((";", 12)));
 /// ```
 #[derive(Drop)]
 pub struct Expression<I, O, P, Pre, Post, Pix, F, G, H, E, A> {

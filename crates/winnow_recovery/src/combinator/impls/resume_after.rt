@@ -32,9 +32,13 @@ use winnow_core::parser::Parser;
 ///
 /// Over another stream only the parser is run, and its output answered in `Some`.
 ///
-/// ```text
-/// (digit1.resume_after(take_till(0.., b',').void()), b',', digit1)
-///     on Recoverable of b"x,2" is Ok((None, b',', b"2")), and one error is recorded
+/// ```
+/// let mut input: Recoverable<&str, EmptyError> = Recoverable::new(alloc, "x,2");
+/// let number = Digit1.resume_after(take_till(Range::from(0..), ',').void());
+/// let mut numbers = (number, ',', Digit1);
+/// assert_eq!(rt; numbers.parse_next(&mut input), Ok::<_, EmptyError>((None, ',', "2")));
+/// let (_, errors) = input.into_parts();
+/// assert_eq!(rt; errors.len(), 1);
 /// ```
 #[derive(Drop)]
 pub struct ResumeAfter<P, R, I, O, E> {

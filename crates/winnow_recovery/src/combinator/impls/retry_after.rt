@@ -31,9 +31,12 @@ use winnow_core::parser::Parser;
 ///
 /// Over another stream only the parser is run.
 ///
-/// ```text
-/// digit1.retry_after((take_till(0.., b','), b',').void())
-///     on Recoverable of b"ab,12" is Ok(b"12"), and one error is recorded
+/// ```
+/// let mut input: Recoverable<&str, EmptyError> = Recoverable::new(alloc, "ab,12");
+/// let mut number = Digit1.retry_after((take_till(Range::from(0..), ','), ',').void());
+/// assert_eq!(rt; number.parse_next(&mut input), Ok::<_, EmptyError>("12"));
+/// let (_, errors) = input.into_parts();
+/// assert_eq!(rt; errors.len(), 1);
 /// ```
 #[derive(Drop)]
 pub struct RetryAfter<P, R, I, O, E> {

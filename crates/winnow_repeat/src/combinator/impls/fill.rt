@@ -16,8 +16,10 @@ use winnow_core::stable::Stable;
 
 /// The parser that [`fill`](crate::combinator::fill) makes.
 ///
-/// ```text
-/// fill(Any, &mut letters)   is a Fill
+/// ```
+/// let mut letters = ['x', 'y'];
+/// assert_eq!(rt; fill(Any, &mut letters).parse_peek("abc"), Ok::<_, EmptyError>(("c", ())));
+/// assert_eq!(rt; letters, ['a', 'b']);
 /// ```
 #[derive(Drop)]
 pub struct Fill<'b, P, I, O, E> {

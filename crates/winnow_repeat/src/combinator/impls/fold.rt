@@ -51,8 +51,10 @@ impl<H: FnMut(R, O) -> R, I: Stream, O, R, E: ParserError<I>> Folding<I, O, R, E
 
 /// The parser that [`Repeat::fold`](crate::combinator::impls::Repeat::fold) makes.
 ///
-/// ```text
-/// repeat(alloc, Range::from(0..), digit).fold(|| 0, |sum: u32, n| sum + n)   is a RepeatFold
+/// ```
+/// let letters = repeat(alloc, Range::from(0..), 'a');
+/// let mut count = letters.fold(|| 0_u32, |sum: u32, _: char| sum + 1);
+/// assert_eq!(rt; count.parse_peek("aab"), Ok::<_, EmptyError>(("b", 2)));
 /// ```
 #[derive(Drop)]
 pub struct RepeatFold<P, G, H, I, O, R, E> {

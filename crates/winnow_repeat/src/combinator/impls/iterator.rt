@@ -26,8 +26,10 @@ pub(crate) enum Progress<E> {
 
 /// The iterator that [`iterator`](crate::combinator::iterator) makes, iterated by `&mut`.
 ///
-/// ```text
-/// iterator(&mut input, Any)   is a ParserIterator
+/// ```
+/// let mut input = "ab";
+/// let mut items: ParserIterator<_, &str, char, EmptyError> = iterator(&mut input, Any);
+/// assert_eq!(rt; items.next(), Some('a'));
 /// ```
 #[derive(Drop)]
 pub struct ParserIterator<'i, P, I, O, E> {

@@ -30,8 +30,9 @@ use winnow_core::stable::Stable;
 
 /// The parser that [`repeat`](crate::combinator::repeat) makes.
 ///
-/// ```text
-/// repeat(alloc, Range::from(2), b'a')   is a Repeat
+/// ```
+/// let mut letters = repeat(alloc, Range::from(2), 'a');
+/// assert_eq!(rt; letters.parse_peek("aaa"), Ok::<_, EmptyError>(("a", ())));
 /// ```
 #[derive(Drop)]
 pub struct Repeat<P, I, O, C, E, A> {
@@ -51,9 +52,11 @@ impl<P: Parser<I, O, E>, I: Stream, O, E: ParserError<I>, A: Drop> Repeat<P, I, 
     /// is made behind the first item, and else first. Known as `fold_many0` and `fold_many1` in
     /// nom.
     ///
-    /// ```text
-    /// repeat(alloc, Range::from(0..), digit).fold(|| 0, |sum: u32, n| sum + n)
-    ///     on b"12a" is Ok(3), and b"a" is left
+    /// ```
+    /// let digit = Any.verify_map(|letter: char| letter.to_digit(10));
+    /// let digits = repeat(alloc, Range::from(0..), digit);
+    /// let mut sum = digits.fold(|| 0_u32, |sum: u32, n: u32| sum + n);
+    /// assert_eq!(rt; sum.parse_peek("12a"), Ok::<_, EmptyError>(("a", 3)));
     /// ```
     #[inline(always)]
     pub fn fold<G, H, R>(self, init: G, op: H) -> RepeatFold<P, G, H, I, O, R, E>
@@ -71,8 +74,13 @@ impl<P: Parser<I, O, E>, I: Stream, O, E: ParserError<I>, A: Drop> Repeat<P, I, 
     /// As [`fold`](Repeat::fold), but `op` may refuse an output by `None`: then it backtracks, and
     /// the input stands before the refused item. The value is made first, in each form.
     ///
-    /// ```text
-    /// repeat(alloc, Range::from(0..), digit).verify_fold(|| 0, |sum: u8, n| sum.checked_add(n))
+    /// ```
+    /// let digit = Any.verify_map(|letter: char| letter.to_digit(10));
+    /// let digits = repeat(alloc, Range::from(0..), digit);
+    /// let mut sum = digits.verify_fold(|| u32::MAX - 4, |sum: u32, n: u32| sum.checked_add(n));
+    /// let mut input = "23";
+    /// assert_eq!(rt; sum.parse_next(&mut input), Err(EmptyError::from_input(&"3")));
+    /// assert_eq!(rt; input, "3");
     /// ```
     #[inline(always)]
     pub fn verify_fold<G, H, R>(self, init: G, op: H) -> RepeatVerifyFold<P, G, H, I, O, R, E>
@@ -90,8 +98,16 @@ impl<P: Parser<I, O, E>, I: Stream, O, E: ParserError<I>, A: Drop> Repeat<P, I, 
     /// As [`verify_fold`](Repeat::verify_fold), but `op` says why it refuses an output: its error
     /// is kept as [`FromExternalError`] says, and backtracks.
     ///
-    /// ```text
-    /// repeat(alloc, Range::from(0..), digit).try_fold(|| 0, |sum: u8, n| add(sum, n))
+    /// ```
+    /// let digit = Any.verify_map(|letter: char| letter.to_digit(10));
+    /// let digits = repeat(alloc, Range::from(0..), digit);
+    /// let mut sum = digits.try_fold(|| 0_u32, |sum: u32, n: u32| match n {
+    ///     9 => Err("no nine"),
+    ///     _ => Ok(sum + n),
+    /// });
+    /// let mut input = "19";
+    /// assert_eq!(rt; sum.parse_next(&mut input), Err(EmptyError::from_input(&"9")));
+    /// assert_eq!(rt; input, "9");
     /// ```
     #[inline(always)]
     pub fn try_fold<G, H, R, X>(self, init: G, op: H) -> RepeatTryFold<P, G, H, I, O, R, E, X>

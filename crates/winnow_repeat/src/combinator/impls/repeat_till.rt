@@ -21,8 +21,9 @@ use winnow_core::stable::Stable;
 
 /// The parser that [`repeat_till`](crate::combinator::repeat_till) makes.
 ///
-/// ```text
-/// repeat_till(alloc, Range::from(0..), Any, b';')   is a RepeatTill
+/// ```
+/// let mut letters = repeat_till(alloc, Range::from(0..), Any.void(), ';');
+/// assert_eq!(rt; letters.parse_peek("ab;c"), Ok::<_, EmptyError>(("c", ((), ';'))));
 /// ```
 #[derive(Drop)]
 pub struct RepeatTill<P, G, I, O, D, C, E, A> {

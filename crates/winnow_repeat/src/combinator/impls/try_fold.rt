@@ -61,9 +61,13 @@ impl<
 
 /// The parser that [`Repeat::try_fold`](crate::combinator::impls::Repeat::try_fold) makes.
 ///
-/// ```text
-/// repeat(alloc, Range::from(0..), digit).try_fold(|| 0, |sum: u8, n| add(sum, n))
-///     is a RepeatTryFold
+/// ```
+/// let letters = repeat(alloc, Range::from(0..), 'a');
+/// let mut count = letters.try_fold(|| 0_u32, |sum: u32, _: char| match sum {
+///     2 => Err("too many"),
+///     _ => Ok(sum + 1),
+/// });
+/// assert_eq!(rt; count.parse_peek("aab"), Ok::<_, EmptyError>(("b", 2)));
 /// ```
 #[derive(Drop)]
 pub struct RepeatTryFold<P, G, H, I, O, R, E, X> {

@@ -55,9 +55,10 @@ impl<H: FnMut(R, O) -> Option<R>, I: Stream, O, R, E: ParserError<I>> Folding<I,
 
 /// The parser that [`Repeat::verify_fold`](crate::combinator::impls::Repeat::verify_fold) makes.
 ///
-/// ```text
-/// repeat(alloc, Range::from(0..), digit).verify_fold(|| 0, |sum: u8, n| sum.checked_add(n))
-///     is a RepeatVerifyFold
+/// ```
+/// let letters = repeat(alloc, Range::from(0..), 'a');
+/// let mut count = letters.verify_fold(|| 0_u32, |sum: u32, _: char| sum.checked_add(1));
+/// assert_eq!(rt; count.parse_peek("aab"), Ok::<_, EmptyError>(("b", 2)));
 /// ```
 #[derive(Drop)]
 pub struct RepeatVerifyFold<P, G, H, I, O, R, E> {

@@ -24,8 +24,9 @@ use winnow_repeat::combinator::items::is_descending;
 
 /// The parser that [`separated`](crate::combinator::separated) makes.
 ///
-/// ```text
-/// separated(alloc, Range::from(0..), Digit1, b',')   is a Separated
+/// ```
+/// let mut parser = separated(alloc, Range::from(0..), Digit1.void(), ',');
+/// assert_eq!(rt; parser.parse_peek("1,2;"), Ok::<_, EmptyError>((";", ())));
 /// ```
 #[derive(Drop)]
 pub struct Separated<P, S, I, O, D, C, E, A> {

@@ -19,9 +19,10 @@ use winnow_core::stable::Stable;
 
 /// The parser that [`separated_foldl1`](crate::combinator::separated_foldl1) makes.
 ///
-/// ```text
-/// separated_foldl1(number, b'-', |left: u32, _, right: u32| left - right)
-///     is a SeparatedFoldl1
+/// ```
+/// let number = Digit1.parse_to::<u32>();
+/// let mut parser = separated_foldl1(number, '-', |left: u32, _: char, right: u32| left - right);
+/// assert_eq!(rt; parser.parse_peek("9-5;"), Ok::<_, EmptyError>((";", 4)));
 /// ```
 #[derive(Drop)]
 pub struct SeparatedFoldl1<P, S, H, I, O, D, E> {

@@ -19,9 +19,11 @@ use winnow_repeat::combinator::items::repeat_many;
 
 /// The parser that [`separated_foldr1`](crate::combinator::separated_foldr1) makes.
 ///
-/// ```text
-/// separated_foldr1(alloc, number, b'-', |left: u32, _, right: u32| left - right)
-///     is a SeparatedFoldr1
+/// ```
+/// let number = Digit1.parse_to::<u32>();
+/// let take_off = |left: u32, _: char, right: u32| left - right;
+/// let mut parser = separated_foldr1(alloc, number, '-', take_off);
+/// assert_eq!(rt; parser.parse_peek("9-5;"), Ok::<_, EmptyError>((";", 4)));
 /// ```
 #[derive(Drop)]
 pub struct SeparatedFoldr1<P, S, H, I, O, D, E, A> {
