@@ -39,6 +39,18 @@ impl<C, A: Allocator> ContextError<C, A> {
         }
     }
 
+    /// The error for want of memory, with no context.
+    #[inline(always)]
+    pub(crate) fn marked() -> ContextError<C, A>
+        ensures contexts { contexts_of result ≡ [] }
+        ensures memory { wants_memory result ≡ true }
+    {
+        ContextError {
+            contexts: None,
+            is_memory: true,
+        }
+    }
+
     /// The contexts, the innermost first.
     pub fn context(&self) -> &[C]
         ensures { result.now ≡ contexts_of self.now }
@@ -98,10 +110,7 @@ impl<I: Stream, C: Drop, A: Allocator> ParserError<I> for ContextError<C, A> {
 
     #[inline(always)]
     fn no_memory(_input: &I) -> ContextError<C, A> {
-        ContextError {
-            contexts: None,
-            is_memory: true,
-        }
+        ContextError::marked()
     }
 
     #[inline(always)]

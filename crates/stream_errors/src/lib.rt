@@ -12,6 +12,7 @@ pub mod convert;
 pub mod empty;
 pub mod external;
 pub mod fault;
+pub mod growth;
 pub mod has_kind;
 pub mod input_error;
 pub mod modal;
