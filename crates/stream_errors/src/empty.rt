@@ -27,6 +27,14 @@ impl EmptyError {
     {
         EmptyError { is_memory: true }
     }
+
+    /// Whether a request for memory was refused.
+    #[inline(always)]
+    pub(crate) fn wants_memory(&self) -> bool
+        ensures { result ≡ self.now.is_memory }
+    {
+        self.is_memory
+    }
 }
 
 impl HasKind for EmptyError {

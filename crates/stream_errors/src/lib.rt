@@ -15,6 +15,7 @@ pub mod fault;
 pub mod growth;
 pub mod has_kind;
 pub mod input_error;
+pub mod messages;
 pub mod modal;
 pub mod mode;
 pub mod parser_error;
