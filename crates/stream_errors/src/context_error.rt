@@ -39,18 +39,6 @@ impl<C, A: Allocator> ContextError<C, A> {
         }
     }
 
-    /// The error for want of memory, with no context.
-    #[inline(always)]
-    pub(crate) fn marked() -> ContextError<C, A>
-        ensures contexts { contexts_of result ≡ [] }
-        ensures memory { wants_memory result ≡ true }
-    {
-        ContextError {
-            contexts: None,
-            is_memory: true,
-        }
-    }
-
     /// Whether a request for memory was refused.
     #[inline(always)]
     pub(crate) fn wants_memory(&self) -> bool
@@ -118,7 +106,10 @@ impl<I: Stream, C: Drop, A: Allocator> ParserError<I> for ContextError<C, A> {
 
     #[inline(always)]
     fn no_memory(_input: &I) -> ContextError<C, A> {
-        ContextError::marked()
+        ContextError {
+            contexts: None,
+            is_memory: true,
+        }
     }
 
     #[inline(always)]

@@ -1,5 +1,5 @@
 //! An error that says nothing.
-ghost use Rattle.std.specs.Prelude.{◌≡◌, true, if◌then◌else◌};
+ghost use Rattle.std.specs.Prelude.{◌≡◌, if◌then◌else◌};
 ghost use Rattle.streams.specs.Kind.{Kind};
 ghost use Rattle.stream_errors.specs.Form.{marked_kind, plain, inner_kind_of-marked_kind};
 ghost use Rattle.stream_errors.specs.Form.{marked_kind-cases};
@@ -20,14 +20,6 @@ pub struct EmptyError {
 }
 
 impl EmptyError {
-    /// The error for want of memory.
-    #[inline(always)]
-    pub(crate) fn marked() -> EmptyError
-        ensures { result ≡ record { is_memory = true } }
-    {
-        EmptyError { is_memory: true }
-    }
-
     /// Whether a request for memory was refused.
     #[inline(always)]
     pub(crate) fn wants_memory(&self) -> bool
@@ -69,7 +61,7 @@ impl<I: Stream> ParserError<I> for EmptyError {
 
     #[inline(always)]
     fn no_memory(_input: &I) -> EmptyError {
-        EmptyError::marked()
+        EmptyError { is_memory: true }
     }
 
     #[inline(always)]

@@ -1,128 +1,51 @@
-//! Errors of a refused growth, so that `list.push(x)?` stands in a reader.
-ghost use Rattle.std.specs.Prelude.{◌≡◌};
+//! Want of memory where a list grows, as an error of a parser.
+ghost use Rattle.std.specs.Prelude.{◌≡◌, MatchResult, None, Option, Some};
 ghost use Rattle.streams.specs.Kind.{memory};
-ghost use Rattle.stream_errors.specs.Control.{control_kind};
-ghost use Rattle.stream_errors.specs.Form.{marked_kind};
-ghost use Rattle.stream_errors.specs.Mode.{mode_kind};
+ghost use Rattle.stream_errors.specs.Growth.{grown};
 
-use crate::context_error::ContextError;
-use crate::control::ControlError;
-use crate::empty::EmptyError;
-use crate::has_kind::HasKind;
-use crate::mode::ErrMode;
-use std::alloc::{AllocError, AllocFailed, Allocator};
+use crate::parser_error::ParserError;
+use std::alloc::{AllocError, AllocFailed};
+use streams::stream::Stream;
 
-/// An error that can say want of memory without an input. winnow has no such trait, since it ends
-/// the process there.
+/// What a growth answers, with its error as one of a parser. winnow has no such trait, since it
+/// ends the process where memory is wanted.
 ///
-/// `?` makes it of a refused growth. [`InputError`](crate::input_error::InputError) is none, since
-/// it keeps the input: `ErrMode::no_memory(input)` makes one.
+/// There is no `From` in its place: with a second one `?` could not tell which error type the
+/// parser before it has.
 ///
 /// ```text
-/// list.push(number)?     answers want of memory where the list cannot grow
+/// list.push(number).or_no_memory(input)?     answers want of memory where the list cannot grow
 /// ```
-pub trait OutOfMemory: HasKind {
-    /// The error for want of memory. It backtracks in form, and no parser backtracks over it.
-    fn out_of_memory() -> Self
-        ensures { Self.kind result ≡ memory };
+pub trait OrNoMemory<T> {
+    // What was answered, unless memory was refused.
+    ghost answered: { Self → Option T };
+
+    /// What was answered; want of memory, at the place of `input`, where a request was refused.
+    fn or_no_memory<I: Stream, E: ParserError<I>>(self, input: &I) -> Result<T, E>
+        ensures { MatchResult result (λ value. answered self ≡ Some value)
+            (λ error. (answered self ≡ None) × (E.kind error ≡ memory)) };
 }
 
-impl OutOfMemory for EmptyError {
+impl<T> OrNoMemory<T> for Result<T, AllocError> {
+    ghost answered = { λ r. grown r };
+
     #[inline(always)]
-    fn out_of_memory() -> EmptyError {
-        EmptyError::marked()
+    fn or_no_memory<I: Stream, E: ParserError<I>>(self, input: &I) -> Result<T, E> {
+        match self {
+            Ok(value) => Ok(value),
+            Err(_error) => Err(E::no_memory(input)),
+        }
     }
 }
 
-impl<C, A: Allocator> OutOfMemory for ContextError<C, A> {
-    #[inline(always)]
-    fn out_of_memory() -> ContextError<C, A> {
-        ContextError::marked()
-    }
-}
-
-impl OutOfMemory for ControlError {
-    #[inline(always)]
-    fn out_of_memory() -> ControlError {
-        ControlError::NoMemory
-    }
-}
-
-impl<E: OutOfMemory> OutOfMemory for ErrMode<E> {
-    #[inline(always)]
-    fn out_of_memory() -> ErrMode<E> {
-        ErrMode::Backtrack(E::out_of_memory())
-    }
-}
-
-impl From<AllocError> for EmptyError {
-    ghost from_gives = { λ _ e. marked_kind e.is_memory ≡ memory };
+impl<T, V: Drop> OrNoMemory<T> for Result<T, AllocFailed<V>> {
+    ghost answered = { λ r. grown r };
 
     #[inline(always)]
-    fn from(_error: AllocError) -> EmptyError {
-        EmptyError::out_of_memory()
-    }
-}
-
-impl<T: Drop> From<AllocFailed<T>> for EmptyError {
-    ghost from_gives = { λ _ e. marked_kind e.is_memory ≡ memory };
-
-    #[inline(always)]
-    fn from(_error: AllocFailed<T>) -> EmptyError {
-        EmptyError::out_of_memory()
-    }
-}
-
-impl<C, A: Allocator> From<AllocError> for ContextError<C, A> {
-    ghost from_gives = { λ _ e. marked_kind e.is_memory ≡ memory };
-
-    #[inline(always)]
-    fn from(_error: AllocError) -> ContextError<C, A> {
-        ContextError::out_of_memory()
-    }
-}
-
-impl<T: Drop, C, A: Allocator> From<AllocFailed<T>> for ContextError<C, A> {
-    ghost from_gives = { λ _ e. marked_kind e.is_memory ≡ memory };
-
-    #[inline(always)]
-    fn from(_error: AllocFailed<T>) -> ContextError<C, A> {
-        ContextError::out_of_memory()
-    }
-}
-
-impl From<AllocError> for ControlError {
-    ghost from_gives = { λ _ e. control_kind e ≡ memory };
-
-    #[inline(always)]
-    fn from(_error: AllocError) -> ControlError {
-        ControlError::out_of_memory()
-    }
-}
-
-impl<T: Drop> From<AllocFailed<T>> for ControlError {
-    ghost from_gives = { λ _ e. control_kind e ≡ memory };
-
-    #[inline(always)]
-    fn from(_error: AllocFailed<T>) -> ControlError {
-        ControlError::out_of_memory()
-    }
-}
-
-impl<E: OutOfMemory> From<AllocError> for ErrMode<E> {
-    ghost from_gives = { λ _ e. mode_kind E.kind e ≡ memory };
-
-    #[inline(always)]
-    fn from(_error: AllocError) -> ErrMode<E> {
-        ErrMode::out_of_memory()
-    }
-}
-
-impl<T: Drop, E: OutOfMemory> From<AllocFailed<T>> for ErrMode<E> {
-    ghost from_gives = { λ _ e. mode_kind E.kind e ≡ memory };
-
-    #[inline(always)]
-    fn from(_error: AllocFailed<T>) -> ErrMode<E> {
-        ErrMode::out_of_memory()
+    fn or_no_memory<I: Stream, E: ParserError<I>>(self, input: &I) -> Result<T, E> {
+        match self {
+            Ok(value) => Ok(value),
+            Err(_error) => Err(E::no_memory(input)),
+        }
     }
 }

@@ -1,4 +1,4 @@
-//! Errors that keep what each branch of a choice expected.
+//! Errors that keep what several branches of a choice expected.
 ghost use Rattle.std.specs.Prelude.{◌≡◌, ◌⊎◌, ◌++◌, [], false, true, refl, ⊤};
 ghost use Rattle.stream_errors.specs.ContextError.{listed};
 ghost use Rattle.stream_errors.specs.Form.{marked_kind, plain, inner_kind_of-marked_kind};
@@ -7,30 +7,29 @@ ghost use Rattle.stream_errors.specs.Given.{always_kept, kept_or_refused};
 ghost use Rattle.stream_expected.specs.Expected.{IsGiven, KeepsBoth, expected_of, refused_memory};
 ghost use Rattle.stream_expected.specs.Expected.{within_of};
 
-use std::alloc::{AllocError, AllocFailed, Allocator, Global};
+use std::alloc::{Allocator, Global};
 use std::error::Error;
 use std::fmt;
 use std::fmt::{Debug, Display};
 use stream_errors::context::AddContext;
 use stream_errors::convert::ErrorConvert;
 use stream_errors::external::FromExternalError;
-use stream_errors::growth::OutOfMemory;
 use stream_errors::has_kind::HasKind;
 use stream_errors::parser_error::ParserError;
 use stream_errors::recoverable::FromRecoverableError;
 use streams::needed::Needed;
 use streams::stream::Stream;
 
-/// A plain error that keeps what each branch of a choice expected, where
+/// A plain error that keeps what several branches expected, where
 /// [`ContextError`](stream_errors::context_error::ContextError) keeps the contexts of the last.
 /// winnow has no such type.
 ///
-/// The first context that an error is given says what was expected, each further one in what. A
-/// choice keeps what all its branches expected; in what only one of them stood is let go.
+/// The first context that an error is given says what was expected, each further one in what.
+/// `alt` answers the error of its last branch; a choice by hand joins those of all.
 ///
 /// ```text
-/// alt(("on".context(alloc, "on"), digit1.context(alloc, "a number"))).context(alloc, "a value")
-///     says of other input: expected on or a number in a value
+/// one error with "on", joined with one with "a number", and then given "a value"
+///     says: expected on or a number in a value
 /// ```
 #[derive(Debug, PartialEq, Drop)]
 pub struct ExpectedError<C, A: Allocator = Global> {
@@ -99,8 +98,9 @@ impl<C, A: Allocator> ExpectedError<C, A> {
         self.within = Some(within);
     }
 
-    /// The error of two branches, with what either expected.
-    fn joined(self, other: ExpectedError<C, A>) -> ExpectedError<C, A>
+    /// The error of two branches, with what either expected, as `or` makes it. In what only one
+    /// of them stood is let go.
+    pub fn joined(self, other: ExpectedError<C, A>) -> ExpectedError<C, A>
     where
         C: Drop,
         ensures { KeepsBoth self other result }
@@ -170,7 +170,11 @@ impl<I: Stream, C: Drop, A: Allocator> ParserError<I> for ExpectedError<C, A> {
 
     #[inline(always)]
     fn no_memory(_input: &I) -> ExpectedError<C, A> {
-        ExpectedError::out_of_memory()
+        ExpectedError {
+            expected: None,
+            within: None,
+            is_memory: true,
+        }
     }
 
     #[inline(always)]
@@ -274,35 +278,6 @@ impl<I: Stream, C, A: Allocator> FromRecoverableError<I, ExpectedError<C, A>>
         ensures { result ≡ error }
     {
         error
-    }
-}
-
-impl<C, A: Allocator> OutOfMemory for ExpectedError<C, A> {
-    #[inline(always)]
-    fn out_of_memory() -> ExpectedError<C, A> {
-        ExpectedError {
-            expected: None,
-            within: None,
-            is_memory: true,
-        }
-    }
-}
-
-impl<C, A: Allocator> From<AllocError> for ExpectedError<C, A> {
-    ghost from_gives = { λ _ e. refused_memory e ≡ true };
-
-    #[inline(always)]
-    fn from(_error: AllocError) -> ExpectedError<C, A> {
-        ExpectedError::out_of_memory()
-    }
-}
-
-impl<T: Drop, C, A: Allocator> From<AllocFailed<T>> for ExpectedError<C, A> {
-    ghost from_gives = { λ _ e. refused_memory e ≡ true };
-
-    #[inline(always)]
-    fn from(_error: AllocFailed<T>) -> ExpectedError<C, A> {
-        ExpectedError::out_of_memory()
     }
 }
 

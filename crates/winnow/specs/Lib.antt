@@ -79,6 +79,7 @@ pub use Rattle.stream_errors.specs.Control
 pub use Rattle.stream_errors.specs.Fault
 pub use Rattle.stream_errors.specs.Form
 pub use Rattle.stream_errors.specs.Given
+pub use Rattle.stream_errors.specs.Growth
 pub use Rattle.stream_errors.specs.Join
 pub use Rattle.stream_errors.specs.Mode
 pub use Rattle.stream_errors.specs.Recover

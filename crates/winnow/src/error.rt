@@ -11,7 +11,7 @@ pub use stream_errors::convert::{ConvertInput, ErrorConvert};
 pub use stream_errors::empty::EmptyError;
 pub use stream_errors::external::FromExternalError;
 pub use stream_errors::fault::{ParseError, ParseFault};
-pub use stream_errors::growth::OutOfMemory;
+pub use stream_errors::growth::OrNoMemory;
 pub use stream_errors::has_kind::HasKind;
 pub use stream_errors::input_error::InputError;
 pub use stream_errors::messages::ShownBytes;
