@@ -1,6 +1,7 @@
 //! Errors as they are printed. The texts are written by hand, in the layout of winnow's own.
 use std::alloc::Global;
 use std::fmt::Display;
+use std::process::Abort;
 use winnow::ascii::impls::{Alpha1, DecUint, Digit1};
 use winnow::combinator::{cut_err, repeat, separated_pair, terminated};
 use winnow::error::{ContextError, EmptyError, ErrMode, ExpectedError, InputError, ParseFault};
@@ -10,10 +11,10 @@ use winnow::stream::{Excerpt, LocatingSlice, Partial, Position, position_in};
 type Said = ContextError<&'static str>;
 
 /// What is printed of a value.
-fn same(rt: &HostRuntime, shown: impl Display + Drop, wanted: &str) {
-    match format!(in rt.alloc(); "{shown}") {
-        Ok(text) => assert_eq!(*rt; text.as_str(), wanted),
-        Err(_) => assert!(*rt; false, "no memory"),
+fn same(rt: &impl Abort, alloc: Global, shown: impl Display + Drop, wanted: &str) {
+    match format!(in alloc; "{shown}") {
+        Ok(text) => assert_eq!(rt; text.as_str(), wanted),
+        Err(_) => assert!(rt; false, "no memory"),
     }
 }
 
@@ -29,23 +30,23 @@ fn settings<'i>(
 }
 
 /// The fault of a text that is no settings.
-fn refused(rt: &HostRuntime, text: &'static str, wanted: &str) {
-    match settings(rt.alloc(), text) {
-        Ok(_) => assert!(*rt; false, "{text} is read"),
-        Err(fault) => same(rt, fault, wanted),
+fn refused(rt: &impl Abort, alloc: Global, text: &'static str, wanted: &str) {
+    match settings(alloc, text) {
+        Ok(_) => assert!(rt; false, "{text} is read"),
+        Err(fault) => same(rt, alloc, fault, wanted),
     }
 }
 
 #[test]
 fn a_line_with_a_caret(rt: HostRuntime) {
     refused(
-        &rt,
+        &rt, rt.alloc(),
         "width=12\nheight=tall\n",
         "parse error at line 2, column 8\n  |\n2 | height=tall\n  |        ^\n\
          expected a number in a setting",
     );
     refused(
-        &rt,
+        &rt, rt.alloc(),
         "a=1\r\nb=2\r\n",
         "parse error at line 1, column 4\n  |\n1 | a=1\n  |    ^\nexpected a setting",
     );
@@ -53,9 +54,9 @@ fn a_line_with_a_caret(rt: HostRuntime) {
 
 #[test]
 fn a_line_of_its_own(rt: HostRuntime) {
-    refused(&rt, "größe=1", "größe=1\n^\n");
-    refused(&rt, "size=1;", "size=1;\n      ^\nexpected a setting");
-    refused(&rt, "size=", "size=\n     ^\nexpected a number in a setting");
+    refused(&rt, rt.alloc(), "größe=1", "größe=1\n^\n");
+    refused(&rt, rt.alloc(), "size=1;", "size=1;\n      ^\nexpected a setting");
+    refused(&rt, rt.alloc(), "size=", "size=\n     ^\nexpected a number in a setting");
 }
 
 /// A caret stands under a character, whatever bytes it has; bytes that are no text count as one.
@@ -66,20 +67,20 @@ fn excerpts(rt: HostRuntime) {
     assert_eq!(rt; shown.position(), Position { line: 2, column: 7 });
     assert_eq!(rt; shown.line(), "größe=x".as_bytes());
     same(
-        &rt,
+        &rt, rt.alloc(),
         shown,
         "parse error at line 2, column 7\n  |\n2 | größe=x\n  |       ^",
     );
-    same(&rt, Excerpt::new(b"a\xFFb", 2), "a\u{FFFD}b\n  ^");
-    same(&rt, Excerpt::new(b"", 0), "\n^");
-    same(&rt, Excerpt::new(b"ab", 9), "ab\n  ^");
+    same(&rt, rt.alloc(), Excerpt::new(b"a\xFFb", 2), "a\u{FFFD}b\n  ^");
+    same(&rt, rt.alloc(), Excerpt::new(b"", 0), "\n^");
+    same(&rt, rt.alloc(), Excerpt::new(b"ab", 9), "ab\n  ^");
     same(
-        &rt,
+        &rt, rt.alloc(),
         Excerpt::new(b"1\n2\n3\n4\n5\n6\n7\n8\n9\nten", 19),
         "parse error at line 10, column 2\n   |\n10 | ten\n   |  ^",
     );
     same(
-        &rt,
+        &rt, rt.alloc(),
         Excerpt::new(b"a\n", 2),
         "parse error at line 2, column 1\n  |\n2 | \n  | ^",
     );
@@ -91,25 +92,25 @@ fn other_inputs(rt: HostRuntime) {
     let bytes = Parser::<&[u8], _, EmptyError>::parse(&mut Digit1, b"12a".as_slice());
     match bytes {
         Ok(_) => assert!(rt; false),
-        Err(fault) => same(&rt, fault, "12a\n  ^\nfailed to parse"),
+        Err(fault) => same(&rt, rt.alloc(), fault, "12a\n  ^\nfailed to parse"),
     }
     let located = LocatingSlice::new("12a");
     match Parser::<_, _, EmptyError>::parse(&mut Digit1, located) {
         Ok(_) => assert!(rt; false),
-        Err(fault) => same(&rt, fault, "12a\n  ^\nfailed to parse"),
+        Err(fault) => same(&rt, rt.alloc(), fault, "12a\n  ^\nfailed to parse"),
     }
     let mut part = Partial::new("12");
     match Parser::<_, &str, ErrMode<EmptyError>>::parse_next(&mut Digit1, &mut part) {
         Ok(_) => assert!(rt; false),
-        Err(error) => same(&rt, error, "parsing requires 1 more data"),
+        Err(error) => same(&rt, rt.alloc(), error, "parsing requires 1 more data"),
     }
     same(
-        &rt,
+        &rt, rt.alloc(),
         InputError::at("rest"),
         "failed to parse starting at: rest",
     );
     let none: ErrMode<EmptyError> = ErrMode::no_memory(&"rest");
-    same(&rt, none, "out of memory");
+    same(&rt, rt.alloc(), none, "out of memory");
 }
 
 /// A switch, or a number: the error says what both branches expected.
@@ -141,7 +142,7 @@ fn what_each_branch_expected(rt: HostRuntime) {
             error.push(alloc, "a value");
             error.push(alloc, "a setting");
             assert_eq!(rt; error.within(), ["a value", "a setting"].as_slice());
-            same(&rt, error, "expected a switch or a number in a value in a setting");
+            same(&rt, rt.alloc(), error, "expected a switch or a number in a value in a setting");
         }
     }
     let mut three = ExpectedError::new();
@@ -150,7 +151,7 @@ fn what_each_branch_expected(rt: HostRuntime) {
         one.push(alloc, word);
         three = three.joined(one);
     }
-    same(&rt, three, "expected on, off or auto");
+    same(&rt, rt.alloc(), three, "expected on, off or auto");
     let none: ExpectedError<&str> = ExpectedError::new();
-    same(&rt, none, "");
+    same(&rt, rt.alloc(), none, "");
 }

@@ -6,4 +6,6 @@ mod choices;
 #[cfg(test)]
 mod readers;
 #[cfg(test)]
+mod recipes;
+#[cfg(test)]
 mod records;

@@ -45,7 +45,7 @@ impl<T, V: Drop> OrNoMemory<T> for Result<T, AllocFailed<V>> {
     fn or_no_memory<I: Stream, E: ParserError<I>>(self, input: &I) -> Result<T, E> {
         match self {
             Ok(value) => Ok(value),
-            Err(_error) => Err(E::no_memory(input)),
+            Err(_unstored) => Err(E::no_memory(input)),
         }
     }
 }
