@@ -40,13 +40,15 @@ fn refused(rt: &impl Abort, alloc: Global, text: &'static str, wanted: &str) {
 #[test]
 fn a_line_with_a_caret(rt: HostRuntime) {
     refused(
-        &rt, rt.alloc(),
+        &rt,
+        rt.alloc(),
         "width=12\nheight=tall\n",
         "parse error at line 2, column 8\n  |\n2 | height=tall\n  |        ^\n\
          expected a number in a setting",
     );
     refused(
-        &rt, rt.alloc(),
+        &rt,
+        rt.alloc(),
         "a=1\r\nb=2\r\n",
         "parse error at line 1, column 4\n  |\n1 | a=1\n  |    ^\nexpected a setting",
     );
@@ -67,7 +69,8 @@ fn excerpts(rt: HostRuntime) {
     assert_eq!(rt; shown.position(), Position { line: 2, column: 7 });
     assert_eq!(rt; shown.line(), "größe=x".as_bytes());
     same(
-        &rt, rt.alloc(),
+        &rt,
+        rt.alloc(),
         shown,
         "parse error at line 2, column 7\n  |\n2 | größe=x\n  |       ^",
     );
@@ -75,12 +78,14 @@ fn excerpts(rt: HostRuntime) {
     same(&rt, rt.alloc(), Excerpt::new(b"", 0), "\n^");
     same(&rt, rt.alloc(), Excerpt::new(b"ab", 9), "ab\n  ^");
     same(
-        &rt, rt.alloc(),
+        &rt,
+        rt.alloc(),
         Excerpt::new(b"1\n2\n3\n4\n5\n6\n7\n8\n9\nten", 19),
         "parse error at line 10, column 2\n   |\n10 | ten\n   |  ^",
     );
     same(
-        &rt, rt.alloc(),
+        &rt,
+        rt.alloc(),
         Excerpt::new(b"a\n", 2),
         "parse error at line 2, column 1\n  |\n2 | \n  | ^",
     );
@@ -105,7 +110,8 @@ fn other_inputs(rt: HostRuntime) {
         Err(error) => same(&rt, rt.alloc(), error, "parsing requires 1 more data"),
     }
     same(
-        &rt, rt.alloc(),
+        &rt,
+        rt.alloc(),
         InputError::at("rest"),
         "failed to parse starting at: rest",
     );
@@ -142,7 +148,8 @@ fn what_each_branch_expected(rt: HostRuntime) {
             error.push(alloc, "a value");
             error.push(alloc, "a setting");
             assert_eq!(rt; error.within(), ["a value", "a setting"].as_slice());
-            same(&rt, rt.alloc(), error, "expected a switch or a number in a value in a setting");
+            let wanted = "expected a switch or a number in a value in a setting";
+            same(&rt, rt.alloc(), error, wanted);
         }
     }
     let mut three = ExpectedError::new();

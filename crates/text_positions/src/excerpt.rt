@@ -10,11 +10,19 @@ use std::fmt;
 /// a caret under the place. Of a text with no line feed it shows the text and the caret alone.
 ///
 /// ```
+/// use text_positions::Position;
 /// use text_positions::excerpt::Excerpt;
 ///
-/// let text = "width=12\nheight=x\n";
-/// let shown = format!(in rt.alloc(); "{}", Excerpt::new(text.as_bytes(), 16))?;
-/// assert_eq!(rt; shown, "parse error at line 2, column 8\n  |\n2 | height=x\n  |        ^");
+/// let shown = Excerpt::new("width=12\nheight=x\n".as_bytes(), 16);
+/// assert_eq!(rt; shown.position(), Position { line: 2, column: 8 });
+/// assert_eq!(rt; shown.line(), "height=x".as_bytes());
+/// ```
+///
+/// ```text
+/// parse error at line 2, column 8
+///   |
+/// 2 | height=x
+///   |        ^
 /// ```
 #[derive(Clone, Copy, Debug, Drop)]
 pub struct Excerpt<'t> {
