@@ -103,7 +103,8 @@ def index():
         for name, (_, _, others) in functions(crate).items():
             for other in others:
                 found.setdefault(other, set()).add(name)
-    lines = [f"| `{it}` | {', '.join(f'`{name}`' for name in sorted(found[it]))} |\n" for it in sorted(found)]
+    here = {it: ", ".join(f"`{name}`" for name in sorted(found[it])) for it in sorted(found)}
+    lines = [f"| `{it}` | {names} |\n" for it, names in here.items()]
     return "\n## nom's names\n\n| In nom | Here |\n|---|---|\n" + "".join(lines)
 
 
