@@ -1,4 +1,5 @@
-"""The table of parsers, `docs/PARSERS.md`: each with its definition and its first sentence."""
+"""The table of parsers, `docs/PARSERS.md`: each with how it is called, its struct, its definition,
+its first sentence and its name in nom; and an index of nom's names."""
 import re
 
 from registry.common import CRATES, TOP, below_winnow, by_hand, camel, items_of, read, write
@@ -17,12 +18,40 @@ def sentence(comment):
     return found[0] if found else text
 
 
-def sentences(crate):
-    """The first sentence of each public function of a crate, by its name."""
+def closing(text, at, opened, closed):
+    """Where the bracket that stands first behind `at` is closed."""
+    depth = 0
+    for place in range(at, len(text)):
+        depth += (text[place] == opened) - (text[place] == closed and text[place - 1] != "-")
+        if not depth:
+            return place + 1
+    raise SystemExit(f"{text[at:at + 40]} is not closed")
+
+
+def call(text, at, name):
+    """How the function whose name ends at `at` is called: its parameters, with their types."""
+    start = closing(text, at, "<", ">") if text[at] == "<" else at
+    whole = " ".join(text[start + 1 : closing(text, start, "(", ")") - 1].split()).rstrip(", ")
+    inner = re.sub(r"^(?:&mut |mut )?self(?:, )?", "", whole)
+    return f"{'.' if inner != whole else ''}{name}({inner})"
+
+
+def names_in_nom(comment):
+    """The names that a comment says nom has for it."""
+    text = " ".join(line.strip()[3:].strip() for line in comment.strip().split("\n"))
+    known = re.search(r"Known as ([^.]*?) (?:of `[\w:]+` )?in nom", text)
+    return re.findall(r"`(\w+)`", known[1]) if known else []
+
+
+def functions(crate):
+    """Of each public function of a crate, by its name: its first sentence, how it is called, and
+    its names in nom."""
     found = {}
     for file in sorted((CRATES / crate / "src").rglob("*.rt")):
-        for comment, name in re.findall(FUNCTION, read(file), re.MULTILINE):
-            found.setdefault(name, sentence(comment))
+        text = read(file)
+        for it in re.finditer(FUNCTION, text, re.MULTILINE):
+            about = sentence(it[1]), call(text, it.end(), it[2]), names_in_nom(it[1])
+            found.setdefault(it[2], about)
     return found
 
 
@@ -44,7 +73,16 @@ def row(crate, path, said):
     if path.stem not in said:
         raise SystemExit(f"{path}: {crate} has no documented function {path.stem}")
     link = f"[{of.name}](../{of.relative_to(TOP)})"
-    return f"| `{path.stem}` | {link} | {said[path.stem]} |\n"
+    about, called, _ = said[path.stem]
+    called = called.replace("|", "\\|")
+    return f"| `{path.stem}` | `{called}` | `{struct(path)}` | {link} | {about} |\n"
+
+
+def struct(path):
+    """The struct of a parser's file."""
+    names = items_of(path, "struct")
+    own = [it for it in names if it in (camel(path.stem), f"{camel(path.stem)}Parser")]
+    return (own or names or [camel(path.stem)])[0]
 
 
 def section(crate):
@@ -52,12 +90,24 @@ def section(crate):
     files = sorted(it for it in (CRATES / crate / "src").glob("*/impls/*.rt") if items_of(it))
     if not files:
         return ""
-    said = sentences(crate)
+    said = functions(crate)
     rows = "".join(row(crate, it, said) for it in files)
-    head = f"\n## `{crate}`\n\n{title(crate)}\n\n| Parser | Definition | Is |\n|---|---|---|\n"
-    return head + rows
+    columns = "| Parser | Call | Struct | Definition | Is |\n|---|---|---|---|---|\n"
+    return f"\n## `{crate}`\n\n{title(crate)}\n\n{columns}{rows}"
+
+
+def index():
+    """The names of nom, and the parsers here."""
+    found = {}
+    for crate in below_winnow():
+        for name, (_, _, others) in functions(crate).items():
+            for other in others:
+                found.setdefault(other, set()).add(name)
+    here = {it: ", ".join(f"`{name}`" for name in sorted(found[it])) for it in sorted(found)}
+    lines = [f"| `{it}` | {names} |\n" for it, names in here.items()]
+    return "\n## nom's names\n\n| In nom | Here |\n|---|---|\n" + "".join(lines)
 
 
 def write_parsers():
     sections = "".join(section(crate) for crate in below_winnow())
-    write(PAGE, by_hand(PAGE, "<!--", " -->") + sections)
+    write(PAGE, by_hand(PAGE, "<!--", " -->") + sections + index())

@@ -8,4 +8,6 @@ mod functions;
 #[cfg(test)]
 mod readers;
 #[cfg(test)]
+mod recipes;
+#[cfg(test)]
 mod records;

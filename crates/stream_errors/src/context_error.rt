@@ -43,6 +43,14 @@ impl<C, A: Allocator> ContextError<C, A> {
         }
     }
 
+    /// Whether a request for memory was refused.
+    #[inline(always)]
+    pub(crate) fn wants_memory(&self) -> bool
+        ensures { result ≡ self.now.is_memory }
+    {
+        self.is_memory
+    }
+
     /// The contexts, the innermost first.
     pub fn context(&self) -> &[C]
         ensures { result.now ≡ contexts_of self.now }

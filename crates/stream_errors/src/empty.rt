@@ -20,6 +20,16 @@ pub struct EmptyError {
     is_memory: bool,
 }
 
+impl EmptyError {
+    /// Whether a request for memory was refused.
+    #[inline(always)]
+    pub(crate) fn wants_memory(&self) -> bool
+        ensures { result ≡ self.now.is_memory }
+    {
+        self.is_memory
+    }
+}
+
 impl HasKind for EmptyError {
     ghost kind = { λ e. marked_kind e.is_memory };
 

@@ -33,6 +33,14 @@ impl<I> InputError<I> {
             is_memory: false,
         }
     }
+
+    /// Whether a request for memory was refused.
+    #[inline(always)]
+    pub(crate) fn wants_memory(&self) -> bool
+        ensures { result ≡ self.now.is_memory }
+    {
+        self.is_memory
+    }
 }
 
 impl<I> HasKind for InputError<I> {

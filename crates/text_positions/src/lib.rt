@@ -5,6 +5,8 @@ ghost use Rattle.std.specs.Prelude.{◌≡◌, ◌↔◌, IfSome, IsSome, List, 
 ghost use Rattle.std.specs.Str.{IsCharBoundary, chars};
 ghost use Rattle.text_positions.specs.Position.{IsPosition};
 
+pub mod excerpt;
+
 /// A place in a text, as a reader of the text would say it.
 #[derive(Clone, Copy, Debug, PartialEq, Eq, Drop)]
 pub struct Position {

@@ -7,4 +7,5 @@
 pub mod choices;
 pub mod lists;
 pub mod pieces;
+pub mod recipes;
 pub mod records;

@@ -64,6 +64,8 @@ pub use Rattle.stream_sets.specs.Range
 pub use Rattle.stream_sets.specs.Sets
 -- Sets of bytes as a table of bits.
 pub use Rattle.byte_sets.specs.ByteSet
+-- Lines and columns of a text.
+pub use Rattle.text_positions.specs.Position
 -- Literals beside the beginning of a stream, and searches of a stream for them.
 pub use Rattle.stream_searches.specs.Caseless
 pub use Rattle.stream_searches.specs.Compare
@@ -78,9 +80,12 @@ pub use Rattle.stream_errors.specs.Control
 pub use Rattle.stream_errors.specs.Fault
 pub use Rattle.stream_errors.specs.Form
 pub use Rattle.stream_errors.specs.Given
+pub use Rattle.stream_errors.specs.Growth
 pub use Rattle.stream_errors.specs.Join
 pub use Rattle.stream_errors.specs.Mode
 pub use Rattle.stream_errors.specs.Recover
+-- An error that keeps what each branch of a choice expected.
+pub use Rattle.stream_expected.specs.Expected
 -- Streams of bits: the bits of a stream of bytes.
 pub use Rattle.stream_bits.specs.BitInput
 pub use Rattle.stream_bits.specs.BitList

@@ -2,4 +2,5 @@
 pub use crate::{Func, ModalParser, Parser, RecoverableParser, RecoveringParser};
 pub use stream_errors::modal::ModalError;
 pub use stream_errors::parser_error::ParserError;
-pub use streams::stream::{Stream, StreamIsPartial};
+pub use stream_sets::range::Range;
+pub use streams::stream::{Location, Stream, StreamIsPartial};

@@ -20,3 +20,5 @@ pub use streams::partial::Partial;
 pub use streams::reads_like::ReadsLike;
 pub use streams::stream::{Location, Stream, StreamIsPartial, UpdateSlice};
 pub use streams::token_slice::TokenSlice;
+pub use text_positions::excerpt::{Excerpt, position_in};
+pub use text_positions::{Position, position_of};

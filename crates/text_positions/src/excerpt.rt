@@ -1,0 +1,157 @@
+//! The line of a place, with a caret under the place.
+ghost use Rattle.std.specs.Prelude.{take};
+ghost use Rattle.std.specs.Str.{IsCharBoundary, IsUtf8, chars};
+ghost use Rattle.text_positions.specs.Position.{IsPosition};
+
+use crate::{Position, position_of};
+use std::fmt;
+
+/// A place in a text or in bytes, shown as compilers do: its line and column, the line itself, and
+/// a caret under the place. Of a text with no line feed it shows the text and the caret alone.
+///
+/// ```
+/// use text_positions::Position;
+/// use text_positions::excerpt::Excerpt;
+///
+/// let shown = Excerpt::new("width=12\nheight=x\n".as_bytes(), 16);
+/// assert_eq!(rt; shown.position(), Position { line: 2, column: 8 });
+/// assert_eq!(rt; shown.line(), "height=x".as_bytes());
+/// ```
+///
+/// ```text
+/// parse error at line 2, column 8
+///   |
+/// 2 | height=x
+///   |        ^
+/// ```
+#[derive(Clone, Copy, Debug, Drop)]
+pub struct Excerpt<'t> {
+    text: &'t [u8],
+    offset: usize,
+}
+
+impl<'t> Excerpt<'t> {
+    /// The place that lies `offset` bytes behind the start of these bytes; one behind their end is
+    /// their end.
+    pub fn new(text: &'t [u8], offset: usize) -> Excerpt<'t> {
+        Excerpt { text, offset }
+    }
+
+    /// The line and the column, both counted from 1.
+    pub fn position(&self) -> Position {
+        position_in(self.text, self.offset)
+    }
+
+    /// The line, without the line feed that ends it, and without a carriage return before that.
+    pub fn line(&self) -> &'t [u8] {
+        let (before, behind) = parted(self.text, self.offset);
+        let start = line_start(before);
+        let end = before.len().saturating_add(line_length(behind));
+        let line = self.text.get(start..end).unwrap_or(&[]);
+        line.strip_suffix(b"\r").unwrap_or(line)
+    }
+}
+
+impl fmt::Display for Excerpt<'_> {
+    fn fmt<W: fmt::Write>(&self, f: &mut fmt::Formatter<W>) -> fmt::Result {
+        let place = self.position();
+        let indent = place.column.saturating_sub(1);
+        if !self.text.contains(&b'\n') {
+            write_text(f, self.line())?;
+            f.write_str("\n")?;
+            f.write_repeated(" ", indent)?;
+            return f.write_str("^");
+        }
+        let gutter = digits(place.line);
+        writeln!(
+            f,
+            "parse error at line {}, column {}",
+            place.line, place.column
+        )?;
+        f.write_repeated(" ", gutter)?;
+        write!(f, " |\n{} | ", place.line)?;
+        write_text(f, self.line())?;
+        f.write_str("\n")?;
+        f.write_repeated(" ", gutter)?;
+        f.write_str(" | ")?;
+        f.write_repeated(" ", indent)?;
+        f.write_str("^")
+    }
+}
+
+/// The line and the column of the place that lies `offset` bytes behind the start of some bytes.
+///
+/// Bytes that are no text count as the characters do that stand for them where they are printed.
+/// A place behind the end is the end.
+pub fn position_in(bytes: &[u8], offset: usize) -> Position
+    ensures { IsUtf8 bytes.now → IsCharBoundary bytes.now offset
+        → IsPosition (chars (take offset bytes.now)) result.line result.column }
+{
+    let whole = match str::from_utf8(bytes) {
+        Ok(text) => position_of(text, offset),
+        Err(_) => None,
+    };
+    match whole {
+        Some(place) => place,
+        None => place_behind(parted(bytes, offset).0),
+    }
+}
+
+/// The line and the column behind some bytes.
+fn place_behind(before: &[u8]) -> Position {
+    let mut line = 1usize;
+    for byte in before {
+        if *byte == b'\n' {
+            line = line.saturating_add(1);
+        }
+    }
+    let begun = before.get(line_start(before)..).unwrap_or(&[]);
+    let mut column = 1usize;
+    for chunk in begun.utf8_chunks() {
+        column = column.saturating_add(chunk.valid().chars().count());
+        if !chunk.invalid().is_empty() {
+            column = column.saturating_add(1);
+        }
+    }
+    Position { line, column }
+}
+
+/// What stands before a place, and what behind it.
+fn parted(bytes: &[u8], offset: usize) -> (&[u8], &[u8]) {
+    bytes.split_at_checked(offset).unwrap_or((bytes, &[]))
+}
+
+/// Where the last line of some bytes begins.
+fn line_start(before: &[u8]) -> usize {
+    match before.iter().rposition(|byte| *byte == b'\n') {
+        Some(feed) => feed + 1,
+        None => 0,
+    }
+}
+
+/// How many bytes stand before the first line feed, or the end.
+fn line_length(behind: &[u8]) -> usize {
+    match behind.iter().position(|byte| *byte == b'\n') {
+        Some(feed) => feed,
+        None => behind.len(),
+    }
+}
+
+/// How many digits a number is written with.
+fn digits(number: usize) -> usize {
+    match number.checked_ilog10() {
+        Some(power) => power as usize + 1,
+        None => 1,
+    }
+}
+
+/// Writes bytes as text; what is none is written as U+FFFD.
+fn write_text<W: fmt::Write>(f: &mut fmt::Formatter<W>, bytes: &[u8]) -> fmt::Result {
+    for chunk in bytes.utf8_chunks() {
+        f.write_str(chunk.valid())?;
+        if !chunk.invalid().is_empty() {
+            f.write_str("\u{FFFD}")?;
+        }
+    }
+    Ok(())
+}

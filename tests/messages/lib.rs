@@ -1,0 +1,7 @@
+//! Tests of errors as people read them.
+#![tactic(auto)]
+
+#[cfg(test)]
+mod growth;
+#[cfg(test)]
+mod rendered;

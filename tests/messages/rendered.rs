@@ -1,0 +1,164 @@
+//! Errors as they are printed. The texts are written by hand, in the layout of winnow's own.
+use std::alloc::Global;
+use std::fmt::Display;
+use std::process::Abort;
+use winnow::ascii::impls::{Alpha1, DecUint, Digit1};
+use winnow::combinator::{cut_err, repeat, separated_pair, terminated};
+use winnow::error::{ContextError, EmptyError, ErrMode, ExpectedError, InputError, ParseFault};
+use winnow::prelude::*;
+use winnow::stream::{Excerpt, LocatingSlice, Partial, Position, position_in};
+
+type Said = ContextError<&'static str>;
+
+/// What is printed of a value.
+fn same(rt: &impl Abort, alloc: Global, shown: impl Display + Drop, wanted: &str) {
+    match format!(in alloc; "{shown}") {
+        Ok(text) => assert_eq!(rt; text.as_str(), wanted),
+        Err(_) => assert!(rt; false, "no memory"),
+    }
+}
+
+/// Settings, one a line.
+fn settings<'i>(
+    alloc: Global,
+    text: &'i str,
+) -> Result<Vec<(&'i str, u32)>, ParseFault<&'i str, Said>> {
+    let number = cut_err(DecUint.context(alloc, "a number"));
+    let setting = terminated(separated_pair(Alpha1, '=', number), cut_err('\n'));
+    let mut lines = repeat(alloc, Range::from(0..), setting.context(alloc, "a setting"));
+    Parser::<_, _, ErrMode<_>>::parse(&mut lines, text)
+}
+
+/// The fault of a text that is no settings.
+fn refused(rt: &impl Abort, alloc: Global, text: &'static str, wanted: &str) {
+    match settings(alloc, text) {
+        Ok(_) => assert!(rt; false, "{text} is read"),
+        Err(fault) => same(rt, alloc, fault, wanted),
+    }
+}
+
+#[test]
+fn a_line_with_a_caret(rt: HostRuntime) {
+    refused(
+        &rt,
+        rt.alloc(),
+        "width=12\nheight=tall\n",
+        "parse error at line 2, column 8\n  |\n2 | height=tall\n  |        ^\n\
+         expected a number in a setting",
+    );
+    refused(
+        &rt,
+        rt.alloc(),
+        "a=1\r\nb=2\r\n",
+        "parse error at line 1, column 4\n  |\n1 | a=1\n  |    ^\nexpected a setting",
+    );
+}
+
+#[test]
+fn a_line_of_its_own(rt: HostRuntime) {
+    refused(&rt, rt.alloc(), "größe=1", "größe=1\n^\n");
+    refused(&rt, rt.alloc(), "size=1;", "size=1;\n      ^\nexpected a setting");
+    refused(&rt, rt.alloc(), "size=", "size=\n     ^\nexpected a number in a setting");
+}
+
+/// A caret stands under a character, whatever bytes it has; bytes that are no text count as one.
+#[test]
+fn excerpts(rt: HostRuntime) {
+    let text = "höhe=1\ngröße=x\n";
+    let shown = Excerpt::new(text.as_bytes(), 16);
+    assert_eq!(rt; shown.position(), Position { line: 2, column: 7 });
+    assert_eq!(rt; shown.line(), "größe=x".as_bytes());
+    same(
+        &rt,
+        rt.alloc(),
+        shown,
+        "parse error at line 2, column 7\n  |\n2 | größe=x\n  |       ^",
+    );
+    same(&rt, rt.alloc(), Excerpt::new(b"a\xFFb", 2), "a\u{FFFD}b\n  ^");
+    same(&rt, rt.alloc(), Excerpt::new(b"", 0), "\n^");
+    same(&rt, rt.alloc(), Excerpt::new(b"ab", 9), "ab\n  ^");
+    same(
+        &rt,
+        rt.alloc(),
+        Excerpt::new(b"1\n2\n3\n4\n5\n6\n7\n8\n9\nten", 19),
+        "parse error at line 10, column 2\n   |\n10 | ten\n   |  ^",
+    );
+    same(
+        &rt,
+        rt.alloc(),
+        Excerpt::new(b"a\n", 2),
+        "parse error at line 2, column 1\n  |\n2 | \n  | ^",
+    );
+    assert_eq!(rt; position_in(b"\xFF\n\xFFa", 3), Position { line: 2, column: 2 });
+}
+
+#[test]
+fn other_inputs(rt: HostRuntime) {
+    let bytes = Parser::<&[u8], _, EmptyError>::parse(&mut Digit1, b"12a".as_slice());
+    match bytes {
+        Ok(_) => assert!(rt; false),
+        Err(fault) => same(&rt, rt.alloc(), fault, "12a\n  ^\nfailed to parse"),
+    }
+    let located = LocatingSlice::new("12a");
+    match Parser::<_, _, EmptyError>::parse(&mut Digit1, located) {
+        Ok(_) => assert!(rt; false),
+        Err(fault) => same(&rt, rt.alloc(), fault, "12a\n  ^\nfailed to parse"),
+    }
+    let mut part = Partial::new("12");
+    match Parser::<_, &str, ErrMode<EmptyError>>::parse_next(&mut Digit1, &mut part) {
+        Ok(_) => assert!(rt; false),
+        Err(error) => same(&rt, rt.alloc(), error, "parsing requires 1 more data"),
+    }
+    same(
+        &rt,
+        rt.alloc(),
+        InputError::at("rest"),
+        "failed to parse starting at: rest",
+    );
+    let none: ErrMode<EmptyError> = ErrMode::no_memory(&"rest");
+    same(&rt, rt.alloc(), none, "out of memory");
+}
+
+/// A switch, or a number: the error says what both branches expected.
+fn value(alloc: Global, input: &mut &str) -> Result<(), ExpectedError<&'static str>> {
+    let start = *input;
+    let switch: Result<(), ExpectedError<_>> =
+        "on".void().context(alloc, "a switch").parse_next(input);
+    let Err(first) = switch else {
+        return Ok(());
+    };
+    *input = start;
+    let number: Result<(), ExpectedError<_>> =
+        Digit1.void().context(alloc, "a number").parse_next(input);
+    let Err(second) = number else {
+        return Ok(());
+    };
+    *input = start;
+    Err(first.joined(second))
+}
+
+#[test]
+fn what_each_branch_expected(rt: HostRuntime) {
+    let alloc = rt.alloc();
+    match value(alloc, &mut "?") {
+        Ok(()) => assert!(rt; false),
+        Err(mut error) => {
+            assert_eq!(rt; error.expected(), ["a switch", "a number"].as_slice());
+            assert_eq!(rt; error.within().len(), 0);
+            error.push(alloc, "a value");
+            error.push(alloc, "a setting");
+            assert_eq!(rt; error.within(), ["a value", "a setting"].as_slice());
+            let wanted = "expected a switch or a number in a value in a setting";
+            same(&rt, rt.alloc(), error, wanted);
+        }
+    }
+    let mut three = ExpectedError::new();
+    for word in ["on", "off", "auto"] {
+        let mut one = ExpectedError::new();
+        one.push(alloc, word);
+        three = three.joined(one);
+    }
+    same(&rt, rt.alloc(), three, "expected on, off or auto");
+    let none: ExpectedError<&str> = ExpectedError::new();
+    same(&rt, rt.alloc(), none, "");
+}

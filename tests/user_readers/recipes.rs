@@ -1,0 +1,51 @@
+//! The recipes, each on a text that it reads, with what is left, and on some that it refuses.
+
+use uses_readers::recipes::{
+    count_temperatures, read_block_comment, read_identifier, read_line_comment, read_percentage,
+    read_row, read_spaced, read_temperature,
+};
+
+#[test]
+fn spaces_and_comments(rt: HostRuntime) {
+    let mut input = "  12 \t;";
+    assert_eq!(rt; read_spaced(&mut input).ok(), Some(12));
+    assert_eq!(rt; input, ";");
+    let mut input = "// said\nrest";
+    assert_eq!(rt; read_line_comment(&mut input).ok(), Some(" said"));
+    assert_eq!(rt; input, "\nrest");
+    let mut input = "/* a * b */ c";
+    assert_eq!(rt; read_block_comment(&mut input).ok(), Some(" a * b "));
+    assert_eq!(rt; input, " c");
+    assert!(rt; read_block_comment(&mut "/* a").is_err());
+}
+
+#[test]
+fn names_and_numbers(rt: HostRuntime) {
+    let mut input = "_a1-b";
+    assert_eq!(rt; read_identifier(&mut input).ok(), Some("_a1"));
+    assert_eq!(rt; input, "-b");
+    assert!(rt; read_identifier(&mut "1a").is_err());
+    for (text, degrees) in [("-40", -40), ("60", 60), ("+7", 7)] {
+        let mut input = text;
+        assert_eq!(rt; read_temperature(&mut input).ok(), Some(degrees));
+    }
+    for text in ["61", "-41", "40000", "x"] {
+        let mut input = text;
+        assert!(rt; read_temperature(&mut input).is_err());
+    }
+    assert_eq!(rt; read_percentage(&mut "100%").ok(), Some(100));
+    assert!(rt; read_percentage(&mut "101%").is_err());
+    assert!(rt; read_percentage(&mut "1000%").is_err());
+}
+
+#[test]
+fn rows_and_lines(rt: HostRuntime) {
+    for text in ["1,2,;", "1,2;"] {
+        let mut input = text;
+        let row = read_row(rt.alloc(), &mut input);
+        assert!(rt; matches!(&row, Ok(list) if list.as_slice() == [1, 2].as_slice()));
+        assert_eq!(rt; input, ";");
+    }
+    assert_eq!(rt; count_temperatures("12\n99\n-3\nx\n7 \n"), (2, 3));
+    assert_eq!(rt; count_temperatures(""), (0, 0));
+}
