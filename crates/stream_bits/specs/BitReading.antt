@@ -1,6 +1,6 @@
 -- How bits are counted, how they move the place, and which bits a slice shows.
 use Rattle.std.specs.Prelude.{◌≡◌, ◌<◌, ℕ, ◌+◌, ◌*◌, ◌-◌, ◌/◌, ◌%◌, Bool, true, false, min}
-use Rattle.std.specs.Prelude.{List, ◌++◌, length, take, drop, nat_lt}
+use Rattle.std.specs.Prelude.{List, [], ◌++◌, ◌≤◌, length, take, drop, nat_lt}
 use Rattle.std.proofs.Common.{refl, sym, ap, subst, ◌∙◌, arith, length-append, length-drop}
 use Rattle.std.proofs.lemmas.Bool.{ltb-true, lt-ltb}
 use Rattle.std.proofs.lemmas.List.{length-take}
@@ -42,12 +42,14 @@ pub record ShowsBits {S : Type 0} (reading : Reading ℕ S) (slice : BitSlice S)
   pub bits : shown ≡ drop slice.1 (bits_of bytes ++ take slice.2 (low_bits 8 begun))
 
 -- A slice that was cut from bits says where: how many bits of the first byte were read before it,
--- and how many of the byte behind its bytes are read behind it. Its bytes are those wholly passed.
+-- and how many of the byte behind its bytes are read behind it. Its bytes are those wholly passed:
+-- none at a place behind more than seven bits of a byte, which is not moved.
 pub record StandsBetween {S : Type 0} (reading : Reading ℕ S) (bytes : List ℕ) (before units : ℕ)
     (slice : BitSlice S) (behind : ℕ) : Type 0 where
   pub begins : slice.1 ≡ before
   pub ends : slice.2 ≡ behind
   pub passes : before < 8 → reading.shows slice.0 (take ((before + units) / 8) bytes)
+  pub stays : 8 ≤ before → reading.shows slice.0 []
 
 pub none_moved : {S : Type 0} (reading : Reading ℕ S) (b : Bool) (p : Place)
     → nat_lt p.bits_read 8 ≡ b → moved reading b p 0 ≡ p

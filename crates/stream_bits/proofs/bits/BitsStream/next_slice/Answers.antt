@@ -102,6 +102,7 @@ returns-then-offset-eq0-clause-stands g c =
       passes = λ few.
           let none : (offset + c.args.offset) / 8 ≡ 0 = omega (arith, few, c.if-offset-eq0.true) in
           subst P (ap (λ n. take n i.left.tokens) (sym none)) takes.shown;
+      stays = λ far. takes.shown;
     }
 
 pub returns-clause-stands : goal.returns-clause-stands
@@ -120,4 +121,8 @@ returns-clause-stands g c =
           (sym (take-append-drop n bytes))
           (sym (g.met.I.ByteStream.counts_bytes.units (take n bytes)
           ∙ length-take-le n bytes few))).shown;
+      stays = λ far.
+          let all = readable_says bytes offset r.0 in
+          let within = all.inside in
+          absurd (omega (arith, within, far));
     }
