@@ -57,7 +57,7 @@ impl<I: Stream, O1, E: ParserError<I>, P1: Parser<I, O1, E>> Parser<I, (O1,), E>
     ghost meaning = { λ form. SequenceRuns1 (P1.meaning form) };
 
     ghost leaves_ends = { λ form. sequence1_ends I.reading (P1.meaning form)
-          (P1.leaves_ends form) };
+        (P1.leaves_ends form) };
 
     #[inline(always)]
     fn parse_next(&mut self, input: &mut I) -> Result<(O1,), E> {
@@ -78,10 +78,14 @@ impl<
     ghost like = { λ p q. P1.like p.0 q.0 };
 
     ghost agrees = { agrees_one (λ p. p.0) (λ q. q.0) (λ X m form. SequenceRuns1 (m form))
-          P1.agrees };
+        P1.agrees };
 }
 
-impl<I: Stream, O1: Drop, O2, E: ParserError<I>, P1: Parser<I, O1, E>, P2: Parser<I, O2, E>> Parser<I, (O1, O2), E> for (P1, P2) {
+impl<I: Stream, O1: Drop, O2, E: ParserError<I>, P1: Parser<I, O1, E>, P2: Parser<I, O2, E>> Parser<
+    I,
+    (O1, O2),
+    E,
+> for (P1, P2) {
     ghost can_parse = { λ s. P1.can_parse s.0 × P2.can_parse s.1 };
 
     ghost State = { P1.State × P2.State };
@@ -91,7 +95,7 @@ impl<I: Stream, O1: Drop, O2, E: ParserError<I>, P1: Parser<I, O1, E>, P2: Parse
     ghost meaning = { λ form. SequenceRuns2 (P1.meaning form) (P2.meaning form) };
 
     ghost leaves_ends = { λ form. sequence2_ends I.reading (P1.meaning form) (P2.meaning form)
-          (P1.leaves_ends form) (P2.leaves_ends form) };
+        (P1.leaves_ends form) (P2.leaves_ends form) };
 
     #[inline(always)]
     fn parse_next(&mut self, input: &mut I) -> Result<(O1, O2), E> {
@@ -116,10 +120,19 @@ impl<
     ghost like = { λ p q. P1.like p.0 q.0 × P2.like p.1 q.1 };
 
     ghost agrees = { agrees2 (λ p. p.0) (λ q. q.0) (λ p. p.1) (λ q. q.1)
-          (λ X1 X2 m1 m2 form. SequenceRuns2 (m1 form) (m2 form)) P1.agrees P2.agrees };
+        (λ X1 X2 m1 m2 form. SequenceRuns2 (m1 form) (m2 form)) P1.agrees P2.agrees };
 }
 
-impl<I: Stream, O1: Drop, O2: Drop, O3, E: ParserError<I>, P1: Parser<I, O1, E>, P2: Parser<I, O2, E>, P3: Parser<I, O3, E>> Parser<I, (O1, O2, O3), E> for (P1, P2, P3) {
+impl<
+    I: Stream,
+    O1: Drop,
+    O2: Drop,
+    O3,
+    E: ParserError<I>,
+    P1: Parser<I, O1, E>,
+    P2: Parser<I, O2, E>,
+    P3: Parser<I, O3, E>,
+> Parser<I, (O1, O2, O3), E> for (P1, P2, P3) {
     ghost can_parse = { λ s. P1.can_parse s.0 × P2.can_parse s.1 × P3.can_parse s.2 };
 
     ghost State = { P1.State × P2.State × P3.State };
@@ -129,7 +142,7 @@ impl<I: Stream, O1: Drop, O2: Drop, O3, E: ParserError<I>, P1: Parser<I, O1, E>,
     ghost meaning = { λ form. SequenceRuns3 (P1.meaning form) (P2.meaning form) (P3.meaning form) };
 
     ghost leaves_ends = { λ form. sequence3_ends I.reading (P1.meaning form) (P2.meaning form)
-          (P3.meaning form) (P1.leaves_ends form) (P2.leaves_ends form) (P3.leaves_ends form) };
+        (P3.meaning form) (P1.leaves_ends form) (P2.leaves_ends form) (P3.leaves_ends form) };
 
     #[inline(always)]
     fn parse_next(&mut self, input: &mut I) -> Result<(O1, O2, O3), E> {
@@ -158,11 +171,22 @@ impl<
     ghost like = { λ p q. P1.like p.0 q.0 × P2.like p.1 q.1 × P3.like p.2 q.2 };
 
     ghost agrees = { agrees3 (λ p. p.0) (λ q. q.0) (λ p. p.1) (λ q. q.1) (λ p. p.2) (λ q. q.2)
-          (λ X1 X2 X3 m1 m2 m3 form. SequenceRuns3 (m1 form) (m2 form) (m3 form)) P1.agrees
-          P2.agrees P3.agrees };
+        (λ X1 X2 X3 m1 m2 m3 form. SequenceRuns3 (m1 form) (m2 form) (m3 form)) P1.agrees
+        P2.agrees P3.agrees };
 }
 
-impl<I: Stream, O1: Drop, O2: Drop, O3: Drop, O4, E: ParserError<I>, P1: Parser<I, O1, E>, P2: Parser<I, O2, E>, P3: Parser<I, O3, E>, P4: Parser<I, O4, E>> Parser<I, (O1, O2, O3, O4), E> for (P1, P2, P3, P4) {
+impl<
+    I: Stream,
+    O1: Drop,
+    O2: Drop,
+    O3: Drop,
+    O4,
+    E: ParserError<I>,
+    P1: Parser<I, O1, E>,
+    P2: Parser<I, O2, E>,
+    P3: Parser<I, O3, E>,
+    P4: Parser<I, O4, E>,
+> Parser<I, (O1, O2, O3, O4), E> for (P1, P2, P3, P4) {
     ghost can_parse = { λ s. P1.can_parse s.0 × P2.can_parse s.1 × P3.can_parse s.2
         × P4.can_parse s.3 };
 
@@ -171,11 +195,11 @@ impl<I: Stream, O1: Drop, O2: Drop, O3: Drop, O4, E: ParserError<I>, P1: Parser<
     ghost state = { λ s. (P1.state s.0, P2.state s.1, P3.state s.2, P4.state s.3) };
 
     ghost meaning = { λ form. SequenceRuns4 (P1.meaning form) (P2.meaning form)
-          (P3.meaning form) (P4.meaning form) };
+        (P3.meaning form) (P4.meaning form) };
 
     ghost leaves_ends = { λ form. sequence4_ends I.reading (P1.meaning form) (P2.meaning form)
-          (P3.meaning form) (P4.meaning form) (P1.leaves_ends form) (P2.leaves_ends form)
-          (P3.leaves_ends form) (P4.leaves_ends form) };
+        (P3.meaning form) (P4.meaning form) (P1.leaves_ends form) (P2.leaves_ends form)
+        (P3.leaves_ends form) (P4.leaves_ends form) };
 
     #[inline(always)]
     fn parse_next(&mut self, input: &mut I) -> Result<(O1, O2, O3, O4), E> {
@@ -208,12 +232,25 @@ impl<
     ghost like = { λ p q. P1.like p.0 q.0 × P2.like p.1 q.1 × P3.like p.2 q.2 × P4.like p.3 q.3 };
 
     ghost agrees = { agrees4 (λ p. p.0) (λ q. q.0) (λ p. p.1) (λ q. q.1) (λ p. p.2) (λ q. q.2)
-          (λ p. p.3) (λ q. q.3)
-          (λ X1 X2 X3 X4 m1 m2 m3 m4 form. SequenceRuns4 (m1 form) (m2 form) (m3 form)
-            (m4 form)) P1.agrees P2.agrees P3.agrees P4.agrees };
+        (λ p. p.3) (λ q. q.3)
+        (λ X1 X2 X3 X4 m1 m2 m3 m4 form. SequenceRuns4 (m1 form) (m2 form) (m3 form)
+        (m4 form)) P1.agrees P2.agrees P3.agrees P4.agrees };
 }
 
-impl<I: Stream, O1: Drop, O2: Drop, O3: Drop, O4: Drop, O5, E: ParserError<I>, P1: Parser<I, O1, E>, P2: Parser<I, O2, E>, P3: Parser<I, O3, E>, P4: Parser<I, O4, E>, P5: Parser<I, O5, E>> Parser<I, (O1, O2, O3, O4, O5), E> for (P1, P2, P3, P4, P5) {
+impl<
+    I: Stream,
+    O1: Drop,
+    O2: Drop,
+    O3: Drop,
+    O4: Drop,
+    O5,
+    E: ParserError<I>,
+    P1: Parser<I, O1, E>,
+    P2: Parser<I, O2, E>,
+    P3: Parser<I, O3, E>,
+    P4: Parser<I, O4, E>,
+    P5: Parser<I, O5, E>,
+> Parser<I, (O1, O2, O3, O4, O5), E> for (P1, P2, P3, P4, P5) {
     ghost can_parse = { λ s. P1.can_parse s.0 × P2.can_parse s.1 × P3.can_parse s.2
         × P4.can_parse s.3 × P5.can_parse s.4 };
 
@@ -222,12 +259,12 @@ impl<I: Stream, O1: Drop, O2: Drop, O3: Drop, O4: Drop, O5, E: ParserError<I>, P
     ghost state = { λ s. (P1.state s.0, P2.state s.1, P3.state s.2, P4.state s.3, P5.state s.4) };
 
     ghost meaning = { λ form. SequenceRuns5 (P1.meaning form) (P2.meaning form)
-          (P3.meaning form) (P4.meaning form) (P5.meaning form) };
+        (P3.meaning form) (P4.meaning form) (P5.meaning form) };
 
     ghost leaves_ends = { λ form. sequence5_ends I.reading (P1.meaning form) (P2.meaning form)
-          (P3.meaning form) (P4.meaning form) (P5.meaning form) (P1.leaves_ends form)
-          (P2.leaves_ends form) (P3.leaves_ends form) (P4.leaves_ends form)
-          (P5.leaves_ends form) };
+        (P3.meaning form) (P4.meaning form) (P5.meaning form) (P1.leaves_ends form)
+        (P2.leaves_ends form) (P3.leaves_ends form) (P4.leaves_ends form)
+        (P5.leaves_ends form) };
 
     #[inline(always)]
     fn parse_next(&mut self, input: &mut I) -> Result<(O1, O2, O3, O4, O5), E> {
@@ -265,28 +302,48 @@ impl<
         × P5.like p.4 q.4 };
 
     ghost agrees = { agrees5 (λ p. p.0) (λ q. q.0) (λ p. p.1) (λ q. q.1) (λ p. p.2) (λ q. q.2)
-          (λ p. p.3) (λ q. q.3) (λ p. p.4) (λ q. q.4)
-          (λ X1 X2 X3 X4 X5 m1 m2 m3 m4 m5 form. SequenceRuns5 (m1 form) (m2 form) (m3 form)
-            (m4 form) (m5 form)) P1.agrees P2.agrees P3.agrees P4.agrees P5.agrees };
+        (λ p. p.3) (λ q. q.3) (λ p. p.4) (λ q. q.4)
+        (λ X1 X2 X3 X4 X5 m1 m2 m3 m4 m5 form. SequenceRuns5 (m1 form) (m2 form) (m3 form)
+        (m4 form) (m5 form)) P1.agrees P2.agrees P3.agrees P4.agrees P5.agrees };
 }
 
-impl<I: Stream, O1: Drop, O2: Drop, O3: Drop, O4: Drop, O5: Drop, O6, E: ParserError<I>, P1: Parser<I, O1, E>, P2: Parser<I, O2, E>, P3: Parser<I, O3, E>, P4: Parser<I, O4, E>, P5: Parser<I, O5, E>, P6: Parser<I, O6, E>> Parser<I, (O1, O2, O3, O4, O5, O6), E> for (P1, P2, P3, P4, P5, P6) {
+impl<
+    I: Stream,
+    O1: Drop,
+    O2: Drop,
+    O3: Drop,
+    O4: Drop,
+    O5: Drop,
+    O6,
+    E: ParserError<I>,
+    P1: Parser<I, O1, E>,
+    P2: Parser<I, O2, E>,
+    P3: Parser<I, O3, E>,
+    P4: Parser<I, O4, E>,
+    P5: Parser<I, O5, E>,
+    P6: Parser<I, O6, E>,
+> Parser<I, (O1, O2, O3, O4, O5, O6), E> for (P1, P2, P3, P4, P5, P6) {
     ghost can_parse = { λ s. P1.can_parse s.0 × P2.can_parse s.1 × P3.can_parse s.2
         × P4.can_parse s.3 × P5.can_parse s.4 × P6.can_parse s.5 };
 
     ghost State = { P1.State × P2.State × P3.State × P4.State × P5.State × P6.State };
 
-    ghost state = { λ s.
-          (P1.state s.0, P2.state s.1, P3.state s.2, P4.state s.3, P5.state s.4,
-          P6.state s.5) };
+    ghost state = { λ s. (
+      P1.state s.0,
+      P2.state s.1,
+      P3.state s.2,
+      P4.state s.3,
+      P5.state s.4,
+      P6.state s.5,
+    ) };
 
     ghost meaning = { λ form. SequenceRuns6 (P1.meaning form) (P2.meaning form)
-          (P3.meaning form) (P4.meaning form) (P5.meaning form) (P6.meaning form) };
+        (P3.meaning form) (P4.meaning form) (P5.meaning form) (P6.meaning form) };
 
     ghost leaves_ends = { λ form. sequence6_ends I.reading (P1.meaning form) (P2.meaning form)
-          (P3.meaning form) (P4.meaning form) (P5.meaning form) (P6.meaning form)
-          (P1.leaves_ends form) (P2.leaves_ends form) (P3.leaves_ends form)
-          (P4.leaves_ends form) (P5.leaves_ends form) (P6.leaves_ends form) };
+        (P3.meaning form) (P4.meaning form) (P5.meaning form) (P6.meaning form)
+        (P1.leaves_ends form) (P2.leaves_ends form) (P3.leaves_ends form)
+        (P4.leaves_ends form) (P5.leaves_ends form) (P6.leaves_ends form) };
 
     #[inline(always)]
     fn parse_next(&mut self, input: &mut I) -> Result<(O1, O2, O3, O4, O5, O6), E> {
@@ -323,13 +380,14 @@ impl<
     Q5: Parser<J, O5, F>,
     P6: AgreesWith<I, O6, E, Q6, J, F>,
     Q6: Parser<J, O6, F>,
-> AgreesWith<I, (O1, O2, O3, O4, O5, O6), E, (Q1, Q2, Q3, Q4, Q5, Q6), J, F> for (P1, P2, P3, P4, P5, P6) {
+> AgreesWith<I, (O1, O2, O3, O4, O5, O6), E, (Q1, Q2, Q3, Q4, Q5, Q6), J, F>
+    for (P1, P2, P3, P4, P5, P6) {
     ghost like = { λ p q. P1.like p.0 q.0 × P2.like p.1 q.1 × P3.like p.2 q.2 × P4.like p.3 q.3
         × P5.like p.4 q.4 × P6.like p.5 q.5 };
 
     ghost agrees = { agrees6 (λ p. p.0) (λ q. q.0) (λ p. p.1) (λ q. q.1) (λ p. p.2) (λ q. q.2)
-          (λ p. p.3) (λ q. q.3) (λ p. p.4) (λ q. q.4) (λ p. p.5) (λ q. q.5)
-          (λ X1 X2 X3 X4 X5 X6 m1 m2 m3 m4 m5 m6 form. SequenceRuns6 (m1 form) (m2 form)
-            (m3 form) (m4 form) (m5 form) (m6 form)) P1.agrees P2.agrees P3.agrees P4.agrees
-          P5.agrees P6.agrees };
+        (λ p. p.3) (λ q. q.3) (λ p. p.4) (λ q. q.4) (λ p. p.5) (λ q. q.5)
+        (λ X1 X2 X3 X4 X5 X6 m1 m2 m3 m4 m5 m6 form. SequenceRuns6 (m1 form) (m2 form)
+        (m3 form) (m4 form) (m5 form) (m6 form)) P1.agrees P2.agrees P3.agrees P4.agrees
+        P5.agrees P6.agrees };
 }

@@ -37,10 +37,10 @@ where
     ghost state = { λ _. tt };
 
     ghost meaning = { λ form. Keeps
-          (λ _. ClassRuns IsAlpha 1 I.Token.code I.seen_as I.reading form) };
+        (λ _. ClassRuns IsAlpha 1 I.Token.code I.seen_as I.reading form) };
 
     ghost leaves_ends = { λ form x i answer y j r. class_ends IsAlpha 1 I.Token.code I.seen_as
-          I.reading form i answer j r.0 };
+        I.reading form i answer j r.0 };
 
     #[inline(always)]
     fn parse_next(&mut self, input: &mut I) -> Result<I::Slice, E> {
@@ -48,23 +48,25 @@ where
     }
 }
 
-impl<
-    I: StreamIsPartial,
-    E: ParserError<I>,
-> Stable<I, I::Slice, E> for Alpha1
+impl<I: StreamIsPartial, E: ParserError<I>> Stable<I, I::Slice, E> for Alpha1
 where
     I::Token: AsChar,
 {
     ghost stable = { leaf_stays I.following _
-          (λ _. take_while_stays I.reading _ (from_to 1 None)) };
+        (λ _. take_while_stays I.reading _ (from_to 1 None)) };
 }
 
-impl<I: StreamIsPartial + ReadsLike<J>, J: StreamIsPartial + Stream<Token = I::Token, Seen = I::Seen, Slice = I::Slice>, E: ParserError<I>, F: ParserError<J>> AgreesWith<I, I::Slice, E, Alpha1, J, F> for Alpha1
+impl<
+    I: StreamIsPartial + ReadsLike<J>,
+    J: StreamIsPartial + Stream<Token = I::Token, Seen = I::Seen, Slice = I::Slice>,
+    E: ParserError<I>,
+    F: ParserError<J>,
+> AgreesWith<I, I::Slice, E, Alpha1, J, F> for Alpha1
 where
     I::Token: AsChar,
 {
     ghost like = { λ p q. ⊤ };
 
     ghost agrees = { agrees_plain
-          (class_alike IsAlpha 1 I.Token.code I.same_reading I.same_tokens) };
+        (class_alike IsAlpha 1 I.Token.code I.same_reading I.same_tokens) };
 }

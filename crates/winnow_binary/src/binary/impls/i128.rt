@@ -41,7 +41,7 @@ impl<I: StreamIsPartial + ByteStream, E: ParserError<I>> Parser<I, i128, E> for 
     ghost meaning = { λ form. ChosenRuns 16 signed_value I.reading form };
 
     ghost leaves_ends = { λ form x i answer y j r. integer_ends 16 (signed_value x) I.reading
-          form i answer j r.0 };
+        form i answer j r.0 };
 
     #[inline(always)]
     fn parse_next(&mut self, input: &mut I) -> Result<i128, E> {
@@ -52,10 +52,7 @@ impl<I: StreamIsPartial + ByteStream, E: ParserError<I>> Parser<I, i128, E> for 
     }
 }
 
-impl<
-    I: StreamIsPartial + ByteStream,
-    E: ParserError<I>,
-> Stable<I, i128, E> for I128<I, E> {
+impl<I: StreamIsPartial + ByteStream, E: ParserError<I>> Stable<I, i128, E> for I128<I, E> {
     ghost stable = { leaf_stays I.following _ (λ x. integer_stays 16 (signed_value x) I.reading) };
 }
 
@@ -68,5 +65,5 @@ impl<
     ghost like = { λ p q. p.endian ≡ q.endian };
 
     ghost agrees = { agrees_by (λ p. p.endian) (λ q. q.endian)
-          (integer_alike 16 signed_value I.same_reading) };
+        (integer_alike 16 signed_value I.same_reading) };
 }

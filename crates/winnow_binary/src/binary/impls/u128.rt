@@ -41,7 +41,7 @@ impl<I: StreamIsPartial + ByteStream, E: ParserError<I>> Parser<I, u128, E> for 
     ghost meaning = { λ form. ChosenRuns 16 unsigned_value I.reading form };
 
     ghost leaves_ends = { λ form x i answer y j r. integer_ends 16 (unsigned_value x) I.reading
-          form i answer j r.0 };
+        form i answer j r.0 };
 
     #[inline(always)]
     fn parse_next(&mut self, input: &mut I) -> Result<u128, E> {
@@ -52,12 +52,9 @@ impl<I: StreamIsPartial + ByteStream, E: ParserError<I>> Parser<I, u128, E> for 
     }
 }
 
-impl<
-    I: StreamIsPartial + ByteStream,
-    E: ParserError<I>,
-> Stable<I, u128, E> for U128<I, E> {
+impl<I: StreamIsPartial + ByteStream, E: ParserError<I>> Stable<I, u128, E> for U128<I, E> {
     ghost stable = { leaf_stays I.following _
-          (λ x. integer_stays 16 (unsigned_value x) I.reading) };
+        (λ x. integer_stays 16 (unsigned_value x) I.reading) };
 }
 
 impl<
@@ -69,5 +66,5 @@ impl<
     ghost like = { λ p q. p.endian ≡ q.endian };
 
     ghost agrees = { agrees_by (λ p. p.endian) (λ q. q.endian)
-          (integer_alike 16 unsigned_value I.same_reading) };
+        (integer_alike 16 unsigned_value I.same_reading) };
 }

@@ -35,7 +35,7 @@ impl<I: StreamIsPartial + ByteStream, E: ParserError<I>> Parser<I, i16, E> for B
     ghost meaning = { λ form. Keeps (λ _. IntegerRuns 2 (signed_value Big) I.reading form) };
 
     ghost leaves_ends = { λ form x i answer y j r. integer_ends 2 (signed_value Big) I.reading
-          form i answer j r.0 };
+        form i answer j r.0 };
 
     #[inline(always)]
     fn parse_next(&mut self, input: &mut I) -> Result<i16, E> {
@@ -43,10 +43,7 @@ impl<I: StreamIsPartial + ByteStream, E: ParserError<I>> Parser<I, i16, E> for B
     }
 }
 
-impl<
-    I: StreamIsPartial + ByteStream,
-    E: ParserError<I>,
-> Stable<I, i16, E> for BeI16 {
+impl<I: StreamIsPartial + ByteStream, E: ParserError<I>> Stable<I, i16, E> for BeI16 {
     ghost stable = { leaf_stays I.following _ (λ _. integer_stays 2 (signed_value Big) I.reading) };
 }
 

@@ -35,7 +35,7 @@ impl<I: StreamIsPartial + ByteStream, E: ParserError<I>> Parser<I, i64, E> for B
     ghost meaning = { λ form. Keeps (λ _. IntegerRuns 8 (signed_value Big) I.reading form) };
 
     ghost leaves_ends = { λ form x i answer y j r. integer_ends 8 (signed_value Big) I.reading
-          form i answer j r.0 };
+        form i answer j r.0 };
 
     #[inline(always)]
     fn parse_next(&mut self, input: &mut I) -> Result<i64, E> {
@@ -43,10 +43,7 @@ impl<I: StreamIsPartial + ByteStream, E: ParserError<I>> Parser<I, i64, E> for B
     }
 }
 
-impl<
-    I: StreamIsPartial + ByteStream,
-    E: ParserError<I>,
-> Stable<I, i64, E> for BeI64 {
+impl<I: StreamIsPartial + ByteStream, E: ParserError<I>> Stable<I, i64, E> for BeI64 {
     ghost stable = { leaf_stays I.following _ (λ _. integer_stays 8 (signed_value Big) I.reading) };
 }
 

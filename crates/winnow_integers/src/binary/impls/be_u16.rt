@@ -35,7 +35,7 @@ impl<I: StreamIsPartial + ByteStream, E: ParserError<I>> Parser<I, u16, E> for B
     ghost meaning = { λ form. Keeps (λ _. IntegerRuns 2 (unsigned_value Big) I.reading form) };
 
     ghost leaves_ends = { λ form x i answer y j r. integer_ends 2 (unsigned_value Big) I.reading
-          form i answer j r.0 };
+        form i answer j r.0 };
 
     #[inline(always)]
     fn parse_next(&mut self, input: &mut I) -> Result<u16, E> {
@@ -43,12 +43,9 @@ impl<I: StreamIsPartial + ByteStream, E: ParserError<I>> Parser<I, u16, E> for B
     }
 }
 
-impl<
-    I: StreamIsPartial + ByteStream,
-    E: ParserError<I>,
-> Stable<I, u16, E> for BeU16 {
+impl<I: StreamIsPartial + ByteStream, E: ParserError<I>> Stable<I, u16, E> for BeU16 {
     ghost stable = { leaf_stays I.following _
-          (λ _. integer_stays 2 (unsigned_value Big) I.reading) };
+        (λ _. integer_stays 2 (unsigned_value Big) I.reading) };
 }
 
 impl<

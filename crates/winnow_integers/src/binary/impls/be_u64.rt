@@ -35,7 +35,7 @@ impl<I: StreamIsPartial + ByteStream, E: ParserError<I>> Parser<I, u64, E> for B
     ghost meaning = { λ form. Keeps (λ _. IntegerRuns 8 (unsigned_value Big) I.reading form) };
 
     ghost leaves_ends = { λ form x i answer y j r. integer_ends 8 (unsigned_value Big) I.reading
-          form i answer j r.0 };
+        form i answer j r.0 };
 
     #[inline(always)]
     fn parse_next(&mut self, input: &mut I) -> Result<u64, E> {
@@ -43,12 +43,9 @@ impl<I: StreamIsPartial + ByteStream, E: ParserError<I>> Parser<I, u64, E> for B
     }
 }
 
-impl<
-    I: StreamIsPartial + ByteStream,
-    E: ParserError<I>,
-> Stable<I, u64, E> for BeU64 {
+impl<I: StreamIsPartial + ByteStream, E: ParserError<I>> Stable<I, u64, E> for BeU64 {
     ghost stable = { leaf_stays I.following _
-          (λ _. integer_stays 8 (unsigned_value Big) I.reading) };
+        (λ _. integer_stays 8 (unsigned_value Big) I.reading) };
 }
 
 impl<

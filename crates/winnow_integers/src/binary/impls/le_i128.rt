@@ -35,7 +35,7 @@ impl<I: StreamIsPartial + ByteStream, E: ParserError<I>> Parser<I, i128, E> for 
     ghost meaning = { λ form. Keeps (λ _. IntegerRuns 16 (signed_value Little) I.reading form) };
 
     ghost leaves_ends = { λ form x i answer y j r. integer_ends 16 (signed_value Little)
-          I.reading form i answer j r.0 };
+        I.reading form i answer j r.0 };
 
     #[inline(always)]
     fn parse_next(&mut self, input: &mut I) -> Result<i128, E> {
@@ -43,12 +43,9 @@ impl<I: StreamIsPartial + ByteStream, E: ParserError<I>> Parser<I, i128, E> for 
     }
 }
 
-impl<
-    I: StreamIsPartial + ByteStream,
-    E: ParserError<I>,
-> Stable<I, i128, E> for LeI128 {
+impl<I: StreamIsPartial + ByteStream, E: ParserError<I>> Stable<I, i128, E> for LeI128 {
     ghost stable = { leaf_stays I.following _
-          (λ _. integer_stays 16 (signed_value Little) I.reading) };
+        (λ _. integer_stays 16 (signed_value Little) I.reading) };
 }
 
 impl<

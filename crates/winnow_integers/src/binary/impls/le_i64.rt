@@ -35,7 +35,7 @@ impl<I: StreamIsPartial + ByteStream, E: ParserError<I>> Parser<I, i64, E> for L
     ghost meaning = { λ form. Keeps (λ _. IntegerRuns 8 (signed_value Little) I.reading form) };
 
     ghost leaves_ends = { λ form x i answer y j r. integer_ends 8 (signed_value Little)
-          I.reading form i answer j r.0 };
+        I.reading form i answer j r.0 };
 
     #[inline(always)]
     fn parse_next(&mut self, input: &mut I) -> Result<i64, E> {
@@ -43,12 +43,9 @@ impl<I: StreamIsPartial + ByteStream, E: ParserError<I>> Parser<I, i64, E> for L
     }
 }
 
-impl<
-    I: StreamIsPartial + ByteStream,
-    E: ParserError<I>,
-> Stable<I, i64, E> for LeI64 {
+impl<I: StreamIsPartial + ByteStream, E: ParserError<I>> Stable<I, i64, E> for LeI64 {
     ghost stable = { leaf_stays I.following _
-          (λ _. integer_stays 8 (signed_value Little) I.reading) };
+        (λ _. integer_stays 8 (signed_value Little) I.reading) };
 }
 
 impl<

@@ -35,7 +35,7 @@ impl<I: StreamIsPartial + ByteStream, E: ParserError<I>> Parser<I, i8, E> for Le
     ghost meaning = { λ form. Keeps (λ _. IntegerRuns 1 (signed_value Little) I.reading form) };
 
     ghost leaves_ends = { λ form x i answer y j r. integer_ends 1 (signed_value Little)
-          I.reading form i answer j r.0 };
+        I.reading form i answer j r.0 };
 
     #[inline(always)]
     fn parse_next(&mut self, input: &mut I) -> Result<i8, E> {
@@ -43,12 +43,9 @@ impl<I: StreamIsPartial + ByteStream, E: ParserError<I>> Parser<I, i8, E> for Le
     }
 }
 
-impl<
-    I: StreamIsPartial + ByteStream,
-    E: ParserError<I>,
-> Stable<I, i8, E> for LeI8 {
+impl<I: StreamIsPartial + ByteStream, E: ParserError<I>> Stable<I, i8, E> for LeI8 {
     ghost stable = { leaf_stays I.following _
-          (λ _. integer_stays 1 (signed_value Little) I.reading) };
+        (λ _. integer_stays 1 (signed_value Little) I.reading) };
 }
 
 impl<

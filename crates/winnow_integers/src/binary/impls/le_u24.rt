@@ -35,7 +35,7 @@ impl<I: StreamIsPartial + ByteStream, E: ParserError<I>> Parser<I, u32, E> for L
     ghost meaning = { λ form. Keeps (λ _. IntegerRuns 3 (unsigned_value Little) I.reading form) };
 
     ghost leaves_ends = { λ form x i answer y j r. integer_ends 3 (unsigned_value Little)
-          I.reading form i answer j r.0 };
+        I.reading form i answer j r.0 };
 
     #[inline(always)]
     fn parse_next(&mut self, input: &mut I) -> Result<u32, E> {
@@ -43,12 +43,9 @@ impl<I: StreamIsPartial + ByteStream, E: ParserError<I>> Parser<I, u32, E> for L
     }
 }
 
-impl<
-    I: StreamIsPartial + ByteStream,
-    E: ParserError<I>,
-> Stable<I, u32, E> for LeU24 {
+impl<I: StreamIsPartial + ByteStream, E: ParserError<I>> Stable<I, u32, E> for LeU24 {
     ghost stable = { leaf_stays I.following _
-          (λ _. integer_stays 3 (unsigned_value Little) I.reading) };
+        (λ _. integer_stays 3 (unsigned_value Little) I.reading) };
 }
 
 impl<

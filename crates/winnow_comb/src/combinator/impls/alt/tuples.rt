@@ -29,16 +29,13 @@ impl<I: Stream, O, E: ParserError<I>, P1: Parser<I, O, E>> Alt<I, O, E> for (P1,
     }
 }
 
-impl<
-    I: Stream,
-    O,
-    E: ParserError<I>,
-    P1: Stable<I, O, E>,
-> Stable<I, O, E> for AltParser<(P1,), I, O, E> {
+impl<I: Stream, O, E: ParserError<I>, P1: Stable<I, O, E>> Stable<I, O, E>
+    for AltParser<(P1,), I, O, E> {
     ghost stable = { stays (grows (P1.leaves_ends modal) P1.stable) };
 }
 
-impl<I: Stream, O, E: ParserError<I>, P1: Parser<I, O, E>, P2: Parser<I, O, E>> Alt<I, O, E> for (P1, P2) {
+impl<I: Stream, O, E: ParserError<I>, P1: Parser<I, O, E>, P2: Parser<I, O, E>> Alt<I, O, E>
+    for (P1, P2) {
     ghost can_choose = { λ s. P1.can_parse s.0 × P2.can_parse s.1 };
 
     ghost State = { P1.State × P2.State };
@@ -48,7 +45,7 @@ impl<I: Stream, O, E: ParserError<I>, P1: Parser<I, O, E>, P2: Parser<I, O, E>> 
     ghost meaning = { λ form. OrElse (P1.meaning form) (P2.meaning form) };
 
     ghost leaves_ends = { λ form. or_else_ends I.reading (P1.meaning form) (P2.meaning form)
-          (P1.leaves_ends form) (P2.leaves_ends form) };
+        (P1.leaves_ends form) (P2.leaves_ends form) };
 
     #[inline(always)]
     fn choice(&mut self, input: &mut I) -> Result<O, E> {
@@ -60,19 +57,21 @@ impl<I: Stream, O, E: ParserError<I>, P1: Parser<I, O, E>, P2: Parser<I, O, E>> 
     }
 }
 
+impl<I: Stream, O, E: ParserError<I>, P1: Stable<I, O, E>, P2: Stable<I, O, E>> Stable<I, O, E>
+    for AltParser<(P1, P2), I, O, E> {
+    ghost stable = { stays
+        (or_else_grows (grows (P1.leaves_ends modal) P1.stable)
+        (grows (P2.leaves_ends modal) P2.stable)) };
+}
+
 impl<
     I: Stream,
     O,
     E: ParserError<I>,
-    P1: Stable<I, O, E>,
-    P2: Stable<I, O, E>,
-> Stable<I, O, E> for AltParser<(P1, P2), I, O, E> {
-    ghost stable = { stays
-          (or_else_grows (grows (P1.leaves_ends modal) P1.stable)
-            (grows (P2.leaves_ends modal) P2.stable)) };
-}
-
-impl<I: Stream, O, E: ParserError<I>, P1: Parser<I, O, E>, P2: Parser<I, O, E>, P3: Parser<I, O, E>> Alt<I, O, E> for (P1, P2, P3) {
+    P1: Parser<I, O, E>,
+    P2: Parser<I, O, E>,
+    P3: Parser<I, O, E>,
+> Alt<I, O, E> for (P1, P2, P3) {
     ghost can_choose = { λ s. P1.can_parse s.0 × P2.can_parse s.1 × P3.can_parse s.2 };
 
     ghost State = { P1.State × (P2.State × P3.State) };
@@ -80,12 +79,12 @@ impl<I: Stream, O, E: ParserError<I>, P1: Parser<I, O, E>, P2: Parser<I, O, E>, 
     ghost state = { λ s. (P1.state s.0, (P2.state s.1, P3.state s.2)) };
 
     ghost meaning = { λ form. OrElse (P1.meaning form)
-          (OrElse (P2.meaning form) (P3.meaning form)) };
+        (OrElse (P2.meaning form) (P3.meaning form)) };
 
     ghost leaves_ends = { λ form. or_else_ends I.reading (P1.meaning form)
-          (OrElse (P2.meaning form) (P3.meaning form)) (P1.leaves_ends form)
-          (or_else_ends I.reading (P2.meaning form) (P3.meaning form) (P2.leaves_ends form)
-            (P3.leaves_ends form)) };
+        (OrElse (P2.meaning form) (P3.meaning form)) (P1.leaves_ends form)
+        (or_else_ends I.reading (P2.meaning form) (P3.meaning form) (P2.leaves_ends form)
+        (P3.leaves_ends form)) };
 
     #[inline(always)]
     fn choice(&mut self, input: &mut I) -> Result<O, E> {
@@ -109,12 +108,20 @@ impl<
     P3: Stable<I, O, E>,
 > Stable<I, O, E> for AltParser<(P1, P2, P3), I, O, E> {
     ghost stable = { stays
-          (or_else_grows (grows (P1.leaves_ends modal) P1.stable)
-            (or_else_grows (grows (P2.leaves_ends modal) P2.stable)
-              (grows (P3.leaves_ends modal) P3.stable))) };
+        (or_else_grows (grows (P1.leaves_ends modal) P1.stable)
+        (or_else_grows (grows (P2.leaves_ends modal) P2.stable)
+        (grows (P3.leaves_ends modal) P3.stable))) };
 }
 
-impl<I: Stream, O, E: ParserError<I>, P1: Parser<I, O, E>, P2: Parser<I, O, E>, P3: Parser<I, O, E>, P4: Parser<I, O, E>> Alt<I, O, E> for (P1, P2, P3, P4) {
+impl<
+    I: Stream,
+    O,
+    E: ParserError<I>,
+    P1: Parser<I, O, E>,
+    P2: Parser<I, O, E>,
+    P3: Parser<I, O, E>,
+    P4: Parser<I, O, E>,
+> Alt<I, O, E> for (P1, P2, P3, P4) {
     ghost can_choose = { λ s. P1.can_parse s.0 × P2.can_parse s.1 × P3.can_parse s.2
         × P4.can_parse s.3 };
 
@@ -123,15 +130,15 @@ impl<I: Stream, O, E: ParserError<I>, P1: Parser<I, O, E>, P2: Parser<I, O, E>, 
     ghost state = { λ s. (P1.state s.0, (P2.state s.1, (P3.state s.2, P4.state s.3))) };
 
     ghost meaning = { λ form. OrElse (P1.meaning form)
-          (OrElse (P2.meaning form) (OrElse (P3.meaning form) (P4.meaning form))) };
+        (OrElse (P2.meaning form) (OrElse (P3.meaning form) (P4.meaning form))) };
 
     ghost leaves_ends = { λ form. or_else_ends I.reading (P1.meaning form)
-          (OrElse (P2.meaning form) (OrElse (P3.meaning form) (P4.meaning form)))
-          (P1.leaves_ends form)
-          (or_else_ends I.reading (P2.meaning form) (OrElse (P3.meaning form) (P4.meaning form))
-            (P2.leaves_ends form)
-            (or_else_ends I.reading (P3.meaning form) (P4.meaning form) (P3.leaves_ends form)
-              (P4.leaves_ends form))) };
+        (OrElse (P2.meaning form) (OrElse (P3.meaning form) (P4.meaning form)))
+        (P1.leaves_ends form)
+        (or_else_ends I.reading (P2.meaning form) (OrElse (P3.meaning form) (P4.meaning form))
+        (P2.leaves_ends form)
+        (or_else_ends I.reading (P3.meaning form) (P4.meaning form) (P3.leaves_ends form)
+        (P4.leaves_ends form))) };
 
     #[inline(always)]
     fn choice(&mut self, input: &mut I) -> Result<O, E> {
@@ -159,36 +166,45 @@ impl<
     P4: Stable<I, O, E>,
 > Stable<I, O, E> for AltParser<(P1, P2, P3, P4), I, O, E> {
     ghost stable = { stays
-          (or_else_grows (grows (P1.leaves_ends modal) P1.stable)
-            (or_else_grows (grows (P2.leaves_ends modal) P2.stable)
-              (or_else_grows (grows (P3.leaves_ends modal) P3.stable)
-                (grows (P4.leaves_ends modal) P4.stable)))) };
+        (or_else_grows (grows (P1.leaves_ends modal) P1.stable)
+        (or_else_grows (grows (P2.leaves_ends modal) P2.stable)
+        (or_else_grows (grows (P3.leaves_ends modal) P3.stable)
+        (grows (P4.leaves_ends modal) P4.stable)))) };
 }
 
-impl<I: Stream, O, E: ParserError<I>, P1: Parser<I, O, E>, P2: Parser<I, O, E>, P3: Parser<I, O, E>, P4: Parser<I, O, E>, P5: Parser<I, O, E>> Alt<I, O, E> for (P1, P2, P3, P4, P5) {
+impl<
+    I: Stream,
+    O,
+    E: ParserError<I>,
+    P1: Parser<I, O, E>,
+    P2: Parser<I, O, E>,
+    P3: Parser<I, O, E>,
+    P4: Parser<I, O, E>,
+    P5: Parser<I, O, E>,
+> Alt<I, O, E> for (P1, P2, P3, P4, P5) {
     ghost can_choose = { λ s. P1.can_parse s.0 × P2.can_parse s.1 × P3.can_parse s.2
         × P4.can_parse s.3 × P5.can_parse s.4 };
 
     ghost State = { P1.State × (P2.State × (P3.State × (P4.State × P5.State))) };
 
     ghost state = { λ s.
-          (P1.state s.0, (P2.state s.1, (P3.state s.2, (P4.state s.3, P5.state s.4)))) };
+        (P1.state s.0, (P2.state s.1, (P3.state s.2, (P4.state s.3, P5.state s.4)))) };
 
     ghost meaning = { λ form. OrElse (P1.meaning form)
-          (OrElse (P2.meaning form)
-            (OrElse (P3.meaning form) (OrElse (P4.meaning form) (P5.meaning form)))) };
+        (OrElse (P2.meaning form)
+        (OrElse (P3.meaning form) (OrElse (P4.meaning form) (P5.meaning form)))) };
 
     ghost leaves_ends = { λ form. or_else_ends I.reading (P1.meaning form)
-          (OrElse (P2.meaning form)
-            (OrElse (P3.meaning form) (OrElse (P4.meaning form) (P5.meaning form))))
-          (P1.leaves_ends form)
-          (or_else_ends I.reading (P2.meaning form)
-            (OrElse (P3.meaning form) (OrElse (P4.meaning form) (P5.meaning form)))
-            (P2.leaves_ends form)
-            (or_else_ends I.reading (P3.meaning form)
-              (OrElse (P4.meaning form) (P5.meaning form)) (P3.leaves_ends form)
-              (or_else_ends I.reading (P4.meaning form) (P5.meaning form) (P4.leaves_ends form)
-                (P5.leaves_ends form)))) };
+        (OrElse (P2.meaning form)
+        (OrElse (P3.meaning form) (OrElse (P4.meaning form) (P5.meaning form))))
+        (P1.leaves_ends form)
+        (or_else_ends I.reading (P2.meaning form)
+        (OrElse (P3.meaning form) (OrElse (P4.meaning form) (P5.meaning form)))
+        (P2.leaves_ends form)
+        (or_else_ends I.reading (P3.meaning form)
+        (OrElse (P4.meaning form) (P5.meaning form)) (P3.leaves_ends form)
+        (or_else_ends I.reading (P4.meaning form) (P5.meaning form) (P4.leaves_ends form)
+        (P5.leaves_ends form)))) };
 
     #[inline(always)]
     fn choice(&mut self, input: &mut I) -> Result<O, E> {
@@ -220,44 +236,58 @@ impl<
     P5: Stable<I, O, E>,
 > Stable<I, O, E> for AltParser<(P1, P2, P3, P4, P5), I, O, E> {
     ghost stable = { stays
-          (or_else_grows (grows (P1.leaves_ends modal) P1.stable)
-            (or_else_grows (grows (P2.leaves_ends modal) P2.stable)
-              (or_else_grows (grows (P3.leaves_ends modal) P3.stable)
-                (or_else_grows (grows (P4.leaves_ends modal) P4.stable)
-                (grows (P5.leaves_ends modal) P5.stable))))) };
+        (or_else_grows (grows (P1.leaves_ends modal) P1.stable)
+        (or_else_grows (grows (P2.leaves_ends modal) P2.stable)
+        (or_else_grows (grows (P3.leaves_ends modal) P3.stable)
+        (or_else_grows (grows (P4.leaves_ends modal) P4.stable)
+        (grows (P5.leaves_ends modal) P5.stable))))) };
 }
 
-impl<I: Stream, O, E: ParserError<I>, P1: Parser<I, O, E>, P2: Parser<I, O, E>, P3: Parser<I, O, E>, P4: Parser<I, O, E>, P5: Parser<I, O, E>, P6: Parser<I, O, E>> Alt<I, O, E> for (P1, P2, P3, P4, P5, P6) {
+impl<
+    I: Stream,
+    O,
+    E: ParserError<I>,
+    P1: Parser<I, O, E>,
+    P2: Parser<I, O, E>,
+    P3: Parser<I, O, E>,
+    P4: Parser<I, O, E>,
+    P5: Parser<I, O, E>,
+    P6: Parser<I, O, E>,
+> Alt<I, O, E> for (P1, P2, P3, P4, P5, P6) {
     ghost can_choose = { λ s. P1.can_parse s.0 × P2.can_parse s.1 × P3.can_parse s.2
         × P4.can_parse s.3 × P5.can_parse s.4 × P6.can_parse s.5 };
 
     ghost State = { P1.State × (P2.State × (P3.State × (P4.State × (P5.State × P6.State)))) };
 
-    ghost state = { λ s.
-          (P1.state s.0, (P2.state s.1,
-            (P3.state s.2, (P4.state s.3, (P5.state s.4, P6.state s.5))))) };
+    ghost state = { λ s. (
+      P1.state s.0,
+      (
+        P2.state s.1,
+        (P3.state s.2, (P4.state s.3, (P5.state s.4, P6.state s.5))),
+      ),
+    ) };
 
     ghost meaning = { λ form. OrElse (P1.meaning form)
-          (OrElse (P2.meaning form)
-            (OrElse (P3.meaning form)
-              (OrElse (P4.meaning form) (OrElse (P5.meaning form) (P6.meaning form))))) };
+        (OrElse (P2.meaning form)
+        (OrElse (P3.meaning form)
+        (OrElse (P4.meaning form) (OrElse (P5.meaning form) (P6.meaning form))))) };
 
     ghost leaves_ends = { λ form. or_else_ends I.reading (P1.meaning form)
-          (OrElse (P2.meaning form)
-            (OrElse (P3.meaning form)
-              (OrElse (P4.meaning form) (OrElse (P5.meaning form) (P6.meaning form)))))
-          (P1.leaves_ends form)
-          (or_else_ends I.reading (P2.meaning form)
-            (OrElse (P3.meaning form)
-              (OrElse (P4.meaning form) (OrElse (P5.meaning form) (P6.meaning form))))
-            (P2.leaves_ends form)
-            (or_else_ends I.reading (P3.meaning form)
-              (OrElse (P4.meaning form) (OrElse (P5.meaning form) (P6.meaning form)))
-              (P3.leaves_ends form)
-              (or_else_ends I.reading (P4.meaning form)
-                (OrElse (P5.meaning form) (P6.meaning form)) (P4.leaves_ends form)
-                (or_else_ends I.reading (P5.meaning form) (P6.meaning form)
-                (P5.leaves_ends form) (P6.leaves_ends form))))) };
+        (OrElse (P2.meaning form)
+        (OrElse (P3.meaning form)
+        (OrElse (P4.meaning form) (OrElse (P5.meaning form) (P6.meaning form)))))
+        (P1.leaves_ends form)
+        (or_else_ends I.reading (P2.meaning form)
+        (OrElse (P3.meaning form)
+        (OrElse (P4.meaning form) (OrElse (P5.meaning form) (P6.meaning form))))
+        (P2.leaves_ends form)
+        (or_else_ends I.reading (P3.meaning form)
+        (OrElse (P4.meaning form) (OrElse (P5.meaning form) (P6.meaning form)))
+        (P3.leaves_ends form)
+        (or_else_ends I.reading (P4.meaning form)
+        (OrElse (P5.meaning form) (P6.meaning form)) (P4.leaves_ends form)
+        (or_else_ends I.reading (P5.meaning form) (P6.meaning form)
+        (P5.leaves_ends form) (P6.leaves_ends form))))) };
 
     #[inline(always)]
     fn choice(&mut self, input: &mut I) -> Result<O, E> {
@@ -293,10 +323,10 @@ impl<
     P6: Stable<I, O, E>,
 > Stable<I, O, E> for AltParser<(P1, P2, P3, P4, P5, P6), I, O, E> {
     ghost stable = { stays
-          (or_else_grows (grows (P1.leaves_ends modal) P1.stable)
-            (or_else_grows (grows (P2.leaves_ends modal) P2.stable)
-              (or_else_grows (grows (P3.leaves_ends modal) P3.stable)
-                (or_else_grows (grows (P4.leaves_ends modal) P4.stable)
-                (or_else_grows (grows (P5.leaves_ends modal) P5.stable)
-                (grows (P6.leaves_ends modal) P6.stable)))))) };
+        (or_else_grows (grows (P1.leaves_ends modal) P1.stable)
+        (or_else_grows (grows (P2.leaves_ends modal) P2.stable)
+        (or_else_grows (grows (P3.leaves_ends modal) P3.stable)
+        (or_else_grows (grows (P4.leaves_ends modal) P4.stable)
+        (or_else_grows (grows (P5.leaves_ends modal) P5.stable)
+        (grows (P6.leaves_ends modal) P6.stable)))))) };
 }
