@@ -36,7 +36,7 @@ def rows():
         cells = [cell.strip() for cell in line.strip("|").split("|")]
         if not line.startswith("| `") or len(cells) < 2:
             continue
-        links = re.findall(r"\]\(\.\./([^)]+)\)", cells[1])
+        links = re.findall(r"\]\(\.\./([^)]+)\)", line)
         for name in re.findall(r"`(\w+)`", cells[0]):
             found[name] = links
     return found
