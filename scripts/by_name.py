@@ -37,7 +37,7 @@ def rows():
         if not line.startswith("| `") or len(cells) < 2:
             continue
         links = re.findall(r"\]\(\.\./([^)]+)\)", line)
-        for name in re.findall(r"`(\w+)`", cells[0]):
+        for name in re.findall(r"`(\w+)`", cells[0]) if links else ():
             found[name] = links
     return found
 
