@@ -236,6 +236,9 @@ pub use Rattle.winnow_recovery.specs.RetryAfter
 -- Text with escapes: parts that stand for themselves, and parts behind a control, as a backslash.
 pub use Rattle.winnow_escapes.specs.Escaped
 pub use Rattle.winnow_escapes.specs.TakeEscaped
+-- What a parser means, whatever it is made of: the law of each call, and what compositions mean.
+pub use Rattle.winnow_meanings.specs.Compositions
+pub use Rattle.winnow_meanings.specs.Memory
 -- Stable parsers: on a cut input each asks for more, or answers what it answers on every longer
 -- input.
 pub use Rattle.winnow_stable.specs.MapErrKept
