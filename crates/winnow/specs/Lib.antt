@@ -246,3 +246,6 @@ pub use Rattle.winnow_recovery.specs.RetryAfter
 pub use Rattle.winnow_escapes.specs.Controls
 pub use Rattle.winnow_escapes.specs.Escaped
 pub use Rattle.winnow_escapes.specs.TakeEscaped
+-- What a parser means, whatever it is made of: the law of each call, and what compositions mean.
+pub use Rattle.winnow_meanings.specs.Compositions
+pub use Rattle.winnow_meanings.specs.Memory

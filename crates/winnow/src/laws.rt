@@ -1,142 +1,67 @@
 //! Laws of the parsers and combinators: functions that do nothing, whose contracts are the laws. A
 //! caller calls one, and then knows what it says.
 // What stands below is written by scripts/registries.py: do not edit.
-pub use winnow_bits::laws::bits_stays_on_an_error;
-pub use winnow_bits::laws::bytes_stays_on_an_error;
-pub use winnow_bits::laws::taken_bits_and_the_rest_are_the_input;
-pub use winnow_comb::laws::choices::alt_of_five_answers_as_the_first;
-pub use winnow_comb::laws::choices::alt_of_four_answers_as_the_first;
-pub use winnow_comb::laws::choices::alt_of_six_answers_as_the_first;
-pub use winnow_comb::laws::choices::alt_of_three_answers_as_the_first;
-pub use winnow_comb::laws::choices::alt_of_two_answers_as_the_first;
-pub use winnow_comb::laws::items::alt_of_a_slice_answers_as_the_first;
-pub use winnow_comb::laws::items::alt_of_an_array_answers_as_the_first;
-pub use winnow_comb::laws::not_goes_back;
-pub use winnow_comb::laws::opt_goes_back_on_none;
-pub use winnow_comb::laws::peek_goes_back;
-pub use winnow_core::laws::a_complete_stream_is_answered_as_the_plain_one;
-pub use winnow_core::laws::a_cut_input_is_answered_as_each_longer_one;
-pub use winnow_core::laws::a_longer_input_gets_no_other_answer;
-pub use winnow_core::laws::and_then_goes_back;
-pub use winnow_core::laws::bytes_with_the_output_and_the_rest_are_the_input;
-pub use winnow_core::laws::eof_is_not_stable;
-pub use winnow_core::laws::leaves_an_end;
-pub use winnow_core::laws::parse_to_goes_back;
-pub use winnow_core::laws::taken_bytes_and_the_rest_are_the_input;
-pub use winnow_core::laws::taken_text_and_the_rest_are_the_input;
-pub use winnow_core::laws::taken_tokens_and_the_rest_are_the_input;
-pub use winnow_core::laws::text_with_the_output_and_the_rest_are_the_input;
-pub use winnow_core::laws::the_slice_taken_and_the_rest_are_the_input;
-pub use winnow_core::laws::the_slice_with_the_output_and_the_rest_are_the_input;
-pub use winnow_core::laws::tokens_with_the_output_and_the_rest_are_the_input;
-pub use winnow_core::laws::try_map_goes_back;
-pub use winnow_core::laws::verify_goes_back;
-pub use winnow_core::laws::verify_map_goes_back;
-pub use winnow_escapes::laws::escaped_bytes_and_the_rest_are_the_input;
-pub use winnow_escapes::laws::escaped_leaves_an_end;
-pub use winnow_escapes::laws::escaped_text_and_the_rest_are_the_input;
-pub use winnow_escapes::laws::take_escaped_leaves_an_end;
-pub use winnow_escapes::laws::the_escaped_slice_and_the_rest_are_the_input;
-pub use winnow_expression_trees::laws::Likeness;
-pub use winnow_expression_trees::laws::at_most_one_tree_keeps_the_powers;
-pub use winnow_expression_trees::laws::expression_reads_the_one_tree;
-pub use winnow_expression_trees::laws::no_tree_where_an_assert_rule_refuses;
-pub use winnow_expression_trees::laws::parts::a_byte_is_stateless;
-pub use winnow_expression_trees::laws::parts::a_choice_is_stateless;
-pub use winnow_expression_trees::laws::parts::a_number_is_stateless;
-pub use winnow_expression_trees::laws::parts::a_value_is_stateless;
-pub use winnow_expression_trees::laws::parts::an_unset_parser_is_stateless;
+pub use winnow_bits::laws::{
+    bits_stays_on_an_error, bytes_stays_on_an_error, taken_bits_and_the_rest_are_the_input,
+};
+pub use winnow_comb::laws::choices::{
+    alt_of_five_answers_as_the_first, alt_of_four_answers_as_the_first,
+    alt_of_six_answers_as_the_first, alt_of_three_answers_as_the_first,
+    alt_of_two_answers_as_the_first,
+};
+pub use winnow_comb::laws::items::{
+    alt_of_a_slice_answers_as_the_first, alt_of_an_array_answers_as_the_first,
+};
+pub use winnow_comb::laws::{not_goes_back, opt_goes_back_on_none, peek_goes_back};
+pub use winnow_core::laws::{
+    a_complete_stream_is_answered_as_the_plain_one, a_cut_input_is_answered_as_each_longer_one,
+    a_longer_input_gets_no_other_answer, and_then_goes_back,
+    bytes_with_the_output_and_the_rest_are_the_input, eof_is_not_stable, leaves_an_end,
+    parse_to_goes_back, taken_bytes_and_the_rest_are_the_input,
+    taken_text_and_the_rest_are_the_input, taken_tokens_and_the_rest_are_the_input,
+    text_with_the_output_and_the_rest_are_the_input, the_slice_taken_and_the_rest_are_the_input,
+    the_slice_with_the_output_and_the_rest_are_the_input,
+    tokens_with_the_output_and_the_rest_are_the_input, try_map_goes_back, verify_goes_back,
+    verify_map_goes_back,
+};
+pub use winnow_escapes::laws::{
+    escaped_bytes_and_the_rest_are_the_input, escaped_leaves_an_end,
+    escaped_text_and_the_rest_are_the_input, take_escaped_leaves_an_end,
+    the_escaped_slice_and_the_rest_are_the_input,
+};
+pub use winnow_expression_trees::laws::parts::{
+    a_byte_is_stateless, a_choice_is_stateless, a_number_is_stateless, a_value_is_stateless,
+    an_unset_parser_is_stateless,
+};
+pub use winnow_expression_trees::laws::{
+    Likeness, at_most_one_tree_keeps_the_powers, expression_reads_the_one_tree,
+    no_tree_where_an_assert_rule_refuses,
+};
 pub use winnow_integers::laws::little_endian_is_big_endian_of_the_reversed_bytes;
-pub use winnow_meanings::laws::attempts::backtrack_err_means_its_parser_whose_errors_backtrack;
-pub use winnow_meanings::laws::attempts::complete_err_means_its_parser_that_asks_for_no_more;
-pub use winnow_meanings::laws::attempts::cond_means_its_parser_where_it_is_asked;
-pub use winnow_meanings::laws::attempts::cut_err_means_its_parser_whose_errors_cut;
-pub use winnow_meanings::laws::attempts::not_means_that_its_parser_backtracks;
-pub use winnow_meanings::laws::attempts::opt_means_its_parser_or_none;
-pub use winnow_meanings::laws::attempts::peek_means_its_parser_ahead;
-pub use winnow_meanings::laws::bits::bits_means_its_parser_on_the_bits;
-pub use winnow_meanings::laws::bits::bytes_means_its_parser_on_whole_bytes;
-pub use winnow_meanings::laws::choices::a_choice_means_the_first_not_to_backtrack;
-pub use winnow_meanings::laws::choices::a_choice_of_a_slice_means_the_first_not_to_backtrack;
-pub use winnow_meanings::laws::choices::a_choice_of_an_array_means_the_first_not_to_backtrack;
-pub use winnow_meanings::laws::choices::a_choice_of_five_means_the_first_not_to_backtrack;
-pub use winnow_meanings::laws::choices::a_choice_of_four_means_the_first_not_to_backtrack;
-pub use winnow_meanings::laws::choices::a_choice_of_one_means_its_parser;
-pub use winnow_meanings::laws::choices::a_choice_of_six_means_the_first_not_to_backtrack;
-pub use winnow_meanings::laws::choices::a_choice_of_three_means_the_first_not_to_backtrack;
+pub use winnow_meanings::laws::compositions::{
+    DigitsUpTo, InBytes, Outputs, Signed, SignedBetween, SignedList, SignedOutput,
+    a_list_of_separated_sequences_means_its_derivation,
+    a_repetition_of_sequences_means_its_derivation,
+    a_sequence_of_an_option_and_a_choice_means_its_derivation,
+    items_up_to_a_byte_mean_their_derivation, tokens_between_two_bytes_mean_their_derivation,
+};
 pub use winnow_meanings::laws::each_call_ends_as_its_derivation;
-pub use winnow_meanings::laws::escapes::escaped_means_turns_and_their_outputs;
-pub use winnow_meanings::laws::escapes::take_escaped_means_turns_and_the_slice;
-pub use winnow_meanings::laws::expressions::a_postfix_operator_means_a_clone_of_its_fold;
-pub use winnow_meanings::laws::expressions::a_prefix_operator_means_a_clone_of_its_fold;
-pub use winnow_meanings::laws::expressions::an_expression_means_the_levels_of_its_operators;
-pub use winnow_meanings::laws::expressions::an_infix_operator_means_a_clone_of_its_fold;
-pub use winnow_meanings::laws::failures::context_means_its_parser_with_a_context;
-pub use winnow_meanings::laws::failures::context_with_means_its_parser_with_contexts_made;
-pub use winnow_meanings::laws::failures::err_into_means_its_parser_and_a_conversion_of_its_error;
-pub use winnow_meanings::laws::failures::map_err_means_its_parser_and_a_call_on_its_error;
-pub use winnow_meanings::laws::judgements::and_then_means_a_second_parser_on_the_slice;
-pub use winnow_meanings::laws::judgements::flat_map_means_its_parser_and_the_one_that_it_makes;
-pub use winnow_meanings::laws::judgements::parse_to_means_its_parser_and_what_its_output_reads_as;
-pub use winnow_meanings::laws::judgements::try_map_means_its_parser_and_a_call_that_may_fail;
-pub use winnow_meanings::laws::judgements::verify_map_means_its_parser_and_a_call_that_may_refuse;
-pub use winnow_meanings::laws::judgements::verify_means_its_parser_and_a_test;
-pub use winnow_meanings::laws::lengths::length_and_then_means_a_count_and_a_parser_on_the_slice;
-pub use winnow_meanings::laws::lengths::length_repeat_means_a_count_and_as_many_runs;
-pub use winnow_meanings::laws::lengths::length_take_means_a_count_and_a_slice;
-pub use winnow_meanings::laws::literals::a_byte_means_itself;
-pub use winnow_meanings::laws::literals::a_caseless_array_of_bytes_means_itself;
-pub use winnow_meanings::laws::literals::a_caseless_text_means_itself;
-pub use winnow_meanings::laws::literals::a_character_means_itself;
-pub use winnow_meanings::laws::literals::a_function_means_its_calls;
-pub use winnow_meanings::laws::literals::a_text_means_itself;
-pub use winnow_meanings::laws::literals::an_array_of_bytes_means_itself;
-pub use winnow_meanings::laws::literals::bytes_mean_themselves;
-pub use winnow_meanings::laws::literals::caseless_bytes_mean_themselves;
-pub use winnow_meanings::laws::outputs::by_ref_means_its_parser;
-pub use winnow_meanings::laws::outputs::default_value_means_its_parser_and_a_default;
-pub use winnow_meanings::laws::outputs::map_means_its_parser_and_a_call;
-pub use winnow_meanings::laws::outputs::output_into_means_its_parser_and_a_conversion;
-pub use winnow_meanings::laws::outputs::span_means_its_parser_and_its_places;
-pub use winnow_meanings::laws::outputs::take_means_its_parser_and_the_slice;
-pub use winnow_meanings::laws::outputs::value_means_its_parser_and_a_clone;
-pub use winnow_meanings::laws::outputs::void_means_its_parser_without_its_output;
-pub use winnow_meanings::laws::outputs::with_span_means_its_parser_with_its_places;
-pub use winnow_meanings::laws::outputs::with_taken_means_its_parser_with_the_slice;
-pub use winnow_meanings::laws::recoveries::resume_after_means_its_parser_or_a_recovery;
-pub use winnow_meanings::laws::recoveries::retry_after_means_its_parser_and_runs_after_recovery;
-pub use winnow_meanings::laws::repetitions::a_repetition_means_a_chain_of_runs;
-pub use winnow_meanings::laws::repetitions::a_separated_list_means_a_chain_of_links;
-pub use winnow_meanings::laws::repetitions::fill_means_a_run_for_each_element;
-pub use winnow_meanings::laws::repetitions::fold_means_a_chain_of_runs_and_calls;
-pub use winnow_meanings::laws::repetitions::repeat_till_means_a_chain_of_runs_and_its_end;
-pub use winnow_meanings::laws::repetitions::separated_foldl1_means_links_joined_to_the_left;
-pub use winnow_meanings::laws::repetitions::separated_foldr1_means_links_joined_to_the_right;
-pub use winnow_meanings::laws::repetitions::try_fold_means_a_chain_of_calls_that_may_fail;
-pub use winnow_meanings::laws::repetitions::verify_fold_means_a_chain_of_calls_that_may_refuse;
-pub use winnow_meanings::laws::sequences::a_sequence_means_its_parsers_in_order;
-pub use winnow_meanings::laws::sequences::a_sequence_of_five_means_its_parsers_in_order;
-pub use winnow_meanings::laws::sequences::a_sequence_of_four_means_its_parsers_in_order;
-pub use winnow_meanings::laws::sequences::a_sequence_of_none_means_success;
-pub use winnow_meanings::laws::sequences::a_sequence_of_one_means_its_parser;
-pub use winnow_meanings::laws::sequences::a_sequence_of_six_means_its_parsers_in_order;
-pub use winnow_meanings::laws::sequences::a_sequence_of_three_means_its_parsers_in_order;
-pub use winnow_meanings::laws::sequences::delimited_means_the_middle_of_three;
-pub use winnow_meanings::laws::sequences::preceded_means_the_second_of_two;
-pub use winnow_meanings::laws::sequences::separated_pair_means_the_outer_two_of_three;
-pub use winnow_meanings::laws::sequences::terminated_means_the_first_of_two;
-pub use winnow_numbers::laws::dec_int_passes_its_digits;
-pub use winnow_numbers::laws::dec_int_reads_one_number;
-pub use winnow_numbers::laws::dec_uint_passes_its_digits;
-pub use winnow_numbers::laws::dec_uint_reads_one_number;
-pub use winnow_numbers::laws::hex_uint_reads_one_number;
-pub use winnow_recovery::laws::no_error_is_a_whole_parse;
-pub use winnow_recovery::laws::resume_after_is_answered_alike;
-pub use winnow_recovery::laws::resume_after_leaves_an_end;
-pub use winnow_recovery::laws::retry_after_is_answered_alike;
-pub use winnow_recovery::laws::retry_after_leaves_an_end;
+pub use winnow_meanings::laws::memory::{
+    a_choice_never_hides_want_of_memory, a_choice_of_an_array_never_hides_want_of_memory,
+    a_repetition_never_hides_want_of_memory, a_separated_list_never_hides_want_of_memory,
+    a_sequence_never_hides_want_of_memory, an_option_never_hides_want_of_memory,
+    repeat_till_never_hides_want_of_memory,
+};
+pub use winnow_numbers::laws::{
+    dec_int_passes_its_digits, dec_int_reads_one_number, dec_uint_passes_its_digits,
+    dec_uint_reads_one_number, hex_uint_reads_one_number,
+};
+pub use winnow_recovery::laws::{
+    no_error_is_a_whole_parse, resume_after_is_answered_alike, resume_after_leaves_an_end,
+    retry_after_is_answered_alike, retry_after_leaves_an_end,
+};
 pub use winnow_repeat::laws::repeat_runs_at_most_once_a_unit;
-pub use winnow_separated::laws::separated_folds_fold_the_same;
-pub use winnow_separated::laws::separated_leaves_a_separator_without_an_element;
-pub use winnow_token::laws::complete_err_is_not_stable;
-pub use winnow_token::laws::rest_is_not_stable;
+pub use winnow_separated::laws::{
+    separated_folds_fold_the_same, separated_leaves_a_separator_without_an_element,
+};
+pub use winnow_token::laws::{complete_err_is_not_stable, rest_is_not_stable};

@@ -1,2 +1,4 @@
 -- Written by scripts/registries.py: do not edit.
+pub mod Compositions
 pub mod Laws
+pub mod Memory

@@ -2,19 +2,8 @@
 ghost use Rattle.stream_errors.specs.Form.{answer_by};
 ghost use Rattle.streams.specs.Input.{IsEndOf};
 
-pub mod attempts;
-pub mod bits;
-pub mod choices;
-pub mod escapes;
-pub mod expressions;
-pub mod failures;
-pub mod judgements;
-pub mod lengths;
-pub mod literals;
-pub mod outputs;
-pub mod recoveries;
-pub mod repetitions;
-pub mod sequences;
+pub mod compositions;
+pub mod memory;
 
 use stream_errors::parser_error::ParserError;
 use streams::stream::Stream;
@@ -24,8 +13,8 @@ use winnow_core::parser::Parser;
 ///
 /// Whatever it is made of, the answer, what is left and the kind of an error are those of one run
 /// that its meaning has from its state and this input. The meaning is the parser's definition, and
-/// that of a composition is made of its children's, as the other laws here have it: its derivation
-/// by ordered choice. Whatever the answer, the input is left at an end of what it was.
+/// that of a composition is made of its children's, as the laws of [`compositions`] have it: its
+/// derivation by ordered choice. Whatever the answer, the input is left at an end of what it was.
 #[inline]
 pub fn each_call_ends_as_its_derivation<P: Parser<I, O, E>, I: Stream, O, E: ParserError<I>>(
     parser: &mut P,
