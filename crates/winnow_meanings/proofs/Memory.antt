@@ -14,14 +14,14 @@ use Rattle.winnow_comb.specs.Opt.{OptRuns}
 use Rattle.winnow_core.specs.Runs.{Runs}
 use Rattle.winnow_core.specs.Sequence.{SequenceRuns2}
 use Rattle.winnow_meanings.specs.Memory.{IsGivenMemory, GivenMemory, NeverHides}
-use Rattle.winnow_repeat.specs.Chain.{Chain, IsItem, IsSuccess, Successes}
+use Rattle.winnow_repeat.specs.Chain.{Chain, IsItem, IsSuccess}
 use Rattle.winnow_repeat.specs.Repeat.{ItemsRun, RangedRuns, RepeatEnds, RepeatManyRuns}
 use Rattle.winnow_repeat.specs.Repeat.{RepeatOneRuns}
 use Rattle.winnow_repeat.specs.RepeatTill.{LeastItemsRun, RangedTillRuns, RepeatTillRuns}
 use Rattle.winnow_repeat.specs.RepeatTill.{TurnRuns, TurnsEnd, TurnsRun, room_behind}
 use Rattle.winnow_separated.specs.Link.{LinkRuns}
 use Rattle.winnow_separated.specs.Separated.{ElementsRun, LinksRun, RangedElements}
-use Rattle.winnow_separated.specs.Separated.{SeparatedRuns, links_within}
+use Rattle.winnow_separated.specs.Separated.{links_within}
 
 ok_given : {O : Type 0} {v : O} → IsGivenMemory (Ok v)
 ok_given e = cc
