@@ -246,6 +246,9 @@ class Trial:
         texts = edit.applied({}, self.folder)
         if not edit.names and not self.is_whole:
             self.is_whole = not self.checked({}, [], self.seed)[0]
+            if not self.is_whole:
+                self.miss(edit, "the crate is not proved as it stands")
+                return
         status, said = self.over_seed(texts, edit.names)
         errors = [it for it in said if ERROR.match(it)]
         bad = [it for it in errors if not it.startswith("./proofs/") and BAD_CLAUSE.search(it)]
@@ -255,13 +258,14 @@ class Trial:
             self.miss(edit, f"it cannot be read: {(bad or said)[0]}")
         elif not said[-1].startswith(("only=", "logic=not-proved")):
             self.miss(edit, f"its check came to no end: {said[-1]}")
-        elif edit.names:
-            if not self.is_refused(edit, said):
-                self.miss(edit, "no goal of its function fails")
-        elif told := [it for it in errors if not NAMES.search(it)]:
-            self.say(edit, f"refused: {told[0][:100]}")
-        else:
-            self.miss(edit, "a proof only misses a name that it took away")
+        elif not self.is_refused(edit, said):
+            # No other body differs, so a goal that `search` left open is one of this edit's.
+            told = [it for it in errors if not edit.names or it.startswith("note: ")]
+            told = [it for it in told if not NAMES.search(it)]
+            if told:
+                self.say(edit, f"refused: {told[0][:100]}")
+            else:
+                self.miss(edit, "no goal fails but by a name that it took away")
 
 
 def link_all(of, to):
