@@ -74,7 +74,6 @@ where
 fn alt_is_settled(rt: HostRuntime) {
     alt_settles::<Text>(&rt);
     alt_settles::<Bytes>(&rt);
-    alt_settles::<LocatingSlice<Text>>(&rt);
 }
 
 fn not_settles<I: OfText + Compare<&'static str>>(rt: &impl Abort)
@@ -121,7 +120,6 @@ where
 fn opt_is_settled(rt: HostRuntime) {
     opt_settles::<Text>(&rt);
     opt_settles::<Bytes>(&rt);
-    opt_settles::<LocatingSlice<Text>>(&rt);
 }
 
 #[test]
@@ -172,7 +170,6 @@ where
 fn take_while_is_settled(rt: HostRuntime) {
     take_while_settles::<Text>(&rt);
     take_while_settles::<Bytes>(&rt);
-    take_while_settles::<LocatingSlice<Text>>(&rt);
 }
 
 fn hex_uint_settles<I: OfText + SlicesAsBytes>(rt: &impl Abort)
@@ -200,5 +197,4 @@ where
 fn hex_uint_is_settled(rt: HostRuntime) {
     hex_uint_settles::<Text>(&rt);
     hex_uint_settles::<Bytes>(&rt);
-    hex_uint_settles::<LocatingSlice<Text>>(&rt);
 }
