@@ -1,0 +1,9 @@
+use Rattle.std.proofs.Common.{ap, ◌∙◌}
+use Rattle.stream_sets.specs.Range.{bounds_of}
+use Rattle.uses_lines.specs.Lines.{same_lines}
+use Rattle.winnow_exact.specs.Exact.Same.{reads_as}
+use Rattle.uses_lines.proofs.read_lines.Goals as goal
+
+pub returns : goal.returns
+returns g c = reads_as (same_lines _ (ap bounds_of (c.repeat.ensures.occurrences ∙ c.from.ensures)))
+    c.read.ensures

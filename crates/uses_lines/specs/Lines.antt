@@ -1,0 +1,94 @@
+-- Lines of one letter: what they are, and that the grammar of the reader is that.
+use Rattle.std.specs.Prelude.{◌≡◌, ◌⊎◌, ℕ, List, [], ◌∷◌, Result, None, length}
+use Rattle.std.specs.declared.vec.Vec.{Vec}
+use Rattle.std.proofs.Common.{refl, sym, ap, inl, inr, ◌∙◌, arith}
+use Rattle.streams.specs.Counted.{counted_reading}
+use Rattle.streams.specs.Equal.{same_first, same_others}
+use Rattle.streams.specs.Input.{Input}
+use Rattle.streams.specs.Kind.{Kind}
+use Rattle.stream_sets.specs.Range.{bounds_of, from_to}
+use Rattle.stream_sets.specs.declared.range.Range.{Range}
+use Rattle.winnow_exact.specs.Exact.{Reads}
+use Rattle.winnow_exact.specs.Exact.Same.{Same, reads_as}
+use Rattle.winnow_exact.specs.Grammar.{Both, Either, Grammar, IsUnique, Repeated, Takes}
+use Rattle.winnow_exact.specs.Grammar.Known.{Byte, Listed, byte_stands, repeated_list, stands_byte}
+
+-- a line: a `y` or an `n`, and a line feed
+unfoldable pub IsLine : Grammar ℕ ℕ
+IsLine bytes letter rest = ((letter ≡ 121) ⊎ (letter ≡ 110)) × (bytes ≡ letter ∷ 10 ∷ rest)
+
+-- the grammar of `terminated(alt((b'y', b'n')), b'\n')`
+abbrev pub Line : Grammar ℕ ℕ
+Line = Both (λ o1 o2. o1) (Either (Byte 121) (Byte 110)) (Byte 10)
+
+line_stands : (bytes : List ℕ) (b : ℕ) (rest : List ℕ) → Line bytes b rest → IsLine bytes b rest
+unfolding Both Either IsLine
+line_stands bytes b rest (o1, o2, mid, inl y, feed, out) =
+    let (e, a) = byte_stands 121 bytes o1 mid y in
+    let (f, c) = byte_stands 10 mid o2 rest feed in (
+      inl (out ∙ a),
+      e ∙ ap (λ l. 121 ∷ l) f ∙ ap (λ x. x ∷ 10 ∷ rest) (sym (out ∙ a)),
+    )
+line_stands bytes b rest (o1, o2, mid, inr (none, y), feed, out) =
+    let (e, a) = byte_stands 110 bytes o1 mid y in
+    let (f, c) = byte_stands 10 mid o2 rest feed in (
+      inr (out ∙ a),
+      e ∙ ap (λ l. 110 ∷ l) f ∙ ap (λ x. x ∷ 10 ∷ rest) (sym (out ∙ a)),
+    )
+
+stands_line : (bytes : List ℕ) (b : ℕ) (rest : List ℕ) → IsLine bytes b rest → Line bytes b rest
+unfolding Both Either IsLine
+stands_line bytes b rest (inl is, e) = (
+  121,
+  10,
+  10 ∷ rest,
+  inl (stands_byte 121 bytes (10 ∷ rest) (e ∙ ap (λ x. x ∷ 10 ∷ rest) is)),
+  stands_byte 10 (10 ∷ rest) rest refl,
+  is,
+)
+stands_line bytes b rest (inr is, e) =
+    let here : bytes ≡ 110 ∷ 10 ∷ rest = e ∙ ap (λ x. x ∷ 10 ∷ rest) is in (
+      110,
+      10,
+      10 ∷ rest,
+      inr (
+        (λ o more y.
+            let (f, a) = byte_stands 121 bytes o more y in
+            absurd (omega (arith, same_first (sym f ∙ here)))),
+        stands_byte 110 bytes (10 ∷ rest) here,
+      ),
+      stands_byte 10 (10 ∷ rest) rest refl,
+      is,
+    )
+
+pub same_line : Same Line IsLine
+same_line = record { there = line_stands; back = stands_line }
+
+-- what reads by a grammar that is that of a line reads lines
+pub reads_line : {E : Type 0} {kind : E → Kind} {g : Grammar ℕ ℕ} {i j : Input ℕ}
+    {result : Result ℕ E} → Reads counted_reading kind g i result j → g ≡ Line
+    → Reads counted_reading kind IsLine i result j
+reads_line {E} {kind} {g} {i} {j} {result} r e =
+    reads_as same_line (rw e at r)
+
+pub unique_line : IsUnique IsLine
+unfolding IsLine
+unique_line = record {
+  ends = λ bytes letter rest (is, e). (letter ∷ 10 ∷ [], e);
+  one = λ bytes a b rest other (is, e) (was, f). same_others (same_others (sym e ∙ f));
+}
+
+pub line_takes : Takes IsLine
+unfolding IsLine
+line_takes = record {
+  fewer = λ bytes letter rest (is, e). omega (arith, ap length e);
+}
+
+-- lines into a list: they stand one behind the other, and no line stands behind them
+unfoldable pub AreLines : {A : Type 0} → Grammar ℕ (Vec ℕ A)
+AreLines = Listed IsLine 0
+
+pub same_lines : {A : Type 0} (range : Range) → bounds_of range ≡ from_to 0 None
+    → Same (Repeated (λ (list : Vec ℕ A) os. list.items ≡ os) range IsLine) AreLines
+unfolding AreLines
+same_lines = repeated_list IsLine 0

@@ -1,0 +1,69 @@
+//! Lines that are each a `y` or an `n`, by a grammar in their own words.
+//!
+//! A reader is made of parsers, and its clause says what it reads: on a whole input it answers what
+//! stands first by the grammar, with what is left, and fails only where none stands, or for want of
+//! memory.
+#![tactic(auto)]
+
+ghost use Rattle.std.specs.Prelude.{⊤};
+ghost use Rattle.streams.specs.Bytes.{bytes_input, bytes_reading};
+ghost use Rattle.uses_lines.specs.Lines.{AreLines, IsLine, line_takes, unique_line};
+ghost use Rattle.winnow_exact.specs.Exact.{Reads};
+
+use std::alloc::Allocator;
+use stream_errors::empty::EmptyError;
+use stream_errors::mode::ErrMode;
+use stream_sets::range::Range;
+use streams::has_kind::HasKind;
+use winnow_comb::combinator::{alt, terminated};
+use winnow_exact::exact::Exact;
+use winnow_exact::rule::Rule;
+use winnow_repeat::combinator::repeat;
+
+/// A line: a `y` or an `n`, and a line feed. It answers the letter.
+///
+/// ```
+/// let mut input = b"y\nn\n".as_slice();
+/// assert_eq!(rt; read_line(&mut input), Ok(b'y'));
+/// assert_eq!(rt; input, b"n\n".as_slice());
+/// ```
+pub fn read_line<'i>(input: &mut &'i [u8]) -> Result<u8, ErrMode<EmptyError>>
+    ensures { Reads bytes_reading ⟦<ErrMode<EmptyError> as HasKind>⟧.kind IsLine
+        (bytes_input input.old.now) result (bytes_input input.new.now) }
+{
+    terminated(alt((b'y', b'n')), b'\n').read(input)
+}
+
+/// The name of what [`read_line`] reads.
+#[derive(Clone, Copy, Drop)]
+pub struct Line;
+
+impl<'i> Rule<&'i [u8], u8> for Line {
+    ghost grammar = { λ _. IsLine };
+
+    ghost consumes = { λ _. ⊤ };
+
+    fn name() {}
+
+    ghost unique = { λ _. unique_line };
+
+    ghost takes = { λ _ _. line_takes };
+}
+
+/// Lines, as many as stand one behind the other: their letters, in order.
+///
+/// ```
+/// let mut input = b"y\nn\n-".as_slice();
+/// let letters = read_lines(alloc, &mut input);
+/// assert!(rt; matches!(letters, Ok(letters) if letters.as_slice() == [b'y', b'n']));
+/// assert_eq!(rt; input, b"-".as_slice());
+/// ```
+pub fn read_lines<'i, A: Allocator + Copy>(
+    alloc: A,
+    input: &mut &'i [u8],
+) -> Result<Vec<u8, A>, ErrMode<EmptyError>>
+    ensures { Reads bytes_reading ⟦<ErrMode<EmptyError> as HasKind>⟧.kind AreLines
+        (bytes_input input.old.now) result (bytes_input input.new.now) }
+{
+    repeat(alloc, Range::from(0..), Line.by(read_line)).read(input)
+}

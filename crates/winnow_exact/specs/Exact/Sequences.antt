@@ -1,0 +1,130 @@
+-- What children in order read.
+use Rattle.std.specs.Prelude.{◌≡◌, ◌⊎◌, ◌++◌, false, List, Ok, Err}
+use Rattle.std.proofs.Common.{refl, sym, ap, subst, inl, inr, ◌∙◌, arith, append_assoc}
+use Rattle.streams.specs.Input.{Input}
+use Rattle.streams.specs.Kind.{Kind, backtrack, memory}
+use Rattle.stream_errors.specs.Form.{Answer}
+use Rattle.stream_errors.specs.Form.Known.{at_kind, ok_is_err, same_ok}
+use Rattle.winnow_core.specs.Runs.{Runs}
+use Rattle.winnow_comb.specs.InOrder.{BothRuns}
+use Rattle.winnow_exact.specs.Exact.{IsExact, IsSoft, no_longer}
+use Rattle.winnow_exact.specs.Exact.Same.{pair_is}
+use Rattle.winnow_exact.specs.Grammar.{Both, Grammar, NoneStands, Takes}
+
+-- an end of an end
+pub end_of_end : {T : Type 0} {tokens mid rest : List T} → (front : List T) × (tokens ≡ front ++ mid)
+    → (front : List T) × (mid ≡ front ++ rest) → (front : List T) × (tokens ≡ front ++ rest)
+end_of_end {rest = rest} (f, e) (g, d) =
+    (f ++ g, e ∙ ap (λ l. f ++ l) d ∙ sym (append_assoc f g rest))
+
+-- nothing of both where the first is read, and none of the second stands behind it
+none_behind : {S1 T O1 O2 O : Type 0} (output : O1 → O2 → O) {run1 : Runs S1 T O1}
+    {g1 : Grammar T O1} (g2 : Grammar T O2) {s : S1} → IsExact s run1 g1 → (i a : Input T) (o : O1)
+    → g1 i.left.tokens o a.left.tokens → NoneStands g2 a.left.tokens
+    → NoneStands (Both output g1 g2) i.left.tokens
+unfolding Both
+none_behind {T = T} output g2 c1 i a o there none p rest (p1, p2, mid, x, y, e) =
+    let P : List T → Type 0 = λ l. g2 l p2 rest in
+    none p2 rest (subst P (c1.unique.one i.left.tokens p1 o mid a.left.tokens x there) y)
+
+module _ {S1 S2 T O1 O2 O : Type 0} {output : O1 → O2 → O} {run1 : Runs S1 T O1}
+    {run2 : Runs S2 T O2} {g1 : Grammar T O1} {g2 : Grammar T O2} {s : S1 × S2} where
+  pub both_exact : IsExact s.0 run1 g1 → IsExact s.1 run2 g2
+      → IsExact s (BothRuns output run1 run2) (Both output g1 g2)
+  unfolding Both
+  both_exact c1 c2 = record {
+    kept = kept;
+    stands = stands;
+    none = none;
+    unique = record {
+      ends = λ tokens o rest (o1, o2, mid, x, y, e).
+          end_of_end (c1.unique.ends tokens o1 mid x) (c2.unique.ends mid o2 rest y);
+      one = λ tokens o p rest other (o1, o2, mid, x, y, e) (p1, p2, mid2, z, w, f).
+          let P : List T → Type 0 = λ l. g2 l o2 rest in
+          c2.unique.one mid2 o2 p2 rest other (subst P (c1.unique.one tokens o1 p1 mid mid2 x z) y) w;
+    };
+  }
+    where
+      kept : (i : Input T) (answer : Answer O) (t : S1 × S2) (j : Input T)
+          → i.status.cut ≡ false → BothRuns output run1 run2 s i answer t j
+          → (t ≡ s) × (j.status.cut ≡ false)
+      kept i answer t j is (inl (o1, o2, a, r1, r2, e)) =
+          let (same, on) = c1.kept i (Ok o1) t.0 a is r1 in
+          let (same2, still) = c2.kept a (Ok o2) t.1 j on r2 in
+          (pair_is same same2, still)
+      kept i answer t j is (inr (inl (k, r1, same2, e))) =
+          let (same, still) = c1.kept i (Err k) t.0 j is r1 in
+          (pair_is same same2, still)
+      kept i answer t j is (inr (inr (o1, k, a, r1, r2, e))) =
+          let (same, on) = c1.kept i (Ok o1) t.0 a is r1 in
+          let (same2, still) = c2.kept a (Err k) t.1 j on r2 in
+          (pair_is same same2, still)
+
+      stands : (i : Input T) (o : O) (t : S1 × S2) (j : Input T) → i.status.cut ≡ false
+          → BothRuns output run1 run2 s i (Ok o) t j
+          → Both output g1 g2 i.left.tokens o j.left.tokens
+      stands i o t j is (inl (o1, o2, a, r1, r2, e)) =
+          let on = (c1.kept i (Ok o1) t.0 a is r1).1 in (
+            o1,
+            o2,
+            a.left.tokens,
+            c1.stands i o1 t.0 a is r1,
+            c2.stands a o2 t.1 j on r2,
+            same_ok refl e,
+          )
+      stands i o t j is (inr (inl (k, r1, same, e))) = ok_is_err refl e
+      stands i o t j is (inr (inr (o1, k, a, r1, r2, e))) = ok_is_err refl e
+
+      Goal : Input T → Kind → Type 0
+      Goal i x = (x ≡ memory) ⊎ NoneStands (Both output g1 g2) i.left.tokens
+
+      none : (i : Input T) (k : Kind) (t : S1 × S2) (j : Input T) → i.status.cut ≡ false
+          → BothRuns output run1 run2 s i (Err k) t j
+          → (k ≡ memory) ⊎ NoneStands (Both output g1 g2) i.left.tokens
+      none i k t j is (inl (o1, o2, a, r1, r2, e)) = ok_is_err e refl
+      none i k t j is (inr (inl (l, r1, same, e))) =
+          at_kind (Goal i) e (elim (c1.none i l t.0 j is r1) [
+            | inl m ↦ inl m
+            | inr nothing ↦ inr (λ p rest (p1, p2, mid, x, y, f). nothing p1 mid x)
+          ])
+      none i k t j is (inr (inr (o1, l, a, r1, r2, e))) =
+          let on = (c1.kept i (Ok o1) t.0 a is r1).1 in
+          at_kind (Goal i) e (elim (c2.none a l t.1 j on r2) [
+            | inl m ↦ inl m
+            | inr nothing ↦ inr (none_behind output g2 c1 i a o1 (c1.stands i o1 t.0 a is r1) nothing)
+          ])
+
+pub both_soft : {S1 S2 T O1 O2 O : Type 0} {output : O1 → O2 → O} {run1 : Runs S1 T O1}
+    {run2 : Runs S2 T O2} {g1 : Grammar T O1} {s : S1 × S2} → IsExact s.0 run1 g1
+    → IsSoft s.0 run1 → IsSoft s.1 run2 → IsSoft s (BothRuns output run1 run2)
+both_soft {S1} {S2} {T} {O1} {O2} {O} {output} {run1} {run2} {s = s} c1 f1 f2 =
+    record { soft = soft }
+  where
+    Goal : Kind → Type 0
+    Goal x = (x ≡ memory) ⊎ (x ≡ backtrack)
+
+    soft : (i : Input T) (k : Kind) (t : S1 × S2) (j : Input T) → i.status.cut ≡ false
+        → BothRuns output run1 run2 s i (Err k) t j → (k ≡ memory) ⊎ (k ≡ backtrack)
+    soft i k t j is (inl (o1, o2, a, r1, r2, e)) = ok_is_err e refl
+    soft i k t j is (inr (inl (l, r1, same, e))) = at_kind Goal e (f1.soft i l t.0 j is r1)
+    soft i k t j is (inr (inr (o1, l, a, r1, r2, e))) =
+        at_kind Goal e (f2.soft a l t.1 j (c1.kept i (Ok o1) t.0 a is r1).1 r2)
+
+pub both_takes : {S1 S2 T O1 O2 O : Type 0} (output : O1 → O2 → O) {run1 : Runs S1 T O1}
+    {run2 : Runs S2 T O2} {g1 : Grammar T O1} {g2 : Grammar T O2} {s1 : S1} {s2 : S2}
+    → IsExact s1 run1 g1 → IsExact s2 run2 g2 → Takes g1 ⊎ Takes g2 → Takes (Both output g1 g2)
+unfolding Both
+both_takes output c1 c2 (inl takes) = record {
+  fewer = λ tokens o rest (o1, o2, mid, x, y, e).
+      omega (arith, takes.fewer tokens o1 mid x, no_longer c2 mid o2 rest y);
+}
+both_takes output c1 c2 (inr takes) = record {
+  fewer = λ tokens o rest (o1, o2, mid, x, y, e).
+      omega (arith, no_longer c1 tokens o1 mid x, takes.fewer mid o2 rest y);
+}
+
+-- one of two takes tokens
+pub or_takes : {T O1 O2 A B : Type 0} {g1 : Grammar T O1} {g2 : Grammar T O2} → (A → Takes g1)
+    → (B → Takes g2) → A ⊎ B → Takes g1 ⊎ Takes g2
+or_takes first second (inl a) = inl (first a)
+or_takes first second (inr b) = inr (second b)

@@ -1,0 +1,4 @@
+pub mod Exact
+pub mod Grammar
+pub mod Held
+pub mod Rule

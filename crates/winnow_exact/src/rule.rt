@@ -1,0 +1,89 @@
+//! Rules: functions as parsers, by what they read.
+ghost use Rattle.std.specs.Fn.{CalledAtMut};
+ghost use Rattle.std.specs.Prelude.{◌≡◌, ⊤};
+ghost use Rattle.winnow_core.specs.Func.{LeavesEndsFrom};
+ghost use Rattle.winnow_exact.specs.Grammar.{Grammar, IsUnique, Takes};
+ghost use Rattle.winnow_exact.specs.Rule.{ByRuns, CallsRead, by_exact, by_rule, by_run, by_soft};
+
+use crate::exact::Exact;
+use stream_errors::parser_error::ParserError;
+use streams::stream::Stream;
+use winnow_core::parser::Parser;
+
+/// The name of what is read: a value that has a grammar.
+pub trait Rule<I: Stream, O>: Sized {
+    // What is read under the name.
+    ghost grammar: { Self → Grammar I.Seen O };
+
+    // When what is read takes tokens.
+    ghost consumes: { Self → Type 0 };
+
+    /// Does nothing.
+    #[inline(always)]
+    fn name() {}
+
+    // What is left behind what stands is an end of the tokens, and one alone.
+    ghost unique: { (r : Self) → IsUnique (grammar r) };
+
+    // What is read takes tokens.
+    ghost takes: { (r : Self) → consumes r → Takes (grammar r) };
+
+    /// A parser that runs a function whose clause says that it reads so.
+    #[inline(always)]
+    final fn by<F>(self, run: F) -> By<Self, F>
+        ensures rule { by_rule result ≡ self }
+        ensures run { by_run result ≡ run }
+    {
+        By { rule: self, run }
+    }
+}
+
+/// The parser that [`Rule::by`] makes.
+#[derive(Clone, Copy, Drop)]
+pub struct By<N, F> {
+    rule: N,
+    run: F,
+}
+
+impl<N: Rule<I, O>, F: FnMut(&mut I) -> Result<O, E>, I: Stream, O, E: ParserError<I>> Parser<
+    I,
+    O,
+    E,
+> for By<N, F> {
+    ghost can_parse = { λ s. F.IsAlwaysCallable s.run
+        × CallsRead I.reading I.view E.kind (CalledAtMut F.FnMut) (N.grammar s.rule) s.run };
+
+    ghost State = { N × F };
+
+    ghost state = { λ s. (s.rule, s.run) };
+
+    ghost meaning = { λ _. ByRuns I.reading I.view E.kind (CalledAtMut F.FnMut) };
+
+    ghost leaves_ends = { λ form s i answer t j r. r.0.1 };
+
+    #[inline(always)]
+    fn parse_next(&mut self, input: &mut I) -> Result<O, E> {
+        (self.run)(input)
+    }
+}
+
+impl<N: Rule<I, O>, F: FnMut(&mut I) -> Result<O, E>, I: Stream, O, E: ParserError<I>> Exact<
+    I,
+    O,
+    E,
+> for By<N, F> {
+    ghost premise = { λ s. CallsRead I.reading I.view E.kind (CalledAtMut F.FnMut)
+        (N.grammar (by_rule s)) (by_run s) };
+
+    ghost consumes = { λ s. N.consumes (by_rule s) };
+
+    ghost grammar = { λ s. N.grammar (by_rule s) };
+
+    ghost exact = { λ p form is. by_exact (by_rule p, by_run p) is (N.unique (by_rule p)) };
+
+    ghost soft = { λ p form is soft. by_soft (by_rule p, by_run p) is };
+
+    ghost takes = { λ p is some. N.takes (by_rule p) some };
+
+    fn stay() {}
+}
