@@ -17,6 +17,7 @@ use winnow_ascii::ascii::impls::{
     Alpha0, Alpha1, Alphanumeric0, Alphanumeric1, Crlf, Digit0, Digit1, HexDigit0, HexDigit1,
     Multispace0, Multispace1, Newline, OctDigit0, OctDigit1, Space0, Space1, Tab,
 };
+use winnow_ascii::stable::LineEnds;
 use winnow_comb::combinator::impls::{BacktrackErr, CutErr, Fail};
 use winnow_comb::combinator::{backtrack_err, cut_err};
 use winnow_core::combinator::impls::{
@@ -27,7 +28,6 @@ use winnow_core::parser::Parser;
 use winnow_numbers::ascii::impls::DecUint;
 use winnow_repeat::combinator::impls::Repeat;
 use winnow_repeat::combinator::{fill, repeat};
-use winnow_core::stable::LineEnds;
 use winnow_token::token::impls::{Any, NoneOf, OneOf, Take};
 use winnow_token::token::{none_of, one_of, take};
 

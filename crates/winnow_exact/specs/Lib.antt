@@ -1,3 +1,4 @@
+-- Written by scripts/registries.py: do not edit.
 pub mod Exact
 pub mod Grammar
 pub mod Held
