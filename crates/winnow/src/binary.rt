@@ -5,10 +5,10 @@ pub use winnow_bits::bits;
 
 // What stands below is written by scripts/registries.py: do not edit.
 pub use winnow_binary::binary::{
-    i128, i16, i24, i32, i64, length_and_then, length_repeat, length_take, u128, u16, u24, u32, u64,
+    i16, i24, i32, i64, i128, length_and_then, length_repeat, length_take, u16, u24, u32, u64, u128,
 };
 pub use winnow_integers::binary::{
-    Endianness, be_i128, be_i16, be_i24, be_i32, be_i64, be_i8, be_u128, be_u16, be_u24, be_u32,
-    be_u64, be_u8, i8, le_i128, le_i16, le_i24, le_i32, le_i64, le_i8, le_u128, le_u16, le_u24,
-    le_u32, le_u64, le_u8, u8,
+    Endianness, be_i8, be_i16, be_i24, be_i32, be_i64, be_i128, be_u8, be_u16, be_u24, be_u32,
+    be_u64, be_u128, i8, le_i8, le_i16, le_i24, le_i32, le_i64, le_i128, le_u8, le_u16, le_u24,
+    le_u32, le_u64, le_u128, u8,
 };

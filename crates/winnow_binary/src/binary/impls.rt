@@ -15,16 +15,16 @@ mod u24;
 mod u32;
 mod u64;
 
-pub use crate::binary::impls::i128::I128;
 pub use crate::binary::impls::i16::I16;
 pub use crate::binary::impls::i24::I24;
 pub use crate::binary::impls::i32::I32;
 pub use crate::binary::impls::i64::I64;
+pub use crate::binary::impls::i128::I128;
 pub use crate::binary::impls::length_and_then::LengthAndThen;
 pub use crate::binary::impls::length_repeat::LengthRepeat;
 pub use crate::binary::impls::length_take::LengthTake;
-pub use crate::binary::impls::u128::U128;
 pub use crate::binary::impls::u16::U16;
 pub use crate::binary::impls::u24::U24;
 pub use crate::binary::impls::u32::U32;
 pub use crate::binary::impls::u64::U64;
+pub use crate::binary::impls::u128::U128;
