@@ -11,7 +11,11 @@ def library(*above):
         name, colon, _ = line.partition(":")
         if colon and not line.startswith("#"):
             lines[name.strip()] = line
-    return {name: lines[name] for name in [*below_winnow(), "winnow", *above]}
+    found = dict.fromkeys([*below_winnow(), "winnow"])
+    for name in above:
+        found |= dict.fromkeys([it for it in lines[name].partition(":")[2].split() if it in lines])
+        found[name] = None
+    return {name: lines[name] for name in found}
 
 
 def copy_crate(name, folder):
