@@ -112,6 +112,10 @@ def boxes(on):
             join(box, of[it], rows)
     for box in of.values():
         box.wide = max(box.wide, LINE * max(len(box.below), len(box.above)))
+    for row in rows:
+        for box in row:
+            if not box.names:
+                box.high = max(it.high for it in row)
     return rows
 
 
