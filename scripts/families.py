@@ -14,6 +14,7 @@ and that all of these are stable. It prints the crates whose files it writes.
 from family.choices import write_choices
 from family.chosen import write_chosen
 from family.classes import write_classes
+from family.exact import write_exact
 from family.integers import write_integers
 from family.known import write_known
 from family.reads import write_reads
@@ -31,4 +32,5 @@ if __name__ == "__main__":
     write_stable()
     write_integers()
     write_chosen()
+    write_exact()
     print("stream_sets winnow_core winnow_comb winnow_ascii winnow_integers winnow_binary")

@@ -1,17 +1,19 @@
 -- Lines of one letter: what they are, and that the grammar of the reader is that.
-use Rattle.std.specs.Prelude.{◌≡◌, ◌⊎◌, ℕ, List, [], ◌∷◌, Result, None, length}
+use Rattle.std.specs.Prelude.{◌≡◌, ◌⊎◌, ℕ, List, ◌∷◌, Result, None}
 use Rattle.std.specs.declared.vec.Vec.{Vec}
 use Rattle.std.proofs.Common.{refl, sym, ap, inl, inr, ◌∙◌, arith}
 use Rattle.streams.specs.Counted.{counted_reading}
-use Rattle.streams.specs.Equal.{same_first, same_others}
+use Rattle.streams.specs.Equal.{same_first}
 use Rattle.streams.specs.Input.{Input}
 use Rattle.streams.specs.Kind.{Kind}
 use Rattle.stream_sets.specs.Range.{bounds_of, from_to}
 use Rattle.stream_sets.specs.declared.range.Range.{Range}
 use Rattle.winnow_exact.specs.Exact.{Reads}
-use Rattle.winnow_exact.specs.Exact.Same.{Same, reads_as}
+use Rattle.winnow_exact.specs.Exact.Same.{Same, reads_as, takes_as, unique_as}
 use Rattle.winnow_exact.specs.Grammar.{Both, Either, Grammar, IsUnique, Repeated, Takes}
-use Rattle.winnow_exact.specs.Grammar.Known.{Byte, Listed, byte_stands, repeated_list, stands_byte}
+use Rattle.winnow_exact.specs.Grammar.Known.{Byte, Listed, byte_stands, byte_takes, byte_unique}
+use Rattle.winnow_exact.specs.Grammar.Known.{repeated_list, stands_byte}
+use Rattle.winnow_exact.specs.Grammar.Unique.{both_take, both_unique, either_unique}
 
 -- a line: a `y` or an `n`, and a line feed
 unfoldable pub IsLine : Grammar ℕ ℕ
@@ -71,18 +73,15 @@ pub reads_line : {E : Type 0} {kind : E → Kind} {g : Grammar ℕ ℕ} {i j : I
 reads_line {E} {kind} {g} {i} {j} {result} r e =
     reads_as same_line (rw e at r)
 
+letter_unique : IsUnique (Either (Byte 121) (Byte 110))
+letter_unique = either_unique (byte_unique 121) (byte_unique 110)
+
 pub unique_line : IsUnique IsLine
-unfolding IsLine
-unique_line = record {
-  ends = λ bytes letter rest (is, e). (letter ∷ 10 ∷ [], e);
-  one = λ bytes a b rest other (is, e) (was, f). same_others (same_others (sym e ∙ f));
-}
+unique_line = unique_as same_line (both_unique (λ o1 o2. o1) letter_unique (byte_unique 10))
 
 pub line_takes : Takes IsLine
-unfolding IsLine
-line_takes = record {
-  fewer = λ bytes letter rest (is, e). omega (arith, ap length e);
-}
+line_takes = takes_as same_line
+    (both_take (λ o1 o2. o1) letter_unique (byte_unique 10) (inr (byte_takes 10)))
 
 -- lines into a list: they stand one behind the other, and no line stands behind them
 unfoldable pub AreLines : {A : Type 0} → Grammar ℕ (Vec ℕ A)

@@ -9,10 +9,13 @@ ghost use Rattle.std.specs.Prelude.{⊤};
 ghost use Rattle.streams.specs.Bytes.{bytes_input, bytes_reading};
 ghost use Rattle.uses_lines.specs.Lines.{AreLines, IsLine, line_takes, unique_line};
 ghost use Rattle.winnow_exact.specs.Exact.{Reads};
+ghost use Rattle.winnow_exact.specs.Exact.Whole.{ReadsAll};
 
 use std::alloc::Allocator;
 use stream_errors::empty::EmptyError;
+use stream_errors::fault::ParseFault;
 use stream_errors::mode::ErrMode;
+use stream_errors::parser_error::ParserError;
 use stream_sets::range::Range;
 use streams::has_kind::HasKind;
 use winnow_comb::combinator::{alt, terminated};
@@ -66,4 +69,22 @@ pub fn read_lines<'i, A: Allocator + Copy>(
         (bytes_input input.old.now) result (bytes_input input.new.now) }
 {
     repeat(alloc, Range::from(0..), Line.by(read_line)).read(input)
+}
+
+/// Lines, where all of the bytes are lines: their letters, in order. Else a fault, which says where
+/// the lines ended; or want of memory.
+///
+/// ```
+/// let letters = parse_lines(alloc, b"y\nn\n".as_slice());
+/// assert!(rt; matches!(letters, Ok(letters) if letters.as_slice() == [b'y', b'n']));
+/// assert!(rt; parse_lines(alloc, b"y\nn".as_slice()).is_err());
+/// ```
+pub fn parse_lines<'i, A: Allocator + Copy>(
+    alloc: A,
+    input: &'i [u8],
+) -> Result<Vec<u8, A>, ParseFault<&'i [u8], EmptyError>>
+    ensures { ReadsAll ⟦<ErrMode<EmptyError> as ParserError<&'i [u8]>>⟧.inner_kind AreLines
+        input.now result }
+{
+    repeat(alloc, Range::from(0..), Line.by(read_line)).read_all(input)
 }

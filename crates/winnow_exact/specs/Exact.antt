@@ -1,21 +1,37 @@
 -- Parsers that read exactly what a grammar says.
-use Rattle.std.specs.Prelude.{◌≡◌, ◌⊎◌, ◌≤◌, ◌++◌, false, List, length, Result, Ok, Err, IfOk, IfErr}
-use Rattle.std.proofs.Common.{ap, inl, inr, arith, length-append}
+use Rattle.std.specs.Prelude.{◌≡◌, ◌⊎◌, false, Result, Ok, Err, IfOk, IfErr}
+use Rattle.std.proofs.Common.{inl, inr}
 use Rattle.streams.specs.Input.{Input, IsEndOf}
 use Rattle.streams.specs.Kind.{Kind, backtrack, memory}
 use Rattle.streams.specs.Reading.{Reading}
 use Rattle.stream_errors.specs.Form.{Answer, answer_by}
 use Rattle.winnow_core.specs.Runs.{Runs}
 use Rattle.winnow_exact.specs.Grammar.{Grammar, IsUnique, NoneStands}
+pub mod Adapters
+pub mod Along
 pub mod Choices
+pub mod Counts
+pub mod Cut
+pub mod Errors
+pub mod Links
 pub mod Literals
+pub mod Looks
+pub mod Made
 pub mod Repeat
 pub mod Same
+pub mod Separated
 pub mod Sequences
+pub mod Settled
+pub mod TakeWhile
+pub mod Three
+pub mod Tokens
+pub mod Tuples
+pub mod Whole
 
 -- From this state a parser answers on a whole input what stands first by its grammar, and keeps the
 -- state; it fails only where none does, or for want of memory.
-pub record IsExact {S T O : Type 0} (s : S) (run : Runs S T O) (grammar : Grammar T O) : Type 0 where
+pub record IsExact {S T O : Type 0} (s : S) (run : Runs S T O)
+    (grammar : Grammar T O) : Type 0 where
   pub kept : (i : Input T) (answer : Answer O) (t : S) (j : Input T) → i.status.cut ≡ false
       → run s i answer t j → (t ≡ s) × (j.status.cut ≡ false)
   pub stands : (i : Input T) (o : O) (t : S) (j : Input T) → i.status.cut ≡ false
@@ -28,14 +44,6 @@ pub record IsExact {S T O : Type 0} (s : S) (run : Runs S T O) (grammar : Gramma
 pub record IsSoft {S T O : Type 0} (s : S) (run : Runs S T O) : Type 0 where
   pub soft : (i : Input T) (k : Kind) (t : S) (j : Input T) → i.status.cut ≡ false
       → run s i (Err k) t j → (k ≡ memory) ⊎ (k ≡ backtrack)
-
--- What is left behind what stands is no longer than the tokens.
-pub no_longer : {S T O : Type 0} {s : S} {run : Runs S T O} {grammar : Grammar T O}
-    → IsExact s run grammar → (tokens : List T) (o : O) (rest : List T) → grammar tokens o rest
-    → length rest ≤ length tokens
-no_longer c tokens o rest x =
-    let (front, e) = c.unique.ends tokens o rest x in
-    omega (arith, ap length e, length-append front rest)
 
 -- What a call tells by a grammar. It leaves an end of its input. On a whole one an output stands,
 -- with what is left; an error backtracks and says that none stands, or wants memory.

@@ -1,16 +1,29 @@
 //! The trait of parsers that read by a grammar.
-ghost use Rattle.std.specs.Prelude.{◌≡◌, ⊤};
+ghost use Rattle.std.specs.Prelude.{◌≡◌, false, ⊤};
 ghost use Rattle.stream_errors.specs.Form.{ErrorForm};
 ghost use Rattle.winnow_exact.specs.Exact.{IsExact, IsSoft, Reads};
+ghost use Rattle.winnow_exact.specs.Exact.Whole.{ReadsAll};
 ghost use Rattle.winnow_exact.specs.Grammar.{Grammar, Takes};
 
+mod adapters;
+mod alternatives;
 mod choices;
+mod classes;
+mod counts;
+mod errors;
 mod literals;
+mod looks;
 mod repetitions;
+mod separated;
 mod sequences;
+mod settled;
+mod takes;
+mod tokens;
+mod tuples;
 
+use stream_errors::fault::ParseFault;
 use stream_errors::parser_error::ParserError;
-use streams::stream::Stream;
+use streams::stream::{Stream, StreamIsPartial};
 use winnow_core::parser::Parser;
 
 /// A parser that reads by a grammar.
@@ -54,5 +67,22 @@ pub trait Exact<I: Stream, O, E: ParserError<I>>: Parser<I, O, E> {
             (I.view input.new) }
     {
         self.parse_next(input)
+    }
+
+    /// As [`parse`](winnow_core::parser::Parser::parse), and its grammar says what it answers: an
+    /// output stands first in the tokens and leaves nothing, and a fault says that none does, or
+    /// wants memory. The caller owes a stream type that is not partial.
+    #[inline(always)]
+    final fn read_all(&mut self, input: I) -> Result<O, ParseFault<I, E::Inner>>
+    where
+        I: StreamIsPartial,
+        O: Drop,
+        requires callable { Self.can_parse self.old }
+        requires premise { Self.premise self.old }
+        requires whole { I.supports_partial ≡ false }
+        ensures { ReadsAll E.inner_kind (Self.grammar self.old) (I.view input).left.tokens
+            result }
+    {
+        self.parse(input)
     }
 }

@@ -4,3 +4,4 @@
 pub mod exact;
 pub mod gathers;
 pub mod rule;
+pub mod sets;

@@ -1,6 +1,6 @@
 -- What choices and options read.
-use Rattle.std.specs.Prelude.{◌≡◌, ◌⊎◌, [], false, List, Option, Ok, Err}
-use Rattle.std.proofs.Common.{refl, sym, ap, inl, inr, ◌∙◌}
+use Rattle.std.specs.Prelude.{◌≡◌, ◌⊎◌, false, Option, Ok, Err}
+use Rattle.std.proofs.Common.{refl, ap, inl, inr, ◌∙◌}
 use Rattle.streams.specs.Input.{Input, back_at}
 use Rattle.streams.specs.Kind.{Kind, backtrack, memory}
 use Rattle.stream_errors.specs.Form.{Answer}
@@ -10,7 +10,8 @@ use Rattle.winnow_comb.specs.Alt.{OrElse}
 use Rattle.winnow_comb.specs.Opt.{OptRuns}
 use Rattle.winnow_exact.specs.Exact.{IsExact, IsSoft}
 use Rattle.winnow_exact.specs.Exact.Same.{pair_is}
-use Rattle.winnow_exact.specs.Grammar.{Either, Grammar, Maybe, NoneStands, Takes}
+use Rattle.winnow_exact.specs.Grammar.{Either, Grammar, Maybe, NoneStands}
+use Rattle.winnow_exact.specs.Grammar.Unique.{either_unique, maybe_unique}
 
 -- a backtrack is no want of memory
 pub not_memory : {P : Type 0} → ◌≡◌ {A = Kind} backtrack memory → P
@@ -34,13 +35,7 @@ module _ {S1 S2 T O : Type 0} {run1 : Runs S1 T O} {run2 : Runs S2 T O}
     kept = kept;
     stands = stands;
     none = none;
-    unique = record {
-      ends = λ tokens o rest it. elim it [
-        | inl x ↦ c1.unique.ends tokens o rest x
-        | inr (n, y) ↦ c2.unique.ends tokens o rest y
-      ];
-      one = one;
-    };
+    unique = either_unique c1.unique c2.unique;
   }
     where
       kept : (i : Input T) (answer : Answer O) (t : S1 × S2) (j : Input T)
@@ -83,14 +78,6 @@ module _ {S1 S2 T O : Type 0} {run1 : Runs S1 T O} {run2 : Runs S2 T O}
             ])
           ]
 
-      one : (tokens : List T) (o p : O) (rest other : List T)
-          → Either g1 g2 tokens o rest → Either g1 g2 tokens p other
-          → rest ≡ other
-      one tokens o p rest other (inl x) (inl y) = c1.unique.one tokens o p rest other x y
-      one tokens o p rest other (inl x) (inr (n, y)) = absurd (n o rest x)
-      one tokens o p rest other (inr (n, x)) (inl y) = absurd (n p other y)
-      one tokens o p rest other (inr (n, x)) (inr (m, y)) = c2.unique.one tokens o p rest other x y
-
 pub or_else_soft : {S1 S2 T O : Type 0} {run1 : Runs S1 T O} {run2 : Runs S2 T O}
     {g1 : Grammar T O} {s : S1 × S2} → IsExact s.0 run1 g1
     → IsSoft s.0 run1 → IsSoft s.1 run2 → IsSoft s (OrElse run1 run2)
@@ -103,16 +90,6 @@ or_else_soft {S1} {S2} {T} {O} {run1} {run2} {s = s} c1 f1 f2 = record { soft = 
     soft i k t j is (inr (a, r, others)) =
         f2.soft (back_at i.left a) k t.1 j (c1.kept i (Err backtrack) t.0 a is r).1 others
 
-pub either_takes : {T O : Type 0} {g1 g2 : Grammar T O} → Takes g1 → Takes g2
-    → Takes (Either g1 g2)
-unfolding Either
-either_takes first second = record {
-  fewer = λ tokens o rest it. elim it [
-    | inl x ↦ first.fewer tokens o rest x
-    | inr (n, y) ↦ second.fewer tokens o rest y
-  ];
-}
-
 module _ {S T O : Type 0} {run : Runs S T O} {g : Grammar T O} {s : S} where
   pub opt_exact : IsExact s run g → IsSoft s run → IsExact s (OptRuns run) (Maybe g)
   unfolding Maybe
@@ -120,13 +97,7 @@ module _ {S T O : Type 0} {run : Runs S T O} {g : Grammar T O} {s : S} where
     kept = kept;
     stands = stands;
     none = none;
-    unique = record {
-      ends = λ tokens o rest it. elim it [
-        | inl (x, e, y) ↦ c.unique.ends tokens x rest y
-        | inr (e, n, same) ↦ ([], sym same)
-      ];
-      one = one;
-    };
+    unique = maybe_unique c.unique;
   }
     where
       kept : (i : Input T) (answer : Answer (Option O)) (t : S) (j : Input T)
@@ -152,13 +123,6 @@ module _ {S T O : Type 0} {run : Runs S T O} {g : Grammar T O} {s : S} where
         | inl m ↦ inl (same_kind e ∙ m)
         | inr b ↦ absurd (other b)
       ]
-
-      one : (tokens : List T) (o p : Option O) (rest other : List T)
-          → Maybe g tokens o rest → Maybe g tokens p other → rest ≡ other
-      one tokens o p rest other (inl (x, e, a)) (inl (y, d, b)) = c.unique.one tokens x y rest other a b
-      one tokens o p rest other (inl (x, e, a)) (inr (d, n, same)) = absurd (n x rest a)
-      one tokens o p rest other (inr (e, n, same)) (inl (y, d, b)) = absurd (n y other b)
-      one tokens o p rest other (inr (e, n, same)) (inr (d, m, is)) = same ∙ sym is
 
 pub opt_soft : {S T O : Type 0} {run : Runs S T O} {s : S} → IsSoft s run
     → IsSoft s (OptRuns run)

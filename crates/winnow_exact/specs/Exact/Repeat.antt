@@ -1,9 +1,9 @@
 -- What repetitions read.
-use Rattle.std.specs.Prelude.{◌≡◌, ◌⊎◌, ◌≤◌, ◌<◌, ◌+◌, ℕ, false, List, [], ◌∷◌, ◌++◌, length}
-use Rattle.std.specs.Prelude.{Option, Some, None, Ok, Err}
+use Rattle.std.specs.Prelude.{◌≡◌, ◌⊎◌, ◌≤◌, ◌<◌, ℕ, false, List, [], ◌∷◌, length}
+use Rattle.std.specs.Prelude.{Option, None, Ok, Err}
 use Rattle.std.specs.List.{FoldsTo}
-use Rattle.std.proofs.Common.{refl, sym, ap, subst, inl, inr, ◌∙◌, arith, length-append}
-use Rattle.streams.specs.Equal.{none_is_some, same_some}
+use Rattle.std.proofs.Common.{refl, sym, ap, subst, inl, inr, ◌∙◌, arith}
+use Rattle.streams.specs.Equal.{none_is_some}
 use Rattle.streams.specs.Input.{Input}
 use Rattle.streams.specs.Kind.{Kind, backtrack, memory}
 use Rattle.stream_errors.specs.Form.{Answer}
@@ -19,67 +19,11 @@ use Rattle.winnow_repeat.specs.Repeat.{RepeatOneRuns, RepeatRuns, capacity_of}
 use Rattle.winnow_exact.specs.Exact.{IsExact, IsSoft}
 use Rattle.winnow_exact.specs.Exact.Choices.{none_at_backtrack}
 use Rattle.winnow_exact.specs.Exact.Same.{pair_is}
-use Rattle.winnow_exact.specs.Exact.Sequences.{end_of_end}
 use Rattle.winnow_exact.specs.Grammar.{Each, Gathered, Grammar, Many, NoneStands, Repeated}
-use Rattle.winnow_exact.specs.Grammar.{Stops, Takes}
-
--- what is below the number that it is
-below_itself : {P : Type 0} (greatest : Option ℕ) (m n : ℕ) → greatest ≡ Some m → m ≤ n
-    → IsBelow greatest n → P
-below_itself greatest m n e le below =
-    let P : Option ℕ → Type 0 = λ g. IsBelow g n in
-    let less : n < m = subst P e below in absurd (omega arith)
+use Rattle.winnow_exact.specs.Grammar.{Takes}
+use Rattle.winnow_exact.specs.Grammar.Unique.{no_more, repeated_take, repeated_unique}
 
 module _ {S T O : Type 0} {run : Runs S T O} {g : Grammar T O} {s : S} where
-  pub each_ends : IsExact s run g → (os : List O) (tokens rest : List T) → Each g tokens os rest
-      → (front : List T) × (tokens ≡ front ++ rest)
-  each_ends c [] tokens rest e = ([], sym e)
-  each_ends c (o ∷ os) tokens rest (mid, x, more) =
-      end_of_end (c.unique.ends tokens o mid x) (each_ends c os mid rest more)
-
-  -- behind as many as stand the same is left
-  pub each_one : IsExact s run g → (greatest : Option ℕ) (k : ℕ) (os ps : List O) (n m : ℕ)
-      (tokens rest other : List T) → n ≡ k + length os → m ≡ k + length ps
-      → Each g tokens os rest → Stops g greatest n rest → Each g tokens ps other
-      → Stops g greatest m other → rest ≡ other
-  each_one c greatest k [] [] n m tokens rest other a b e stops f ends = e ∙ sym f
-  each_one c greatest k [] (p ∷ ps) n m tokens rest other a b e (inl full) (mid, x, more)
-      (inl all) =
-      let same = same_some (sym full ∙ all) in absurd (omega arith)
-  each_one c greatest k [] (p ∷ ps) n m tokens rest other a b e (inl full) (mid, x, more)
-      (inr (below, none)) = below_itself greatest n m full (omega arith) below
-  each_one c greatest k [] (p ∷ ps) n m tokens rest other a b e (inr (below, none))
-      (mid, x, more) ends =
-      let P : List T → Type 0 = λ l. NoneStands g l in absurd (subst P e none p mid x)
-  each_one c greatest k (o ∷ os) [] n m tokens rest other a b (mid, x, more) (inl full) f
-      (inl all) =
-      let same = same_some (sym full ∙ all) in absurd (omega arith)
-  each_one c greatest k (o ∷ os) [] n m tokens rest other a b (mid, x, more)
-      (inr (below, none)) f (inl all) = below_itself greatest m n all (omega arith) below
-  each_one c greatest k (o ∷ os) [] n m tokens rest other a b (mid, x, more) stops f
-      (inr (below, none)) =
-      let P : List T → Type 0 = λ l. NoneStands g l in absurd (subst P f none o mid x)
-  each_one c greatest k (o ∷ os) (p ∷ ps) n m tokens rest other a b (mid, x, more) stops
-      (mid2, y, more2) ends =
-      let P : List T → Type 0 = λ l. Each g l os rest in
-      each_one c greatest (k + 1) os ps n m mid2 rest other (omega arith) (omega arith)
-      (subst P (c.unique.one tokens o p mid mid2 x y) more) stops more2 ends
-
-  -- where none stands behind some, no more of them stand
-  pub no_more : IsExact s run g → (os ps : List O) (tokens rest other : List T)
-      → Each g tokens os rest → NoneStands g rest → Each g tokens ps other
-      → length ps ≤ length os
-  no_more c [] [] tokens rest other e none f = omega arith
-  no_more c [] (p ∷ ps) tokens rest other e none (mid, x, more) =
-      let P : List T → Type 0 = λ l. NoneStands g l in
-      absurd (subst P e none p mid x)
-  no_more c (o ∷ os) [] tokens rest other x none f = omega arith
-  no_more c (o ∷ os) (p ∷ ps) tokens rest other (mid, x, more) none (mid2, y, more2) =
-      let P : List T → Type 0 = λ l. Each g l os rest in
-      let fewer = no_more c os ps mid2 rest other
-      (subst P (c.unique.one tokens o p mid mid2 x y) more) none more2 in
-      omega (arith, fewer)
-
   -- the items of a chain stand one behind the other, and leave the state as it was
   pub chain_stands : IsExact s run g → (outputs : List O) (i : Input T) (u : S) (m : Input T)
       → i.status.cut ≡ false → FoldsTo (λ p o q. IsItem run p o q) (s, i) outputs (u, m)
@@ -127,7 +71,7 @@ module _ {S T O C : Type 0} {run : Runs S T O} {g : Grammar T O} {s : S} (into :
       λ x. RepeatEnds run into asserted bounds before outputs x m answer t j in
       (outputs, m, still, each, subst P same ends)
 
-  items_keep : IsExact s run g → (before : C) (i : Input T) (answer : Answer C) (t : S)
+  pub items_keep : IsExact s run g → (before : C) (i : Input T) (answer : Answer C) (t : S)
       (j : Input T) → i.status.cut ≡ false
       → ItemsRun run into asserted bounds before s i answer t j
       → (t ≡ s) × (j.status.cut ≡ false)
@@ -136,7 +80,7 @@ module _ {S T O C : Type 0} {run : Runs S T O} {g : Grammar T O} {s : S} (into :
       ends_keep c before outputs m answer t j still ends
 
   -- items into an accumulator, of which some may have been taken before
-  items_stand : IsExact s run g → IsWithin bounds.greatest bounds.least → (before : C)
+  pub items_stand : IsExact s run g → IsWithin bounds.greatest bounds.least → (before : C)
       (i : Input T) (o : C) (t : S) (j : Input T) → i.status.cut ≡ false
       → ItemsRun run into asserted bounds before s i (Ok o) t j
       → (os : List O) × Accumulates into.takes before os o
@@ -176,7 +120,7 @@ module _ {S T O C : Type 0} {run : Runs S T O} {g : Grammar T O} {s : S} (into :
           (inr (inr (inr (inr (p, some, below, r, fewer, taken, grows, e))))) = ok_is_err refl e
 
   -- where they fail, there are not enough of them
-  items_fail : IsExact s run g → IsSoft s run → Takes g → (before : C)
+  pub items_fail : IsExact s run g → IsSoft s run → Takes g → (before : C)
       (i : Input T) (k : Kind) (t : S) (j : Input T) → i.status.cut ≡ false
       → ItemsRun run into asserted bounds before s i (Err k) t j
       → (k ≡ memory) ⊎ ((k ≡ backtrack) × ((ps : List O) (rest : List T)
@@ -205,7 +149,9 @@ module _ {S T O C : Type 0} {run : Runs S T O} {g : Grammar T O} {s : S} (into :
                 inr (
                   is,
                   λ ps rest x.
-                      let most = no_more c outputs ps i.left.tokens m.left.tokens rest each last x in
+                      let most =
+                      no_more c.unique outputs ps i.left.tokens m.left.tokens rest each last
+                      x in
                       omega arith,
                 )
           ])
@@ -312,14 +258,7 @@ module _ {S T O C : Type 0} {run : Runs S T O} {g : Grammar T O} (into : Accumul
         (pair_is last same, still);
     stands = λ i o t j is (ran, same). stands i o t.0 j is (begun i (Ok o) t.0 j is ran);
     none = λ i k t j is (ran, same). none i k t.0 j is (begun i (Err k) t.0 j is ran);
-    unique = record {
-      ends = λ tokens all rest (os, held, (each, enough, stops)).
-          each_ends c os tokens rest each;
-      one = λ tokens all more rest other (os, held, (each, enough, stops))
-          (ps, held2, (each2, enough2, stops2)).
-          each_one c (bounds_of s.1).greatest 0 os ps (length os) (length ps) tokens rest other
-          (omega arith) (omega arith) each stops each2 stops2;
-    };
+    unique = repeated_unique holds s.1 c.unique;
   }
     where
       bounds : Bounds
@@ -373,19 +312,9 @@ module _ {S T O C : Type 0} {run : Runs S T O} {g : Grammar T O} (into : Accumul
           ]
 
   -- one or more of what takes tokens take some
-  pub repeat_takes : IsExact s.0 run g → Takes g → 0 < (bounds_of s.1).least → Takes (Repeated holds s.1 g)
-  unfolding Gathered Many
-  repeat_takes c takes some = record {
-    fewer = λ tokens all rest (os, held, (each, enough, stops)).
-        fewer os tokens rest each (omega arith);
-  }
-    where
-      fewer : (os : List O) (tokens rest : List T) → Each g tokens os rest → 0 < length os
-          → length rest < length tokens
-      fewer [] tokens rest e none = absurd (omega arith)
-      fewer (o ∷ os) tokens rest (mid, x, more) any =
-          let (front, e) = each_ends c os mid rest more in
-          omega (arith, takes.fewer tokens o mid x, ap length e, length-append front rest)
+  pub repeat_takes : IsExact s.0 run g → Takes g → 0 < (bounds_of s.1).least
+      → Takes (Repeated holds s.1 g)
+  repeat_takes c takes some = repeated_take holds s.1 c.unique takes some
 
 module _ {S T O C : Type 0} {run : Runs S T O} {g : Grammar T O} (into : Accumulator C O)
     (asserted : Kind) (s : S × Range) where
@@ -394,7 +323,8 @@ module _ {S T O C : Type 0} {run : Runs S T O} {g : Grammar T O} (into : Accumul
       → IsSoft s (RangedRuns run into asserted)
   repeat_soft c f takes within = record {
     soft = λ i k t j is (ran, same).
-        soft i k t.0 j is (begins into asserted (bounds_of s.1) c takes within i (Err k) t.0 j is ran);
+        soft i k t.0 j is
+        (begins into asserted (bounds_of s.1) c takes within i (Err k) t.0 j is ran);
   }
     where
       Goal : Kind → Type 0

@@ -1,24 +1,19 @@
 -- What children in order read.
-use Rattle.std.specs.Prelude.{◌≡◌, ◌⊎◌, ◌++◌, false, List, Ok, Err}
-use Rattle.std.proofs.Common.{refl, sym, ap, subst, inl, inr, ◌∙◌, arith, append_assoc}
+use Rattle.std.specs.Prelude.{◌≡◌, ◌⊎◌, false, List, Ok, Err}
+use Rattle.std.proofs.Common.{refl, subst, inl, inr}
 use Rattle.streams.specs.Input.{Input}
 use Rattle.streams.specs.Kind.{Kind, backtrack, memory}
 use Rattle.stream_errors.specs.Form.{Answer}
 use Rattle.stream_errors.specs.Form.Known.{at_kind, ok_is_err, same_ok}
 use Rattle.winnow_core.specs.Runs.{Runs}
 use Rattle.winnow_comb.specs.InOrder.{BothRuns}
-use Rattle.winnow_exact.specs.Exact.{IsExact, IsSoft, no_longer}
+use Rattle.winnow_exact.specs.Exact.{IsExact, IsSoft}
 use Rattle.winnow_exact.specs.Exact.Same.{pair_is}
 use Rattle.winnow_exact.specs.Grammar.{Both, Grammar, NoneStands, Takes}
-
--- an end of an end
-pub end_of_end : {T : Type 0} {tokens mid rest : List T} → (front : List T) × (tokens ≡ front ++ mid)
-    → (front : List T) × (mid ≡ front ++ rest) → (front : List T) × (tokens ≡ front ++ rest)
-end_of_end {rest = rest} (f, e) (g, d) =
-    (f ++ g, e ∙ ap (λ l. f ++ l) d ∙ sym (append_assoc f g rest))
+use Rattle.winnow_exact.specs.Grammar.Unique.{both_take, both_unique}
 
 -- nothing of both where the first is read, and none of the second stands behind it
-none_behind : {S1 T O1 O2 O : Type 0} (output : O1 → O2 → O) {run1 : Runs S1 T O1}
+pub none_behind : {S1 T O1 O2 O : Type 0} (output : O1 → O2 → O) {run1 : Runs S1 T O1}
     {g1 : Grammar T O1} (g2 : Grammar T O2) {s : S1} → IsExact s run1 g1 → (i a : Input T) (o : O1)
     → g1 i.left.tokens o a.left.tokens → NoneStands g2 a.left.tokens
     → NoneStands (Both output g1 g2) i.left.tokens
@@ -36,13 +31,7 @@ module _ {S1 S2 T O1 O2 O : Type 0} {output : O1 → O2 → O} {run1 : Runs S1 T
     kept = kept;
     stands = stands;
     none = none;
-    unique = record {
-      ends = λ tokens o rest (o1, o2, mid, x, y, e).
-          end_of_end (c1.unique.ends tokens o1 mid x) (c2.unique.ends mid o2 rest y);
-      one = λ tokens o p rest other (o1, o2, mid, x, y, e) (p1, p2, mid2, z, w, f).
-          let P : List T → Type 0 = λ l. g2 l o2 rest in
-          c2.unique.one mid2 o2 p2 rest other (subst P (c1.unique.one tokens o1 p1 mid mid2 x z) y) w;
-    };
+    unique = both_unique output c1.unique c2.unique;
   }
     where
       kept : (i : Input T) (answer : Answer O) (t : S1 × S2) (j : Input T)
@@ -91,7 +80,8 @@ module _ {S1 S2 T O1 O2 O : Type 0} {output : O1 → O2 → O} {run1 : Runs S1 T
           let on = (c1.kept i (Ok o1) t.0 a is r1).1 in
           at_kind (Goal i) e (elim (c2.none a l t.1 j on r2) [
             | inl m ↦ inl m
-            | inr nothing ↦ inr (none_behind output g2 c1 i a o1 (c1.stands i o1 t.0 a is r1) nothing)
+            | inr nothing
+                ↦ inr (none_behind output g2 c1 i a o1 (c1.stands i o1 t.0 a is r1) nothing)
           ])
 
 pub both_soft : {S1 S2 T O1 O2 O : Type 0} {output : O1 → O2 → O} {run1 : Runs S1 T O1}
@@ -113,18 +103,4 @@ both_soft {S1} {S2} {T} {O1} {O2} {O} {output} {run1} {run2} {s = s} c1 f1 f2 =
 pub both_takes : {S1 S2 T O1 O2 O : Type 0} (output : O1 → O2 → O) {run1 : Runs S1 T O1}
     {run2 : Runs S2 T O2} {g1 : Grammar T O1} {g2 : Grammar T O2} {s1 : S1} {s2 : S2}
     → IsExact s1 run1 g1 → IsExact s2 run2 g2 → Takes g1 ⊎ Takes g2 → Takes (Both output g1 g2)
-unfolding Both
-both_takes output c1 c2 (inl takes) = record {
-  fewer = λ tokens o rest (o1, o2, mid, x, y, e).
-      omega (arith, takes.fewer tokens o1 mid x, no_longer c2 mid o2 rest y);
-}
-both_takes output c1 c2 (inr takes) = record {
-  fewer = λ tokens o rest (o1, o2, mid, x, y, e).
-      omega (arith, no_longer c1 tokens o1 mid x, takes.fewer mid o2 rest y);
-}
-
--- one of two takes tokens
-pub or_takes : {T O1 O2 A B : Type 0} {g1 : Grammar T O1} {g2 : Grammar T O2} → (A → Takes g1)
-    → (B → Takes g2) → A ⊎ B → Takes g1 ⊎ Takes g2
-or_takes first second (inl a) = inl (first a)
-or_takes first second (inr b) = inr (second b)
+both_takes output c1 c2 some = both_take output c1.unique c2.unique some

@@ -8,8 +8,10 @@ use Rattle.streams.specs.Equal.{none_is_some}
 use Rattle.stream_sets.specs.Range.{IsBelow, bounds_of, from_to}
 use Rattle.stream_sets.specs.declared.range.Range.{Range}
 use Rattle.winnow_exact.specs.Exact.Same.{Same}
-use Rattle.winnow_exact.specs.Grammar.{Each, Gathered, Grammar, Literally, Many, NoneStands}
-use Rattle.winnow_exact.specs.Grammar.{Repeated}
+use Rattle.winnow_exact.specs.Grammar.{Each, Gathered, Grammar, IsUnique, Literally, Many}
+use Rattle.winnow_exact.specs.Grammar.{NoneStands, Repeated, Takes}
+use Rattle.winnow_exact.specs.Grammar.Unique.{literally_takes, literally_unique}
+pub mod Sets
 
 -- in the logic there is a slice of each list
 pub slice_for : {T : Type 0} (xs : List T) → (slice : Bor (List T)) × (slice.now ≡ xs)
@@ -30,6 +32,18 @@ pub stands_byte : (x : ℕ) (tokens rest : List ℕ) → tokens ≡ x ∷ rest �
 unfolding Literally
 stands_byte x tokens rest e =
     let (slice, shown) = slice_for (x ∷ []) in (x ∷ [], slice, refl, shown, e, refl)
+
+same_units : (x : ℕ) (xs ys : List ℕ) → xs ≡ x ∷ [] → ys ≡ x ∷ [] → length xs ≡ length ys
+same_units x xs ys e f = omega (arith, ap (λ l. length l) e, ap (λ l. length l) f)
+
+pub byte_unique : (x : ℕ) → IsUnique (Byte x)
+byte_unique x =
+    literally_unique counted_reading (λ b xs. xs ≡ b ∷ []) (λ b _. b) x (same_units x)
+
+pub byte_takes : (x : ℕ) → Takes (Byte x)
+byte_takes x =
+    literally_takes counted_reading (λ b xs. xs ≡ b ∷ []) (λ b _. b) x
+    (λ e. omega (arith, ap (λ l. length l) e))
 
 -- Items in a list stand one behind the other, enough of them, and none stands behind them.
 unfoldable pub Listed : {T O A : Type 0} → Grammar T O → ℕ → Grammar T (Vec O A)

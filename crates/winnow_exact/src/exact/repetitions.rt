@@ -31,7 +31,8 @@ impl<
         (P.grammar (repeat_parser p)) };
 
     ghost exact = { λ p form is. repeat_exact C.accumulator (assert_kind form)
-        (P.state (repeat_parser p), repeat_occurrences p) C.holds C.gathers (P.exact (repeat_parser p) form is.0)
+        (P.state (repeat_parser p), repeat_occurrences p) C.holds C.gathers (P.exact
+        (repeat_parser p) form is.0)
         (P.soft (repeat_parser p) form is.0 is.1) (P.takes (repeat_parser p) is.0 is.2) is.3 };
 
     ghost soft = { λ p form is soft. repeat_soft C.accumulator (assert_kind form)

@@ -1,0 +1,143 @@
+-- What is read where errors become others.
+use Rattle.std.specs.Prelude.{◌≡◌, ◌⊎◌, false, Ok, Err}
+use Rattle.std.proofs.Common.{refl, ap, inl, inr, ◌∙◌}
+use Rattle.streams.specs.Input.{Input}
+use Rattle.streams.specs.Kind.{Kind, backtrack, memory}
+use Rattle.stream_errors.specs.Form.{Answer}
+use Rattle.stream_errors.specs.Form.Known.{at_output, ok_is_err, same_kind}
+use Rattle.stream_errors.specs.Given.{Keeping}
+use Rattle.stream_errors.specs.Mode.{cut_of}
+use Rattle.winnow_comb.specs.CutErr.{CutErrRuns}
+use Rattle.winnow_core.specs.Context.{ContextBecomes}
+use Rattle.winnow_core.specs.ErrInto.{ErrIntoBecomes, ErrIntoRuns}
+use Rattle.winnow_core.specs.MakesError.{MakesError}
+use Rattle.winnow_core.specs.Runs.{Runs}
+use Rattle.winnow_exact.specs.Exact.{IsExact, IsSoft}
+use Rattle.winnow_exact.specs.Exact.Along.{exact_along, soft_along}
+use Rattle.winnow_exact.specs.Exact.Same.{pair_is}
+use Rattle.winnow_exact.specs.Grammar.{Grammar, NoneStands}
+
+-- What changes errors is after each as it was, and a kind stays or becomes a want of memory.
+pub record KeepsKinds {G : Type 0} (becomes : G → Kind → Kind → G → Type 0) (f : G) : Type 0 where
+  pub stays : (k l : Kind) (h : G) → becomes f k l h → h ≡ f
+  pub kind : (k l : Kind) (h : G) → becomes f k l h → (l ≡ k) ⊎ (l ≡ memory)
+
+module _ {S G T O : Type 0} {becomes : G → Kind → Kind → G → Type 0} {run : Runs S T O}
+    {s : S × G} where
+  pub errors_exact : {g : Grammar T O} → KeepsKinds becomes s.1 → IsExact s.0 run g
+      → IsExact s (MakesError becomes run) g
+  errors_exact {g} keeps c = record {
+    kept = kept;
+    stands = stands;
+    none = none;
+    unique = c.unique;
+  }
+    where
+      kept : (i : Input T) (answer : Answer O) (t : S × G) (j : Input T) → i.status.cut ≡ false
+          → MakesError becomes run s i answer t j → (t ≡ s) × (j.status.cut ≡ false)
+      kept i answer t j is (inl (o, r, same2, e)) =
+          let (same, still) = c.kept i (Ok o) t.0 j is r in (pair_is same same2, still)
+      kept i answer t j is (inr (k, l, r, made, e)) =
+          let (same, still) = c.kept i (Err k) t.0 j is r in
+          (pair_is same (keeps.stays k l t.1 made), still)
+
+      stands : (i : Input T) (o : O) (t : S × G) (j : Input T) → i.status.cut ≡ false
+          → MakesError becomes run s i (Ok o) t j → g i.left.tokens o j.left.tokens
+      stands i o t j is (inl (p, r, same, e)) =
+          let P : O → Type 0 = λ x. g i.left.tokens x j.left.tokens in
+          at_output P e (c.stands i p t.0 j is r)
+      stands i o t j is (inr (k, l, r, made, e)) = ok_is_err refl e
+
+      none : (i : Input T) (k : Kind) (t : S × G) (j : Input T) → i.status.cut ≡ false
+          → MakesError becomes run s i (Err k) t j
+          → (k ≡ memory) ⊎ NoneStands g i.left.tokens
+      none i k t j is (inl (p, r, same, e)) = ok_is_err e refl
+      none i k t j is (inr (m, l, r, made, e)) = elim (keeps.kind m l t.1 made) [
+        | inl same ↦ elim (c.none i m t.0 j is r) [
+          | inl wanted ↦ inl (same_kind e ∙ same ∙ wanted)
+          | inr nothing ↦ inr nothing
+        ]
+        | inr wanted ↦ inl (same_kind e ∙ wanted)
+      ]
+
+  pub errors_soft : KeepsKinds becomes s.1 → IsSoft s.0 run → IsSoft s (MakesError becomes run)
+  errors_soft keeps f = record { soft = soft }
+    where
+      soft : (i : Input T) (k : Kind) (t : S × G) (j : Input T) → i.status.cut ≡ false
+          → MakesError becomes run s i (Err k) t j → (k ≡ memory) ⊎ (k ≡ backtrack)
+      soft i k t j is (inl (p, r, same, e)) = ok_is_err e refl
+      soft i k t j is (inr (m, l, r, made, e)) = elim (keeps.kind m l t.1 made) [
+        | inl same ↦ elim (f.soft i m t.0 j is r) [
+          | inl wanted ↦ inl (same_kind e ∙ same ∙ wanted)
+          | inr back ↦ inr (same_kind e ∙ same ∙ back)
+        ]
+        | inr wanted ↦ inl (same_kind e ∙ wanted)
+      ]
+
+-- a context that is kept leaves a kind, or was refused memory
+pub context_keeps : {C : Type 0} {c : C × (C → Keeping)} (is_clone : C → C → Type 0)
+    (clones : C → Type 0) → KeepsKinds (ContextBecomes is_clone clones) c
+context_keeps is_clone clones = record {
+  stays = λ k l h (same, it). same;
+  kind = λ k l h (same, it). elim it [
+    | inl (need, is) ↦ inl is
+    | inr (inl (copy, whole, cloned, inl (kept, is))) ↦ inl is
+    | inr (inl (copy, whole, cloned, inr (refused, is))) ↦ inr is
+    | inr (inr (whole, refused, is)) ↦ inr is
+  ];
+}
+
+-- An error is converted to one of its kind, or to a want of memory.
+abbrev pub SameKinds : {E D : Type 0} → (E → Kind) → (D → Kind) → (E → D → Type 0) → Type 0
+SameKinds {E} {D} kind new_kind converts = (old : E) (new : D) → converts old new
+    → (new_kind new ≡ kind old) ⊎ (new_kind new ≡ memory)
+
+err_into_keeps : {E D : Type 0} (kind : E → Kind) (new_kind : D → Kind)
+    (converts : E → D → Type 0) → SameKinds kind new_kind converts
+    → KeepsKinds (ErrIntoBecomes kind new_kind converts) tt
+err_into_keeps kind new_kind converts same = record {
+  stays = λ k l h is. refl;
+  kind = λ k l h (old, new, was, made, is). elim (same old new made) [
+    | inl kept ↦ inl (is ∙ kept ∙ was)
+    | inr wanted ↦ inr (is ∙ wanted)
+  ];
+}
+
+pub err_into_exact : {S T O E D : Type 0} {run : Runs S T O} {s : S} {g : Grammar T O}
+    (kind : E → Kind) (new_kind : D → Kind) (converts : E → D → Type 0)
+    → SameKinds kind new_kind converts → IsExact s run g
+    → IsExact s (ErrIntoRuns kind new_kind converts run) g
+err_into_exact {S} kind new_kind converts same c = exact_along (λ (t : S). (t, tt))
+    (λ t e. ap (λ x. x.0) e) (λ i answer t j ran. ran)
+    (errors_exact (err_into_keeps kind new_kind converts same) c)
+
+pub err_into_soft : {S T O E D : Type 0} {run : Runs S T O} {s : S} (kind : E → Kind)
+    (new_kind : D → Kind) (converts : E → D → Type 0) → SameKinds kind new_kind converts
+    → IsSoft s run → IsSoft s (ErrIntoRuns kind new_kind converts run)
+err_into_soft {S} kind new_kind converts same f = soft_along (λ (t : S). (t, tt))
+    (λ i answer t j ran. ran) (errors_soft (err_into_keeps kind new_kind converts same) f)
+
+-- an error that cuts where it backtracked is no more and no less
+module _ {S T O : Type 0} {run : Runs S T O} {s : S} where
+  pub cut_err_exact : {g : Grammar T O} → IsExact s run g → IsExact s (CutErrRuns run) g
+  cut_err_exact {g} c = record { kept = kept; stands = stands; none = none; unique = c.unique }
+    where
+      kept : (i : Input T) (answer : Answer O) (t : S) (j : Input T) → i.status.cut ≡ false
+          → CutErrRuns run s i answer t j → (t ≡ s) × (j.status.cut ≡ false)
+      kept i answer t j is (inl (o, r, e)) = c.kept i (Ok o) t j is r
+      kept i answer t j is (inr (k, r, e)) = c.kept i (Err k) t j is r
+
+      stands : (i : Input T) (o : O) (t : S) (j : Input T) → i.status.cut ≡ false
+          → CutErrRuns run s i (Ok o) t j → g i.left.tokens o j.left.tokens
+      stands i o t j is (inl (p, r, e)) =
+          let P : O → Type 0 = λ x. g i.left.tokens x j.left.tokens in
+          at_output P e (c.stands i p t j is r)
+      stands i o t j is (inr (k, r, e)) = ok_is_err refl e
+
+      none : (i : Input T) (k : Kind) (t : S) (j : Input T) → i.status.cut ≡ false
+          → CutErrRuns run s i (Err k) t j → (k ≡ memory) ⊎ NoneStands g i.left.tokens
+      none i k t j is (inl (p, r, e)) = ok_is_err e refl
+      none i k t j is (inr (l, r, e)) = elim (c.none i l t j is r) [
+        | inl wanted ↦ inl (same_kind e ∙ ap cut_of wanted)
+        | inr nothing ↦ inr nothing
+      ]
