@@ -26,6 +26,8 @@ use winnow_repeat::combinator::repeat;
 /// A line: a `y` or an `n`, and a line feed. It answers the letter.
 ///
 /// ```
+/// use uses_lines::read_line;
+///
 /// let mut input = b"y\nn\n".as_slice();
 /// assert_eq!(rt; read_line(&mut input), Ok(b'y'));
 /// assert_eq!(rt; input, b"n\n".as_slice());
@@ -56,6 +58,8 @@ impl<'i> Rule<&'i [u8], u8> for Line {
 /// Lines, as many as stand one behind the other: their letters, in order.
 ///
 /// ```
+/// use uses_lines::read_lines;
+///
 /// let mut input = b"y\nn\n-".as_slice();
 /// let letters = read_lines(alloc, &mut input);
 /// assert!(rt; matches!(letters, Ok(letters) if letters.as_slice() == [b'y', b'n']));
@@ -75,6 +79,8 @@ pub fn read_lines<'i, A: Allocator + Copy>(
 /// the lines ended; or want of memory.
 ///
 /// ```
+/// use uses_lines::parse_lines;
+///
 /// let letters = parse_lines(alloc, b"y\nn\n".as_slice());
 /// assert!(rt; matches!(letters, Ok(letters) if letters.as_slice() == [b'y', b'n']));
 /// assert!(rt; parse_lines(alloc, b"y\nn".as_slice()).is_err());
