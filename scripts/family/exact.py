@@ -334,8 +334,9 @@ CHOICES = """//! Choices among one to six read what the first branch reads of wh
 //! {head}
 ghost use Rattle.std.specs.Prelude.{{◌≡◌, ⊤}};
 ghost use Rattle.winnow_comb.specs.Alt.{{alt_alternatives}};
-ghost use Rattle.winnow_exact.specs.Exact.Choices.{{either_takes, or_else_exact, or_else_soft}};
+ghost use Rattle.winnow_exact.specs.Exact.Choices.{{or_else_exact, or_else_soft}};
 ghost use Rattle.winnow_exact.specs.Grammar.{{Either}};
+ghost use Rattle.winnow_exact.specs.Grammar.Unique.{{either_takes}};
 
 use crate::exact::Exact;
 use stream_errors::parser_error::ParserError;

@@ -62,7 +62,7 @@ impl<'i> Rule<&'i [u8], u8> for Line {
 ///
 /// let mut input = b"y\nn\n-".as_slice();
 /// let letters = read_lines(alloc, &mut input);
-/// assert!(rt; matches!(letters, Ok(letters) if letters.as_slice() == [b'y', b'n']));
+/// assert!(rt; matches!(letters, Ok(letters) if letters.as_slice() == b"yn".as_slice()));
 /// assert_eq!(rt; input, b"-".as_slice());
 /// ```
 pub fn read_lines<'i, A: Allocator + Copy>(
@@ -82,7 +82,7 @@ pub fn read_lines<'i, A: Allocator + Copy>(
 /// use uses_lines::parse_lines;
 ///
 /// let letters = parse_lines(alloc, b"y\nn\n".as_slice());
-/// assert!(rt; matches!(letters, Ok(letters) if letters.as_slice() == [b'y', b'n']));
+/// assert!(rt; matches!(letters, Ok(letters) if letters.as_slice() == b"yn".as_slice()));
 /// assert!(rt; parse_lines(alloc, b"y\nn".as_slice()).is_err());
 /// ```
 pub fn parse_lines<'i, A: Allocator + Copy>(
