@@ -11,3 +11,5 @@ mod readers;
 mod recipes;
 #[cfg(test)]
 mod records;
+#[cfg(test)]
+mod tasks;

@@ -1,6 +1,6 @@
 //! The recipes, each on a text that it reads, with what is left, and on some that it refuses.
 
-use uses_readers::recipes::{
+use crate::tasks::{
     count_temperatures, read_block_comment, read_identifier, read_line_comment, read_percentage,
     read_row, read_spaced, read_temperature,
 };

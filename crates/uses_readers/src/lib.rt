@@ -7,5 +7,4 @@
 pub mod choices;
 pub mod lists;
 pub mod pieces;
-pub mod recipes;
 pub mod records;
