@@ -72,30 +72,6 @@ def known_cases(n):
     return "\n".join(lines)
 
 
-def known_pin(n):
-    """That the runs of a sequence are these cases."""
-    states = tuple_type(["S%d" % k for k in upto(n)])
-    types = " ".join(["S%d" % k for k in upto(n)] + ["T"] + ["O%d" % k for k in upto(n)])
-    runs = " ".join("(run%d : Runs S%d T O%d)" % (k, k, k) for k in upto(n))
-    arguments = " ".join("run%d" % k for k in upto(n))
-
-    def run(k, answer, last):
-        before = "i" if k == 1 else BETWEEN[k - 2]
-        after = "j" if k == last else BETWEEN[k - 1]
-        return "run%d s.%d %s (%s) t.%d %s" % (k, k - 1, before, answer, k - 1, after)
-
-    parts = ["(λ %s. %s)" % (" ".join(["o"] + inputs_of(k, n)), run(k, "Ok o", n)) for k in upto(n)]
-    parts += ["(λ %s. %s)" % (" ".join(["k"] + inputs_of(k, k)), run(k, "Err k", k)) for k in upto(n)]
-    parts += ["(t.%d ≡ s.%d)" % (k - 1, k - 1) for k in range(2, n + 1)]
-    lines = [
-        "pub sequence%d_cases : {%s : Type 0} %s (s : %s) (i : Input T) (answer : Answer (%s)) (t : %s) (j : Input T) → SequenceRuns%d %s s i answer t j → SequenceCases%d %s answer" % (
-            n, types, runs, states, tuple_type(["O%d" % k for k in upto(n)]), states, n, arguments, n, " ".join(parts),
-        ),
-        "sequence%d_cases %s s i answer t j ran = ran" % (n, arguments),
-    ]
-    return "\n".join(lines)
-
-
 def known_lemma(n, way, variable, result):
     outputs = ["O%d" % k for k in upto(n)]
     shared = " ".join("{%s : %s}" % (" ".join(group), relation) for group, relation in relations(n))
@@ -178,8 +154,6 @@ use Rattle.std.specs.Prelude.{{◌≡◌, Ok, Err, ◌⊎◌}}
 use Rattle.streams.specs.Input.{{Input}}
 use Rattle.streams.specs.Kind.{{Kind}}
 use Rattle.stream_errors.specs.Form.{{Answer}}
-use Rattle.winnow_core.specs.Runs.{{Runs}}
-use Rattle.winnow_core.specs.Sequence.{{{names}}}
 
 {family}
 """
@@ -206,8 +180,7 @@ def write_known():
     write(
         core + "Cases.antt",
         SEQUENCE_CASES,
-        names=", ".join("SequenceRuns%d" % n for n in some),
-        family="\n\n".join("%s\n\n%s" % (known_cases(n), known_pin(n)) for n in some),
+        family="\n\n".join(known_cases(n) for n in some),
     )
     write(
         core + "Known.antt",

@@ -1,5 +1,5 @@
 """That a sequence of parsers that read does so, and which inputs it must answer, in `winnow_core`."""
-from family.common import BETWEEN, MOST, NUMBER, conjunction, tuple_type, upto, write
+from family.common import BETWEEN, NUMBER, conjunction, tuple_type, upto, write
 from family.known import injected
 
 
@@ -109,6 +109,9 @@ def leaves(n):
     return "\n".join(lines)
 
 
+# Lemmas stand for the lengths that something cites.
+CITED = (2, 4, 5)
+
 SEQUENCES = """-- A sequence of parsers that read does so: its output shows what theirs show, in order.
 -- {head}
 use Rattle.std.specs.Prelude.{{List, ◌++◌}}
@@ -128,7 +131,7 @@ use Rattle.std.proofs.Common.{{inl, inr}}
 use Rattle.winnow_core.specs.Reads.{{MustLeave}}
 use Rattle.winnow_core.specs.Runs.{{Runs}}
 use Rattle.winnow_core.specs.Sequence.{{{runs}}}
-use Rattle.winnow_core.specs.Sequence.Known.{{{known}}}
+{known}
 
 {family}
 """
@@ -136,7 +139,7 @@ use Rattle.winnow_core.specs.Sequence.Known.{{{known}}}
 
 def write_reads():
     core = "crates/winnow_core/specs/Reads/"
-    some = range(2, MOST + 1)
+    some = CITED
     runs = ", ".join("SequenceRuns%d" % n for n in some)
     write(
         core + "Sequences.antt",
@@ -149,6 +152,6 @@ def write_reads():
         core + "SequencesLeave.antt",
         SEQUENCES_LEAVE,
         runs=runs,
-        known=", ".join("sequence%d_%s" % (n, way) for n in some for way in ("ok", "err")),
+        known="\n".join("use Rattle.winnow_core.specs.Sequence.Known.{sequence%d_ok, sequence%d_err}" % (n, n) for n in some),
         family="\n\n".join("-- %s children\n%s" % (NUMBER[n], leaves(n)) for n in some),
     )

@@ -13,8 +13,11 @@ use streams::stream::Stream;
 /// There is no `From` in its place: with a second one `?` could not tell which error type the
 /// parser before it has.
 ///
-/// ```text
-/// list.push(number).or_no_memory(input)?     answers want of memory where the list cannot grow
+/// ```
+/// let mut list = Vec::new(alloc);
+/// let grown: Result<(), ErrMode<EmptyError>> = list.push(b'a').or_no_memory(&"12");
+/// assert_eq!(rt; grown, Ok(()));
+/// assert_eq!(rt; list.as_slice(), b"a".as_slice());
 /// ```
 pub trait OrNoMemory<T> {
     // What was answered, unless memory was refused.

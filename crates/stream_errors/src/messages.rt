@@ -18,8 +18,8 @@ use text_positions::excerpt::Excerpt;
 /// An input whose line can be shown: bytes, text, and a stream round them. winnow asks for `AsBStr`
 /// there.
 ///
-/// ```text
-/// "größe".shown_bytes()   are its bytes
+/// ```
+/// assert_eq!(rt; "größe".shown_bytes(), "größe".as_bytes());
 /// ```
 pub trait ShownBytes {
     /// The bytes of the input, from where it stands.

@@ -27,9 +27,15 @@ use streams::stream::Stream;
 /// The first context that an error is given says what was expected, each further one in what.
 /// `alt` answers the error of its last branch; a choice by hand joins those of all.
 ///
-/// ```text
-/// one error with "on", joined with one with "a number", and then given "a value"
-///     says: expected on or a number in a value
+/// ```
+/// let mut error = ExpectedError::new();
+/// error.push(alloc, "on");
+/// let mut other = ExpectedError::new();
+/// other.push(alloc, "a number");
+/// let mut both = error.joined(other);
+/// both.push(alloc, "a value");
+/// assert_eq!(rt; both.expected(), ["on", "a number"].as_slice());
+/// assert_eq!(rt; both.within(), ["a value"].as_slice());
 /// ```
 #[derive(Debug, PartialEq, Drop)]
 pub struct ExpectedError<C, A: Allocator = Global> {

@@ -1,14 +1,13 @@
 -- Bytes as a stream.
-use Rattle.std.specs.Prelude.{ℕ, ◌≤◌, ◌<◌, ◌-◌, List, ◌++◌, length, take, drop}
+use Rattle.std.specs.Prelude.{ℕ, ◌<◌, ◌-◌, List, ◌++◌, length, take, drop}
 use Rattle.std.specs.Borrow.{Bor}
 use Rattle.std.specs.List.{All}
 use Rattle.std.proofs.Common.{refl, sym, ap, ◌∙◌}
 use Rattle.std.proofs.lemmas.List.{take_rest, take-append-drop}
-use Rattle.streams.specs.Counted.{counted_boundary, counted_input, counted_reading}
+use Rattle.streams.specs.Counted.{counted_input, counted_reading}
 use Rattle.streams.specs.Following.{Following, FitsBehind, fits_behind, most_bytes}
 use Rattle.streams.specs.Input.{Input, IsEndOf}
 use Rattle.streams.specs.Reading.{Reading}
-use Rattle.streams.specs.Stream.{IsBoundary}
 
 -- What is seen of a slice of bytes: the bytes, with no place kept, whole.
 abbrev pub bytes_input : List ℕ → Input ℕ
@@ -38,7 +37,3 @@ slice_ends n xs = record {
   };
   cut = refl;
 }
-
--- each place up to the end is between two bytes, or at an end
-pub bytes_boundary : (n : ℕ) (xs : List ℕ) → n ≤ length xs → IsBoundary length xs n
-bytes_boundary = counted_boundary

@@ -153,16 +153,6 @@ pub ends_remain : {T S : Type 0} {reading : Reading T S} {a b : Remaining T} →
     → Remains b a
 ends_remain e = record { dropped = e.dropped; tokens = e.tokens }
 
--- what remains of what remains
-pub remains_behind : {T S : Type 0} {reading : Reading T S} {a b c : Remaining T}
-    → Ends reading c b → Remains b a → Remains c a
-remains_behind {c = c} e r =
-    record {
-      dropped = r.dropped ++ e.dropped;
-      tokens = r.tokens ∙ ap (λ l. r.dropped ++ l) e.tokens
-          ∙ sym (append_assoc r.dropped e.dropped c.tokens);
-    }
-
 -- a reset goes back to what was left at the start
 pub remains_of_start : {T S : Type 0} {reading : Reading T S} {a b : Input T} {x : Remaining T}
     → x ≡ a.left → IsEndOf reading b a → Remains b.left x

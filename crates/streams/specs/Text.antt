@@ -1,21 +1,21 @@
 -- Text as a stream of characters.
-use Rattle.std.specs.Prelude.{◌≡◌, ℕ, ◌+◌, ◌<◌, List, [], ◌∷◌, length, take, drop, Option, Some}
+use Rattle.std.specs.Prelude.{◌≡◌, ℕ, ◌+◌, ◌<◌, List, [], ◌∷◌, length, take, Option, Some}
 use Rattle.std.specs.Prelude.{None, MatchOption}
 use Rattle.std.specs.Borrow.{Bor}
 use Rattle.std.specs.Char.{IsScalar, len_utf8, encode_utf8}
 use Rattle.std.specs.List.{All, sum_by}
-use Rattle.std.specs.Str.{chars, encode_utf8_all, IsUtf8, IsCharBoundary}
+use Rattle.std.specs.Str.{chars, encode_utf8_all, IsUtf8}
 use Rattle.std.specs.declared.str.CharIndices.{CharIndices}
 use Rattle.std.specs.Str.Iter.{char_indices_rest, char_indices_offset, char_indices_steps}
 use Rattle.std.proofs.Common.{refl, sym, ap, ◌∙◌, arith}
-use Rattle.std.proofs.lemmas.List.{nil_from_length, length-append, length-take-le, take-append-drop}
+use Rattle.std.proofs.lemmas.List.{nil_from_length, length-append}
 use Rattle.std.proofs.lemmas.List.Sums.{sum_by-append, sum_by-cons}
-use Rattle.std.proofs.lemmas.Str.{chars-nil, chars-append, encodes-chars, length-encode}
-use Rattle.std.proofs.lemmas.Str.{len_utf8_bounds, IsUtf8-take}
+use Rattle.std.proofs.lemmas.Str.{chars-nil, encodes-chars, length-encode}
+use Rattle.std.proofs.lemmas.Str.{len_utf8_bounds}
 use Rattle.streams.specs.Following.{Following}
 use Rattle.streams.specs.Input.{Input, at_start, no_status}
 use Rattle.streams.specs.Reading.{Reading, ShowsOneList}
-use Rattle.streams.specs.Stream.{IsBoundary, with_offsets}
+use Rattle.streams.specs.Stream.{with_offsets}
 use Rattle.streams.specs.Utf8.{chars-encode, chars_all}
 
 -- the bytes that characters take
@@ -38,18 +38,6 @@ length_encodes (c ∷ cs) =
 pub width_chars : (text : List ℕ) → IsUtf8 text → width (chars text) ≡ length text
 width_chars text utf8 =
     sym (length_encodes (chars text)) ∙ ap (λ bytes. length bytes) (encodes-chars text utf8)
-
--- each place of a text at which it may be cut is between two characters, or at an end
-pub text_boundary : (offset : ℕ) (text : List ℕ) → IsUtf8 text → IsCharBoundary text offset
-    → IsBoundary width (chars text) offset
-text_boundary offset text utf8 boundary =
-    let front_utf8 = IsUtf8-take text offset utf8 boundary in (
-      chars (take offset text),
-      chars (drop offset text),
-      ap chars (sym (take-append-drop offset text))
-          ∙ chars-append (take offset text) (drop offset text) front_utf8,
-      sym (length-take-le offset text boundary.0) ∙ sym (width_chars (take offset text) front_utf8),
-    )
 
 -- any characters may come behind a text
 abbrev pub text_follows : Following ℕ

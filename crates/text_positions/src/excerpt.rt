@@ -16,13 +16,10 @@ use std::fmt;
 /// let shown = Excerpt::new("width=12\nheight=x\n".as_bytes(), 16);
 /// assert_eq!(rt; shown.position(), Position { line: 2, column: 8 });
 /// assert_eq!(rt; shown.line(), "height=x".as_bytes());
-/// ```
 ///
-/// ```text
-/// parse error at line 2, column 8
-///   |
-/// 2 | height=x
-///   |        ^
+/// let text = format!(in alloc; "{shown}");
+/// let lines = "parse error at line 2, column 8\n  |\n2 | height=x\n  |        ^";
+/// assert!(rt; matches!(text, Ok(text) if text.as_str() == lines));
 /// ```
 #[derive(Clone, Copy, Debug, Drop)]
 pub struct Excerpt<'t> {

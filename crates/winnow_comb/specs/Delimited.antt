@@ -2,7 +2,6 @@
 use Rattle.winnow_core.specs.Runs.{Runs}
 use Rattle.winnow_comb.specs.InOrder.{ThreeRuns}
 use Rattle.winnow_comb.specs.declared.combinator.impls.delimited.Delimited.{Delimited}
-pub mod Known
 
 -- the parser before
 abbrev pub delimited_ignored1 : {P1 P2 P3 I O1 O2 O3 E : Type 0}

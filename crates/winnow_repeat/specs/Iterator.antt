@@ -12,7 +12,6 @@ use Rattle.winnow_repeat.specs.declared.combinator.impls.iterator.Progress.TheVa
   Stopped,
 }
 pub mod Known
-pub mod Laws
 
 -- Whether an iterator gives more items: it goes on, its parser backtracked, or an error of this
 -- kind stopped it.

@@ -8,7 +8,6 @@ use Rattle.stream_errors.specs.Form.{ErrorForm}
 use Rattle.winnow_core.specs.Literal.{LiteralRuns}
 use Rattle.winnow_core.specs.Literal.Known.{TokenTaken, literal_missing, literal_taken}
 use Rattle.winnow_ascii.specs.Crlf.Known.{AsciiMissing}
-use Rattle.winnow_ascii.specs.Newline.{NewlineRuns}
 
 -- A character that stands for one token of its number, and was taken.
 pub character_taken : {S : Type 0} (spelled : List ℕ → Type 0) (c : ℕ)
@@ -37,17 +36,3 @@ character_missing {S} spelled c one reading form i k j whole ran =
       kind = missing.kind;
       other = λ rest e. missing.other (c ∷ [], rest, one, e);
     }
-
-pub newline_ok : {S : Type 0} (spells : ℕ → List ℕ → Type 0)
-    → ((xs : List ℕ) → spells 10 xs → xs ≡ 10 ∷ []) → (reading : Reading ℕ S)
-    (form : ErrorForm) (i : Input ℕ) (o : ℕ) (j : Input ℕ)
-    → NewlineRuns spells reading form i (Ok o) j → TokenTaken 10 i j
-newline_ok spells list reading form i o j ran =
-    character_taken (spells 10) 10 list reading form i o j ran
-
-pub newline_err : {S : Type 0} (spells : ℕ → List ℕ → Type 0) → spells 10 (10 ∷ [])
-    → (reading : Reading ℕ S) (form : ErrorForm) (i : Input ℕ) (k : Kind) (j : Input ℕ)
-    → i.status.cut ≡ false → NewlineRuns spells reading form i (Err k) j
-    → AsciiMissing (10 ∷ []) i k j
-newline_err spells one reading form i k j whole ran =
-    character_missing (spells 10) 10 one reading form i k j whole ran

@@ -1,12 +1,11 @@
 -- What a caller knows of one run of a length and of what stands behind it, where it answered: for
 -- `length_take`, `length_and_then` and `length_repeat`.
-use Rattle.std.specs.Prelude.{◌≡◌, ℕ, Result, Ok, Err, IfOk, ◌⊎◌}
+use Rattle.std.specs.Prelude.{◌≡◌, Result, Ok, Err, IfOk, ◌⊎◌}
 use Rattle.std.proofs.Common.{refl, inl, inr}
 use Rattle.streams.specs.Input.{Input}
 use Rattle.streams.specs.Kind.{Kind}
 use Rattle.stream_errors.specs.Form.{Answer, answer_by}
 use Rattle.stream_errors.specs.Form.Known.{at_kind, ok_is_err}
-use Rattle.winnow_core.specs.Runs.{Runs}
 use Rattle.winnow_binary.specs.Length.{LengthRuns}
 
 -- the runs of LengthRuns, by what those of both relate
@@ -15,14 +14,6 @@ abbrev pub LengthCases : {T N O : Type 0} → (N → Input T → Type 0)
 LengthCases {T} {N} {O} Counted Then Failed Kept answer =
     ((n : N) × (a : Input T) × Counted n a × Then n a answer)
     ⊎ ((k : Kind) × Failed k × Kept × (answer ≡ Err k))
-
-pub length_cases : {S V T N O : Type 0} (number : N → ℕ) (count : Runs S T N)
-    (following : ℕ → Runs V T O) (s : S × V) (i : Input T) (answer : Answer O) (t : S × V)
-    (j : Input T) → LengthRuns number count following s i answer t j
-    → LengthCases (λ n a. count s.0 i (Ok n) t.0 a)
-    (λ n a x. following (number n) s.1 a x t.1 j) (λ k. count s.0 i (Err k) t.0 j)
-    (t.1 ≡ s.1) answer
-length_cases number count following s i answer t j ran = ran
 
 -- an output: the length was read, and what follows it answered
 pub length_ok : {T N O : Type 0} {Counted : N → Input T → Type 0}

@@ -1,11 +1,9 @@
 -- What a caller knows of one run of a child on a condition, where it answered.
-use Rattle.std.specs.Prelude.{Bool, true, false, ◌≡◌, Option, Some, None, Ok, Err, MatchOption, ◌⊎◌}
+use Rattle.std.specs.Prelude.{◌≡◌, Option, Some, None, Ok, Err, MatchOption, ◌⊎◌}
 use Rattle.std.proofs.Common.{refl, inl, inr}
-use Rattle.streams.specs.Input.{Input}
 use Rattle.streams.specs.Kind.{Kind}
 use Rattle.stream_errors.specs.Form.{Answer}
 use Rattle.stream_errors.specs.Form.Known.{at_kind, at_output, ok_is_err}
-use Rattle.winnow_core.specs.Runs.{Runs}
 use Rattle.winnow_comb.specs.Cond.{CondRuns}
 
 -- the runs of CondRuns, by what the child's relate: Holds and Fails are what is said of the
@@ -17,12 +15,6 @@ CondCases {O} Holds Ran Failed Fails SameState Stays Kept answer =
     ⊎ (((k : Kind) × Holds × Failed k × (answer ≡ Err k))
     ⊎ (Fails × (answer ≡ Ok None) × SameState × Stays)))
     × Kept
-
-pub cond_cases : {S T O : Type 0} (run : Runs S T O) (s : S × Bool) (i : Input T)
-    (answer : Answer (Option O)) (t : S × Bool) (j : Input T) → CondRuns run s i answer t j
-    → CondCases (s.1 ≡ true) (λ o. run s.0 i (Ok o) t.0 j) (λ k. run s.0 i (Err k) t.0 j)
-    (s.1 ≡ false) (t.0 ≡ s.0) (j ≡ i) (t.1 ≡ s.1) answer
-cond_cases run s i answer t j ran = ran
 
 -- an output: the condition holds, and the child succeeded with it; or none, where the condition
 -- does not hold, and nothing was run

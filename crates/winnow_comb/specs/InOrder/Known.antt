@@ -23,13 +23,6 @@ BothCases {T} {O1} {O2} output Ran1 Ran2 Failed1 Failed2 Kept2 answer =
     ⊎ (((l : Kind) × Failed1 l × Kept2 × (answer ≡ Err l))
     ⊎ ((o1 : O1) × (l : Kind) × (a : Input T) × Ran1 o1 a × Failed2 l a × (answer ≡ Err l)))
 
-pub both_cases : {S1 S2 T O1 O2 O : Type 0} (output : O1 → O2 → O) (run1 : Runs S1 T O1)
-    (run2 : Runs S2 T O2) (s : S1 × S2) (i : Input T) (answer : Answer O) (t : S1 × S2)
-    (j : Input T) → BothRuns output run1 run2 s i answer t j
-    → BothCases output (λ o a. run1 s.0 i (Ok o) t.0 a) (λ o a. run2 s.1 a (Ok o) t.1 j)
-    (λ k. run1 s.0 i (Err k) t.0 j) (λ k a. run2 s.1 a (Err k) t.1 j) (t.1 ≡ s.1) answer
-both_cases output run1 run2 s i answer t j ran = ran
-
 pub both_ok : {T O1 O2 O : Type 0} {output : O1 → O2 → O} {Ran1 : O1 → Input T → Type 0}
     {Ran2 : O2 → Input T → Type 0} {Failed1 : Kind → Type 0} {Failed2 : Kind → Input T → Type 0}
     {Kept2 : Type 0} (o : O) → BothCases output Ran1 Ran2 Failed1 Failed2 Kept2 (Ok o)
@@ -60,16 +53,6 @@ ThreeCases {T} {O1} {O2} {O3} output Ran1 Ran2 Ran3 Failed1 Failed2 Failed3 Kept
     × (answer ≡ Err l))
     ⊎ ((o1 : O1) × (o2 : O2) × (l : Kind) × (a : Input T) × (b : Input T) × Ran1 o1 a
     × Ran2 o2 a b × Failed3 l b × (answer ≡ Err l))))
-
-pub three_cases : {S1 S2 S3 T O1 O2 O3 O : Type 0} (output : O1 → O2 → O3 → O)
-    (run1 : Runs S1 T O1) (run2 : Runs S2 T O2) (run3 : Runs S3 T O3) (s : S1 × S2 × S3)
-    (i : Input T) (answer : Answer O) (t : S1 × S2 × S3) (j : Input T)
-    → ThreeRuns output run1 run2 run3 s i answer t j
-    → ThreeCases output (λ o a. run1 s.0 i (Ok o) t.0 a) (λ o a b. run2 s.1 a (Ok o) t.1 b)
-    (λ o b. run3 s.2 b (Ok o) t.2 j) (λ k. run1 s.0 i (Err k) t.0 j)
-    (λ k a. run2 s.1 a (Err k) t.1 j) (λ k b. run3 s.2 b (Err k) t.2 j) (t.1 ≡ s.1)
-    (t.2 ≡ s.2) answer
-three_cases output run1 run2 run3 s i answer t j ran = ran
 
 pub three_ok : {T O1 O2 O3 O : Type 0} {output : O1 → O2 → O3 → O}
     {Ran1 : O1 → Input T → Type 0} {Ran2 : O2 → Input T → Input T → Type 0}
@@ -225,19 +208,3 @@ three_reads {O = O} {known2 = known2} {known3 = known3} {shown1 = shown1} {shown
             )
       ];
     }
-
-pub three_leaves : {S1 S2 S3 T O1 O2 O3 O : Type 0} {output : O1 → O2 → O3 → O}
-    {run1 : Runs S1 T O1} {run2 : Runs S2 T O2} {run3 : Runs S3 T O3} {s : S1 × S2 × S3}
-    {before a b after : List T} → MustLeave run1 s.0 before a → MustLeave run2 s.1 a b
-    → MustLeave run3 s.2 b after → MustLeave (ThreeRuns output run1 run2 run3) s before after
-three_leaves must1 must2 must3 = record {
-  leaves = λ i o t j begins ran.
-      let (o1, o2, o3, a, b, r1, r2, r3, is) = three_ok o ran in
-      must3.leaves _ _ _ _ (must2.leaves _ _ _ _ (must1.leaves _ _ _ _ begins r1) r2) r3;
-  answers = λ i k t j begins ran. elim (three_err k ran) [
-    | inl (f, same2, same3) ↦ must1.answers _ _ _ _ begins f
-    | inr (inl (o1, a, r1, f, same3)) ↦ must2.answers _ _ _ _ (must1.leaves _ _ _ _ begins r1) f
-    | inr (inr (o1, o2, a, b, r1, r2, f))
-        ↦ must3.answers _ _ _ _ (must2.leaves _ _ _ _ (must1.leaves _ _ _ _ begins r1) r2) f
-  ];
-}

@@ -1,11 +1,10 @@
 -- What a caller knows of one run of a child that is not to succeed.
 use Rattle.std.specs.Prelude.{◌≡◌, ⊤, Ok, Err, ◌⊎◌}
 use Rattle.std.proofs.Common.{refl, inl, inr}
-use Rattle.streams.specs.Input.{Input, back_at}
+use Rattle.streams.specs.Input.{Input}
 use Rattle.streams.specs.Kind.{Kind, backtrack}
 use Rattle.stream_errors.specs.Form.{Answer}
 use Rattle.stream_errors.specs.Form.Known.{at_kind, ok_is_err, same_kind}
-use Rattle.winnow_core.specs.Runs.{Runs}
 use Rattle.winnow_comb.specs.Not.{NotRuns}
 
 -- the runs of NotRuns, by what the child's relate; Back is that the input is back at the start
@@ -15,12 +14,6 @@ NotCases {T} {O} Ran Backtracked Failed Back answer =
     ((o : O) × (m : Input T) × Ran o m × (answer ≡ Err backtrack) × Back m)
     ⊎ (((m : Input T) × Backtracked m × (answer ≡ Ok tt) × Back m)
     ⊎ ((k : Kind) × (m : Input T) × Failed k m × (k ≡ backtrack → ⊥) × (answer ≡ Err k) × Back m))
-
-pub not_cases : {S T O : Type 0} (run : Runs S T O) (s : S) (i : Input T) (answer : Answer ⊤)
-    (t : S) (j : Input T) → NotRuns run s i answer t j
-    → NotCases (λ o m. run s i (Ok o) t m) (λ m. run s i (Err backtrack) t m)
-    (λ k m. run s i (Err k) t m) (λ m. j ≡ back_at i.left m) answer
-not_cases run s i answer t j ran = ran
 
 -- it succeeded: the child backtracked
 pub not_ok : {T O : Type 0} {Ran : O → Input T → Type 0} {Backtracked : Input T → Type 0}

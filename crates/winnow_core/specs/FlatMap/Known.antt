@@ -6,7 +6,6 @@ use Rattle.streams.specs.Kind.{Kind}
 use Rattle.stream_errors.specs.Form.{Answer, answer_by}
 use Rattle.stream_errors.specs.Form.Known.{at_kind, ok_is_err}
 use Rattle.winnow_core.specs.FlatMap.{FlatMapRuns}
-use Rattle.winnow_core.specs.Runs.{Runs}
 
 -- the runs of FlatMapRuns, by what the child's, the closure's and those of the parser made relate
 abbrev pub FlatMapCases : {H T O U : Type 0} → (O → Input T → Type 0) → (O → H → Type 0)
@@ -14,16 +13,6 @@ abbrev pub FlatMapCases : {H T O U : Type 0} → (O → Input T → Type 0) → 
 FlatMapCases {H} {T} {O} {U} Ran Made Then Failed Kept answer =
     ((o : O) × (a : Input T) × (made : H) × Ran o a × Made o made × Then made a answer)
     ⊎ ((k : Kind) × Failed k × Kept × (answer ≡ Err k))
-
-pub flat_map_cases : {S G H V T O U : Type 0} (step : G → O → H → G → Type 0) (state : H → V)
-    (run : Runs S T O) (second : Runs V T U) (s : S × G) (i : Input T) (answer : Answer U)
-    (t : S × G) (j : Input T) → FlatMapRuns step state run second s i answer t j
-    → FlatMapCases (λ o a. run s.0 i (Ok o) t.0 a) (λ o made. step s.1 o made t.1)
-    (λ made a x. (v : V) × second (state made) a x v j) (λ k. run s.0 i (Err k) t.0 j)
-    (t.1 ≡ s.1) answer
-flat_map_cases step state run second s i answer t j (inl (o, a, made, v, r, called, q)) =
-    inl (o, a, made, r, called, (v, q))
-flat_map_cases step state run second s i answer t j (inr failed) = inr failed
 
 -- an output: the parser that was made of the child's answered it
 pub flat_map_ok : {H T O U : Type 0} {Ran : O → Input T → Type 0} {Made : O → H → Type 0}

@@ -2,12 +2,10 @@
 -- `context_with`, `complete_err`, `map_err` and `err_into`.
 use Rattle.std.specs.Prelude.{◌≡◌, Result, Ok, Err, IfOk, ◌⊎◌}
 use Rattle.std.proofs.Common.{refl, inl, inr}
-use Rattle.streams.specs.Input.{Input}
 use Rattle.streams.specs.Kind.{Kind}
 use Rattle.stream_errors.specs.Form.{Answer, answer_by}
 use Rattle.stream_errors.specs.Form.Known.{at_kind, at_output, ok_is_err}
 use Rattle.winnow_core.specs.MakesError.{MakesError}
-use Rattle.winnow_core.specs.Runs.{Runs}
 
 -- the runs of MakesError, by what the child's relate; Became is what a kind became
 abbrev pub MakesErrorCases : {O : Type 0} → (O → Type 0) → Type 0 → (Kind → Type 0)
@@ -15,13 +13,6 @@ abbrev pub MakesErrorCases : {O : Type 0} → (O → Type 0) → Type 0 → (Kin
 MakesErrorCases {O} Ran Kept Failed Became answer =
     ((o : O) × Ran o × Kept × (answer ≡ Ok o))
     ⊎ ((k : Kind) × (l : Kind) × Failed k × Became k l × (answer ≡ Err l))
-
-pub makes_error_cases : {S G T O : Type 0} (becomes : G → Kind → Kind → G → Type 0)
-    (run : Runs S T O) (s : S × G) (i : Input T) (answer : Answer O) (t : S × G) (j : Input T)
-    → MakesError becomes run s i answer t j
-    → MakesErrorCases (λ o. run s.0 i (Ok o) t.0 j) (t.1 ≡ s.1) (λ k. run s.0 i (Err k) t.0 j)
-    (λ k l. becomes s.1 k l t.1) answer
-makes_error_cases becomes run s i answer t j ran = ran
 
 -- an output: the child's
 pub makes_error_ok : {O : Type 0} {Ran : O → Type 0} {Kept : Type 0} {Failed : Kind → Type 0}

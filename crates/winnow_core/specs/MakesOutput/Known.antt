@@ -2,12 +2,10 @@
 -- `default_value`, `output_into`, `with_taken`, `span` and `with_span`.
 use Rattle.std.specs.Prelude.{◌≡◌, Result, Ok, Err, IfOk, ◌⊎◌}
 use Rattle.std.proofs.Common.{refl, inl, inr}
-use Rattle.streams.specs.Input.{Input}
 use Rattle.streams.specs.Kind.{Kind}
 use Rattle.stream_errors.specs.Form.{Answer, answer_by}
 use Rattle.stream_errors.specs.Form.Known.{at_kind, at_output, ok_is_err}
 use Rattle.winnow_core.specs.MakesOutput.{MakesOutput}
-use Rattle.winnow_core.specs.Runs.{Runs}
 
 -- the runs of MakesOutput, by what the child's relate; Made is what is made of an output
 abbrev pub MakesOutputCases : {O U : Type 0} → (O → Type 0) → (O → U → Type 0) → (Kind → Type 0)
@@ -15,13 +13,6 @@ abbrev pub MakesOutputCases : {O U : Type 0} → (O → Type 0) → (O → U →
 MakesOutputCases {O} {U} Ran Made Failed answer =
     ((o : O) × (u : U) × Ran o × Made o u × (answer ≡ Ok u))
     ⊎ ((k : Kind) × Failed k × (answer ≡ Err k))
-
-pub makes_output_cases : {S T O U : Type 0} (makes : Input T → O → Input T → U → Type 0)
-    (run : Runs S T O) (s : S) (i : Input T) (answer : Answer U) (t : S) (j : Input T)
-    → MakesOutput makes run s i answer t j
-    → MakesOutputCases (λ o. run s i (Ok o) t j) (λ o u. makes i o j u)
-    (λ k. run s i (Err k) t j) answer
-makes_output_cases makes run s i answer t j ran = ran
 
 -- an output: it was made of the child's
 pub makes_output_ok : {O U : Type 0} {Ran : O → Type 0} {Made : O → U → Type 0}

@@ -1,12 +1,10 @@
 -- What a caller knows of one run of a mapped output that answered.
 use Rattle.std.specs.Prelude.{◌≡◌, Result, Ok, Err, IfOk, ◌⊎◌}
 use Rattle.std.proofs.Common.{refl, inl, inr}
-use Rattle.streams.specs.Input.{Input}
 use Rattle.streams.specs.Kind.{Kind}
 use Rattle.stream_errors.specs.Form.{Answer, answer_by}
 use Rattle.stream_errors.specs.Form.Known.{at_kind, at_output, ok_is_err}
 use Rattle.winnow_core.specs.Map.{MapRuns}
-use Rattle.winnow_core.specs.Runs.{Runs}
 
 -- the runs of MapRuns, by what the child's and the closure's relate
 abbrev pub MapCases : {O U : Type 0} → (O → Type 0) → (O → U → Type 0) → (Kind → Type 0) → Type 0
@@ -14,13 +12,6 @@ abbrev pub MapCases : {O U : Type 0} → (O → Type 0) → (O → U → Type 0)
 MapCases {O} {U} Ran Called Failed Kept answer =
     ((o : O) × (u : U) × Ran o × Called o u × (answer ≡ Ok u))
     ⊎ ((k : Kind) × Failed k × Kept × (answer ≡ Err k))
-
-pub map_cases : {S G T O U : Type 0} (run : Runs S T O) (step : G → O → U → G → Type 0)
-    (s : S × G) (i : Input T) (answer : Answer U) (t : S × G) (j : Input T)
-    → MapRuns run step s i answer t j
-    → MapCases (λ o. run s.0 i (Ok o) t.0 j) (λ o u. step s.1 o u t.1)
-    (λ k. run s.0 i (Err k) t.0 j) (t.1 ≡ s.1) answer
-map_cases run step s i answer t j ran = ran
 
 -- an output: the closure made it of the child's
 pub map_ok : {O U : Type 0} {Ran : O → Type 0} {Called : O → U → Type 0} {Failed : Kind → Type 0}

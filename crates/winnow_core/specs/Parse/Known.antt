@@ -30,12 +30,6 @@ FaultCases {I} {T} {O} view units inner_kind start Failed Ran fault =
     ⊎ ((o : O) × (j : Input T) × Ran o j × (j.left.tokens ≡ [] → ⊥)
     × IsFaultAt view units inner_kind start j backtrack fault)
 
-pub fault_cases : {I T O X : Type 0} (view : I → Input T) (units : List T → ℕ)
-    (inner_kind : X → Kind) (start : Remaining T) (ran : Answer O → Input T → Type 0)
-    (fault : ParseFault I X Needed) → ParsesWhole view units inner_kind start ran (Err fault)
-    → FaultCases view units inner_kind start (λ k j. ran (Err k) j) (λ o j. ran (Ok o) j) fault
-fault_cases view units inner_kind start ran fault whole = whole
-
 -- A refusal: where the run left the input, and why.
 pub record ParseRefused {I T O X : Type 0} (view : I → Input T) (units : List T → ℕ)
     (inner_kind : X → Kind) (start : Remaining T) (Failed : Kind → Input T → Type 0)

@@ -5,12 +5,10 @@ use Rattle.std.specs.Prelude.{List}
 use Rattle.std.proofs.Common.{inl, inr}
 use Rattle.winnow_core.specs.Reads.{MustLeave}
 use Rattle.winnow_core.specs.Runs.{Runs}
-use Rattle.winnow_core.specs.Sequence.{SequenceRuns2, SequenceRuns3, SequenceRuns4, SequenceRuns5}
-use Rattle.winnow_core.specs.Sequence.{SequenceRuns6}
-use Rattle.winnow_core.specs.Sequence.Known.{sequence2_ok, sequence2_err, sequence3_ok}
-use Rattle.winnow_core.specs.Sequence.Known.{sequence3_err, sequence4_ok, sequence4_err}
-use Rattle.winnow_core.specs.Sequence.Known.{sequence5_ok, sequence5_err, sequence6_ok}
-use Rattle.winnow_core.specs.Sequence.Known.{sequence6_err}
+use Rattle.winnow_core.specs.Sequence.{SequenceRuns2, SequenceRuns4, SequenceRuns5}
+use Rattle.winnow_core.specs.Sequence.Known.{sequence2_ok, sequence2_err}
+use Rattle.winnow_core.specs.Sequence.Known.{sequence4_ok, sequence4_err}
+use Rattle.winnow_core.specs.Sequence.Known.{sequence5_ok, sequence5_err}
 
 -- two children
 pub sequence2_leaves : {S1 S2 T O1 O2 : Type 0} {run1 : Runs S1 T O1} {run2 : Runs S2 T O2}
@@ -23,23 +21,6 @@ sequence2_leaves must1 must2 = record {
   answers = λ i k t j begins ran. elim (sequence2_err k ran) [
     | inl (f, same2) ↦ must1.answers _ _ _ _ begins f
     | inr (o1, a, r1, f) ↦ must2.answers _ _ _ _ (must1.leaves _ _ _ _ begins r1) f
-  ];
-}
-
--- three children
-pub sequence3_leaves : {S1 S2 S3 T O1 O2 O3 : Type 0} {run1 : Runs S1 T O1}
-    {run2 : Runs S2 T O2} {run3 : Runs S3 T O3} {s : S1 × S2 × S3} {before a b after : List T}
-    → MustLeave run1 s.0 before a → MustLeave run2 s.1 a b → MustLeave run3 s.2 b after
-    → MustLeave (SequenceRuns3 run1 run2 run3) s before after
-sequence3_leaves must1 must2 must3 = record {
-  leaves = λ i o t j begins ran.
-      let (a, b, r1, r2, r3) = sequence3_ok o ran in
-      must3.leaves _ _ _ _ (must2.leaves _ _ _ _ (must1.leaves _ _ _ _ begins r1) r2) r3;
-  answers = λ i k t j begins ran. elim (sequence3_err k ran) [
-    | inl (f, same2, same3) ↦ must1.answers _ _ _ _ begins f
-    | inr (inl (o1, a, r1, f, same3)) ↦ must2.answers _ _ _ _ (must1.leaves _ _ _ _ begins r1) f
-    | inr (inr (o1, o2, a, b, r1, r2, f))
-        ↦ must3.answers _ _ _ _ (must2.leaves _ _ _ _ (must1.leaves _ _ _ _ begins r1) r2) f
   ];
 }
 
@@ -95,43 +76,5 @@ sequence5_leaves must1 must2 must3 must4 must5 = record {
         (must4.leaves _ _ _ _
         (must3.leaves _ _ _ _ (must2.leaves _ _ _ _ (must1.leaves _ _ _ _ begins r1) r2) r3)
         r4) f
-  ];
-}
-
--- six children
-pub sequence6_leaves : {S1 S2 S3 S4 S5 S6 T O1 O2 O3 O4 O5 O6 : Type 0} {run1 : Runs S1 T O1}
-    {run2 : Runs S2 T O2} {run3 : Runs S3 T O3} {run4 : Runs S4 T O4} {run5 : Runs S5 T O5}
-    {run6 : Runs S6 T O6} {s : S1 × S2 × S3 × S4 × S5 × S6} {before a b c d e after : List T}
-    → MustLeave run1 s.0 before a → MustLeave run2 s.1 a b → MustLeave run3 s.2 b c
-    → MustLeave run4 s.3 c d → MustLeave run5 s.4 d e → MustLeave run6 s.5 e after
-    → MustLeave (SequenceRuns6 run1 run2 run3 run4 run5 run6) s before after
-sequence6_leaves must1 must2 must3 must4 must5 must6 = record {
-  leaves = λ i o t j begins ran.
-      let (a, b, c, d, e, r1, r2, r3, r4, r5, r6) = sequence6_ok o ran in
-      must6.leaves _ _ _ _
-      (must5.leaves _ _ _ _
-      (must4.leaves _ _ _ _
-      (must3.leaves _ _ _ _ (must2.leaves _ _ _ _ (must1.leaves _ _ _ _ begins r1) r2)
-      r3) r4) r5) r6;
-  answers = λ i k t j begins ran. elim (sequence6_err k ran) [
-    | inl (f, same2, same3, same4, same5, same6) ↦ must1.answers _ _ _ _ begins f
-    | inr (inl (o1, a, r1, f, same3, same4, same5, same6))
-        ↦ must2.answers _ _ _ _ (must1.leaves _ _ _ _ begins r1) f
-    | inr (inr (inl (o1, o2, a, b, r1, r2, f, same4, same5, same6)))
-        ↦ must3.answers _ _ _ _ (must2.leaves _ _ _ _ (must1.leaves _ _ _ _ begins r1) r2) f
-    | inr (inr (inr (inl (o1, o2, o3, a, b, c, r1, r2, r3, f, same5, same6))))
-        ↦ must4.answers _ _ _ _
-        (must3.leaves _ _ _ _ (must2.leaves _ _ _ _ (must1.leaves _ _ _ _ begins r1) r2) r3) f
-    | inr (inr (inr (inr (inl (o1, o2, o3, o4, a, b, c, d, r1, r2, r3, r4, f, same6)))))
-        ↦ must5.answers _ _ _ _
-        (must4.leaves _ _ _ _
-        (must3.leaves _ _ _ _ (must2.leaves _ _ _ _ (must1.leaves _ _ _ _ begins r1) r2) r3)
-        r4) f
-    | inr (inr (inr (inr (inr (o1, o2, o3, o4, o5, a, b, c, d, e, r1, r2, r3, r4, r5, f)))))
-        ↦ must6.answers _ _ _ _
-        (must5.leaves _ _ _ _
-        (must4.leaves _ _ _ _
-        (must3.leaves _ _ _ _ (must2.leaves _ _ _ _ (must1.leaves _ _ _ _ begins r1) r2)
-        r3) r4) r5) f
   ];
 }

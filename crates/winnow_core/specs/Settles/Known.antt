@@ -2,11 +2,10 @@
 -- `parse_to`, `try_map` and `and_then`.
 use Rattle.std.specs.Prelude.{◌≡◌, Result, Ok, Err, IfOk, ◌⊎◌}
 use Rattle.std.proofs.Common.{refl, inl, inr}
-use Rattle.streams.specs.Input.{Input, back_at}
+use Rattle.streams.specs.Input.{Input}
 use Rattle.streams.specs.Kind.{Kind}
 use Rattle.stream_errors.specs.Form.{Answer, answer_by}
 use Rattle.stream_errors.specs.Form.Known.{at_kind, at_output, ok_is_err}
-use Rattle.winnow_core.specs.Runs.{Runs}
 use Rattle.winnow_core.specs.Settles.{Settles}
 
 -- the runs of Settles, by what the child's relate; Accepted and Refused are how an output was
@@ -19,15 +18,6 @@ SettlesCases {T} {O} {U} Ran RanTo Accepted Refused Back Failed Kept answer =
     ⊎ (((o : O) × (k : Kind) × (a : Input T) × RanTo o a × Refused o k × (answer ≡ Err k)
     × Back a)
     ⊎ ((k : Kind) × Failed k × Kept × (answer ≡ Err k)))
-
-pub settles_cases : {S G T O U : Type 0} (settle : G → O → Answer U → G → Type 0)
-    (run : Runs S T O) (s : S × G) (i : Input T) (answer : Answer U) (t : S × G) (j : Input T)
-    → Settles settle run s i answer t j
-    → SettlesCases (λ o. run s.0 i (Ok o) t.0 j) (λ o a. run s.0 i (Ok o) t.0 a)
-    (λ o u. settle s.1 o (Ok u) t.1) (λ o k. settle s.1 o (Err k) t.1)
-    (λ a. j ≡ back_at i.left a) (λ k. run s.0 i (Err k) t.0 j)
-    (t.1 ≡ s.1) answer
-settles_cases settle run s i answer t j ran = ran
 
 -- an output: the child's was settled into it
 pub settles_ok : {T O U : Type 0} {Ran : O → Type 0} {RanTo : O → Input T → Type 0}

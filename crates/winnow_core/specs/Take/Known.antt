@@ -1,12 +1,9 @@
 -- What a caller knows of one run that answers the slice which a parser read.
-use Rattle.std.specs.Prelude.{◌≡◌, List, ◌++◌, Ok, Err, ◌⊎◌}
+use Rattle.std.specs.Prelude.{◌≡◌, List, Ok, Err, ◌⊎◌}
 use Rattle.std.proofs.Common.{refl, inl, inr}
-use Rattle.streams.specs.Input.{Input}
 use Rattle.streams.specs.Kind.{Kind}
-use Rattle.streams.specs.Reading.{Reading}
 use Rattle.stream_errors.specs.Form.{Answer}
 use Rattle.stream_errors.specs.Form.Known.{at_kind, at_output, ok_is_err}
-use Rattle.winnow_core.specs.Runs.{Runs}
 use Rattle.winnow_core.specs.Take.{TakeRuns}
 
 -- the runs of TakeRuns, by what the child's relate; Read is that these tokens stand between its
@@ -17,12 +14,6 @@ TakeCases {T} {L} {O} Ran Read Shows Failed answer =
     ((o : O) × (front : List T) × (slice : L) × Ran o × Read front × Shows slice front
     × (answer ≡ Ok slice))
     ⊎ ((k : Kind) × Failed k × (answer ≡ Err k))
-
-pub take_cases : {S T L O : Type 0} (reading : Reading T L) (run : Runs S T O) (s : S)
-    (i : Input T) (answer : Answer L) (t : S) (j : Input T) → TakeRuns reading run s i answer t j
-    → TakeCases (λ o. run s i (Ok o) t j) (λ front. i.left.tokens ≡ front ++ j.left.tokens)
-    (λ slice front. reading.shows slice front) (λ k. run s i (Err k) t j) answer
-take_cases reading run s i answer t j ran = ran
 
 -- a slice: the child succeeded, and it shows the tokens between its start and its end
 pub take_ok : {T L O : Type 0} {Ran : O → Type 0} {Read : List T → Type 0}

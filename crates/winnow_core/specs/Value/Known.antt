@@ -1,11 +1,9 @@
 -- What a caller knows of one run that answers a value.
 use Rattle.std.specs.Prelude.{◌≡◌, Result, Ok, Err, IfOk, ◌⊎◌}
 use Rattle.std.proofs.Common.{refl, inl, inr}
-use Rattle.streams.specs.Input.{Input}
 use Rattle.streams.specs.Kind.{Kind, memory}
 use Rattle.stream_errors.specs.Form.{Answer, answer_by}
 use Rattle.stream_errors.specs.Form.Known.{at_kind, at_output, ok_is_err, same_kind}
-use Rattle.winnow_core.specs.Runs.{Runs}
 use Rattle.winnow_core.specs.Value.{ValueRuns}
 
 -- the runs of ValueRuns, by what the child's relate; Cloned is that this is a clone of the value,
@@ -16,13 +14,6 @@ ValueCases {O} {U} Ran Cloned Refused Failed Kept answer =
     ((o : O) × (u : U) × Ran o × Kept × Cloned u × (answer ≡ Ok u))
     ⊎ (((o : O) × Ran o × Kept × Refused × (answer ≡ Err memory))
     ⊎ ((k : Kind) × Failed k × Kept × (answer ≡ Err k)))
-
-pub value_cases : {S T O U : Type 0} (IsClone : U → U → Type 0) (ClonesAlways : U → Type 0)
-    (run : Runs S T O) (s : S × U) (i : Input T) (answer : Answer U) (t : S × U) (j : Input T)
-    → ValueRuns IsClone ClonesAlways run s i answer t j
-    → ValueCases (λ o. run s.0 i (Ok o) t.0 j) (λ u. IsClone s.1 u) (¬ (ClonesAlways s.1))
-    (λ k. run s.0 i (Err k) t.0 j) (t.1 ≡ s.1) answer
-value_cases IsClone ClonesAlways run s i answer t j ran = ran
 
 -- an output: a clone of the value, where the child succeeded
 pub value_ok : {O U : Type 0} {Ran : O → Type 0} {Cloned : U → Type 0} {Refused : Type 0}

@@ -1,11 +1,10 @@
 -- What a caller knows of one run of an output that may be refused, where it answered.
-use Rattle.std.specs.Prelude.{◌≡◌, Option, Some, None, Result, Ok, Err, IfOk, ◌⊎◌}
+use Rattle.std.specs.Prelude.{◌≡◌, Result, Ok, Err, IfOk, ◌⊎◌}
 use Rattle.std.proofs.Common.{refl, inl, inr}
-use Rattle.streams.specs.Input.{Input, back_at}
+use Rattle.streams.specs.Input.{Input}
 use Rattle.streams.specs.Kind.{Kind, backtrack}
 use Rattle.stream_errors.specs.Form.{Answer, answer_by}
 use Rattle.stream_errors.specs.Form.Known.{at_kind, at_output, ok_is_err, same_kind}
-use Rattle.winnow_core.specs.Runs.{Runs}
 use Rattle.winnow_core.specs.VerifyMap.{VerifyMapRuns}
 
 -- the runs of VerifyMapRuns, by what the child's and the closure's relate; Back is that the input
@@ -17,14 +16,6 @@ VerifyMapCases {T} {O} {U} Ran Gave RanTo Refused Back Failed Kept answer =
     ((o : O) × (u : U) × Ran o × Gave o u × (answer ≡ Ok u))
     ⊎ (((o : O) × (a : Input T) × RanTo o a × Refused o × (answer ≡ Err backtrack) × Back a)
     ⊎ ((k : Kind) × Failed k × Kept × (answer ≡ Err k)))
-
-pub verify_map_cases : {S G T O U : Type 0} (run : Runs S T O)
-    (step : G → O → Option U → G → Type 0) (s : S × G) (i : Input T) (answer : Answer U)
-    (t : S × G) (j : Input T) → VerifyMapRuns run step s i answer t j
-    → VerifyMapCases (λ o. run s.0 i (Ok o) t.0 j) (λ o u. step s.1 o (Some u) t.1)
-    (λ o a. run s.0 i (Ok o) t.0 a) (λ o. step s.1 o None t.1) (λ a. j ≡ back_at i.left a)
-    (λ k. run s.0 i (Err k) t.0 j) (t.1 ≡ s.1) answer
-verify_map_cases run step s i answer t j ran = ran
 
 -- an output: the closure made it of the child's
 pub verify_map_ok : {T O U : Type 0} {Ran : O → Type 0} {Gave : O → U → Type 0}

@@ -1,22 +1,15 @@
 -- What a caller knows of one run of an output that is dropped, where it answered.
 use Rattle.std.specs.Prelude.{◌≡◌, Result, Ok, Err, IfOk, ◌⊎◌}
 use Rattle.std.proofs.Common.{refl, inl, inr}
-use Rattle.streams.specs.Input.{Input}
 use Rattle.streams.specs.Kind.{Kind}
 use Rattle.stream_errors.specs.Form.{Answer, answer_by}
 use Rattle.stream_errors.specs.Form.Known.{at_kind, ok_is_err}
-use Rattle.winnow_core.specs.Runs.{Runs}
 use Rattle.winnow_core.specs.Void.{VoidRuns}
 
 -- the runs of VoidRuns, by what the child's relate
 abbrev pub VoidCases : {O : Type 0} → (O → Type 0) → (Kind → Type 0) → Answer (Unit {0}) → Type 0
 VoidCases {O} Ran Failed answer =
     ((o : O) × Ran o × (answer ≡ Ok tt)) ⊎ ((k : Kind) × Failed k × (answer ≡ Err k))
-
-pub void_cases : {S T O : Type 0} (run : Runs S T O) (s : S) (i : Input T)
-    (answer : Answer (Unit {0})) (t : S) (j : Input T) → VoidRuns run s i answer t j
-    → VoidCases (λ o. run s i (Ok o) t j) (λ k. run s i (Err k) t j) answer
-void_cases run s i answer t j ran = ran
 
 -- it succeeded: the child did
 pub void_ok : {O : Type 0} {Ran : O → Type 0} {Failed : Kind → Type 0} (u : Unit {0})

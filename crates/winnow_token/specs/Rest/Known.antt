@@ -1,10 +1,9 @@
 -- What a caller knows of one run of the parser of all that is left.
-use Rattle.std.specs.Prelude.{◌≡◌, ℕ, [], Ok, Err}
+use Rattle.std.specs.Prelude.{◌≡◌, ℕ, [], Ok}
 use Rattle.std.proofs.Common.{refl, sym, subst}
 use Rattle.streams.specs.Input.{Input, Takes}
-use Rattle.streams.specs.Kind.{Kind}
 use Rattle.streams.specs.Reading.{Reading}
-use Rattle.stream_errors.specs.Form.Known.{ok_is_err, same_ok}
+use Rattle.stream_errors.specs.Form.Known.{same_ok}
 use Rattle.winnow_token.specs.Rest.{RestLenRuns, RestRuns}
 
 -- the slice shows all that was left, and nothing is
@@ -14,11 +13,6 @@ pub rest_ok : {T S : Type 0} (reading : Reading T S) (i : Input T) (slice : S) (
 rest_ok reading i slice j (x, takes, nothing, e) =
     let P : _ → Type 0 = λ y. Takes reading i.left.tokens i y j in
     (subst P (sym (same_ok refl e)) takes, nothing)
-
--- it never fails
-pub rest_err : {T S P : Type 0} (reading : Reading T S) (i : Input T) (k : Kind) (j : Input T)
-    → RestRuns reading i (Err k) j → P
-rest_err reading i k j (x, takes, nothing, e) = ok_is_err e refl
 
 -- the number of units that are left, and the input stays
 pub rest_len_ok : {T S : Type 0} (reading : Reading T S) (i : Input T) (n : ℕ) (j : Input T)

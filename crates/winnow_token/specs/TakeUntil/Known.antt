@@ -13,9 +13,8 @@ use Rattle.streams.specs.Reading.{Reading}
 use Rattle.stream_searches.specs.FindSlice.{IsFirstMatch, Stands}
 use Rattle.stream_sets.specs.Range.{bounds_of, from_to, greatest_of, greatest_of-few}
 use Rattle.stream_sets.specs.declared.range.Range.{Range}
-use Rattle.stream_errors.specs.Form.{Answer, ErrorForm}
+use Rattle.stream_errors.specs.Form.{ErrorForm}
 use Rattle.stream_errors.specs.Form.Known.{ok_is_err, same_err, same_ok}
-use Rattle.winnow_core.specs.Reads.{MustLeave, Reads}
 use Rattle.winnow_core.specs.Runs.{Keeps, Runs}
 use Rattle.winnow_core.specs.Short.Known.{short_whole}
 use Rattle.winnow_token.specs.TakeUntil.{TakeUntilRuns}
@@ -234,24 +233,6 @@ none_is_mark mark sought taken rest is first =
     before_all counted_reading (λ xs. xs ≡ sought ∷ []) (λ t. t ≡ mark → ⊥) taken rest
     (λ t other e. other (ap (λ x. x ∷ []) (e ∙ sym is))) first
 
--- it reads its slice, which has no mark, and enough tokens
-pub before_reads : {T : Type 0} (form : ErrorForm) (range : Range) (mark : T)
-    → Reads (BeforeToken form) (λ x. (x.0 ≡ range) × (x.1 ≡ mark)) (λ slice. slice.now)
-    (λ slice. All (λ t. t ≡ mark → ⊥) slice.now × (range.start_inclusive ≤ length slice.now))
-before_reads form range mark = record {
-  reads = λ x i slice y j is ran.
-      let took = took_before_by counted_reading form (λ xs. xs ≡ x.1 ∷ []) x.0
-      range.start_inclusive range.end_inclusive i slice j is.0 ran.0 in
-      let P : List _ → Type 0 = λ l. (i.left.tokens ≡ l ++ j.left.tokens)
-      × (All (λ t. t ≡ mark → ⊥) l × (range.start_inclusive ≤ length l)) in
-      subst P (sym took.takes.shown) (
-        took.takes.passed.tokens,
-        (none_is_mark mark x.1 took.taken j.left.tokens is.1 took.first, took.enough),
-      );
-  again = λ x i answer y j is ran.
-      (ap (λ z. z.0) ran.1 ∙ is.0, ap (λ z. z.1) ran.1 ∙ is.1);
-}
-
 -- tokens without the mark, before one, are what stands before the first
 same_before : {T : Type 0} (mark : T) (front rest taken left more : List T)
     → All (λ t. t ≡ mark → ⊥) front → All (λ t. t ≡ mark → ⊥) taken → left ≡ mark ∷ more
@@ -259,62 +240,3 @@ same_before : {T : Type 0} (mark : T) (front rest taken left more : List T)
 same_before mark front rest taken left more all all_taken is same =
     same_front (λ t. t ≡ mark → ⊥) front taken mark rest left all (λ h. h refl) all_taken
     (λ y others e other. other (same_first (sym e ∙ is))) same
-
--- where the mark follows enough tokens that are none, it is left, if the range has no greatest
--- number
-pub before_leaves : {T : Type 0} (form : ErrorForm) (range : Range) (mark : T) (s : Range × T)
-    (front rest : List T) → (bounds_of range).greatest ≡ None → s.0 ≡ range → s.1 ≡ mark
-    → All (λ t. t ≡ mark → ⊥) front → range.start_inclusive ≤ length front
-    → MustLeave (BeforeToken form) s (front ++ mark ∷ rest) (mark ∷ rest)
-before_leaves {T} form range mark s front rest unlimited is_range is_mark all enough = record {
-  leaves = λ i slice t j begins ran.
-      let took = took_before counted_reading form sought range.start_inclusive None i slice j
-      (as_known i (Ok slice) j ran.0) in
-      let left = took.left ∙ ap (λ l. l ++ took.rest) (took.is ∙ ap (λ x. x ∷ []) is_mark) in
-      let same = same_before mark front rest took.taken j.left.tokens took.rest all
-      (none_is_mark mark s.1 took.taken j.left.tokens is_mark took.first) left
-      (sym begins ∙ took.takes.passed.tokens) in
-      let P : List T → Type 0 = λ l. i.left.tokens ≡ l ++ j.left.tokens in
-      same_rest front _ _ (sym (subst P (sym same) took.takes.passed.tokens) ∙ begins);
-  answers = λ i k t j begins ran. fails i k j begins (as_known i (Err k) j ran.0);
-}
-  where
-    sought : List T → Type 0
-    sought = λ xs. xs ≡ s.1 ∷ []
-
-    as_known : (i : Input T) (answer : Answer (Bor (List T))) (j : Input T)
-        → TakeUntilRuns counted_reading form sought (bounds_of s.0) i answer j
-        → TakeUntilRuns counted_reading form sought (from_to range.start_inclusive None) i answer j
-    as_known i answer j ran =
-        let P : Range → Type 0 =
-        λ r. TakeUntilRuns counted_reading form sought (bounds_of r) i answer j in
-        let Q : Option ℕ → Type 0 =
-        λ g. TakeUntilRuns counted_reading form sought (from_to range.start_inclusive g) i
-        answer j in
-        subst Q unlimited (subst P is_range ran)
-
-    fails : (i : Input T) (k : Kind) (j : Input T) → i.left.tokens ≡ front ++ mark ∷ rest
-        → TakeUntilRuns counted_reading form sought (from_to range.start_inclusive None) i
-        (Err k) j → ⊥
-    fails i k j begins (inl (most, is, below, e, same)) = none_is_some is
-    fails i k j begins (inr (inl (k', within, nowhere, kind, e, same))) =
-        nowhere front (mark ∷ []) rest
-        (record { splits = begins; is = ap (λ x. x ∷ []) (sym is_mark) })
-    fails i k j begins (inr (inr (inl (start, end, m, slice, enough', within, takes, e)))) =
-        ok_is_err e refl
-    fails i k j begins (inr (inr (inr (inl (start, end, m, k', within, few, why, e, same))))) =
-        let P : List T → Type 0 = λ l. All (λ t. t ≡ mark → ⊥) l in
-        let first : (other hit behind : List T)
-        → Stands sought (m.front ++ (m.found ++ m.rest)) other hit behind
-        → length m.front ≤ length other =
-        λ other hit behind h.
-        let N : ℕ → Type 0 = λ n. n ≤ length other in
-        let Q : List T → Type 0 = λ l. Stands sought l other hit behind in
-        subst N m.starts (m.least other hit behind (subst Q (sym m.stands.splits) h)) in
-        let front_is = same_before mark front rest m.front (m.found ++ m.rest) m.rest all
-        (none_is_mark mark s.1 m.front (m.found ++ m.rest) is_mark first)
-        (ap (λ l. l ++ m.rest) (m.stands.is ∙ ap (λ x. x ∷ []) is_mark))
-        (sym begins ∙ m.stands.splits) in
-        absurd (omega (arith, few, enough, ap (λ l. length l) front_is))
-    fails i k j begins (inr (inr (inr (inr (start, end, m, most, is, le, many, e, same))))) =
-        none_is_some is

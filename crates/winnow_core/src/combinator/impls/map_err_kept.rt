@@ -1,8 +1,12 @@
 //! Errors made of errors of their kind by a closure.
 ghost use Rattle.std.specs.Prelude.{◌≡◌};
-ghost use Rattle.winnow_core.specs.Agrees.{agrees1};
-ghost use Rattle.winnow_core.specs.MapErrKept.{KeepsEachKind, MapErrKeptRuns};
-ghost use Rattle.winnow_core.specs.MapErrKept.{map_err_kept_closure, map_err_kept_parser};
+ghost use Rattle.stream_errors.specs.Form.{modal};
+ghost use Rattle.winnow_core.specs.Agrees.{agrees_with};
+ghost use Rattle.winnow_core.specs.MakesError.Laws.{makes_error_ends, makes_error_grows};
+ghost use Rattle.winnow_core.specs.MapErrKept.{KeepsEachKind, MapErrKeptBecomes, MapErrKeptRuns};
+ghost use Rattle.winnow_core.specs.MapErrKept.{map_err_kept_closure, map_err_kept_keeps};
+ghost use Rattle.winnow_core.specs.MapErrKept.{map_err_kept_parser};
+ghost use Rattle.winnow_core.specs.Stable.Grows.{grows, stays};
 
 use crate::agrees_with::AgreesWith;
 use crate::parser::Parser;
@@ -53,13 +57,14 @@ impl<
     ghost can_parse = { λ s. F.can_parse s.parser × G.IsAlwaysCallable s.map
         × KeepsEachKind E.kind E2.kind G.step × (E.form ≡ E2.form) };
 
-    ghost State = { F.State };
+    ghost State = { F.State × G };
 
-    ghost state = { λ s. F.state s.parser };
+    ghost state = { λ s. (F.state s.parser, s.map) };
 
-    ghost meaning = { λ form. MapErrKeptRuns (F.meaning form) };
+    ghost meaning = { λ form. MapErrKeptRuns E.kind E2.kind G.step (F.meaning form) };
 
-    ghost leaves_ends = { F.leaves_ends };
+    ghost leaves_ends = { λ form. makes_error_ends I.reading
+        (MapErrKeptBecomes E.kind E2.kind G.step) (F.meaning form) (F.leaves_ends form) };
 
     #[inline]
     fn parse_next(&mut self, input: &mut I) -> Result<O, E2> {
@@ -78,7 +83,8 @@ impl<
     E: ParserError<I>,
     E2: ParserError<I>,
 > Stable<I, O, E2> for MapErrKept<F, G, I, O, E, E2> {
-    ghost stable = { F.stable };
+    ghost stable = { stays (makes_error_grows (MapErrKeptBecomes E.kind E2.kind G.step)
+        (map_err_kept_keeps E.kind E2.kind G.step) (grows (F.leaves_ends modal) F.stable)) };
 
     fn stay() {}
 }
@@ -93,9 +99,10 @@ impl<
     E: ParserError<I> + ParserError<J>,
     E2: ParserError<I> + ParserError<J>,
 > AgreesWith<I, O, E2, MapErrKept<Q, G, J, O, E, E2>, J, E2> for MapErrKept<P, G, I, O, E, E2> {
-    ghost like = { λ p q. P.like p.parser q.parser };
+    ghost like = { λ p q. P.like p.parser q.parser × (p.map ≡ q.map) };
 
-    ghost agrees = { agrees1 (λ p. p.parser) (λ q. q.parser) (λ X m. m) P.agrees };
+    ghost agrees = { agrees_with (λ p. p.parser) (λ q. q.parser) (λ p. p.map) (λ q. q.map)
+        (λ X m form. MapErrKeptRuns E.kind E2.kind G.step (m form)) P.agrees };
 
     fn agree() {}
 }
