@@ -1,5 +1,5 @@
 -- Runs in which no fold refuses: those that fail exclude each tree.
-use Rattle.std.specs.Prelude.{◌≡◌, ℤ, Bool, Ok, Err, IsOk}
+use Rattle.std.specs.Prelude.{◌≡◌, ◌⊎◌, ℤ, Bool, Ok, Err, IsOk}
 use Rattle.std.proofs.Common.{inl, inr}
 use Rattle.stream_errors.specs.Form.{Answer}
 use Rattle.streams.specs.Input.{Input}
@@ -17,12 +17,12 @@ use Rattle.winnow_expression.specs.declared.combinator.places.Next.TheVariants.{
 use Rattle.winnow_expression.specs.declared.combinator.places.Next.TheVariants.{Infix as infix_read}
 use Rattle.winnow_expression_trees.specs.Accepting.{accepting}
 use Rattle.winnow_expression_trees.specs.Alike.{AlikeFirst, AlikeNext}
-use Rattle.winnow_expression_trees.specs.Failure.{RefusedBy}
+use Rattle.winnow_expression_trees.specs.Failure.{EndedBy, RefusedBy, Unmoved}
 use Rattle.winnow_expression_trees.specs.OneTree.{KeepsOver}
 use Rattle.winnow_expression_trees.specs.Premises.{FoldAlike, FoldsAlike, Same}
 use Rattle.winnow_expression_trees.specs.Tree.{Tree}
 use Rattle.winnow_expression_trees.proofs.Plain.{Plain}
-use Rattle.winnow_expression_trees.proofs.Total.{tree_refuses}
+use Rattle.winnow_expression_trees.proofs.Total.{run_fails, tree_refuses}
 
 abbrev Gives : {T V F : Type 0} → (F → Input T → V → Answer V → Input T → Type 0) → F → Input T → V
     → Answer V → Input T → Type 0
@@ -114,15 +114,19 @@ module _ {S W T V F G H : Type 0} (g : Grammar S W T V F G H) (alike : V → V �
     neither_moves = pr.neither_moves;
   }
 
-  no_refusal : (i : Input T) (k : Kind) (j : Input T) → RefusedBy (accepting g) s0 i k j → ⊥
-  no_refusal i k j (inl (z, m, n, p, f, r, all, v, comes, read, over, keeps, value, folds)) =
+  no_refusal : (level : ℤ) (i : Input T) (k : Kind) (j : Input T)
+      → RefusedBy (accepting g) s0 level i k j → ⊥
+  no_refusal level i k j
+      (inl (m, z, x, n, p, f, r, all, v, begins, read, over, keeps, value, folds)) =
       no_error V k folds.1
-  no_refusal i k j (inr (inl (z, m, n, p, f, l, v, comes, over, read, value, folds))) =
+  no_refusal level i k j
+      (inr (inl (m, z, x, n, p, f, l, v, begins, over, takes, read, value, folds))) =
       no_error V k folds.1
-  no_refusal i k j
+  no_refusal level i k j
       (inr (inr (
-        z,
         m,
+        z,
+        x,
         n,
         y,
         o,
@@ -131,8 +135,9 @@ module _ {S W T V F G H : Type 0} (g : Grammar S W T V F G H) (alike : V → V �
         all,
         v,
         w,
-        comes,
+        begins,
         over,
+        takes,
         read,
         more,
         keeps,
@@ -147,5 +152,16 @@ module _ {S W T V F G H : Type 0} (g : Grammar S W T V F G H) (alike : V → V �
       → ExpressionRuns (accepting g) level s0 i (Err k) t j → (k ≡ memory → ⊥) → (r : Tree V F G H)
       (n : Input T) (all : Bool) → KeepsOver g s0 level i r n all → ⊥
   failure_excludes level i k t j runs other r n all keeps =
-      no_refusal i k j
+      no_refusal level i k j
       (tree_refuses (accepting g) alike s0 plain_accepting level i k t j runs other r n all keeps)
+
+  -- and it is the answer that ended the reading, or an operator was read that consumes nothing
+  pub failure_ended : (level : ℤ) (i : Input T) (k : Kind) (t : S × W) (j : Input T)
+      → ExpressionRuns (accepting g) level s0 i (Err k) t j → (k ≡ memory → ⊥)
+      → EndedBy g s0 i k j ⊎ Unmoved g s0 i
+  failure_ended level i k t j runs other =
+      elim (run_fails (accepting g) alike s0 plain_accepting level i k t j runs other) [
+        | inl ended ↦ inl ended
+        | inr (inl refused) ↦ absurd (no_refusal level i k j refused)
+        | inr (inr unmoved) ↦ inr unmoved
+      ]

@@ -102,7 +102,8 @@ complete first next m t i j b over keeps =
     over keeps.reads keeps.ends
 
 -- soundness
-above_later : {V F G H P : Type 0} (av : V → V → Type 0) (af : F → F → Type 0) (ag : G → G → Type 0)
+pub above_later : {V F G H P : Type 0} (av : V → V → Type 0) (af : F → F → Type 0)
+    (ag : G → G → Type 0)
     (ah : H → H → Type 0) (first : P → First V F → P → Type 0) (next : P → Next G H → P → Type 0)
     → Decided av af ag ah first next → (p : ℤ) (r : Tree V F G H) (i k n : P) (x y : Next G H)
     → next i x k → Ends p r x → next i y n

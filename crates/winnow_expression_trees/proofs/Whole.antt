@@ -88,10 +88,11 @@ module _ {S W T V F G H : Type 0} (g : Grammar S W T V F G H) (alike : V → V �
         absurd (err_is e);
     keeps = λ w e. absurd (err_is e);
     fails = λ l e other.
-        subst (λ z. FailsBy g s0 i z j) (same_kind e) (run_fails g alike s0 pr level i k t j runs
+        subst (λ z. FailsBy g s0 level i z j) (same_kind e)
+        (run_fails g alike s0 pr level i k t j runs
         other);
     refuses = λ l e other u n b keeps.
-        subst (λ z. RefusedBy g s0 i z j) (same_kind e)
+        subst (λ z. RefusedBy g s0 level i z j) (same_kind e)
         (tree_refuses g alike s0 pr level i k t j runs other u n b keeps);
   }
 
@@ -99,7 +100,7 @@ module _ {S W T V F G H : Type 0} (g : Grammar S W T V F G H) (alike : V → V �
 -- failure has the kind and the rest of the answer that ended the reading.
 pub expression_fails : {S W T V F G H : Type 0} (g : Grammar S W T V F G H) (alike : V → V → Type 0)
     (s : S × W) (level : ℤ) (i : Input T) (k : Kind) (t : S × W) (j : Input T)
-    → IsExact g alike s level i (Err k) t j → (k ≡ memory → ⊥) → (RefusedBy g s i k j → ⊥)
+    → IsExact g alike s level i (Err k) t j → (k ≡ memory → ⊥) → (RefusedBy g s level i k j → ⊥)
     → (Unmoved g s i → ⊥) → EndedBy g s i k j
 expression_fails g alike s level i k t j exact other accepts moves =
     elim (exact.fails k refl other) [

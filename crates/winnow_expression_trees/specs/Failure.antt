@@ -1,14 +1,14 @@
 -- Where failures come from.
-use Rattle.std.specs.Prelude.{◌≡◌, ◌⊎◌, ℤ, Bool, true, false, Some, Ok, Err}
+use Rattle.std.specs.Prelude.{◌≡◌, ◌⊎◌, ◌≤ℤ◌, ℤ, Bool, true, false, Some, Ok, Err}
 use Rattle.streams.specs.Input.{Input}
 use Rattle.streams.specs.Kind.{Kind}
 use Rattle.winnow_expression.specs.Grammar.{Grammar}
-use Rattle.winnow_expression.specs.Operators.{fold_of, right_power}
+use Rattle.winnow_expression.specs.Operators.{fold_of, left_power, right_power}
 use Rattle.winnow_expression.specs.Units.{units_left}
 use Rattle.winnow_expression.specs.declared.combinator.operators.Infix.{Infix}
-use Rattle.winnow_expression_trees.specs.Keeps.{Keeps}
+use Rattle.winnow_expression_trees.specs.Keeps.{Binds, EdgeAbove, Keeps, Reaches}
 use Rattle.winnow_expression_trees.specs.Reading.{FirstStep, NextStep, Over, power_of}
-use Rattle.winnow_expression_trees.specs.Tree.{Tree}
+use Rattle.winnow_expression_trees.specs.Tree.{Tree, top_neither}
 use Rattle.winnow_expression_trees.specs.Value.{Value}
 use Rattle.winnow_expression.specs.declared.combinator.places.First.{First}
 use Rattle.winnow_expression.specs.declared.combinator.places.First.TheVariants.{Operand}
@@ -45,27 +45,50 @@ EndedBy {S} {W} {T} {V} {F} {G} {H} g s0 start kind j =
     ⊎ ((k : Input T) × (t : W) × Comes (FirstStep g s0) (NextStep g s0) start false k
     × g.next s0.1 k (Err kind) t j)
 
--- The fold of an operator that is read refuses, on values of trees that are read beside it. What
--- is read behind a prefix or an infix keeps the powers at its right power.
-abbrev pub RefusedBy : {S W T V F G H : Type 0} → Grammar S W T V F G H → S × W → Input T → Kind
-    → Input T
-    → Type 0
-RefusedBy {S} {W} {T} {V} {F} {G} {H} g s0 start kind j =
+-- In an operand of the least power m, an operator of the left power p takes this left operand: that
+-- keeps the powers, its left edge reaches m, and p reaches m and no right power on its right edge.
+abbrev pub TakesLeft : {V F G H : Type 0} → ℤ → Tree V F G H → ℤ → Type 0
+TakesLeft m l p = Binds l × Reaches m l × (m ≤ℤ p) × EdgeAbove l p
+
+-- An infix takes it: it is no neither of that power.
+abbrev pub InfixTakes : {V F G H : Type 0} → ℤ → Tree V F G H → Infix H → Type 0
+InfixTakes m l o =
+    TakesLeft m l (left_power o) × (top_neither l ≡ Some (left_power o) → ⊥)
+
+-- An operand of a least power begins at a place: all of the expression, whose least power is its
+-- level; the right operand of a prefix that begins an operand; or that of an infix, behind a left
+-- operand that it takes and that has a value.
+pub data Begins {S W T V F G H : Type 0} (g : Grammar S W T V F G H) (s : S × W) (level : ℤ)
+    (start : Input T) : ℤ → Input T → Type 0 where
+  begins_whole : Begins g s level start level start
+  begins_prefix : (m p : ℤ) (i j : Input T) (f : F) → Begins g s level start m i
+      → FirstStep g s i (prefix_read p f) j → Begins g s level start p j
+  begins_infix : (m p : ℤ) (i j k : Input T) (o : Infix H) (l : Tree V F G H) (v : V)
+      → Begins g s level start m i → Over (FirstStep g s) (NextStep g s) l i j → Value g l v
+      → InfixTakes m l o → NextStep g s j (infix_read o) k → p ≡ right_power o
+      → Begins g s level start p k
+
+-- The fold of an operator refuses, on the values of its operands. It is one of the tree that keeps
+-- the powers, as far as that is read: it stands in an operand that begins there, takes its left
+-- operand, and its right operand keeps the powers at its right power.
+abbrev pub RefusedBy : {S W T V F G H : Type 0} → Grammar S W T V F G H → S × W → ℤ → Input T → Kind
+    → Input T → Type 0
+RefusedBy {S} {W} {T} {V} {F} {G} {H} g s0 level start kind j =
     -- that of a prefix
-    ((k : Input T) × (m : Input T) × (n : Input T) × (p : ℤ) × (f : F) × (r : Tree V F G H)
-    × (all : Bool) × (v : V) × Comes (FirstStep g s0) (NextStep g s0) start true k
-    × FirstStep g s0 k (prefix_read p f) m × Over (FirstStep g s0) (NextStep g s0) r m n
+    ((m : ℤ) × (i : Input T) × (k : Input T) × (n : Input T) × (p : ℤ) × (f : F)
+    × (r : Tree V F G H) × (all : Bool) × (v : V) × Begins g s0 level start m i
+    × FirstStep g s0 i (prefix_read p f) k × Over (FirstStep g s0) (NextStep g s0) r k n
     × Keeps (NextStep g s0) p r n all × Value g r v × g.folding.before f n v (Err kind) j)
     -- that of a postfix
-    ⊎ (((k : Input T) × (m : Input T) × (n : Input T) × (p : ℤ) × (f : G) × (l : Tree V F G H)
-    × (v : V) × Comes (FirstStep g s0) (NextStep g s0) start true k
-    × Over (FirstStep g s0) (NextStep g s0) l k m × NextStep g s0 m (Postfix p f) n × Value g l v
-    × g.behind f n v (Err kind) j)
+    ⊎ (((m : ℤ) × (i : Input T) × (k : Input T) × (n : Input T) × (p : ℤ) × (f : G)
+    × (l : Tree V F G H) × (v : V) × Begins g s0 level start m i
+    × Over (FirstStep g s0) (NextStep g s0) l i k × TakesLeft m l p
+    × NextStep g s0 k (Postfix p f) n × Value g l v × g.behind f n v (Err kind) j)
     -- that of an infix
-    ⊎ ((k : Input T) × (m : Input T) × (n : Input T) × (z : Input T) × (o : Infix H)
+    ⊎ ((m : ℤ) × (i : Input T) × (k : Input T) × (n : Input T) × (z : Input T) × (o : Infix H)
     × (l : Tree V F G H) × (r : Tree V F G H) × (all : Bool) × (v : V) × (w : V)
-    × Comes (FirstStep g s0) (NextStep g s0) start true k
-    × Over (FirstStep g s0) (NextStep g s0) l k m × NextStep g s0 m (infix_read o) n
+    × Begins g s0 level start m i × Over (FirstStep g s0) (NextStep g s0) l i k
+    × InfixTakes m l o × NextStep g s0 k (infix_read o) n
     × Over (FirstStep g s0) (NextStep g s0) r n z × Keeps (NextStep g s0) (right_power o) r z all
     × Value g l v × Value g r w × g.folding.between (fold_of o) z v w (Err kind) j))
 
@@ -82,8 +105,7 @@ Unmoved {S} {W} {T} {V} {F} {G} {H} g s0 start =
     × (units_left g.folding.units n ≡ units_left g.folding.units k))
 
 -- where a failure's kind and rest come from
-abbrev pub FailsBy : {S W T V F G H : Type 0} → Grammar S W T V F G H → S × W → Input T → Kind
-    → Input T
-    → Type 0
-FailsBy g s0 start kind j =
-    EndedBy g s0 start kind j ⊎ (RefusedBy g s0 start kind j ⊎ Unmoved g s0 start)
+abbrev pub FailsBy : {S W T V F G H : Type 0} → Grammar S W T V F G H → S × W → ℤ → Input T → Kind
+    → Input T → Type 0
+FailsBy g s0 level start kind j =
+    EndedBy g s0 start kind j ⊎ (RefusedBy g s0 level start kind j ⊎ Unmoved g s0 start)

@@ -38,6 +38,6 @@ pub record IsExact {S W T V F G H : Type 0} (g : Grammar S W T V F G H) (alike :
   pub agrees : (r : Tree V F G H) (n : Input T) (all : Bool) (x : V) → KeepsOver g s level i r n all
       → Value g r x → NotMemory answer → (v : V) × (answer ≡ Ok v) × (j ≡ n) × alike v x
   pub keeps : (v : V) → answer ≡ Ok v → (t.0 ≡ s.0) × (t.1 ≡ s.1)
-  pub fails : (k : Kind) → answer ≡ Err k → NotMemory answer → FailsBy g s i k j
+  pub fails : (k : Kind) → answer ≡ Err k → NotMemory answer → FailsBy g s level i k j
   pub refuses : (k : Kind) → answer ≡ Err k → NotMemory answer → (r : Tree V F G H) (n : Input T)
-      (all : Bool) → KeepsOver g s level i r n all → RefusedBy g s i k j
+      (all : Bool) → KeepsOver g s level i r n all → RefusedBy g s level i k j

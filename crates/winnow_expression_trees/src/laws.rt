@@ -111,7 +111,7 @@ pub fn expression_reads_the_one_tree<
         (G.folds E.form) (H.folds E.form)) s i (Err k) t j → (k ≡ memory → ⊥)
         → (RefusedBy (parts_grammar I.reading.units (assert_kind E.form) (P.meaning E.form)
         (Pre.meaning E.form) (Post.meaning E.form) (Pix.meaning E.form) (F.folds E.form)
-        (G.folds E.form) (H.folds E.form)) (s.0, s.1) i k j → ⊥)
+        (G.folds E.form) (H.folds E.form)) (s.0, s.1) s.2 i k j → ⊥)
         → (Unmoved (parts_grammar I.reading.units (assert_kind E.form) (P.meaning E.form)
         (Pre.meaning E.form) (Post.meaning E.form) (Pix.meaning E.form) (F.folds E.form)
         (G.folds E.form) (H.folds E.form)) (s.0, s.1) i → ⊥)
@@ -201,9 +201,11 @@ pub fn at_most_one_tree_keeps_the_powers<
 ///
 /// Clause `asserts` is about the runs in which neither a part nor a fold fails (`asserting`): they
 /// fail by an assert rule alone, with its kind, as clause `kind` says. Clause `failures` is about
-/// those in which no fold refuses (`accepting`): a part may fail there too. Clause `within` says
-/// that the first are among the second, `run` that these are runs of the expression, and `either`
-/// that each other run of it ends with the answer of a fold that refuses.
+/// those in which no fold refuses (`accepting`): a part may fail there too. Clause `ends` says of
+/// these that they fail with the kind and the rest of the answer that ended the reading, or that an
+/// operator was read that consumes nothing. Clause `within` says that the first are among the
+/// second, `run` that these are runs of the expression, and `either` that each other run of it ends
+/// with the answer of a fold that refuses.
 ///
 /// ```
 /// use winnow_expression_trees::laws::{Likeness, no_tree_where_an_assert_rule_refuses};
@@ -270,6 +272,22 @@ pub fn no_tree_where_an_assert_rule_refuses<
         → KeepsOver (parts_grammar I.reading.units (assert_kind E.form) (P.meaning E.form)
         (Pre.meaning E.form) (Post.meaning E.form) (Pix.meaning E.form) (F.folds E.form)
         (G.folds E.form) (H.folds E.form)) (s.0, s.1) s.2 i r n all → ⊥ }
+    ensures ends { (s : (P.State × Pre.State) × (Post.State × Pix.State) × ℤ)
+        → Premises A.alike (P.meaning E.form) (Pre.meaning E.form) (Post.meaning E.form)
+        (Pix.meaning E.form) (G.folds E.form)
+        (folding (F.folds E.form) (H.folds E.form) I.reading.units (assert_kind E.form))
+        s.0.0 s.0.1 s.1.0 s.1.1
+        → (i : Input I.Seen) (k : Kind)
+        (t : (P.State × Pre.State) × (Post.State × Pix.State) × ℤ) (j : Input I.Seen)
+        → LeveledRuns (accepting (parts_grammar I.reading.units (assert_kind E.form)
+        (P.meaning E.form) (Pre.meaning E.form) (Post.meaning E.form) (Pix.meaning E.form)
+        (F.folds E.form) (G.folds E.form) (H.folds E.form))) s i (Err k) t j → (k ≡ memory → ⊥)
+        → EndedBy (parts_grammar I.reading.units (assert_kind E.form) (P.meaning E.form)
+        (Pre.meaning E.form) (Post.meaning E.form) (Pix.meaning E.form) (F.folds E.form)
+        (G.folds E.form) (H.folds E.form)) (s.0, s.1) i k j
+        ⊎ Unmoved (parts_grammar I.reading.units (assert_kind E.form) (P.meaning E.form)
+        (Pre.meaning E.form) (Post.meaning E.form) (Pix.meaning E.form) (F.folds E.form)
+        (G.folds E.form) (H.folds E.form)) (s.0, s.1) i }
     ensures kind { (s : (P.State × Pre.State) × (Post.State × Pix.State) × ℤ)
         (i : Input I.Seen) (k : Kind)
         (t : (P.State × Pre.State) × (Post.State × Pix.State) × ℤ) (j : Input I.Seen)

@@ -67,21 +67,6 @@ keeps_stateless alike runs s p = record {
   decided = λ i j k a b t u r q na nb. p.decided i j k a b r.0 q.0 na nb;
 }
 
--- by a coarser likeness
-pub stateless_by : {S T O : Type 0} (one other : O → O → Type 0) (run : Runs S T O) (s : S)
-    → ((v w : O) → one v w → other v w) → IsStateless one run s → IsStateless other run s
-stateless_by {S} {T} {O} one other run s weaker p = record {
-  keeps = p.keeps;
-  decided = λ i j k a b t u r q na nb.
-      let d = p.decided i j k a b t u r q na nb in (same_by a b d.0, d.1);
-}
-  where
-    same_by : (a b : Answer O) → Same one a b → Same other a b
-    same_by (Ok v) (Ok w) is = weaker v w is
-    same_by (Ok v) (Err l) is = absurd is
-    same_by (Err k) (Ok w) is = absurd is
-    same_by (Err k) (Err l) is = is
-
 -- the parser that fails, as where no operator was set
 pub fail_plain : {T O : Type 0} (alike : O → O → Type 0)
     → IsPlain alike (λ (i : Input T) (a : Answer O) j. FailRuns i a j)
