@@ -73,7 +73,7 @@ pub reads_line : {E : Type 0} {kind : E → Kind} {g : Grammar ℕ ℕ} {i j : I
 reads_line {E} {kind} {g} {i} {j} {result} r e =
     reads_as same_line (rw e at r)
 
-letter_unique : IsUnique (Either (Byte 121) (Byte 110))
+pub letter_unique : IsUnique (Either (Byte 121) (Byte 110))
 letter_unique = either_unique (byte_unique 121) (byte_unique 110)
 
 pub unique_line : IsUnique IsLine

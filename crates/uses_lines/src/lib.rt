@@ -5,11 +5,16 @@
 //! memory.
 #![tactic(auto)]
 
-ghost use Rattle.std.specs.Prelude.{⊤};
+ghost use Rattle.std.specs.Prelude.{⊤, ℕ};
+ghost use Rattle.std.specs.declared.vec.Vec.{Vec};
 ghost use Rattle.streams.specs.Bytes.{bytes_input, bytes_reading};
+ghost use Rattle.uses_lines.specs.InWords.{IsLetter, LetterLines, SameLetters};
 ghost use Rattle.uses_lines.specs.Lines.{AreLines, IsLine, line_takes, unique_line};
 ghost use Rattle.winnow_exact.specs.Exact.{Reads};
 ghost use Rattle.winnow_exact.specs.Exact.Whole.{ReadsAll};
+ghost use Rattle.winnow_exact.specs.Texts.{NotFirst};
+ghost use Rattle.winnow_exact.specs.Texts.Back.{ReadsBack};
+ghost use Rattle.winnow_exact.specs.Texts.Told.{IsTextOf, ReadsText};
 
 use std::alloc::Allocator;
 use stream_errors::empty::EmptyError;
@@ -69,14 +74,17 @@ pub fn read_lines<'i, A: Allocator + Copy>(
     alloc: A,
     input: &mut &'i [u8],
 ) -> Result<Vec<u8, A>, ErrMode<EmptyError>>
-    ensures { Reads bytes_reading ⟦<ErrMode<EmptyError> as HasKind>⟧.kind AreLines
+    ensures grammar { Reads bytes_reading ⟦<ErrMode<EmptyError> as HasKind>⟧.kind AreLines
         (bytes_input input.old.now) result (bytes_input input.new.now) }
+    ensures text { ReadsText bytes_reading ⟦<ErrMode<EmptyError> as HasKind>⟧.kind LetterLines
+        (NotFirst IsLetter) (bytes_input input.old.now) result (bytes_input input.new.now) }
 {
     repeat(alloc, Range::from(0..), Line.by(read_line)).read(input)
 }
 
 /// Lines, where all of the bytes are lines: their letters, in order. Else a fault, which says where
-/// the lines ended; or want of memory.
+/// the lines ended; or want of memory. So of what is written for some letters it answers these, or
+/// memory is wanting.
 ///
 /// ```
 /// use uses_lines::parse_lines;
@@ -89,8 +97,13 @@ pub fn parse_lines<'i, A: Allocator + Copy>(
     alloc: A,
     input: &'i [u8],
 ) -> Result<Vec<u8, A>, ParseFault<&'i [u8], EmptyError>>
-    ensures { ReadsAll ⟦<ErrMode<EmptyError> as ParserError<&'i [u8]>>⟧.inner_kind AreLines
-        input.now result }
+    ensures grammar { ReadsAll ⟦<ErrMode<EmptyError> as ParserError<&'i [u8]>>⟧.inner_kind
+        AreLines input.now result }
+    ensures text { IsTextOf ⟦<ErrMode<EmptyError> as ParserError<&'i [u8]>>⟧.inner_kind
+        LetterLines input.now result }
+    ensures back { (letters : Vec ℕ A) → LetterLines letters input.now
+        → ReadsBack ⟦<ErrMode<EmptyError> as ParserError<&'i [u8]>>⟧.inner_kind SameLetters
+        letters result }
 {
     repeat(alloc, Range::from(0..), Line.by(read_line)).read_all(input)
 }

@@ -1,7 +1,7 @@
 -- Grammars over tokens: which output stands first in some tokens, and what is left behind it.
 use Rattle.std.specs.Prelude.{◌≡◌, ◌⊎◌, ◌≤◌, ◌<◌, ℕ, List, [], ◌∷◌, ◌++◌, length, Option, Some}
 use Rattle.std.specs.Prelude.{None}
-use Rattle.std.specs.Prelude.{Bool, true, not, IsTrue, ⊤, ◌↔◌}
+use Rattle.std.specs.Prelude.{Bool, true, false, not, IsTrue, ⊤, ◌↔◌}
 use Rattle.std.specs.Borrow.{Bor}
 use Rattle.stream_sets.specs.Range.{Bounds, IsBelow, bounds_of, from_to}
 use Rattle.stream_sets.specs.declared.range.Range.{Range}
@@ -9,7 +9,15 @@ use Rattle.streams.specs.Reading.{Reading}
 use Rattle.streams.specs.Stream.{AnswersSeen}
 use Rattle.winnow_token.specs.TakeWhile.{IsLongest}
 pub mod Alike
+pub mod Decided
+pub mod Folded
+pub mod Integers
 pub mod Known
+pub mod Numbers
+pub mod Outputs
+pub mod Searches
+pub mod Till
+pub mod Lengths
 pub mod Tuples
 pub mod Unique
 
@@ -90,6 +98,10 @@ AllTokens reading tokens slice rest = reading.shows slice tokens × (rest ≡ []
 unfoldable pub NoTokens : {T L : Type 0} → Reading T L → Grammar T L
 NoTokens reading tokens slice rest = (tokens ≡ []) × (rest ≡ []) × reading.shows slice []
 
+-- Nothing is taken, and the output is the number of units that are there.
+unfoldable pub UnitsLeft : {T L : Type 0} → Reading T L → Grammar T ℕ
+UnitsLeft reading tokens n rest = (n ≡ reading.units tokens) × (rest ≡ tokens)
+
 -- Nothing is taken, and this is the output.
 unfoldable pub Nothing : {T O : Type 0} → O → Grammar T O
 Nothing output tokens o rest = (o ≡ output) × (rest ≡ tokens)
@@ -139,6 +151,12 @@ unfoldable pub Maybe : {T O : Type 0} → Grammar T O → Grammar T (Option O)
 Maybe {T} {O} grammar tokens o rest =
     ((x : O) × (o ≡ Some x) × grammar tokens x rest)
     ⊎ ((o ≡ None) × NoneStands grammar tokens × (rest ≡ tokens))
+
+-- Where the condition holds it stands; else nothing is taken.
+unfoldable pub When : {T O : Type 0} → Bool → Grammar T O → Grammar T (Option O)
+When {T} {O} condition grammar tokens o rest =
+    ((condition ≡ true) × (x : O) × (o ≡ Some x) × grammar tokens x rest)
+    ⊎ ((condition ≡ false) × (o ≡ None) × (rest ≡ tokens))
 
 -- An output stands, and nothing is taken.
 unfoldable pub Ahead : {T O : Type 0} → Grammar T O → Grammar T O

@@ -3,3 +3,4 @@ pub mod Exact
 pub mod Grammar
 pub mod Held
 pub mod Rule
+pub mod Texts

@@ -1,10 +1,12 @@
 //! What accumulators hold.
-ghost use Rattle.std.proofs.Common.{◌∙◌, ap, sym};
-ghost use Rattle.std.specs.Prelude.{◌≡◌, List, length, min, ◌^◌, ◌-◌, ⊤};
+ghost use Rattle.std.specs.Prelude.{◌≡◌, List, ⊤};
 ghost use Rattle.winnow_exact.specs.Exact.Repeat.{Holds};
-ghost use Rattle.winnow_exact.specs.Held.{list_holds, nothing_holds};
+ghost use Rattle.winnow_exact.specs.Held.{HasCharacters, HasEntries, HasNumber, HasTexts};
+ghost use Rattle.winnow_exact.specs.Held.{characters_hold, entries_hold, list_holds};
+ghost use Rattle.winnow_exact.specs.Held.{nothing_holds, number_holds, texts_hold};
 
 use std::alloc::Allocator;
+use std::collections::BTreeMap;
 use stream_sets::accumulate::Accumulate;
 
 /// An accumulator that tells what it holds.
@@ -30,4 +32,28 @@ impl<O: Drop, A: Allocator + Copy> Gathers<O, A> for () {
     ghost holds = { λ _ _. ⊤ };
 
     ghost gathers = { nothing_holds };
+}
+
+impl<O: Drop, A: Allocator + Copy> Gathers<O, A> for usize {
+    ghost holds = { HasNumber };
+
+    ghost gathers = { number_holds };
+}
+
+impl<A: Allocator + Copy> Gathers<char, A> for String<A> {
+    ghost holds = { HasCharacters };
+
+    ghost gathers = { characters_hold };
+}
+
+impl<'i, A: Allocator + Copy> Gathers<&'i str, A> for String<A> {
+    ghost holds = { HasTexts };
+
+    ghost gathers = { texts_hold };
+}
+
+impl<K: Ord + Drop, V: Drop, A: Allocator + Copy> Gathers<(K, V), A> for BTreeMap<K, V, A> {
+    ghost holds = { HasEntries K.cmp };
+
+    ghost gathers = { entries_hold K.total };
 }

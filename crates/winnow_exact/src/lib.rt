@@ -3,5 +3,6 @@
 
 pub mod exact;
 pub mod gathers;
+pub mod pieces;
 pub mod rule;
 pub mod sets;

@@ -1,10 +1,23 @@
 use Rattle.std.proofs.Common.{ap, ◌∙◌}
 use Rattle.stream_sets.specs.Range.{bounds_of}
+use Rattle.uses_lines.specs.InWords.{lines_of, lines_one}
 use Rattle.uses_lines.specs.Lines.{same_lines}
 use Rattle.winnow_exact.specs.Exact.Whole.{reads_all_as}
+use Rattle.winnow_exact.specs.Texts.Back.{reads_back}
+use Rattle.winnow_exact.specs.Texts.Told.{texts_told}
 use Rattle.uses_lines.proofs.parse_lines.Goals as goal
 
-pub returns : goal.returns
-returns g c =
+pub returns-clause-grammar : goal.returns-clause-grammar
+returns-clause-grammar g c =
     reads_all_as (same_lines _ (ap bounds_of (c.repeat.ensures.occurrences ∙ c.from.ensures)))
     c.read_all.ensures
+
+pub returns-clause-text : goal.returns-clause-text
+returns-clause-text g c = texts_told lines_of tt (reads_all_as
+    (same_lines _ (ap bounds_of (c.repeat.ensures.occurrences ∙ c.from.ensures)))
+    c.read_all.ensures)
+
+pub returns-clause-back : goal.returns-clause-back
+returns-clause-back g c = reads_back lines_one (texts_told lines_of tt (reads_all_as
+    (same_lines _ (ap bounds_of (c.repeat.ensures.occurrences ∙ c.from.ensures)))
+    c.read_all.ensures))

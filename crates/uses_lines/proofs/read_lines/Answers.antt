@@ -1,9 +1,16 @@
 use Rattle.std.proofs.Common.{ap, ◌∙◌}
 use Rattle.stream_sets.specs.Range.{bounds_of}
+use Rattle.uses_lines.specs.InWords.{lines_of}
 use Rattle.uses_lines.specs.Lines.{same_lines}
 use Rattle.winnow_exact.specs.Exact.Same.{reads_as}
+use Rattle.winnow_exact.specs.Texts.Told.{text_told}
 use Rattle.uses_lines.proofs.read_lines.Goals as goal
 
-pub returns : goal.returns
-returns g c = reads_as (same_lines _ (ap bounds_of (c.repeat.ensures.occurrences ∙ c.from.ensures)))
+pub returns-clause-grammar : goal.returns-clause-grammar
+returns-clause-grammar g c =
+    reads_as (same_lines _ (ap bounds_of (c.repeat.ensures.occurrences ∙ c.from.ensures)))
     c.read.ensures
+
+pub returns-clause-text : goal.returns-clause-text
+returns-clause-text g c = text_told lines_of (reads_as
+    (same_lines _ (ap bounds_of (c.repeat.ensures.occurrences ∙ c.from.ensures))) c.read.ensures)

@@ -1,5 +1,6 @@
 -- What adapters read that make another output.
-use Rattle.std.specs.Prelude.{◌≡◌, ⊤, List, ◌++◌}
+use Rattle.std.specs.Prelude.{◌≡◌, ⊤, ℕ, List, ◌++◌}
+use Rattle.std.specs.declared.ops.Range.{Range}
 use Rattle.std.proofs.Common.{refl, subst, inl, inr}
 use Rattle.streams.specs.Input.{Input}
 use Rattle.streams.specs.Kind.{memory}
@@ -8,11 +9,14 @@ use Rattle.stream_errors.specs.Form.{Answer}
 use Rattle.winnow_core.specs.Map.{MapRuns}
 use Rattle.winnow_core.specs.MakesOutput.{MakesOutput}
 use Rattle.winnow_core.specs.Runs.{Runs}
+use Rattle.winnow_core.specs.Span.{SpanRuns}
 use Rattle.winnow_core.specs.Take.{TakeRuns}
 use Rattle.winnow_core.specs.Value.{ValueRuns}
 use Rattle.winnow_core.specs.Void.{VoidRuns}
+use Rattle.winnow_core.specs.WithSpan.{WithSpanRuns}
 use Rattle.winnow_core.specs.WithTaken.{WithTakenRuns}
 use Rattle.winnow_exact.specs.Exact.{IsExact, IsSoft}
+use Rattle.winnow_exact.specs.Exact.Along.{exact_along, soft_along}
 use Rattle.winnow_exact.specs.Exact.Made.{IsMade, Making, made_exact, made_soft, made_takes}
 use Rattle.winnow_exact.specs.Exact.Same.{pair_is}
 use Rattle.winnow_exact.specs.Grammar.{AndTaken, Grammar, Made, Takes, Taken}
@@ -199,3 +203,42 @@ void_exact {run = run} {s} c =
 pub void_soft : {S T O : Type 0} {run : Runs S T O} {s : S} → IsSoft s run
     → IsSoft s (VoidRuns run)
 void_soft {run = run} {s} f = made_soft (void_made run s) (λ o k never. absurd never) f
+
+-- ---- places, of which tokens tell nothing
+
+-- any range of places
+abbrev pub AnyPlaces : {O : Type 0} → Unit {0} → O → Range ℕ → Type 0
+AnyPlaces _ o places = ⊤
+
+-- the output, and any range of places
+abbrev pub WithPlaces : {O : Type 0} → Unit {0} → O → O × Range ℕ → Type 0
+WithPlaces _ o both = both.0 ≡ o
+
+module _ {S T O : Type 0} (run : Runs S T O) (s : S) where
+  span_there : (i : Input T) (answer : Answer (Range ℕ)) (t : S) (j : Input T)
+      → SpanRuns run s i answer t j
+      → MakesOutput (λ i (o : O) j u. AnyPlaces tt o u) run s i answer t j
+  span_there i answer t j (inl (o, u, x, made, e)) = inl (o, u, x, tt, e)
+  span_there i answer t j (inr (k, x, e)) = inr (k, x, e)
+
+  pub span_exact : {g : Grammar T O} → IsExact s run g
+      → IsExact s (SpanRuns run) (Made AnyPlaces tt g)
+  span_exact c = exact_along (λ t. t) (λ t e. e) span_there (output_exact AnyPlaces tt c)
+
+  pub span_soft : IsSoft s run → IsSoft s (SpanRuns run)
+  span_soft f = soft_along (λ t. t) span_there (output_soft (λ o u. AnyPlaces tt o u) f)
+
+  with_span_there : (i : Input T) (answer : Answer (O × Range ℕ)) (t : S) (j : Input T)
+      → WithSpanRuns run s i answer t j
+      → MakesOutput (λ i (o : O) j u. WithPlaces tt o u) run s i answer t j
+  with_span_there i answer t j (inl (o, u, x, made, e)) = inl (o, u, x, made.0, e)
+  with_span_there i answer t j (inr (k, x, e)) = inr (k, x, e)
+
+  pub with_span_exact : {g : Grammar T O} → IsExact s run g
+      → IsExact s (WithSpanRuns run) (Made WithPlaces tt g)
+  with_span_exact c =
+      exact_along (λ t. t) (λ t e. e) with_span_there (output_exact WithPlaces tt c)
+
+  pub with_span_soft : IsSoft s run → IsSoft s (WithSpanRuns run)
+  with_span_soft f =
+      soft_along (λ t. t) with_span_there (output_soft (λ o u. WithPlaces tt o u) f)

@@ -14,12 +14,12 @@ use Rattle.winnow_core.specs.Runs.{Keeps}
 use Rattle.winnow_core.specs.Sequence.{SequenceRuns0}
 use Rattle.winnow_comb.specs.Empty.{EmptyRuns}
 use Rattle.winnow_comb.specs.Fail.{FailRuns}
-use Rattle.winnow_token.specs.Rest.{RestRuns}
+use Rattle.winnow_token.specs.Rest.{RestLenRuns, RestRuns}
 use Rattle.winnow_token.specs.Take.{TakeRuns}
 use Rattle.winnow_exact.specs.Exact.{IsExact, IsSoft}
 use Rattle.winnow_exact.specs.Exact.Tokens.{short_backtracks}
 use Rattle.winnow_exact.specs.Grammar.{AllTokens, Counted, IsUnique, Never, NoTokens, NoneStands}
-use Rattle.winnow_exact.specs.Grammar.{Nothing, Takes}
+use Rattle.winnow_exact.specs.Grammar.{Nothing, Takes, UnitsLeft}
 
 -- behind beginnings of as many tokens the same is left
 same_behind : {T : Type 0} (f g rest more : List T) → length f ≡ length g → f ++ rest ≡ g ++ more
@@ -100,6 +100,21 @@ module _ {T L : Type 0} (reading : Reading T L) where
   rest_soft = record {
     soft = λ i k t j is ((slice, takes, nothing, e), same). ok_is_err e refl;
   }
+
+  pub rest_len_exact : IsExact tt (Keeps (λ (_ : ⊤). RestLenRuns reading)) (UnitsLeft reading)
+  unfolding UnitsLeft
+  rest_len_exact = record {
+    kept = λ i answer t j is ((e, back), same). (same, ap (λ z. z.status.cut) back ∙ is);
+    stands = λ i o t j is ((e, back), same). (same_ok refl e, ap (λ z. z.left.tokens) back);
+    none = λ i k t j is ((e, back), same). ok_is_err e refl;
+    unique = record {
+      ends = λ tokens o rest (n, e). ([], sym e);
+      one = λ tokens o p rest other (n, e) (m, f). e ∙ sym f;
+    };
+  }
+
+  pub rest_len_soft : IsSoft tt (Keeps (λ (_ : ⊤). RestLenRuns reading))
+  rest_len_soft = record { soft = λ i k t j is ((e, back), same). ok_is_err e refl }
 
   pub eof_exact : IsExact tt (Keeps (λ (_ : ⊤). EofRuns reading)) (NoTokens reading)
   unfolding NoTokens

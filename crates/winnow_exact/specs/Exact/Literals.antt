@@ -1,5 +1,5 @@
 -- What literals read.
-use Rattle.std.specs.Prelude.{◌≡◌, ◌⊎◌, ℕ, false, List, [], ◌∷◌, ◌++◌}
+use Rattle.std.specs.Prelude.{◌≡◌, ◌⊎◌, ℕ, false, List}
 use Rattle.std.specs.Prelude.{Ok, Err, ⊤}
 use Rattle.std.specs.Borrow.{Bor}
 use Rattle.std.proofs.Common.{refl, sym, ap, inl, inr, ◌∙◌}
@@ -9,11 +9,11 @@ use Rattle.streams.specs.Kind.{Kind, backtrack, memory}
 use Rattle.streams.specs.Reading.{Reading}
 use Rattle.stream_errors.specs.Form.{Answer, ErrorForm}
 use Rattle.stream_errors.specs.Form.Known.{ok_is_err, same_ok, same_kind}
-use Rattle.winnow_ascii.specs.Crlf.{CrlfRuns}
 use Rattle.winnow_core.specs.Runs.{Keeps}
 use Rattle.winnow_core.specs.Literal.{LiteralRuns}
 use Rattle.winnow_exact.specs.Exact.{IsExact, IsSoft}
-use Rattle.winnow_exact.specs.Grammar.{Literally, NoneStands, SpelledBy}
+use Rattle.winnow_exact.specs.Grammar.{Literally, NoneStands}
+use Rattle.winnow_exact.specs.Grammar.Searches.{Text}
 use Rattle.winnow_exact.specs.Grammar.Unique.{literally_unique, one_front}
 
 -- The literal of a state.
@@ -71,7 +71,13 @@ abbrev pub SpellsByText : {T : Type 0} → (Bor (List ℕ) → List T → Type 0
 SpellsByText {T} spells = (s t : Bor (List ℕ)) (xs : List T) → s.now ≡ t.now → spells s xs
     → spells t xs
 
--- a line end of two characters
+-- a text of these bytes, whichever it is
+abbrev pub TextRuns : {T L : Type 0} → Reading T L → (Bor (List ℕ) → List T → Type 0) → List ℕ
+    → ErrorForm → Input T → Answer L → Input T → Type 0
+TextRuns reading spells bytes form i answer j =
+    (text : Bor (List ℕ)) × (text.now ≡ bytes)
+    × LiteralRuns reading form (spells text) (λ slice. slice) i answer j
+
 module _ {T L : Type 0} (reading : Reading T L) (form : ErrorForm)
     (spells : Bor (List ℕ) → List T → Type 0) (alike : SpellsByText spells)
     (same_units : (t : Bor (List ℕ)) (xs ys : List T) → spells t xs → spells t ys
@@ -82,23 +88,24 @@ module _ {T L : Type 0} (reading : Reading T L) (form : ErrorForm)
   at_text text = literal_exact reading form spells (λ _ slice. slice) (λ y. y) text
       (same_units text)
 
-  pub crlf_exact : IsExact tt (Keeps (λ (_ : ⊤). CrlfRuns spells reading form))
-      (Literally reading (SpelledBy spells) (λ _ slice. slice) (13 ∷ 10 ∷ []))
+  pub text_exact : (bytes : List ℕ)
+      → IsExact tt (Keeps (λ (_ : ⊤). TextRuns reading spells bytes form))
+      (Text reading spells bytes)
   unfolding Literally
-  crlf_exact = record {
-    kept = λ i answer t j is ((text, bytes, r), same).
+  text_exact bytes = record {
+    kept = λ i answer t j is ((text, here, r), same).
         (same, ((at_text text).kept i answer text j is (r, refl)).1);
-    stands = λ i o t j is ((text, bytes, r), same).
+    stands = λ i o t j is ((text, here, r), same).
         let (front, slice, spelled, shown, e, a) = (at_text text).stands i o text j is (r, refl) in
-        (front, slice, (text, bytes, spelled), shown, e, a);
-    none = λ i k t j is ((text, bytes, r), same).
+        (front, slice, (text, here, spelled), shown, e, a);
+    none = λ i k t j is ((text, here, r), same).
         elim ((at_text text).none i k text j is (r, refl)) [
           | inl m ↦ inl m
           | inr nothing ↦ inr (λ o rest (front, slice, (other, was, spelled), shown, e, a).
               nothing o rest (
                 front,
                 slice,
-                alike other text front (was ∙ sym bytes) spelled,
+                alike other text front (was ∙ sym here) spelled,
                 shown,
                 e,
                 a,
@@ -113,9 +120,10 @@ module _ {T L : Type 0} (reading : Reading T L) (form : ErrorForm)
     };
   }
 
-  pub crlf_soft : IsSoft tt (Keeps (λ (_ : ⊤). CrlfRuns spells reading form))
-  crlf_soft = record {
-    soft = λ i k t j is ((text, bytes, r), same).
+  pub text_soft : (bytes : List ℕ)
+      → IsSoft tt (Keeps (λ (_ : ⊤). TextRuns reading spells bytes form))
+  text_soft bytes = record {
+    soft = λ i k t j is ((text, here, r), same).
         (literal_soft reading form spells (λ _ slice. slice) (λ y. y) text).soft i k text j is
         (r, refl);
   }

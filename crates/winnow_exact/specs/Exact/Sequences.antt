@@ -1,15 +1,17 @@
 -- What children in order read.
 use Rattle.std.specs.Prelude.{◌≡◌, ◌⊎◌, false, List, Ok, Err}
-use Rattle.std.proofs.Common.{refl, subst, inl, inr}
+use Rattle.std.proofs.Common.{refl, ap, subst, inl, inr}
 use Rattle.streams.specs.Input.{Input}
 use Rattle.streams.specs.Kind.{Kind, backtrack, memory}
 use Rattle.stream_errors.specs.Form.{Answer}
 use Rattle.stream_errors.specs.Form.Known.{at_kind, ok_is_err, same_ok}
 use Rattle.winnow_core.specs.Runs.{Runs}
+use Rattle.winnow_core.specs.Sequence.{SequenceRuns1}
 use Rattle.winnow_comb.specs.InOrder.{BothRuns}
 use Rattle.winnow_exact.specs.Exact.{IsExact, IsSoft}
+use Rattle.winnow_exact.specs.Exact.Made.{IsMade, Making, made_exact, made_soft}
 use Rattle.winnow_exact.specs.Exact.Same.{pair_is}
-use Rattle.winnow_exact.specs.Grammar.{Both, Grammar, NoneStands, Takes}
+use Rattle.winnow_exact.specs.Grammar.{Both, Grammar, Made, NoneStands, Takes}
 use Rattle.winnow_exact.specs.Grammar.Unique.{both_take, both_unique}
 
 -- nothing of both where the first is read, and none of the second stands behind it
@@ -104,3 +106,30 @@ pub both_takes : {S1 S2 T O1 O2 O : Type 0} (output : O1 → O2 → O) {run1 : R
     {run2 : Runs S2 T O2} {g1 : Grammar T O1} {g2 : Grammar T O2} {s1 : S1} {s2 : S2}
     → IsExact s1 run1 g1 → IsExact s2 run2 g2 → Takes g1 ⊎ Takes g2 → Takes (Both output g1 g2)
 both_takes output c1 c2 some = both_take output c1.unique c2.unique some
+
+-- ---- a tuple of one
+
+-- the tuple of one output
+abbrev pub OneTuple : {O : Type 0} → Unit {0} → O → record { 0 : O } → Type 0
+OneTuple _ o tuple = tuple ≡ record { 0 = o }
+
+module _ {S T O : Type 0} (run : Runs S T O) (s : record { 0 : S }) where
+  tuple1_ran : (i : Input T) (answer : Answer (record { 0 : O })) (t : record { 0 : S })
+      (j : Input T) → SequenceRuns1 run s i answer t j
+      → Making (λ tokens o rest u. OneTuple tt o u) (λ o k. ⊥) run s.0 s i answer t j
+  tuple1_ran i answer t j (inl (o, x, e)) =
+      (t.0, λ is. ap (λ (m : S). record { 0 = m }) is, inl (o, record { 0 = o }, x, refl, e))
+  tuple1_ran i answer t j (inr (k, x, e)) =
+      (t.0, λ is. ap (λ (m : S). record { 0 = m }) is, inr (inr (k, x, e)))
+
+  tuple1_made : IsMade (λ (tokens : List T) (o : O) (rest : List T) u. OneTuple tt o u)
+      (λ o k. ⊥) run s.0 (SequenceRuns1 run) s
+  tuple1_made = record { ran = tuple1_ran }
+
+  pub tuple1_exact : {g : Grammar T O} → IsExact s.0 run g
+      → IsExact s (SequenceRuns1 run) (Made OneTuple tt g)
+  unfolding Made
+  tuple1_exact c = made_exact tuple1_made (λ tokens o rest k x never. absurd never) c
+
+  pub tuple1_soft : IsSoft s.0 run → IsSoft s (SequenceRuns1 run)
+  tuple1_soft f = made_soft tuple1_made (λ o k never. absurd never) f

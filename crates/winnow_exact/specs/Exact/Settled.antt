@@ -1,20 +1,24 @@
 -- What is read where an output is settled, accepted or refused.
-use Rattle.std.specs.Prelude.{◌≡◌, ◌⊎◌, Bool, true, false, List, Option, Some, None, Ok, Err}
-use Rattle.std.proofs.Common.{refl, ap, subst, inl, inr}
+use Rattle.std.specs.Prelude.{◌≡◌, ◌⊎◌, Bool, true, false, List, Option, Some, None, Result, Ok}
+use Rattle.std.specs.Prelude.{Err}
+use Rattle.std.proofs.Common.{refl, ap, subst, inl, inr, ◌∙◌}
 use Rattle.streams.specs.Input.{Input}
 use Rattle.streams.specs.Kind.{Kind, backtrack, memory}
 use Rattle.stream_errors.specs.Form.{Answer}
 use Rattle.stream_errors.specs.Form.Known.{at_output, ok_is_err, same_kind, same_output}
+use Rattle.stream_errors.specs.Given.{Keeping}
+use Rattle.winnow_core.specs.AndThen.{AndThenRuns, AndThenSettles, completed}
 use Rattle.winnow_core.specs.ParseTo.{ParseToRuns, ParseToSettles}
 use Rattle.winnow_core.specs.Runs.{Runs}
 use Rattle.winnow_core.specs.Settles.{Settles}
+use Rattle.winnow_core.specs.TryMap.{TryMapRuns, TryMapSettles}
 use Rattle.winnow_core.specs.Verify.{VerifySettles}
 use Rattle.winnow_core.specs.VerifyMap.{VerifyMapRuns}
 use Rattle.winnow_exact.specs.Exact.{IsExact, IsSoft}
 use Rattle.winnow_exact.specs.Exact.Along.{exact_along, soft_along}
 use Rattle.winnow_exact.specs.Exact.Made.{IsMade, Making, Refuses, made_exact, made_soft}
 use Rattle.winnow_exact.specs.Exact.Same.{pair_is}
-use Rattle.winnow_exact.specs.Grammar.{Grammar, Made}
+use Rattle.winnow_exact.specs.Grammar.{Grammar, Made, NoneStands}
 
 -- What settles outputs is after each as it was. What it accepts and rejects is so in these words,
 -- and it rejects by a backtrack, or wants memory.
@@ -206,3 +210,87 @@ pub parse_to_soft : {S T O U : Type 0} {run : Runs S T O} {s : S} (reads : O →
     → IsSoft s run → IsSoft s (ParseToRuns reads run)
 parse_to_soft {S} reads f = soft_along (λ (t : S). (t, tt)) (λ i answer t j ran. ran)
     (settled_soft (parse_to_settler reads) f)
+
+-- ---- a closure that may fail
+
+-- it gives an output
+abbrev pub GivesOk : {G O U R : Type 0} → (G → O → Result U R → G → Type 0) → G → O → U → Type 0
+GivesOk step f o u = step f o (Ok u) f
+
+-- it fails
+abbrev pub GivesErr : {G O U R : Type 0} → (G → O → Result U R → G → Type 0) → G → O → Type 0
+GivesErr {R = R} step f o = (r : R) × step f o (Err r) f
+
+try_map_settler : {G O U R : Type 0} {f : G × (R → Keeping)}
+    (step : G → O → Result U R → G → Type 0)
+    → ((o : O) (u : Result U R) (h : G) → step f.0 o u h → h ≡ f.0)
+    → Settler (TryMapSettles step) (λ g o u. GivesOk step g.0 o u) (λ g o. GivesErr step g.0 o) f
+try_map_settler {f = f} step stays = record {
+  stays = λ o answer h (same, is). pair_is (elim is [
+    | inl (u, gives, e) ↦ stays o (Ok u) h.0 gives
+    | inr (r, k, gives, kept, e) ↦ stays o (Err r) h.0 gives
+  ]) same;
+  accepted = λ o u (same, is). elim is [
+    | inl (v, gives, e) ↦ at_output (λ x. step f.0 o (Ok x) f.0) e gives
+    | inr (r, k, gives, kept, e) ↦ ok_is_err refl e
+  ];
+  rejected = λ o k (same, is). elim is [
+    | inl (v, gives, e) ↦ ok_is_err e refl
+    | inr (r, l, gives, inl (kept, b), e) ↦ inr (same_kind e ∙ b, (r, gives))
+    | inr (r, l, gives, inr (refused, m), e) ↦ inl (same_kind e ∙ m)
+  ];
+}
+
+pub try_map_exact : {S G T O U R : Type 0} {run : Runs S T O} {s : S × (G × (R → Keeping))}
+    {g : Grammar T O} (step : G → O → Result U R → G → Type 0)
+    → ((o : O) (u : Result U R) (h : G) → step s.1.0 o u h → h ≡ s.1.0)
+    → RejectsAll (GivesOk step) (GivesErr step) s.1.0 g → IsExact s.0 run g
+    → IsExact s (TryMapRuns step run) (Made (GivesOk step) s.1.0 g)
+unfolding Made
+try_map_exact step stays all c = settled_exact (try_map_settler step stays) all c
+
+pub try_map_soft : {S G T O U R : Type 0} {run : Runs S T O} {s : S × (G × (R → Keeping))}
+    (step : G → O → Result U R → G → Type 0)
+    → ((o : O) (u : Result U R) (h : G) → step s.1.0 o u h → h ≡ s.1.0) → IsSoft s.0 run
+    → IsSoft s (TryMapRuns step run)
+try_map_soft step stays f = settled_soft (try_map_settler step stays) f
+
+-- ---- an output that is read by another parser
+
+-- an output stands first in it by a grammar
+abbrev pub ReadsWithin : {V O U : Type 0} → (O → Input V) → Grammar V U → Unit {0} → O → U → Type 0
+ReadsWithin {V = V} view grammar _ o u = (rest : List V) × grammar (view o).left.tokens u rest
+
+-- none does
+abbrev pub NoneWithin : {V O U : Type 0} → (O → Input V) → Grammar V U → Unit {0} → O → Type 0
+NoneWithin view grammar _ o = NoneStands grammar (view o).left.tokens
+
+and_then_settler : {W V O U : Type 0} {inner : Runs W V U} {h : Grammar V U} {f : W}
+    (view : O → Input V) → IsExact f inner h → IsSoft f inner
+    → Settler (AndThenSettles view inner) (λ _ o u. ReadsWithin view h tt o u)
+    (λ _ o. NoneWithin view h tt o) f
+and_then_settler {f = f} view c soft = record {
+  stays = λ o answer g (rest, ran). (c.kept (completed (view o)) answer g rest refl ran).0;
+  accepted = λ o u (rest, ran).
+      (rest.left.tokens, c.stands (completed (view o)) u f rest refl ran);
+  rejected = λ o k (rest, ran). elim (c.none (completed (view o)) k f rest refl ran) [
+    | inl m ↦ inl m
+    | inr nothing ↦ elim (soft.soft (completed (view o)) k f rest refl ran) [
+      | inl m ↦ inl m
+      | inr b ↦ inr (b, nothing)
+    ]
+  ];
+}
+
+pub and_then_exact : {S W T V O U : Type 0} {run : Runs S T O} {inner : Runs W V U} {s : S × W}
+    {g : Grammar T O} {h : Grammar V U} (view : O → Input V)
+    → RejectsAll (ReadsWithin view h) (NoneWithin view h) tt g → IsExact s.0 run g
+    → IsExact s.1 inner h → IsSoft s.1 inner
+    → IsExact s (AndThenRuns view run inner) (Made (ReadsWithin view h) tt g)
+unfolding Made
+and_then_exact view all c d soft = settled_exact (and_then_settler view d soft) all c
+
+pub and_then_soft : {S W T V O U : Type 0} {run : Runs S T O} {inner : Runs W V U} {s : S × W}
+    {h : Grammar V U} (view : O → Input V) → IsSoft s.0 run → IsExact s.1 inner h
+    → IsSoft s.1 inner → IsSoft s (AndThenRuns view run inner)
+and_then_soft view f d soft = settled_soft (and_then_settler view d soft) f

@@ -20,7 +20,7 @@ use Rattle.winnow_exact.specs.Exact.Tokens.{SeesApart, TellsOnce, holds_once, se
 use Rattle.winnow_exact.specs.Grammar.{Class, InClass, Longest, NoneStands, Takes}
 
 -- what is within a greatest number is no more than it
-within_is : {greatest : Option ℕ} {most n : ℕ} → greatest ≡ Some most → IsWithin greatest n
+pub within_is : {greatest : Option ℕ} {most n : ℕ} → greatest ≡ Some most → IsWithin greatest n
     → n ≤ most
 within_is {n = n} e within =
     let P : Option ℕ → Type 0 = λ g. IsWithin g n in subst P e within

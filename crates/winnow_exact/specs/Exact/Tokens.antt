@@ -1,5 +1,5 @@
 -- What parsers of one token read.
-use Rattle.std.specs.Prelude.{◌≡◌, ◌⊎◌, ◌<◌, ℕ, Bool, true, false, List, [], ◌∷◌, length}
+use Rattle.std.specs.Prelude.{◌≡◌, ◌⊎◌, ℕ, Bool, true, false, List, [], ◌∷◌, length}
 use Rattle.std.specs.Prelude.{Option, Some, Ok, Err, IsTrue, ◌↔◌, ⊤}
 use Rattle.std.proofs.Common.{refl, sym, ap, subst, inl, inr, ◌∙◌, arith}
 use Rattle.streams.specs.Equal.{same_first, same_others, true_is_false}
@@ -8,14 +8,14 @@ use Rattle.streams.specs.Kind.{Kind, backtrack, memory}
 use Rattle.streams.specs.Reading.{Reading}
 use Rattle.streams.specs.Stream.{AnswersSeen}
 use Rattle.stream_errors.specs.Form.{Answer, ErrorForm}
-use Rattle.stream_errors.specs.Form.Known.{at_kind, ok_is_err, same_ok, same_kind}
+use Rattle.stream_errors.specs.Form.Known.{ok_is_err, same_ok, same_kind}
 use Rattle.stream_sets.specs.Sets.{EitherTells}
 use Rattle.winnow_core.specs.Runs.{Keeps}
 use Rattle.winnow_core.specs.Short.{ShortKind}
-use Rattle.winnow_token.specs.Any.{AnyRuns, NoTokenRuns}
+use Rattle.winnow_token.specs.Any.{AnyRuns}
 use Rattle.winnow_token.specs.OneOf.{OneOfRuns}
 use Rattle.winnow_exact.specs.Exact.{IsExact, IsSoft}
-use Rattle.winnow_exact.specs.Grammar.{Grammar, NoneStands, Others, Takes, Token, TokenOf}
+use Rattle.winnow_exact.specs.Grammar.{NoneStands, Others, Takes, Token, TokenOf}
 
 -- Nothing is told both that it is a member and that it is none.
 abbrev pub TellsOnce : {T : Type 0} → (T → Bool → Type 0) → Type 0

@@ -11,6 +11,8 @@ use Rattle.winnow_exact.specs.Exact.Same.{Same}
 use Rattle.winnow_exact.specs.Grammar.{Each, Gathered, Grammar, IsUnique, Literally, Many}
 use Rattle.winnow_exact.specs.Grammar.{NoneStands, Repeated, Takes}
 use Rattle.winnow_exact.specs.Grammar.Unique.{literally_takes, literally_unique}
+pub mod Lines
+pub mod Numbers
 pub mod Sets
 
 -- in the logic there is a slice of each list

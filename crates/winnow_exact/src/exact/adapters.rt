@@ -3,22 +3,29 @@ ghost use Rattle.std.specs.Prelude.{◌≡◌, ⊤};
 ghost use Rattle.winnow_core.specs.DefaultValue.{default_value_parser};
 ghost use Rattle.winnow_core.specs.Map.{map_closure, map_parser};
 ghost use Rattle.winnow_core.specs.OutputInto.{output_into_parser};
+ghost use Rattle.winnow_core.specs.Span.{span_parser};
 ghost use Rattle.winnow_core.specs.Take.{take_parser};
 ghost use Rattle.winnow_core.specs.Value.{value_kept, value_parser};
 ghost use Rattle.winnow_core.specs.Void.{void_parser};
+ghost use Rattle.winnow_core.specs.WithSpan.{with_span_parser};
 ghost use Rattle.winnow_core.specs.WithTaken.{with_taken_parser};
-ghost use Rattle.winnow_exact.specs.Exact.Adapters.{Gives, Stays, and_taken_takes, made_of_takes};
-ghost use Rattle.winnow_exact.specs.Exact.Adapters.{map_exact, map_soft, output_exact, output_soft};
-ghost use Rattle.winnow_exact.specs.Exact.Adapters.{take_exact, take_soft, taken_takes};
+ghost use Rattle.winnow_exact.specs.Exact.Adapters.{AnyPlaces, Gives, Stays, WithPlaces};
+ghost use Rattle.winnow_exact.specs.Exact.Adapters.{and_taken_takes, made_of_takes, map_exact};
+ghost use Rattle.winnow_exact.specs.Exact.Adapters.{map_soft, output_exact, output_soft};
+ghost use Rattle.winnow_exact.specs.Exact.Adapters.{span_exact, span_soft, take_exact, take_soft};
+ghost use Rattle.winnow_exact.specs.Exact.Adapters.{taken_takes, with_span_exact, with_span_soft};
 ghost use Rattle.winnow_exact.specs.Exact.Adapters.{value_exact};
 ghost use Rattle.winnow_exact.specs.Exact.Adapters.{value_soft, void_exact, void_soft};
 ghost use Rattle.winnow_exact.specs.Exact.Adapters.{with_taken_exact, with_taken_soft};
 ghost use Rattle.winnow_exact.specs.Grammar.{AndTaken, Made, Taken};
 
 use crate::exact::Exact;
+use std::ops::Range;
 use stream_errors::parser_error::ParserError;
-use streams::stream::Stream;
-use winnow_core::combinator::impls::{DefaultValue, Map, OutputInto, Take, Value, Void, WithTaken};
+use streams::stream::{Location, Stream};
+use winnow_core::combinator::impls::{
+    DefaultValue, Map, OutputInto, Span, Take, Value, Void, WithSpan, WithTaken,
+};
 
 impl<F: Exact<I, O, E>, G: FnMut(O) -> O2, I: Stream, O, O2, E: ParserError<I>> Exact<I, O2, E>
     for Map<F, G, I, O, O2, E> {
@@ -157,4 +164,43 @@ impl<F: Exact<I, O, E>, I: Stream, O, E: ParserError<I>> Exact<I, (O, I::Slice),
 
     ghost takes = { λ p is some. and_taken_takes I.reading
         (F.takes (with_taken_parser p) is some) };
+}
+
+impl<F: Exact<I, O, E>, I: Location, O: Drop, E: ParserError<I>> Exact<I, Range<usize>, E>
+    for Span<F, I, O, E> {
+    ghost premise = { λ p. F.premise (span_parser p) };
+
+    ghost backtracks = { λ p. F.backtracks (span_parser p) };
+
+    ghost consumes = { λ p. F.consumes (span_parser p) };
+
+    ghost grammar = { λ p. Made AnyPlaces tt (F.grammar (span_parser p)) };
+
+    ghost exact = { λ p form is. span_exact (F.meaning form) (F.state (span_parser p))
+        (F.exact (span_parser p) form is) };
+
+    ghost soft = { λ p form is soft. span_soft (F.meaning form) (F.state (span_parser p))
+        (F.soft (span_parser p) form is soft) };
+
+    ghost takes = { λ p is some. made_of_takes AnyPlaces tt (F.takes (span_parser p) is some) };
+}
+
+impl<F: Exact<I, O, E>, I: Location, O, E: ParserError<I>> Exact<I, (O, Range<usize>), E>
+    for WithSpan<F, I, O, E> {
+    ghost premise = { λ p. F.premise (with_span_parser p) };
+
+    ghost backtracks = { λ p. F.backtracks (with_span_parser p) };
+
+    ghost consumes = { λ p. F.consumes (with_span_parser p) };
+
+    ghost grammar = { λ p. Made WithPlaces tt (F.grammar (with_span_parser p)) };
+
+    ghost exact = { λ p form is. with_span_exact (F.meaning form) (F.state (with_span_parser p))
+        (F.exact (with_span_parser p) form is) };
+
+    ghost soft = { λ p form is soft. with_span_soft (F.meaning form)
+        (F.state (with_span_parser p)) (F.soft (with_span_parser p) form is soft) };
+
+    ghost takes = { λ p is some. made_of_takes WithPlaces tt
+        (F.takes (with_span_parser p) is some) };
 }

@@ -2,9 +2,11 @@
 ghost use Rattle.std.specs.Prelude.{◌≡◌, ◌<◌, ⊤};
 ghost use Rattle.winnow_exact.specs.Exact.Counts.{counted_takes, empty_exact, empty_soft};
 ghost use Rattle.winnow_exact.specs.Exact.Counts.{eof_exact, eof_soft, fail_exact, fail_soft};
-ghost use Rattle.winnow_exact.specs.Exact.Counts.{never_takes, rest_exact, rest_soft, take_exact};
-ghost use Rattle.winnow_exact.specs.Exact.Counts.{take_soft, unit_exact, unit_soft};
+ghost use Rattle.winnow_exact.specs.Exact.Counts.{never_takes, rest_exact, rest_len_exact};
+ghost use Rattle.winnow_exact.specs.Exact.Counts.{rest_len_soft, rest_soft, take_exact, take_soft};
+ghost use Rattle.winnow_exact.specs.Exact.Counts.{unit_exact, unit_soft};
 ghost use Rattle.winnow_exact.specs.Grammar.{AllTokens, Counted, Never, NoTokens, Nothing};
+ghost use Rattle.winnow_exact.specs.Grammar.{UnitsLeft};
 ghost use Rattle.winnow_token.specs.Take.{take_count};
 
 use crate::exact::Exact;
@@ -12,7 +14,7 @@ use stream_errors::parser_error::ParserError;
 use streams::stream::{Stream, StreamIsPartial};
 use winnow_comb::combinator::impls::{Empty, Fail};
 use winnow_core::combinator::impls::Eof;
-use winnow_token::token::impls::{Rest, Take};
+use winnow_token::token::impls::{Rest, RestLen, Take};
 
 impl<I: StreamIsPartial, E: ParserError<I>> Exact<I, I::Slice, E> for Take<I, E> {
     ghost consumes = { λ p. 0 < take_count p };
@@ -34,6 +36,18 @@ impl<I: Stream, E: ParserError<I>> Exact<I, I::Slice, E> for Rest {
     ghost exact = { λ p form is. rest_exact I.reading };
 
     ghost soft = { λ p form is soft. rest_soft I.reading };
+
+    ghost takes = { λ p is never. absurd never };
+}
+
+impl<I: Stream, E: ParserError<I>> Exact<I, usize, E> for RestLen {
+    ghost consumes = { λ p. ⊥ };
+
+    ghost grammar = { λ p. UnitsLeft I.reading };
+
+    ghost exact = { λ p form is. rest_len_exact I.reading };
+
+    ghost soft = { λ p form is soft. rest_len_soft I.reading };
 
     ghost takes = { λ p is never. absurd never };
 }

@@ -1,8 +1,9 @@
 //! Literals read themselves.
 ghost use Rattle.std.specs.Prelude.{◌≡◌, ⊤, [], ◌∷◌, List};
-ghost use Rattle.winnow_exact.specs.Exact.Literals.{SpellsByText, crlf_exact, crlf_soft};
-ghost use Rattle.winnow_exact.specs.Exact.Literals.{literal_exact, literal_soft};
+ghost use Rattle.winnow_exact.specs.Exact.Literals.{SpellsByText, literal_exact, literal_soft};
+ghost use Rattle.winnow_exact.specs.Exact.Literals.{text_exact, text_soft};
 ghost use Rattle.winnow_exact.specs.Grammar.{Literally, SpelledBy};
+ghost use Rattle.winnow_exact.specs.Grammar.Searches.{Text};
 ghost use Rattle.winnow_exact.specs.Grammar.Unique.{literally_takes};
 ghost use Rattle.winnow_token.specs.Literal.{literal_value};
 
@@ -190,12 +191,13 @@ impl<I: StreamIsPartial + Compare<&'static str>, E: ParserError<I>> Exact<I, I::
 
     ghost consumes = { λ p. SpelledBy I.spells (13 ∷ 10 ∷ []) [] → ⊥ };
 
-    ghost grammar = { λ p. Literally I.reading (SpelledBy I.spells) (λ _ slice. slice)
+    ghost grammar = { λ p. Text I.reading I.spells (13 ∷ 10 ∷ []) };
+
+    ghost exact = { λ p form is. text_exact I.reading form I.spells is I.same_units
         (13 ∷ 10 ∷ []) };
 
-    ghost exact = { λ p form is. crlf_exact I.reading form I.spells is I.same_units };
-
-    ghost soft = { λ p form is soft. crlf_soft I.reading form I.spells is I.same_units };
+    ghost soft = { λ p form is soft. text_soft I.reading form I.spells is I.same_units
+        (13 ∷ 10 ∷ []) };
 
     ghost takes = { λ p is some. literally_takes I.reading (SpelledBy I.spells)
         (λ _ slice. slice) (13 ∷ 10 ∷ []) some };

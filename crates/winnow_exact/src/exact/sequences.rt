@@ -8,10 +8,12 @@ ghost use Rattle.winnow_comb.specs.Preceded.{preceded_ignored, preceded_parser};
 ghost use Rattle.winnow_comb.specs.SeparatedPair.{separated_pair_first, separated_pair_second};
 ghost use Rattle.winnow_comb.specs.SeparatedPair.{separated_pair_separator};
 ghost use Rattle.winnow_comb.specs.Terminated.{terminated_ignored, terminated_parser};
+ghost use Rattle.winnow_exact.specs.Exact.Adapters.{made_of_takes};
 ghost use Rattle.winnow_exact.specs.Exact.Along.{either_way};
-ghost use Rattle.winnow_exact.specs.Exact.Sequences.{both_exact, both_soft, both_takes};
+ghost use Rattle.winnow_exact.specs.Exact.Sequences.{OneTuple, both_exact, both_soft, both_takes};
+ghost use Rattle.winnow_exact.specs.Exact.Sequences.{tuple1_exact, tuple1_soft};
 ghost use Rattle.winnow_exact.specs.Exact.Three.{three_exact, three_soft, three_takes};
-ghost use Rattle.winnow_exact.specs.Grammar.{Both, Three};
+ghost use Rattle.winnow_exact.specs.Grammar.{Both, Made, Three};
 
 use crate::exact::Exact;
 use stream_errors::parser_error::ParserError;
@@ -160,4 +162,22 @@ impl<
         (either_way (either_way (P1.takes (separated_pair_first p) is.0) (P2.takes
         (separated_pair_separator p) is.1))
         (P3.takes (separated_pair_second p) is.2) some) };
+}
+
+impl<P1: Exact<I, O1, E>, I: Stream, O1, E: ParserError<I>> Exact<I, (O1,), E> for (P1,) {
+    ghost premise = { λ p. P1.premise p.0 };
+
+    ghost backtracks = { λ p. P1.backtracks p.0 };
+
+    ghost consumes = { λ p. P1.consumes p.0 };
+
+    ghost grammar = { λ p. Made OneTuple tt (P1.grammar p.0) };
+
+    ghost exact = { λ p form is. tuple1_exact (P1.meaning form) (record { 0 = P1.state p.0 })
+        (P1.exact p.0 form is) };
+
+    ghost soft = { λ p form is soft. tuple1_soft (P1.meaning form)
+        (record { 0 = P1.state p.0 }) (P1.soft p.0 form is soft) };
+
+    ghost takes = { λ p is some. made_of_takes OneTuple tt (P1.takes p.0 is some) };
 }

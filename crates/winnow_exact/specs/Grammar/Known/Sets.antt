@@ -1,15 +1,14 @@
 -- What a caller knows over bytes of tokens and takes by set.
-use Rattle.std.specs.Prelude.{◌≡◌, ◌⊎◌, ◌≤◌, ℕ, Bool, true, false, List, [], ◌∷◌, ◌++◌, length}
+use Rattle.std.specs.Prelude.{◌≡◌, ◌≤◌, ℕ, Bool, true, false, List, ◌∷◌, ◌++◌, length}
 use Rattle.std.specs.Prelude.{None}
 use Rattle.std.specs.Borrow.{Bor}
 use Rattle.std.specs.List.{All}
-use Rattle.std.proofs.Common.{refl, sym, ap, subst, inl, inr, ◌∙◌}
+use Rattle.std.proofs.Common.{refl, sym, subst, inl, inr}
 use Rattle.std.proofs.lemmas.List.Elements.{All-weaker}
 use Rattle.streams.specs.Counted.{counted_reading}
 use Rattle.streams.specs.Equal.{none_is_some}
 use Rattle.streams.specs.Stream.{AnswersSeen}
 use Rattle.stream_sets.specs.Range.{from_to}
-use Rattle.winnow_token.specs.TakeWhile.{IsLongest}
 use Rattle.winnow_exact.specs.Grammar.{Longest, Token, TokenOf}
 
 -- a token that is any is the first byte

@@ -1,0 +1,48 @@
+//! The trait of parsers that read an input in pieces by a grammar.
+ghost use Rattle.std.specs.Prelude.{◌≡◌};
+ghost use Rattle.stream_errors.specs.Form.{modal};
+ghost use Rattle.winnow_exact.specs.Exact.Cut.{ReadsOrAsks};
+
+use crate::exact::Exact;
+use stream_errors::parser_error::ParserError;
+use streams::stream::Stream;
+use winnow_core::stable::Stable;
+
+/// A parser that reads by a grammar, and is stable: what it answers on a cut input it answers on
+/// each longer one. Each that is both is one.
+///
+/// ```
+/// use stream_errors::empty::EmptyError;
+/// use stream_errors::mode::ErrMode;
+/// use streams::needed::Needed;
+/// use streams::partial::Partial;
+/// use winnow_ascii::ascii::impls::Alpha1;
+/// use winnow_exact::pieces::ReadsPieces;
+///
+/// let mut piece = Partial::new(b"ab".as_slice());
+/// let asks: Result<&[u8], ErrMode<EmptyError>> = Alpha1.read_cut(&mut piece);
+/// assert_eq!(rt; asks, Err(ErrMode::Incomplete(Needed::new(1))));
+/// let mut more = Partial::new(b"ab;".as_slice());
+/// let answer: Result<&[u8], ErrMode<EmptyError>> = Alpha1.read_cut(&mut more);
+/// assert_eq!(rt; answer, Ok(b"ab".as_slice()));
+/// ```
+pub trait ReadsPieces<I: Stream, O, E: ParserError<I>>: Exact<I, O, E> + Stable<I, O, E> {
+    /// As [`read`](crate::exact::Exact::read), and its grammar says what it answers on a cut input
+    /// too: whatever follows until the input is complete, an output stands first in all of it,
+    /// with what is left and what followed; an error that backtracks says that none does. Else it
+    /// asks for more, or wants memory. The caller owes errors with a mode.
+    #[inline(always)]
+    final fn read_cut(&mut self, input: &mut I) -> Result<O, E>
+        requires callable { Self.can_parse self.old }
+        requires premise { Self.premise self.old }
+        requires backtracks { Self.backtracks self.old }
+        requires modal { E.form ≡ modal }
+        ensures { ReadsOrAsks I.reading I.following E.kind (Self.grammar self.old)
+            (I.view input.old) result (I.view input.new) }
+    {
+        self.parse_next(input)
+    }
+}
+
+impl<P: Exact<I, O, E> + Stable<I, O, E>, I: Stream, O, E: ParserError<I>> ReadsPieces<I, O, E>
+    for P {}
