@@ -14,7 +14,9 @@ and that all of these are stable. It prints the crates whose files it writes.
 from family.choices import write_choices
 from family.chosen import write_chosen
 from family.classes import write_classes
+from family.decided import write_decided
 from family.exact import write_exact
+from family.exact_integers import write_exact_integers
 from family.integers import write_integers
 from family.known import write_known
 from family.reads import write_reads
@@ -33,4 +35,6 @@ if __name__ == "__main__":
     write_integers()
     write_chosen()
     write_exact()
+    write_decided()
+    write_exact_integers()
     print("stream_sets winnow_core winnow_comb winnow_ascii winnow_integers winnow_binary")

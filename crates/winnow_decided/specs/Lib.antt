@@ -1,0 +1,4 @@
+-- Written by scripts/registries.py: do not edit.
+pub mod Decided
+pub mod Held
+pub mod Pieces
