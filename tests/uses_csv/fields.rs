@@ -1,99 +1,76 @@
-//! Fields of comma separated values.
+//! Fields of records, and where records end.
 use std::fmt::Debug;
 use std::process::Abort;
-use uses_csv::field::read_field;
+use uses_csv::{LineEnd, read_record};
 
-/// A text, the field that it begins with, whether this has quotes, and what is left. The fields are
-/// as Python's `csv.writer` writes them, with as few quotes as it can and with all, and its strict
-/// reader reads them back.
-const FIELDS: &[(&[u8], &[u8], bool, &[u8])] = &[
-    (b"", b"", false, b""),
-    (b",next", b"", false, b",next"),
-    (b"\r\n", b"", false, b"\r\n"),
-    (b"\r\nx", b"", false, b"\r\nx"),
-    (b"\"\"", b"", true, b""),
-    (b"\"\",next", b"", true, b",next"),
-    (b"\"\"\r\n", b"", true, b"\r\n"),
-    (b"\"\"\r\nx", b"", true, b"\r\nx"),
-    (b"a", b"a", false, b""),
-    (b"a,next", b"a", false, b",next"),
-    (b"a\r\n", b"a", false, b"\r\n"),
-    (b"a\r\nx", b"a", false, b"\r\nx"),
-    (b"\"a\"", b"a", true, b""),
-    (b"\"a\",next", b"a", true, b",next"),
-    (b"\"a\"\r\n", b"a", true, b"\r\n"),
-    (b"\"a\"\r\nx", b"a", true, b"\r\nx"),
-    (b"a b", b"a b", false, b""),
-    (b"a b,next", b"a b", false, b",next"),
-    (b"a b\r\n", b"a b", false, b"\r\n"),
-    (b"a b\r\nx", b"a b", false, b"\r\nx"),
-    (b"\"a b\"", b"a b", true, b""),
-    (b"\"a b\",next", b"a b", true, b",next"),
-    (b"\"a b\"\r\n", b"a b", true, b"\r\n"),
-    (b"\"a b\"\r\nx", b"a b", true, b"\r\nx"),
-    (b"\xc3\xa9", b"\xc3\xa9", false, b""),
-    (b"\xc3\xa9,next", b"\xc3\xa9", false, b",next"),
-    (b"\xc3\xa9\r\n", b"\xc3\xa9", false, b"\r\n"),
-    (b"\xc3\xa9\r\nx", b"\xc3\xa9", false, b"\r\nx"),
-    (b"\"\xc3\xa9\"", b"\xc3\xa9", true, b""),
-    (b"\"\xc3\xa9\",next", b"\xc3\xa9", true, b",next"),
-    (b"\"\xc3\xa9\"\r\n", b"\xc3\xa9", true, b"\r\n"),
-    (b"\"\xc3\xa9\"\r\nx", b"\xc3\xa9", true, b"\r\nx"),
-    (b"\"x,y\"", b"x,y", true, b""),
-    (b"\"x,y\",next", b"x,y", true, b",next"),
-    (b"\"x,y\"\r\n", b"x,y", true, b"\r\n"),
-    (b"\"x,y\"\r\nx", b"x,y", true, b"\r\nx"),
-    (b"\"\"\"\"", b"\"\"", true, b""),
-    (b"\"\"\"\",next", b"\"\"", true, b",next"),
-    (b"\"\"\"\"\r\n", b"\"\"", true, b"\r\n"),
-    (b"\"\"\"\"\r\nx", b"\"\"", true, b"\r\nx"),
-    (b"\"say \"\"hi\"\"\"", b"say \"\"hi\"\"", true, b""),
-    (b"\"say \"\"hi\"\"\",next", b"say \"\"hi\"\"", true, b",next"),
-    (b"\"say \"\"hi\"\"\"\r\n", b"say \"\"hi\"\"", true, b"\r\n"),
-    (b"\"say \"\"hi\"\"\"\r\nx", b"say \"\"hi\"\"", true, b"\r\nx"),
-    (b"\"a\r\nb\"", b"a\r\nb", true, b""),
-    (b"\"a\r\nb\",next", b"a\r\nb", true, b",next"),
-    (b"\"a\r\nb\"\r\n", b"a\r\nb", true, b"\r\n"),
-    (b"\"a\r\nb\"\r\nx", b"a\r\nb", true, b"\r\nx"),
-    (b"\"\"\"\"\"\"", b"\"\"\"\"", true, b""),
-    (b"\"\"\"\"\"\",next", b"\"\"\"\"", true, b",next"),
-    (b"\"\"\"\"\"\"\r\n", b"\"\"\"\"", true, b"\r\n"),
-    (b"\"\"\"\"\"\"\r\nx", b"\"\"\"\"", true, b"\r\nx"),
-    (b"\",\"", b",", true, b""),
-    (b"\",\",next", b",", true, b",next"),
-    (b"\",\"\r\n", b",", true, b"\r\n"),
-    (b"\",\"\r\nx", b",", true, b"\r\nx"),
-    (b"\"\n\"", b"\n", true, b""),
-    (b"\"\n\",next", b"\n", true, b",next"),
-    (b"\"\n\"\r\n", b"\n", true, b"\r\n"),
-    (b"\"\n\"\r\nx", b"\n", true, b"\r\nx"),
-    (b"\"\r\"", b"\r", true, b""),
-    (b"\"\r\",next", b"\r", true, b",next"),
-    (b"\"\r\"\r\n", b"\r", true, b"\r\n"),
-    (b"\"\r\"\r\nx", b"\r", true, b"\r\nx"),
+/// A text, the bytes of the first field of the record that it begins with,
+/// how many fields the record has, and what is left. The fields are as Python's `csv.writer` writes
+/// them, with as few quotes as it can and with all, and its strict reader reads them back.
+const RECORDS: &[(&[u8], &[u8], usize, &[u8])] = &[
+    (b",next", b"", 2, b""),
+    (b"\r\n", b"", 1, b""),
+    (b"\r\nx", b"", 1, b"x"),
+    (b"\"\"", b"", 1, b""),
+    (b"\"\",next", b"", 2, b""),
+    (b"\"\"\r\n", b"", 1, b""),
+    (b"\"\"\r\nx", b"", 1, b"x"),
+    (b"a", b"a", 1, b""),
+    (b"a,next", b"a", 2, b""),
+    (b"a\r\n", b"a", 1, b""),
+    (b"a\r\n\r\n", b"a", 1, b"\r\n"),
+    (b"\"a\"", b"a", 1, b""),
+    (b"\"a\",\"next\",\r\n", b"a", 3, b""),
+    (b"a b ,c", b"a b ", 2, b""),
+    (b" \t,c", b" \t", 2, b""),
+    (b"\xc3\xa9\r\nx", b"\xc3\xa9", 1, b"x"),
+    (b"\"\xc3\xa9\",", b"\xc3\xa9", 2, b""),
+    (b"\"x,y\"", b"x,y", 1, b""),
+    (b"\"\"\"\"", b"\"", 1, b""),
+    (b"\"\"\"\",next", b"\"", 2, b""),
+    (b"\"say \"\"hi\"\"\"\r\nx", b"say \"hi\"", 1, b"x"),
+    (b"\"a\r\nb\",next\r\n", b"a\r\nb", 2, b""),
+    (b"\"\"\"\"\"\"", b"\"\"", 1, b""),
+    (b"\",\"\r\nx", b",", 1, b"x"),
+    (b"\"\n\"", b"\n", 1, b""),
+    (b"\"\r\"", b"\r", 1, b""),
+    // What the standard has no word for.
+    (b"\x01\x7f\x00,", b"\x01\x7f\x00", 2, b""),
+    (b"\"\x01\x7f\x00\"", b"\x01\x7f\x00", 1, b""),
 ];
 
-/// Texts that begin with no field, by the grammar of RFC 4180: a quote that is not closed or stands
-/// in the middle, a byte behind a closing quote, a lone line feed or carriage return outside of
-/// quotes, a control character.
-const NO_FIELDS: &[&[u8]] = &[
+/// Texts that begin with no record: a quote that is not closed or stands in the middle, a byte behind
+/// a closing quote, a lone line feed or carriage return outside of quotes, no bytes.
+const NO_RECORDS: &[&[u8]] = &[
+    b"",
     b"\"",
     b"\"a",
     b"\"a\"\"",
     b"\"a\"b",
     b"\"a\" ",
+    b" \"a\"",
     b"a\"",
     b"a\"b\"",
     b"a\nb",
     b"a\rb",
     b"a\r",
+    b"\n",
     b"\"a\"\r",
     b"\"a\"\n",
-    b"\"\x01\"",
-    b"\x01",
-    b"a\x7f",
-    b"\"a\x7f\"",
     b"\"a\"\"b",
+    b"a,\"",
+    b"a,b\"c\r\n",
+];
+
+/// A text and what is left of it where line feeds alone end lines, or where it begins with no such
+/// record.
+const BY_LINE_FEEDS: &[(&[u8], Option<&[u8]>)] = &[
+    (b"a,b\nc", Some(b"c")),
+    (b"\n\n", Some(b"\n")),
+    (b"\"a\r\nb\"\n", Some(b"")),
+    (b"a", Some(b"")),
+    (b"a\r\nb", None),
+    (b"\r\n", None),
+    (b"", None),
 ];
 
 fn same<T: PartialEq + Debug + Drop>(rt: &impl Abort, row: &[u8], got: T, want: T) {
@@ -101,24 +78,35 @@ fn same<T: PartialEq + Debug + Drop>(rt: &impl Abort, row: &[u8], got: T, want: 
 }
 
 #[test]
-fn read_field_of_fields(rt: HostRuntime) {
-    for (text, inner, is_quoted, rest) in FIELDS {
+fn read_record_of_records(rt: HostRuntime) {
+    for (text, bytes, count, rest) in RECORDS {
         let mut input = *text;
-        match read_field(&mut input) {
-            Some(field) => {
-                same(&rt, text, field.text, *inner);
-                same(&rt, text, field.is_quoted, *is_quoted);
+        match read_record(rt.alloc(), LineEnd::CrLf, &mut input) {
+            Ok(fields) => {
+                same(&rt, text, fields.len(), *count);
+                if let Some(field) = fields.first() {
+                    same(&rt, text, field.as_slice(), *bytes);
+                }
                 same(&rt, text, input, *rest);
             }
-            None => same(&rt, text, true, false),
+            Err(error) => same(&rt, text, Err(error), Ok(())),
         }
     }
 }
 
 #[test]
-fn read_field_of_none(rt: HostRuntime) {
-    for text in NO_FIELDS {
+fn read_record_of_none(rt: HostRuntime) {
+    for text in NO_RECORDS {
         let mut input = *text;
-        same(&rt, text, read_field(&mut input).is_none(), true);
+        same(&rt, text, read_record(rt.alloc(), LineEnd::CrLf, &mut input).is_err(), true);
+    }
+}
+
+#[test]
+fn read_record_by_line_feeds(rt: HostRuntime) {
+    for (text, want) in BY_LINE_FEEDS {
+        let mut input = *text;
+        let is_read = read_record(rt.alloc(), LineEnd::Lf, &mut input).is_ok();
+        same(&rt, text, if is_read { Some(input) } else { None }, *want);
     }
 }

@@ -1,5 +1,4 @@
 -- Written by scripts/registries.py: do not edit.
-pub mod Document
-pub mod Field
-pub mod Ranges
-pub mod Record
+pub mod Csv
+pub mod Read
+pub mod Unique

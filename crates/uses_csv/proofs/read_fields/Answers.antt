@@ -1,0 +1,9 @@
+use Rattle.uses_csv.specs.Read.{reads_by}
+use Rattle.uses_csv.proofs.read_fields.Goals as goal
+
+pub returns : goal.returns
+returns g c = reads_by c.read.ensures (rw (
+  c.separated.ensures.occurrences,
+  c.separated.ensures.separator,
+  c.from.ensures,
+))

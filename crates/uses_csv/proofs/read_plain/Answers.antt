@@ -1,0 +1,10 @@
+use Rattle.uses_csv.specs.Read.{reads_by}
+use Rattle.uses_csv.proofs.read_plain.Goals as goal
+
+pub returns : goal.returns
+returns g c = reads_by c.read.ensures (rw (
+  c.repeat.ensures.occurrences,
+  c.repeat.ensures.parser,
+  c.from.ensures,
+  c.none_of-plain.ensures,
+))
