@@ -1,0 +1,6 @@
+use Rattle.winnow_exact.specs.Held.{HasCharacters}
+use Rattle.json_texts.specs.Strings.{string_of}
+use Rattle.json_texts.proofs.laws.strings_are_those_of_the_standard.Goals as goal
+
+pub returns : goal.returns
+returns g c = string_of HasCharacters

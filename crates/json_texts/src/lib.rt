@@ -1,0 +1,10 @@
+//! Texts of JSON (RFC 8259), and that grammars are theirs.
+//!
+//! Which texts are those of a number, of a string and of a value is said in `specs/`, in the words
+//! of the grammar of RFC 8259. Beside them stand grammars as parsers have them, which read from the
+//! left, the first choice that stands and the longest run. The laws say that the one is the other.
+//! Each is a function that does nothing, and its clause is the law.
+#![tactic(auto)]
+
+pub mod laws;
+pub mod value;
