@@ -1,6 +1,6 @@
 """The kit's own module `rt`, for scripts that use what its commands are made of. Run by itself, in
-the folder of a crate, it is `rt try --test` without the check that `rt` runs beside it: that gives
-hints of names that are reserved, which tests are never checked for, and takes as long again."""
+the folder of a crate, it is `rt try` without the check that `rt` runs beside it: that gives hints
+of names that are reserved, and takes as long again."""
 import importlib.machinery
 import importlib.util
 import os
@@ -21,4 +21,4 @@ def toolchain():
 if __name__ == "__main__":
     rt = toolchain()
     rt.rtlib.RATTLE = shutil.which("true")
-    sys.exit(rt.main(["try", "--test"]))
+    sys.exit(rt.main(["try", *sys.argv[1:]]))

@@ -1,13 +1,18 @@
-"""The table of parsers, `docs/PARSERS.md`: each with how it is called, its struct, its definition,
-its first sentence and its name in nom; and an index of nom's names."""
+"""The tables of parsers, `docs/PARSERS.md`, by purpose: each with how it is called, what goes in and
+comes out, its struct, its names in nom, its definition and its first sentence; and an index of
+nom's names."""
 import re
 
 from registry.common import CRATES, TOP, below_winnow, by_hand, camel, items_of, read, write
 from registry.facade import title
+from registry.purposes import PURPOSES, SAME, in_nom, others
 
 PAGE = TOP / "docs/PARSERS.md"
 # A documented function or method: its comment, and then its name.
 FUNCTION = r"((?:^ *///.*\n)+)(?:^ *#\[.*\n)*^ *(?:pub|final) fn (\w+)"
+# What is asked of nearly every stream.
+STREAMS = ("Stream", "StreamIsPartial", "Copy", "")
+COLUMNS = ("Parser", "Call", "In and out", "Struct", "In nom", "Definition", "Is")
 
 
 def sentence(comment):
@@ -28,6 +33,23 @@ def closing(text, at, opened, closed):
     raise SystemExit(f"{text[at:at + 40]} is not closed")
 
 
+def split(text):
+    """The parts of a list with commas, where those within brackets divide nothing."""
+    depth, parts = 0, [""]
+    for at, sign in enumerate(text):
+        depth += (sign in "<([") - (sign in ">)]" and text[at - 1] != "-")
+        if sign == "," and not depth:
+            parts.append("")
+        else:
+            parts[-1] += sign
+    return [it.strip() for it in parts if it.strip()]
+
+
+def header(path):
+    """What the head of a module says of it."""
+    return " ".join(re.findall(r"^//! (.*)$", read(path).partition("\n//!\n")[0], re.MULTILINE))
+
+
 def call(text, at, name):
     """How the function whose name ends at `at` is called: its parameters, with their types."""
     start = closing(text, at, "<", ">") if text[at] == "<" else at
@@ -36,23 +58,59 @@ def call(text, at, name):
     return f"{'.' if inner != whole else ''}{name}({inner})"
 
 
-def names_in_nom(comment):
-    """The names that a comment says nom has for it."""
-    text = " ".join(line.strip()[3:].strip() for line in comment.strip().split("\n"))
-    known = re.search(r"Known as ([^.]*?) (?:of `[\w:]+` )?in nom", text)
-    return re.findall(r"`(\w+)`", known[1]) if known else []
-
-
 def functions(crate):
-    """Of each public function of a crate, by its name: its first sentence, how it is called, and
-    its names in nom."""
+    """Of each public function of a crate, by its name: its first sentence and how it is called."""
     found = {}
     for file in sorted((CRATES / crate / "src").rglob("*.rt")):
         text = read(file)
         for it in re.finditer(FUNCTION, text, re.MULTILINE):
-            about = sentence(it[1]), call(text, it.end(), it[2]), names_in_nom(it[1])
-            found.setdefault(it[2], about)
+            found.setdefault(it[2], (sentence(it[1]), call(text, it.end(), it[2])))
     return found
+
+
+def block(path):
+    """What the block that makes a struct a parser says: its parameters, each with its bounds, the
+    input, the output and the error, and the struct."""
+    text = read(path)
+    for found in re.finditer(r"^impl<", text, re.MULTILINE):
+        end = closing(text, found.end() - 1, "<", ">")
+        rest = " ".join(text[end : text.index("{\n", end)].split())
+        if not re.match(r"Parser<|Iterator for ", rest):
+            continue
+        inside = [it.partition(": ") for it in split(text[found.end() : end - 1])]
+        bounds = {name: of for name, _, of in inside}
+        bounds |= dict(re.findall(r"(I::\w+): ([\w ]+)", rest.partition(" where ")[2]))
+        struct = re.search(r"\bfor (\w+)", rest)[1]
+        if rest.startswith("Iterator"):
+            return bounds, ["I", "an iterator over `O`", "E"], struct
+        types = split(rest[len("Parser<") : closing(rest, 6, "<", ">") - 1])
+        return bounds, [types[0], f"`{types[1]}`", types[2]], struct
+    raise SystemExit(f"{path}: no block makes it a parser")
+
+
+def known(bounds, names, plain):
+    """What is asked of parameters, but for what says little."""
+    for name in names:
+        of = " + ".join(it for it in bounds.get(name, "").split(" + ") if it not in plain)
+        if of:
+            yield f"`{name}: {of}`"
+
+
+def goes(bounds, types):
+    """What goes into a parser and what comes out: what it asks of the stream, the outputs of its
+    parts and its own, and what it asks of these and of closures."""
+    stream, output, error = types
+    asks = [f"`{stream}`"] * (stream != "I")
+    asks += known(bounds, [it for it in bounds if it[:3] in ("I", "I::")], STREAMS)
+    text = "; ".join(bounds.values())
+    parts = re.findall(r"(?:Parser|Alt)<\w+(?:<\w+>)?, ([^,]+(?:<\w+>)?), \w+>", text)
+    names = dict.fromkeys(re.findall(r"\b[A-Z]\w*\b", f"{' '.join(parts)} {output}"))
+    names = [*(it for it in bounds if re.match("Fn", bounds[it])), *(it for it in names if it != "I")]
+    others = ", ".join(known(bounds, names, ("Drop", "")))
+    inside = ", ".join(f"`{it}`" for it in parts)
+    moves = f"{', '.join(asks)}{': ' if asks else ''}{inside}{' → ' if parts else ''}{output}"
+    changed = f"; the error becomes `{error}`" if error != "E" else ""
+    return f"{moves}{changed}{', with ' if others else ''}{others}"
 
 
 def definition(crate, path):
@@ -72,42 +130,75 @@ def row(crate, path, said):
     of = definition(crate, path)
     if path.stem not in said:
         raise SystemExit(f"{path}: {crate} has no documented function {path.stem}")
-    link = f"[{of.name}](../{of.relative_to(TOP)})"
-    about, called, _ = said[path.stem]
-    called = called.replace("|", "\\|")
-    return f"| `{path.stem}` | `{called}` | `{struct(path)}` | {link} | {about} |\n"
+    about, called = said[path.stem]
+    nom = ", ".join(f"`{it}`" for it in in_nom(called))
+    link = f"[{of.stem}](../{of.relative_to(TOP)})"
+    bounds, types, struct = block(path)
+    cells = [f"`{path.stem}`", f"`{called}`", goes(bounds, types), f"`{struct}`", nom, link, about]
+    return "| " + " | ".join(it.replace("|", "\\|") for it in cells) + " |\n"
 
 
-def struct(path):
-    """The struct of a parser's file."""
-    names = items_of(path, "struct")
-    own = [it for it in names if it in (camel(path.stem), f"{camel(path.stem)}Parser")]
-    return (own or names or [camel(path.stem)])[0]
+def parsers():
+    """The files of the public parsers, each with its crate, in order."""
+    for crate in below_winnow():
+        for path in sorted((CRATES / crate / "src").glob("*/impls/*.rt")):
+            if items_of(path):
+                yield crate, path
 
 
-def section(crate):
-    """The table of the parsers of a crate, or nothing where it has none."""
-    files = sorted(it for it in (CRATES / crate / "src").glob("*/impls/*.rt") if items_of(it))
-    if not files:
-        return ""
-    said = functions(crate)
-    rows = "".join(row(crate, it, said) for it in files)
-    columns = "| Parser | Call | Struct | Definition | Is |\n|---|---|---|---|---|\n"
-    return f"\n## `{crate}`\n\n{title(crate)}\n\n{columns}{rows}"
+def in_order(name):
+    """A name by which others are sorted, with its numbers by their size."""
+    return re.sub(r"\d+", lambda found: found[0].zfill(3), name)
+
+
+def table(head, rows):
+    columns = "".join(f"| {it} " for it in COLUMNS) + "|\n" + "|---" * len(COLUMNS) + "|\n"
+    return f"\n## {head}\n\n{columns}{''.join(rows)}" if rows else ""
+
+
+def tables():
+    """The tables by purpose. What has none stands last, by its crate."""
+    left = {path: crate for crate, path in parsers()}
+    said = {crate: functions(crate) for crate in below_winnow()}
+    for purpose, wanted in PURPOSES.items():
+        rows = []
+        for crate, names in wanted.items():
+            mine = {path.stem: path for path, of in left.items() if of == crate}
+            for name in names.split() or sorted(mine, key=in_order):
+                if name not in mine:
+                    raise SystemExit(f"{crate} has no parser {name}, or it has a purpose already")
+                rows.append(row(crate, mine[name], said[crate]))
+                del left[mine[name]]
+        yield table(purpose, rows)
+    for crate in below_winnow():
+        rows = [row(crate, path, said[crate]) for path, of in left.items() if of == crate]
+        yield table(title(crate).rstrip("."), rows)
+
+
+def modules():
+    """The modules of the crate `winnow`, each with what it has."""
+    rows = []
+    for path in sorted((CRATES / "winnow/src").rglob("*.rt")):
+        module = "::".join(path.relative_to(CRATES / "winnow/src").with_suffix("").parts)
+        if module != "lib":
+            rows.append(f"| `winnow::{module}` | {header(path)} |\n")
+    rows.append(f"| `winnow::token` | {header(CRATES / 'winnow_token/src/token.rt')} |\n")
+    rows.append(f"| `winnow::binary::bits` | {header(CRATES / 'winnow_bits/src/bits.rt')} |\n")
+    return f"\n## The modules\n\n| Module | Has |\n|---|---|\n{''.join(sorted(rows))}"
 
 
 def index():
-    """The names of nom, and the parsers here."""
-    found = {}
-    for crate in below_winnow():
-        for name, (_, _, others) in functions(crate).items():
-            for other in others:
-                found.setdefault(other, set()).add(name)
-    here = {it: ", ".join(f"`{name}`" for name in sorted(found[it])) for it in sorted(found)}
-    lines = [f"| `{it}` | {names} |\n" for it, names in here.items()]
-    return "\n## nom's names\n\n| In nom | Here |\n|---|---|\n" + "".join(lines)
+    """nom's names, and what is written here."""
+    plain = ", ".join(f"`{it}`" for it in sorted(SAME) if it[0] != ".")
+    calls = ", ".join(f"`{it[1:]}`" for it in sorted(SAME) if it[0] == ".")
+    text = f"\n## nom's names\n\nThe same here: {plain}.\n\n"
+    text += f"Functions in nom, and here calls of the parser: {calls}.\n\n"
+    text += "| In nom | Here |\n|---|---|\n"
+    for names, module, here in sorted(others()):
+        cell = ", ".join(f"`{it}`" for it in names) + (f", {module}" if module else "")
+        text += f"| {cell} | {here} |\n"
+    return text
 
 
 def write_parsers():
-    sections = "".join(section(crate) for crate in below_winnow())
-    write(PAGE, by_hand(PAGE, "<!--", " -->") + sections + index())
+    write(PAGE, by_hand(PAGE, "<!--", " -->") + modules() + "".join(tables()) + index())

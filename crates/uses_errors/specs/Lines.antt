@@ -1,0 +1,53 @@
+-- Why a line of a log is refused, and of which level it is.
+use Rattle.std.specs.Prelude.{◌≡◌, ◌⊎◌, ℕ, Option, None, Some, nat_eq, if◌then◌else◌}
+use Rattle.std.proofs.Common.{refl, inl, inr}
+use Rattle.streams.specs.Kind.{Kind, backtrack, memory}
+use Rattle.stream_errors.specs.Form.{inner_kind_of}
+use Rattle.uses_errors.specs.declared.Level.{Level}
+use Rattle.uses_errors.specs.declared.Level.TheVariants.{Error, Info, Warning}
+use Rattle.uses_errors.specs.declared.error.LineError.{LineError}
+use Rattle.uses_errors.specs.declared.error.LineError.TheVariants.{Expected, NoMemory, Other}
+use Rattle.uses_errors.specs.declared.error.LineError.TheVariants.{UnknownLevel}
+use Rattle.uses_errors.specs.declared.error.Part.{Part}
+
+-- the level that a letter stands for
+abbrev pub level_at : ℕ → Option Level
+level_at letter =
+    if nat_eq letter 69 then Some Error
+    else (if nat_eq letter 87 then Some Warning
+    else (if nat_eq letter 73 then Some Info else None))
+
+-- the kind of an error: only want of memory does not backtrack
+abbrev pub line_kind : LineError → Kind
+line_kind Other = backtrack
+line_kind (Expected part) = backtrack
+line_kind (UnknownLevel letter) = backtrack
+line_kind NoMemory = memory
+
+-- what is known of an error where a part was being read: that it was expected, unless more is
+-- known already
+abbrev pub told : LineError → Part → LineError
+told Other part = Expected part
+told (Expected inner) part = Expected inner
+told (UnknownLevel letter) part = UnknownLevel letter
+told NoMemory part = NoMemory
+
+-- which of the errors of two branches is kept: want of memory, else the second
+abbrev pub chosen : LineError → LineError → LineError
+chosen NoMemory second = NoMemory
+chosen Other second = second
+chosen (Expected part) second = second
+chosen (UnknownLevel letter) second = second
+
+pub inner_kind_of-line_kind : (e : LineError) → inner_kind_of (line_kind e) ≡ Some (line_kind e)
+inner_kind_of-line_kind Other = refl
+inner_kind_of-line_kind (Expected part) = refl
+inner_kind_of-line_kind (UnknownLevel letter) = refl
+inner_kind_of-line_kind NoMemory = refl
+
+-- an error backtracks or wants memory
+pub line_kind-cases : (e : LineError) → (line_kind e ≡ backtrack) ⊎ (line_kind e ≡ memory)
+line_kind-cases Other = inl refl
+line_kind-cases (Expected part) = inl refl
+line_kind-cases (UnknownLevel letter) = inl refl
+line_kind-cases NoMemory = inr refl

@@ -1,0 +1,105 @@
+//! Lines of a log, with an error type of their own: an enum of this crate, which says what was
+//! expected or which letter stands for no level.
+//!
+//! A type is the error of parsers where it says which kind each of its values has ([`HasKind`]) and
+//! how parsers make and join it ([`ParserError`]). `context` wants [`AddContext`], and `try_map`
+//! [`FromExternalError`] for the errors of its closure.
+//!
+//! [`HasKind`]: stream_errors::has_kind::HasKind
+//! [`ParserError`]: stream_errors::parser_error::ParserError
+//! [`AddContext`]: stream_errors::context::AddContext
+//! [`FromExternalError`]: stream_errors::external::FromExternalError
+#![tactic(auto)]
+
+ghost use Rattle.std.specs.Prelude.{◌≡◌, MatchResult, None, Some};
+ghost use Rattle.uses_errors.specs.Lines.{level_at};
+
+pub mod error;
+
+use crate::error::{LineError, NoLevel, Part};
+use std::alloc::Allocator;
+use stream_errors::mode::ErrMode;
+use winnow_core::parser::Parser;
+use winnow_token::token::impls::Any;
+
+/// How much a line of a log matters.
+#[derive(Clone, Copy, Debug, PartialEq, Eq)]
+pub enum Level {
+    /// Something failed.
+    Error,
+    /// Something may fail.
+    Warning,
+    /// Something was done.
+    Info,
+}
+
+/// The level that a letter stands for.
+///
+/// ```
+/// use uses_errors::{Level, level_of};
+///
+/// assert_eq!(rt; level_of(b'W'), Ok(Level::Warning));
+/// ```
+pub fn level_of(letter: u8) -> Result<Level, NoLevel>
+    ensures { MatchResult result (λ level. level_at letter ≡ Some level)
+        (λ error. (level_at letter ≡ None) × (error.letter ≡ letter)) }
+{
+    match letter {
+        b'E' => Ok(Level::Error),
+        b'W' => Ok(Level::Warning),
+        b'I' => Ok(Level::Info),
+        _ => Err(NoLevel { letter }),
+    }
+}
+
+/// Reads the letter of a level. It says that a level is missing, or which letter stands for none.
+///
+/// ```
+/// use uses_errors::error::LineError;
+/// use uses_errors::read_letter;
+///
+/// let unknown = read_letter(alloc, &mut b"X: low".as_slice());
+/// assert_eq!(rt; unknown, Err(ErrMode::Backtrack(LineError::UnknownLevel(b'X'))));
+/// ```
+pub fn read_letter<'i, A: Allocator + Copy>(
+    alloc: A,
+    input: &mut &'i [u8],
+) -> Result<Level, ErrMode<LineError>> {
+    Any.try_map(level_of)
+        .context(alloc, Part::Level)
+        .parse_next(input)
+}
+
+/// Reads the colon behind a level, or says that it is missing.
+///
+/// ```
+/// use uses_errors::error::{LineError, Part};
+/// use uses_errors::read_colon;
+///
+/// let missing = read_colon(alloc, &mut b" low".as_slice());
+/// assert_eq!(rt; missing, Err(ErrMode::Backtrack(LineError::Expected(Part::Colon))));
+/// ```
+pub fn read_colon<'i, A: Allocator + Copy>(
+    alloc: A,
+    input: &mut &'i [u8],
+) -> Result<u8, ErrMode<LineError>> {
+    b':'.context(alloc, Part::Colon).parse_next(input)
+}
+
+/// Reads the level of a line and the colon behind it.
+///
+/// ```
+/// use uses_errors::{Level, read_level};
+///
+/// let mut input = b"W: low".as_slice();
+/// assert_eq!(rt; read_level(alloc, &mut input), Ok(Level::Warning));
+/// assert_eq!(rt; input, b" low".as_slice());
+/// ```
+pub fn read_level<'i, A: Allocator + Copy>(
+    alloc: A,
+    input: &mut &'i [u8],
+) -> Result<Level, ErrMode<LineError>> {
+    let level = read_letter(alloc, input)?;
+    let _colon = read_colon(alloc, input)?;
+    Ok(level)
+}

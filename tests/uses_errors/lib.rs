@@ -1,0 +1,5 @@
+//! The tests of an error type of one's own.
+#![tactic(auto)]
+
+#[cfg(test)]
+mod levels;
