@@ -6,7 +6,9 @@
 
 FILE is the one that gets the function NAME. The templates are two parsers of the library under the
 new name, `any` for a leaf and `opt` for a combinator, with their proofs: so what is laid out is
-proved as it stands, and is then changed step by step. It prints what is left to be written.
+proved as it stands, and is then changed step by step. A test, an edit and a note are laid out too,
+the lists and tables of all parsers are written, and each file is formatted: so what checks names
+finds it. It prints what is to be changed.
 """
 import pathlib
 import re
@@ -14,6 +16,7 @@ import subprocess
 import sys
 
 sys.path.insert(0, str(pathlib.Path(__file__).resolve().parent))
+from new_beside import beside  # noqa: E402
 from registry.common import CRATES, TOP, camel, read  # noqa: E402
 
 MODELS = {
@@ -27,9 +30,13 @@ NEXT = """Now change, in this order:
   {laws}: that its runs leave an end, stay on longer inputs, and mean the same over streams that
     are read alike
   {known}: what a caller knows of a run that answered
-and write: a test `{name}` in tests/, a note changes/{name}.md, and an edit
-  {edits}{name}_ANSWERS_WRONG.edit, a line of the code and a wrong one in its place.
+  {test}: what it answers, by values from outside
+  {edit}: a line of the code, and a wrong one in its place
+  {note}: a line for the release
 `./x quick` says what is missing."""
+# The same in other words, so that a line of the model stays the only one of its kind in its file: an
+# edit names it.
+OTHERWISE = ("match input.next_token() {", "match Input::next_token(input) {")
 
 
 class Place:
@@ -68,7 +75,7 @@ def renamed(text, of, to):
 def function(of):
     """The model's function, with its documentation."""
     found = re.search(rf"(?:^(?:///|#\[).*\n)*^pub fn {of.name}\b(?:.*\n)*?^\}}\n", read(of.file), re.MULTILINE)
-    return found[0]
+    return found[0].replace(*OTHERWISE)
 
 
 def imports(text):
@@ -82,6 +89,14 @@ def imports(text):
         yield "use ", path, name
 
 
+def with_import(text, words, line):
+    """A text with one more line that brings something in, in the order of these lines."""
+    lines = list(re.finditer(rf"^{words}(?:[^;]*);\n", text, re.MULTILINE))
+    behind = [it.end() for it in lines if it[0] < line]
+    at = behind[-1] if behind else lines[0].start() if lines else text.index("\n\n") + 2
+    return text[:at] + line + text[at:]
+
+
 def with_function(of, to):
     """The text of the new parser's file with its function, and with what that names."""
     body, text = function(of), read(to.file)
@@ -93,9 +108,7 @@ def with_function(of, to):
             path = path.replace("crate::", f"{of.crate.name}::") if of.crate != to.crate and "impls" not in path else path
             brought = f"{path}.{{{name}}}" if "Rattle" in path else f"{path}::{name}"
             line = renamed(f"{words}{brought};\n", of, to)
-            at = re.search(rf"^{words}", text, re.MULTILINE)
-            at = at.start() if at else text.index("\n\n") + 2
-            text = text[:at] + line + text[at:]
+            text = with_import(text, words, line)
     return text.rstrip("\n") + "\n\n" + renamed(body, of, to)
 
 
@@ -124,6 +137,13 @@ def name_in_module(to):
         root.write_text(text, encoding="utf-8")
 
 
+def written():
+    """Writes the lists of what the tree has: the crates with a file that it wrote."""
+    how = {"check": True, "capture_output": True, "text": True}
+    said = subprocess.run([sys.executable, str(TOP / "scripts/registries.py")], **how).stdout
+    return {CRATES / name for name in re.findall(r"^crates/(\w+)/", said, re.MULTILINE)}
+
+
 def main(words):
     if len(words) != 3 or words[0] not in MODELS or not words[1].endswith(".rt"):
         sys.exit(__doc__.strip())
@@ -136,14 +156,17 @@ def main(words):
         new.parent.mkdir(parents=True, exist_ok=True)
         new.write_text(renamed(read(old), of, to), encoding="utf-8")
     name_in_module(to)
-    subprocess.run([sys.executable, str(TOP / "scripts/registries.py")], check=True)
-    for crate in (to.crate, CRATES / "winnow"):
+    more = beside(words[0], to)
+    for path, text in more.items():
+        path.parent.mkdir(parents=True, exist_ok=True)
+        path.write_text(text, encoding="utf-8")
+    for crate in sorted({to.crate, *written()}):
         subprocess.run(["rt", "fmt"], cwd=crate, check=False, stdout=subprocess.DEVNULL)
     shown = {"file": to.file, "impls": to.impls, "spec": to.spec}
+    shown |= dict(zip(("test", "edit", "note"), more))
     shown |= {it: to.spec.with_suffix("") / f"{it.capitalize()}.antt" for it in ("laws", "known")}
     shown = {key: path.relative_to(TOP) for key, path in shown.items()}
-    edits = f"crates/{to.crate.name}/edits/"
-    print(NEXT.format(**shown, edits=edits, name=to.name, kind=camel(to.name)))
+    print(NEXT.format(**shown, name=to.name, kind=camel(to.name)))
 
 
 if __name__ == "__main__":
