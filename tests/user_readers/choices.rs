@@ -1,20 +1,22 @@
 //! Each reader of a choice on a text that it reads, and on one that it refuses.
 
+use crate::forms::{read_number_or_word, read_signed, read_switch};
+use test_support::rows::Modal;
 use uses_readers::choices::{
-    Duration, Level, Value, read_number_or_word, read_duration, read_level, read_port, read_signed,
-    read_switch, read_user, read_value,
+    Duration, Level, Value, read_duration, read_level, read_port, read_user, read_value,
 };
 
 #[test]
 fn names(rt: HostRuntime) {
-    assert!(rt; read_level(&mut "warning: low").ok() == Some(Level::Warning));
-    assert!(rt; read_level(&mut "info").is_err());
+    let level = read_level::<&str, Modal>(&mut "warning: low").ok();
+    assert!(rt; level == Some(Level::Warning));
+    assert!(rt; read_level::<&str, Modal>(&mut "info").is_err());
     assert_eq!(rt; read_switch(&mut b"yes".as_slice()).ok(), Some(true));
     assert_eq!(rt; read_switch(&mut b"off".as_slice()).ok(), Some(false));
     assert!(rt; read_switch(&mut b"maybe".as_slice()).is_err());
-    assert_eq!(rt; read_user(&mut "- 1").ok(), Some(None));
-    assert_eq!(rt; read_user(&mut "frank 1").ok(), Some(Some("frank")));
-    assert!(rt; read_user(&mut "1").is_err());
+    assert_eq!(rt; read_user::<&str, Modal>(&mut "- 1").ok(), Some(None));
+    assert_eq!(rt; read_user::<&str, Modal>(&mut "frank 1").ok(), Some(Some("frank")));
+    assert!(rt; read_user::<&str, Modal>(&mut "1").is_err());
     assert_eq!(rt; read_number_or_word(&mut "12a").ok(), Some(("12", true)));
     assert_eq!(rt; read_number_or_word(&mut "ab1").ok(), Some(("ab", false)));
     assert!(rt; read_number_or_word(&mut "-").is_err());

@@ -4,6 +4,8 @@
 #[cfg(test)]
 mod choices;
 #[cfg(test)]
+mod forms;
+#[cfg(test)]
 mod functions;
 #[cfg(test)]
 mod readers;

@@ -1,8 +1,10 @@
 //! Each reader of a record on a text that it reads, with what is left, and on some that it refuses.
 
+use crate::forms::{Person, Request, read_person, read_request};
+use test_support::rows::Modal;
 use uses_readers::records::{
-    Color, Date, Entry, Person, Point, Request, Version, read_assignment, read_chunk_length,
-    read_color, read_date, read_entry, read_person, read_point, read_request, read_version,
+    Color, Date, Entry, Point, Version, read_assignment, read_chunk_length, read_color, read_date,
+    read_entry, read_point, read_version,
 };
 use winnow::error::ErrMode;
 
@@ -114,7 +116,7 @@ fn bytes(rt: HostRuntime) {
     assert!(rt; read_request(&mut b"get / HTTP/1.1\r\n".as_slice()).is_err());
     assert!(rt; read_request(&mut b"GET  HTTP/1.1\r\n".as_slice()).is_err());
     assert!(rt; read_request(&mut b"GET / HTTP/1.0\r\n".as_slice()).is_err());
-    assert_eq!(rt; read_chunk_length(&mut b"1aF\r\n".as_slice()).ok(), Some(431));
-    assert!(rt; read_chunk_length(&mut b"1aF\n".as_slice()).is_err());
-    assert!(rt; read_chunk_length(&mut b"10000000000000000\r\n".as_slice()).is_err());
+    assert_eq!(rt; read_chunk_length::<&[u8], Modal>(&mut b"1aF\r\n".as_slice()).ok(), Some(431));
+    assert!(rt; read_chunk_length::<&[u8], Modal>(&mut b"1aF\n".as_slice()).is_err());
+    assert!(rt; read_chunk_length::<&[u8], Modal>(&mut b"10000000000000000\r\n".as_slice()).is_err());
 }

@@ -1,12 +1,13 @@
 //! Choices: one of some forms, by `alt`, by `opt`, or by a look at what stands first.
 
-use winnow::ascii::impls::{Alpha1, DecInt, DecUint, Digit1};
+use winnow::ascii::impls::Alpha1;
+use winnow::ascii::{dec_int, dec_uint};
 use winnow::combinator::{alt, delimited, opt, peek};
 use winnow::error::{EmptyError, ErrMode};
 use winnow::prelude::*;
-use winnow::stream::Range;
+use winnow::stream::{AsChar, Compare};
 use winnow::token::impls::Any;
-use winnow::token::take_till;
+use winnow::token::{any, take_till};
 
 /// How much is written to a log.
 #[derive(Clone, Copy, Debug, PartialEq, Eq)]
@@ -19,21 +20,18 @@ pub enum Level {
     Trace,
 }
 
-/// Reads the name of a level.
-pub fn read_level(input: &mut &str) -> Result<Level, ErrMode<EmptyError>> {
+/// Reads the name of a level, over any stream of text.
+pub fn read_level<I, E>(input: &mut I) -> Result<Level, E>
+where
+    I: StreamIsPartial + Compare<&'static str>,
+    E: ParserError<I>,
+{
     alt((
         "error".value(Level::Error),
         "warning".value(Level::Warning),
         "trace".value(Level::Trace),
     ))
     .parse_next(input)
-}
-
-/// Reads a switch, as `on` or `no`.
-pub fn read_switch(input: &mut &[u8]) -> Result<bool, ErrMode<EmptyError>> {
-    let on = alt((b"on".as_slice(), b"yes".as_slice())).value(true);
-    let off = alt((b"off".as_slice(), b"no".as_slice())).value(false);
-    alt((on, off)).parse_next(input)
 }
 
 /// How long something lasts.
@@ -47,16 +45,22 @@ pub enum Duration {
 
 /// Reads a duration, as `90s` or `2m`.
 pub fn read_duration(input: &mut &str) -> Result<Duration, ErrMode<EmptyError>> {
-    let count = DecUint.parse_next(input)?;
-    match Any.parse_next(input)? {
+    let count = dec_uint(input)?;
+    match any(input)? {
         's' => Ok(Duration::Seconds(count)),
         'm' => Ok(Duration::Minutes(count)),
         _ => Err(ErrMode::from_input(input)),
     }
 }
 
-/// Reads a user's name; there is none where `-` stands.
-pub fn read_user<'i>(input: &mut &'i str) -> Result<Option<&'i str>, ErrMode<EmptyError>> {
+/// Reads a user's name, over any stream of text; there is none where `-` stands.
+pub fn read_user<I, E>(input: &mut I) -> Result<Option<I::Slice>, E>
+where
+    I: StreamIsPartial + Compare<&'static str>,
+    I::Token: AsChar,
+    I::Slice: Clone,
+    E: ParserError<I>,
+{
     alt(("-".value(None), Alpha1.map(Some))).parse_next(input)
 }
 
@@ -69,36 +73,28 @@ pub enum Value<'i> {
     Text(&'i str),
 }
 
+/// Reads a text in quotes, over any stream of text.
+fn read_quoted<I, E>(input: &mut I) -> Result<I::Slice, E>
+where
+    I: StreamIsPartial + Compare<char>,
+    I::Token: AsChar,
+    E: ParserError<I>,
+{
+    delimited('"', take_till(Range::from(0..), '"'), '"').parse_next(input)
+}
+
 /// Reads a value: a text in quotes, or a number.
 pub fn read_value<'i>(input: &mut &'i str) -> Result<Value<'i>, ErrMode<EmptyError>> {
     match peek(Any).parse_next(input)? {
         '"' => {
-            let text = delimited('"', take_till(Range::from(0..), '"'), '"').parse_next(input)?;
+            let text = read_quoted(input)?;
             Ok(Value::Text(text))
         }
         _ => {
-            let number = DecInt.parse_next(input)?;
+            let number = dec_int(input)?;
             Ok(Value::Number(number))
         }
     }
-}
-
-/// Reads a number behind a sign that may be left out.
-pub fn read_signed(input: &mut &str) -> Result<(bool, u32), ErrMode<EmptyError>> {
-    (opt('-'), DecUint)
-        .map(|(sign, number): (Option<char>, u32)| (sign.is_some(), number))
-        .parse_next(input)
-}
-
-/// Reads digits or a word, and says whether it was digits.
-pub fn read_number_or_word<'i>(
-    input: &mut &'i str,
-) -> Result<(&'i str, bool), ErrMode<EmptyError>> {
-    alt((
-        Digit1.map(|digits| (digits, true)),
-        Alpha1.map(|word| (word, false)),
-    ))
-    .parse_next(input)
 }
 
 /// Reads a port behind a colon; there is none where no colon stands.
@@ -106,7 +102,7 @@ pub fn read_port(input: &mut &str) -> Result<Option<u16>, ErrMode<EmptyError>> {
     let colon: Option<char> = opt(':').parse_next(input)?;
     match colon {
         Some(_) => {
-            let port = DecUint.parse_next(input)?;
+            let port = dec_uint(input)?;
             Ok(Some(port))
         }
         None => Ok(None),

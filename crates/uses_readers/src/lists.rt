@@ -1,56 +1,48 @@
-//! Lists: repetitions and separated elements, into a list or a sum.
+//! Lists: repetitions and separated elements, into a list.
 
 use std::alloc::Allocator;
-use winnow::ascii::impls::{Alpha1, DecUint, Space1};
+use winnow::ascii::impls::{Alpha1, DecUint};
 use winnow::combinator::{delimited, repeat, separated, separated_pair, terminated};
 use winnow::error::{EmptyError, ErrMode};
 use winnow::prelude::*;
-use winnow::stream::Range;
+use winnow::stream::{AsBStr, AsChar, Compare, SlicesAsBytes};
 
-/// Reads numbers with commas between them.
-pub fn read_numbers<A: Allocator + Copy>(
-    alloc: A,
-    input: &mut &str,
-) -> Result<Vec<u32, A>, ErrMode<EmptyError>> {
+/// Reads numbers with commas between them, over any stream of text.
+pub fn read_numbers<I, E, A>(alloc: A, input: &mut I) -> Result<Vec<u32, A>, E>
+where
+    I: StreamIsPartial + SlicesAsBytes + Compare<char>,
+    I::Token: AsChar,
+    I::Slice: AsBStr,
+    E: ParserError<I>,
+    A: Allocator + Copy,
+{
     separated(alloc, Range::from(1..), DecUint, ',').parse_next(input)
 }
 
-/// Reads words with spaces between them.
-pub fn read_words<'i, A: Allocator + Copy>(
-    alloc: A,
-    input: &mut &'i str,
-) -> Result<Vec<&'i str, A>, ErrMode<EmptyError>> {
-    separated(alloc, Range::from(0..), Alpha1, Space1).parse_next(input)
-}
-
-/// Reads settings, a line each.
-pub fn read_settings<'i, A: Allocator + Copy>(
-    alloc: A,
-    input: &mut &'i str,
-) -> Result<Vec<(&'i str, u32), A>, ErrMode<EmptyError>> {
+/// Reads settings, a line each, over any stream of text.
+pub fn read_settings<I, E, A>(alloc: A, input: &mut I) -> Result<Vec<(I::Slice, u32), A>, E>
+where
+    I: StreamIsPartial + SlicesAsBytes + Compare<char>,
+    I::Token: AsChar,
+    I::Slice: AsBStr,
+    E: ParserError<I>,
+    A: Allocator + Copy,
+{
     let setting = terminated(separated_pair(Alpha1, '=', DecUint), '\n');
     repeat(alloc, Range::from(0..), setting).parse_next(input)
 }
 
-/// Reads a list of numbers in brackets.
-pub fn read_array<A: Allocator + Copy>(
-    alloc: A,
-    input: &mut &[u8],
-) -> Result<Vec<u64, A>, ErrMode<EmptyError>> {
-    delimited(
-        b'[',
-        separated(alloc, Range::from(0..), DecUint, b','),
-        b']',
-    )
-    .parse_next(input)
-}
-
-/// How many lines begin the input.
-pub fn count_lines<A: Allocator + Copy>(
-    alloc: A,
-    input: &mut &str,
-) -> Result<usize, ErrMode<EmptyError>> {
-    repeat(alloc, Range::from(0..), terminated(Alpha1, '\n')).parse_next(input)
+/// Reads a list of numbers in brackets, over any stream of bytes or text.
+pub fn read_array<I, E, A>(alloc: A, input: &mut I) -> Result<Vec<u64, A>, E>
+where
+    I: StreamIsPartial + SlicesAsBytes + Compare<u8>,
+    I::Token: AsChar,
+    I::Slice: AsBStr,
+    E: ParserError<I>,
+    A: Allocator + Copy,
+{
+    let numbers = separated(alloc, Range::from(0..), DecUint, b',');
+    delimited(b'[', numbers, b']').parse_next(input)
 }
 
 /// Reads a name, a colon and the words of that name, with commas between them.
@@ -58,9 +50,10 @@ pub fn read_named_words<'i, A: Allocator + Copy>(
     alloc: A,
     input: &mut &'i str,
 ) -> Result<(&'i str, Vec<&'i str, A>), ErrMode<EmptyError>> {
-    (
-        terminated(Alpha1, ':'),
+    let (name, _, words) = (
+        Alpha1,
+        ':',
         separated(alloc, Range::from(0..), Alpha1, ','),
-    )
-        .parse_next(input)
+    ).parse_next(input)?;
+    Ok((name, words))
 }

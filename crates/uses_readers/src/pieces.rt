@@ -1,11 +1,10 @@
 //! Input in pieces, and bytes as numbers.
 
-use winnow::binary::impls::{BeU16, BeU32, U8};
-use winnow::binary::length_take;
+use winnow::binary::impls::BeU16;
+use winnow::binary::{be_u32, length_take, u8};
 use winnow::error::{EmptyError, ErrMode};
 use winnow::prelude::*;
-use winnow::stream::Partial;
-use winnow::token::take;
+use winnow::stream::{ByteStream, Partial};
 
 /// The head of a frame.
 #[derive(Drop)]
@@ -18,22 +17,18 @@ pub struct Head {
 
 /// Reads the head of a frame, once all of it is there.
 pub fn read_head(input: &mut Partial<&[u8]>) -> Result<Head, ErrMode<EmptyError>> {
-    let kind = U8.parse_next(input)?;
-    let length = BeU32.parse_next(input)?;
+    let kind = u8(input)?;
+    let length = be_u32(input)?;
     Ok(Head { kind, length })
 }
 
-/// Reads a frame: its kind, and the bytes behind its length.
-pub fn read_frame<'i>(
-    input: &mut Partial<&'i [u8]>,
-) -> Result<(u8, &'i [u8]), ErrMode<EmptyError>> {
-    let kind = U8.parse_next(input)?;
+/// Reads a frame: its kind, and the bytes behind its length; over any stream of bytes.
+pub fn read_frame<I, E>(input: &mut I) -> Result<(u8, I::Slice), E>
+where
+    I: StreamIsPartial + ByteStream,
+    E: ParserError<I>,
+{
+    let kind = u8(input)?;
     let bytes = length_take(BeU16).parse_next(input)?;
     Ok((kind, bytes))
-}
-
-/// Reads a name that has its length in front of it.
-pub fn read_name<'i>(input: &mut &'i [u8]) -> Result<&'i [u8], ErrMode<EmptyError>> {
-    let length: u8 = U8.parse_next(input)?;
-    take(length).parse_next(input)
 }

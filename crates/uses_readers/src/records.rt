@@ -1,14 +1,13 @@
 //! Records: parts in order into a struct, a statement each or all in one parser.
 
 use crate::choices::read_user;
-use winnow::ascii::impls::{
-    Alphanumeric1, Crlf, DecInt, DecUint, HexUintParser, Newline, Space0, TillLineEnding,
-};
-use winnow::combinator::{delimited, opt, preceded, separated_pair, terminated};
+use winnow::ascii::impls::{Alphanumeric1, Crlf, DecInt, HexUintParser, Space0};
+use winnow::ascii::{alphanumeric1, dec_uint, newline, till_line_ending};
+use winnow::combinator::{opt, preceded, separated_pair, terminated};
 use winnow::error::{EmptyError, ErrMode};
 use winnow::prelude::*;
-use winnow::stream::Range;
-use winnow::token::{take_till, take_until, take_while};
+use winnow::stream::{AsBStr, AsChar, Compare, ParseSlice, SlicesAsBytes};
+use winnow::token::{take_till, take_while};
 
 /// An entry of an access log.
 #[derive(Clone, Copy, Debug, PartialEq, Eq)]
@@ -28,9 +27,11 @@ pub fn read_entry<'i>(input: &mut &'i str) -> Result<Entry<'i>, ErrMode<EmptyErr
     let host = take_till(Range::from(1..), ' ').parse_next(input)?;
     ' '.parse_next(input)?;
     let user = read_user(input)?;
-    let status = preceded(' ', DecUint).parse_next(input)?;
-    let size = preceded(' ', DecUint).parse_next(input)?;
-    Newline.parse_next(input)?;
+    ' '.parse_next(input)?;
+    let status = dec_uint(input)?;
+    ' '.parse_next(input)?;
+    let size = dec_uint(input)?;
+    newline(input)?;
     Ok(Entry {
         host,
         user,
@@ -50,38 +51,41 @@ pub struct Date {
     pub day: u8,
 }
 
+/// Reads the digits of a number, so many, over any stream of text.
+fn read_digits<I, O, E>(count: usize, input: &mut I) -> Result<O, E>
+where
+    I: StreamIsPartial,
+    I::Token: AsChar,
+    I::Slice: ParseSlice<O>,
+    E: ParserError<I>,
+{
+    take_while(Range::from(count), '0'..='9')
+        .parse_to()
+        .parse_next(input)
+}
+
+/// Reads the two digits of a number from 1 to another, over any stream of text.
+fn read_up_to<I, E>(most: u8, input: &mut I) -> Result<u8, E>
+where
+    I: StreamIsPartial,
+    I::Token: AsChar,
+    I::Slice: ParseSlice<u8>,
+    E: ParserError<I>,
+{
+    take_while(Range::from(2), '0'..='9')
+        .parse_to()
+        .verify(|number: &u8| 1 <= *number && *number <= most)
+        .parse_next(input)
+}
+
 /// Reads a date, as `2026-11-25`.
 pub fn read_date(input: &mut &str) -> Result<Date, ErrMode<EmptyError>> {
-    let year = take_while(Range::from(4), '0'..='9')
-        .parse_to()
-        .parse_next(input)?;
+    let year = read_digits(4, input)?;
     '-'.parse_next(input)?;
-    let month = take_while(Range::from(2), '0'..='9')
-        .parse_to()
-        .verify(|month: &u8| 1 <= *month && *month <= 12)
-        .parse_next(input)?;
+    let month = read_up_to(12, input)?;
     '-'.parse_next(input)?;
-    let day = take_while(Range::from(2), '0'..='9')
-        .parse_to()
-        .verify(|day: &u8| 1 <= *day && *day <= 31)
-        .parse_next(input)?;
+    let day = read_up_to(31, input)?;
     Ok(Date { year, month, day })
-}
-
-/// A point of the plane.
-#[derive(Clone, Copy, Debug, PartialEq, Eq)]
-pub struct Point {
-    /// How far to the right.
-    pub x: i32,
-    /// How far up.
-    pub y: i32,
-}
-
-/// Reads a point, as `(1,-2)`.
-pub fn read_point(input: &mut &str) -> Result<Point, ErrMode<EmptyError>> {
-    delimited('(', separated_pair(DecInt, ',', DecInt), ')')
-        .map(|(x, y)| Point { x, y })
-        .parse_next(input)
 }
 
 /// A color.
@@ -95,8 +99,16 @@ pub struct Color {
     pub blue: u8,
 }
 
-/// Reads the two hexadecimal digits of a part of a color.
-fn read_part(input: &mut &str) -> Result<u8, ErrMode<EmptyError>> {
+/// Reads the two hexadecimal digits of a part of a color, over any stream of text.
+fn read_part<I, E>(input: &mut I) -> Result<u8, E>
+where
+    I: StreamIsPartial,
+    I::Token: AsChar + Copy,
+    I::Slice: StreamIsPartial + SlicesAsBytes,
+    <I::Slice as Stream>::Token: AsChar,
+    <I::Slice as Stream>::Slice: AsBStr,
+    E: ParserError<I> + ParserError<I::Slice>,
+{
     take_while(Range::from(2), ('0'..='9', 'a'..='f', 'A'..='F'))
         .and_then(HexUintParser)
         .parse_next(input)
@@ -111,9 +123,50 @@ pub fn read_color(input: &mut &str) -> Result<Color, ErrMode<EmptyError>> {
     Ok(Color { red, green, blue })
 }
 
+/// A point of the plane.
+#[derive(Clone, Copy, Debug, PartialEq, Eq)]
+pub struct Point {
+    /// How far to the right.
+    pub x: i32,
+    /// How far up.
+    pub y: i32,
+}
+
+/// Reads two numbers with a comma between them, over any stream of text.
+fn read_pair<I, E>(input: &mut I) -> Result<(i32, i32), E>
+where
+    I: StreamIsPartial + SlicesAsBytes + Compare<char>,
+    I::Token: AsChar,
+    I::Slice: AsBStr,
+    E: ParserError<I>,
+{
+    separated_pair(DecInt, ',', DecInt).parse_next(input)
+}
+
+/// Reads a point, as `(1,-2)`.
+pub fn read_point(input: &mut &str) -> Result<Point, ErrMode<EmptyError>> {
+    '('.parse_next(input)?;
+    let (x, y) = read_pair(input)?;
+    ')'.parse_next(input)?;
+    Ok(Point { x, y })
+}
+
+/// Reads the sign between a name and a text, with white space round it; over any stream of text.
+fn read_sign<I, E>(input: &mut I) -> Result<(), E>
+where
+    I: StreamIsPartial + Compare<char>,
+    I::Token: AsChar,
+    E: ParserError<I>,
+{
+    (Space0, '=', Space0).void().parse_next(input)
+}
+
 /// Reads a name and what it is set to, with white space round the sign, as `name = any text`.
 pub fn read_assignment<'i>(input: &mut &'i str) -> Result<(&'i str, &'i str), ErrMode<EmptyError>> {
-    separated_pair(Alphanumeric1, (Space0, '=', Space0), TillLineEnding).parse_next(input)
+    let name = alphanumeric1(input)?;
+    read_sign(input)?;
+    let text = till_line_ending(input)?;
+    Ok((name, text))
 }
 
 /// A version of a program.
@@ -129,10 +182,24 @@ pub struct Version<'i> {
     pub label: Option<&'i str>,
 }
 
+/// Reads what stands behind a version, as `-beta`, if anything does; over any stream of text.
+fn read_label<I, E>(input: &mut I) -> Result<Option<I::Slice>, E>
+where
+    I: StreamIsPartial + Compare<char>,
+    I::Token: AsChar,
+    E: ParserError<I>,
+{
+    opt(preceded('-', Alphanumeric1)).parse_next(input)
+}
+
 /// Reads a version, as `1.2.3` or `1.2.3-beta`.
 pub fn read_version<'i>(input: &mut &'i str) -> Result<Version<'i>, ErrMode<EmptyError>> {
-    let (major, _, minor, _, patch) = (DecUint, '.', DecUint, '.', DecUint).parse_next(input)?;
-    let label = opt(preceded('-', Alphanumeric1)).parse_next(input)?;
+    let major = dec_uint(input)?;
+    '.'.parse_next(input)?;
+    let minor = dec_uint(input)?;
+    '.'.parse_next(input)?;
+    let patch = dec_uint(input)?;
+    let label = read_label(input)?;
     Ok(Version {
         major,
         minor,
@@ -141,40 +208,14 @@ pub fn read_version<'i>(input: &mut &'i str) -> Result<Version<'i>, ErrMode<Empt
     })
 }
 
-/// Someone who can be written to.
-#[derive(Clone, Copy, Debug, PartialEq, Eq)]
-pub struct Person<'i> {
-    /// The name.
-    pub name: &'i str,
-    /// The address of the mail.
-    pub mail: &'i str,
-}
-
-/// Reads a name and an address, as `Ada Lovelace <ada@example.org>`.
-pub fn read_person<'i>(input: &mut &'i str) -> Result<Person<'i>, ErrMode<EmptyError>> {
-    let name = take_until(Range::from(1..), " <").parse_next(input)?;
-    let mail = delimited(" <", take_till(Range::from(1..), '>'), '>').parse_next(input)?;
-    Ok(Person { name, mail })
-}
-
-/// The first line of a request of HTTP/1.1.
-#[derive(Clone, Copy, Debug, PartialEq, Eq)]
-pub struct Request<'i> {
-    /// What to do.
-    pub method: &'i [u8],
-    /// With what.
-    pub target: &'i [u8],
-}
-
-/// Reads the first line of a request, as `GET /index HTTP/1.1`, with the end of its line.
-pub fn read_request<'i>(input: &mut &'i [u8]) -> Result<Request<'i>, ErrMode<EmptyError>> {
-    let method = take_while(Range::from(1..), b'A'..=b'Z').parse_next(input)?;
-    let target = delimited(b' ', take_till(Range::from(1..), b' '), b' ').parse_next(input)?;
-    (b"HTTP/1.1".as_slice(), Crlf).parse_next(input)?;
-    Ok(Request { method, target })
-}
-
-/// Reads the length of a chunk, in hexadecimal digits, with the end of its line.
-pub fn read_chunk_length(input: &mut &[u8]) -> Result<u64, ErrMode<EmptyError>> {
+/// Reads the length of a chunk, in hexadecimal digits, with the end of its line; over any stream
+/// of bytes or text.
+pub fn read_chunk_length<I, E>(input: &mut I) -> Result<u64, E>
+where
+    I: StreamIsPartial + SlicesAsBytes + Compare<&'static str>,
+    I::Token: AsChar,
+    I::Slice: AsBStr,
+    E: ParserError<I>,
+{
     terminated(HexUintParser, Crlf).parse_next(input)
 }
