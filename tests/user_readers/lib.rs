@@ -13,5 +13,3 @@ mod readers;
 mod recipes;
 #[cfg(test)]
 mod records;
-#[cfg(test)]
-mod tasks;
