@@ -8,6 +8,8 @@ mod forms;
 #[cfg(test)]
 mod functions;
 #[cfg(test)]
+mod lines;
+#[cfg(test)]
 mod readers;
 #[cfg(test)]
 mod recipes;
