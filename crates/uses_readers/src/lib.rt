@@ -4,17 +4,17 @@
 //! and in pieces, with lifetimes and without. Those of the crate `uses` have exact contracts.
 //!
 //! - Parsers as functions, a statement each, into a struct: `read_entry`, `read_version`; over
-//!   input in pieces: `read_head`, `read_frame`.
+//!   input in pieces: `read_head`.
 //! - A literal between statements: `read_date`, `read_point`.
 //! - A `match` on a token, and on one that is only looked at: `read_duration`, `read_value`.
-//! - A part that may be left out: `read_port`, and as one parser `read_version`.
-//! - A choice: `read_user`, and over any stream of text `read_level`.
-//! - An output that is read by `FromStr` and verified, in a closure that holds a parameter:
-//!   `read_date`; one that another parser reads: `read_color`.
-//! - Sequences that are let go, and those of which a part stays: `read_assignment`,
-//!   `read_request`, `read_chunk_length`.
-//! - Lists of separated elements: `read_numbers`, behind other parts `read_named_words`; and over
-//!   any stream `read_array`, with `read_settings` of repetitions.
+//! - A part that may be left out: `read_port`, and as one parser in `read_version`.
+//! - A choice over any stream of text: `read_level`, `read_user`.
+//! - An output that is read by `FromStr`, and verified by a closure that holds a parameter:
+//!   `read_date`; a slice that another parser reads: `read_color`.
+//! - Sequences that are let go, and those of which a part stays: `read_assignment`, `read_value`,
+//!   `read_chunk_length`; bytes behind their length: `read_frame`.
+//! - Lists over any stream: `read_numbers`, `read_array`, `read_settings`; and a list of slices
+//!   with a lifetime behind other parts: `read_named_words`.
 //!
 //! A parser of three parts and more at one stream is dear to prove: a part is a function, or the
 //! function is over any stream, as `read_level`.
