@@ -213,6 +213,57 @@ fn fill_goes_on_behind_a_fault(rt: HostRuntime) {
     same(&rt, stream, buffer.held(), b"".as_slice());
 }
 
+/// A socket that does not wait: each other read has one byte, and the others would block, until the
+/// peer has closed it.
+#[derive(Drop)]
+struct Socket<'a> {
+    bytes: &'a [u8],
+    is_ready: bool,
+}
+
+impl Read for Socket<'_> {
+    fn read(&mut self, buf: &mut [u8]) -> io::Result<usize> {
+        self.is_ready = !self.is_ready;
+        if !self.is_ready {
+            return Err(io::Error::from(ErrorKind::WouldBlock));
+        }
+        let n = buf.len().min(1);
+        self.bytes.read(&mut buf[..n])
+    }
+}
+
+#[test]
+fn fill_goes_on_over_a_socket_byte_by_byte(rt: HostRuntime) {
+    let stream = b"\x00\x03abc\x00\x00\x00\x01d";
+    let payloads = [b"abc".as_slice(), b"".as_slice(), b"d".as_slice()];
+    let mut room = [0u8; 5];
+    let mut buffer = FrameBuffer::new(&mut room);
+    let mut socket = Socket {
+        bytes: stream,
+        is_ready: false,
+    };
+    let mut found = 0;
+    let mut blocked = 0;
+    for _ in 0..40 {
+        match buffer.fill(&mut socket) {
+            Ok(true) => {
+                same(&rt, stream, buffer.payload(), payloads[found]);
+                buffer.consume();
+                found += 1;
+            }
+            Ok(false) => break,
+            Err(fault) => {
+                same(&rt, stream, fault, FrameFault::Unreadable);
+                blocked += 1;
+            }
+        }
+    }
+    same(&rt, stream, found, payloads.len());
+    // each byte but the last has a read behind it that would block
+    same(&rt, stream, blocked, stream.len());
+    same(&rt, stream, buffer.held(), b"".as_slice());
+}
+
 /// Nothing behind a frame is read with it.
 #[test]
 fn fill_reads_no_more_than_a_frame(rt: HostRuntime) {

@@ -8,7 +8,8 @@ use Rattle.winnow_expression.specs.declared.combinator.operators.Infix.{Infix}
 use Rattle.winnow_expression.specs.declared.combinator.operators.Infix.TheVariants.{Left, Neither}
 use Rattle.winnow_expression.specs.declared.combinator.operators.Postfix.{Postfix}
 use Rattle.winnow_expression.specs.declared.combinator.operators.Prefix.{Prefix}
-use Rattle.winnow_expression_trees.specs.Items.{Items}
+use Rattle.winnow_expression_trees.specs.Failure.{Comes}
+use Rattle.winnow_expression_trees.specs.Items.{FirstItems, Items, NextItems, NoItem}
 pub mod Laws
 
 -- One byte that is read so.
@@ -41,3 +42,11 @@ abbrev pub logic_value : Logic → Bool → Bool → Bool → Type 0
 logic_value And v w x = x ≡ (if v then w else false)
 logic_value Or v w x = x ≡ (if v then true else w)
 logic_value Same v w x = x ≡ (if v then w else (if w then false else true))
+
+-- The reading of a formula comes to a place where an operand is due, and there is none, nor a
+-- prefix.
+abbrev pub LacksOperand : List ℕ → List ℕ → Type 0
+LacksOperand start place =
+    Comes (FirstItems (ByteItem operand_at) (ByteItem prefix_at))
+    (NextItems (ByteItem postfix_at) (ByteItem infix_at)) start true place
+    × NoItem (ByteItem operand_at) place × NoItem (ByteItem prefix_at) place

@@ -2,15 +2,16 @@
 //! contract.
 #![tactic(auto, using(streams::specs::Ends::ends_follow))]
 
-ghost use Rattle.std.specs.Prelude.{⊤, ◌≡◌, pos};
+ghost use Rattle.std.specs.Prelude.{⊤, ◌≡◌, ◌⊎◌, IfErr, pos};
 ghost use Rattle.streams.specs.Bytes.{bytes_input, bytes_reading};
+ghost use Rattle.streams.specs.Input.{IsEndOf};
+ghost use Rattle.streams.specs.Kind.{backtrack, memory};
 ghost use Rattle.stream_errors.specs.Form.{answer_by};
 ghost use Rattle.winnow_core.specs.Runs.{Keeps};
 ghost use Rattle.winnow_expression_trees.specs.Items.{Gives, ItemRuns, ReadsItems};
 ghost use Rattle.winnow_expression_trees.specs.Items.Premises.{gives_ends};
-ghost use Rattle.uses_booleans.specs.Booleans.{ByteItem, infix_at, logic_value, not_value};
-ghost use Rattle.uses_booleans.specs.Booleans.{operand_at};
-ghost use Rattle.uses_booleans.specs.Booleans.{postfix_at, prefix_at};
+ghost use Rattle.uses_booleans.specs.Booleans.{ByteItem, LacksOperand, infix_at, logic_value};
+ghost use Rattle.uses_booleans.specs.Booleans.{not_value, operand_at, postfix_at, prefix_at};
 ghost use Rattle.uses_booleans.specs.Booleans.Laws.{byte_ends};
 
 use std::alloc::Allocator;
@@ -219,7 +220,9 @@ impl<'i> Parser<&'i [u8], Infix<Logic>, EmptyError> for Part {
 /// `=` of power 1, which is not joined with another one.
 ///
 /// The answer is the value of the one tree over these bytes that keeps the powers, and what is
-/// behind it is left. It fails where there is none, and for want of memory.
+/// behind it is left. It fails where there is none, and for want of memory: else at a place where
+/// an
+/// operand is due and there is none, nor a prefix, and the input is left there.
 ///
 /// ```
 /// use uses_booleans::booleans::truth;
@@ -229,9 +232,13 @@ impl<'i> Parser<&'i [u8], Infix<Logic>, EmptyError> for Part {
 /// assert_eq!(rt; input, b";".as_slice());
 /// ```
 pub fn truth<'i, A: Allocator + Copy>(alloc: A, input: &mut &'i [u8]) -> Result<bool, EmptyError>
-    ensures { ReadsItems (ByteItem operand_at) (ByteItem prefix_at) (ByteItem postfix_at)
+    ensures reads { ReadsItems (ByteItem operand_at) (ByteItem prefix_at) (ByteItem postfix_at)
         (ByteItem infix_at) not_value not_value logic_value (pos 0) (bytes_input input.old.now)
         (answer_by ⟦<EmptyError as HasKind>⟧.kind result) (bytes_input input.new.now) }
+    ensures ends { IsEndOf bytes_reading (bytes_input input.new.now) (bytes_input input.old.now) }
+    ensures fails { IfErr result (λ error. (⟦<EmptyError as HasKind>⟧.kind error ≡ memory)
+        ⊎ ((⟦<EmptyError as HasKind>⟧.kind error ≡ backtrack)
+        × LacksOperand input.old.now input.new.now)) }
 {
     expression_reads_the_one_tree::<
         &'i [u8],

@@ -1,11 +1,13 @@
 -- The runs of the parsers of a header, in any input of bytes.
-use Rattle.std.proofs.Common.{◌≡◌, ◌<◌, ◌≤◌, ◌+◌, ◌*◌, ◌%◌, ◌^◌, ◌∙◌, ◌∷◌, ◌++◌, [], ℕ, Bool}
-use Rattle.std.proofs.Common.{true, List, Ok, Err, ap, arith, inl, inr, length, length-append, refl}
+use Rattle.std.proofs.Common.{◌≡◌, ◌<◌, ◌≤◌, ◌+◌, ◌-◌, ◌*◌, ◌%◌, ◌^◌, ◌∙◌, ◌∷◌, ◌++◌, [], ℕ, Bool}
+use Rattle.std.proofs.Common.{true, List, Some, Ok, Err, ap, arith, inl, inr, length, length-append}
+use Rattle.std.proofs.Common.{refl}
 use Rattle.std.proofs.Common.{subst, sym}
 use Rattle.std.specs.Int.{bytes_high_first}
 use Rattle.std.specs.List.{All}
-use Rattle.std.specs.Prelude.{⊤, take}
-use Rattle.std.proofs.lemmas.List.{take_at}
+use Rattle.std.specs.Prelude.{◌⊎◌, ⊤, take}
+use Rattle.std.proofs.lemmas.Bool.{cases_lt}
+use Rattle.std.proofs.lemmas.List.{nil_from_length, take_at}
 use Rattle.std.proofs.lemmas.List.Elements.{All-head, All-take}
 use Rattle.winnow.specs.BitBool.{BitBoolRuns}
 use Rattle.winnow.specs.BitInput.{bits_input, can_be_read, length_from, readable_is}
@@ -18,8 +20,8 @@ use Rattle.winnow.specs.BitsOfBytes.{BitsOfBytesRuns}
 use Rattle.winnow.specs.BitsOfBytes.Known.{bits_ok, whole_number}
 use Rattle.winnow.specs.Equal.{true_is_false}
 use Rattle.winnow.specs.Following.{most_bytes}
-use Rattle.winnow.specs.Form.{ErrorForm}
-use Rattle.winnow.specs.Form.Known.{ok_is_err, same_ok}
+use Rattle.winnow.specs.Form.{Answer, ErrorForm, modal}
+use Rattle.winnow.specs.Form.Known.{ok_is_err, same_kind, same_ok}
 use Rattle.winnow.specs.InParts.{reads_below, reads_both, reads_fewer}
 use Rattle.winnow.specs.Input.{Input}
 use Rattle.winnow.specs.Integer.{IntegerRuns, value_of}
@@ -32,7 +34,9 @@ use Rattle.winnow.specs.Runs.{Keeps, Runs}
 use Rattle.winnow.specs.Sequence.{SequenceRuns3}
 use Rattle.winnow.specs.Sequence.Known.{sequence3_err, sequence3_ok}
 use Rattle.winnow.specs.Within.{ReadsNumber}
-use Rattle.uses_dns.specs.Header.{IsHighByte, IsLowByte, IsNumber}
+use Rattle.winnow.specs.Needs.{need_in_bytes, with_need}
+use Rattle.winnow.specs.Short.{ShortKind}
+use Rattle.uses_dns.specs.Header.{HasTooMany, IsHighByte, IsLowByte, IsNumber, LacksPart}
 
 -- ---- parsers of so many bits
 
@@ -42,12 +46,15 @@ pub record CanRead (count : ℕ) (i : Input Bool) : Type 0 where
   pub enough : count ≤ length i.left.tokens
 
 -- The parser reads so many bits, whose number its output gives, and answers where they are left.
-pub record ReadsBits {S O L : Type 0} (reading : Reading Bool L) (count : ℕ) (run : Runs S Bool O)
-    (s : S) (number : O → ℕ) (Fits : O → Type 0) : Type 0 where
+-- Where none is left it lacks `need` of them.
+pub record ReadsBits {S O L : Type 0} (reading : Reading Bool L) (need count : ℕ)
+    (run : Runs S Bool O) (s : S) (number : O → ℕ) (Fits : O → Type 0) : Type 0 where
   pub reads : (i : Input Bool) (o : O) (t : S) (j : Input Bool) → run s i (Ok o) t j
       → ReadsNumber reading count i (number o) j × Fits o
   pub answers : (i : Input Bool) (k : Kind) (t : S) (j : Input Bool) → CanRead count i
       → run s i (Err k) t j → ⊥
+  pub lacks : (i : Input Bool) (k : Kind) (t : S) (j : Input Bool) → i.left.possible ≡ true
+      → i.left.tokens ≡ [] → run s i (Err k) t j → ShortKind modal (Some need) i k
 
 left_behind : {L : Type 0} (reading : Reading Bool L) (count more total : ℕ) (i : Input Bool)
     (n : ℕ) (j : Input Bool) → total ≡ count + more → CanRead total i
@@ -88,11 +95,28 @@ bool_must reading form i k j can (inr (inl (cannot, e, same))) =
 bool_must reading form i k j can (inr (inr (l, possible, none, kind, e, same))) =
     omega (arith, can.enough, ap (λ x. length x) none)
 
-pub bool_reads : {L : Type 0} (reading : Reading Bool L) (form : ErrorForm) (s : ⊤)
-    → ReadsBits reading 1 (BoolMeans reading form) s bit_number (λ _. ⊤)
-bool_reads reading form s = record {
-  reads = λ i o t j ran. (bool_run reading form i o j ran.0, tt);
-  answers = λ i k t j can ran. bool_must reading form i k j can ran.0;
+-- an error for want of bits has the kind of one that is too short
+short_of : {O T : Type 0} {k l : Kind} (need : ℕ) (i : Input T)
+    → ◌≡◌ {A = Answer O} (Err k) (Err l) → ShortKind modal (Some need) i l
+    → ShortKind modal (Some need) i k
+short_of need i e short =
+    let P : Kind → Type 0 = λ x. ShortKind modal (Some need) i x in
+    subst P (sym (same_kind e)) short
+
+bool_lacks : {L : Type 0} (reading : Reading Bool L) (i : Input Bool) (k : Kind) (j : Input Bool)
+    → i.left.possible ≡ true → BitBoolRuns reading modal i (Err k) j
+    → ShortKind modal (Some 1) i k
+bool_lacks reading i k j can (inl (b, passes, e)) = ok_is_err e refl
+bool_lacks reading i k j can (inr (inl (cannot, e, same))) = true_is_false (sym can ∙ cannot)
+bool_lacks reading i k j can (inr (inr (l, possible, none, kind, e, same))) =
+    short_of 1 i e kind
+
+pub bool_reads : {L : Type 0} (reading : Reading Bool L) (s : ⊤)
+    → ReadsBits reading 1 1 (BoolMeans reading modal) s bit_number (λ _. ⊤)
+bool_reads reading s = record {
+  reads = λ i o t j ran. (bool_run reading modal i o j ran.0, tt);
+  answers = λ i k t j can ran. bool_must reading modal i k j can ran.0;
+  lacks = λ i k t j can none ran. bool_lacks reading i k j can ran.0;
 }
 
 -- a take of so many bits
@@ -108,25 +132,41 @@ take_must reading form n count i k j is fits can (inr (inl ((some, why), e, same
 take_must reading form n count i k j is fits can
     (inr (inr (l, within, possible, few, kind, e, same))) = omega (arith, few, is, can.enough)
 
-pub take_reads : {L : Type 0} (reading : Reading Bool L) (form : ErrorForm) (count n : ℕ)
-    → n ≡ count → count ≤ 8
-    → ReadsBits reading count (TakeMeans reading form) n (λ o. o) (λ o. o < 2 ^ count)
-take_reads reading form count n is fits = record {
+take_lacks : {L : Type 0} (reading : Reading Bool L) (n count : ℕ) (i : Input Bool) (k : Kind)
+    (j : Input Bool) → n ≡ count → count ≤ 8 → i.left.possible ≡ true
+    → BitTakeRuns (λ x. x) 8 reading modal n i (Err k) j → ShortKind modal (Some count) i k
+take_lacks reading n count i k j is fits can (inl (o, within, where_, reads, e)) =
+    ok_is_err e refl
+take_lacks reading n count i k j is fits can (inr (inl ((some, why), e, same))) = elim why [
+  | inl wide ↦ absurd (omega (arith, wide, is, fits))
+  | inr cannot ↦ true_is_false (sym can ∙ cannot)
+]
+take_lacks reading n count i k j is fits can
+    (inr (inr (l, within, possible, few, kind, e, same))) =
+    let P : ℕ → Type 0 = λ m. ShortKind modal (Some m) i k in
+    subst P is (short_of n i e kind)
+
+pub take_reads : {L : Type 0} (reading : Reading Bool L) (count n : ℕ) → n ≡ count → count ≤ 8
+    → ReadsBits reading count count (TakeMeans reading modal) n (λ o. o) (λ o. o < 2 ^ count)
+take_reads reading count n is fits = record {
   reads = λ i o t j ran.
       let P : ℕ → Type 0 = λ k. ReadsNumber reading k i o j in
-      let number = subst P is (bit_take_ok (λ x. x) 8 reading form n i o j ran.0) in
+      let number = subst P is (bit_take_ok (λ x. x) 8 reading modal n i o j ran.0) in
       (number, reads_below reading count i o j number);
-  answers = λ i k t j can ran. take_must reading form n count i k j is fits can ran.0;
+  answers = λ i k t j can ran. take_must reading modal n count i k j is fits can ran.0;
+  lacks = λ i k t j can none ran. take_lacks reading n count i k j is fits can ran.0;
 }
 
 -- three parsers in order
-module _ {S1 S2 S3 O1 O2 O3 L : Type 0} (reading : Reading Bool L) (one two three both all : ℕ)
+module _ {S1 S2 S3 O1 O2 O3 L : Type 0} (reading : Reading Bool L)
+    (need need2 need3 one two three both all : ℕ)
     (run1 : Runs S1 Bool O1) (run2 : Runs S2 Bool O2) (run3 : Runs S3 Bool O3)
     (s : S1 × S2 × S3) (n1 : O1 → ℕ) (n2 : O2 → ℕ) (n3 : O3 → ℕ) (Fits1 : O1 → Type 0)
     (Fits2 : O2 → Type 0) (Fits3 : O3 → Type 0) (first : both ≡ one + two)
-    (total : all ≡ both + three) (p1 : ReadsBits reading one run1 s.0 n1 Fits1)
-    (p2 : ReadsBits reading two run2 s.1 n2 Fits2)
-    (p3 : ReadsBits reading three run3 s.2 n3 Fits3) where
+    (total : all ≡ both + three) (some : 0 < one)
+    (p1 : ReadsBits reading need one run1 s.0 n1 Fits1)
+    (p2 : ReadsBits reading need2 two run2 s.1 n2 Fits2)
+    (p3 : ReadsBits reading need3 three run3 s.2 n3 Fits3) where
   three_must : (i : Input Bool) (k : Kind) (t : S1 × S2 × S3) (j : Input Bool) → CanRead all i
       → SequenceRuns3 run1 run2 run3 s i (Err k) t j → ⊥
   three_must i k t j can ran = elim (sequence3_err k ran) [
@@ -149,7 +189,24 @@ module _ {S1 S2 S3 O1 O2 O3 L : Type 0} (reading : Reading Bool L) (one two thre
         p3.answers b k t.2 j c2 r3
   ]
 
-  pub three_read : ReadsBits reading all (SequenceRuns3 run1 run2 run3) s
+  three_lacks : (i : Input Bool) (k : Kind) (t : S1 × S2 × S3) (j : Input Bool)
+      → i.left.possible ≡ true → i.left.tokens ≡ [] → SequenceRuns3 run1 run2 run3 s i (Err k) t j
+      → ShortKind modal (Some need) i k
+  three_lacks i k t j can none ran = elim (sequence3_err k ran) [
+    | inl (r1, kept2, kept3) ↦ p1.lacks i k t.0 j can none r1
+    | inr (inl (o1, a, r1, r2, kept3)) ↦ absurd (began o1 a r1)
+    | inr (inr (o1, o2, a, b, r1, r2, r3)) ↦ absurd (began o1 a r1)
+  ]
+    where
+      began : (o1 : O1) (a : Input Bool) → run1 s.0 i (Ok o1) t.0 a → ⊥
+      began o1 a r1 = omega (
+        arith,
+        some,
+        ap (λ l. length l) none,
+        reads_fewer reading one i (n1 o1) a (p1.reads i o1 t.0 a r1).0,
+      )
+
+  pub three_read : ReadsBits reading need all (SequenceRuns3 run1 run2 run3) s
       (λ o. (n1 o.0 * 2 ^ two + n2 o.1) * 2 ^ three + n3 o.2)
       (λ o. Fits1 o.0 × Fits2 o.1 × Fits3 o.2)
   three_read = record {
@@ -165,6 +222,7 @@ module _ {S1 S2 S3 O1 O2 O3 L : Type 0} (reading : Reading Bool L) (one two thre
           (q1.1, q2.1, q3.1),
         );
     answers = three_must;
+    lacks = three_lacks;
   }
 
 -- ---- a byte of bits
@@ -184,14 +242,14 @@ one_byte (a ∷ []) rest tokens n one bytes splits number =
     splits ∙ ap (λ x. x ∷ rest) same
 one_byte (a ∷ b ∷ more) rest tokens n one bytes splits number = absurd (omega (arith, one))
 
-module _ {S O L : Type 0} (reading : Reading ℕ L) (form : ErrorForm) (run : Runs S Bool O) (s : S)
+module _ {S O L : Type 0} (reading : Reading ℕ L) (run : Runs S Bool O) (s : S)
     (number : O → ℕ) (Fits : O → Type 0)
-    (parts : ReadsBits (bits_reading reading) 8 run s number Fits) where
+    (parts : ReadsBits (bits_reading reading) 1 8 run s number Fits) where
   pub byte_read : (i : Input ℕ) (o : O) (t : S) (j : Input ℕ) → All (λ b. b < 256) i.left.tokens
-      → BitsOfBytesRuns reading form run s i (Ok o) t j
+      → BitsOfBytesRuns reading modal run s i (Ok o) t j
       → (i.left.tokens ≡ number o ∷ j.left.tokens) × Fits o
   byte_read i o t j bytes ran =
-      let all = bits_ok reading form run s i o t j ran in
+      let all = bits_ok reading modal run s i o t j ran in
       let it = parts.reads (bits_input i 0) o t all.behind all.ran in
       let whole = whole_number reading i (number o) all.behind j 8 1 refl all.fits it.0
       all.leaves in
@@ -205,21 +263,22 @@ module _ {S O L : Type 0} (reading : Reading ℕ L) (form : ErrorForm) (run : Ru
         it.1,
       )
 
+  readable : (i : Input ℕ) → length i.left.tokens ≤ most_bytes
+      → can_be_read i.left.tokens 0 ≡ true
+  readable i fits = readable_is i.left.tokens 0
+      (record { inside = omega arith; there = omega arith; counted = fits })
+
   pub byte_must : (i : Input ℕ) (k : Kind) (t : S) (j : Input ℕ) → 1 ≤ length i.left.tokens
-      → length i.left.tokens ≤ most_bytes → BitsOfBytesRuns reading form run s i (Err k) t j → ⊥
+      → length i.left.tokens ≤ most_bytes → BitsOfBytesRuns reading modal run s i (Err k) t j → ⊥
   byte_must i k t j some fits ran = by ran
     where
-      readable : can_be_read i.left.tokens 0 ≡ true
-      readable = readable_is i.left.tokens 0
-          (record { inside = omega arith; there = omega arith; counted = fits })
-
       can : CanRead 8 (bits_input i 0)
       can = record {
-        possible = readable;
-        enough = omega (arith, some, length_from i.left.tokens 0 readable);
+        possible = readable i fits;
+        enough = omega (arith, some, length_from i.left.tokens 0 (readable i fits));
       }
 
-      by : BitsOfBytesRuns reading form run s i (Err k) t j → ⊥
+      by : BitsOfBytesRuns reading modal run s i (Err k) t j → ⊥
       by (inl (o, m, few, fields, possible, leaves, e)) = ok_is_err e refl
       by (inr (inl (x, m, few, fields, e, same))) =
           parts.answers (bits_input i 0) x t m can fields
@@ -227,6 +286,59 @@ module _ {S O L : Type 0} (reading : Reading ℕ L) (form : ErrorForm) (run : Ru
           let it = parts.reads (bits_input i 0) o t m fields in
           true_is_false (sym (it.0.passes.possible ∙ can.possible) ∙ impossible)
       by (inr (inr (inr (many, kept, e, same)))) = absurd (omega (arith, many, fits))
+
+  -- a byte that is not there is lacking; or there are too many
+  pub byte_fails : (i : Input ℕ) (k : Kind) (t : S) (j : Input ℕ)
+      → BitsOfBytesRuns reading modal run s i (Err k) t j
+      → LacksPart 0 1 i k j ⊎ HasTooMany 0 i k j
+  byte_fails i k t j ran = elim (cases_lt most_bytes (length i.left.tokens)) [
+    | inl many ↦ inr (too_many many ran)
+    | inr fits ↦ elim (cases_lt 0 (length i.left.tokens)) [
+      | inl some ↦ absurd (byte_must i k t j (omega (arith, some)) (omega (arith, fits)) ran)
+      | inr none ↦ inl (missing (omega (arith, fits)) (nil_from_length i.left.tokens
+          (omega (arith, none))) ran)
+    ]
+  ]
+    where
+      no_bits : (xs : List Bool) → length xs ≡ 8 * length i.left.tokens - 0
+          → length i.left.tokens ≡ 0 → xs ≡ []
+      no_bits xs total empty = nil_from_length xs (omega (arith, total, empty))
+
+      in_bytes : (x : Kind) → k ≡ with_need need_in_bytes x
+          → ShortKind modal (Some 1) (bits_input i 0) x → ShortKind modal (Some 1) i k
+      in_bytes x is (inl (still, short)) = inl (still, is ∙ ap (with_need need_in_bytes) short)
+      in_bytes x is (inr (whole, short)) = inr (whole, is ∙ ap (with_need need_in_bytes) short)
+
+      too_many : most_bytes < length i.left.tokens
+          → BitsOfBytesRuns reading modal run s i (Err k) t j → HasTooMany 0 i k j
+      too_many many (inl (o, m, few, fields, possible, leaves, e)) = ok_is_err e refl
+      too_many many (inr (inl (x, m, few, fields, e, same))) = absurd (omega (arith, many, few))
+      too_many many (inr (inr (inl (o, m, few, fields, impossible, e, same)))) =
+          absurd (omega (arith, many, few))
+      too_many many (inr (inr (inr (more, kept, e, same)))) =
+          subst (HasTooMany 0 i k) (sym same)
+          (record { passes = omega arith; many = many; cuts = same_kind e })
+
+      missing : length i.left.tokens ≤ most_bytes → i.left.tokens ≡ []
+          → BitsOfBytesRuns reading modal run s i (Err k) t j → LacksPart 0 1 i k j
+      missing fits none (inl (o, m, few, fields, possible, leaves, e)) = ok_is_err e refl
+      missing fits none (inr (inl (x, m, few, fields, e, same))) =
+          let empty : length i.left.tokens ≡ 0 = ap (λ l. length l) none in
+          let one : 1 ≡ 1 - length i.left.tokens = omega (arith, empty) in
+          let P : ℕ → Type 0 = λ n. ShortKind modal (Some n) i k in
+          subst (LacksPart 0 1 i k) (sym same) (record {
+            passes = omega arith;
+            few = omega (arith, empty);
+            short = subst P one (in_bytes x (same_kind e)
+                (parts.lacks (bits_input i 0) x t m (readable i fits)
+                (no_bits (bits_input i 0).left.tokens
+                (length_from i.left.tokens 0 (readable i fits)) empty) fields));
+          })
+      missing fits none (inr (inr (inl (o, m, few, fields, impossible, e, same)))) =
+          let it = parts.reads (bits_input i 0) o t m fields in
+          true_is_false (sym (it.0.passes.possible ∙ readable i fits) ∙ impossible)
+      missing fits none (inr (inr (inr (many, kept, e, same)))) =
+          absurd (omega (arith, many, fits))
 
 -- ---- the two bytes of flags
 
@@ -248,65 +360,71 @@ abbrev pub LowMeans : {L : Type 0} → Reading Bool L → ErrorForm → Runs (�
 LowMeans reading form =
     SequenceRuns3 (BoolMeans reading form) (TakeMeans reading form) (TakeMeans reading form)
 
-flags_read : {L : Type 0} (reading : Reading Bool L) (form : ErrorForm) (s : Flags)
-    → ReadsBits reading 3 (FlagsMean reading form) s
+flags_read : {L : Type 0} (reading : Reading Bool L) (s : Flags)
+    → ReadsBits reading 1 3 (FlagsMean reading modal) s
     (λ o. (bit_number o.0 * 2 ^ 1 + bit_number o.1) * 2 ^ 1 + bit_number o.2) (λ _. ⊤ × ⊤ × ⊤)
-flags_read reading form s =
-    three_read reading 1 1 1 2 3 (BoolMeans reading form) (BoolMeans reading form)
-    (BoolMeans reading form) s bit_number bit_number bit_number (λ _. ⊤) (λ _. ⊤) (λ _. ⊤) refl
-    refl (bool_reads reading form s.0) (bool_reads reading form s.1) (bool_reads reading form s.2)
+flags_read reading s =
+    three_read reading 1 1 1 1 1 1 2 3 (BoolMeans reading modal) (BoolMeans reading modal)
+    (BoolMeans reading modal) s bit_number bit_number bit_number (λ _. ⊤) (λ _. ⊤) (λ _. ⊤) refl
+    refl (omega arith) (bool_reads reading s.0) (bool_reads reading s.1) (bool_reads reading s.2)
 
-high_bits : {L : Type 0} (reading : Reading Bool L) (form : ErrorForm) (s : ⊤ × ℕ × Flags)
-    → s.1 ≡ 4 → ReadsBits reading 8 (HighMeans reading form) s
+high_bits : {L : Type 0} (reading : Reading Bool L) (s : ⊤ × ℕ × Flags)
+    → s.1 ≡ 4 → ReadsBits reading 1 8 (HighMeans reading modal) s
     (λ o. (bit_number o.0 * 2 ^ 4 + o.1) * 2 ^ 3
     + ((bit_number o.2.0 * 2 ^ 1 + bit_number o.2.1) * 2 ^ 1 + bit_number o.2.2))
     (λ o. ⊤ × (o.1 < 2 ^ 4) × (⊤ × ⊤ × ⊤))
-high_bits reading form s is =
-    three_read reading 1 4 3 5 8 (BoolMeans reading form) (TakeMeans reading form)
-    (FlagsMean reading form) s bit_number (λ o. o)
+high_bits reading s is =
+    three_read reading 1 4 1 1 4 3 5 8 (BoolMeans reading modal) (TakeMeans reading modal)
+    (FlagsMean reading modal) s bit_number (λ o. o)
     (λ o. (bit_number o.0 * 2 ^ 1 + bit_number o.1) * 2 ^ 1 + bit_number o.2) (λ _. ⊤)
-    (λ o. o < 2 ^ 4) (λ _. ⊤ × ⊤ × ⊤) refl refl (bool_reads reading form s.0)
-    (take_reads reading form 4 s.1 is (omega arith)) (flags_read reading form s.2)
+    (λ o. o < 2 ^ 4) (λ _. ⊤ × ⊤ × ⊤) refl refl (omega arith) (bool_reads reading s.0)
+    (take_reads reading 4 s.1 is (omega arith)) (flags_read reading s.2)
 
-low_bits_read : {L : Type 0} (reading : Reading Bool L) (form : ErrorForm) (s : ⊤ × ℕ × ℕ)
-    → s.1 ≡ 3 → s.2 ≡ 4 → ReadsBits reading 8 (LowMeans reading form) s
+low_bits_read : {L : Type 0} (reading : Reading Bool L) (s : ⊤ × ℕ × ℕ)
+    → s.1 ≡ 3 → s.2 ≡ 4 → ReadsBits reading 1 8 (LowMeans reading modal) s
     (λ o. (bit_number o.0 * 2 ^ 3 + o.1) * 2 ^ 4 + o.2)
     (λ o. ⊤ × (o.1 < 2 ^ 3) × (o.2 < 2 ^ 4))
-low_bits_read reading form s is is' =
-    three_read reading 1 3 4 4 8 (BoolMeans reading form) (TakeMeans reading form)
-    (TakeMeans reading form) s bit_number (λ o. o) (λ o. o) (λ _. ⊤) (λ o. o < 2 ^ 3)
-    (λ o. o < 2 ^ 4) refl refl (bool_reads reading form s.0)
-    (take_reads reading form 3 s.1 is (omega arith))
-    (take_reads reading form 4 s.2 is' (omega arith))
+low_bits_read reading s is is' =
+    three_read reading 1 3 4 1 3 4 4 8 (BoolMeans reading modal) (TakeMeans reading modal)
+    (TakeMeans reading modal) s bit_number (λ o. o) (λ o. o) (λ _. ⊤) (λ o. o < 2 ^ 3)
+    (λ o. o < 2 ^ 4) refl refl (omega arith) (bool_reads reading s.0)
+    (take_reads reading 3 s.1 is (omega arith))
+    (take_reads reading 4 s.2 is' (omega arith))
 
-pub high_read : {L : Type 0} (reading : Reading ℕ L) (form : ErrorForm) (s : ⊤ × ℕ × Flags)
+pub high_read : {L : Type 0} (reading : Reading ℕ L) (s : ⊤ × ℕ × Flags)
     (i : Input ℕ) (o : Bool × ℕ × (Bool × Bool × Bool)) (t : ⊤ × ℕ × Flags) (j : Input ℕ)
     → s.1 ≡ 4 → All (λ b. b < 256) i.left.tokens
-    → BitsOfBytesRuns reading form (HighMeans (bits_reading reading) form) s i (Ok o) t j
+    → BitsOfBytesRuns reading modal (HighMeans (bits_reading reading) modal) s i (Ok o) t j
     → IsHighByte o.0 o.1 o.2.0 o.2.1 o.2.2 i.left.tokens j.left.tokens
-high_read reading form s i o t j is bytes ran =
-    let it = byte_read reading form _ s _ _ (high_bits (bits_reading reading) form s is) i o t j
+high_read reading s i o t j is bytes ran =
+    let it = byte_read reading _ s _ _ (high_bits (bits_reading reading) s is) i o t j
     bytes ran in
     record {
       splits = it.0 ∙ ap (λ n. n ∷ j.left.tokens) (omega arith);
       fits = it.1.1;
     }
 
-pub high_must : {L : Type 0} (reading : Reading ℕ L) (form : ErrorForm) (s : ⊤ × ℕ × Flags)
+pub high_must : {L : Type 0} (reading : Reading ℕ L) (s : ⊤ × ℕ × Flags)
     (i : Input ℕ) (k : Kind) (t : ⊤ × ℕ × Flags) (j : Input ℕ) → s.1 ≡ 4
     → 1 ≤ length i.left.tokens → length i.left.tokens ≤ most_bytes
-    → BitsOfBytesRuns reading form (HighMeans (bits_reading reading) form) s i (Err k) t j → ⊥
-high_must reading form s i k t j is some fits ran =
-    byte_must reading form _ s _ _ (high_bits (bits_reading reading) form s is) i k t j some fits
-    ran
+    → BitsOfBytesRuns reading modal (HighMeans (bits_reading reading) modal) s i (Err k) t j → ⊥
+high_must reading s i k t j is some fits ran =
+    byte_must reading _ s _ _ (high_bits (bits_reading reading) s is) i k t j some fits ran
 
-pub low_read : {L : Type 0} (reading : Reading ℕ L) (form : ErrorForm) (s : ⊤ × ℕ × ℕ)
+pub high_fails : {L : Type 0} (reading : Reading ℕ L) (s : ⊤ × ℕ × Flags)
+    (i : Input ℕ) (k : Kind) (t : ⊤ × ℕ × Flags) (j : Input ℕ) → s.1 ≡ 4
+    → BitsOfBytesRuns reading modal (HighMeans (bits_reading reading) modal) s i (Err k) t j
+    → LacksPart 0 1 i k j ⊎ HasTooMany 0 i k j
+high_fails reading s i k t j is ran =
+    byte_fails reading _ s _ _ (high_bits (bits_reading reading) s is) i k t j ran
+
+pub low_read : {L : Type 0} (reading : Reading ℕ L) (s : ⊤ × ℕ × ℕ)
     (i : Input ℕ) (o : Bool × ℕ × ℕ) (t : ⊤ × ℕ × ℕ) (j : Input ℕ) → s.1 ≡ 3 → s.2 ≡ 4
     → All (λ b. b < 256) i.left.tokens
-    → BitsOfBytesRuns reading form (LowMeans (bits_reading reading) form) s i (Ok o) t j
+    → BitsOfBytesRuns reading modal (LowMeans (bits_reading reading) modal) s i (Ok o) t j
     → IsLowByte o.0 o.1 o.2 i.left.tokens j.left.tokens
-low_read reading form s i o t j is is' bytes ran =
-    let it = byte_read reading form _ s _ _ (low_bits_read (bits_reading reading) form s is is') i
+low_read reading s i o t j is is' bytes ran =
+    let it = byte_read reading _ s _ _ (low_bits_read (bits_reading reading) s is is') i
     o t j bytes ran in
     record {
       splits = it.0 ∙ ap (λ n. n ∷ j.left.tokens) (omega arith);
@@ -314,13 +432,20 @@ low_read reading form s i o t j is is' bytes ran =
       code_fits = it.1.2;
     }
 
-pub low_must : {L : Type 0} (reading : Reading ℕ L) (form : ErrorForm) (s : ⊤ × ℕ × ℕ)
+pub low_must : {L : Type 0} (reading : Reading ℕ L) (s : ⊤ × ℕ × ℕ)
     (i : Input ℕ) (k : Kind) (t : ⊤ × ℕ × ℕ) (j : Input ℕ) → s.1 ≡ 3 → s.2 ≡ 4
     → 1 ≤ length i.left.tokens → length i.left.tokens ≤ most_bytes
-    → BitsOfBytesRuns reading form (LowMeans (bits_reading reading) form) s i (Err k) t j → ⊥
-low_must reading form s i k t j is is' some fits ran =
-    byte_must reading form _ s _ _ (low_bits_read (bits_reading reading) form s is is') i k t j
+    → BitsOfBytesRuns reading modal (LowMeans (bits_reading reading) modal) s i (Err k) t j → ⊥
+low_must reading s i k t j is is' some fits ran =
+    byte_must reading _ s _ _ (low_bits_read (bits_reading reading) s is is') i k t j
     some fits ran
+
+pub low_fails : {L : Type 0} (reading : Reading ℕ L) (s : ⊤ × ℕ × ℕ)
+    (i : Input ℕ) (k : Kind) (t : ⊤ × ℕ × ℕ) (j : Input ℕ) → s.1 ≡ 3 → s.2 ≡ 4
+    → BitsOfBytesRuns reading modal (LowMeans (bits_reading reading) modal) s i (Err k) t j
+    → LacksPart 0 1 i k j ⊎ HasTooMany 0 i k j
+low_fails reading s i k t j is is' ran =
+    byte_fails reading _ s _ _ (low_bits_read (bits_reading reading) s is is') i k t j ran
 
 -- ---- numbers of two bytes
 
@@ -355,3 +480,33 @@ pub number_must : {L : Type 0} (reading : Reading ℕ L) (form : ErrorForm) (i :
 number_must reading form i k j enough (inl (bytes, as_many, are, passes, e)) = ok_is_err e refl
 number_must reading form i k j enough (inr (l, few, kind, e, same)) =
     omega (arith, few, enough)
+
+pub number_fails : {L : Type 0} (reading : Reading ℕ L) (i : Input ℕ) (k : Kind) (j : Input ℕ)
+    → IntegerRuns 2 value_of reading modal i (Err k) j → LacksPart 0 2 i k j
+number_fails reading i k j (inl (bytes, as_many, are, passes, e)) = ok_is_err e refl
+number_fails reading i k j (inr (l, few, kind, e, same)) =
+    subst (LacksPart 0 2 i k) (sym same) (record {
+      passes = omega arith;
+      few = few;
+      short = short_of (2 - length i.left.tokens) i e kind;
+    })
+
+-- ---- what fails behind bytes that were passed
+
+pub lacks_after : {i m j : Input ℕ} {k : Kind} {size : ℕ} (passed more total : ℕ)
+    → total ≡ passed + more → length i.left.tokens ≡ passed + length m.left.tokens
+    → LacksPart more size m k j → LacksPart total size i k j
+lacks_after passed more total sum front lacks = record {
+  passes = omega (arith, sum, front, lacks.passes);
+  few = lacks.few;
+  short = lacks.short;
+}
+
+pub many_after : {i m j : Input ℕ} {k : Kind} (passed : ℕ)
+    → length i.left.tokens ≡ passed + length m.left.tokens → HasTooMany 0 m k j
+    → HasTooMany passed i k j
+many_after passed front many = record {
+  passes = omega (arith, front, many.passes);
+  many = many.many;
+  cuts = many.cuts;
+}

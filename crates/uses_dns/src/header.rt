@@ -2,15 +2,18 @@
 //! whole or come in pieces: two bytes of flags by their bits, the other numbers by their bytes.
 #![tactic(auto)]
 
-ghost use Rattle.std.specs.Prelude.{◌≡◌, ◌≤◌, ◌+◌, length, IfOk, IsOk};
+ghost use Rattle.std.specs.Prelude.{◌≡◌, ◌⊎◌, ◌≤◌, ◌<◌, ◌+◌, ◌*◌, length, IfErr, IfOk, IsOk, ℕ};
 ghost use Rattle.winnow.specs.BitTake.{bit_take_count};
+ghost use Rattle.winnow.specs.Bytes.{bytes_input, bytes_reading};
 ghost use Rattle.winnow.specs.Following.{most_bytes};
-ghost use Rattle.uses_dns.specs.Header.{AreCounts, IsHeader, IsHighByte, IsLowByte, IsNumber};
+ghost use Rattle.winnow.specs.Input.{IsEndOf};
+ghost use Rattle.uses_dns.specs.Header.{AreCounts, HasNoHeader, HasTooMany, IsHeader, IsHighByte};
+ghost use Rattle.uses_dns.specs.Header.{IsLowByte, IsNumber, LacksPart};
 
 use winnow::binary::bits::impls::{Bits, Bool, Take};
 use winnow::binary::bits::{bits, take};
 use winnow::binary::impls::BeU16;
-use winnow::error::{EmptyError, ErrMode};
+use winnow::error::{EmptyError, ErrMode, HasKind};
 use winnow::prelude::*;
 use winnow::stream::{ByteStream, Partial};
 
@@ -79,6 +82,11 @@ fn high_flags<I: ByteStream + StreamIsPartial + Copy>(
         ≡ 1 + length (I.view input.new).left.tokens) }
     ensures accepts { 1 ≤ length (I.view input.old).left.tokens
         → length (I.view input.old).left.tokens ≤ most_bytes → IsOk result }
+    ensures ends { IsEndOf I.reading (I.view input.new) (I.view input.old) }
+    ensures fails { IfErr result (λ error. LacksPart 0 1 (I.view input.old)
+        (⟦<ErrMode<EmptyError> as HasKind>⟧.kind error) (I.view input.new)
+        ⊎ HasTooMany 0 (I.view input.old) (⟦<ErrMode<EmptyError> as HasKind>⟧.kind error)
+        (I.view input.new)) }
 {
     input.shows_bytes();
     match bits(high::<I, ErrMode<EmptyError>>()).parse_next(input) {
@@ -97,6 +105,11 @@ fn low_flags<I: ByteStream + StreamIsPartial + Copy>(
         ≡ 1 + length (I.view input.new).left.tokens) }
     ensures accepts { 1 ≤ length (I.view input.old).left.tokens
         → length (I.view input.old).left.tokens ≤ most_bytes → IsOk result }
+    ensures ends { IsEndOf I.reading (I.view input.new) (I.view input.old) }
+    ensures fails { IfErr result (λ error. LacksPart 0 1 (I.view input.old)
+        (⟦<ErrMode<EmptyError> as HasKind>⟧.kind error) (I.view input.new)
+        ⊎ HasTooMany 0 (I.view input.old) (⟦<ErrMode<EmptyError> as HasKind>⟧.kind error)
+        (I.view input.new)) }
 {
     input.shows_bytes();
     match bits(low::<I, ErrMode<EmptyError>>()).parse_next(input) {
@@ -112,6 +125,9 @@ fn number<I: ByteStream + StreamIsPartial>(input: &mut I) -> Result<u16, ErrMode
     ensures left { IfOk result (λ _. length (I.view input.old).left.tokens
         ≡ 2 + length (I.view input.new).left.tokens) }
     ensures accepts { 2 ≤ length (I.view input.old).left.tokens → IsOk result }
+    ensures ends { IsEndOf I.reading (I.view input.new) (I.view input.old) }
+    ensures fails { IfErr result (λ error. LacksPart 0 2 (I.view input.old)
+        (⟦<ErrMode<EmptyError> as HasKind>⟧.kind error) (I.view input.new)) }
 {
     match BeU16.parse_next(input) {
         Ok(number) => Ok(number),
@@ -126,6 +142,10 @@ fn counts<I: ByteStream + StreamIsPartial>(
     ensures counts { IfOk result (λ o. AreCounts o.0 o.1 o.2 o.3
         (I.view input.old).left.tokens (I.view input.new).left.tokens) }
     ensures accepts { 8 ≤ length (I.view input.old).left.tokens → IsOk result }
+    ensures ends { IsEndOf I.reading (I.view input.new) (I.view input.old) }
+    ensures fails { IfErr result (λ error. (half : ℕ) × (half < 4)
+        × LacksPart (2 * half) 2 (I.view input.old)
+        (⟦<ErrMode<EmptyError> as HasKind>⟧.kind error) (I.view input.new)) }
 {
     let question_count = number(input)?;
     let answer_count = number(input)?;
@@ -141,7 +161,8 @@ fn counts<I: ByteStream + StreamIsPartial>(
 
 /// The header of a message, with which any stream of bytes begins: twelve bytes, whatever they are.
 ///
-/// Of fewer bytes there is none; where more may come, it asks for them.
+/// Of fewer bytes there is none. The input is left before the part that is not there, a number of
+/// two bytes or a byte of flags; where more may come, it asks for the bytes that the part lacks.
 pub fn header_of<I: ByteStream + StreamIsPartial + Copy>(
     input: &mut I,
 ) -> Result<Header, ErrMode<EmptyError>>
@@ -149,6 +170,9 @@ pub fn header_of<I: ByteStream + StreamIsPartial + Copy>(
         (I.view input.old).left.tokens (I.view input.new).left.tokens) }
     ensures accepts { 12 ≤ length (I.view input.old).left.tokens
         → length (I.view input.old).left.tokens ≤ most_bytes → IsOk result }
+    ensures ends { IsEndOf I.reading (I.view input.new) (I.view input.old) }
+    ensures fails { IfErr result (λ error. HasNoHeader (I.view input.old)
+        (⟦<ErrMode<EmptyError> as HasKind>⟧.kind error) (I.view input.new)) }
 {
     let id = number(input)?;
     let high = high_flags(input)?;
@@ -173,8 +197,9 @@ pub fn header_of<I: ByteStream + StreamIsPartial + Copy>(
     })
 }
 
-/// The header of a message, with which the bytes begin: twelve bytes, whatever they are. Only of
-/// fewer than 2 to the 61 bytes the bits can be counted.
+/// The header of a message, with which the bytes begin: twelve bytes, whatever they are. Of fewer
+/// bytes there is none, and the input is left before the part that is not there. Only of fewer than
+/// 2 to the 61 bytes the bits can be counted.
 ///
 /// ```
 /// use uses_dns::header::read_header;
@@ -190,11 +215,15 @@ pub fn read_header<'i>(input: &mut &'i [u8]) -> Result<Header, ErrMode<EmptyErro
     ensures header { IfOk result (λ header. IsHeader header input.old.now input.new.now) }
     ensures accepts { 12 ≤ length input.old.now → length input.old.now ≤ most_bytes
         → IsOk result }
+    ensures ends { IsEndOf bytes_reading (bytes_input input.new.now) (bytes_input input.old.now) }
+    ensures fails { IfErr result (λ error. HasNoHeader (bytes_input input.old.now)
+        (⟦<ErrMode<EmptyError> as HasKind>⟧.kind error) (bytes_input input.new.now)) }
 {
     header_of(input)
 }
 
-/// The same over bytes that come in pieces: it answers as soon as twelve bytes are there.
+/// The same over bytes that come in pieces: it answers as soon as twelve bytes are there, and asks
+/// for those that a part lacks.
 ///
 /// ```
 /// use uses_dns::header::read_header_in_pieces;
@@ -211,6 +240,12 @@ pub fn read_header_in_pieces<'i>(
     ensures accepts { 12 ≤ length (⟦<Partial<&'static [u8]> as Stream>⟧.view input.old).left.tokens
         → length (⟦<Partial<&'static [u8]> as Stream>⟧.view input.old).left.tokens ≤ most_bytes
         → IsOk result }
+    ensures ends { IsEndOf bytes_reading (⟦<Partial<&'static [u8]> as Stream>⟧.view input.new)
+        (⟦<Partial<&'static [u8]> as Stream>⟧.view input.old) }
+    ensures fails { IfErr result (λ error.
+        HasNoHeader (⟦<Partial<&'static [u8]> as Stream>⟧.view input.old)
+        (⟦<ErrMode<EmptyError> as HasKind>⟧.kind error)
+        (⟦<Partial<&'static [u8]> as Stream>⟧.view input.new)) }
 {
     header_of(input)
 }

@@ -1,5 +1,5 @@
 -- Why a line of a log is refused, and of which level it is.
-use Rattle.std.specs.Prelude.{◌≡◌, ◌⊎◌, ℕ, Option, None, Some, nat_eq, if◌then◌else◌}
+use Rattle.std.specs.Prelude.{◌≡◌, ◌⊎◌, ℕ, List, ◌∷◌, Option, None, Some, nat_eq, if◌then◌else◌}
 use Rattle.std.proofs.Common.{refl, inl, inr}
 use Rattle.streams.specs.Kind.{Kind, backtrack, memory}
 use Rattle.stream_errors.specs.Form.{inner_kind_of}
@@ -16,6 +16,19 @@ level_at letter =
     if nat_eq letter 69 then Some Error
     else (if nat_eq letter 87 then Some Warning
     else (if nat_eq letter 73 then Some Info else None))
+
+-- The letter of a level stands first, and then the rest.
+abbrev pub StartsLevel : List ℕ → Level → List ℕ → Type 0
+StartsLevel bytes level rest =
+    (letter : ℕ) × (bytes ≡ letter ∷ rest) × (level_at letter ≡ Some level)
+
+-- No letter of a level stands first.
+abbrev pub NoLevelStands : List ℕ → Type 0
+NoLevelStands bytes = (level : Level) (rest : List ℕ) → StartsLevel bytes level rest → ⊥
+
+-- No colon stands first.
+abbrev pub NoColonStands : List ℕ → Type 0
+NoColonStands bytes = (rest : List ℕ) → bytes ≡ 58 ∷ rest → ⊥
 
 -- the kind of an error: only want of memory does not backtrack
 abbrev pub line_kind : LineError → Kind

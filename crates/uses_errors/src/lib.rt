@@ -11,13 +11,15 @@
 //! [`FromExternalError`]: stream_errors::external::FromExternalError
 #![tactic(auto)]
 
-ghost use Rattle.std.specs.Prelude.{◌≡◌, MatchResult, None, Some};
-ghost use Rattle.uses_errors.specs.Lines.{level_at};
+ghost use Rattle.std.specs.Prelude.{◌≡◌, ◌∷◌, ◌⊎◌, IfErr, IfOk, MatchResult, None, Some};
+ghost use Rattle.streams.specs.Kind.{backtrack};
+ghost use Rattle.uses_errors.specs.Lines.{NoColonStands, NoLevelStands, StartsLevel, level_at};
 
 pub mod error;
 
 use crate::error::{LineError, NoLevel, Part};
 use std::alloc::Allocator;
+use stream_errors::has_kind::HasKind;
 use stream_errors::mode::ErrMode;
 use winnow_core::parser::Parser;
 use winnow_token::token::impls::Any;
@@ -52,7 +54,8 @@ pub fn level_of(letter: u8) -> Result<Level, NoLevel>
     }
 }
 
-/// Reads the letter of a level. It says that a level is missing, or which letter stands for none.
+/// Reads the letter of a level. It says that a level is missing, or which letter stands for none,
+/// and leaves the input as it was; it wants no memory.
 ///
 /// ```
 /// use uses_errors::error::LineError;
@@ -64,13 +67,20 @@ pub fn level_of(letter: u8) -> Result<Level, NoLevel>
 pub fn read_letter<'i, A: Allocator + Copy>(
     alloc: A,
     input: &mut &'i [u8],
-) -> Result<Level, ErrMode<LineError>> {
-    Any.try_map(level_of)
-        .context(alloc, Part::Level)
-        .parse_next(input)
+) -> Result<Level, ErrMode<LineError>>
+    ensures level { IfOk result (λ level. StartsLevel input.old.now level input.new.now) }
+    ensures none { IfErr result (λ error. (⟦<ErrMode<LineError> as HasKind>⟧.kind error ≡ backtrack)
+        × NoLevelStands input.old.now × (input.new.now ≡ input.old.now)) }
+{
+    let mut letter = Any.try_map(level_of).context(alloc, Part::Level);
+    match letter.parse_next(input) {
+        Ok(level) => Ok(level),
+        Err(error) => Err(error),
+    }
 }
 
-/// Reads the colon behind a level, or says that it is missing.
+/// Reads the colon behind a level, or says that it is missing, and leaves the input as it was; it
+/// wants no memory.
 ///
 /// ```
 /// use uses_errors::error::{LineError, Part};
@@ -82,11 +92,22 @@ pub fn read_letter<'i, A: Allocator + Copy>(
 pub fn read_colon<'i, A: Allocator + Copy>(
     alloc: A,
     input: &mut &'i [u8],
-) -> Result<u8, ErrMode<LineError>> {
-    b':'.context(alloc, Part::Colon).parse_next(input)
+) -> Result<u8, ErrMode<LineError>>
+    ensures colon { IfOk result (λ colon. (colon ≡ 58)
+        × (input.old.now ≡ 58 ∷ input.new.now)) }
+    ensures none { IfErr result (λ error. (⟦<ErrMode<LineError> as HasKind>⟧.kind error ≡ backtrack)
+        × NoColonStands input.old.now × (input.new.now ≡ input.old.now)) }
+{
+    match b':'.context(alloc, Part::Colon).parse_next(input) {
+        Ok(colon) => Ok(colon),
+        Err(error) => Err(error),
+    }
 }
 
 /// Reads the level of a line and the colon behind it.
+///
+/// Where the level is missing the input stays; where the colon is, it is left behind the letter. It
+/// wants no memory.
 ///
 /// ```
 /// use uses_errors::{Level, read_level};
@@ -98,7 +119,15 @@ pub fn read_colon<'i, A: Allocator + Copy>(
 pub fn read_level<'i, A: Allocator + Copy>(
     alloc: A,
     input: &mut &'i [u8],
-) -> Result<Level, ErrMode<LineError>> {
+) -> Result<Level, ErrMode<LineError>>
+    ensures level { IfOk result (λ level. StartsLevel input.old.now level (58 ∷ input.new.now)) }
+    ensures kind { IfErr result (λ error.
+        ⟦<ErrMode<LineError> as HasKind>⟧.kind error ≡ backtrack) }
+    ensures none { IfErr result (λ _.
+        (NoLevelStands input.old.now × (input.new.now ≡ input.old.now))
+        ⊎ ((level : Level) × StartsLevel input.old.now level input.new.now
+        × NoColonStands input.new.now)) }
+{
     let level = read_letter(alloc, input)?;
     let _colon = read_colon(alloc, input)?;
     Ok(level)

@@ -21,7 +21,7 @@ use Rattle.winnow.specs.Reads.{Reads}
 use Rattle.winnow.specs.Runs.{Runs}
 use Rattle.winnow.specs.Short.{ShortKind}
 use Rattle.winnow.specs.Take.{TakeRuns}
-use Rattle.uses_frames.specs.Frame.{BeginsFrameOf, IsPayload, frame}
+use Rattle.uses_frames.specs.Frame.{BeginsFrameOf, IsPayload, Lacks, frame}
 
 -- what the parsers of the length and of a frame mean
 abbrev Length : Runs ⊤ ℕ ℕ
@@ -54,12 +54,11 @@ short_cut : (need : ℕ) (i : Input ℕ) (k : Kind) → i.status.cut ≡ true
 short_cut need i k cut (inl (_, is)) = is
 short_cut need i k cut (inr (whole, is)) = true_is_false (sym cut ∙ whole)
 
--- What is missing: so many bytes, and each frame that begins so has them.
+-- What is missing: so many bytes of the frame that the bytes begin.
 pub record IsMissing (bytes : List ℕ) (k : Kind) : Type 0 where
   pub missing : ℕ
   pub kind : k ≡ incomplete (Some missing)
-  pub some : 0 < missing
-  pub begun : BeginsFrameOf bytes (length bytes + missing)
+  pub lacks : Lacks bytes missing
 
 -- the length is not there
 no_length : (i : Input ℕ) (k : Kind) (j : Input ℕ) → i.status.cut ≡ true
@@ -68,13 +67,7 @@ no_length i k j cut (inl (bytes, as_many, are, passes, e)) = ok_is_err e refl
 no_length i k j cut (inr (l, few, kind, e, same)) = record {
   missing = 2 - length i.left.tokens;
   kind = same_kind e ∙ short_cut (2 - length i.left.tokens) i l cut kind;
-  some = omega (arith, few);
-  begun = λ more payload rest fits begins. omega (
-    arith,
-    few,
-    length-append (bytes_high_first 2 (length payload)) payload,
-    length_written 2 (length payload),
-  );
+  lacks = inl (few, omega (arith, few));
 }
 
 -- the length is there, and the payload is not
@@ -86,29 +79,18 @@ no_payload i a n k j cut counted (inl (front, slice, as_many, takes, e)) = ok_is
 no_payload i a n k j cut counted (inr (l, few, kind, e, same)) =
     let read = integer_ok 2 value_of counted_reading modal i n a counted in
     let still = ap (λ s. s.cut) read.passes.status ∙ cut in
-    let total = ap (λ x. length x) read.passes.tokens ∙ length-append read.bytes a.left.tokens in
+    let written = be_written 2 n read.bytes read.value_is read.as_many read.are in
     record {
       missing = n - length a.left.tokens;
       kind = same_kind e ∙ short_cut (n - length a.left.tokens) a l still kind;
-      some = omega (arith, few);
-      begun = λ more payload rest fits begins.
-          let size = bytes_high_first 2 (length payload) in
-          let fronts = same_fronts read.bytes size (a.left.tokens ++ more) (payload ++ rest)
-          (sym (append_assoc read.bytes a.left.tokens more)
-          ∙ ap (λ x. x ++ more) (sym read.passes.tokens) ∙ begins
-          ∙ append_assoc size payload rest)
-          (read.as_many ∙ sym (length_written 2 (length payload))) in
-          let is : n ≡ length payload = read.value_is ∙ ap value_of (sym fronts.0)
-          ∙ written_value 2 (length payload) fits in
-          omega (
-            arith,
-            few,
-            total,
-            read.as_many,
-            is,
-            length-append size payload,
-            length_written 2 (length payload),
-          );
+      lacks = inr (
+        n,
+        a.left.tokens,
+        below n (read.bytes, read.value_is, read.as_many, read.are),
+        read.passes.tokens ∙ ap (λ l. l ++ a.left.tokens) (sym written),
+        few,
+        omega (arith, few),
+      );
     }
 
 -- where it fails on bytes to which more may be added, so many are missing
@@ -120,6 +102,40 @@ frame_missing s i k t j cut (inr (l, r, same, e)) =
     record {
       missing = none.missing;
       kind = same_kind e ∙ none.kind;
-      some = none.some;
-      begun = none.begun;
+      lacks = none.lacks;
     }
+
+-- each frame that begins so has the bytes that are missing
+pub lacks_begins : (bytes : List ℕ) (missing : ℕ) → Lacks bytes missing
+    → (0 < missing) × BeginsFrameOf bytes (length bytes + missing)
+lacks_begins bytes missing (inl (few, as_many)) = (
+  omega (arith, few, as_many),
+  λ more payload rest fits begins. omega (
+    arith,
+    as_many,
+    length-append (bytes_high_first 2 (length payload)) payload,
+    length_written 2 (length payload),
+  ),
+)
+lacks_begins bytes missing (inr (size, left, small, splits, few, as_many)) = (
+  omega (arith, few, as_many),
+  λ more payload rest fits begins.
+      let said = bytes_high_first 2 size in
+      let told = bytes_high_first 2 (length payload) in
+      let fronts = same_fronts said told (left ++ more) (payload ++ rest)
+      (sym (append_assoc said left more) ∙ ap (λ x. x ++ more) (sym splits) ∙ begins
+      ∙ append_assoc told payload rest)
+      (length_written 2 size ∙ sym (length_written 2 (length payload))) in
+      let is : size ≡ length payload = sym (written_value 2 size small)
+      ∙ ap value_of (sym fronts.0) ∙ written_value 2 (length payload) fits in
+      omega (
+        arith,
+        as_many,
+        is,
+        ap (λ x. length x) splits,
+        length-append said left,
+        length_written 2 size,
+        length-append told payload,
+        length_written 2 (length payload),
+      ),
+)

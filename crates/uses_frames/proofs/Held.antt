@@ -9,6 +9,10 @@ use Rattle.std.proofs.KnownBytes.{Consumes-nil, Consumes-trans}
 use Rattle.std.proofs.lemmas.List.Elements.{All-nil, All-push}
 use Rattle.std.proofs.lemmas.List.{flat_map_more, nil_from_length}
 use lib.Seq.{take-add, take-append-le}
+use Rattle.winnow.specs.Integer.Written.{length_written}
+use Rattle.std.specs.Int.{bytes_high_first}
+use Rattle.uses_frames.specs.Held.{IsReady, capacity, held}
+use Rattle.uses_frames.specs.declared.frames.FrameBuffer.{FrameBuffer}
 use Rattle.uses_frames.specs.Frame.{BeginsFrameOf, IsOneAtMost, IsPayload, ReadsFrames, frame}
 
 -- a write behind the first bytes, seen as far as it goes
@@ -44,6 +48,31 @@ none_more a n new before read same as_many none =
     let empty : read ≡ [] = nil_from_length read (omega (arith, as_many, none)) in
     let no_more : a + length read ≡ a = omega (arith, as_many, none) in
     ap (λ m. take m new) (sym no_more) ∙ same ∙ ap (λ l. before ++ l) empty ∙ append-nil before
+
+-- a frame has the bytes of its length, and its payload
+pub frame_long : (payload : List ℕ) → length (frame payload) ≡ 2 + length payload
+frame_long payload =
+    omega (
+      arith,
+      length-append (bytes_high_first 2 (length payload)) payload,
+      length_written 2 (length payload),
+    )
+
+-- where nothing is held the bytes of a length are missing, for which there is room where a frame
+-- was
+pub nothing_held : (held : List ℕ) → held ≡ [] → BeginsFrameOf held 2
+nothing_held held empty more payload rest fits begins = omega (arith, frame_long payload)
+
+pub room_of_frame : (b : FrameBuffer) (payload : List ℕ) → IsReady b → held b ≡ frame payload
+    → 2 ≤ capacity b
+room_of_frame b payload ready is =
+    omega (
+      arith,
+      ready.0,
+      ap (λ l. length l) is,
+      frame_long payload,
+      length-take-le b.filled b.bytes.now ready.0,
+    )
 
 -- nothing was read yet
 pub reads_none : (payloads : List (List ℕ)) (held : List ℕ) (source : Option (List ℕ))

@@ -1,5 +1,5 @@
 -- Frames: the length of a payload in two bytes, the highest first, and the payload.
-use Rattle.std.specs.Prelude.{◌≡◌, ◌≤◌, ◌<◌, ◌^◌, ℕ, List, [], ◌++◌, length, Option}
+use Rattle.std.specs.Prelude.{◌≡◌, ◌⊎◌, ◌≤◌, ◌<◌, ◌+◌, ◌^◌, ℕ, List, [], ◌++◌, length, Option}
 use Rattle.std.specs.List.{All, flat_map}
 use Rattle.std.specs.Io.KnownBytes.{Consumes}
 use Rattle.std.specs.Int.{bytes_high_first}
@@ -20,6 +20,15 @@ IsFrame bytes = (payload : List ℕ) × IsPayload payload × (bytes ≡ frame pa
 abbrev pub BeginsFrameOf : List ℕ → ℕ → Type 0
 BeginsFrameOf bytes least = (more payload rest : List ℕ) → IsPayload payload
     → bytes ++ more ≡ frame payload ++ rest → least ≤ length (frame payload)
+
+-- Of the frame that the bytes begin so many are missing: those of its length, as long as it is not
+-- there, and then those of the payload.
+abbrev pub Lacks : List ℕ → ℕ → Type 0
+Lacks bytes missing =
+    ((length bytes < 2) × (missing + length bytes ≡ 2))
+    ⊎ ((size : ℕ) × (rest : List ℕ) × (size < 256 ^ 2)
+    × (bytes ≡ bytes_high_first 2 size ++ rest) × (length rest < size)
+    × (missing + length rest ≡ size))
 
 -- Nothing stands behind the frame that the bytes begin.
 abbrev pub IsOneAtMost : List ℕ → Type 0

@@ -3,7 +3,7 @@
 
 ghost use Rattle.std.specs.Prelude.{◌≡◌, ◌<◌, ◌+◌, ◌++◌, List, ℕ, length, IfOk, IfErr, Some};
 ghost use Rattle.winnow.specs.Kind.{incomplete};
-ghost use Rattle.uses_frames.specs.Frame.{BeginsFrameOf, IsPayload, frame};
+ghost use Rattle.uses_frames.specs.Frame.{BeginsFrameOf, IsPayload, Lacks, frame};
 
 use winnow::binary::impls::{BeU16, LengthTake};
 use winnow::binary::length_take;
@@ -46,6 +46,7 @@ fn missing(error: ErrMode<EmptyError>) -> usize
 pub fn first_frame(bytes: &[u8]) -> Result<usize, usize>
     ensures whole { IfOk result (λ n. (payload : List ℕ) × (rest : List ℕ)
         × IsPayload payload × (n ≡ length payload) × (bytes.now ≡ frame payload ++ rest)) }
+    ensures missing { IfErr result (λ n. Lacks bytes.now n) }
     ensures some { IfErr result (λ n. 0 < n) }
     ensures begun { IfErr result (λ n. BeginsFrameOf bytes.now (length bytes.now + n)) }
 {

@@ -19,10 +19,10 @@
 //! ```
 #![tactic(auto)]
 
-ghost use Rattle.std.specs.Prelude.{◌≡◌, ◌++◌, [], ◌∷◌, List, ℕ, length, map, IfOk, IfErr, IsTrue};
-ghost use Rattle.std.specs.Prelude.{OnErr, OnOk, false};
+ghost use Rattle.std.specs.Prelude.{◌≡◌, ◌⊎◌, ◌≤◌, ◌<◌, ◌++◌, [], ◌∷◌, List, ℕ, length, map};
+ghost use Rattle.std.specs.Prelude.{IfOk, IfErr, IsTrue, OnErr, OnOk, false, vec_capacity, vec_len};
 ghost use Rattle.std.specs.Io.KnownBytes.{Consumes, IsAtEnd};
-ghost use Rattle.uses_frames.specs.Fault.{Explains};
+ghost use Rattle.uses_frames.specs.Fault.{Explains, Stops};
 ghost use Rattle.uses_frames.specs.Frame.{IsFrame, IsPayload, ReadsFrames, frame};
 ghost use Rattle.uses_frames.specs.Held.{IsReady, capacity, held};
 
@@ -66,8 +66,9 @@ impl<'b> FrameBuffer<'b> {
     /// Each read asks for the bytes that the frame still lacks. What was read stays, also where a
     /// fault is answered: [`TooLong`](FrameFault::TooLong) before any byte of a payload that does
     /// not fit, [`EndsWithin`](FrameFault::EndsWithin) where the source ended within a frame,
-    /// [`Unreadable`](FrameFault::Unreadable) where it could not be read, after which another call
-    /// goes on. A read that was interrupted is tried again.
+    /// [`Unreadable`](FrameFault::Unreadable) where it could not be read, though bytes are missing
+    /// that have room, after which another call goes on. A read that was interrupted is tried
+    /// again. It wants no memory.
     pub fn fill<R: Read>(&mut self, source: &mut R) -> Result<bool, FrameFault>
         requires { IsReady self.old }
         ensures ready { IsReady self.new }
@@ -78,7 +79,7 @@ impl<'b> FrameBuffer<'b> {
         ensures end { IfOk result (λ whole. whole ≡ false
             → (held self.new ≡ []) × IsAtEnd (R.remaining source.new)) }
         ensures fault { IfErr result (λ fault.
-            Explains fault (held self.new) (capacity self.new) (R.remaining source.new)) }
+            Stops fault (held self.new) (capacity self.new) (R.remaining source.new)) }
     {
         refill::fill(source, self.bytes, &mut self.filled)
     }
@@ -115,7 +116,8 @@ impl<'b> FrameBuffer<'b> {
     }
 }
 
-/// Copies a payload behind others.
+/// Copies a payload behind others. That wants memory for its bytes, where it has any, and for its
+/// place, where the list is full.
 fn keep<A: Allocator + Copy>(
     alloc: A,
     payload: &[u8],
@@ -125,12 +127,16 @@ fn keep<A: Allocator + Copy>(
         ≡ map (λ p. p.items) payloads.old.items ++ payload.now ∷ []) }
     ensures refused { OnErr result (payloads.new.items ≡ payloads.old.items) }
     ensures fault { IfErr result (λ fault. fault ≡ FrameFault.NoMemory) }
+    ensures wants { OnErr result ((0 < length payload.now)
+        ⊎ (vec_capacity payloads.old ≤ vec_len payloads.new)) }
+    ensures room { vec_capacity payloads.old ≤ vec_capacity payloads.new }
 {
-    match Vec::from_slice(alloc, payload) {
-        Ok(copy) => match payloads.push(copy) {
-            Ok(()) => Ok(()),
-            Err(_) => Err(FrameFault::NoMemory),
-        },
+    let mut copy = Vec::new(alloc);
+    if copy.extend_from_slice(payload).is_err() {
+        return Err(FrameFault::NoMemory);
+    }
+    match payloads.push(copy) {
+        Ok(()) => Ok(()),
         Err(_) => Err(FrameFault::NoMemory),
     }
 }
@@ -138,8 +144,9 @@ fn keep<A: Allocator + Copy>(
 /// Reads frames to the end of a source, and puts their payloads behind others.
 ///
 /// Where a fault is answered, the payloads before it are there, and the buffer holds what was read
-/// behind them: at [`NoMemory`](FrameFault::NoMemory) the frame whose payload could not be kept.
-/// The other faults are those of [`FrameBuffer::fill`].
+/// behind them: at [`NoMemory`](FrameFault::NoMemory) the frame whose payload could not be kept. An
+/// empty payload wants memory only where the list has no more of the room that it had. The other
+/// faults are those of [`FrameBuffer::fill`].
 ///
 /// ```
 /// use uses_frames::frames::{FrameBuffer, read_frames};
@@ -164,9 +171,10 @@ pub fn read_frames<R: Read, A: Allocator + Copy>(
         (R.remaining source.old) (R.remaining source.new) }
     ensures end { OnOk result ((held buffer.new ≡ []) × IsAtEnd (R.remaining source.new)) }
     ensures fault { IfErr result (λ fault.
-        Explains fault (held buffer.new) (capacity buffer.new) (R.remaining source.new)) }
+        Explains fault (held buffer.new) (capacity buffer.new) (R.remaining source.new)
+        (vec_capacity payloads.old ≤ vec_len payloads.new)) }
 {
-    for _ in 0..u64::MAX {
+    for turn in 0..u64::MAX {
         if !buffer.fill(source)? {
             return Ok(());
         }

@@ -4,7 +4,7 @@
 ghost use Rattle.std.specs.Prelude.{◌≡◌, ◌≤◌, ◌<◌, ◌+◌, ◌++◌, [], List, ℕ, length, take, IsTrue};
 ghost use Rattle.std.specs.Prelude.{IfOk, IfErr, MatchResult, false};
 ghost use Rattle.std.specs.Io.KnownBytes.{Consumes, IsAtEnd};
-ghost use Rattle.uses_frames.specs.Fault.{Explains};
+ghost use Rattle.uses_frames.specs.Fault.{Stops};
 ghost use Rattle.uses_frames.specs.Frame.{IsFrame, IsOneAtMost};
 
 use crate::fault::FrameFault;
@@ -58,10 +58,10 @@ pub fn fill<R: Read>(
     ensures frame { IfOk result (λ whole. IsTrue whole → IsFrame (take filled.new bytes.new)) }
     ensures end { IfOk result (λ whole. whole ≡ false
         → (take filled.new bytes.new ≡ []) × IsAtEnd (R.remaining source.new)) }
-    ensures fault { IfErr result (λ fault. Explains fault (take filled.new bytes.new)
+    ensures fault { IfErr result (λ fault. Stops fault (take filled.new bytes.new)
         (length bytes.new) (R.remaining source.new)) }
 {
-    for _ in 0..u64::MAX {
+    loop {
         let missing = match first_frame(&bytes[..*filled]) {
             Ok(_) => return Ok(true),
             Err(missing) => missing,
@@ -79,5 +79,4 @@ pub fn fill<R: Read>(
         }
         *filled += n;
     }
-    Err(FrameFault::Unreadable)
 }

@@ -1,5 +1,6 @@
 -- What holds of bytes that are items.
-use Rattle.std.specs.Prelude.{◌≡◌, ◌<◌, ℕ, Bool, List, [], ◌∷◌, ◌++◌, length, Option, Some, None}
+use Rattle.std.specs.Prelude.{◌≡◌, ◌<◌, ℕ, Bool, true, false, if◌then◌else◌}
+use Rattle.std.specs.Prelude.{List, [], ◌∷◌, ◌++◌, length, Option, Some, None}
 use Rattle.std.specs.Prelude.{Ok, Err}
 use Rattle.std.proofs.Common.{refl, sym, ◌∙◌, ap, subst, inl, inr, arith}
 use Rattle.streams.specs.Bytes.{bytes_reading}
@@ -42,3 +43,12 @@ pub one_logic : (f : Logic) (v w : Bool) → GivesOne (logic_value f v w)
 one_logic And v w x y e g = e ∙ sym g
 one_logic Or v w x y e g = e ∙ sym g
 one_logic Same v w x y e g = e ∙ sym g
+
+-- and it always gives one
+pub some_not : (f : Not) (v : Bool) → (x : Bool) × not_value f v x
+some_not f v = (if v then false else true, refl)
+
+pub some_logic : (f : Logic) (v w : Bool) → (x : Bool) × logic_value f v w x
+some_logic And v w = (if v then w else false, refl)
+some_logic Or v w = (if v then true else w, refl)
+some_logic Same v w = (if v then w else (if w then false else true), refl)

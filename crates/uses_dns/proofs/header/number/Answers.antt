@@ -1,5 +1,6 @@
 use Rattle.winnow.specs.Form.{modal}
-use Rattle.uses_dns.proofs.HeaderRuns.{number_left, number_must, number_read}
+use Rattle.uses_dns.proofs.HeaderRuns.{number_fails, number_left, number_must}
+use Rattle.uses_dns.proofs.HeaderRuns.{number_read}
 use Rattle.uses_dns.proofs.header.number.Goals as goal
 
 pub returns-in-Ok-clause-number : goal.returns-in-Ok-clause-number
@@ -13,3 +14,12 @@ returns-in-Ok-clause-left g c =
 pub returns-in-Err-clause-accepts : goal.returns-in-Err-clause-accepts
 returns-in-Err-clause-accepts g c enough =
     absurd (number_must g.I.Stream.reading modal _ _ _ enough c.in-Err.ensures.ran.0)
+
+pub returns-in-Err-clause-fails : goal.returns-in-Err-clause-fails
+returns-in-Err-clause-fails g c = number_fails g.I.Stream.reading _ _ _ c.in-Err.ensures.ran.0
+
+pub returns-in-Ok-clause-ends : goal.returns-in-Ok-clause-ends
+returns-in-Ok-clause-ends g c = c.in-Ok.ensures.ends
+
+pub returns-in-Err-clause-ends : goal.returns-in-Err-clause-ends
+returns-in-Err-clause-ends g c = c.in-Err.ensures.ends

@@ -1,0 +1,76 @@
+//! Laws of parts of expressions.
+ghost use Rattle.std.specs.Prelude.{ℕ};
+ghost use Rattle.streams.specs.Bytes.{bytes_reading};
+ghost use Rattle.uses_formulas.specs.Decided.{Moves};
+ghost use Rattle.winnow_expression_trees.specs.Premises.{IsStateless};
+
+use stream_errors::parser_error::ParserError;
+use streams::stream::Stream;
+use winnow_comb::combinator::impls::AltParser;
+use winnow_core::combinator::impls::Value;
+use winnow_core::parser::Parser;
+use winnow_decided::decided::Decided;
+
+/// The stream of bytes.
+type Bytes = &'static [u8];
+
+/// A parser of which one state and one input decide what it answers is a part of an expression as
+/// the laws of trees ask, as far as its outputs are alike.
+///
+/// ```
+/// use uses_formulas::laws::a_decided_part_is_stateless;
+///
+/// // Of `Digit1`.
+/// a_decided_part_is_stateless::<Digit1, &[u8], &[u8], EmptyError>();
+/// ```
+pub fn a_decided_part_is_stateless<P: Decided<I, O, E>, I: Stream, O, E: ParserError<I>>()
+    ensures { (p : P) → P.Decided.premise p
+        → IsStateless (P.Decided.alike p) (P.Parser.meaning E.form) (P.Parser.state p) }
+{}
+
+/// A byte consumes, where it is answered.
+///
+/// ```
+/// use uses_formulas::laws::a_byte_consumes;
+///
+/// a_byte_consumes::<EmptyError>();
+/// ```
+pub fn a_byte_consumes<E: ParserError<Bytes>>()
+    ensures { (b : ℕ) → Moves bytes_reading.units
+        (⟦<u8 as Parser<Bytes, u8, E>>⟧.meaning E.form) b }
+{}
+
+/// A value in the place of an output consumes what the output does.
+///
+/// ```
+/// use uses_formulas::laws::a_value_consumes;
+///
+/// // Of `b'-'.value("minus")`.
+/// a_value_consumes::<&[u8], u8, &str, u8, EmptyError>();
+/// ```
+pub fn a_value_consumes<I: Stream, O: Drop, U: Clone, P: Parser<I, O, E>, E: ParserError<I>>()
+    ensures { (s : P.State) (x : U) → Moves I.reading.units (P.meaning E.form) s
+        → Moves I.reading.units (⟦<Value<P, I, O, U, E> as Parser<I, U, E>>⟧.meaning E.form)
+        (s, x) }
+{}
+
+/// A choice between two parsers that consume does.
+///
+/// ```
+/// use uses_formulas::laws::a_choice_consumes;
+///
+/// // Of `alt((b'+', b'-'))`.
+/// a_choice_consumes::<&[u8], u8, u8, u8, EmptyError>();
+/// ```
+pub fn a_choice_consumes<
+    I: Stream,
+    O,
+    P1: Parser<I, O, E>,
+    P2: Parser<I, O, E>,
+    E: ParserError<I>,
+>()
+    ensures { (s : P1.State) (u : P2.State) → Moves I.reading.units (P1.meaning E.form) s
+        → Moves I.reading.units (P2.meaning E.form) u
+        → Moves I.reading.units
+        (⟦<AltParser<(P1, P2), I, O, E> as Parser<I, O, E>>⟧.meaning E.form) (s, u) }
+{}

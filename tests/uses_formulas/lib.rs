@@ -1,0 +1,5 @@
+//! The tests of sizes.
+#![tactic(auto)]
+
+#[cfg(test)]
+mod sizes;
