@@ -52,7 +52,7 @@ def stands_on():
     for line in read(TOP / "crates.txt").splitlines():
         name, colon, others = line.partition(":")
         if colon and not line.startswith("#"):
-            found[name] = [it for it in others.split() if it in found]
+            found[name.split()[0]] = [it for it in others.split() if it in found]
     return found
 
 

@@ -1,0 +1,211 @@
+/* Written by scripts/header.py from crates/exported: do not edit. */
+/*
+ * What stands between a caller in C and the exports, each of which asks for pointers that are
+ * not null, to no bytes too, and for lengths that an object can have.
+ */
+#include "pergidau.h"
+
+uint32_t exported_calc_value(
+    const uint8_t *text,
+    size_t text_length,
+    struct pergidau_number *out);
+uint32_t exported_http_head(
+    const uint8_t *bytes,
+    size_t bytes_length,
+    struct pergidau_field *fields,
+    size_t fields_length,
+    struct pergidau_head *out);
+uint32_t exported_http_head_in_pieces(
+    const uint8_t *bytes,
+    size_t bytes_length,
+    struct pergidau_field *fields,
+    size_t fields_length,
+    struct pergidau_head *out);
+uint32_t exported_ini_pair(
+    const uint8_t *bytes,
+    size_t bytes_length,
+    struct pergidau_pair *out);
+uint32_t exported_json_check(
+    const uint8_t *text,
+    size_t text_length,
+    size_t levels);
+uint32_t exported_json_value(
+    const uint8_t *bytes,
+    size_t bytes_length,
+    size_t levels,
+    size_t *out);
+uint32_t exported_text_position(
+    const uint8_t *bytes,
+    size_t bytes_length,
+    size_t offset,
+    struct pergidau_position *out);
+
+enum pergidau_code pergidau_calc_value(
+    const uint8_t *text,
+    size_t text_length,
+    struct pergidau_number *out)
+{
+    const uint8_t no_text = {0};
+    if (text_length > PTRDIFF_MAX / sizeof(uint8_t)) {
+        return PERGIDAU_TOO_LONG;
+    }
+    if (text == NULL && text_length > 0) {
+        return PERGIDAU_NULL;
+    }
+    if (out == NULL) {
+        return PERGIDAU_NULL;
+    }
+    if (text == NULL) {
+        text = &no_text;
+    }
+    return (enum pergidau_code)exported_calc_value(text, text_length, out);
+}
+
+enum pergidau_code pergidau_http_head(
+    const uint8_t *bytes,
+    size_t bytes_length,
+    struct pergidau_field *fields,
+    size_t fields_length,
+    struct pergidau_head *out)
+{
+    const uint8_t no_bytes = {0};
+    struct pergidau_field no_fields = {0};
+    if (bytes_length > PTRDIFF_MAX / sizeof(uint8_t)) {
+        return PERGIDAU_TOO_LONG;
+    }
+    if (bytes == NULL && bytes_length > 0) {
+        return PERGIDAU_NULL;
+    }
+    if (fields_length > PTRDIFF_MAX / sizeof(struct pergidau_field)) {
+        return PERGIDAU_TOO_LONG;
+    }
+    if (fields == NULL && fields_length > 0) {
+        return PERGIDAU_NULL;
+    }
+    if (out == NULL) {
+        return PERGIDAU_NULL;
+    }
+    if (bytes == NULL) {
+        bytes = &no_bytes;
+    }
+    if (fields == NULL) {
+        fields = &no_fields;
+    }
+    return (enum pergidau_code)exported_http_head(bytes, bytes_length, fields, fields_length, out);
+}
+
+enum pergidau_code pergidau_http_head_in_pieces(
+    const uint8_t *bytes,
+    size_t bytes_length,
+    struct pergidau_field *fields,
+    size_t fields_length,
+    struct pergidau_head *out)
+{
+    const uint8_t no_bytes = {0};
+    struct pergidau_field no_fields = {0};
+    if (bytes_length > PTRDIFF_MAX / sizeof(uint8_t)) {
+        return PERGIDAU_TOO_LONG;
+    }
+    if (bytes == NULL && bytes_length > 0) {
+        return PERGIDAU_NULL;
+    }
+    if (fields_length > PTRDIFF_MAX / sizeof(struct pergidau_field)) {
+        return PERGIDAU_TOO_LONG;
+    }
+    if (fields == NULL && fields_length > 0) {
+        return PERGIDAU_NULL;
+    }
+    if (out == NULL) {
+        return PERGIDAU_NULL;
+    }
+    if (bytes == NULL) {
+        bytes = &no_bytes;
+    }
+    if (fields == NULL) {
+        fields = &no_fields;
+    }
+    return (enum pergidau_code)exported_http_head_in_pieces(bytes, bytes_length, fields, fields_length, out);
+}
+
+enum pergidau_code pergidau_ini_pair(
+    const uint8_t *bytes,
+    size_t bytes_length,
+    struct pergidau_pair *out)
+{
+    const uint8_t no_bytes = {0};
+    if (bytes_length > PTRDIFF_MAX / sizeof(uint8_t)) {
+        return PERGIDAU_TOO_LONG;
+    }
+    if (bytes == NULL && bytes_length > 0) {
+        return PERGIDAU_NULL;
+    }
+    if (out == NULL) {
+        return PERGIDAU_NULL;
+    }
+    if (bytes == NULL) {
+        bytes = &no_bytes;
+    }
+    return (enum pergidau_code)exported_ini_pair(bytes, bytes_length, out);
+}
+
+enum pergidau_code pergidau_json_check(
+    const uint8_t *text,
+    size_t text_length,
+    size_t levels)
+{
+    const uint8_t no_text = {0};
+    if (text_length > PTRDIFF_MAX / sizeof(uint8_t)) {
+        return PERGIDAU_TOO_LONG;
+    }
+    if (text == NULL && text_length > 0) {
+        return PERGIDAU_NULL;
+    }
+    if (text == NULL) {
+        text = &no_text;
+    }
+    return (enum pergidau_code)exported_json_check(text, text_length, levels);
+}
+
+enum pergidau_code pergidau_json_value(
+    const uint8_t *bytes,
+    size_t bytes_length,
+    size_t levels,
+    size_t *out)
+{
+    const uint8_t no_bytes = {0};
+    if (bytes_length > PTRDIFF_MAX / sizeof(uint8_t)) {
+        return PERGIDAU_TOO_LONG;
+    }
+    if (bytes == NULL && bytes_length > 0) {
+        return PERGIDAU_NULL;
+    }
+    if (out == NULL) {
+        return PERGIDAU_NULL;
+    }
+    if (bytes == NULL) {
+        bytes = &no_bytes;
+    }
+    return (enum pergidau_code)exported_json_value(bytes, bytes_length, levels, out);
+}
+
+enum pergidau_code pergidau_text_position(
+    const uint8_t *bytes,
+    size_t bytes_length,
+    size_t offset,
+    struct pergidau_position *out)
+{
+    const uint8_t no_bytes = {0};
+    if (bytes_length > PTRDIFF_MAX / sizeof(uint8_t)) {
+        return PERGIDAU_TOO_LONG;
+    }
+    if (bytes == NULL && bytes_length > 0) {
+        return PERGIDAU_NULL;
+    }
+    if (out == NULL) {
+        return PERGIDAU_NULL;
+    }
+    if (bytes == NULL) {
+        bytes = &no_bytes;
+    }
+    return (enum pergidau_code)exported_text_position(bytes, bytes_length, offset, out);
+}

@@ -1,0 +1,239 @@
+/* Written by scripts/header.py from crates/exported: do not edit. */
+/*
+ * Readers that are proved: what each answers is what its words say, for all bytes. They are
+ * written in Rattle; crates/exported has the contracts that were proved.
+ *
+ * What the caller owes each call stands in its last paragraph, and nothing checks it, but for
+ * this: a pointer that is null where something is to be read or written is answered by
+ * PERGIDAU_NULL, and a length that no object can have by PERGIDAU_TOO_LONG. Then nothing is
+ * read or written. A null pointer to no bytes or to no entries is right.
+ *
+ * A call keeps nothing, and has no state: calls may run side by side. Memory that one takes,
+ * by malloc, it gives back before it ends.
+ */
+#ifndef PERGIDAU_H
+#define PERGIDAU_H
+
+#include <stddef.h>
+#include <stdint.h>
+
+#ifdef __cplusplus
+extern "C" {
+#endif
+
+/* How a call ended. */
+enum pergidau_code {
+    /* The bytes were read, and what was found is written. */
+    PERGIDAU_DONE = 0,
+    /* The bytes are not what is read. Where the function says so, the place is written. */
+    PERGIDAU_REFUSED = 1,
+    /* The bytes are not yet what is read, and with more behind them they can be. */
+    PERGIDAU_INCOMPLETE = 2,
+    /* A request for memory was refused. */
+    PERGIDAU_NO_MEMORY = 3,
+    /* The bytes are no UTF-8, where text is asked for. */
+    PERGIDAU_NO_TEXT = 4,
+    /*
+     * The buffer has too few entries. How many are wanted is written, and the buffer is left
+     * as it was.
+     */
+    PERGIDAU_TOO_SMALL = 5,
+    /* More levels are asked for than PERGIDAU_MOST_LEVELS. */
+    PERGIDAU_TOO_DEEP = 6,
+    /* A pointer is null where something is to be read or written. */
+    PERGIDAU_NULL = 7,
+    /* A length is more than PTRDIFF_MAX bytes. */
+    PERGIDAU_TOO_LONG = 8,
+};
+
+/*
+ * How many levels of arrays and objects in one another may be asked for. Each takes some of
+ * the stack.
+ */
+#define PERGIDAU_MOST_LEVELS 512
+
+/* A place in the caller's bytes: so many of them, from one on. */
+struct pergidau_span {
+    /* How many bytes stand before it. */
+    size_t offset;
+    /* How many bytes it has. */
+    size_t length;
+};
+
+/* What a formula comes to. */
+struct pergidau_number {
+    /* The value, or 0 where there is none. */
+    int64_t value;
+    /* Where it is refused: how many bytes stand before the place. Else 0. */
+    size_t place;
+};
+
+/* The places of a field. */
+struct pergidau_field {
+    /* The name. */
+    struct pergidau_span name;
+    /* The value, without the white space round it. It may have no bytes. */
+    struct pergidau_span value;
+};
+
+/* The places of the parts of a head. */
+struct pergidau_head {
+    /* The method. */
+    struct pergidau_span method;
+    /* The request target. */
+    struct pergidau_span target;
+    /* How many fields there are. */
+    size_t fields;
+    /* How many bytes the head has, the empty line behind the fields among them. */
+    size_t length;
+    /* The number before the point of the version, below 10. */
+    uint8_t major;
+    /* The number behind the point of the version, below 10. */
+    uint8_t minor;
+};
+
+/* The places of a key and its value. */
+struct pergidau_pair {
+    /* The key. */
+    struct pergidau_span key;
+    /* The value. */
+    struct pergidau_span value;
+    /* Where the line is refused: how many bytes stand before the place. Else 0. */
+    size_t place;
+};
+
+/* A place in a text, as a reader of the text would say it. */
+struct pergidau_position {
+    /* The number of the line, from 1 on. */
+    size_t line;
+    /* The number of the column, from 1 on; a column is a character. */
+    size_t column;
+};
+
+/*
+ * The value of a formula of whole numbers, as -2 * 3! ^ 2.
+ *
+ * White space may stand before the formula and behind each number and operator. Operators are,
+ * the strongest first: ! behind a number, its factorial; + and - before one; ^, a power,
+ * joined from the right; *, / and %, and then + and -, joined from the left; and =, which is 1
+ * where both sides are equal and else 0. / cuts towards 0, and % has the sign of its left
+ * side.
+ *
+ * PERGIDAU_DONE: the value is written. PERGIDAU_REFUSED: the text is no formula, or a number
+ * or a result in it does not fit 64 bits with a sign, a divisor is 0, an exponent is negative,
+ * or a factorial is of a negative number; the place is written. PERGIDAU_NO_TEXT,
+ * PERGIDAU_NO_MEMORY.
+ *
+ * The caller owes text_length bytes at text that can be read and that nothing changes while
+ * the call runs, and room for one number at out, apart from them.
+ */
+enum pergidau_code pergidau_calc_value(
+    const uint8_t *text,
+    size_t text_length,
+    struct pergidau_number *out);
+
+/*
+ * The head of a request of HTTP/1.1 (RFC 9112) with which the bytes begin: a request line,
+ * field lines one behind the other, and an empty line. What stands behind it is not looked at.
+ *
+ * PERGIDAU_DONE: the places of its parts are written, and of so many fields, in order.
+ * PERGIDAU_REFUSED: the bytes begin with no head. PERGIDAU_TOO_SMALL: they begin with one that
+ * has more fields than the buffer has entries; how many it has is written, and the buffer is
+ * left as it was. PERGIDAU_NO_MEMORY.
+ *
+ * The caller owes bytes_length bytes at bytes that can be read and that nothing changes while
+ * the call runs, fields_length entries at fields that can be written, and room for one head at
+ * out, each apart from the others.
+ */
+enum pergidau_code pergidau_http_head(
+    const uint8_t *bytes,
+    size_t bytes_length,
+    struct pergidau_field *fields,
+    size_t fields_length,
+    struct pergidau_head *out);
+
+/*
+ * The same head where the bytes come in pieces: it answers as soon as the empty line is there.
+ *
+ * PERGIDAU_DONE, PERGIDAU_TOO_SMALL, PERGIDAU_NO_MEMORY: as for a head that is whole.
+ * PERGIDAU_INCOMPLETE: the bytes begin with no head, and with more behind them they can.
+ * PERGIDAU_REFUSED: whatever comes behind the bytes, they begin with no head.
+ *
+ * The caller owes bytes_length bytes at bytes that can be read and that nothing changes while
+ * the call runs, fields_length entries at fields that can be written, and room for one head at
+ * out, each apart from the others.
+ */
+enum pergidau_code pergidau_http_head_in_pieces(
+    const uint8_t *bytes,
+    size_t bytes_length,
+    struct pergidau_field *fields,
+    size_t fields_length,
+    struct pergidau_head *out);
+
+/*
+ * The key and the value of one line: a key of one or more ASCII letters or digits, =, a value
+ * of bytes other than a line feed, which may be none, and at most one line feed.
+ *
+ * PERGIDAU_DONE: their places are written. PERGIDAU_REFUSED: the bytes are no such line;
+ * written is the length of their longest beginning that begins one.
+ *
+ * The caller owes bytes_length bytes at bytes that can be read and that nothing changes while
+ * the call runs, and room for one pair at out, apart from them.
+ */
+enum pergidau_code pergidau_ini_pair(
+    const uint8_t *bytes,
+    size_t bytes_length,
+    struct pergidau_pair *out);
+
+/*
+ * Whether a text is one of JSON (RFC 8259): a value with white space round it, in which no
+ * more than levels arrays and objects stand in one another.
+ *
+ * PERGIDAU_DONE: it is. PERGIDAU_REFUSED: it is not. PERGIDAU_NO_TEXT: it is no UTF-8.
+ * PERGIDAU_TOO_DEEP: more than 512 levels are asked for.
+ *
+ * The caller owes text_length bytes at text that can be read and that nothing changes while
+ * the call runs, and 512 KiB of stack.
+ */
+enum pergidau_code pergidau_json_check(
+    const uint8_t *text,
+    size_t text_length,
+    size_t levels);
+
+/*
+ * The longest value of JSON (RFC 8259) with which the bytes begin, in which no more than
+ * levels arrays and objects stand in one another: how many bytes it has is written. White
+ * space before it is not passed. Bytes of 128 and above are not looked at: the value is JSON
+ * where it is UTF-8.
+ *
+ * PERGIDAU_DONE: it is found. PERGIDAU_REFUSED: the bytes begin with none, and 0 is written.
+ * PERGIDAU_TOO_DEEP: more than 512 levels are asked for.
+ *
+ * The caller owes bytes_length bytes at bytes that can be read and that nothing changes while
+ * the call runs, room for one length at out, apart from them, and 512 KiB of stack.
+ */
+enum pergidau_code pergidau_json_value(
+    const uint8_t *bytes,
+    size_t bytes_length,
+    size_t levels,
+    size_t *out);
+
+/*
+ * The line and the column of the place behind the first offset bytes. Bytes that are no text
+ * count as the characters do that stand for them where they are printed, and a place behind
+ * the end is the end.
+ *
+ * The caller owes bytes_length bytes at bytes that can be read and that nothing changes while
+ * the call runs, and room for one position at out, apart from them.
+ */
+enum pergidau_code pergidau_text_position(
+    const uint8_t *bytes,
+    size_t bytes_length,
+    size_t offset,
+    struct pergidau_position *out);
+
+#ifdef __cplusplus
+}
+#endif
+
+#endif

@@ -1,0 +1,213 @@
+//! The exports of the static library.
+//!
+//! Written by scripts/header.py from crates/exported: do not edit.
+
+/// The bytes were read, and what was found is written.
+pub const DONE: u32 = 0;
+
+/// The bytes are not what is read. Where the function says so, the place is written.
+pub const REFUSED: u32 = 1;
+
+/// The bytes are not yet what is read, and with more behind them they can be.
+pub const INCOMPLETE: u32 = 2;
+
+/// A request for memory was refused.
+pub const NO_MEMORY: u32 = 3;
+
+/// The bytes are no UTF-8, where text is asked for.
+pub const NO_TEXT: u32 = 4;
+
+/// The buffer has too few entries. How many are wanted is written, and the buffer is left as it
+/// was.
+pub const TOO_SMALL: u32 = 5;
+
+/// More levels are asked for than `MOST_LEVELS`.
+pub const TOO_DEEP: u32 = 6;
+
+/// How many levels of arrays and objects in one another may be asked for. Each takes some of the
+/// stack.
+pub const MOST_LEVELS: usize = 512;
+
+/// A place in the caller's bytes: so many of them, from one on.
+#[repr(C)]
+#[derive(Clone, Copy, Debug, Default, PartialEq, Eq)]
+pub struct Span {
+    /// How many bytes stand before it.
+    pub offset: usize,
+    /// How many bytes it has.
+    pub length: usize,
+}
+
+/// What a formula comes to.
+#[repr(C)]
+#[derive(Clone, Copy, Debug, Default, PartialEq, Eq)]
+pub struct Number {
+    /// The value, or 0 where there is none.
+    pub value: i64,
+    /// Where it is refused: how many bytes stand before the place. Else 0.
+    pub place: usize,
+}
+
+/// The places of a field.
+#[repr(C)]
+#[derive(Clone, Copy, Debug, Default, PartialEq, Eq)]
+pub struct Field {
+    /// The name.
+    pub name: Span,
+    /// The value, without the white space round it. It may have no bytes.
+    pub value: Span,
+}
+
+/// The places of the parts of a head.
+#[repr(C)]
+#[derive(Clone, Copy, Debug, Default, PartialEq, Eq)]
+pub struct Head {
+    /// The method.
+    pub method: Span,
+    /// The request target.
+    pub target: Span,
+    /// How many fields there are.
+    pub fields: usize,
+    /// How many bytes the head has, the empty line behind the fields among them.
+    pub length: usize,
+    /// The number before the point of the version, below 10.
+    pub major: u8,
+    /// The number behind the point of the version, below 10.
+    pub minor: u8,
+}
+
+/// The places of a key and its value.
+#[repr(C)]
+#[derive(Clone, Copy, Debug, Default, PartialEq, Eq)]
+pub struct Pair {
+    /// The key.
+    pub key: Span,
+    /// The value.
+    pub value: Span,
+    /// Where the line is refused: how many bytes stand before the place. Else 0.
+    pub place: usize,
+}
+
+/// A place in a text, as a reader of the text would say it.
+#[repr(C)]
+#[derive(Clone, Copy, Debug, Default, PartialEq, Eq)]
+pub struct Position {
+    /// The number of the line, from 1 on.
+    pub line: usize,
+    /// The number of the column, from 1 on; a column is a character.
+    pub column: usize,
+}
+
+extern "C" {
+    /// The value of a formula of whole numbers, as `-2 * 3! ^ 2`.
+    ///
+    /// White space may stand before the formula and behind each number and operator. Operators are,
+    /// the strongest first: `!` behind a number, its factorial; `+` and `-` before one; `^`, a power,
+    /// joined from the right; `*`, `/` and `%`, and then `+` and `-`, joined from the left; and `=`,
+    /// which is 1 where both sides are equal and else 0. `/` cuts towards 0, and `%` has the sign of
+    /// its left side.
+    ///
+    /// `DONE`: the value is written. `REFUSED`: the text is no formula, or a number or a result in it
+    /// does not fit 64 bits with a sign, a divisor is 0, an exponent is negative, or a factorial is of
+    /// a negative number; the place is written. `NO_TEXT`, `NO_MEMORY`.
+    ///
+    /// The caller owes `text_length` bytes at `text` that can be read and that nothing changes while
+    /// the call runs, and room for one number at `out`, apart from them.
+    pub fn exported_calc_value(
+        text: *const u8,
+        text_length: usize,
+        out: *mut Number,
+    ) -> u32;
+
+    /// The head of a request of HTTP/1.1 (RFC 9112) with which the bytes begin: a request line, field
+    /// lines one behind the other, and an empty line. What stands behind it is not looked at.
+    ///
+    /// `DONE`: the places of its parts are written, and of so many fields, in order. `REFUSED`: the
+    /// bytes begin with no head. `TOO_SMALL`: they begin with one that has more fields than the buffer
+    /// has entries; how many it has is written, and the buffer is left as it was. `NO_MEMORY`.
+    ///
+    /// The caller owes `bytes_length` bytes at `bytes` that can be read and that nothing changes while
+    /// the call runs, `fields_length` entries at `fields` that can be written, and room for one head at
+    /// `out`, each apart from the others.
+    pub fn exported_http_head(
+        bytes: *const u8,
+        bytes_length: usize,
+        fields: *mut Field,
+        fields_length: usize,
+        out: *mut Head,
+    ) -> u32;
+
+    /// The same head where the bytes come in pieces: it answers as soon as the empty line is there.
+    ///
+    /// `DONE`, `TOO_SMALL`, `NO_MEMORY`: as for a head that is whole. `INCOMPLETE`: the bytes begin
+    /// with no head, and with more behind them they can. `REFUSED`: whatever comes behind the bytes,
+    /// they begin with no head.
+    ///
+    /// The caller owes `bytes_length` bytes at `bytes` that can be read and that nothing changes while
+    /// the call runs, `fields_length` entries at `fields` that can be written, and room for one head at
+    /// `out`, each apart from the others.
+    pub fn exported_http_head_in_pieces(
+        bytes: *const u8,
+        bytes_length: usize,
+        fields: *mut Field,
+        fields_length: usize,
+        out: *mut Head,
+    ) -> u32;
+
+    /// The key and the value of one line: a key of one or more ASCII letters or digits, `=`, a value of
+    /// bytes other than a line feed, which may be none, and at most one line feed.
+    ///
+    /// `DONE`: their places are written. `REFUSED`: the bytes are no such line; written is the length
+    /// of their longest beginning that begins one.
+    ///
+    /// The caller owes `bytes_length` bytes at `bytes` that can be read and that nothing changes while
+    /// the call runs, and room for one pair at `out`, apart from them.
+    pub fn exported_ini_pair(
+        bytes: *const u8,
+        bytes_length: usize,
+        out: *mut Pair,
+    ) -> u32;
+
+    /// Whether a text is one of JSON (RFC 8259): a value with white space round it, in which no more
+    /// than `levels` arrays and objects stand in one another.
+    ///
+    /// `DONE`: it is. `REFUSED`: it is not. `NO_TEXT`: it is no UTF-8. `TOO_DEEP`: more than 512
+    /// levels are asked for.
+    ///
+    /// The caller owes `text_length` bytes at `text` that can be read and that nothing changes while
+    /// the call runs, and 512 KiB of stack.
+    pub fn exported_json_check(
+        text: *const u8,
+        text_length: usize,
+        levels: usize,
+    ) -> u32;
+
+    /// The longest value of JSON (RFC 8259) with which the bytes begin, in which no more than `levels`
+    /// arrays and objects stand in one another: how many bytes it has is written. White space before
+    /// it is not passed. Bytes of 128 and above are not looked at: the value is JSON where it is UTF-8.
+    ///
+    /// `DONE`: it is found. `REFUSED`: the bytes begin with none, and 0 is written. `TOO_DEEP`: more
+    /// than 512 levels are asked for.
+    ///
+    /// The caller owes `bytes_length` bytes at `bytes` that can be read and that nothing changes while
+    /// the call runs, room for one length at `out`, apart from them, and 512 KiB of stack.
+    pub fn exported_json_value(
+        bytes: *const u8,
+        bytes_length: usize,
+        levels: usize,
+        out: *mut usize,
+    ) -> u32;
+
+    /// The line and the column of the place behind the first `offset` bytes. Bytes that are no text
+    /// count as the characters do that stand for them where they are printed, and a place behind the
+    /// end is the end.
+    ///
+    /// The caller owes `bytes_length` bytes at `bytes` that can be read and that nothing changes while
+    /// the call runs, and room for one position at `out`, apart from them.
+    pub fn exported_text_position(
+        bytes: *const u8,
+        bytes_length: usize,
+        offset: usize,
+        out: *mut Position,
+    ) -> u32;
+}

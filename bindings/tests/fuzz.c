@@ -1,0 +1,233 @@
+/* Random inputs at the edges of pages that cannot be read: `fuzz INPUTS [SEED]`. A byte read before
+ * or past an input, or written past a buffer, ends the run. What is answered is held against what a
+ * caller may rely on. Exits with 1 where it does not hold. */
+#include <stdbool.h>
+#include <stdio.h>
+#include <stdlib.h>
+#include <string.h>
+#include <sys/mman.h>
+#include <unistd.h>
+
+#include "pergidau.h"
+
+enum { PAGES = 2, MOST_FIELDS = 64 };
+
+static size_t page;
+/* Two rooms, each between two pages that cannot be read: for the input, and for the buffers. */
+static uint8_t *input_room, *buffer_room;
+static uint64_t state;
+
+static uint64_t random_number(void)
+{
+    state ^= state << 13;
+    state ^= state >> 7;
+    state ^= state << 17;
+    return state * 0x2545F4914F6CDD1Du;
+}
+
+static size_t below(size_t end)
+{
+    return (size_t)(random_number() % end);
+}
+
+static uint8_t *room(void)
+{
+    uint8_t *start = mmap(NULL, (PAGES + 2) * page, PROT_NONE, MAP_PRIVATE | MAP_ANONYMOUS, -1, 0);
+    if (start == MAP_FAILED || mprotect(start + page, PAGES * page, PROT_READ | PROT_WRITE)) {
+        exit(2);
+    }
+    return start + page;
+}
+
+static const char *const seeds[] = {
+    " 2 + 3 * 4 ^ 5 ! - -7 % 3 = 1",
+    "9223372036854775807 + 1",
+    "2 ^ 3 ^ 2",
+    "key=value\n",
+    "a=\xc3\xa9;b c\t=",
+    "{\"a\": [1, -2.5e3, true, {\"b\": null}], \"\\u00e9\\n\": \"x\"} ",
+    "[[[[[[]]]]]]",
+    "[\"\\\"\", 0.1E-7, false]",
+    "a,\"b \"\"c\"\"\",\r\n\"d\ne\",f\r\n",
+    "GET /hello.txt HTTP/1.1\r\nUser-Agent: curl/7.64.1\r\nHost: www.example.com\r\n\r\n",
+    "PUT /x HTTP/1.0\r\nX: 1\r\nX:\t2 \r\nY:\r\nZ: \t \r\n\r\nbody",
+};
+enum { SEEDS = sizeof seeds / sizeof *seeds };
+
+static const char wanted[] = "0123456789+-*/%^!= \t\r\n:;,\"\\[]{}eEntfu.GETHTTP/1.\xff\xc3\x80";
+
+/* Fills the bytes: at random, or from parts of seeds, some of whose bytes are turned. */
+static size_t fill(uint8_t *bytes, size_t most)
+{
+    size_t length = 0, parts = 1 + below(3);
+    if (below(8) == 0) {
+        length = below(most < 64 ? most : 64);
+        for (size_t i = 0; i < length; i++) {
+            bytes[i] = (uint8_t)random_number();
+        }
+        return length;
+    }
+    for (size_t part = 0; part < parts; part++) {
+        const char *seed = seeds[below(SEEDS)];
+        size_t size = strlen(seed), from = below(4) ? 0 : below(size), count = size - from;
+        if (below(3) == 0) {
+            count = below(count + 1);
+        }
+        if (count > most - length) {
+            break;
+        }
+        memcpy(bytes + length, seed + from, count);
+        length += count;
+        if (below(2)) {
+            break;
+        }
+    }
+    for (size_t turns = below(2) ? below(4) : 0; turns > 0 && length > 0; turns--) {
+        bytes[below(length)] = (uint8_t)wanted[below(sizeof wanted - 1)];
+    }
+    return length;
+}
+
+static void fail(const char *what, const uint8_t *bytes, size_t length)
+{
+    printf("%s, of %zu bytes:", what, length);
+    for (size_t i = 0; i < length; i++) {
+        printf(" %02x", bytes[i]);
+    }
+    printf("\n");
+    exit(1);
+}
+
+#define HOLDS(test) ((test) ? (void)0 : fail(#test, bytes, length))
+
+static bool within(struct pergidau_span place, size_t length)
+{
+    return place.offset <= length && place.length <= length - place.offset;
+}
+
+static void read_formula(const uint8_t *bytes, size_t length)
+{
+    struct pergidau_number out;
+    enum pergidau_code code = pergidau_calc_value(bytes, length, &out);
+    HOLDS(code == PERGIDAU_DONE || code == PERGIDAU_REFUSED || code == PERGIDAU_NO_TEXT);
+    HOLDS(out.place <= length);
+    HOLDS(code == PERGIDAU_DONE || out.value == 0);
+}
+
+static void read_pair(const uint8_t *bytes, size_t length)
+{
+    struct pergidau_pair out;
+    if (pergidau_ini_pair(bytes, length, &out) == PERGIDAU_DONE) {
+        HOLDS(within(out.key, length) && within(out.value, length));
+        HOLDS(out.key.offset == 0 && out.key.length > 0);
+        HOLDS(bytes[out.key.length] == '=' && out.value.offset == out.key.length + 1);
+        HOLDS(out.value.length == 0 || !memchr(bytes + out.value.offset, '\n', out.value.length));
+        HOLDS(length - out.value.offset - out.value.length <= 1);
+    } else {
+        HOLDS(out.place <= length);
+    }
+}
+
+static void read_json(const uint8_t *bytes, size_t length)
+{
+    size_t levels = below(8), found;
+    enum pergidau_code check = pergidau_json_check(bytes, length, levels);
+    enum pergidau_code value = pergidau_json_value(bytes, length, levels, &found);
+    HOLDS(found <= length);
+    HOLDS((value == PERGIDAU_DONE) == (found > 0));
+    if (value == PERGIDAU_DONE && check != PERGIDAU_NO_TEXT) {
+        /* The value alone is a text, and all of the bytes are one where only space is behind it. */
+        HOLDS(pergidau_json_check(bytes, found, levels) == PERGIDAU_DONE);
+        size_t end = found;
+        while (end < length && memchr(" \t\r\n", bytes[end], 4)) {
+            end++;
+        }
+        HOLDS((check == PERGIDAU_DONE) == (end == length));
+    }
+}
+
+static void read_head(const uint8_t *bytes, size_t length)
+{
+    struct pergidau_head out, cut;
+    size_t count = below(6);
+    size_t size = count * sizeof(struct pergidau_field);
+    /* The last entry ends where the room does. */
+    uint8_t *start = buffer_room + PAGES * page - size;
+    struct pergidau_field *fields = (struct pergidau_field *)(void *)start;
+    memset(start, 0xab, size);
+    enum pergidau_code code = pergidau_http_head(bytes, length, fields, count, &out);
+    if (code == PERGIDAU_TOO_SMALL) {
+        HOLDS(out.fields > count);
+        for (size_t i = 0; i < size; i++) {
+            HOLDS(start[i] == 0xab);
+        }
+        HOLDS(out.fields <= MOST_FIELDS);
+        count = out.fields;
+        fields = (struct pergidau_field *)(void *)(buffer_room + PAGES * page
+                                                   - count * sizeof *fields);
+        code = pergidau_http_head(bytes, length, fields, count, &out);
+        HOLDS(code == PERGIDAU_DONE && out.fields == count);
+    }
+    if (code == PERGIDAU_DONE) {
+        HOLDS(out.length >= 4 && out.length <= length);
+        HOLDS(!memcmp(bytes + out.length - 2, "\r\n", 2));
+        HOLDS(within(out.method, out.length) && within(out.target, out.length));
+        HOLDS(bytes[out.method.length] == ' ' && out.major < 10 && out.minor < 10);
+        for (size_t i = 0; i < out.fields; i++) {
+            struct pergidau_span name = fields[i].name, value = fields[i].value;
+            HOLDS(within(name, out.length) && within(value, out.length) && name.length > 0);
+            HOLDS(bytes[name.offset + name.length] == ':');
+            HOLDS(name.offset + name.length < value.offset);
+            HOLDS(i == 0 || fields[i - 1].value.offset < name.offset);
+        }
+        /* No shorter beginning is a head, and each can become one. */
+        size_t end = below(out.length);
+        HOLDS(pergidau_http_head(bytes, end, fields, count, &cut) == PERGIDAU_REFUSED);
+        HOLDS(pergidau_http_head_in_pieces(bytes, end, fields, count, &cut)
+              == PERGIDAU_INCOMPLETE);
+        HOLDS(pergidau_http_head(bytes, out.length, fields, count, &cut) == PERGIDAU_DONE);
+        HOLDS(cut.length == out.length && cut.fields == out.fields);
+    } else {
+        HOLDS(code == PERGIDAU_REFUSED);
+        code = pergidau_http_head_in_pieces(bytes, length, fields, count, &cut);
+        HOLDS(code == PERGIDAU_REFUSED || code == PERGIDAU_INCOMPLETE);
+    }
+}
+
+static void read_place(const uint8_t *bytes, size_t length)
+{
+    struct pergidau_position out;
+    HOLDS(pergidau_text_position(bytes, length, below(length + 2), &out) == PERGIDAU_DONE);
+    HOLDS(out.line >= 1 && out.column >= 1 && out.line + out.column <= length + 2);
+}
+
+static void read_all(const uint8_t *bytes, size_t length)
+{
+    read_formula(bytes, length);
+    read_pair(bytes, length);
+    read_json(bytes, length);
+    read_head(bytes, length);
+    read_place(bytes, length);
+}
+
+int main(int count, char **words)
+{
+    unsigned long inputs = count > 1 ? strtoul(words[1], NULL, 10) : 1000;
+    state = count > 2 ? strtoull(words[2], NULL, 10) : 0x9E3779B97F4A7C15u;
+    page = (size_t)sysconf(_SC_PAGESIZE);
+    input_room = room();
+    buffer_room = room();
+    uint8_t *made = malloc(page);
+    if (made == NULL) {
+        return 2;
+    }
+    for (unsigned long i = 0; i < inputs; i++) {
+        size_t length = fill(made, page);
+        uint8_t *start = i % 2 ? input_room : input_room + PAGES * page - length;
+        memcpy(start, made, length);
+        read_all(start, length);
+    }
+    free(made);
+    printf("%lu inputs\n", inputs);
+    return 0;
+}

@@ -1,0 +1,315 @@
+/* Rows of the readers' tests, and wrong use, from C. Exits with 1 where a row differs. */
+#include <stdbool.h>
+#include <stdio.h>
+#include <stdlib.h>
+#include <string.h>
+
+#include "pergidau.h"
+
+static int wrong;
+
+static void same(const char *what, const char *row, long long got, long long want)
+{
+    if (got != want) {
+        printf("%s of %s: got %lld, want %lld\n", what, row, got, want);
+        wrong = 1;
+    }
+}
+
+/* A copy of exactly these bytes, so that a byte past them is seen. */
+static uint8_t *copied(const char *text, size_t length)
+{
+    uint8_t *bytes = malloc(length ? length : 1);
+    if (bytes == NULL) {
+        exit(2);
+    }
+    memcpy(bytes, text, length);
+    return bytes;
+}
+
+static const struct {
+    const char *text;
+    enum pergidau_code code;
+    long long value;
+    size_t place;
+} formulas[] = {
+    {" 2 + 3 * 4 ", PERGIDAU_DONE, 14, 0},
+    {"2^3^2", PERGIDAU_DONE, 512, 0},
+    {"-3!", PERGIDAU_DONE, -6, 0},
+    {"-2^2", PERGIDAU_DONE, 4, 0},
+    {"1/0", PERGIDAU_REFUSED, 0, 3},
+    {"1 2", PERGIDAU_REFUSED, 0, 2},
+    {"1+", PERGIDAU_REFUSED, 0, 2},
+    {"", PERGIDAU_REFUSED, 0, 0},
+    {"-9223372036854775808", PERGIDAU_REFUSED, 0, 1},
+    {"3!!", PERGIDAU_DONE, 720, 0},
+    {"7%-3", PERGIDAU_DONE, 1, 0},
+    {"-7%3", PERGIDAU_DONE, -1, 0},
+    {"21!", PERGIDAU_REFUSED, 0, 3},
+    {"1+1=2", PERGIDAU_DONE, 1, 0},
+    {"20!", PERGIDAU_DONE, 2432902008176640000, 0},
+    {"2^63", PERGIDAU_REFUSED, 0, 4},
+    {"9223372036854775807+1", PERGIDAU_REFUSED, 0, 21},
+    {"(1)", PERGIDAU_REFUSED, 0, 0},
+    {"\xff", PERGIDAU_NO_TEXT, 0, 0},
+};
+
+static void test_formulas(void)
+{
+    for (size_t i = 0; i < sizeof formulas / sizeof *formulas; i++) {
+        size_t length = strlen(formulas[i].text);
+        uint8_t *text = copied(formulas[i].text, length);
+        struct pergidau_number out;
+        same("calc_value", formulas[i].text, pergidau_calc_value(text, length, &out),
+             formulas[i].code);
+        same("the value", formulas[i].text, out.value, formulas[i].value);
+        same("the place", formulas[i].text, (long long)out.place, (long long)formulas[i].place);
+        free(text);
+    }
+}
+
+static const struct {
+    const char *line;
+    enum pergidau_code code;
+    size_t key, value, place;
+} lines[] = {
+    {"key=value\n", PERGIDAU_DONE, 3, 5, 0},
+    {"key=value", PERGIDAU_DONE, 3, 5, 0},
+    {"a=", PERGIDAU_DONE, 1, 0, 0},
+    {"a==b", PERGIDAU_DONE, 1, 2, 0},
+    {"a=b\nc", PERGIDAU_REFUSED, 0, 0, 4},
+    {"a=b\n\n", PERGIDAU_REFUSED, 0, 0, 4},
+    {"=b", PERGIDAU_REFUSED, 0, 0, 0},
+    {"key", PERGIDAU_REFUSED, 0, 0, 3},
+    {"", PERGIDAU_REFUSED, 0, 0, 0},
+};
+
+static void test_pairs(void)
+{
+    for (size_t i = 0; i < sizeof lines / sizeof *lines; i++) {
+        size_t length = strlen(lines[i].line);
+        uint8_t *line = copied(lines[i].line, length);
+        struct pergidau_pair out;
+        bool done = lines[i].code == PERGIDAU_DONE;
+        same("ini_pair", lines[i].line, pergidau_ini_pair(line, length, &out), lines[i].code);
+        same("the key", lines[i].line, (long long)out.key.length, (long long)lines[i].key);
+        same("the key's place", lines[i].line, (long long)out.key.offset, 0);
+        same("the value", lines[i].line, (long long)out.value.length, (long long)lines[i].value);
+        same("the value's place", lines[i].line, (long long)out.value.offset,
+             done ? (long long)lines[i].key + 1 : 0);
+        same("the place", lines[i].line, (long long)out.place, (long long)lines[i].place);
+        free(line);
+    }
+}
+
+static const struct {
+    size_t levels;
+    const char *text;
+    enum pergidau_code check, value;
+    size_t length;
+} texts[] = {
+    {0, "null", PERGIDAU_DONE, PERGIDAU_DONE, 4},
+    {0, "nullx", PERGIDAU_REFUSED, PERGIDAU_DONE, 4},
+    {0, "01", PERGIDAU_REFUSED, PERGIDAU_DONE, 1},
+    {0, "-1.5e3 ", PERGIDAU_DONE, PERGIDAU_DONE, 6},
+    {0, " 1", PERGIDAU_DONE, PERGIDAU_REFUSED, 0},
+    {0, "\"a\\\"]\" ]", PERGIDAU_REFUSED, PERGIDAU_DONE, 6},
+    {1, "[ \t\r\n]]", PERGIDAU_REFUSED, PERGIDAU_DONE, 6},
+    {1, "[1,2,3]", PERGIDAU_DONE, PERGIDAU_DONE, 7},
+    {1, "[[]]", PERGIDAU_REFUSED, PERGIDAU_REFUSED, 0},
+    {2, "[[]]", PERGIDAU_DONE, PERGIDAU_DONE, 4},
+    {1, "{ \"a\" : 1 , \"a\" : 2 }", PERGIDAU_DONE, PERGIDAU_DONE, 21},
+    {2, "{\"a\":[true,false]},2", PERGIDAU_REFUSED, PERGIDAU_DONE, 18},
+    {9, "[1,]", PERGIDAU_REFUSED, PERGIDAU_REFUSED, 0},
+    {9, "", PERGIDAU_REFUSED, PERGIDAU_REFUSED, 0},
+    {9, "\"\xff\"", PERGIDAU_NO_TEXT, PERGIDAU_DONE, 3},
+    {PERGIDAU_MOST_LEVELS + 1, "1", PERGIDAU_TOO_DEEP, PERGIDAU_TOO_DEEP, 0},
+};
+
+static void test_json(void)
+{
+    for (size_t i = 0; i < sizeof texts / sizeof *texts; i++) {
+        size_t length = strlen(texts[i].text), out = 7;
+        uint8_t *text = copied(texts[i].text, length);
+        same("json_check", texts[i].text, pergidau_json_check(text, length, texts[i].levels),
+             texts[i].check);
+        same("json_value", texts[i].text,
+             pergidau_json_value(text, length, texts[i].levels, &out), texts[i].value);
+        same("the length", texts[i].text, (long long)out, (long long)texts[i].length);
+        free(text);
+    }
+    /* As many levels as may be asked for, and one more. */
+    size_t most = PERGIDAU_MOST_LEVELS;
+    uint8_t *deep = malloc(2 * most + 2);
+    if (deep == NULL) {
+        exit(2);
+    }
+    memset(deep, '[', most + 1);
+    memset(deep + most + 1, ']', most + 1);
+    same("json_check", "deep brackets", pergidau_json_check(deep + 1, 2 * most, most),
+         PERGIDAU_DONE);
+    same("json_check", "deeper brackets", pergidau_json_check(deep, 2 * most + 2, most),
+         PERGIDAU_REFUSED);
+    free(deep);
+}
+
+static const char hello[] = "GET /hello.txt HTTP/1.1\r\nUser-Agent: curl/7.64.1\r\n"
+                            "Host: www.example.com\r\nAccept-Language: en, mi\r\n\r\n";
+
+static const struct {
+    const char *text, *method, *target, *fields[3][2];
+    size_t count, rest;
+} heads[] = {
+    {hello,
+     "GET",
+     "/hello.txt",
+     {{"User-Agent", "curl/7.64.1"}, {"Host", "www.example.com"}, {"Accept-Language", "en, mi"}},
+     3,
+     0},
+    {"A b HTTP/1.1\r\n\r\n", "A", "b", {{0}}, 0, 0},
+    {"A b HTTP/1.1\r\n\r\n\r\n", "A", "b", {{0}}, 0, 2},
+    {"PUT /x HTTP/1.1\r\nX: 1\r\nX:\t2 \r\nY:\r\n\r\nX: 3\r\n\r\n",
+     "PUT",
+     "/x",
+     {{"X", "1"}, {"X", "2"}, {"Y", ""}},
+     3,
+     8},
+    {"PUT /x HTTP/1.1\r\nX: \t \r\nY:a\t \t\r\nZ: a b \r\n\r\n",
+     "PUT",
+     "/x",
+     {{"X", ""}, {"Y", "a"}, {"Z", "a b"}},
+     3,
+     0},
+};
+
+/* With more behind them these are no heads either. */
+static const char *no_heads[] = {
+    "\r\nA b HTTP/1.1\r\n\r\n",          "A  b HTTP/1.1\r\n\r\n",
+    "A b HTTP/1.1\n\n",                  "A b HTTP/1.1\r\n\n",
+    "A b HTTP/1.1\r\n\r\r\n",            "A b HTTP/1.1\r\nX: 1\r\n\n",
+    "A b HTTP/1.1\r\nX: 1\n\r\n",        "A b HTTP/1.1\r\n X: 1\r\n\r\n",
+    "A b HTTP/1.1\r\nX: 1\r\n 2\r\n\r\n", "A b HTTP/1.1\r\nX : 1\r\n\r\n",
+    "A b HTTP/1.1\r\nX\r\n\r\n",         "A b HTTP/1.1\r\nX: 1\r\n: 2\r\n\r\n",
+};
+
+static void shown(const char *row, const uint8_t *bytes, struct pergidau_span place,
+                  const char *want)
+{
+    bool is = place.length == strlen(want) && !memcmp(bytes + place.offset, want, place.length);
+    same(want, row, is, true);
+}
+
+static void test_heads(void)
+{
+    struct pergidau_head out;
+    for (size_t i = 0; i < sizeof heads / sizeof *heads; i++) {
+        const char *row = heads[i].text;
+        size_t length = strlen(row), count = heads[i].count;
+        uint8_t *text = copied(row, length);
+        struct pergidau_field *fields = malloc((count ? count : 1) * sizeof *fields);
+        if (fields == NULL) {
+            exit(2);
+        }
+        for (int in_pieces = 0; in_pieces < 2; in_pieces++) {
+            same("http_head", row,
+                 (in_pieces ? pergidau_http_head_in_pieces : pergidau_http_head)(
+                     text, length, fields, count, &out),
+                 PERGIDAU_DONE);
+            shown(row, text, out.method, heads[i].method);
+            shown(row, text, out.target, heads[i].target);
+            same("the version", row, out.major * 10 + out.minor, 11);
+            same("the length", row, (long long)out.length, (long long)(length - heads[i].rest));
+            same("the fields", row, (long long)out.fields, (long long)count);
+            for (size_t k = 0; k < count; k++) {
+                shown(row, text, fields[k].name, heads[i].fields[k][0]);
+                shown(row, text, fields[k].value, heads[i].fields[k][1]);
+            }
+        }
+        /* Each buffer that is too small, and each beginning. */
+        for (size_t room = 0; room < count; room++) {
+            same("too small", row, pergidau_http_head(text, length, fields, room, &out),
+                 PERGIDAU_TOO_SMALL);
+            same("wanted", row, (long long)out.fields, (long long)count);
+        }
+        for (size_t end = 0; end + heads[i].rest < length; end++) {
+            uint8_t *front = copied(row, end);
+            same("a beginning", row, pergidau_http_head(front, end, fields, count, &out),
+                 PERGIDAU_REFUSED);
+            same("a piece", row, pergidau_http_head_in_pieces(front, end, fields, count, &out),
+                 PERGIDAU_INCOMPLETE);
+            free(front);
+        }
+        free(fields);
+        free(text);
+    }
+    for (size_t i = 0; i < sizeof no_heads / sizeof *no_heads; i++) {
+        struct pergidau_field fields[4];
+        size_t length = strlen(no_heads[i]);
+        uint8_t *text = copied(no_heads[i], length);
+        same("no head", no_heads[i], pergidau_http_head(text, length, fields, 4, &out),
+             PERGIDAU_REFUSED);
+        same("no head", no_heads[i], pergidau_http_head_in_pieces(text, length, fields, 4, &out),
+             PERGIDAU_REFUSED);
+        free(text);
+    }
+}
+
+static void test_positions(void)
+{
+    const char *text = "gr\xc3\xb6\xc3\x9f" "e=1\nh\xc3\xb6he?2\n";
+    struct pergidau_position out;
+    same("text_position", "a line", pergidau_text_position((const uint8_t *)text, strlen(text), 15,
+                                                           &out), PERGIDAU_DONE);
+    same("the line", "a line", (long long)out.line, 2);
+    same("the column", "a line", (long long)out.column, 5);
+}
+
+/* What no caller owes: it is refused, and nothing is read or written. */
+static void test_wrong_use(void)
+{
+    const uint8_t *bytes = (const uint8_t *)"1";
+    size_t far = (size_t)PTRDIFF_MAX + 1, length = 7;
+    struct pergidau_number number = {5, 5};
+    struct pergidau_pair pair;
+    struct pergidau_head head;
+    struct pergidau_field fields[1];
+    same("null", "calc", pergidau_calc_value(NULL, 1, &number), PERGIDAU_NULL);
+    same("null", "calc", pergidau_calc_value(bytes, 1, NULL), PERGIDAU_NULL);
+    same("too long", "calc", pergidau_calc_value(bytes, far, &number), PERGIDAU_TOO_LONG);
+    same("too long", "calc", pergidau_calc_value(bytes, SIZE_MAX, &number), PERGIDAU_TOO_LONG);
+    same("kept", "calc", number.value, 5);
+    same("nothing", "calc", pergidau_calc_value(NULL, 0, &number), PERGIDAU_REFUSED);
+    same("null", "pair", pergidau_ini_pair(NULL, 1, &pair), PERGIDAU_NULL);
+    same("null", "pair", pergidau_ini_pair(bytes, 1, NULL), PERGIDAU_NULL);
+    same("too long", "pair", pergidau_ini_pair(bytes, far, &pair), PERGIDAU_TOO_LONG);
+    same("null", "check", pergidau_json_check(NULL, 1, 1), PERGIDAU_NULL);
+    same("too long", "check", pergidau_json_check(bytes, far, 1), PERGIDAU_TOO_LONG);
+    same("nothing", "check", pergidau_json_check(NULL, 0, 1), PERGIDAU_REFUSED);
+    same("null", "value", pergidau_json_value(NULL, 1, 1, &length), PERGIDAU_NULL);
+    same("null", "value", pergidau_json_value(bytes, 1, 1, NULL), PERGIDAU_NULL);
+    same("too deep", "value", pergidau_json_value(bytes, 1, SIZE_MAX, &length),
+         PERGIDAU_TOO_DEEP);
+    same("null", "head", pergidau_http_head(NULL, 1, fields, 1, &head), PERGIDAU_NULL);
+    same("null", "head", pergidau_http_head(bytes, 1, NULL, 1, &head), PERGIDAU_NULL);
+    same("null", "head", pergidau_http_head(bytes, 1, fields, 1, NULL), PERGIDAU_NULL);
+    same("too long", "head",
+         pergidau_http_head(bytes, 1, fields, (size_t)PTRDIFF_MAX / sizeof *fields + 1, &head),
+         PERGIDAU_TOO_LONG);
+    same("no room", "head",
+         pergidau_http_head((const uint8_t *)hello, sizeof hello - 1, NULL, 0, &head),
+         PERGIDAU_TOO_SMALL);
+    same("wanted", "head", (long long)head.fields, 3);
+    same("nothing", "head", pergidau_http_head_in_pieces(NULL, 0, NULL, 0, &head),
+         PERGIDAU_INCOMPLETE);
+}
+
+int main(void)
+{
+    test_formulas();
+    test_pairs();
+    test_json();
+    test_heads();
+    test_positions();
+    test_wrong_use();
+    return wrong;
+}

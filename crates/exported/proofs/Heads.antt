@@ -1,0 +1,64 @@
+-- What stands behind a head, and how long it is.
+use Rattle.std.proofs.Common.{◌≡◌, ◌∙◌, ◌+◌, ◌≤◌, ◌++◌, ◌∷◌, [], ℕ, List, ap, arith, length}
+use Rattle.std.proofs.Common.{length-append}
+use Rattle.std.proofs.Common.{subst, sym, take}
+use Rattle.std.proofs.Math.Seq.{take-append_seam}
+use Rattle.uses_http.specs.Bytes.{line_end}
+use Rattle.uses_http.specs.FieldLine.{IsFieldLine}
+use Rattle.uses_http.specs.Head.{AreFieldLines, IsHead, Pair, Request}
+use Rattle.uses_http.specs.RequestLine.{IsRequestLine, digits, protocol}
+use Rattle.exported.specs.Http.{AreShown}
+use Rattle.exported.specs.declared.http.Field.{Field}
+use Rattle.exported.proofs.Lines.{version_on}
+
+line_within : (name value bytes rest : List ℕ) → IsFieldLine name value bytes rest
+    → length rest ≤ length bytes
+line_within name value bytes rest is =
+    let tail = is.behind ++ (line_end ++ rest) in
+    omega (
+      arith,
+      ap length is.splits,
+      length-append name (58 ∷ (is.before ++ (value ++ tail))),
+      length-append is.before (value ++ tail),
+      length-append value tail,
+      length-append is.behind (line_end ++ rest),
+    )
+
+lines_within : (fields : List Pair) (bytes end : List ℕ) → AreFieldLines fields bytes end
+    → length end ≤ length bytes
+lines_within [] bytes end e = omega (arith, ap length e)
+lines_within (f ∷ fields) bytes end (behind, is, others) =
+    omega (arith, line_within f.0 f.1 bytes behind is, lines_within fields behind end others)
+
+request_within : (method target bytes rest : List ℕ) (major minor : ℕ)
+    → IsRequestLine method target major minor bytes rest → length rest ≤ length bytes
+request_within method target bytes rest major minor is =
+    omega (
+      arith,
+      ap length is.splits,
+      length-append method (32 ∷ (target ++ version_on major minor rest)),
+      length-append target (version_on major minor rest),
+    )
+
+-- no more is behind a head than there is
+pub head_within : (line : Request) (fields : List Pair) (bytes rest : List ℕ)
+    → IsHead line fields bytes rest → length rest ≤ length bytes
+head_within line fields bytes rest is =
+    omega (
+      arith,
+      request_within line.method line.target bytes is.behind line.major line.minor
+          is.is_line,
+      lines_within fields is.behind is.are_fields.end is.are_fields.lines,
+      ap length is.are_fields.ended,
+    )
+
+-- what is shown in the first entries, and what stands behind these
+pub shown_first : (input : List ℕ) (places others all : List Field) (fields : List Pair) (n : ℕ)
+    → AreShown input places fields → length fields ≡ n → all ≡ places ++ others
+    → AreShown input (take n all) fields
+shown_first input places others all fields n are count e =
+    let P : List Field → Type 0 = λ l. AreShown input l fields in
+    let long : length places ≡ n = are.count ∙ count in
+    let cut : take n all ≡ places = ap (take n) e
+    ∙ sym (ap (λ k. take k (places ++ others)) long) ∙ take-append_seam places others in
+    subst P (sym cut) are

@@ -1,0 +1,5 @@
+pub mod ErrorKinds
+pub mod Gaps
+pub mod Heads
+pub mod Lines
+pub mod Places

@@ -1,0 +1,27 @@
+-- How a call ended.
+use Rattle.std.specs.Prelude.{ℕ}
+
+abbrev pub done : ℕ
+done = 0
+
+abbrev pub refused : ℕ
+refused = 1
+
+abbrev pub incomplete : ℕ
+incomplete = 2
+
+abbrev pub no_memory : ℕ
+no_memory = 3
+
+abbrev pub no_text : ℕ
+no_text = 4
+
+abbrev pub too_small : ℕ
+too_small = 5
+
+abbrev pub too_deep : ℕ
+too_deep = 6
+
+-- how many levels of JSON may be asked for
+abbrev pub most_levels : ℕ
+most_levels = 512

@@ -1,0 +1,4 @@
+-- Written by scripts/registries.py: do not edit.
+pub mod Code
+pub mod Http
+pub mod Span

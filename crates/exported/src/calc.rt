@@ -1,0 +1,79 @@
+//! Formulas of whole numbers.
+
+ghost use Rattle.std.specs.Prelude.{◌≡◌, ◌⊎◌};
+ghost use Rattle.std.specs.Str.{IsUtf8};
+ghost use Rattle.readers_calc.specs.Calculator.{IsFormulaFault, IsValue};
+ghost use Rattle.readers_calc.specs.declared.fault.Fault.TheVariants.{Refused};
+ghost use Rattle.exported.specs.Code.{done, no_memory, no_text, refused};
+
+use crate::code::{DONE, NO_MEMORY, NO_TEXT, REFUSED};
+use readers_calc::calc;
+use readers_calc::fault::Fault;
+use std::alloc::Global;
+
+/// What a formula comes to.
+#[repr(C)]
+#[derive(Clone, Copy, Drop)]
+pub struct Number {
+    /// The value, or 0 where there is none.
+    pub value: i64,
+    /// Where it is refused: how many bytes stand before the place. Else 0.
+    pub place: usize,
+}
+
+/// No value.
+const NONE: Number = Number { value: 0, place: 0 };
+
+/// Reads a text, and writes its value or the place of its refusal.
+fn read(alloc: Global, text: &str, out: &mut Number) -> u32
+    ensures value { result ≡ done → IsValue text.now out.new.value }
+    ensures refused { result ≡ refused → IsFormulaFault text.now (Refused out.new.place) }
+    ensures codes { (result ≡ done) ⊎ ((result ≡ refused) ⊎ (result ≡ no_memory)) }
+{
+    match calc::value(alloc, text) {
+        Ok(value) => {
+            *out = Number { value, place: 0 };
+            DONE
+        }
+        Err(Fault::Refused(place)) => {
+            *out = Number { value: 0, place };
+            REFUSED
+        }
+        Err(Fault::NoMemory) => {
+            *out = NONE;
+            NO_MEMORY
+        }
+    }
+}
+
+/// The value of a formula of whole numbers, as `-2 * 3! ^ 2`.
+///
+/// White space may stand before the formula and behind each number and operator. Operators are,
+/// the strongest first: `!` behind a number, its factorial; `+` and `-` before one; `^`, a power,
+/// joined from the right; `*`, `/` and `%`, and then `+` and `-`, joined from the left; and `=`,
+/// which is 1 where both sides are equal and else 0. `/` cuts towards 0, and `%` has the sign of
+/// its left side.
+///
+/// `DONE`: the value is written. `REFUSED`: the text is no formula, or a number or a result in it
+/// does not fit 64 bits with a sign, a divisor is 0, an exponent is negative, or a factorial is of
+/// a negative number; the place is written. `NO_TEXT`, `NO_MEMORY`.
+///
+/// The caller owes `text_length` bytes at `text` that can be read and that nothing changes while
+/// the call runs, and room for one number at `out`, apart from them.
+#[unsafe(no_mangle)]
+pub extern "C" fn exported_calc_value(alloc: Global, text: &[u8], out: &mut Number) -> u32
+    ensures value { result ≡ done → IsUtf8 text.now × IsValue text.now out.new.value }
+    ensures refused { result ≡ refused
+        → IsUtf8 text.now × IsFormulaFault text.now (Refused out.new.place) }
+    ensures text { result ≡ no_text → IsUtf8 text.now → ⊥ }
+    ensures codes { (result ≡ done) ⊎ ((result ≡ refused) ⊎ ((result ≡ no_text)
+        ⊎ (result ≡ no_memory))) }
+{
+    match str::from_utf8(text) {
+        Ok(chars) => read(alloc, chars, out),
+        Err(_) => {
+            *out = NONE;
+            NO_TEXT
+        }
+    }
+}

@@ -1,0 +1,14 @@
+//! Readers for callers in C and in Rust, as a static library.
+//!
+//! A function takes the caller's bytes as a pointer and their number, and says by a code how it
+//! ended; what it found it writes where the caller says. It answers places in the caller's own
+//! bytes, so nothing that it takes memory for outlives the call.
+#![tactic(auto)]
+
+pub mod calc;
+pub mod code;
+pub mod http;
+pub mod ini;
+pub mod json;
+pub mod span;
+pub mod text;

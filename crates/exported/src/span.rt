@@ -1,0 +1,32 @@
+//! Places in the caller's bytes.
+
+ghost use Rattle.std.specs.Prelude.{◌≡◌, ◌≤◌, ◌++◌, List, length, ℕ};
+ghost use Rattle.exported.specs.Span.{EndsWith, StandsAt};
+
+/// A place in the caller's bytes: so many of them, from one on.
+#[repr(C)]
+#[derive(Clone, Copy, Drop)]
+pub struct Span {
+    /// How many bytes stand before it.
+    pub offset: usize,
+    /// How many bytes it has.
+    pub length: usize,
+}
+
+/// The place of nothing.
+pub(crate) const NOWHERE: Span = Span {
+    offset: 0,
+    length: 0,
+};
+
+/// The place of the first bytes of what the input ends with.
+pub fn first_of(input: &[u8], rest: &[u8], count: usize) -> Span
+    requires ends { EndsWith input.now rest.now }
+    ensures { (text behind : List ℕ) → rest.now ≡ text ++ behind → length text ≡ count
+        → StandsAt input.now result text }
+{
+    Span {
+        offset: input.len() - rest.len(),
+        length: count,
+    }
+}

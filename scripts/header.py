@@ -1,0 +1,268 @@
+#!/usr/bin/env python3
+"""Writes the declarations of `bindings/` from the exports of the crate `exported`:
+
+    scripts/header.py            writes them
+    scripts/header.py --check    fails where the tree has others
+
+From each `pub extern "C" fn exported_NAME`, its documentation and what it names it writes
+`bindings/c/pergidau.h`, with the function `pergidau_NAME` and the same words; `bindings/c/pergidau.c`,
+where that function refuses a pointer that is null and a length that no object has, and then calls the
+export; and `bindings/rust/src/exports.rs`, the declarations by which Rust calls the exports. What a
+caller owes is said by the documentation, and so in each of them.
+"""
+import dataclasses
+import pathlib
+import re
+import sys
+import textwrap
+
+TOP = pathlib.Path(__file__).resolve().parent.parent
+SOURCE = TOP / "crates/exported/src"
+BINDINGS = TOP / "bindings"
+WRITTEN = "Written by scripts/header.py from crates/exported: do not edit."
+# The codes that no export answers: those of the functions in C.
+OF_C = ("NULL", "TOO_LONG")
+# The types of single values: as Rust has them, and as C has them.
+PLAIN = {"u8": "uint8_t", "u32": "uint32_t", "i64": "int64_t", "usize": "size_t", "bool": "bool"}
+EXPORT = re.compile(r'pub extern "C" fn exported_(\w+)\(\s*(.*?)\s*\)\s*->\s*u32\b', re.DOTALL)
+CONSTANT = re.compile(r"pub const (\w+): (u32|usize) = (\d+);")
+STRUCT = re.compile(r"pub struct (\w+) \{\n(.*?)\n\}", re.DOTALL)
+
+
+@dataclasses.dataclass
+class Item:
+    """A constant, a struct or a function: its name, its words, and its value, fields or
+    parameters. Of a field or parameter the type is as Rust has it."""
+
+    name: str
+    words: list
+    parts: list
+
+
+def pairs(text):
+    """The names and the types of a list of parameters."""
+    return [tuple(part.strip().split(": ", 1)) for part in text.split(",\n" if "\n" in text else ",")
+            if part.strip()]
+
+
+def fields(text):
+    """The fields of a struct, each with its words."""
+    words = []
+    for line in text.splitlines():
+        line = line.strip()
+        if line.startswith("///"):
+            words.append(line[3:].strip())
+        elif found := re.match(r"pub (\w+): (\w+),", line):
+            yield Item(found[1], words, [found[2]])
+            words = []
+
+
+def documented(text):
+    """The items of a file: what kind each is, and the match, with the words above it."""
+    words = []
+    lines = text.splitlines(keepends=True)
+    for number, line in enumerate(lines):
+        rest = "".join(lines[number:])
+        if line.startswith("///"):
+            words.append(line[3:].strip())
+        elif line.startswith("#"):
+            continue
+        else:
+            for kind, form in (("code", CONSTANT), ("struct", STRUCT), ("export", EXPORT)):
+                if found := form.match(rest):
+                    yield kind, found, words
+            words = []
+
+
+def items():
+    """The codes, the other constants, the structs and the exports, in the order of their files."""
+    codes, constants, structs, exports = [], [], [], []
+    names = re.findall(r"pub mod (\w+);", (SOURCE / "lib.rt").read_text(encoding="utf-8"))
+    for name in ["code", "span", *(it for it in names if it not in ("code", "span"))]:
+        for kind, found, words in documented((SOURCE / f"{name}.rt").read_text(encoding="utf-8")):
+            if kind == "code":
+                put = codes if found[2] == "u32" else constants
+                put.append(Item(found[1], words, [found[3]]))
+            elif kind == "struct":
+                structs.append(Item(found[1], words, list(fields(found[2]))))
+            else:
+                made = [it for it in pairs(found[2]) if it[1].rstrip(",") != "Global"]
+                exports.append(Item(found[1], words, [(n, t.rstrip(",")) for n, t in made]))
+    return codes, constants, structs, exports
+
+
+def snake(name):
+    """The name in C of a struct."""
+    return "pergidau_" + re.sub(r"(?<!^)([A-Z])", r"_\1", name).lower()
+
+
+def type_in_c(name):
+    return PLAIN.get(name) or f"struct {snake(name)}"
+
+
+def comment(words, codes, indent=""):
+    """A comment in C. A code is named as C names it."""
+    text = "\n".join(words)
+    for code in codes:
+        text = re.sub(rf"`{code.name}`", f"PERGIDAU_{code.name}", text)
+    text = text.replace("`", "")
+    lines = []
+    for paragraph in text.split("\n\n"):
+        lines += [*textwrap.wrap(" ".join(paragraph.split("\n")), 92 - len(indent)), ""]
+    lines = lines[:-1]
+    if len(lines) == 1:
+        return f"{indent}/* {lines[0]} */\n"
+    return f"{indent}/*\n" + "".join(f"{indent} * {it}".rstrip() + "\n" for it in lines) + f"{indent} */\n"
+
+
+def kind_of(written):
+    """What a parameter is: a slice that is read or written, one value that is written, or one that
+    is passed; and the type of an element or of the value."""
+    for kind, form in (("read", r"&\[(\w+)\]"), ("write", r"&mut \[(\w+)\]"), ("out", r"&mut (\w+)"),
+                       ("pass", r"(\w+)")):
+        if found := re.fullmatch(form, written):
+            return kind, found[1]
+    raise SystemExit(f"scripts/header.py knows no parameter of the type {written}")
+
+
+def in_c(name, written):
+    """The parameters in C that one of the export is."""
+    kind, inside = kind_of(written)
+    spelled = type_in_c(inside)
+    return {
+        "read": [f"const {spelled} *{name}", f"size_t {name}_length"],
+        "write": [f"{spelled} *{name}", f"size_t {name}_length"],
+        "out": [f"{spelled} *{name}"],
+        "pass": [f"{spelled} {name}"],
+    }[kind]
+
+
+def signature(prefix, returned, export, indent="    "):
+    """The head of a function in C, a parameter a line."""
+    made = [it for part in export.parts for it in in_c(*part)]
+    inside = f",\n{indent}".join(made)
+    return f"{returned} {prefix}_{export.name}(\n{indent}{inside})"
+
+
+def header(codes, constants, structs, exports):
+    names = [*codes, *constants]
+    text = f"/* {WRITTEN} */\n"
+    text += comment([
+        "Readers that are proved: what each answers is what its words say, for all bytes. They are",
+        "written in Rattle; `crates/exported` has the contracts that were proved.",
+        "",
+        "What the caller owes each call stands in its last paragraph, and nothing checks it, but for",
+        "this: a pointer that is null where something is to be read or written is answered by `NULL`,",
+        "and a length that no object can have by `TOO_LONG`. Then nothing is read or written. A null",
+        "pointer to no bytes or to no entries is right.",
+        "",
+        "A call keeps nothing, and has no state: calls may run side by side. Memory that one takes, by",
+        "malloc, it gives back before it ends.",
+    ], names)
+    text += "#ifndef PERGIDAU_H\n#define PERGIDAU_H\n\n#include <stddef.h>\n#include <stdint.h>\n\n"
+    text += "#ifdef __cplusplus\nextern \"C\" {\n#endif\n\n/* How a call ended. */\nenum pergidau_code {\n"
+    for code in codes:
+        text += comment(code.words, names, "    ") + f"    PERGIDAU_{code.name} = {code.parts[0]},\n"
+    text += "};\n\n"
+    for constant in constants:
+        text += comment(constant.words, names) + f"#define PERGIDAU_{constant.name} {constant.parts[0]}\n\n"
+    for struct in structs:
+        text += comment(struct.words, names) + f"struct {snake(struct.name)} {{\n"
+        for field in struct.parts:
+            text += comment(field.words, names, "    ")
+            text += f"    {type_in_c(field.parts[0])} {field.name};\n"
+        text += "};\n\n"
+    for export in exports:
+        text += comment(export.words, names)
+        text += signature("pergidau", "enum pergidau_code", export) + ";\n\n"
+    return text + "#ifdef __cplusplus\n}\n#endif\n\n#endif\n"
+
+
+def body(export):
+    """What stands before the call of an export: what it refuses, and what stands for nothing."""
+    refused, nothing, passed = [], [], []
+    for name, written in export.parts:
+        kind, inside = kind_of(written)
+        passed.append(name)
+        if kind in ("read", "write"):
+            passed.append(f"{name}_length")
+            size = f"sizeof({type_in_c(inside)})"
+            refused.append((f"{name}_length > PTRDIFF_MAX / {size}", "PERGIDAU_TOO_LONG"))
+            refused.append((f"{name} == NULL && {name}_length > 0", "PERGIDAU_NULL"))
+            constant = "const " if kind == "read" else ""
+            nothing.append(f"    {constant}{type_in_c(inside)} no_{name} = {{0}};\n")
+            nothing.append(f"    if ({name} == NULL) {{\n        {name} = &no_{name};\n    }}\n")
+        elif kind == "out":
+            refused.append((f"{name} == NULL", "PERGIDAU_NULL"))
+    text = ""
+    for test, code in refused:
+        text += f"    if ({test}) {{\n        return {code};\n    }}\n"
+    return text, nothing, ", ".join(passed)
+
+
+def glue(codes, structs, exports):
+    text = f"/* {WRITTEN} */\n"
+    text += comment([
+        "What stands between a caller in C and the exports, each of which asks for pointers that are",
+        "not null, to no bytes too, and for lengths that an object can have.",
+    ], codes)
+    text += '#include "pergidau.h"\n\n'
+    for export in exports:
+        text += signature("exported", "uint32_t", export) + ";\n"
+    for export in exports:
+        tests, nothing, passed = body(export)
+        text += "\n" + signature("pergidau", "enum pergidau_code", export) + "\n{\n"
+        text += "".join(it for it in nothing if it.endswith(";\n"))
+        text += tests + "".join(it for it in nothing if not it.endswith(";\n"))
+        text += f"    return (enum pergidau_code)exported_{export.name}({passed});\n}}\n"
+    return text
+
+
+def rust_words(words, indent=""):
+    return "".join(f"{indent}/// {it}".rstrip() + "\n" for it in words)
+
+
+def rust(codes, constants, structs, exports):
+    text = f"//! The exports of the static library.\n//!\n//! {WRITTEN}\n"
+    for item, form in [*((it, "u32") for it in codes if it.name not in OF_C), *((it, "usize") for it in constants)]:
+        text += f"\n{rust_words(item.words)}pub const {item.name}: {form} = {item.parts[0]};\n"
+    for struct in structs:
+        text += f"\n{rust_words(struct.words)}#[repr(C)]\n"
+        text += f"#[derive(Clone, Copy, Debug, Default, PartialEq, Eq)]\npub struct {struct.name} {{\n"
+        for field in struct.parts:
+            text += f"{rust_words(field.words, '    ')}    pub {field.name}: {field.parts[0]},\n"
+        text += "}\n"
+    text += '\nextern "C" {\n'
+    for number, export in enumerate(exports):
+        made = []
+        for name, written in export.parts:
+            kind, inside = kind_of(written)
+            length = [f"{name}_length: usize"] if kind in ("read", "write") else []
+            star = {"read": "*const ", "write": "*mut ", "out": "*mut ", "pass": ""}[kind]
+            made += [f"{name}: {star}{inside}", *length]
+        text += "\n" * (number > 0) + rust_words(export.words, "    ")
+        text += f"    pub fn exported_{export.name}(\n        " + ",\n        ".join(made) + ",\n    ) -> u32;\n"
+    return text + "}\n"
+
+
+def main(words):
+    codes, constants, structs, exports = items()
+    made = {
+        "c/pergidau.h": header(codes, constants, structs, exports),
+        "c/pergidau.c": glue(codes, structs, exports),
+        "rust/src/exports.rs": rust(codes, constants, structs, exports),
+    }
+    wrong = 0
+    for name, text in made.items():
+        path = BINDINGS / name
+        if words != ["--check"]:
+            path.parent.mkdir(parents=True, exist_ok=True)
+            path.write_text(text, encoding="utf-8")
+        elif not path.is_file() or path.read_text(encoding="utf-8") != text:
+            print(f"bindings/{name} is not as scripts/header.py writes it")
+            wrong = 1
+    return wrong
+
+
+if __name__ == "__main__":
+    sys.exit(main(sys.argv[1:]))
