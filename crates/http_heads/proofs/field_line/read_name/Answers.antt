@@ -1,0 +1,13 @@
+use Rattle.http_heads.specs.Bytes.{IsTokenByte}
+use Rattle.http_heads.specs.FieldRead.{NameRead}
+use Rattle.http_heads.specs.Parts.{reads_by, run_is}
+use Rattle.http_heads.proofs.field_line.read_name.Goals as goal
+
+pub returns : goal.returns
+returns c = reads_by {h = NameRead} c.read.ensures (rw (
+  c.terminated.ensures.parser,
+  c.terminated.ensures.ignored,
+  c.take_while-name.ensures.occurrences,
+  c.from.ensures,
+  run_is IsTokenByte 1 c.take_while-name.result.set,
+))

@@ -1,0 +1,16 @@
+use Rattle.http_heads.specs.Bytes.{IsTokenByte, IsVisible}
+use Rattle.http_heads.specs.Parts.{reads_by, run_is}
+use Rattle.http_heads.specs.RequestRead.{MethodTarget}
+use Rattle.http_heads.proofs.request_line.read_method_and_target.Goals as goal
+
+pub returns : goal.returns
+returns c = reads_by {h = MethodTarget} c.read.ensures (rw (
+  c.separated_pair.ensures.first,
+  c.separated_pair.ensures.separator,
+  c.separated_pair.ensures.second,
+  c.take_while-method.ensures.occurrences,
+  c.take_while-target.ensures.occurrences,
+  c.from-some.ensures,
+  run_is IsTokenByte 1 c.take_while-method.result.set,
+  run_is IsVisible 1 c.take_while-target.result.set,
+))

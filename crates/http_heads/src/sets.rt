@@ -1,0 +1,102 @@
+//! The sets of bytes of which a head is made.
+#![tactic(auto)]
+
+ghost use Rattle.std.specs.Prelude.{◌↔◌, IsTrue};
+ghost use Rattle.http_heads.specs.Bytes.{IsDigit, IsTokenByte, IsValueByte, IsVisible, IsWhite};
+ghost use Rattle.winnow_exact.specs.Exact.Tokens.{holds_once};
+
+use stream_sets::sets::ContainsToken;
+use winnow_exact::sets::Decides;
+
+/// The bytes of tokens, of which names and methods are made.
+#[derive(Clone, Copy, Drop)]
+pub struct TokenBytes;
+
+impl ContainsToken<u8> for TokenBytes {
+    ghost tells = { λ s b answer. IsTrue answer ↔ IsTokenByte b };
+
+    #[inline]
+    fn contains_token(&self, b: u8) -> bool {
+        b.is_ascii_digit()
+            || b.is_ascii_uppercase()
+            || (b'^' <= b && b <= b'z')
+            || b == b'!'
+            || (b'#' <= b && b <= b'\'')
+            || (b'*' <= b && b <= b'+')
+            || (b'-' <= b && b <= b'.')
+            || b == b'|'
+            || b == b'~'
+    }
+}
+
+impl Decides<u8> for TokenBytes {
+    ghost once = { λ s is. holds_once IsTokenByte };
+}
+
+/// The white space that may stand before a value and behind it.
+#[derive(Clone, Copy, Drop)]
+pub struct White;
+
+impl ContainsToken<u8> for White {
+    ghost tells = { λ s b answer. IsTrue answer ↔ IsWhite b };
+
+    #[inline]
+    fn contains_token(&self, b: u8) -> bool {
+        b == b' ' || b == b'\t'
+    }
+}
+
+impl Decides<u8> for White {
+    ghost once = { λ s is. holds_once IsWhite };
+}
+
+/// The bytes of values.
+#[derive(Clone, Copy, Drop)]
+pub struct ValueBytes;
+
+impl ContainsToken<u8> for ValueBytes {
+    ghost tells = { λ s b answer. IsTrue answer ↔ IsValueByte b };
+
+    #[inline]
+    fn contains_token(&self, b: u8) -> bool {
+        (b >= 32 && b != 127) || b == b'\t'
+    }
+}
+
+impl Decides<u8> for ValueBytes {
+    ghost once = { λ s is. holds_once IsValueByte };
+}
+
+/// The visible bytes, of which targets are made.
+#[derive(Clone, Copy, Drop)]
+pub struct Visible;
+
+impl ContainsToken<u8> for Visible {
+    ghost tells = { λ s b answer. IsTrue answer ↔ IsVisible b };
+
+    #[inline]
+    fn contains_token(&self, b: u8) -> bool {
+        b'!' <= b && b <= b'~'
+    }
+}
+
+impl Decides<u8> for Visible {
+    ghost once = { λ s is. holds_once IsVisible };
+}
+
+/// The decimal digits.
+#[derive(Clone, Copy, Drop)]
+pub struct Digits;
+
+impl ContainsToken<u8> for Digits {
+    ghost tells = { λ s b answer. IsTrue answer ↔ IsDigit b };
+
+    #[inline]
+    fn contains_token(&self, b: u8) -> bool {
+        b.is_ascii_digit()
+    }
+}
+
+impl Decides<u8> for Digits {
+    ghost once = { λ s is. holds_once IsDigit };
+}
