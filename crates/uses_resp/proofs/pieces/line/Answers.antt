@@ -1,0 +1,10 @@
+use Rattle.uses_resp.specs.InTurn.{told_by}
+use Rattle.uses_resp.proofs.pieces.line.Goals as goal
+
+pub returns : goal.returns
+returns g c = told_by c.read_cut.ensures (rw (
+  c.terminated.ensures.parser,
+  c.take_till.ensures.occurrences,
+  c.take_till.ensures.set,
+  c.from.ensures,
+))

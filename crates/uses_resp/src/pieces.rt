@@ -1,0 +1,61 @@
+//! The parts of replies, over any stream, by the grammars of their parsers.
+ghost use Rattle.std.specs.Prelude.{◌≡◌, ◌∷◌, [], None};
+ghost use Rattle.stream_errors.specs.Form.{modal};
+ghost use Rattle.stream_sets.specs.Range.{from_to};
+ghost use Rattle.winnow_exact.specs.Exact.Cut.{ReadsOrAsks};
+ghost use Rattle.winnow_exact.specs.Exact.Literals.{SpellsByText};
+ghost use Rattle.winnow_exact.specs.Exact.Tokens.{SeesApart};
+ghost use Rattle.winnow_exact.specs.Grammar.{Both, Counted, Longest, Others, Token};
+ghost use Rattle.winnow_exact.specs.Grammar.Searches.{Text};
+
+use stream_errors::parser_error::ParserError;
+use stream_searches::compare::Compare;
+use stream_sets::as_char::AsChar;
+use stream_sets::range::Range;
+use stream_sets::sets::ContainsToken;
+use streams::stream::StreamIsPartial;
+use winnow_ascii::ascii::impls::Crlf;
+use winnow_comb::combinator::terminated;
+use winnow_exact::pieces::ReadsPieces;
+use winnow_token::token::impls::Any;
+use winnow_token::token::{take, take_till};
+
+/// A token.
+pub(crate) fn token<I: StreamIsPartial, E: ParserError<I>>(input: &mut I) -> Result<I::Token, E>
+    requires modal { E.form ≡ modal }
+    ensures { ReadsOrAsks I.reading I.following E.kind (Token I.seen_as) (I.view input.old) result
+        (I.view input.new) }
+{
+    Any.read_cut(input)
+}
+
+/// What stands before a carriage return and a line feed, with neither in it.
+pub(crate) fn line<I: StreamIsPartial + Compare<&'static str>, E: ParserError<I>>(
+    input: &mut I,
+) -> Result<I::Slice, E>
+where
+    I::Token: AsChar + Copy,
+    requires modal { E.form ≡ modal }
+    requires seen { SeesApart I.seen_as }
+    requires spells { SpellsByText I.spells }
+    ensures { ReadsOrAsks I.reading I.following E.kind (Both (λ o1 o2. o1)
+        (Longest I.reading I.seen_as (Others ⟦<(u8, u8) as ContainsToken<I::Token>>⟧.tells)
+        (13, 10) (from_to 0 None)) (Text I.reading I.spells (13 ∷ 10 ∷ []))) (I.view input.old)
+        result (I.view input.new) }
+{
+    terminated(take_till(Range::from(0..), (b'\r', b'\n')), Crlf).read_cut(input)
+}
+
+/// So many tokens, and a carriage return and a line feed behind them.
+pub(crate) fn tokens<I: StreamIsPartial + Compare<&'static str>, E: ParserError<I>>(
+    count: usize,
+    input: &mut I,
+) -> Result<I::Slice, E>
+    requires modal { E.form ≡ modal }
+    requires spells { SpellsByText I.spells }
+    ensures { ReadsOrAsks I.reading I.following E.kind (Both (λ o1 o2. o1)
+        (Counted I.reading count) (Text I.reading I.spells (13 ∷ 10 ∷ []))) (I.view input.old)
+        result (I.view input.new) }
+{
+    terminated(take(count), Crlf).read_cut(input)
+}

@@ -1,0 +1,125 @@
+//! The reader of replies.
+
+ghost use Rattle.std.specs.Prelude.{ℕ};
+ghost use Rattle.streams.specs.Bytes.{bytes_follow, bytes_reading};
+ghost use Rattle.winnow_exact.specs.Exact.Cut.{ReadsOrAsks};
+ghost use Rattle.uses_resp.specs.InTurn.{First, Led};
+ghost use Rattle.uses_resp.specs.Resp.{ArrayBehind, BulkBehind, Elements, For, IntegerText};
+ghost use Rattle.uses_resp.specs.Resp.{ReplyText, SizeText};
+ghost use Rattle.uses_resp.specs.declared.reply.Reply as reply;
+
+use crate::leaves::{Mark, read_data, read_integer, read_line, read_mark, read_size};
+use crate::reply::Reply;
+use std::alloc::Allocator;
+use stream_errors::empty::EmptyError;
+use stream_errors::growth::OrNoMemory;
+use stream_errors::mode::ErrMode;
+use stream_errors::parser_error::ParserError;
+use streams::has_kind::HasKind;
+use streams::partial::Partial;
+use streams::stream::Stream;
+
+type Bytes = Partial<&'static [u8]>;
+
+type Error = ErrMode<EmptyError>;
+
+/// What stands behind the `:` of an integer.
+fn read_number<'i, A: Allocator>(
+    input: &mut Partial<&'i [u8]>,
+) -> Result<Reply<&'i [u8], A>, ErrMode<EmptyError>>
+    ensures { ReadsOrAsks bytes_reading bytes_follow ⟦<Error as HasKind>⟧.kind
+        (First (For (λ n. reply.Integer n) IntegerText)) (⟦<Bytes as Stream>⟧.view input.old)
+        result (⟦<Bytes as Stream>⟧.view input.new) }
+{
+    let number = read_integer(input)?;
+    Ok(Reply::Integer(number))
+}
+
+/// What stands behind the `$` of a bulk string.
+fn read_bulk<'i, A: Allocator>(
+    input: &mut Partial<&'i [u8]>,
+) -> Result<Reply<&'i [u8], A>, ErrMode<EmptyError>>
+    ensures { ReadsOrAsks bytes_reading bytes_follow ⟦<Error as HasKind>⟧.kind
+        (First (Led SizeText BulkBehind)) (⟦<Bytes as Stream>⟧.view input.old) result
+        (⟦<Bytes as Stream>⟧.view input.new) }
+{
+    match read_size(input)? {
+        None => Ok(Reply::NullBulk),
+        Some(size) => {
+            let bytes = read_data(size, input)?;
+            Ok(Reply::Bulk(bytes))
+        }
+    }
+}
+
+/// What stands behind the `*` of an array.
+#[cycle(read)]
+fn read_array<'i, A: Allocator + Copy>(
+    alloc: A,
+    level: usize,
+    input: &mut Partial<&'i [u8]>,
+) -> Result<Reply<&'i [u8], A>, ErrMode<EmptyError>>
+    ensures { ReadsOrAsks bytes_reading bytes_follow ⟦<Error as HasKind>⟧.kind
+        (First (Led SizeText (ArrayBehind (Elements level)))) (⟦<Bytes as Stream>⟧.view input.old)
+        result (⟦<Bytes as Stream>⟧.view input.new) }
+{
+    match read_size(input)? {
+        None => Ok(Reply::NullArray),
+        Some(size) => match level.checked_sub(1) {
+            None => Err(ErrMode::from_input(input)),
+            Some(inner) => {
+                let mut replies = Vec::new(alloc);
+                for _ in 0..size {
+                    let reply = read_reply(alloc, inner, input)?;
+                    replies.push(reply).or_no_memory(input)?;
+                }
+                Ok(Reply::Array(replies))
+            }
+        },
+    }
+}
+
+/// The reply that the bytes begin with, with no more than `level` arrays in one another; what is
+/// left is behind it.
+///
+/// On a whole input (a stream that is marked complete) it answers exactly where such a reply stands
+/// first: an error backtracks and says that none does, or wants memory. On a cut one an answer
+/// holds whatever follows, and so does an error that backtracks; else more is asked for, and where
+/// the bytes of a bulk string are wanting, how many. Then the input is to be read again from its
+/// start, with more of it there.
+///
+/// ```
+/// use streams::partial::Partial;
+/// use uses_resp::read::read_reply;
+/// use uses_resp::reply::Reply;
+///
+/// let mut input = Partial::new(b"*2\r\n$3\r\nfoo\r\n:7\r\n+".as_slice());
+/// let reply = read_reply(alloc, 1, &mut input);
+/// assert!(rt; matches!(reply, Ok(Reply::Array(replies)) if replies.len() == 2));
+/// assert_eq!(rt; *input.as_inner(), b"+".as_slice());
+/// assert!(rt; read_reply(alloc, 0, &mut Partial::new(b"$6\r\nfoo".as_slice())).is_err());
+/// ```
+#[cycle(read)]
+pub fn read_reply<'i, A: Allocator + Copy>(
+    alloc: A,
+    level: usize,
+    input: &mut Partial<&'i [u8]>,
+) -> Result<Reply<&'i [u8], A>, ErrMode<EmptyError>>
+    ensures { ReadsOrAsks bytes_reading bytes_follow ⟦<Error as HasKind>⟧.kind
+        (First (ReplyText level)) (⟦<Bytes as Stream>⟧.view input.old) result
+        (⟦<Bytes as Stream>⟧.view input.new) }
+{
+    match read_mark(input)? {
+        Mark::Plus => {
+            let line = read_line(input)?;
+            Ok(Reply::Simple(line))
+        }
+        Mark::Minus => {
+            let line = read_line(input)?;
+            Ok(Reply::Error(line))
+        }
+        Mark::Colon => read_number(input),
+        Mark::Dollar => read_bulk(input),
+        Mark::Star => read_array(alloc, level, input),
+    }
+}

@@ -1,0 +1,9 @@
+//! Replies of Redis, whole and at every cut, and how many bytes are asked for.
+#![tactic(auto)]
+
+#[cfg(test)]
+mod pieces;
+#[cfg(test)]
+mod replies;
+#[cfg(test)]
+mod shown;
