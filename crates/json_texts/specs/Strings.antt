@@ -124,7 +124,7 @@ unit_of =
     (both_of pair digit_of (both_of pair digit_of digit_of front_any)
     front_any) front_any))
 
-one_hex : (c d e : ℕ) → IsHex c d → IsHex c e → d ≡ e
+pub one_hex : (c d e : ℕ) → IsHex c d → IsHex c e → d ≡ e
 one_hex c d e (inl x) (inl y) = omega (arith, x, y)
 one_hex c d e (inl x) (inr (inl y)) = absurd (omega (arith, x, y))
 one_hex c d e (inl x) (inr (inr y)) = absurd (omega (arith, x, y))
@@ -141,13 +141,13 @@ SaysOne grammar =
     (tokens : List ℕ) (o p : ℕ) (rest other : List ℕ) → grammar tokens o rest
     → grammar tokens p other → (o ≡ p) × (rest ≡ other)
 
-one_digit : SaysOne Digit
+pub one_digit : SaysOne Digit
 unfolding Made Token
 one_digit tokens d e rest other (c, x, is) (b, y, was) =
     let P : ℕ → Type 0 = λ z. IsHex z e in
     (one_hex c d e is (subst P (same_first (sym y ∙ x)) was), same_others (sym x ∙ y))
 
-one_unit : SaysOne CodeUnit
+pub one_unit : SaysOne CodeUnit
 unfolding Made Four
 one_unit tokens u v rest other
     (o, (a1, a2, a3, a4, m1, m2, m3, x1, x2, x3, x4, e), is)

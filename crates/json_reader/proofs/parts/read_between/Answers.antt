@@ -1,0 +1,9 @@
+use Rattle.json_reader.specs.Alike.{reads_by}
+use Rattle.json_reader.proofs.parts.read_between.Goals as goal
+
+pub returns : goal.returns
+returns g c = reads_by c.read.ensures (rw (
+  c.delimited.ensures.ignored1,
+  c.delimited.ensures.parser,
+  c.delimited.ensures.ignored2,
+))

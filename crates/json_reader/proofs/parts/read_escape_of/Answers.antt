@@ -1,0 +1,11 @@
+use Rattle.json_reader.specs.Alike.{reads_by}
+use Rattle.json_reader.proofs.parts.read_escape_of.Goals as goal
+
+pub returns : goal.returns
+returns g c = reads_by c.read.ensures (rw (
+  c.preceded-2.ensures.ignored,
+  c.preceded-2.ensures.parser,
+  c.alt.ensures,
+  c.preceded.ensures.ignored,
+  c.preceded.ensures.parser,
+))

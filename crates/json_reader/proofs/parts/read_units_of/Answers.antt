@@ -1,0 +1,8 @@
+use Rattle.json_reader.specs.Alike.{reads_by}
+use Rattle.json_reader.proofs.parts.read_units_of.Goals as goal
+
+pub returns : goal.returns
+returns g c = reads_by c.read.ensures (rw (
+  c.preceded.ensures.ignored,
+  c.preceded.ensures.parser,
+))

@@ -1,0 +1,14 @@
+use Rattle.json_texts.specs.Strings.{string_of}
+use Rattle.json_reader.specs.Alike.{reads_by}
+use Rattle.winnow_exact.specs.Held.{HasCharacters}
+use Rattle.winnow_exact.specs.Texts.Told.{text_told}
+use Rattle.json_reader.proofs.string.read_string.Goals as goal
+
+pub returns-clause-grammar : goal.returns-clause-grammar
+returns-clause-grammar g c = reads_by c.read_between.ensures (rw (
+  c.repeat-characters.ensures.occurrences,
+  c.from.ensures,
+))
+
+pub returns-clause-text : goal.returns-clause-text
+returns-clause-text g c = text_told (string_of HasCharacters) (returns-clause-grammar g c)

@@ -1,0 +1,152 @@
+-- What parsers read, in the words of JSON.
+use Rattle.std.specs.Prelude.{◌≡◌, ◌↔◌, ◌⊎◌, ◌≤◌, ◌++◌, ℕ, Bool, true, false, IsTrue, List, Result}
+use Rattle.std.specs.Prelude.{Ok, Err, Some, None, IfOk, MatchResult, string_bytes}
+use Rattle.std.specs.declared.string.String.{String}
+use Rattle.std.specs.Range.{range_inclusive_end, range_inclusive_start}
+use Rattle.std.specs.Str.{chars, encode_utf8_all}
+use Rattle.std.specs.declared.ops.RangeInclusive.{RangeInclusive}
+use Rattle.std.proofs.Common.{refl, sym, ap, inl, inr, ◌∙◌, arith}
+use Rattle.streams.specs.Equal.{none_is_some, same_some, true_is_false}
+use Rattle.streams.specs.Input.{Input, IsEndOf}
+use Rattle.streams.specs.Kind.{Kind, memory}
+use Rattle.streams.specs.Reading.{Reading}
+use Rattle.streams.specs.Text.{text_reading}
+use Rattle.stream_errors.specs.Growth.{grown}
+use Rattle.stream_sets.specs.AsChar.{IsDecDigit}
+use Rattle.stream_sets.specs.Sets.{EitherTells}
+use Rattle.json_texts.specs.Number.{Integer, IsLeading, Slice}
+use Rattle.json_texts.specs.Strings.{Character, Escape, IsUnescaped}
+use Rattle.json_texts.specs.Values.{HasText}
+use Rattle.json_texts.specs.Words.{Char, Meaning, OneIn, RunOf, Word, pair}
+use Rattle.winnow_exact.specs.Exact.{Reads}
+use Rattle.winnow_exact.specs.Exact.Same.{Same, same_refl}
+use Rattle.winnow_exact.specs.Grammar.{Both, Either, Grammar, Literally, Made, Taken, TokenOf}
+use Rattle.winnow_exact.specs.Grammar.Alike.{both_same, either_same}
+
+-- what reads by a grammar reads by one that is the same
+pub reads_by : {T L O E : Type 0} {reading : Reading T L} {kind : E → Kind} {g h : Grammar T O}
+    {i j : Input T} {result : Result O E} → Reads reading kind g i result j → g ≡ h
+    → Reads reading kind h i result j
+reads_by {T} {L} {O} {E} {reading} {kind} {g} {h} {i} {j} {result} r e = rw e at r
+
+-- a character of a set, where the set is a class
+pub class_same : {X : Type 0} (tells : X → ℕ → Bool → Type 0) (set : X) (class : ℕ → Type 0)
+    → ((c : ℕ) → tells set c true ↔ class c)
+    → Same (TokenOf (λ c. c) tells set) (OneIn class)
+unfolding TokenOf
+class_same tells set class is = record {
+  there = λ tokens c rest (told, e). ((λ t. (is c).0 told, λ x. refl), e);
+  back = λ tokens c rest (told, e). ((is c).1 (told.0 refl), e);
+}
+
+-- what a range of characters tells
+abbrev pub RangeTells : RangeInclusive ℕ → ℕ → Bool → Type 0
+RangeTells set c b =
+    IsTrue b ↔ ((range_inclusive_start set ≤ c) × (c ≤ range_inclusive_end set))
+
+module _ (set : RangeInclusive ℕ) (low high : ℕ) (start : range_inclusive_start set ≡ low)
+    (end : range_inclusive_end set ≡ high) (c : ℕ) where
+  pub range_told : RangeTells set c true ↔ ((low ≤ c) × (c ≤ high))
+  range_told = (
+    λ (there, back). let it = there refl in omega (arith, it, start, end),
+    λ is. (λ t. omega (arith, is, start, end), λ x. refl),
+  )
+
+  range_missed : ((low ≤ c) × (c ≤ high) → ⊥) → RangeTells set c false
+  range_missed not =
+      (λ t. true_is_false (sym t), λ is. absurd (not (omega (arith, is, start, end))))
+
+-- what three of them tell
+abbrev pub RangesTell : RangeInclusive ℕ × RangeInclusive ℕ × RangeInclusive ℕ → ℕ → Bool → Type 0
+RangesTell s = EitherTells (RangeTells s.0) (EitherTells (RangeTells s.1) (RangeTells s.2))
+
+-- characters that stand for themselves, by their ranges
+module _ (s : RangeInclusive ℕ × RangeInclusive ℕ × RangeInclusive ℕ)
+    (a : range_inclusive_start s.0 ≡ 32) (b : range_inclusive_end s.0 ≡ 33)
+    (d : range_inclusive_start s.1 ≡ 35) (e : range_inclusive_end s.1 ≡ 91)
+    (f : range_inclusive_start s.2 ≡ 93) (g : range_inclusive_end s.2 ≡ 1114111) (c : ℕ) where
+  plain_there : RangesTell s c true → IsUnescaped c
+  plain_there (inl (it, t)) = inl ((range_told s.0 32 33 a b c).0 it)
+  plain_there (inr (out, inl (it, t))) = inr (inl ((range_told s.1 35 91 d e c).0 it))
+  plain_there (inr (out, inr (miss, it))) = inr (inr ((range_told s.2 93 1114111 f g c).0 it))
+
+  plain_back : IsUnescaped c → RangesTell s c true
+  plain_back (inl is) = inl ((range_told s.0 32 33 a b c).1 is, refl)
+  plain_back (inr (inl is)) = inr (
+    range_missed s.0 32 33 a b c (λ x. absurd (omega (arith, x, is))),
+    inl ((range_told s.1 35 91 d e c).1 is, refl),
+  )
+  plain_back (inr (inr is)) = inr (
+    range_missed s.0 32 33 a b c (λ x. absurd (omega (arith, x, is))),
+    inr (
+      range_missed s.1 35 91 d e c (λ x. absurd (omega (arith, x, is))),
+      (range_told s.2 93 1114111 f g c).1 is,
+    ),
+  )
+
+  pub plain_told : RangesTell s c true ↔ IsUnescaped c
+  plain_told = (plain_there, plain_back)
+
+-- what is made of an output, where that is what the output means
+pub meaning_same : {F O U : Type 0} (makes : F → O → U → Type 0) (f : F) (means : O → U → Type 0)
+    (g : Grammar ℕ O) → ((o : O) (u : U) → makes f o u ↔ means o u)
+    → Same (Made makes f g) (Meaning means g)
+unfolding Made
+meaning_same makes f means g is = record {
+  there = λ tokens u rest (o, x, m). (o, x, (is o u).0 m);
+  back = λ tokens u rest (o, x, m). (o, x, (is o u).1 m);
+}
+
+-- the characters of what stands by grammars that are the same
+taken_same : {O : Type 0} {g h : Grammar ℕ O} → Same g h
+    → Same (Taken text_reading g) (Taken text_reading h)
+unfolding Taken
+taken_same same = record {
+  there = λ tokens slice rest (o, x, shown). (o, same.there tokens o rest x, shown);
+  back = λ tokens slice rest (o, x, shown). (o, same.back tokens o rest x, shown);
+}
+
+-- the digits before a point, by the range of those that may be first
+pub integer_same : (set : RangeInclusive ℕ) → range_inclusive_start set ≡ 49
+    → range_inclusive_end set ≡ 57
+    → Same (Either (Taken text_reading (Char 48))
+    (Taken text_reading (Both pair (TokenOf (λ c. c) RangeTells set) (RunOf IsDecDigit 0))))
+    Integer
+integer_same set start end =
+    either_same (same_refl _)
+    (taken_same (both_same pair
+    (class_same RangeTells set IsLeading (range_told set 49 57 start end)) (same_refl _)))
+
+-- a character of a string, by the ranges of those that stand for themselves
+pub character_same : (s : RangeInclusive ℕ × RangeInclusive ℕ × RangeInclusive ℕ)
+    → range_inclusive_start s.0 ≡ 32 → range_inclusive_end s.0 ≡ 33
+    → range_inclusive_start s.1 ≡ 35 → range_inclusive_end s.1 ≡ 91
+    → range_inclusive_start s.2 ≡ 93 → range_inclusive_end s.2 ≡ 1114111
+    → Same (Either (TokenOf (λ c. c) RangesTell s) Escape) Character
+character_same s a b d e f g =
+    either_same (class_same RangesTell s IsUnescaped (plain_told s a b d e f g)) (same_refl _)
+
+-- ---- what a statement makes of what a call read
+
+module _ {O U E : Type 0} (means : O → U → Type 0) {kind : E → Kind} {g : Grammar ℕ O}
+    {i j : Input ℕ} where
+  pub meant : {o : O} {u : U} → Reads text_reading kind g i (Ok o) j → means o u
+      → Reads text_reading kind (Meaning means g) i (Ok u) j
+  unfolding Made
+  meant {o} r is = record {
+    ends = r.ends;
+    stands = λ whole. (o, r.stands whole, is);
+    none = λ whole. tt;
+  }
+
+  pub meant_none : {e : E} → Reads text_reading kind g i (Err e) j
+      → Reads text_reading kind (Meaning means g) i (Err e) j
+  unfolding Made
+  meant_none r = record {
+    ends = r.ends;
+    stands = λ whole. tt;
+    none = λ whole. elim (r.none whole) [
+      | inl m ↦ inl m
+      | inr (b, nothing) ↦ inr (b, λ u rest (o, x, is). nothing o rest x)
+    ];
+  }

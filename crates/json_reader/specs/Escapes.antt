@@ -1,0 +1,133 @@
+-- The pieces of strings: what they read, and that it is one, and takes characters.
+use Rattle.std.specs.Prelude.{ℕ, None}
+use Rattle.std.proofs.Common.{inl, inr}
+use Rattle.json_reader.specs.Unique.{char_takes, char_unique, four_takes, four_unique, made_unique}
+use Rattle.json_reader.specs.Unique.{three_takes, three_unique, token_of_unique, token_unique}
+use Rattle.stream_sets.specs.Range.{from_to}
+use Rattle.json_texts.specs.Strings.{ArePair, Character, CodeUnit, Digit, Escape, IsAlone, IsHex}
+use Rattle.json_texts.specs.Strings.{IsNumberOf, IsUnescaped, Quoted, SaysOne, StandsFor, Unicode}
+use Rattle.json_texts.specs.Strings.{one_unit}
+use Rattle.json_texts.specs.Words.{Char, Meaning, latter, pair}
+use Rattle.winnow_exact.specs.Exact.Adapters.{made_of_takes}
+use Rattle.winnow_exact.specs.Exact.Tokens.{token_of_takes, token_takes}
+use Rattle.winnow_exact.specs.Grammar.{Both, Gathered, Grammar, InClass, IsUnique, Many, Takes}
+use Rattle.winnow_exact.specs.Grammar.{Token}
+use Rattle.winnow_exact.specs.Grammar.Unique.{both_take, both_unique, either_takes, either_unique}
+use Rattle.winnow_exact.specs.Grammar.Outputs.{IsAlike, both_alike, second_alike, token_alike}
+use Rattle.winnow_exact.specs.Grammar.Unique.{gathered_unique, many_unique}
+use Rattle.winnow_exact.specs.Held.{HasCharacters}
+
+-- what means something leaves one rest, and takes characters
+pub means_unique : {O U : Type 0} (means : O → U → Type 0) {g : Grammar ℕ O} → IsUnique g
+    → IsUnique (Meaning means g)
+means_unique {O} {U} means unique = made_unique (λ (_ : Unit {0}) o u. means o u) tt unique
+
+pub means_takes : {O U : Type 0} (means : O → U → Type 0) {g : Grammar ℕ O} → Takes g
+    → Takes (Meaning means g)
+means_takes {O} {U} means some = made_of_takes (λ (_ : Unit {0}) o u. means o u) tt some
+
+-- ---- units
+
+pub digit_unique : IsUnique Digit
+digit_unique = means_unique IsHex token_unique
+
+pub digit_takes : Takes Digit
+digit_takes = means_takes IsHex (token_takes (λ c. c))
+
+pub unit_unique : IsUnique CodeUnit
+unit_unique =
+    means_unique IsNumberOf (four_unique digit_unique digit_unique digit_unique digit_unique)
+
+pub unit_takes : Takes CodeUnit
+unit_takes =
+    means_takes IsNumberOf (four_takes digit_unique digit_unique digit_unique digit_takes)
+
+-- two units, the second behind another backslash and u
+abbrev pub Units : Grammar ℕ (ℕ × ℕ)
+Units = Both pair CodeUnit (Both latter (Both pair (Char 92) (Char 117)) CodeUnit)
+
+second_unique : IsUnique (Both latter (Both pair (Char 92) (Char 117)) CodeUnit)
+second_unique =
+    both_unique latter (both_unique pair (char_unique 92) (char_unique 117)) unit_unique
+
+pub units_unique : IsUnique Units
+units_unique = both_unique pair unit_unique second_unique
+
+pub units_takes : Takes Units
+units_takes = both_take pair unit_unique second_unique (inl unit_takes)
+
+-- an output that is one is alike
+alike_one : {g : Grammar ℕ ℕ} → SaysOne g → IsAlike (λ o. o) g
+alike_one one = record { alike = λ tokens o p rest other x y. (one tokens o p rest other x y).0 }
+
+pub token_one : IsAlike (λ c. c) (Token {T = ℕ} (λ c. c))
+token_one = token_alike (λ c. c) (λ c d e. e)
+
+pub unit_one : IsAlike (λ u. u) CodeUnit
+unit_one = alike_one one_unit
+
+pub units_one : IsAlike (λ u. u) Units
+units_one =
+    both_alike pair unit_unique unit_one
+    (second_alike (λ u. u) (both_unique pair (char_unique 92) (char_unique 117)) unit_one)
+
+-- ---- escapes
+
+pub alone_unique : IsUnique (Meaning IsAlone CodeUnit)
+alone_unique = means_unique IsAlone unit_unique
+
+pub alone_takes : Takes (Meaning IsAlone CodeUnit)
+alone_takes = means_takes IsAlone unit_takes
+
+pub pair_unique : IsUnique (Meaning ArePair Units)
+pair_unique = means_unique ArePair units_unique
+
+pub pair_takes : Takes (Meaning ArePair Units)
+pair_takes = means_takes ArePair units_takes
+
+pub unicode_unique : IsUnique Unicode
+unicode_unique = either_unique alone_unique pair_unique
+
+pub unicode_takes : Takes Unicode
+unicode_takes = either_takes alone_takes pair_takes
+
+pub short_unique : IsUnique (Meaning StandsFor (Token (λ c. c)))
+short_unique = means_unique StandsFor token_unique
+
+pub short_takes : Takes (Meaning StandsFor (Token (λ c. c)))
+short_takes = means_takes StandsFor (token_takes (λ c. c))
+
+escaped_unique : IsUnique (Both latter (Char 117) Unicode)
+escaped_unique = both_unique latter (char_unique 117) unicode_unique
+
+pub escape_unique : IsUnique Escape
+escape_unique =
+    both_unique latter (char_unique 92) (either_unique short_unique escaped_unique)
+
+pub escape_takes : Takes Escape
+escape_takes =
+    both_take latter (char_unique 92) (either_unique short_unique escaped_unique)
+    (inl (char_takes 92))
+
+-- ---- strings
+
+pub character_unique : IsUnique Character
+character_unique =
+    either_unique (token_of_unique (InClass IsUnescaped (λ c. c)) tt) escape_unique
+
+pub character_takes : Takes Character
+character_takes =
+    either_takes (token_of_takes (λ c. c) (InClass IsUnescaped (λ c. c)) tt) escape_takes
+
+module _ {A : Type 0} where
+  characters_unique : IsUnique (Gathered (HasCharacters {A = A}) (Many Character (from_to 0 None)))
+  characters_unique =
+      gathered_unique HasCharacters (many_unique character_unique (from_to 0 None))
+
+  pub quoted_unique : IsUnique (Quoted {A = A} HasCharacters)
+  quoted_unique =
+      three_unique (λ o1 o2 o3. o2) (char_unique 34) characters_unique (char_unique 34)
+
+  pub quoted_takes : Takes (Quoted {A = A} HasCharacters)
+  quoted_takes =
+      three_takes (λ o1 o2 o3. o2) characters_unique (char_unique 34) (char_takes 34)

@@ -1,0 +1,5 @@
+//! The tests of texts of JSON that are read into values.
+#![tactic(auto)]
+
+#[cfg(test)]
+mod parts;
