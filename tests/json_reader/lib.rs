@@ -3,3 +3,5 @@
 
 #[cfg(test)]
 mod parts;
+#[cfg(test)]
+mod scalars;

@@ -1,5 +1,5 @@
 -- What parsers read, in the words of JSON.
-use Rattle.std.specs.Prelude.{◌≡◌, ◌↔◌, ◌⊎◌, ◌≤◌, ◌++◌, ℕ, Bool, true, false, IsTrue, List, Result}
+use Rattle.std.specs.Prelude.{◌≡◌, ◌↔◌, ◌≤◌, ◌++◌, ℕ, Bool, true, false, IsTrue, Result}
 use Rattle.std.specs.Prelude.{Ok, Err, Some, None, IfOk, MatchResult, string_bytes}
 use Rattle.std.specs.declared.string.String.{String}
 use Rattle.std.specs.Range.{range_inclusive_end, range_inclusive_start}
@@ -150,3 +150,54 @@ module _ {O U E : Type 0} (means : O → U → Type 0) {kind : E → Kind} {g : 
       | inr (b, nothing) ↦ inr (b, λ u rest (o, x, is). nothing o rest x)
     ];
   }
+
+-- a call that wants memory says nothing else
+pub wanting : {O E : Type 0} {kind : E → Kind} (g : Grammar ℕ O) {i j : Input ℕ} {e : E}
+    → IsEndOf text_reading j i → kind e ≡ memory → Reads text_reading kind g i (Err e) j
+wanting g ends m = record { ends = ends; stands = λ whole. tt; none = λ whole. inl m }
+
+-- a text that is read
+abbrev pub Spelling : Slice → Grammar ℕ Slice
+Spelling = Literally text_reading (λ s xs. xs ≡ chars s.now) (λ _ slice. slice)
+
+module _ {O E : Type 0} (word : Slice) (value : O) {kind : E → Kind} {i j : Input ℕ} where
+  pub spelled : {slice : Slice} → Reads text_reading kind (Spelling word) i (Ok slice) j
+      → Reads text_reading kind (Word (chars word.now) value) i (Ok value) j
+  unfolding Literally Word
+  spelled {slice} r = record {
+    ends = r.ends;
+    stands = λ whole.
+        let (front, shows, is, shown, e, same) = r.stands whole in
+        (refl, e ∙ ap (λ l. l ++ j.left.tokens) is);
+    none = λ whole. tt;
+  }
+
+  pub spelled_none : {e : E} → Reads text_reading kind (Spelling word) i (Err e) j
+      → Reads text_reading kind (Word (chars word.now) value) i (Err e) j
+  unfolding Literally Word
+  spelled_none r = record {
+    ends = r.ends;
+    stands = λ whole. tt;
+    none = λ whole. elim (r.none whole) [
+      | inl m ↦ inl m
+      | inr (b, nothing) ↦ inr (
+        b,
+        λ o rest (is, e).
+            let slice : Slice = record { ref_ptr = (0, 0); now = encode_utf8_all (chars word.now) }
+            in nothing slice rest (chars word.now, slice, refl, refl, e, refl),
+      )
+    ];
+  }
+
+-- a text that is kept in a string of its own, or memory is wanted
+pub kept_text : {A X E : Type 0} {kind : E → Kind} {g : Grammar ℕ Slice} {slice : Slice}
+    {i j : Input ℕ} (made : Result (String A) X) (r : Result (String A) E)
+    → IfOk made (λ text. string_bytes text ≡ slice.now)
+    → MatchResult r (λ text. grown made ≡ Some text) (λ e. (grown made ≡ None) × (kind e ≡ memory))
+    → Reads text_reading kind g i (Ok slice) j
+    → Reads text_reading kind (Meaning HasText g) i r j
+unfolding Made
+kept_text {g = g} made (Err e) has (refused, m) r = wanting (Meaning HasText g) r.ends m
+kept_text (Err x) (Ok text) has kept r = none_is_some kept
+kept_text (Ok all) (Ok text) has kept r =
+    meant HasText r (ap string_bytes (sym (same_some kept)) ∙ has)

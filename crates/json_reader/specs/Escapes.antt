@@ -1,6 +1,6 @@
 -- The pieces of strings: what they read, and that it is one, and takes characters.
 use Rattle.std.specs.Prelude.{ℕ, None}
-use Rattle.std.proofs.Common.{inl, inr}
+use Rattle.std.proofs.Common.{inl}
 use Rattle.json_reader.specs.Unique.{char_takes, char_unique, four_takes, four_unique, made_unique}
 use Rattle.json_reader.specs.Unique.{three_takes, three_unique, token_of_unique, token_unique}
 use Rattle.stream_sets.specs.Range.{from_to}

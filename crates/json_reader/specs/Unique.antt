@@ -5,13 +5,13 @@ use Rattle.streams.specs.Equal.{same_others, same_rest}
 use Rattle.streams.specs.Reading.{Reading}
 use Rattle.streams.specs.Stream.{AnswersSeen}
 use Rattle.streams.specs.Text.{text_reading}
-use Rattle.json_texts.specs.Words.{Char, OneIn, RunOf, Word}
+use Rattle.json_texts.specs.Words.{Char, RunOf, Word}
 use Rattle.winnow_exact.specs.Exact.TakeWhile.{class_takes, one_is_some, one_longest}
 use Rattle.winnow_exact.specs.Exact.Tokens.{TellsOnce, holds_once, seen_once}
 use Rattle.winnow_exact.specs.Grammar.{Grammar, InClass, IsUnique, Longest, Made, Takes, Taken}
 use Rattle.winnow_exact.specs.Grammar.{Three, Token, TokenOf}
 use Rattle.winnow_exact.specs.Grammar.Tuples.{Four}
-use Rattle.winnow_exact.specs.Grammar.Unique.{both_unique, end_of_end, literally_takes}
+use Rattle.winnow_exact.specs.Grammar.Unique.{end_of_end, literally_takes}
 use Rattle.winnow_exact.specs.Grammar.Unique.{literally_unique, no_longer_than}
 
 -- ---- characters

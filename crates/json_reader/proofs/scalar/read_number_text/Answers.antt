@@ -1,0 +1,11 @@
+use Rattle.json_texts.specs.Values.{HasText}
+use Rattle.json_reader.specs.Alike.{kept_text, meant_none}
+use Rattle.json_reader.proofs.scalar.read_number_text.Goals as goal
+
+pub returns-in-Ok : goal.returns-in-Ok
+returns-in-Ok g c =
+    kept_text c.from_str.result c.or_no_memory.result c.from_str.ensures.ok c.or_no_memory.ensures
+    c.in-Ok.ensures.grammar
+
+pub returns-in-Err : goal.returns-in-Err
+returns-in-Err g c = meant_none HasText c.in-Err.ensures.grammar
