@@ -1,1 +1,2 @@
+pub mod BitRuns
 pub mod HeaderRuns
