@@ -11,12 +11,11 @@ use Rattle.http_heads.specs.Bytes.{IsTokenByte, IsValueByte, IsWhite, line_end}
 use Rattle.http_heads.specs.FieldLine.{BeginsBare, EndsBare, FieldLineStands, IsFieldLine}
 use Rattle.http_heads.specs.FieldLine.{IsTrimmed}
 use Rattle.http_heads.specs.Parts.{EndStands, Run, run_back, run_there, run_unique}
-use Rattle.http_heads.specs.Parts.{unique_by}
-use Rattle.http_heads.specs.Steps.{Steps}
 use Rattle.http_heads.specs.declared.field_line.Field.{Field}
+use Rattle.winnow_exact.specs.Exact.Steps.{Steps}
 use Rattle.winnow_exact.specs.Grammar.{Both, Grammar, IsUnique, Takes}
 use Rattle.winnow_exact.specs.Grammar.Known.{Byte, byte_stands, byte_unique, stands_byte}
-use Rattle.winnow_exact.specs.Grammar.Unique.{both_unique}
+use Rattle.winnow_exact.specs.Grammar.Unique.{both_unique, unique_by}
 use Rattle.winnow_exact.specs.Texts.{NotFirst}
 
 -- ---- a value, with the white space around it

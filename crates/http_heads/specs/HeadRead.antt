@@ -12,11 +12,11 @@ use Rattle.http_heads.specs.Head.{AreFieldLines, FieldsStand, HeadStands, IsHead
 use Rattle.http_heads.specs.Head.{request}
 use Rattle.http_heads.specs.Parts.{EndStands}
 use Rattle.http_heads.specs.RequestLine.{RequestLineStands}
-use Rattle.http_heads.specs.Steps.{Steps}
 use Rattle.http_heads.specs.declared.field_line.Field.{Field}
 use Rattle.http_heads.specs.declared.head.Head.{Head}
 use Rattle.http_heads.specs.declared.request_line.RequestLine.{RequestLine}
 use Rattle.winnow_exact.specs.Exact.{Reads}
+use Rattle.winnow_exact.specs.Exact.Steps.{Steps}
 use Rattle.winnow_exact.specs.Grammar.{Both, Each, Gathered, Grammar, IsUnique, Many}
 use Rattle.winnow_exact.specs.Grammar.Unique.{gathered_unique, many_unique}
 
@@ -136,11 +136,3 @@ module _ {A E : Type 0} {kind : E → Kind} {start here now : List ℕ} where
     ];
     none = λ whole. tt;
   }
-
--- want of memory
-pub lines_want : {A E : Type 0} {kind : E → Kind} {start now : List ℕ} {error : E}
-    → kind error ≡ memory → IsEndOf counted_reading (counted_input now) (counted_input start)
-    → Reads counted_reading kind (LinesStand {A = A}) (counted_input start) (Err error)
-    (counted_input now)
-lines_want want ends =
-    record { ends = ends; stands = λ whole. tt; none = λ whole. inl want }

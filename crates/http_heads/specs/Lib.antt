@@ -7,4 +7,3 @@ pub mod HeadRead
 pub mod Parts
 pub mod RequestLine
 pub mod RequestRead
-pub mod Steps

@@ -5,15 +5,16 @@ use Rattle.std.proofs.Common.{refl, sym, ap, subst, ◌∙◌, arith}
 use Rattle.streams.specs.Equal.{same_others}
 use Rattle.http_heads.specs.Bytes.{IsDigit, IsTokenByte, IsVisible, line_end}
 use Rattle.http_heads.specs.Parts.{Literal, Run, literal_back, literal_there, literal_unique}
-use Rattle.http_heads.specs.Parts.{run_back, run_there, run_unique, three_unique, unique_by}
+use Rattle.http_heads.specs.Parts.{run_back, run_there, run_unique}
 use Rattle.http_heads.specs.RequestLine.{IsRequestLine, RequestLineStands, digits, protocol}
-use Rattle.http_heads.specs.Steps.{Steps}
 use Rattle.http_heads.specs.declared.request_line.RequestLine.{RequestLine}
 use Rattle.winnow_exact.specs.Exact.Same.{Same, unique_as}
+use Rattle.winnow_exact.specs.Exact.Steps.{Steps}
 use Rattle.winnow_exact.specs.Grammar.{Both, Grammar, IsUnique, Three, TokenOf}
 use Rattle.winnow_exact.specs.Grammar.Known.{Byte, byte_stands, byte_unique, slice_for, stands_byte}
 use Rattle.winnow_exact.specs.Grammar.Known.Sets.{stands_token_of, token_of_stands}
-use Rattle.winnow_exact.specs.Grammar.Unique.{both_unique}
+use Rattle.winnow_exact.specs.Grammar.Sequences.{three_unique}
+use Rattle.winnow_exact.specs.Grammar.Unique.{both_unique, unique_by}
 
 -- ---- a digit
 

@@ -17,17 +17,13 @@ use Rattle.stream_sets.specs.Sets.{EitherTells}
 use Rattle.json_texts.specs.Number.{Integer, IsLeading, Slice}
 use Rattle.json_texts.specs.Strings.{Character, Escape, IsUnescaped}
 use Rattle.json_texts.specs.Values.{HasText}
-use Rattle.json_texts.specs.Words.{Char, Meaning, OneIn, RunOf, Word, pair}
+use Rattle.json_texts.specs.Words.{Char, OneIn, RunOf, Word, pair}
 use Rattle.winnow_exact.specs.Exact.{Reads}
+use Rattle.winnow_exact.specs.Exact.Read.{err_as, ok_as, reads_meaning, reads_wanting}
 use Rattle.winnow_exact.specs.Exact.Same.{Same, same_refl}
 use Rattle.winnow_exact.specs.Grammar.{Both, Either, Grammar, Literally, Made, Taken, TokenOf}
 use Rattle.winnow_exact.specs.Grammar.Alike.{both_same, either_same}
-
--- what reads by a grammar reads by one that is the same
-pub reads_by : {T L O E : Type 0} {reading : Reading T L} {kind : E → Kind} {g h : Grammar T O}
-    {i j : Input T} {result : Result O E} → Reads reading kind g i result j → g ≡ h
-    → Reads reading kind h i result j
-reads_by {T} {L} {O} {E} {reading} {kind} {g} {h} {i} {j} {result} r e = rw e at r
+use Rattle.winnow_exact.specs.Grammar.Meaning.{Meaning}
 
 -- a character of a set, where the set is a class
 pub class_same : {X : Type 0} (tells : X → ℕ → Bool → Type 0) (set : X) (class : ℕ → Type 0)
@@ -87,16 +83,6 @@ module _ (s : RangeInclusive ℕ × RangeInclusive ℕ × RangeInclusive ℕ)
   pub plain_told : RangesTell s c true ↔ IsUnescaped c
   plain_told = (plain_there, plain_back)
 
--- what is made of an output, where that is what the output means
-pub meaning_same : {F O U : Type 0} (makes : F → O → U → Type 0) (f : F) (means : O → U → Type 0)
-    (g : Grammar ℕ O) → ((o : O) (u : U) → makes f o u ↔ means o u)
-    → Same (Made makes f g) (Meaning means g)
-unfolding Made
-meaning_same makes f means g is = record {
-  there = λ tokens u rest (o, x, m). (o, x, (is o u).0 m);
-  back = λ tokens u rest (o, x, m). (o, x, (is o u).1 m);
-}
-
 -- the characters of what stands by grammars that are the same
 taken_same : {O : Type 0} {g h : Grammar ℕ O} → Same g h
     → Same (Taken text_reading g) (Taken text_reading h)
@@ -126,36 +112,6 @@ pub character_same : (s : RangeInclusive ℕ × RangeInclusive ℕ × RangeInclu
 character_same s a b d e f g =
     either_same (class_same RangesTell s IsUnescaped (plain_told s a b d e f g)) (same_refl _)
 
--- ---- what a statement makes of what a call read
-
-module _ {O U E : Type 0} (means : O → U → Type 0) {kind : E → Kind} {g : Grammar ℕ O}
-    {i j : Input ℕ} where
-  pub meant : {o : O} {u : U} → Reads text_reading kind g i (Ok o) j → means o u
-      → Reads text_reading kind (Meaning means g) i (Ok u) j
-  unfolding Made
-  meant {o} r is = record {
-    ends = r.ends;
-    stands = λ whole. (o, r.stands whole, is);
-    none = λ whole. tt;
-  }
-
-  pub meant_none : {e : E} → Reads text_reading kind g i (Err e) j
-      → Reads text_reading kind (Meaning means g) i (Err e) j
-  unfolding Made
-  meant_none r = record {
-    ends = r.ends;
-    stands = λ whole. tt;
-    none = λ whole. elim (r.none whole) [
-      | inl m ↦ inl m
-      | inr (b, nothing) ↦ inr (b, λ u rest (o, x, is). nothing o rest x)
-    ];
-  }
-
--- a call that wants memory says nothing else
-pub wanting : {O E : Type 0} {kind : E → Kind} (g : Grammar ℕ O) {i j : Input ℕ} {e : E}
-    → IsEndOf text_reading j i → kind e ≡ memory → Reads text_reading kind g i (Err e) j
-wanting g ends m = record { ends = ends; stands = λ whole. tt; none = λ whole. inl m }
-
 -- a text that is read
 abbrev pub Spelling : Slice → Grammar ℕ Slice
 Spelling = Literally text_reading (λ s xs. xs ≡ chars s.now) (λ _ slice. slice)
@@ -164,30 +120,15 @@ module _ {O E : Type 0} (word : Slice) (value : O) {kind : E → Kind} {i j : In
   pub spelled : {slice : Slice} → Reads text_reading kind (Spelling word) i (Ok slice) j
       → Reads text_reading kind (Word (chars word.now) value) i (Ok value) j
   unfolding Literally Word
-  spelled {slice} r = record {
-    ends = r.ends;
-    stands = λ whole.
-        let (front, shows, is, shown, e, same) = r.stands whole in
-        (refl, e ∙ ap (λ l. l ++ j.left.tokens) is);
-    none = λ whole. tt;
-  }
+  spelled {slice} r = ok_as r (λ tokens rest (front, shows, is, shown, e, same).
+      (refl, e ∙ ap (λ l. l ++ rest) is))
 
   pub spelled_none : {e : E} → Reads text_reading kind (Spelling word) i (Err e) j
       → Reads text_reading kind (Word (chars word.now) value) i (Err e) j
   unfolding Literally Word
-  spelled_none r = record {
-    ends = r.ends;
-    stands = λ whole. tt;
-    none = λ whole. elim (r.none whole) [
-      | inl m ↦ inl m
-      | inr (b, nothing) ↦ inr (
-        b,
-        λ o rest (is, e).
-            let slice : Slice = record { ref_ptr = (0, 0); now = encode_utf8_all (chars word.now) }
-            in nothing slice rest (chars word.now, slice, refl, refl, e, refl),
-      )
-    ];
-  }
+  spelled_none r = err_as r (λ tokens o rest (is, e).
+      let slice : Slice = record { ref_ptr = (0, 0); now = encode_utf8_all (chars word.now) } in
+      (slice, (chars word.now, slice, refl, refl, e, refl)))
 
 -- a text that is kept in a string of its own, or memory is wanted
 pub kept_text : {A X E : Type 0} {kind : E → Kind} {g : Grammar ℕ Slice} {slice : Slice}
@@ -197,7 +138,7 @@ pub kept_text : {A X E : Type 0} {kind : E → Kind} {g : Grammar ℕ Slice} {sl
     → Reads text_reading kind g i (Ok slice) j
     → Reads text_reading kind (Meaning HasText g) i r j
 unfolding Made
-kept_text {g = g} made (Err e) has (refused, m) r = wanting (Meaning HasText g) r.ends m
+kept_text made (Err e) has (refused, m) r = reads_wanting m r.ends
 kept_text (Err x) (Ok text) has kept r = none_is_some kept
 kept_text (Ok all) (Ok text) has kept r =
-    meant HasText r (ap string_bytes (sym (same_some kept)) ∙ has)
+    reads_meaning HasText r (ap string_bytes (sym (same_some kept)) ∙ has)

@@ -1,46 +1,39 @@
 -- The pieces of strings: what they read, and that it is one, and takes characters.
 use Rattle.std.specs.Prelude.{ℕ, None}
 use Rattle.std.proofs.Common.{inl}
-use Rattle.json_reader.specs.Unique.{char_takes, char_unique, four_takes, four_unique, made_unique}
-use Rattle.json_reader.specs.Unique.{three_takes, three_unique, token_of_unique, token_unique}
+use Rattle.json_reader.specs.Unique.{char_takes, char_unique}
 use Rattle.stream_sets.specs.Range.{from_to}
 use Rattle.json_texts.specs.Strings.{ArePair, Character, CodeUnit, Digit, Escape, IsAlone, IsHex}
 use Rattle.json_texts.specs.Strings.{IsNumberOf, IsUnescaped, Quoted, SaysOne, StandsFor, Unicode}
 use Rattle.json_texts.specs.Strings.{one_unit}
-use Rattle.json_texts.specs.Words.{Char, Meaning, latter, pair}
-use Rattle.winnow_exact.specs.Exact.Adapters.{made_of_takes}
+use Rattle.json_texts.specs.Words.{Char, latter, pair}
 use Rattle.winnow_exact.specs.Exact.Tokens.{token_of_takes, token_takes}
 use Rattle.winnow_exact.specs.Grammar.{Both, Gathered, Grammar, InClass, IsUnique, Many, Takes}
 use Rattle.winnow_exact.specs.Grammar.{Token}
-use Rattle.winnow_exact.specs.Grammar.Unique.{both_take, both_unique, either_takes, either_unique}
+use Rattle.winnow_exact.specs.Grammar.Meaning.{Meaning, meaning_takes, meaning_unique}
 use Rattle.winnow_exact.specs.Grammar.Outputs.{IsAlike, both_alike, second_alike, token_alike}
-use Rattle.winnow_exact.specs.Grammar.Unique.{gathered_unique, many_unique}
+use Rattle.winnow_exact.specs.Grammar.Sequences.{four_take, four_unique, three_take, three_unique}
+use Rattle.winnow_exact.specs.Grammar.Unique.{both_take, both_unique, either_takes, either_unique}
+use Rattle.winnow_exact.specs.Grammar.Unique.{gathered_unique, many_unique, token_of_unique}
+use Rattle.winnow_exact.specs.Grammar.Unique.{token_unique}
 use Rattle.winnow_exact.specs.Held.{HasCharacters}
-
--- what means something leaves one rest, and takes characters
-pub means_unique : {O U : Type 0} (means : O → U → Type 0) {g : Grammar ℕ O} → IsUnique g
-    → IsUnique (Meaning means g)
-means_unique {O} {U} means unique = made_unique (λ (_ : Unit {0}) o u. means o u) tt unique
-
-pub means_takes : {O U : Type 0} (means : O → U → Type 0) {g : Grammar ℕ O} → Takes g
-    → Takes (Meaning means g)
-means_takes {O} {U} means some = made_of_takes (λ (_ : Unit {0}) o u. means o u) tt some
 
 -- ---- units
 
 pub digit_unique : IsUnique Digit
-digit_unique = means_unique IsHex token_unique
+digit_unique = meaning_unique IsHex (token_unique (λ c. c))
 
 pub digit_takes : Takes Digit
-digit_takes = means_takes IsHex (token_takes (λ c. c))
+digit_takes = meaning_takes IsHex (token_takes (λ c. c))
 
 pub unit_unique : IsUnique CodeUnit
 unit_unique =
-    means_unique IsNumberOf (four_unique digit_unique digit_unique digit_unique digit_unique)
+    meaning_unique IsNumberOf (four_unique digit_unique digit_unique digit_unique digit_unique)
 
 pub unit_takes : Takes CodeUnit
 unit_takes =
-    means_takes IsNumberOf (four_takes digit_unique digit_unique digit_unique digit_takes)
+    meaning_takes IsNumberOf (four_take digit_unique digit_unique digit_unique digit_unique
+    (inl digit_takes))
 
 -- two units, the second behind another backslash and u
 abbrev pub Units : Grammar ℕ (ℕ × ℕ)
@@ -74,16 +67,16 @@ units_one =
 -- ---- escapes
 
 pub alone_unique : IsUnique (Meaning IsAlone CodeUnit)
-alone_unique = means_unique IsAlone unit_unique
+alone_unique = meaning_unique IsAlone unit_unique
 
 pub alone_takes : Takes (Meaning IsAlone CodeUnit)
-alone_takes = means_takes IsAlone unit_takes
+alone_takes = meaning_takes IsAlone unit_takes
 
 pub pair_unique : IsUnique (Meaning ArePair Units)
-pair_unique = means_unique ArePair units_unique
+pair_unique = meaning_unique ArePair units_unique
 
 pub pair_takes : Takes (Meaning ArePair Units)
-pair_takes = means_takes ArePair units_takes
+pair_takes = meaning_takes ArePair units_takes
 
 pub unicode_unique : IsUnique Unicode
 unicode_unique = either_unique alone_unique pair_unique
@@ -92,10 +85,10 @@ pub unicode_takes : Takes Unicode
 unicode_takes = either_takes alone_takes pair_takes
 
 pub short_unique : IsUnique (Meaning StandsFor (Token (λ c. c)))
-short_unique = means_unique StandsFor token_unique
+short_unique = meaning_unique StandsFor (token_unique (λ c. c))
 
 pub short_takes : Takes (Meaning StandsFor (Token (λ c. c)))
-short_takes = means_takes StandsFor (token_takes (λ c. c))
+short_takes = meaning_takes StandsFor (token_takes (λ c. c))
 
 escaped_unique : IsUnique (Both latter (Char 117) Unicode)
 escaped_unique = both_unique latter (char_unique 117) unicode_unique
@@ -113,7 +106,7 @@ escape_takes =
 
 pub character_unique : IsUnique Character
 character_unique =
-    either_unique (token_of_unique (InClass IsUnescaped (λ c. c)) tt) escape_unique
+    either_unique (token_of_unique (λ c. c) (InClass IsUnescaped (λ c. c)) tt) escape_unique
 
 pub character_takes : Takes Character
 character_takes =
@@ -130,4 +123,5 @@ module _ {A : Type 0} where
 
   pub quoted_takes : Takes (Quoted {A = A} HasCharacters)
   quoted_takes =
-      three_takes (λ o1 o2 o3. o2) characters_unique (char_unique 34) (char_takes 34)
+      three_take (λ o1 o2 o3. o2) (char_unique 34) characters_unique (char_unique 34)
+      (inl (char_takes 34))

@@ -12,10 +12,12 @@ use Rattle.json_texts.specs.Strings.{Quoted, string_begins, string_of}
 use Rattle.json_texts.specs.Values.{AnyValue, AnyWord, HasText, IsNumber, IsString, IsWord, Scalar}
 use Rattle.json_texts.specs.Values.{ScalarText, ValueText}
 use Rattle.json_texts.specs.Values.Texts.{value_of}
-use Rattle.json_texts.specs.Words.{Meaning, Word}
+use Rattle.json_texts.specs.Words.{Word}
 use Rattle.json_texts.specs.declared.value.Value.{Value}
 use Rattle.winnow_exact.specs.Exact.{Reads}
-use Rattle.winnow_exact.specs.Grammar.{Either, Grammar, Made, NoneStands}
+use Rattle.winnow_exact.specs.Exact.Read.{neither_stands, reads_former, reads_other}
+use Rattle.winnow_exact.specs.Grammar.{NoneStands}
+use Rattle.winnow_exact.specs.Grammar.Meaning.{Meaning, none_means}
 use Rattle.winnow_exact.specs.Held.{HasCharacters}
 use Rattle.winnow_exact.specs.Texts.{Begins, IsGrammarOf, NotFirst}
 use Rattle.winnow_exact.specs.Texts.Fronts.{may_begin, none_begins}
@@ -23,60 +25,6 @@ use Rattle.winnow_exact.specs.Texts.Fronts.{may_begin, none_begins}
 -- what a number begins with
 abbrev pub IsNumeric : ℕ → Type 0
 IsNumeric c = (c ≡ 45) ⊎ IsDecDigit c
-
--- ---- where one of two does not stand, the other is read
-
-module _ {O E : Type 0} {kind : E → Kind} (g h : Grammar ℕ O) {i j : Input ℕ} where
-  pub reads_former : {result : Result O E} → NoneStands h i.left.tokens
-      → Reads text_reading kind g i result j → Reads text_reading kind (Either g h) i result j
-  unfolding Either
-  reads_former {result = Ok o} none r =
-      record { ends = r.ends; stands = λ whole. inl (r.stands whole); none = λ whole. tt }
-  reads_former {result = Err e} none r = record {
-    ends = r.ends;
-    stands = λ whole. tt;
-    none = λ whole. elim (r.none whole) [
-      | inl m ↦ inl m
-      | inr (b, nothing) ↦ inr (
-        b,
-        (λ o rest it. elim it [
-          | inl x ↦ nothing o rest x
-          | inr (other, x) ↦ none o rest x
-        ]),
-      )
-    ];
-  }
-
-  pub reads_other : {result : Result O E} → NoneStands g i.left.tokens
-      → Reads text_reading kind h i result j → Reads text_reading kind (Either g h) i result j
-  unfolding Either
-  reads_other {result = Ok o} none r =
-      record { ends = r.ends; stands = λ whole. inr (none, r.stands whole); none = λ whole. tt }
-  reads_other {result = Err e} none r = record {
-    ends = r.ends;
-    stands = λ whole. tt;
-    none = λ whole. elim (r.none whole) [
-      | inl m ↦ inl m
-      | inr (b, nothing) ↦ inr (
-        b,
-        (λ o rest it. elim it [
-          | inl x ↦ none o rest x
-          | inr (other, x) ↦ nothing o rest x
-        ]),
-      )
-    ];
-  }
-
-neither_stands : {O : Type 0} (g h : Grammar ℕ O) (tokens : List ℕ) → NoneStands g tokens
-    → NoneStands h tokens → NoneStands (Either g h) tokens
-unfolding Either
-neither_stands g h tokens first second o rest (inl x) = first o rest x
-neither_stands g h tokens first second o rest (inr (other, x)) = second o rest x
-
-none_means : {O U : Type 0} (means : O → U → Type 0) (g : Grammar ℕ O) (tokens : List ℕ)
-    → NoneStands g tokens → NoneStands (Meaning means g) tokens
-unfolding Made
-none_means means g tokens none u rest (o, x, is) = none o rest x
 
 -- ---- words
 

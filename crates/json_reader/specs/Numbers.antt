@@ -2,22 +2,22 @@
 use Rattle.std.proofs.Common.{inl, inr}
 use Rattle.streams.specs.Text.{text_reading}
 use Rattle.stream_sets.specs.AsChar.{IsDecDigit}
-use Rattle.json_reader.specs.Unique.{char_takes, char_unique, four_takes, four_unique}
-use Rattle.json_reader.specs.Unique.{run_takes, run_unique, taken_unique, token_of_unique}
+use Rattle.json_reader.specs.Unique.{char_takes, char_unique, run_takes, run_unique}
 use Rattle.json_texts.specs.Number as texts
 use Rattle.json_texts.specs.Number.{IsLeading}
 use Rattle.json_texts.specs.Words.{latter, pair}
 use Rattle.winnow_exact.specs.Exact.Adapters.{taken_takes}
 use Rattle.winnow_exact.specs.Exact.Tokens.{token_of_takes}
 use Rattle.winnow_exact.specs.Grammar.{InClass, IsUnique, Takes}
+use Rattle.winnow_exact.specs.Grammar.Sequences.{four_take, four_unique}
 use Rattle.winnow_exact.specs.Grammar.Unique.{both_take, both_unique, either_takes, either_unique}
-use Rattle.winnow_exact.specs.Grammar.Unique.{maybe_unique}
+use Rattle.winnow_exact.specs.Grammar.Unique.{maybe_unique, taken_unique, token_of_unique}
 
 pub integer_unique : IsUnique texts.Integer
 integer_unique =
     either_unique (taken_unique text_reading (char_unique 48))
     (taken_unique text_reading (both_unique pair
-    (token_of_unique (InClass IsLeading (λ c. c)) tt) (run_unique IsDecDigit 0)))
+    (token_of_unique (λ c. c) (InClass IsLeading (λ c. c)) tt) (run_unique IsDecDigit 0)))
 
 pub fraction_unique : IsUnique texts.Fraction
 fraction_unique = both_unique latter (char_unique 46) (run_unique IsDecDigit 1)
@@ -37,13 +37,13 @@ pub integer_takes : Takes texts.Integer
 integer_takes =
     either_takes (taken_takes text_reading (char_takes 48))
     (taken_takes text_reading (both_take pair
-    (token_of_unique (InClass IsLeading (λ c. c)) tt) (run_unique IsDecDigit 0)
+    (token_of_unique (λ c. c) (InClass IsLeading (λ c. c)) tt) (run_unique IsDecDigit 0)
     (inl (token_of_takes (λ c. c) (InClass IsLeading (λ c. c)) tt))))
 
 pub number_takes : Takes texts.Number
 number_takes =
-    taken_takes text_reading (four_takes (maybe_unique (char_unique 45))
-    (maybe_unique fraction_unique) (maybe_unique exponent_unique) integer_takes)
+    taken_takes text_reading (four_take (maybe_unique (char_unique 45)) integer_unique
+    (maybe_unique fraction_unique) (maybe_unique exponent_unique) (inr (inl integer_takes)))
 
 pub fraction_takes : Takes texts.Fraction
 fraction_takes =

@@ -3,11 +3,11 @@ ghost use Rattle.json_reader.specs.Escapes.{Units, alone_takes, alone_unique, es
 ghost use Rattle.json_reader.specs.Escapes.{escape_unique, pair_takes, pair_unique, short_takes};
 ghost use Rattle.json_reader.specs.Escapes.{short_unique, unicode_takes, unicode_unique};
 ghost use Rattle.json_texts.specs.Strings.{ArePair, CodeUnit, Escape, IsAlone, StandsFor, Unicode};
-ghost use Rattle.json_texts.specs.Words.{Meaning};
 ghost use Rattle.std.specs.Prelude.{◌≡◌, ℕ, ⊤, MatchOption};
 ghost use Rattle.streams.specs.Text.{text_input, text_reading};
 ghost use Rattle.winnow_exact.specs.Exact.{Reads};
 ghost use Rattle.winnow_exact.specs.Grammar.{Token};
+ghost use Rattle.winnow_exact.specs.Grammar.Meaning.{Meaning};
 
 use crate::parts::{read_either, read_escape_of};
 use crate::units::{TwoUnits, Unit, read_unit, read_units};

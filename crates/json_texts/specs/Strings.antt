@@ -6,6 +6,7 @@ use Rattle.streams.specs.Equal.{same_first, same_others}
 use Rattle.stream_sets.specs.Range.{from_to}
 use Rattle.winnow_exact.specs.Grammar.{Both, Either, Gathered, Grammar, Made, Many, NoneStands}
 use Rattle.winnow_exact.specs.Grammar.{Three, Token}
+use Rattle.winnow_exact.specs.Grammar.Meaning.{Meaning}
 use Rattle.winnow_exact.specs.Grammar.Tuples.{Four}
 use Rattle.winnow_exact.specs.Texts.{Among, Anything, Begins, BeginsIn, Holding}
 use Rattle.winnow_exact.specs.Texts.{IsGrammarOf}
@@ -16,7 +17,7 @@ use Rattle.winnow_exact.specs.Texts.Fronts.{may_begin, none_begins, spelled_begi
 use Rattle.winnow_exact.specs.Texts.Parts.{both_of, either_apart, either_of}
 use Rattle.winnow_exact.specs.Texts.Parts.{same_of}
 use Rattle.winnow_exact.specs.Texts.Rows.{gathered_of, many_of}
-use Rattle.json_texts.specs.Words.{Between, Char, For, FourTexts, In, Meaning, One, OneIn}
+use Rattle.json_texts.specs.Words.{Between, Char, For, FourTexts, In, One, OneIn}
 use Rattle.json_texts.specs.Words.{Whichever, any_of, between_of, char_of, for_of, four_same}
 use Rattle.json_texts.specs.Words.{in_begins, in_of, latter, pair, to_four}
 

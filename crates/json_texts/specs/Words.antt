@@ -10,8 +10,9 @@ use Rattle.streams.specs.Equal.{true_is_false}
 use Rattle.streams.specs.Stream.{AnswersSeen}
 use Rattle.streams.specs.Text.{text_reading}
 use Rattle.winnow_exact.specs.Exact.Same.{Same}
-use Rattle.winnow_exact.specs.Grammar.{Both, Class, Grammar, InClass, Literally, Longest, Made}
+use Rattle.winnow_exact.specs.Grammar.{Both, Class, Grammar, InClass, Literally, Longest}
 use Rattle.winnow_exact.specs.Grammar.{Three, Token, TokenOf}
+use Rattle.winnow_exact.specs.Grammar.Meaning.{Meaning}
 use Rattle.winnow_exact.specs.Grammar.Tuples.{Four}
 use Rattle.winnow_exact.specs.Texts.{Anything, Begins, BeginsIn, InFront, IsGrammarOf, NotFirst}
 use Rattle.winnow_exact.specs.Texts.{Of, Spelled, Text, Then}
@@ -150,10 +151,6 @@ run_begins class = record { makes = λ slice xs rest x any. first xs rest x.0 x.
     first (x ∷ xs) rest all some = all 0 x (omega arith)
 
 -- ---- what an output means
-
--- an output stands, and means this
-abbrev pub Meaning : {O U : Type 0} → (O → U → Type 0) → Grammar ℕ O → Grammar ℕ U
-Meaning {O} {U} means grammar = Made (λ (_ : Unit {0}) o u. means o u) tt grammar
 
 -- a text of what means this
 abbrev pub For : {O U : Type 0} → (O → U → Type 0) → Text ℕ O → Text ℕ U

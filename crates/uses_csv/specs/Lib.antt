@@ -1,4 +1,3 @@
 -- Written by scripts/registries.py: do not edit.
 pub mod Csv
 pub mod Read
-pub mod Unique

@@ -15,21 +15,21 @@ use Rattle.stream_sets.specs.Range.{from_to}
 use Rattle.stream_sets.specs.Sets.{EitherTells}
 use Rattle.uses_csv.specs.Csv.{AreRecords, FieldText, InQuotes, IsPlain, IsRecord}
 use Rattle.uses_csv.specs.Csv.{QuotedText, RecordText, line_end}
-use Rattle.uses_csv.specs.Unique.{ahead_unique, three_unique}
-use Rattle.uses_csv.specs.Unique.{token_of_unique}
 use Rattle.uses_csv.specs.declared.LineEnd.{LineEnd}
 use Rattle.uses_csv.specs.declared.LineEnd.TheVariants.{CrLf, Lf}
 use Rattle.winnow_exact.specs.Exact.{Reads}
 use Rattle.winnow_exact.specs.Exact.Same.{Same, reads_as, unique_as}
+use Rattle.winnow_exact.specs.Exact.Tokens.{token_of_takes}
 use Rattle.winnow_exact.specs.Exact.Whole.{ReadsAll, reads_all_as}
 use Rattle.winnow_exact.specs.Grammar.{Ahead, Both, Either, Gathered, Grammar, IsUnique, Literally}
 use Rattle.winnow_exact.specs.Grammar.{Made, Many, NoTokens, NoneStands, Others, Parted}
 use Rattle.winnow_exact.specs.Grammar.{Takes, Three, Token, TokenOf}
 use Rattle.winnow_exact.specs.Grammar.Known.{Byte, byte_stands, byte_takes, byte_unique}
 use Rattle.winnow_exact.specs.Grammar.Known.{repeated_list, slice_for}
-use Rattle.winnow_exact.specs.Grammar.Unique.{both_take, both_unique, either_takes, either_unique}
-use Rattle.winnow_exact.specs.Grammar.Unique.{gathered_unique}
-use Rattle.winnow_exact.specs.Grammar.Unique.{many_unique, parted_unique}
+use Rattle.winnow_exact.specs.Grammar.Sequences.{three_unique}
+use Rattle.winnow_exact.specs.Grammar.Unique.{ahead_unique, both_take, both_unique, either_takes}
+use Rattle.winnow_exact.specs.Grammar.Unique.{either_unique, gathered_unique, many_unique}
+use Rattle.winnow_exact.specs.Grammar.Unique.{parted_unique, token_of_unique}
 use Rattle.winnow_exact.specs.Texts.{Anything, InFront, IsGrammarOf, Itself, MayBegin, NotFirst}
 use Rattle.winnow_exact.specs.Texts.{OneOf}
 use Rattle.winnow_exact.specs.Texts.{Spelled}
@@ -41,12 +41,6 @@ use Rattle.winnow_exact.specs.Texts.Parts.{behind_less, both_of, either_apart, t
 use Rattle.winnow_exact.specs.Texts.Rows.{list_of, many_of, parted_of}
 use Rattle.winnow_exact.specs.Texts.Tokens.{byte_of, divides_either, divides_others, divides_where}
 use Rattle.winnow_exact.specs.Texts.Tokens.{token_of}
-
--- what reads by a grammar reads by one that is the same
-pub reads_by : {O E : Type 0} {kind : E → Kind} {g h : Grammar ℕ O} {i j : Input ℕ}
-    {result : Result O E} → Reads counted_reading kind g i result j → g ≡ h
-    → Reads counted_reading kind h i result j
-reads_by {O} {E} {kind} {g} {h} {i} {j} {result} r e = rw e at r
 
 -- what the set of one byte tells
 abbrev Tells : ℕ → ℕ → Bool → Type 0
@@ -71,10 +65,9 @@ in_quotes_unique = either_unique (both_unique (λ _ b. b) (byte_unique 34) (byte
     (token_of_unique (λ b. b) (Others Tells) 34)
 
 pub in_quotes_takes : Takes InQuotesRead
-unfolding TokenOf
 in_quotes_takes = either_takes
     (both_take (λ _ b. b) (byte_unique 34) (byte_unique 34) (inl (byte_takes 34)))
-    (record { fewer = λ bytes b rest (told, e). omega (arith, ap length e) })
+    (token_of_takes (λ b. b) (Others Tells) 34)
 
 -- a closing quote, behind which no other one stands
 abbrev IsClosed : List ℕ → Type 0

@@ -29,7 +29,7 @@ use Rattle.winnow_exact.specs.Texts.{Anything, IsGrammarOf, Members, NotFirst, T
 use Rattle.winnow_exact.specs.Texts.Tokens.{counted_of, divides_either, divides_others}
 use Rattle.winnow_exact.specs.Texts.Tokens.{divides_seen}
 use Rattle.winnow_exact.specs.Texts.Tokens.{divides_where, longest_of}
-use Rattle.uses_resp.specs.InTurn.{Failed, First, Stood, failed_as, stood_as, wanting}
+use Rattle.winnow_exact.specs.InTurn.{Failed, First, Stood, failed_as, stood_as, wanting}
 use Rattle.uses_resp.specs.Read.{integer_splits, one_line, signed_plain}
 use Rattle.uses_resp.specs.declared.leaves.Mark.TheVariants.{Colon, Dollar, Minus, Plus, Star}
 use Rattle.uses_resp.specs.Resp.{DataText, Ended, IntegerText, LineText, MarkText, SignedText}

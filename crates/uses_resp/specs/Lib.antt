@@ -1,5 +1,4 @@
 -- Written by scripts/registries.py: do not edit.
-pub mod InTurn
 pub mod Leaves
 pub mod Read
 pub mod Resp

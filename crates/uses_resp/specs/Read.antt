@@ -20,10 +20,11 @@ use Rattle.stream_sets.specs.AsChar.{IsDecDigit}
 use Rattle.winnow_numbers.specs.Decimal.{IsDecimalOf, IsSignedDecimalOf}
 use Rattle.winnow_numbers.specs.Digits.{value_in}
 use Rattle.winnow_exact.specs.Grammar.Lengths.{same_beginnings}
+use Rattle.winnow_exact.specs.Grammar.Unique.{unique_by}
 use Rattle.winnow_exact.specs.Texts.{Members, SoMany, Text}
-use Rattle.uses_resp.specs.InTurn.{Failed, First, Splits, Stood, failed_as, led_unique, refused}
-use Rattle.uses_resp.specs.InTurn.{stood_as}
-use Rattle.uses_resp.specs.InTurn.Rows.{RowOf, row_unique}
+use Rattle.winnow_exact.specs.InTurn.{Failed, First, Splits, Stood, failed_as, led_unique, refused}
+use Rattle.winnow_exact.specs.InTurn.{stood_as}
+use Rattle.winnow_exact.specs.InTurn.Rows.{RowOf, row_unique}
 use Rattle.uses_resp.specs.Resp.{ArrayBehind, Body, BulkBehind, DataText, Elements, Ended, InLine}
 use Rattle.uses_resp.specs.Resp.{IsSize, SignedText, byte_of, line_end}
 use Rattle.uses_resp.specs.Resp.{IntegerText, LineText, MarkText, Replies, ReplyText, SizeText}
@@ -58,11 +59,7 @@ alone_stood {reading = reading} {i = i} value = record {
 pub made_unique : {T O R : Type 0} (text : Text T O) (make : O → R) → IsUnique (First text)
     → IsUnique (First (λ r xs. (o : O) × (r ≡ make o) × text o xs))
 unfolding First
-made_unique text make unique = record {
-  ends = λ tokens r rest (front, a, e). (front, e);
-  one = λ tokens r s rest other (xs, (o, is, a), e) (ys, (p, are, b), d).
-      unique.one tokens o p rest other (xs, a, e) (ys, b, d);
-}
+made_unique text make = unique_by (λ tokens r rest (front, (o, is, a), e). (o, (front, a, e)))
 
 -- and nothing leaves what there is
 pub nothing_unique : {T R : Type 0} (value : R)
@@ -72,17 +69,6 @@ nothing_unique value = record {
   ends = λ tokens r rest (front, a, e). (front, e);
   one = λ tokens r s rest other (xs, (is, empty), e) (ys, (are, none), d).
       ap (λ l. l ++ rest) (sym empty) ∙ sym e ∙ d ∙ ap (λ l. l ++ other) none;
-}
-
--- what leaves one rest in other words
-pub one_as : {T O : Type 0} (text other : Text T O)
-    → ((o : O) (xs : List T) → other o xs → text o xs) → IsUnique (First text)
-    → IsUnique (First other)
-unfolding First
-one_as text other back unique = record {
-  ends = λ tokens o rest (front, a, e). (front, e);
-  one = λ tokens o p rest more (xs, a, e) (ys, b, d).
-      unique.one tokens o p rest more (xs, back o xs a, e) (ys, back p ys b, d);
 }
 
 -- ---- what stands first is of one value
@@ -262,10 +248,7 @@ module _ {A : Type 0} where
     list_unique : (n : ℕ) → IsUnique (First (λ (list : Vec (Replies A) A) xs.
         (length list.items ≡ n) × elements list.items xs))
     unfolding First
-    list_unique n = record {
-      ends = λ tokens o rest (front, a, e). (front, e);
-      one = λ tokens o p rest other a b. (each n).one tokens o.items p.items rest other a b;
-    }
+    list_unique n = unique_by (λ tokens list rest x. (list.items, x)) (each n)
 
     array_unique : (size : Option ℕ) → IsUnique (First (ArrayBehind elements size))
     array_unique None = nothing_unique made.NullArray

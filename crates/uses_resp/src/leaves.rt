@@ -5,7 +5,7 @@ ghost use Rattle.std.specs.Prelude.{FitsSigned, IfOk};
 ghost use Rattle.streams.specs.Bytes.{bytes_follow, bytes_input, bytes_reading};
 ghost use Rattle.winnow_exact.specs.Exact.{Reads};
 ghost use Rattle.winnow_exact.specs.Exact.Cut.{ReadsOrAsks};
-ghost use Rattle.uses_resp.specs.InTurn.{First};
+ghost use Rattle.winnow_exact.specs.InTurn.{First};
 ghost use Rattle.uses_resp.specs.Leaves.{SignedRead};
 ghost use Rattle.uses_resp.specs.Resp.{DataText, IntegerText, LineText, MarkText, SizeText};
 

@@ -23,6 +23,7 @@ pub mod Literals
 pub mod Looks
 pub mod Made
 pub mod Numbers
+pub mod Read
 pub mod Repeat
 pub mod Same
 pub mod Searches
@@ -30,6 +31,7 @@ pub mod Separated
 pub mod Sequences
 pub mod Settled
 pub mod Sized
+pub mod Steps
 pub mod TakeWhile
 pub mod Three
 pub mod Till

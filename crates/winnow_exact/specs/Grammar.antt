@@ -13,9 +13,11 @@ pub mod Decided
 pub mod Folded
 pub mod Integers
 pub mod Known
+pub mod Meaning
 pub mod Numbers
 pub mod Outputs
 pub mod Searches
+pub mod Sequences
 pub mod Till
 pub mod Lengths
 pub mod Tuples

@@ -2,5 +2,6 @@
 pub mod Exact
 pub mod Grammar
 pub mod Held
+pub mod InTurn
 pub mod Rule
 pub mod Texts

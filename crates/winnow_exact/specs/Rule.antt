@@ -1,6 +1,6 @@
 -- Rules: functions as parsers, by what they read.
 use Rattle.std.specs.Prelude.{◌≡◌, ◌⊎◌, false, Result, Ok, Err}
-use Rattle.std.proofs.Common.{refl, sym, subst, inl, inr, ◌∙◌}
+use Rattle.std.proofs.Common.{refl, sym, ap, subst, inl, inr, ◌∙◌}
 use Rattle.streams.specs.Input.{Input}
 use Rattle.streams.specs.Kind.{Kind, backtrack, memory}
 use Rattle.streams.specs.Reading.{Reading}
@@ -96,3 +96,23 @@ module _ {N F I T L O E : Type 0} {reading : Reading T L} {view : I → Input T}
           | inr (b, nothing) ↦ inr b
         ];
   }
+
+-- ---- a parser that is a rule and its function
+
+-- what holds of the function holds of the parser that runs it
+pub run_as : {N F : Type 0} {p q : By N F} {f : F} (P : F → Type 0) → p ≡ q → by_run q ≡ f → P f
+    → P (by_run p)
+run_as P same run is = subst P (sym (ap (λ x. by_run x) same ∙ run)) is
+
+-- and its calls read by the grammar of the parser's name
+pub reads_as_rule : {N F I T L O E : Type 0} {reading : Reading T L} {view : I → Input T}
+    {kind : E → Kind} {called : F → I → Result O E → F → I → Type 0} (grammar : N → Grammar T O)
+    {p q : By N F} {n : N} {f : F} → p ≡ q → by_rule q ≡ n → by_run q ≡ f
+    → CallsRead reading view kind called (grammar n) f
+    → CallsRead reading view kind called (grammar (by_rule p)) (by_run p)
+reads_as_rule {N} {F} {I} {T} {L} {O} {E} {reading} {view} {kind} {called} grammar {p} {q} {n} {f}
+    same rule run is =
+    let P : N → Type 0 = λ m. CallsRead reading view kind called (grammar m) f in
+    let Q : F → Type 0 = λ h. CallsRead reading view kind called (grammar (by_rule p)) h in
+    subst Q (sym (ap (λ x. by_run x) same ∙ run))
+    (subst P (sym (ap (λ x. by_rule x) same ∙ rule)) is)

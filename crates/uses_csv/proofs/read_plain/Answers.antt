@@ -1,4 +1,4 @@
-use Rattle.uses_csv.specs.Read.{reads_by}
+use Rattle.winnow_exact.specs.Exact.Read.{reads_by}
 use Rattle.uses_csv.proofs.read_plain.Goals as goal
 
 pub returns : goal.returns

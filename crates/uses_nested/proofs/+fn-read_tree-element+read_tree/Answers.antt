@@ -1,6 +1,6 @@
 use Rattle.std.proofs.Common.{refl, rules, arith}
 use Rattle.uses_nested.specs.Trees.{IsBranchOf, node_is_branch, node_is_leaf}
-use Rattle.uses_nested.specs.Trees.{reads_meaning, reads_no_meaning}
+use Rattle.winnow_exact.specs.Exact.Read.{reads_meaning, reads_no_meaning}
 use Rattle.uses_nested.proofs.+fn-read_tree-element+read_tree.Goals as goal
 
 pub returns-then-not-opens : goal.returns-then-not-opens
@@ -11,10 +11,10 @@ pub returns-in-Ok : goal.returns-in-Ok
 returns-in-Ok g t c =
     let (some, first) = c.opens.ensures.yes (search rules) in
     node_is_branch (omega (arith, some)) first
-    (reads_meaning IsBranchOf c.in-Ok.is refl c.read_elements.ensures)
+    (reads_meaning IsBranchOf c.in-Ok.ensures refl)
 
 pub returns-in-Err : goal.returns-in-Err
 returns-in-Err g t c =
     let (some, first) = c.opens.ensures.yes (search rules) in
     node_is_branch (omega (arith, some)) first
-    (reads_no_meaning IsBranchOf c.in-Err.is c.read_elements.ensures)
+    (reads_no_meaning IsBranchOf c.in-Err.ensures)

@@ -16,6 +16,7 @@ use Rattle.winnow_exact.specs.Exact.{IsExact, IsSoft}
 use Rattle.winnow_exact.specs.Exact.Choices.{none_at_backtrack}
 use Rattle.winnow_exact.specs.Exact.Same.{pair_is}
 use Rattle.winnow_exact.specs.Grammar.{Absent, Ahead, Grammar, IsUnique, NoneStands, When}
+use Rattle.winnow_exact.specs.Grammar.Unique.{ahead_unique}
 
 module _ {S T O : Type 0} {run : Runs S T O} where
   pub by_ref_exact : {g : Grammar T O} {s : S × ℕ} → IsExact s.0 run g
@@ -35,7 +36,7 @@ module _ {S T O : Type 0} {run : Runs S T O} where
 module _ {S T O : Type 0} {run : Runs S T O} {s : S} where
   pub peek_exact : {g : Grammar T O} → IsExact s run g → IsExact s (PeekRuns run) (Ahead g)
   unfolding Ahead
-  peek_exact c = record {
+  peek_exact {g} c = record {
     kept = λ i answer t j is (m, r, back).
         let (same, still) = c.kept i answer t m is r in
         (same, ap (λ x. x.status.cut) back ∙ still);
@@ -45,10 +46,7 @@ module _ {S T O : Type 0} {run : Runs S T O} {s : S} where
       | inl wanted ↦ inl wanted
       | inr nothing ↦ inr (λ o rest (end, x, same). nothing o end x)
     ];
-    unique = record {
-      ends = λ tokens o rest (end, x, same). ([], sym same);
-      one = λ tokens o p rest other (end, x, same) (more, y, is). same ∙ sym is;
-    };
+    unique = ahead_unique g;
   }
 
   pub peek_soft : IsSoft s run → IsSoft s (PeekRuns run)

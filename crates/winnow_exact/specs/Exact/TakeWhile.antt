@@ -17,7 +17,7 @@ use Rattle.winnow_core.specs.Runs.{Keeps}
 use Rattle.winnow_token.specs.TakeWhile.{IsLongest, TakeWhileRuns}
 use Rattle.winnow_exact.specs.Exact.{IsExact, IsSoft}
 use Rattle.winnow_exact.specs.Exact.Tokens.{SeesApart, TellsOnce, holds_once, seen_once}
-use Rattle.winnow_exact.specs.Grammar.{Class, InClass, Longest, NoneStands, Takes}
+use Rattle.winnow_exact.specs.Grammar.{Class, InClass, IsUnique, Longest, NoneStands, Takes}
 
 -- what is within a greatest number is no more than it
 pub within_is : {greatest : Option ℕ} {most n : ℕ} → greatest ≡ Some most → IsWithin greatest n
@@ -90,6 +90,17 @@ as_many f g {rest} {more} a b e = omega (
   ap (λ l. length l) e,
 )
 
+-- so the longest beginning of members leaves one rest
+pub longest_unique : {S K T L : Type 0} (reading : Reading T L) (seen : K → T)
+    (tells : S → K → Bool → Type 0) (set : S) (bounds : Bounds)
+    → TellsOnce (AnswersSeen seen (tells set)) → IsUnique (Longest reading seen tells set bounds)
+unfolding Longest
+longest_unique reading seen tells set bounds once = record {
+  ends = λ tokens o rest (f, longest, enough, shown). (f, longest.splits);
+  one = λ tokens o p rest other (f, longest, enough, shown) (g, too, enough2, shown2).
+      one_longest (AnswersSeen seen (tells set)) bounds.greatest once longest too;
+}
+
 -- The set and the bounds of a state.
 module _ {X S K T L : Type 0} (reading : Reading T L) (form : ErrorForm) (seen : K → T)
     (tells : S → K → Bool → Type 0) (set : X → S) (bounds : X → Bounds) (x : X)
@@ -108,11 +119,7 @@ module _ {X S K T L : Type 0} (reading : Reading T L) (form : ErrorForm) (seen :
     kept = λ i answer t j is (r, same). (same, still i answer j r ∙ is);
     stands = λ i o t j is (r, kept). stands i o j is r;
     none = λ i k t j is (r, kept). inr (none i k j is r);
-    unique = record {
-      ends = λ tokens o rest (f, longest, enough, shown). (f, longest.splits);
-      one = λ tokens o p rest other (f, longest, enough, shown) (g, too, enough2, shown2).
-          one_longest (AnswersSeen seen (tells (set x))) (bounds x).greatest once longest too;
-    };
+    unique = longest_unique reading seen tells (set x) (bounds x) once;
   }
     where
       still : (i : Input T) (answer : Answer L) (j : Input T)
@@ -194,6 +201,13 @@ module _ {K T L : Type 0} (class : ℕ → Type 0) (least : ℕ) (code : K → �
   pub class_soft : IsSoft tt (Keeps (λ (_ : ⊤). ClassRuns class least code seen reading form))
   class_soft = take_while_soft reading form seen (InClass class code) (λ s. s)
       (λ _. from_to least None) tt tt
+
+-- so many characters of a class leave one rest
+pub class_unique : {K T L : Type 0} (class : ℕ → Type 0) (least : ℕ) (code : K → ℕ) (seen : K → T)
+    (reading : Reading T L) → SeesApart seen → IsUnique (Class class least code seen reading)
+class_unique class least code seen reading apart =
+    longest_unique reading seen (InClass class code) tt (from_to least None)
+    (seen_once seen (InClass class code tt) apart (holds_once (λ k. class (code k))))
 
 pub class_takes : {K T L : Type 0} (class : ℕ → Type 0) (least : ℕ) (code : K → ℕ) (seen : K → T)
     (reading : Reading T L) → 0 < least → Takes (Class class least code seen reading)

@@ -2,7 +2,7 @@
 use Rattle.std.specs.Prelude.{◌≡◌, ◌⊎◌, ℕ, Bool, true, false, List, [], ◌∷◌, length}
 use Rattle.std.specs.Prelude.{Option, Some, Ok, Err, IsTrue, ◌↔◌, ⊤}
 use Rattle.std.proofs.Common.{refl, sym, ap, subst, inl, inr, ◌∙◌, arith}
-use Rattle.streams.specs.Equal.{same_first, same_others, true_is_false}
+use Rattle.streams.specs.Equal.{same_first, true_is_false}
 use Rattle.streams.specs.Input.{Input}
 use Rattle.streams.specs.Kind.{Kind, backtrack, memory}
 use Rattle.streams.specs.Reading.{Reading}
@@ -16,6 +16,7 @@ use Rattle.winnow_token.specs.Any.{AnyRuns}
 use Rattle.winnow_token.specs.OneOf.{OneOfRuns}
 use Rattle.winnow_exact.specs.Exact.{IsExact, IsSoft}
 use Rattle.winnow_exact.specs.Grammar.{NoneStands, Others, Takes, Token, TokenOf}
+use Rattle.winnow_exact.specs.Grammar.Unique.{token_of_unique, token_unique}
 
 -- Nothing is told both that it is a member and that it is none.
 abbrev pub TellsOnce : {T : Type 0} → (T → Bool → Type 0) → Type 0
@@ -71,10 +72,7 @@ module _ {K T L : Type 0} (seen : K → T) (reading : Reading T L) (form : Error
     kept = λ i answer t j is (r, same). (same, still i answer j r ∙ is);
     stands = λ i k t j is (r, kept). stands i k j r;
     none = λ i k t j is (r, kept). inr (none i k j r);
-    unique = record {
-      ends = λ tokens k rest e. (seen k ∷ [], e);
-      one = λ tokens k l rest other e f. same_others (sym e ∙ f);
-    };
+    unique = token_unique seen;
   }
     where
       still : (i : Input T) (answer : Answer K) (j : Input T) → AnyRuns seen reading form i answer j
@@ -115,10 +113,7 @@ module _ {X K T L : Type 0} (seen : K → T) (reading : Reading T L) (form : Err
     kept = λ i answer t j is (r, same). (same, still i answer j r ∙ is);
     stands = λ i k t j is (r, kept). stands i k j r;
     none = λ i k t j is (r, kept). inr (none i k j r);
-    unique = record {
-      ends = λ tokens k rest (has, e). (seen k ∷ [], e);
-      one = λ tokens k l rest other (has, e) (too, f). same_others (sym e ∙ f);
-    };
+    unique = token_of_unique seen tells set;
   }
     where
       still : (i : Input T) (answer : Answer K) (j : Input T)

@@ -1,14 +1,14 @@
 -- Of grammars that leave one rest, such grammars are made; and what of them takes tokens.
 use Rattle.std.specs.Prelude.{◌≡◌, ◌⊎◌, ◌≤◌, ◌<◌, ◌+◌, ℕ, List, [], ◌∷◌, ◌++◌, length, Option}
-use Rattle.std.specs.Prelude.{Some}
+use Rattle.std.specs.Prelude.{Some, Bool}
 use Rattle.std.proofs.Common.{sym, ap, subst, inl, inr, ◌∙◌, arith, append_assoc, length-append}
 use Rattle.streams.specs.Equal.{same_first, same_others, same_some}
 use Rattle.streams.specs.Reading.{Reading, units-nil}
 use Rattle.stream_sets.specs.Range.{Bounds, IsBelow, bounds_of}
 use Rattle.stream_sets.specs.declared.range.Range.{Range}
-use Rattle.winnow_exact.specs.Grammar.{Both, Each, Either, Gathered, Grammar, IsUnique}
-use Rattle.winnow_exact.specs.Grammar.{Literally, Many, Maybe, NoneStands, Parted, Repeated}
-use Rattle.winnow_exact.specs.Grammar.{Stops, Takes}
+use Rattle.winnow_exact.specs.Grammar.{Ahead, Both, Each, Either, Gathered, Grammar, IsUnique}
+use Rattle.winnow_exact.specs.Grammar.{Literally, Made, Many, Maybe, NoneStands, Parted, Repeated}
+use Rattle.winnow_exact.specs.Grammar.{Stops, Taken, Takes, Token, TokenOf}
 
 -- what is left behind what stands is no longer than the tokens
 pub no_longer_than : {T O : Type 0} {g : Grammar T O} → IsUnique g → (tokens : List T) (o : O)
@@ -55,6 +55,54 @@ module _ {S T L O : Type 0} (reading : Reading T L) (spelled : S → List T → 
       fewer tokens o rest ([], slice, is, shown, e, a) = absurd (some is)
       fewer tokens o rest (x ∷ xs, slice, is, shown, e, a) =
           omega (arith, ap length e, length-append xs rest)
+
+-- ---- tokens
+
+pub token_unique : {K T : Type 0} (seen : K → T) → IsUnique (Token seen)
+unfolding Token
+token_unique seen = record {
+  ends = λ tokens k rest e. (seen k ∷ [], e);
+  one = λ tokens k l rest other e f. same_others (sym e ∙ f);
+}
+
+pub token_of_unique : {X K T : Type 0} (seen : K → T) (tells : X → K → Bool → Type 0) (set : X)
+    → IsUnique (TokenOf seen tells set)
+unfolding TokenOf
+token_of_unique seen tells set = record {
+  ends = λ tokens k rest (has, e). (seen k ∷ [], e);
+  one = λ tokens k l rest other (has, e) (too, f). same_others (sym e ∙ f);
+}
+
+-- ---- what is made of one grammar
+
+-- where one stands wherever the other does, the other leaves one rest as it does
+pub unique_by : {T O U : Type 0} {g : Grammar T O} {h : Grammar T U}
+    → ((tokens : List T) (u : U) (rest : List T) → h tokens u rest → (o : O) × g tokens o rest)
+    → IsUnique g → IsUnique h
+unique_by back unique = record {
+  ends = λ tokens u rest y. let (o, x) = back tokens u rest y in unique.ends tokens o rest x;
+  one = λ tokens u v rest other y z.
+      let (o, x) = back tokens u rest y in
+      let (p, w) = back tokens v other z in unique.one tokens o p rest other x w;
+}
+
+pub made_unique : {F T O U : Type 0} (makes : F → O → U → Type 0) (part : F) {g : Grammar T O}
+    → IsUnique g → IsUnique (Made makes part g)
+unfolding Made
+made_unique makes part = unique_by (λ tokens u rest (o, x, m). (o, x))
+
+pub taken_unique : {T L O : Type 0} (reading : Reading T L) {g : Grammar T O} → IsUnique g
+    → IsUnique (Taken reading g)
+unfolding Taken
+taken_unique reading = unique_by (λ tokens slice rest (o, x, shown). (o, x))
+
+-- what is only looked at leaves all
+pub ahead_unique : {T O : Type 0} (g : Grammar T O) → IsUnique (Ahead g)
+unfolding Ahead
+ahead_unique g = record {
+  ends = λ tokens o rest (end, x, same). ([], sym same);
+  one = λ tokens o p rest other (end, x, same) (end2, y, too). same ∙ sym too;
+}
 
 -- ---- sequences
 

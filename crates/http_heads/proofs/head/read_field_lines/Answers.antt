@@ -2,7 +2,8 @@ use Rattle.std.proofs.Common.{refl, rules, sym, ◌∙◌}
 use Rattle.streams.specs.Bytes.{bytes_reading}
 use Rattle.streams.specs.Equal.{true_is_false}
 use Rattle.streams.specs.Input.{is_end_of_refl, is_end_of_trans}
-use Rattle.http_heads.specs.HeadRead.{lines_more, lines_stop, lines_want}
+use Rattle.http_heads.specs.HeadRead.{lines_more, lines_stop}
+use Rattle.winnow_exact.specs.Exact.Read.{reads_wanting}
 use Rattle.http_heads.proofs.head.read_field_lines.Goals as goal
 
 pub lines-init : goal.lines-init
@@ -16,11 +17,11 @@ lines-preserved g c = record {
 }
 
 pub returns-in-Err-push : goal.returns-in-Err-push
-returns-in-Err-push g c = lines_want c.no_memory.ensures
+returns-in-Err-push g c = reads_wanting c.no_memory.ensures
     (is_end_of_trans c.in-Ok.ensures.ends c.lines.invariant.ends)
 
 pub returns-then-is_memory : goal.returns-then-is_memory
-returns-then-is_memory g c = lines_want (c.is_memory.ensures.0 c.if-is_memory.true)
+returns-then-is_memory g c = reads_wanting (c.is_memory.ensures.0 c.if-is_memory.true)
     (is_end_of_trans c.in-Err.ensures.ends c.lines.invariant.ends)
 
 pub returns-in-Err : goal.returns-in-Err

@@ -1,4 +1,4 @@
-use Rattle.http_heads.specs.Parts.{reads_by}
+use Rattle.winnow_exact.specs.Exact.Read.{reads_by}
 use Rattle.http_heads.specs.RequestRead.{VersionRead, same_version}
 use Rattle.winnow_exact.specs.Exact.Same.{reads_as}
 use Rattle.http_heads.proofs.request_line.read_version.Goals as goal

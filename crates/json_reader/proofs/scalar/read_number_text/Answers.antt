@@ -1,5 +1,6 @@
 use Rattle.json_texts.specs.Values.{HasText}
-use Rattle.json_reader.specs.Alike.{kept_text, meant_none}
+use Rattle.json_reader.specs.Alike.{kept_text}
+use Rattle.winnow_exact.specs.Exact.Read.{reads_no_meaning}
 use Rattle.json_reader.proofs.scalar.read_number_text.Goals as goal
 
 pub returns-in-Ok : goal.returns-in-Ok
@@ -8,4 +9,4 @@ returns-in-Ok g c =
     c.in-Ok.ensures.grammar
 
 pub returns-in-Err : goal.returns-in-Err
-returns-in-Err g c = meant_none HasText c.in-Err.ensures.grammar
+returns-in-Err g c = reads_no_meaning HasText c.in-Err.ensures.grammar

@@ -1,5 +1,5 @@
 use Rattle.json_texts.specs.Strings.{string_of}
-use Rattle.json_reader.specs.Alike.{reads_by}
+use Rattle.winnow_exact.specs.Exact.Read.{reads_by}
 use Rattle.winnow_exact.specs.Held.{HasCharacters}
 use Rattle.winnow_exact.specs.Texts.Told.{text_told}
 use Rattle.json_reader.proofs.string.read_string.Goals as goal

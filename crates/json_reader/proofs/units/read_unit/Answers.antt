@@ -1,9 +1,9 @@
 use Rattle.json_texts.specs.Strings.{IsNumberOf}
-use Rattle.json_reader.specs.Alike.{meant, meant_none}
+use Rattle.winnow_exact.specs.Exact.Read.{reads_meaning, reads_no_meaning}
 use Rattle.json_reader.proofs.units.read_unit.Goals as goal
 
 pub returns-in-Ok : goal.returns-in-Ok
-returns-in-Ok c = meant IsNumberOf c.in-Ok.ensures c.unit_of.ensures
+returns-in-Ok c = reads_meaning IsNumberOf c.in-Ok.ensures c.unit_of.ensures
 
 pub returns-in-Err : goal.returns-in-Err
-returns-in-Err c = meant_none IsNumberOf c.in-Err.ensures
+returns-in-Err c = reads_no_meaning IsNumberOf c.in-Err.ensures

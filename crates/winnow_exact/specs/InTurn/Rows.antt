@@ -8,7 +8,7 @@ use Rattle.streams.specs.Kind.{Kind}
 use Rattle.streams.specs.Reading.{Reading}
 use Rattle.winnow_exact.specs.Grammar.{IsUnique}
 use Rattle.winnow_exact.specs.Texts.{Row, Text}
-use Rattle.uses_resp.specs.InTurn.{Failed, First, Stood, completes_end}
+use Rattle.winnow_exact.specs.InTurn.{Failed, First, Stood, completes_end}
 
 -- So many texts, one behind the other.
 abbrev pub RowOf : {T O : Type 0} → Text T O → ℕ → Text T (List O)
