@@ -5,3 +5,4 @@ pub mod HeaderRuns
 pub mod ItemLemmas
 pub mod PortRuns
 pub mod RequestLines
+pub mod WordRuns

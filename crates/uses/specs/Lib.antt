@@ -4,6 +4,7 @@ pub mod Csv
 pub mod Entry
 pub mod FirstWord
 pub mod Items
+pub mod Numerals
 pub mod Port
 pub mod Ranges
 pub mod RequestLine

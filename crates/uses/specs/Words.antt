@@ -1,14 +1,23 @@
--- What the search is given for words: the lemmas of takes, literals, sequences and what is left.
-use Rattle.winnow.specs.Literal.Known.{known_literals}
-use Rattle.winnow.specs.Sequence.Known.{known_sequences}
-use Rattle.winnow.specs.Splits.{known_splits}
-use Rattle.winnow.specs.InOrder.Known.{known_in_order}
-use Rattle.winnow.specs.TakeWhile.Known.{known_takes}
+-- Words of letters, by their grammars.
+use Rattle.std.specs.Prelude.{ℕ, List}
+use Rattle.std.specs.Borrow.{Bor}
+use Rattle.winnow.specs.AsChar.{IsAlpha}
+use Rattle.winnow.specs.Counted.{counted_reading}
+use Rattle.winnow_exact.specs.Grammar.{Both, Class, Grammar, Three}
+use Rattle.winnow_exact.specs.Grammar.Known.{Byte}
 
-pub ruleset known_in_words = (
-  known_literals,
-  known_sequences,
-  known_splits,
-  known_in_order,
-  known_takes,
-)
+-- a word: as many letters as stand first, at least one
+abbrev pub Word : Grammar ℕ (Bor (List ℕ))
+Word = Class IsAlpha 1 (λ b. b) (λ b. b) counted_reading
+
+-- the byte '='
+abbrev pub Mark : Grammar ℕ ℕ
+Mark = Byte 61
+
+-- a word, '=' and a word
+abbrev pub Assignment : Grammar ℕ (Bor (List ℕ) × ℕ × Bor (List ℕ))
+Assignment = Three (λ o1 o2 o3. (o1, o2, o3)) Word Mark Word
+
+-- '=' and a word, which is the output
+abbrev pub MarkedWord : Grammar ℕ (Bor (List ℕ))
+MarkedWord = Both (λ o1 o2. o2) Mark Word

@@ -3,6 +3,8 @@
 #![tactic(auto)]
 
 ghost use Rattle.std.specs.Prelude.{IfOk, IsOk, List, ℕ};
+ghost use Rattle.winnow.specs.Bytes.{bytes_input, bytes_reading};
+ghost use Rattle.winnow.specs.Input.{IsEndOf};
 ghost use Rattle.uses.specs.Entry.{IsEntry};
 
 use winnow::binary::impls::{BeU16, LengthTake, U8};
@@ -25,6 +27,7 @@ pub fn entry<'i>(input: &mut &'i [u8]) -> Result<(u8, &'i [u8]), ErrMode<EmptyEr
         IsEntry parts.0 parts.1.now input.old.now input.new.now) }
     ensures accepts { (tag : ℕ) (payload rest : List ℕ)
         → IsEntry tag payload input.old.now rest → IsOk result }
+    ensures ends { IsEndOf bytes_reading (bytes_input input.new.now) (bytes_input input.old.now) }
 {
     match parts().parse_next(input) {
         Ok(parts) => Ok(parts),
@@ -41,6 +44,8 @@ pub fn entry_in_pieces<'i>(
         (⟦<Partial<&'static [u8]> as Stream>⟧.view input.new).left.tokens) }
     ensures accepts { (tag : ℕ) (payload rest : List ℕ) → IsEntry tag payload
         (⟦<Partial<&'static [u8]> as Stream>⟧.view input.old).left.tokens rest → IsOk result }
+    ensures ends { IsEndOf bytes_reading (⟦<Partial<&'static [u8]> as Stream>⟧.view input.new)
+        (⟦<Partial<&'static [u8]> as Stream>⟧.view input.old) }
 {
     match parts().parse_next(input) {
         Ok(parts) => Ok(parts),

@@ -5,6 +5,8 @@
 ghost use Rattle.std.specs.Prelude.{◌≡◌, ◌≤◌, length, IfOk, IsOk};
 ghost use Rattle.winnow.specs.BitTake.{bit_take_count};
 ghost use Rattle.winnow.specs.Following.{most_bytes};
+ghost use Rattle.winnow.specs.Bytes.{bytes_input, bytes_reading};
+ghost use Rattle.winnow.specs.Input.{IsEndOf};
 ghost use Rattle.uses.specs.FirstWord.{IsFirstWord};
 
 use winnow::binary::bits::impls::{Bits, Take};
@@ -54,6 +56,7 @@ pub fn word_of<I: ByteStream + StreamIsPartial + Copy>(
         (I.view input.new).left.tokens) }
     ensures accepts { 4 ≤ length (I.view input.old).left.tokens
         → length (I.view input.old).left.tokens ≤ most_bytes → IsOk result }
+    ensures ends { IsEndOf I.reading (I.view input.new) (I.view input.old) }
 {
     input.shows_bytes();
     match bits(fields::<I, ErrMode<EmptyError>>()).parse_next(input) {
@@ -85,6 +88,7 @@ pub fn first_word<'i>(input: &mut &'i [u8]) -> Result<Word, ErrMode<EmptyError>>
         word.type_of_service word.total_length input.old.now input.new.now) }
     ensures accepts { 4 ≤ length input.old.now → length input.old.now ≤ most_bytes
         → IsOk result }
+    ensures ends { IsEndOf bytes_reading (bytes_input input.new.now) (bytes_input input.old.now) }
 {
     word_of(input)
 }

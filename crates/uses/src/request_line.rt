@@ -3,6 +3,8 @@
 
 ghost use Rattle.std.specs.Prelude.{◌≡◌, ◌↔◌, IsTrue, IfOk, IsOk, List, ℕ};
 ghost use Rattle.winnow.specs.TakeWhile.{take_while_occurrences};
+ghost use Rattle.winnow.specs.Bytes.{bytes_input, bytes_reading};
+ghost use Rattle.winnow.specs.Input.{IsEndOf};
 ghost use Rattle.uses.specs.RequestLine.{IsRequestLine, IsTokenByte, IsVisible};
 ghost use Rattle.uses.specs.RequestLine.{some_bytes, version};
 
@@ -75,6 +77,7 @@ pub fn request_line<'i>(input: &mut &'i [u8]) -> Result<(&'i [u8], &'i [u8]), Er
         IsRequestLine parts.0.now parts.1.now input.old.now input.new.now) }
     ensures accepts { (method target rest : List ℕ)
         → IsRequestLine method target input.old.now rest → IsOk result }
+    ensures ends { IsEndOf bytes_reading (bytes_input input.new.now) (bytes_input input.old.now) }
 {
     match line().parse_next(input) {
         Ok((method, _, target, _)) => Ok((method, target)),
@@ -91,6 +94,8 @@ pub fn request_line_in_pieces<'i>(
         (⟦<Partial<&'static [u8]> as Stream>⟧.view input.new).left.tokens) }
     ensures accepts { (method target rest : List ℕ) → IsRequestLine method target
         (⟦<Partial<&'static [u8]> as Stream>⟧.view input.old).left.tokens rest → IsOk result }
+    ensures ends { IsEndOf bytes_reading (⟦<Partial<&'static [u8]> as Stream>⟧.view input.new)
+        (⟦<Partial<&'static [u8]> as Stream>⟧.view input.old) }
 {
     match line().parse_next(input) {
         Ok((method, _, target, _)) => Ok((method, target)),

@@ -1,47 +1,55 @@
-//! Words in use: what is known of a run that answered.
+//! Words in use: what stands first by the grammars of their parsers.
 #![tactic(auto)]
 
-ghost use Rattle.std.specs.Prelude.{◌≡◌, ◌<◌, ◌∷◌, ◌++◌, length, IfOk};
+ghost use Rattle.uses.specs.Words.{Assignment, Mark, MarkedWord, Word};
+ghost use Rattle.winnow.specs.Bytes.{bytes_input, bytes_reading};
+ghost use Rattle.winnow_exact.specs.Exact.{Reads};
 
-use winnow::Parser;
-use winnow::ascii::alpha1;
 use winnow::ascii::impls::Alpha1;
 use winnow::combinator::preceded;
-use winnow::error::EmptyError;
+use winnow::error::{EmptyError, HasKind};
+use winnow_exact::exact::Exact;
 
-/// A word at the front of bytes: at least one letter, and the word and the rest are the input.
-#[tactic(auto, using(winnow::specs::Rules::known_takes))]
+/// A word at the front of bytes: as many letters as stand first, at least one. It fails, by a
+/// backtrack, where no letter stands first.
+///
+/// ```
+/// use uses::words::front_word;
+///
+/// let mut input = b"ab1".as_slice();
+/// assert_eq!(rt; front_word(&mut input), Ok(b"ab".as_slice()));
+/// assert_eq!(rt; input, b"1".as_slice());
+/// assert!(rt; front_word(&mut input).is_err());
+/// ```
 pub fn front_word<'i>(input: &mut &'i [u8]) -> Result<&'i [u8], EmptyError>
-    ensures splits { IfOk result (λ word. input.old.now ≡ word.now ++ input.new.now) }
-    ensures some { IfOk result (λ word. 0 < length word.now) }
+    ensures { Reads bytes_reading ⟦<EmptyError as HasKind>⟧.kind Word
+        (bytes_input input.old.now) result (bytes_input input.new.now) }
 {
-    alpha1(input)
+    Alpha1.read(input)
 }
 
-/// The mark behind a word, which stands first in bytes where it is answered.
-#[tactic(auto, using(winnow::specs::Rules::known_literals))]
+/// The mark `=`, which stands first in bytes where it is answered; it fails, by a backtrack, where
+/// it does not.
 pub fn mark<'i>(input: &mut &'i [u8]) -> Result<u8, EmptyError>
-    ensures { IfOk result (λ _. input.old.now ≡ 61 ∷ input.new.now) }
+    ensures { Reads bytes_reading ⟦<EmptyError as HasKind>⟧.kind Mark
+        (bytes_input input.old.now) result (bytes_input input.new.now) }
 {
-    b'='.parse_next(input)
+    b'='.read(input)
 }
 
-/// A word, `=` and a word: both have a letter, and with the mark between them and the rest they
-/// are the input.
-#[tactic(auto, using(crate::specs::Words::known_in_words))]
+/// A word, `=` and a word. It fails, by a backtrack, where these do not stand first.
 pub fn assignment<'i>(input: &mut &'i [u8]) -> Result<(&'i [u8], u8, &'i [u8]), EmptyError>
-    ensures some { IfOk result (λ p. (0 < length p.0.now) × (0 < length p.2.now)) }
-    ensures splits { IfOk result (λ p. input.old.now
-        ≡ p.0.now ++ (61 ∷ (p.2.now ++ input.new.now))) }
+    ensures { Reads bytes_reading ⟦<EmptyError as HasKind>⟧.kind Assignment
+        (bytes_input input.old.now) result (bytes_input input.new.now) }
 {
-    (Alpha1, b'=', Alpha1).parse_next(input)
+    (Alpha1, b'=', Alpha1).read(input)
 }
 
-/// A word behind a mark: it has a letter, and behind the mark it and the rest are the input.
-#[tactic(auto, using(crate::specs::Words::known_in_words))]
+/// A word behind a mark: `=` and the word, which is answered. It fails, by a backtrack, where these
+/// do not stand first.
 pub fn marked_word<'i>(input: &mut &'i [u8]) -> Result<&'i [u8], EmptyError>
-    ensures some { IfOk result (λ word. 0 < length word.now) }
-    ensures splits { IfOk result (λ word. input.old.now ≡ 61 ∷ (word.now ++ input.new.now)) }
+    ensures { Reads bytes_reading ⟦<EmptyError as HasKind>⟧.kind MarkedWord
+        (bytes_input input.old.now) result (bytes_input input.new.now) }
 {
-    preceded(b'=', Alpha1).parse_next(input)
+    preceded(b'=', Alpha1).read(input)
 }
