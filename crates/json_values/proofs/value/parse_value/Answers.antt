@@ -1,0 +1,11 @@
+use Rattle.json_texts.specs.Values.Texts.{json_of}
+use Rattle.winnow_exact.specs.Held.{HasCharacters}
+use Rattle.winnow_exact.specs.Texts.Told.{texts_told}
+use Rattle.json_values.proofs.value.parse_value.Goals as goal
+
+pub returns-clause-grammar : goal.returns-clause-grammar
+returns-clause-grammar g c = c.parse_spaced.ensures
+
+pub returns-clause-text : goal.returns-clause-text
+returns-clause-text g c =
+    texts_told (json_of HasCharacters c.args.level) tt (returns-clause-grammar g c)

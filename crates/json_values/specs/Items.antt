@@ -1,0 +1,35 @@
+-- What stands between marks: items, and pairs of a name and a value.
+use Rattle.std.specs.Prelude.{◌≡◌, None, Result}
+use Rattle.std.specs.declared.vec.Vec.{Vec}
+use Rattle.stream_sets.specs.Range.{from_to}
+use Rattle.streams.specs.Input.{Input}
+use Rattle.streams.specs.Kind.{Kind}
+use Rattle.streams.specs.Reading.{Reading}
+use Rattle.json_texts.specs.Words.{former, pair}
+use Rattle.winnow_exact.specs.Exact.{Reads}
+use Rattle.winnow_exact.specs.Grammar.{Both, Gathered, Grammar, Parted, Three}
+
+module _ {T M W A : Type 0} where
+  -- items with a mark between each two of them, between two others; white space is behind the first
+  -- mark, and behind those between items
+  abbrev pub Items : {O : Type 0} → Grammar T O → Grammar T M → Grammar T M → Grammar T M
+      → Grammar T W → Grammar T (Vec O A)
+  Items {O} item opening comma closing gap =
+      Three (λ _ o _. o) (Both pair opening gap)
+      (Gathered (λ (list : Vec O A) os. list.items ≡ os)
+      (Parted item (Both pair comma gap) (from_to 0 None))) closing
+
+-- a name, a mark and a value, and white space behind each
+abbrev pub Pair : {T K O M W : Type 0} → Grammar T K → Grammar T M → Grammar T O → Grammar T W
+    → Grammar T (K × O)
+Pair name colon value gap =
+    Three (λ k _ o. (k, o)) (Both former name gap) (Both pair colon gap) (Both former value gap)
+
+-- items that are read are those by a grammar that is the same
+pub items_by : {T M W A L O E : Type 0} {reading : Reading T L} {kind : E → Kind}
+    (opening comma closing : Grammar T M) (gap : Grammar T W) {f g : Grammar T O} {i j : Input T}
+    {result : Result (Vec O A) E}
+    → Reads reading kind (Items f opening comma closing gap) i result j → f ≡ g
+    → Reads reading kind (Items g opening comma closing gap) i result j
+items_by {T} {M} {W} {A} {L} {O} {E} {reading} {kind} opening comma closing gap {f} {g} {i} {j}
+    {result} read same = rw same at read

@@ -1,0 +1,11 @@
+//! The tests of values of JSON, with arrays and objects.
+#![tactic(auto)]
+
+#[cfg(test)]
+mod integers;
+#[cfg(test)]
+mod refused;
+#[cfg(test)]
+mod shown;
+#[cfg(test)]
+mod values;
