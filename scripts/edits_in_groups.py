@@ -118,9 +118,16 @@ class Edit:
         self.is_clear = bool(found) and all(len(each) == 1 for each in found)
 
 
+def proofs_of(name):
+    """Where the proofs of a function stand: in its folder, or in that of the cycle of calls that it
+    is in, which has the names of all that are, each behind a plus."""
+    *above, last = (re.escape(it) for it in name.split("::")[1:])
+    return rf"\./proofs/{''.join(it + '/' for it in above)}(\+([^/\s]*\+)?{last}(\+[^/\s]*)?|{last})/"
+
+
 def own_refusal(said, name):
     """What the prover says against a goal of a function's own, or None."""
-    at = re.escape("./proofs/" + "/".join(name.split("::")[1:]) + "/")
+    at = proofs_of(name)
     for line in said:
         if re.match(rf"{at}\S*: error", line) and not NAMES.search(line):
             return line.split(": error: ", 1)[-1]
