@@ -3,6 +3,7 @@ pub mod EntryRuns
 pub mod FieldLines
 pub mod HeaderRuns
 pub mod ItemLemmas
+pub mod PortFails
 pub mod PortRuns
 pub mod RequestLines
 pub mod WordRuns

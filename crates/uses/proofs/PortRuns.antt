@@ -12,7 +12,6 @@ use Rattle.winnow.specs.Counted.{counted_reading}
 use Rattle.winnow.specs.Equal.{none_is_some}
 use Rattle.winnow.specs.Form.{plain}
 use Rattle.winnow.specs.Input.{Input}
-use Rattle.winnow.specs.ParseSlice.{ReadsBytes}
 use Rattle.winnow.specs.TakeWhile.Known.{tells_of, took_all, took_counted, took_stops}
 use Rattle.uses.specs.Port.{IsPort}
 
@@ -22,14 +21,19 @@ pub given : {U Gives Other V : Type 0} (v : V)
 given v (inl (is, gives)) = gives
 given v (inr (other, e)) = none_is_some (sym e)
 
--- a number of digits is their value, since no plus is a digit
-value_of_digits : (digits : List ℕ) (n : ℕ) → All IsDecDigit digits → 0 < length digits
-    → n ≡ digits_value 10 (without_leading_plus digits) → n ≡ digits_value 10 digits
-value_of_digits digits n are some is =
-    is ∙ ap (λ l. digits_value 10 l) (without_leading_plus_none digits no_plus)
+-- no plus is a digit
+pub without_plus : (digits : List ℕ) → All IsDecDigit digits → 0 < length digits
+    → without_leading_plus digits ≡ digits
+without_plus digits are some = without_leading_plus_none digits no_plus
   where
     no_plus : get_or digits 0 0 ≢ 43
     no_plus e = let digit = are 0 0 some in absurd (omega (arith, digit.0, digit.1, e))
+
+-- so a number of digits is their value
+pub value_of_digits : (digits : List ℕ) (n : ℕ) → All IsDecDigit digits → 0 < length digits
+    → n ≡ digits_value 10 (without_leading_plus digits) → n ≡ digits_value 10 digits
+value_of_digits digits n are some is =
+    is ∙ ap (λ l. digits_value 10 l) (without_plus digits are some)
 
 -- digits that were taken, and that were read as a number that is not 0, are a port
 pub port_told : (i : Input ℕ) (slice : Bor (List ℕ)) (j : Input ℕ) (n number : ℕ)

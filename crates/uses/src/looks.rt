@@ -1,14 +1,15 @@
 //! Looking ahead in use: a stream that is read and set back is as it was.
 #![tactic(auto)]
 
-ghost use Rattle.std.specs.Prelude.{◌≡◌};
+ghost use Rattle.std.specs.Prelude.{◌≡◌, ◌<◌, ◌↔◌, length, IsTrue};
 ghost use Rattle.winnow.specs.Bytes.{bytes_input};
 
 use winnow::prelude::*;
 
-/// Looks at what is left of bytes, and leaves them as they were.
+/// Whether a byte is left: it looks at what is left of bytes, and leaves them as they were.
 pub fn looked_at<'i>(input: &mut &'i [u8]) -> bool
-    ensures { bytes_input input.new.now ≡ bytes_input input.old.now }
+    ensures same { bytes_input input.new.now ≡ bytes_input input.old.now }
+    ensures answer { IsTrue result ↔ (0 < length input.old.now) }
 {
     let start = input.checkpoint();
     let first = input.next_token();

@@ -1,7 +1,7 @@
 //! A small record, by five adapters in a chain.
 #![tactic(auto)]
 
-ghost use Rattle.std.specs.Prelude.{IfOk};
+ghost use Rattle.std.specs.Prelude.{◌<◌, ◌^◌, ℕ, List, IfErr, IfOk};
 ghost use Rattle.uses.specs.Port.{IsPort};
 
 use winnow::ascii::impls::Digit1;
@@ -17,10 +17,12 @@ pub struct Port<'i> {
 }
 
 /// A port: as many digits as stand first, whose number is one from 1 to 65535. The digits and then
-/// the rest are the input.
+/// the rest are the input. It fails exactly where no such digits stand first.
 pub fn port_number<'i>(input: &mut &'i [u8]) -> Result<Port<'i>, EmptyError>
-    ensures { IfOk result (λ port.
+    ensures port { IfOk result (λ port.
         IsPort port.number port.text.now input.old.now input.new.now) }
+    ensures fails { IfErr result (λ _. (n : ℕ) (digits rest : List ℕ)
+        → IsPort n digits input.old.now rest → n < 2 ^ 16 → ⊥) }
 {
     let mut port = Digit1
         .parse_to::<u16>()
