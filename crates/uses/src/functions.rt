@@ -1,15 +1,14 @@
 //! Functions in use: plain functions as parsers.
 #![tactic(auto)]
 
-ghost use Rattle.std.specs.Prelude.{◌≡◌, ◌<◌, ◌∷◌, ◌++◌, List, length, IfOk};
+ghost use Rattle.std.specs.Prelude.{◌≡◌, ◌<◌, ◌∷◌, ◌++◌, length, IfOk};
 ghost use Rattle.std.specs.List.{All};
 ghost use Rattle.winnow.specs.AsChar.{IsAlpha};
 ghost use Rattle.winnow.specs.Bytes.{bytes_input, bytes_reading};
 ghost use Rattle.winnow.specs.Input.{IsEndOf};
 
 use winnow::ascii::alpha1;
-use winnow::error::{EmptyError, ParserError};
-use winnow::stream::{AsChar, StreamIsPartial};
+use winnow::error::EmptyError;
 use winnow::{Func, Parser};
 
 /// A word of letters, over bytes: the word and then what is left are the input.
@@ -32,26 +31,4 @@ pub fn two_words<'i>(input: &mut &'i [u8]) -> Result<(&'i [u8], u8, &'i [u8]), E
         × (input.old.now ≡ words.0.now ++ 32 ∷ (words.2.now ++ input.new.now))) }
 {
     (Func(word), b' ', Func(word)).parse_next(input)
-}
-
-/// A word, over any stream: the tokens of the word and then what is left are the input.
-fn any_word<I, E>(input: &mut I) -> Result<I::Slice, E>
-where
-    I: StreamIsPartial,
-    I::Token: AsChar,
-    E: ParserError<I>,
-    ensures splits { IfOk result (λ word. (tokens : List I.Seen) × I.reading.shows word tokens
-        × ((I.view input.old).left.tokens ≡ tokens ++ (I.view input.new).left.tokens)) }
-    ensures ends { IsEndOf I.reading (I.view input.new) (I.view input.old) }
-{
-    alpha1(input)
-}
-
-/// A word, and behind it a space, over bytes: the function of any stream at a stream. These, and
-/// then what is left, are the input.
-pub fn word_and_space<'i>(input: &mut &'i [u8]) -> Result<(&'i [u8], u8), EmptyError>
-    ensures { IfOk result (λ parts. (parts.1 ≡ 32)
-        × (input.old.now ≡ parts.0.now ++ 32 ∷ input.new.now)) }
-{
-    (Func(any_word::<&'i [u8], EmptyError>), b' ').parse_next(input)
 }
