@@ -21,6 +21,8 @@ NAMES = re.compile(r"has no field|is not in scope|has no `|was not admitted")
 # An error that the front end found: the text is no Rattle.
 BAD_TEXT = re.compile(r"\berror\[[\w-]+\]", re.MULTILINE)
 BAD_CLAUSE = re.compile(r"is not in scope|has no field|is no name|expected the end|cannot cont")
+# A place in the proofs of a cycle of calls, whose folder has a name of its own.
+CYCLE = re.compile(r"\./proofs/(\S*/)?\+[^/\s]*/")
 # A line that says what is not proved, or not read, and where.
 ERROR = re.compile(r"(\./)?(src|specs|proofs)/\S+: error|note: src/\S+: it is not proved")
 
@@ -266,9 +268,11 @@ class Trial:
         elif not said[-1].startswith(("only=", "logic=not-proved")):
             self.miss(edit, f"its check came to no end: {said[-1]}")
         elif not self.is_refused(edit, said):
-            # No other body differs, so a goal that `search` left open is one of this edit's.
-            told = [it for it in errors if not edit.names or it.startswith("note: ")]
-            told = [it for it in told if not NAMES.search(it)]
+            # No other body differs, so a goal that `search` left open is one of this edit's, and
+            # one of a cycle of calls is of the function that calls this one, or of itself.
+            told = [it for it in errors if not NAMES.search(it)]
+            if edit.names:
+                told = [it for it in told if it.startswith("note: ") or CYCLE.match(it)]
             if told:
                 self.say(edit, f"refused: {told[0][:100]}")
             else:

@@ -3,7 +3,7 @@ use Rattle.std.specs.Prelude.{ℕ, List}
 use Rattle.std.specs.Borrow.{Bor}
 use Rattle.winnow.specs.AsChar.{IsAlpha}
 use Rattle.winnow.specs.Counted.{counted_reading}
-use Rattle.winnow_exact.specs.Grammar.{Both, Class, Grammar, Three}
+use Rattle.winnow_exact.specs.Grammar.{Both, Class, Either, Grammar, Three}
 use Rattle.winnow_exact.specs.Grammar.Known.{Byte}
 
 -- a word: as many letters as stand first, at least one
@@ -21,3 +21,7 @@ Assignment = Three (λ o1 o2 o3. (o1, o2, o3)) Word Mark Word
 -- '=' and a word, which is the output
 abbrev pub MarkedWord : Grammar ℕ (Bor (List ℕ))
 MarkedWord = Both (λ o1 o2. o2) Mark Word
+
+-- the byte '+', or else '-'
+abbrev pub Sign : Grammar ℕ ℕ
+Sign = Either (Byte 43) (Byte 45)

@@ -1,3 +1,4 @@
 -- Written by scripts/registries.py: do not edit.
 pub mod Csv
+pub mod Pieces
 pub mod Read

@@ -174,7 +174,7 @@ module _ {A : Type 0} where
   abbrev pub FieldsRead : Grammar ℕ (Vec (Vec ℕ A) A)
   FieldsRead = Gathered Lists (Parted FieldRead (Byte 44) (from_to 1 None))
 
-  fields : IsGrammarOf FieldsRead RecordText (MayBegin IsBreak)
+  pub fields : IsGrammarOf FieldsRead RecordText (MayBegin IsBreak)
   fields = list_of (parted_of field (byte_of 44)
       (front_begins (λ b is. (λ e. omega (arith, is, e), inl is)) (spelled_begins 44 [] 44))
       front_any
@@ -191,7 +191,7 @@ breaks : (ends : LineEnd) (rest : List ℕ) → MayBegin IsBreak (line_end ends 
 breaks CrLf rest = inl refl
 breaks Lf rest = inr (λ e. omega (arith, e), refl)
 
-some_end : (ends : LineEnd) → 0 < length (line_end ends)
+pub some_end : (ends : LineEnd) → 0 < length (line_end ends)
 some_end CrLf = omega arith
 some_end Lf = omega arith
 

@@ -18,6 +18,8 @@ ghost use Rattle.uses_csv.specs.Read.{quoted_unique, record_takes, record_unique
 ghost use Rattle.winnow_exact.specs.Exact.{Reads};
 ghost use Rattle.winnow_exact.specs.Exact.Whole.{ReadsAll};
 
+pub mod pieces;
+
 use std::alloc::Allocator;
 use stream_errors::empty::EmptyError;
 use stream_errors::fault::ParseFault;

@@ -4,7 +4,6 @@ use Rattle.streams.specs.Input.{Input}
 use Rattle.streams.specs.Reading.{Reading}
 use Rattle.stream_errors.specs.Form.{ErrorForm, Answer}
 use Rattle.winnow_core.specs.Literal.{LiteralRuns}
-pub mod Known
 pub mod Laws
 
 -- A run of the literal of the character 10, which is the output. A character stands for the

@@ -12,7 +12,6 @@ use Rattle.winnow_escapes.specs.declared.ascii.turns.Turn.{Turn}
 use Rattle.winnow_escapes.specs.declared.ascii.turns.Turn.TheVariants.{Normal, Escape}
 pub mod Known
 pub mod Laws
-pub mod Reads
 
 -- the parser of what stands for itself
 abbrev pub escaped_normal : {N K X I O D P C E A : Type 0} → Escaped N K X I O D P C E A → N

@@ -11,7 +11,6 @@ use Rattle.winnow_escapes.specs.declared.ascii.impls.take_escaped.TakeEscaped.{T
 use Rattle.winnow_escapes.specs.declared.ascii.turns.Turn.{Turn}
 pub mod Known
 pub mod Laws
-pub mod Reads
 
 -- the parser of what stands for itself
 abbrev pub take_escaped_normal : {N K X I O D P E : Type 0} → TakeEscaped N K X I O D P E → N

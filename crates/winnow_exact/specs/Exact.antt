@@ -14,6 +14,7 @@ pub mod Counts
 pub mod Cut
 pub mod Errors
 pub mod Hexadecimal
+pub mod FirstOf
 pub mod FlatMap
 pub mod Fold
 pub mod Integers

@@ -10,6 +10,7 @@ use Rattle.streams.specs.Stream.{AnswersSeen}
 use Rattle.winnow_token.specs.TakeWhile.{IsLongest}
 pub mod Alike
 pub mod Decided
+pub mod FirstOf
 pub mod Folded
 pub mod Integers
 pub mod Known

@@ -7,6 +7,7 @@ ghost use Rattle.winnow_exact.specs.Grammar.{Grammar, Takes};
 
 mod adapters;
 mod alternatives;
+mod branches;
 mod choices;
 mod classes;
 mod counts;

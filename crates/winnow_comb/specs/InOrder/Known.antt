@@ -8,7 +8,7 @@ use Rattle.stream_errors.specs.Form.{Answer, answer_by}
 use Rattle.stream_errors.specs.Form.Known.{at_kind, ok_is_err, same_ok}
 use Rattle.winnow_core.specs.Reads.{MustLeave, Reads}
 use Rattle.winnow_core.specs.Runs.{Runs}
-use Rattle.winnow_comb.specs.InOrder.{BothRuns, ThreeRuns}
+use Rattle.winnow_comb.specs.InOrder.{BothRuns}
 
 -- A run is given by what it relates, an output or a kind and the inputs between the children, so
 -- that antt finds it at a caller's parsers. That the children which did not run keep their states
@@ -156,55 +156,3 @@ both_leaves must1 must2 = record {
     | inr (o1, a, r1, f) ↦ must2.answers _ _ _ _ (must1.leaves _ _ _ _ begins r1) f
   ];
 }
-
--- and so do three
-pub three_reads : {S1 S2 S3 T O1 O2 O3 O : Type 0} {run1 : Runs S1 T O1} {run2 : Runs S2 T O2}
-    {run3 : Runs S3 T O3} {known1 : S1 → Type 0} {known2 : S2 → Type 0} {known3 : S3 → Type 0}
-    {shown1 : O1 → List T} {shown2 : O2 → List T} {shown3 : O3 → List T} {P1 : O1 → Type 0}
-    {P2 : O2 → Type 0} {P3 : O3 → Type 0} (output : O1 → O2 → O3 → O) (shown : O → List T)
-    (P : O → Type 0)
-    → ((o1 : O1) (o2 : O2) (o3 : O3) → P1 o1 → P2 o2 → P3 o3
-    → (shown (output o1 o2 o3) ≡ shown1 o1 ++ (shown2 o2 ++ shown3 o3)) × P (output o1 o2 o3))
-    → Reads run1 known1 shown1 P1 → Reads run2 known2 shown2 P2 → Reads run3 known3 shown3 P3
-    → Reads (ThreeRuns output run1 run2 run3) (λ s. known1 s.0 × known2 s.1 × known3 s.2) shown P
-three_reads {O = O} {known2 = known2} {known3 = known3} {shown1 = shown1} {shown2 = shown2} output
-    shown P makes reads1 reads2 reads3 = record {
-      reads = λ s i o t j is ran.
-          let (o1, o2, o3, a, b, r1, r2, r3, made) = three_ok o ran in
-          let h1 = reads1.reads _ _ _ _ _ is.0 r1 in
-          let h2 = reads2.reads _ _ _ _ _ is.1 r2 in
-          let h3 = reads3.reads _ _ _ _ _ is.2 r3 in
-          let it = makes o1 o2 o3 h1.1 h2.1 h3.1 in
-          let Q : O → Type 0 = λ x. (i.left.tokens ≡ shown x ++ j.left.tokens) × P x in
-          subst Q (sym made) (
-            rw it.0 (simp append_assoc
-                (h1.0 ∙ ap (λ l. shown1 o1 ++ l) (h2.0 ∙ ap (λ l. shown2 o2 ++ l) h3.0))),
-            it.1,
-          );
-      again = λ s i answer t j is ran. elim ran [
-        | inl (o1, o2, o3, a, b, r1, r2, r3, e)
-            ↦ (
-              reads1.again _ _ _ _ _ is.0 r1,
-              reads2.again _ _ _ _ _ is.1 r2,
-              reads3.again _ _ _ _ _ is.2 r3,
-            )
-        | inr (inl (k, r1, same2, same3, e))
-            ↦ (
-              reads1.again _ _ _ _ _ is.0 r1,
-              subst known2 (sym same2) is.1,
-              subst known3 (sym same3) is.2,
-            )
-        | inr (inr (inl (o1, k, a, r1, r2, same3, e)))
-            ↦ (
-              reads1.again _ _ _ _ _ is.0 r1,
-              reads2.again _ _ _ _ _ is.1 r2,
-              subst known3 (sym same3) is.2,
-            )
-        | inr (inr (inr (o1, o2, k, a, b, r1, r2, r3, e)))
-            ↦ (
-              reads1.again _ _ _ _ _ is.0 r1,
-              reads2.again _ _ _ _ _ is.1 r2,
-              reads3.again _ _ _ _ _ is.2 r3,
-            )
-      ];
-    }

@@ -1,12 +1,11 @@
 -- What a caller knows of one run of a child that may be left out, where it answered.
 use Rattle.std.specs.Prelude.{◌≡◌, Option, Some, None, Result, Ok, Err, IfOk, ◌⊎◌}
-use Rattle.std.specs.Prelude.{MatchOption, List, []}
+use Rattle.std.specs.Prelude.{MatchOption}
 use Rattle.std.proofs.Common.{refl, inl, inr}
 use Rattle.streams.specs.Input.{Input}
 use Rattle.streams.specs.Kind.{Kind, backtrack}
 use Rattle.stream_errors.specs.Form.{Answer, answer_by}
 use Rattle.stream_errors.specs.Form.Known.{at_kind, at_output, ok_is_err}
-use Rattle.winnow_comb.specs.Opt.{OptRuns}
 
 -- the runs of OptRuns, by what the child's relate; Back is that the input is back at the start
 abbrev pub OptCases : {T O : Type 0} → (O → Type 0) → (Input T → Type 0) → (Input T → Type 0)
@@ -50,8 +49,3 @@ opt_told kind P (Err e) ran some none = tt
 pub ruleset known_options = (opt_ok, opt_err, opt_told)
 
 -- ---- as a part of what a composition reads
-
--- what an output shows, where there is one
-abbrev pub shown_of : {T O : Type 0} → (O → List T) → Option O → List T
-shown_of shown None = []
-shown_of shown (Some o) = shown o

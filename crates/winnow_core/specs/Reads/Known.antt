@@ -1,27 +1,15 @@
 -- What a caller knows of one call of a parser that reads; and what literals read and must leave.
 use Rattle.std.specs.Borrow.{Bor}
-use Rattle.std.specs.Prelude.{◌≡◌, ⊤, List, [], ◌∷◌, ◌++◌, Result, Ok, Err, IfOk}
+use Rattle.std.specs.Prelude.{◌≡◌, ⊤, List, [], ◌∷◌, ◌++◌}
 use Rattle.std.proofs.Common.{ap, sym, ◌∙◌}
 use Rattle.streams.specs.Counted.{counted_reading}
-use Rattle.streams.specs.Input.{Input}
-use Rattle.streams.specs.Kind.{Kind}
 use Rattle.streams.specs.Reading.{Reading}
-use Rattle.stream_errors.specs.Form.{ErrorForm, answer_by}
+use Rattle.stream_errors.specs.Form.{ErrorForm}
 use Rattle.winnow_core.specs.Literal.{LiteralRuns}
 use Rattle.winnow_core.specs.Literal.Known.{literal_must_answer, literal_must_leave, literal_taken}
 use Rattle.winnow_core.specs.Literal.Known.{token_taken}
 use Rattle.winnow_core.specs.Reads.{MustLeave, Reads}
 use Rattle.winnow_core.specs.Runs.{Keeps, Runs}
-
--- what is said of the tokens and the output is said where a call answers one
-pub reads_told : {S T O E : Type 0} {run : Runs S T O} {known : S → Type 0}
-    {shown : O → List T} {P : O → Type 0} (kind : E → Kind) (Q : O → Type 0)
-    (result : Result O E) (s : S) (i : Input T) (t : S) (j : Input T) → Reads run known shown P
-    → known s → run s i (answer_by kind result) t j
-    → ((o : O) → i.left.tokens ≡ shown o ++ j.left.tokens → P o → Q o) → IfOk result Q
-reads_told kind Q (Ok o) s i t j reads is ran told =
-    let (splits, tells) = reads.reads s i o t j is ran in told o splits tells
-reads_told kind Q (Err e) s i t j reads is ran told = tt
 
 -- what is said of its outputs may say less
 pub reads_less : {S T O : Type 0} {run : Runs S T O} {known : S → Type 0} {shown : O → List T}

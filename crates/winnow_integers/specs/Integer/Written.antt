@@ -6,7 +6,7 @@ use Rattle.std.specs.Int.{cast_unsigned}
 use Rattle.std.proofs.Common.{refl, sym, ap, ◌∙◌, arith}
 use Rattle.std.proofs.lemmas.Int.{of_z-to_z}
 use Rattle.std.proofs.lemmas.List.{length-reverse, reverse-append, reverse-reverse}
-use Rattle.std.proofs.lemmas.List.Elements.{All-cons, All-head, All-nil, All-tail}
+use Rattle.std.proofs.lemmas.List.Elements.{All-head, All-tail}
 use Rattle.std.proofs.lemmas.Nat.{div-mul-add}
 use Rattle.std.proofs.Math.Nat.{div-add-mod', div-lt_iff_lt-mul, div-one, mod-eq_of_lt, mod-lt}
 use Rattle.std.proofs.Math.Nat.{mul-add-div_right, mul-add-mod_self_right, mul_assoc}
@@ -83,13 +83,6 @@ le_written width n bytes is as_many are =
 pub length_written : (k n : ℕ) → length (bytes_high_first k n) ≡ k
 length_written zero n = refl
 length_written (suc k) n = omega (arith, length_written k n)
-
-pub written_are_bytes : (k n : ℕ) → AreBytes (bytes_high_first k n)
-written_are_bytes zero n = All-nil (λ x. x < 256)
-written_are_bytes (suc k) n =
-    All-cons (λ x. x < 256) (byte_at k n) (bytes_high_first k n)
-    (omega (arith, byte_is k n, mod-lt (n / 256 ^ k) {m = 256} (omega arith)))
-    (written_are_bytes k n)
 
 pub written_value : (k n : ℕ) → n < 256 ^ k → value_of (bytes_high_first k n) ≡ n
 written_value zero n fits = omega (arith, fits)

@@ -11,10 +11,9 @@ use Rattle.stream_errors.specs.Form.Known.{ok_is_err, same_output}
 use Rattle.stream_sets.specs.Accumulator.{Accumulator, list_kept}
 use Rattle.stream_sets.specs.Accumulator.Known.{outputs_kept}
 use Rattle.stream_sets.specs.Range.{IsWithin, from_to}
-use Rattle.stream_sets.specs.declared.range.Range.{Range}
 use Rattle.winnow_core.specs.Reads.{Reads}
 use Rattle.winnow_core.specs.Runs.{Runs}
-use Rattle.winnow_repeat.specs.Repeat.{ItemsRun, RangedRuns, RepeatRuns}
+use Rattle.winnow_repeat.specs.Repeat.{ItemsRun, RepeatRuns}
 use Rattle.winnow_repeat.specs.Repeat.Known.{Items}
 
 -- a chain of items shows what they show, in order
@@ -96,24 +95,6 @@ items_again {known = known} into assert_kind least greatest before s i answer t 
           ↦ reads.again _ _ _ _ _ k ran
     ]
 
-repeat_again : {S T O C : Type 0} {run : Runs S T O} {known : S → Type 0} {shown : O → List T}
-    {P : O → Type 0} (into : Accumulator C O) (assert_kind : Kind) (least : ℕ)
-    (greatest : Option ℕ) (s : S) (i : Input T) (answer : Answer C) (t : S) (j : Input T)
-    → Reads run known shown P → known s
-    → RepeatRuns run into assert_kind (from_to least greatest) s i answer t j → known t
-repeat_again {known = known} into assert_kind least greatest s i answer t j reads is ran =
-    elim ran [
-      | inl (one, none, inl (k, r, e)) ↦ reads.again _ _ _ _ _ is r
-      | inl (one, none, inr (inl (o, v, n, empty, first, r, starts, takes, items)))
-          ↦ items_again into assert_kind 0 None first v n answer t j reads
-          (reads.again _ _ _ _ _ is r) items
-      | inl (one, none, inr (inr (o, r, grows, e))) ↦ reads.again _ _ _ _ _ is r
-      | inr (other, inl (most, full, below, e, same, stays)) ↦ subst known (sym same) is
-      | inr (other, inr (inl (within, grows, e, same, stays))) ↦ subst known (sym same) is
-      | inr (other, inr (inr (empty, within, starts, items)))
-          ↦ items_again into assert_kind least greatest empty s i answer t j reads is items
-    ]
-
 list_reads : {S T O A : Type 0} {run : Runs S T O} {known : S → Type 0} {shown : O → List T}
     {P : O → Type 0} (assert_kind : Kind) (least : ℕ) (greatest : Option ℕ) (s : S) (i : Input T)
     (all : Vec O A) (t : S) (j : Input T) → Reads run known shown P → known s
@@ -149,18 +130,3 @@ list_reads {O = O} {shown = shown} {P = P} assert_kind least greatest s i all t 
     let Q : List O → Type 0 = λ l. (i.left.tokens ≡ flat_map shown l ++ j.left.tokens) × All P l
     × (least ≤ length l) in
     subst Q (sym (made ∙ ap (λ l. l ++ outputs) starts)) (splits, all_of, enough within)
-
--- a repetition as often as a range says
-pub repeat_reads : {S T O A : Type 0} {run : Runs S T O} {known : S → Type 0}
-    {shown : O → List T} {P : O → Type 0} (assert_kind : Kind) (range : Range)
-    → Reads run known shown P
-    → Reads (RangedRuns run (list_kept {A = A}) assert_kind) (λ s. known s.0 × (s.1 ≡ range))
-    (λ all. flat_map shown all.items)
-    (λ all. All P all.items × (range.start_inclusive ≤ length all.items))
-repeat_reads assert_kind range reads = record {
-  reads = λ s i all t j is ran.
-      let h = list_reads assert_kind _ _ s.0 i all t.0 j reads is.0 ran.0 in
-      (h.0, (h.1, subst (λ r. r.start_inclusive ≤ length all.items) is.1 h.2));
-  again = λ s i answer t j is ran.
-      (repeat_again list_kept assert_kind _ _ s.0 i answer t.0 j reads is.0 ran.0, ran.1 ∙ is.1);
-}

@@ -10,7 +10,7 @@ use Rattle.streams.specs.Kind.{Kind, backtrack}
 use Rattle.streams.specs.Reading.{Reading}
 use Rattle.stream_errors.specs.Form.{ErrorForm}
 use Rattle.stream_errors.specs.Form.Known.{ok_is_err, same_err, same_ok}
-use Rattle.winnow_core.specs.Reads.{MustLeave, Reads}
+use Rattle.winnow_core.specs.Reads.{MustLeave}
 use Rattle.winnow_core.specs.Runs.{Keeps, Runs}
 use Rattle.winnow_core.specs.Short.Known.{short_whole}
 use Rattle.winnow_token.specs.Take.{TakeRuns}
@@ -58,19 +58,6 @@ pub ruleset known_counts = (take_count_ok, take_count_err)
 -- what one means over bytes and token lists, by its count
 abbrev pub CountOf : {T : Type 0} → ErrorForm → Bool → Runs ℕ T (Bor (List T))
 CountOf form counts = Keeps (λ n. TakeRuns counted_reading form counts n)
-
--- it reads its slice, of so many tokens
-pub count_reads : {T : Type 0} (form : ErrorForm) (counts : Bool) (count : ℕ)
-    → Reads (CountOf {T = T} form counts) (λ n. n ≡ count) (λ slice. slice.now)
-    (λ slice. length slice.now ≡ count)
-count_reads {T} form counts count = record {
-  reads = λ n i slice m j is ran.
-      let took = take_count_ok counted_reading form counts n i slice j ran.0 in
-      let P : List T → Type 0 = λ l. (i.left.tokens ≡ l ++ j.left.tokens)
-      × (length l ≡ count) in
-      subst P (sym took.takes.shown) (took.takes.passed.tokens, took.as_many ∙ is);
-  again = λ n i answer m j is ran. ran.1 ∙ is;
-}
 
 -- fronts of one length, of one list, are the same, and so is what follows them
 same_by_length : {T : Type 0} (front rest taken left : List T) → length front ≡ length taken

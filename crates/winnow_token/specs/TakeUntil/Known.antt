@@ -1,11 +1,9 @@
 -- What a caller knows of one run of a take up to a literal that answered.
 use Rattle.std.specs.Prelude.{◌≡◌, ◌<◌, ◌≤◌, ℕ, List, [], ◌∷◌, ◌++◌, length, ◌⊎◌}
 use Rattle.std.specs.Prelude.{Option, None, Ok, Err, false}
-use Rattle.std.specs.Borrow.{Bor}
 use Rattle.std.specs.List.{All}
 use Rattle.std.proofs.Common.{refl, sym, ap, subst, ◌∙◌, inl, inr, arith}
 use Rattle.std.proofs.lemmas.List.Elements.{All-cons, All-nil, All-weaker}
-use Rattle.streams.specs.Counted.{counted_reading}
 use Rattle.streams.specs.Equal.{none_is_some, same_first, same_rest}
 use Rattle.streams.specs.Input.{Input, Takes}
 use Rattle.streams.specs.Kind.{Kind, backtrack}
@@ -15,7 +13,6 @@ use Rattle.stream_sets.specs.Range.{bounds_of, from_to, greatest_of, greatest_of
 use Rattle.stream_sets.specs.declared.range.Range.{Range}
 use Rattle.stream_errors.specs.Form.{ErrorForm}
 use Rattle.stream_errors.specs.Form.Known.{ok_is_err, same_err, same_ok}
-use Rattle.winnow_core.specs.Runs.{Keeps, Runs}
 use Rattle.winnow_core.specs.Short.Known.{short_whole}
 use Rattle.winnow_token.specs.TakeUntil.{TakeUntilRuns}
 use Rattle.winnow_token.specs.TakeWhile.Known.{same_front}
@@ -218,20 +215,6 @@ pub ruleset known_searches = (
 )
 
 -- ---- takes up to one token as parts of what a composition reads
-
--- what one means over bytes and token lists, as often as a range says
-abbrev pub BeforeToken : {T : Type 0} → ErrorForm → Runs (Range × T) T (Bor (List T))
-BeforeToken form =
-    Keeps (λ x. TakeUntilRuns counted_reading form (λ xs. xs ≡ x.1 ∷ []) (bounds_of x.0))
-
--- no token in front of the first match is the mark
-none_is_mark : {T : Type 0} (mark sought : T) (taken rest : List T) → sought ≡ mark
-    → ((other hit behind : List T)
-    → Stands (λ xs. xs ≡ sought ∷ []) (taken ++ rest) other hit behind
-    → length taken ≤ length other) → All (λ t. t ≡ mark → ⊥) taken
-none_is_mark mark sought taken rest is first =
-    before_all counted_reading (λ xs. xs ≡ sought ∷ []) (λ t. t ≡ mark → ⊥) taken rest
-    (λ t other e. other (ap (λ x. x ∷ []) (e ∙ sym is))) first
 
 -- tokens without the mark, before one, are what stands before the first
 same_before : {T : Type 0} (mark : T) (front rest taken left more : List T)

@@ -1,0 +1,28 @@
+-- Options in brackets.
+use Rattle.std.specs.Prelude.{◌≡◌, ℕ, List, Option, None}
+use Rattle.std.specs.Borrow.{Bor}
+use Rattle.std.specs.declared.vec.Vec.{Vec}
+use Rattle.streams.specs.Counted.{counted_reading}
+use Rattle.streams.specs.Reading.{Reading}
+use Rattle.stream_sets.specs.AsChar.{IsAlpha, IsAlphanum}
+use Rattle.stream_sets.specs.Range.{from_to}
+use Rattle.winnow_exact.specs.Grammar.{Both, Class, Gathered, Grammar, Maybe, Parted, Three}
+use Rattle.winnow_exact.specs.Grammar.Known.{Byte}
+
+module _ {K T L : Type 0} (reading : Reading T L) (seen : K → T) (code : K → ℕ)
+    (literal : ℕ → Grammar T ℕ) where
+  -- the longest beginning of letters, at least one; and behind it an equals sign and the longest
+  -- beginning of letters and digits, at least one, or neither stands there
+  abbrev pub OptionOf : Grammar T (L × Option L)
+  OptionOf = Both (λ name value. (name, value)) (Class IsAlpha 1 code seen reading)
+      (Maybe (Both (λ _ value. value) (literal 61) (Class IsAlphanum 1 code seen reading)))
+
+  -- as many as stand, with commas between them, in brackets
+  abbrev pub OptionsOf : {A : Type 0} → Grammar T (Vec (L × Option L) A)
+  OptionsOf {A} = Three (λ _ list _. list) (literal 91)
+      (Gathered (λ (list : Vec (L × Option L) A) options. list.items ≡ options)
+      (Parted OptionOf (literal 44) (from_to 0 None))) (literal 93)
+
+-- over bytes
+abbrev pub AreOptions : {A : Type 0} → Grammar ℕ (Vec (Bor (List ℕ) × Option (Bor (List ℕ))) A)
+AreOptions = OptionsOf counted_reading (λ b. b) (λ b. b) Byte

@@ -1,0 +1,91 @@
+//! Options in brackets, as `[mode=fast,debug]`: a composition of eleven parsers that reads by its
+//! grammar, on a whole input and in pieces.
+#![tactic(auto)]
+
+ghost use Rattle.std.specs.Prelude.{◌≡◌, []};
+ghost use Rattle.stream_errors.specs.Form.{modal};
+ghost use Rattle.streams.specs.Bytes.{bytes_follow, bytes_input, bytes_reading};
+ghost use Rattle.uses_options.specs.Options.{AreOptions, OptionsOf};
+ghost use Rattle.winnow_exact.specs.Exact.{Reads};
+ghost use Rattle.winnow_exact.specs.Exact.Cut.{ReadsOrAsks};
+ghost use Rattle.winnow_exact.specs.Exact.Tokens.{SeesApart};
+ghost use Rattle.winnow_exact.specs.Grammar.{Literally};
+
+use std::alloc::Allocator;
+use stream_errors::empty::EmptyError;
+use stream_errors::mode::ErrMode;
+use stream_errors::parser_error::ParserError;
+use stream_searches::compare::Compare;
+use stream_sets::as_char::AsChar;
+use stream_sets::range::Range;
+use streams::has_kind::HasKind;
+use streams::partial::Partial;
+use streams::stream::{Stream, StreamIsPartial};
+use winnow_ascii::ascii::impls::{Alpha1, Alphanumeric1};
+use winnow_comb::combinator::{delimited, opt, preceded};
+use winnow_exact::pieces::ReadsPieces;
+use winnow_separated::combinator::separated;
+
+/// Options in brackets, from any stream of bytes.
+fn options<I, E, A>(alloc: A, input: &mut I) -> Result<Vec<(I::Slice, Option<I::Slice>), A>, E>
+where
+    I: StreamIsPartial + Compare<u8>,
+    I::Token: AsChar,
+    E: ParserError<I>,
+    A: Allocator + Copy,
+    requires modal { E.form ≡ modal }
+    requires seen { SeesApart I.seen_as }
+    requires comma { I.spells 44 [] → ⊥ }
+    ensures { ReadsOrAsks I.reading I.following E.kind (OptionsOf I.reading I.seen_as
+        I.Token.code (Literally I.reading I.spells (λ s _. s))) (I.view input.old) result
+        (I.view input.new) }
+{
+    let option = (Alpha1, opt(preceded(b'=', Alphanumeric1)));
+    delimited(b'[', separated(alloc, Range::from(0..), option, b','), b']').read_cut(input)
+}
+
+/// Options in brackets: names of letters, each with a value of letters and digits behind an equals
+/// sign, or without one, and commas between them. What stands first is read, and what is behind the
+/// bracket that closes is left. An error leaves an end of the input, and backtracks: no options
+/// stand first. Else it wants memory.
+///
+/// ```
+/// use uses_options::read_options;
+///
+/// let mut input = b"[mode=fast,debug];".as_slice();
+/// let options = read_options(alloc, &mut input);
+/// assert!(rt; matches!(options, Ok(list) if list[1] == (b"debug".as_slice(), None)));
+/// assert_eq!(rt; input, b";".as_slice());
+/// ```
+pub fn read_options<'i, A: Allocator + Copy>(
+    alloc: A,
+    input: &mut &'i [u8],
+) -> Result<Vec<(&'i [u8], Option<&'i [u8]>), A>, ErrMode<EmptyError>>
+    ensures { Reads bytes_reading ⟦<ErrMode<EmptyError> as HasKind>⟧.kind AreOptions
+        (bytes_input input.old.now) result (bytes_input input.new.now) }
+{
+    options(alloc, input)
+}
+
+/// As [`read_options`], from an input to which more may come: what it answers there, it answers
+/// whatever follows. Else it asks for more, by `Incomplete`.
+///
+/// ```
+/// use stream_errors::mode::ErrMode;
+/// use streams::partial::Partial;
+/// use uses_options::read_options_in_pieces;
+///
+/// let mut piece = Partial::new(b"[mode=fast".as_slice());
+/// let asks = read_options_in_pieces(alloc, &mut piece);
+/// assert!(rt; matches!(asks, Err(ErrMode::Incomplete(_))));
+/// ```
+pub fn read_options_in_pieces<'i, A: Allocator + Copy>(
+    alloc: A,
+    input: &mut Partial<&'i [u8]>,
+) -> Result<Vec<(&'i [u8], Option<&'i [u8]>), A>, ErrMode<EmptyError>>
+    ensures { ReadsOrAsks bytes_reading bytes_follow ⟦<ErrMode<EmptyError> as HasKind>⟧.kind
+        AreOptions (⟦<Partial<&'static [u8]> as Stream>⟧.view input.old) result
+        (⟦<Partial<&'static [u8]> as Stream>⟧.view input.new) }
+{
+    options(alloc, input)
+}

@@ -1,0 +1,5 @@
+//! The tests of values of JSON that are written as text.
+#![tactic(auto)]
+
+#[cfg(test)]
+mod strings;
