@@ -26,6 +26,7 @@ READERS = [
         "the request line, field line and head that bytes begin with"),
     ("HTTP/1.1 heads, in pieces", "uses_http", "no", "the same, whole and in pieces"),
     ("DNS headers", "uses_dns", "no", "the header, and which part is missing"),
+    ("DNS names, compressed", "dns_names", "yes", "the name at a place, or why and where none is"),
     ("INI", "readers", "no", "`Ok` exactly where the bytes are a document of these sections"),
     ("formulas", "readers_calc", "no", "`Ok(v)` exactly where the one tree has this value"),
 ]

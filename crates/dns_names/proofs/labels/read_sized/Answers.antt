@@ -1,0 +1,10 @@
+use Rattle.winnow_exact.specs.Exact.Read.{reads_by}
+use Rattle.dns_names.proofs.labels.read_sized.Goals as goal
+
+pub returns : goal.returns
+returns g c = reads_by c.read.ensures (rw (
+  c.repeat.ensures.occurrences,
+  c.repeat.ensures.parser,
+  c.from.ensures,
+  c.length_take.ensures,
+))

@@ -1,0 +1,50 @@
+//! Labels, one behind the other.
+ghost use Rattle.dns_names.specs.Names.{IsLabel};
+ghost use Rattle.std.specs.Prelude.{◌≡◌, None};
+ghost use Rattle.stream_sets.specs.Range.{from_to};
+ghost use Rattle.streams.specs.Bytes.{bytes_input, bytes_reading};
+ghost use Rattle.winnow_exact.specs.Exact.{Reads};
+ghost use Rattle.winnow_exact.specs.Grammar.{Counted, Gathered, Many};
+ghost use Rattle.winnow_exact.specs.Grammar.Lengths.{SaysOne, Sized};
+
+use std::alloc::Allocator;
+use stream_errors::empty::EmptyError;
+use stream_errors::mode::ErrMode;
+use stream_errors::parser_error::ParserError;
+use stream_sets::numbers::ToUsize;
+use stream_sets::range::Range;
+use streams::has_kind::HasKind;
+use streams::stream::StreamIsPartial;
+use winnow_binary::binary::length_take;
+use winnow_exact::exact::Exact;
+use winnow_repeat::combinator::repeat;
+use winnow_token::token::one_of;
+
+/// Tokens behind their number, as often as they stand one behind the other.
+fn read_sized<I, E, N, P, A>(alloc: A, count: P, input: &mut I) -> Result<Vec<I::Slice, A>, E>
+where
+    I: StreamIsPartial,
+    E: ParserError<I>,
+    N: ToUsize + Drop,
+    P: Exact<I, N, E> + Drop,
+    A: Allocator + Copy,
+    requires count { P.can_parse count × P.premise count × P.backtracks count × P.consumes count }
+    requires says { SaysOne N.number (P.grammar count) }
+    ensures { Reads I.reading E.kind (Gathered (λ list parts. list.items ≡ parts)
+        (Many (Sized N.number (Counted I.reading) (P.grammar count)) (from_to 0 None)))
+        (I.view input.old) result (I.view input.new) }
+{
+    repeat(alloc, Range::from(0..), length_take(count)).read(input)
+}
+
+/// The labels that the bytes begin with, each behind its length from 1 to 63.
+pub fn read_labels<'i, A: Allocator + Copy>(
+    alloc: A,
+    input: &mut &'i [u8],
+) -> Result<Vec<&'i [u8], A>, ErrMode<EmptyError>>
+    ensures { Reads bytes_reading ⟦<ErrMode<EmptyError> as HasKind>⟧.kind
+        (Gathered (λ list labels. list.items ≡ labels) (Many IsLabel (from_to 0 None)))
+        (bytes_input input.old.now) result (bytes_input input.new.now) }
+{
+    read_sized(alloc, one_of(1..=63), input)
+}
