@@ -12,8 +12,8 @@ READERS = [
     ("options in brackets", "uses_options", "yes",
         "the options that bytes begin with, whole and in pieces, by one composition"),
     ("CSV (RFC 4180)", "uses_csv", "yes",
-        "`Ok` exactly where the bytes are a document of these records; one record, whole and in "
-        "pieces"),
+        "`Ok` exactly where the bytes are a document of these records, or a table; one record, "
+        "whole and in pieces"),
     ("RESP2", "uses_resp", "yes",
         "the reply that bytes begin with, nested to a level, whole and in pieces"),
     ("JSON (RFC 8259): numbers, strings, words", "json_reader", "yes",

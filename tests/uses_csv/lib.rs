@@ -9,3 +9,5 @@ mod fields;
 mod pieces;
 #[cfg(test)]
 mod refused;
+#[cfg(test)]
+mod tables;

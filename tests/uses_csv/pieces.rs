@@ -17,10 +17,23 @@ const LINES: &[(&[u8], usize)] = &[
     (b"\"\"\r\n\r\n", 4),
 ];
 
+/// The same, where the line end is a line feed alone.
+const BY_LINE_FEEDS: &[(&[u8], usize)] = &[
+    (b"a,b\nc,d", 4),
+    (b"\n\n", 1),
+    (b"\"x\ny\r\n\",\"\"\"\"\n\"", 13),
+    (b"\"\"\n\r\n", 3),
+];
+
 /// How many bytes the record of a piece takes; none where more is asked for.
-fn taken<A: Allocator + Copy>(rt: &impl Abort, alloc: A, piece: &[u8]) -> Option<usize> {
+fn taken<A: Allocator + Copy>(
+    rt: &impl Abort,
+    alloc: A,
+    end: LineEnd,
+    piece: &[u8],
+) -> Option<usize> {
     let mut input = Partial::new(piece);
-    let answer = read_record_in_pieces(alloc, LineEnd::CrLf, &mut input);
+    let answer = read_record_in_pieces(alloc, end, &mut input);
     assert!(rt; input.is_partial());
     match answer {
         Ok(_) => Some(piece.len() - input.as_inner().len()),
@@ -37,10 +50,12 @@ fn taken<A: Allocator + Copy>(rt: &impl Abort, alloc: A, piece: &[u8]) -> Option
 
 #[test]
 fn read_record_at_every_cut(rt: HostRuntime) {
-    for (text, length) in LINES {
-        for cut in 0..text.len() + 1 {
-            let want = if cut < *length { None } else { Some(*length) };
-            assert_eq!(rt; taken(&rt, rt.alloc(), &text[..cut]), want, "{text:?} {cut}");
+    for (end, rows) in [(LineEnd::CrLf, LINES), (LineEnd::Lf, BY_LINE_FEEDS)] {
+        for (text, length) in rows {
+            for cut in 0..text.len() + 1 {
+                let want = if cut < *length { None } else { Some(*length) };
+                assert_eq!(rt; taken(&rt, rt.alloc(), end, &text[..cut]), want, "{text:?} {cut}");
+            }
         }
     }
 }

@@ -1,4 +1,6 @@
 -- Written by scripts/registries.py: do not edit.
 pub mod Csv
+pub mod One
 pub mod Pieces
 pub mod Read
+pub mod Table

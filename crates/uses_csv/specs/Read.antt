@@ -6,8 +6,7 @@ use Rattle.std.specs.declared.vec.Vec.{Vec}
 use Rattle.std.proofs.Common.{refl, sym, ap, subst, inl, inr, ◌∙◌, arith, length-append}
 use Rattle.std.proofs.lemmas.List.{append-nil}
 use Rattle.streams.specs.Counted.{counted_reading}
-use Rattle.streams.specs.Equal.{same_first, same_others, same_rest, true_is_false}
-use Rattle.streams.specs.Input.{Input}
+use Rattle.streams.specs.Equal.{same_first, same_others, true_is_false}
 use Rattle.streams.specs.Kind.{Kind}
 use Rattle.streams.specs.declared.needed.Needed.{Needed}
 use Rattle.stream_errors.specs.declared.fault.ParseFault.{ParseFault}
@@ -17,8 +16,7 @@ use Rattle.uses_csv.specs.Csv.{AreRecords, FieldText, InQuotes, IsPlain, IsRecor
 use Rattle.uses_csv.specs.Csv.{QuotedText, RecordText, line_end}
 use Rattle.uses_csv.specs.declared.LineEnd.{LineEnd}
 use Rattle.uses_csv.specs.declared.LineEnd.TheVariants.{CrLf, Lf}
-use Rattle.winnow_exact.specs.Exact.{Reads}
-use Rattle.winnow_exact.specs.Exact.Same.{Same, reads_as, unique_as}
+use Rattle.winnow_exact.specs.Exact.Same.{Same, unique_as}
 use Rattle.winnow_exact.specs.Exact.Tokens.{token_of_takes}
 use Rattle.winnow_exact.specs.Exact.Whole.{ReadsAll, reads_all_as}
 use Rattle.winnow_exact.specs.Grammar.{Ahead, Both, Either, Gathered, Grammar, IsUnique, Literally}
@@ -28,11 +26,11 @@ use Rattle.winnow_exact.specs.Grammar.Known.{Byte, byte_stands, byte_takes, byte
 use Rattle.winnow_exact.specs.Grammar.Known.{repeated_list, slice_for}
 use Rattle.winnow_exact.specs.Grammar.Sequences.{three_unique}
 use Rattle.winnow_exact.specs.Grammar.Unique.{ahead_unique, both_take, both_unique, either_takes}
-use Rattle.winnow_exact.specs.Grammar.Unique.{either_unique, gathered_unique, many_unique}
+use Rattle.winnow_exact.specs.Grammar.Unique.{either_unique, gathered_unique, literally_unique}
+use Rattle.winnow_exact.specs.Grammar.Unique.{made_unique, many_unique}
 use Rattle.winnow_exact.specs.Grammar.Unique.{parted_unique, token_of_unique}
-use Rattle.winnow_exact.specs.Texts.{Anything, InFront, IsGrammarOf, Itself, MayBegin, NotFirst}
-use Rattle.winnow_exact.specs.Texts.{OneOf}
-use Rattle.winnow_exact.specs.Texts.{Spelled}
+use Rattle.winnow_exact.specs.Texts.{Anything, AtLeast, InFront, InList, IsGrammarOf, Itself}
+use Rattle.winnow_exact.specs.Texts.{MayBegin, NotFirst, OneOf, Row, Spelled}
 use Rattle.winnow_exact.specs.Texts.Fronts.{begins_wider, front_any, front_begins, front_behind}
 use Rattle.winnow_exact.specs.Texts.Fronts.{in_list_front, may_begin_more, none_begins}
 use Rattle.winnow_exact.specs.Texts.Fronts.{one_of_begins}
@@ -54,7 +52,7 @@ Lists list os = list.items ≡ os
 abbrev pub InQuotesRead : Grammar ℕ ℕ
 InQuotesRead = Either (Both (λ _ b. b) (Byte 34) (Byte 34)) (TokenOf (λ b. b) (Others Tells) 34)
 
-in_quotes : IsGrammarOf InQuotesRead InQuotes Anything
+pub in_quotes : IsGrammarOf InQuotesRead InQuotes Anything
 in_quotes = either_apart (both_of (λ _ b. b) (byte_of 34) (byte_of 34) front_any)
     (token_of (λ b. b) (Others Tells) 34 (divides_others Tells 34 (divides_where (λ b. b ≡ 34))))
     (then_front (λ _ b. b) (spelled_begins 34 [] 34) front_any)
@@ -70,7 +68,7 @@ in_quotes_takes = either_takes
     (token_of_takes (λ b. b) (Others Tells) 34)
 
 -- a closing quote, behind which no other one stands
-abbrev IsClosed : List ℕ → Type 0
+abbrev pub IsClosed : List ℕ → Type 0
 IsClosed bytes = (rest : List ℕ) × (bytes ≡ 34 ∷ rest) × NotFirst (λ b. b ≡ 34) rest
 
 none_in_quotes : (bytes : List ℕ) → IsClosed bytes → NoneStands InQuotesRead bytes
@@ -87,30 +85,37 @@ unfolding Spelled
 closes = record { makes = λ b front rest (is, e) only. (rest, ap (λ l. l ++ rest) e, only) }
 
 module _ {A : Type 0} where
-  -- by `delimited(b'"', repeat(alloc, Range::from(0..), ..), b'"')`
+  -- by `repeat(alloc, Range::from(0..), ..)`
+  abbrev ListRead : Grammar ℕ (Vec ℕ A)
+  ListRead = Gathered Lists (Many InQuotesRead (from_to 0 None))
+
+  pub in_quotes_list : IsGrammarOf ListRead (InList (AtLeast 0 (Row InQuotes))) IsClosed
+  in_quotes_list = list_of (many_of in_quotes (from_to 0 None) 0 refl front_any (λ rest x. tt)
+      none_in_quotes)
+
+  pub list_unique : IsUnique ListRead
+  list_unique = gathered_unique Lists (many_unique in_quotes_unique (from_to 0 None))
+
+  -- by `delimited(b'"', .., b'"')`
   abbrev pub QuotedRead : Grammar ℕ (Vec ℕ A)
-  QuotedRead = Three (λ _ o _. o) (Byte 34)
-      (Gathered Lists (Many InQuotesRead (from_to 0 None))) (Byte 34)
+  QuotedRead = Three (λ _ o _. o) (Byte 34) ListRead (Byte 34)
 
   quoted : IsGrammarOf QuotedRead QuotedText (NotFirst (λ b. b ≡ 34))
-  quoted = three_of (λ _ o. o) (λ o _. o) (byte_of 34)
-      (list_of (many_of in_quotes (from_to 0 None) 0
-      refl front_any (λ rest x. tt) none_in_quotes))
+  quoted = three_of (λ _ o. o) (λ o _. o) (byte_of 34) in_quotes_list
       (behind_less (λ rest x. tt) (byte_of 34)) front_any closes
 
   pub quoted_unique : IsUnique QuotedRead
-  quoted_unique = three_unique (λ _ o _. o) (byte_unique 34) (gathered_unique Lists (many_unique
-      in_quotes_unique (from_to 0 None))) (byte_unique 34)
+  quoted_unique = three_unique (λ _ o _. o) (byte_unique 34) list_unique (byte_unique 34)
 
 -- what the set `(b'"', b',', b'\r', b'\n')` tells
 abbrev Special : ℕ × ℕ × ℕ × ℕ → ℕ → Bool → Type 0
 Special s = EitherTells (Tells s.0) (EitherTells (Tells s.1) (EitherTells (Tells s.2) (Tells s.3)))
 
 -- a carriage return or line feed; and these or a comma
-abbrev IsBreak : ℕ → Type 0
+abbrev pub IsBreak : ℕ → Type 0
 IsBreak b = (b ≡ 13) ⊎ ((b ≡ 13 → ⊥) × (b ≡ 10))
 
-abbrev IsEnd : ℕ → Type 0
+abbrev pub IsEnd : ℕ → Type 0
 IsEnd b = (b ≡ 34 → ⊥) × ((b ≡ 44) ⊎ ((b ≡ 44 → ⊥) × IsBreak b))
 
 break_ends : (b : ℕ) → IsBreak b → IsEnd b
@@ -121,11 +126,17 @@ break_ends b (inr (other, is)) =
 abbrev PlainByte : Grammar ℕ ℕ
 PlainByte = TokenOf (λ b. b) (Others Special) (34, 44, 13, 10)
 
-plain_byte : IsGrammarOf PlainByte (OneOf (λ b. b) IsPlain) Anything
+pub plain_byte : IsGrammarOf PlainByte (OneOf (λ b. b) IsPlain) Anything
 plain_byte = token_of (λ b. b) (Others Special) (34, 44, 13, 10)
     (divides_others Special (34, 44, 13, 10) (divides_either (divides_where (λ b. b ≡ 34))
     (divides_either (divides_where (λ b. b ≡ 44))
     (divides_either (divides_where (λ b. b ≡ 13)) (divides_where (λ b. b ≡ 10))))))
+
+pub plain_byte_unique : IsUnique PlainByte
+plain_byte_unique = token_of_unique (λ b. b) (Others Special) (34, 44, 13, 10)
+
+pub comma_ends : InFront (Itself 44) Anything (MayBegin IsEnd)
+comma_ends = front_begins (λ b is. (λ e. omega (arith, is, e), inl is)) (spelled_begins 44 [] 44)
 
 not_quote : (rest : List ℕ) → MayBegin IsEnd rest → NotFirst (λ b. b ≡ 34) rest
 not_quote = may_begin_more IsEnd (λ b. b ≡ 34 → ⊥) (λ b end. end.0)
@@ -156,7 +167,7 @@ module _ {A : Type 0} where
   abbrev pub FieldRead : Grammar ℕ (Vec ℕ A)
   FieldRead = Either QuotedRead PlainRead
 
-  field : IsGrammarOf FieldRead FieldText (MayBegin IsEnd)
+  pub field : IsGrammarOf FieldRead FieldText (MayBegin IsEnd)
   field = either_apart (behind_less not_quote quoted)
       (list_of (many_of plain_byte (from_to 0 None) 0 refl front_any (λ rest x. tt) no_plain))
       (then_front (λ _ o. o) (spelled_begins 34 [] 34) front_any)
@@ -164,8 +175,7 @@ module _ {A : Type 0} where
       (λ b (k, e, plain) is. plain.0 (e ∙ is)) (one_of_begins (λ b. b) IsPlain)))))
 
   pub plain_unique : IsUnique PlainRead
-  plain_unique = gathered_unique Lists
-      (many_unique (token_of_unique (λ b. b) (Others Special) (34, 44, 13, 10)) (from_to 0 None))
+  plain_unique = gathered_unique Lists (many_unique plain_byte_unique (from_to 0 None))
 
   pub field_unique : IsUnique FieldRead
   field_unique = either_unique quoted_unique plain_unique
@@ -176,8 +186,7 @@ module _ {A : Type 0} where
 
   pub fields : IsGrammarOf FieldsRead RecordText (MayBegin IsBreak)
   fields = list_of (parted_of field (byte_of 44)
-      (front_begins (λ b is. (λ e. omega (arith, is, e), inl is)) (spelled_begins 44 [] 44))
-      front_any
+      comma_ends front_any
       (from_to 1 None) 1 refl (may_begin_more IsBreak IsEnd break_ends) no_comma
       (λ rest never. absurd (omega (arith, never))))
 
@@ -187,7 +196,7 @@ module _ {A : Type 0} where
 
 -- ---- records
 
-breaks : (ends : LineEnd) (rest : List ℕ) → MayBegin IsBreak (line_end ends ++ rest)
+pub breaks : (ends : LineEnd) (rest : List ℕ) → MayBegin IsBreak (line_end ends ++ rest)
 breaks CrLf rest = inl refl
 breaks Lf rest = inr (λ e. omega (arith, e), refl)
 
@@ -196,7 +205,7 @@ some_end CrLf = omega arith
 some_end Lf = omega arith
 
 -- by `alt((literal(end).void(), Eof.void()))`
-abbrev AnyEnd : Bor (List ℕ) → Grammar ℕ (Unit {0})
+abbrev pub AnyEnd : Bor (List ℕ) → Grammar ℕ (Unit {0})
 AnyEnd end = Either
     (Made (λ (_ : Unit {0}) o (u : Unit {0}). ⊤) tt
     (Literally counted_reading (λ s xs. xs ≡ s.now) (λ _ slice. slice) end))
@@ -232,36 +241,22 @@ same_end ends end is = record {
   ];
 }
 
-pub end_unique : (ends : LineEnd) → IsUnique (EndRead ends)
-unfolding EndRead
-end_unique ends = record {
-  ends = λ bytes u rest it. elim it [
-    | inl e ↦ (line_end ends, e)
-    | inr (empty, left) ↦ ([], empty ∙ sym left)
-  ];
-  one = λ bytes u v rest other it too. elim it [
-    | inl e ↦ elim too [
-      | inl f ↦ same_rest (line_end ends) rest other (sym e ∙ f)
-      | inr (empty, left) ↦ absurd (never bytes rest e empty)
-    ]
-    | inr (empty, left) ↦ elim too [
-      | inl f ↦ absurd (never bytes other f empty)
-      | inr (_, none) ↦ left ∙ sym none
-    ]
-  ];
+nothing_unique : IsUnique {T = ℕ} {O = Bor (List ℕ)} (NoTokens counted_reading)
+unfolding NoTokens
+nothing_unique = record {
+  ends = λ bytes slice rest (empty, left, shown). ([], empty ∙ sym left);
+  one = λ bytes o p rest other (empty, left, shown) (none, end, same). left ∙ sym end;
 }
-  where
-    never : (bytes rest : List ℕ) → bytes ≡ line_end ends ++ rest → bytes ≡ [] → ⊥
-    never bytes rest e empty = omega (
-      arith,
-      some_end ends,
-      ap (λ l. length l) empty,
-      ap (λ l. length l) e,
-      length-append (line_end ends) rest,
-    )
+
+pub end_unique : (ends : LineEnd) → IsUnique (EndRead ends)
+end_unique ends = let (end, is) = slice_for (line_end ends) in
+    unique_as (same_end ends end is) (either_unique
+    (made_unique (λ (_ : Unit {0}) o (u : Unit {0}). ⊤) tt (literally_unique counted_reading
+    (λ s xs. xs ≡ s.now) (λ _ slice. slice) end (λ xs ys e f. ap (λ l. length l) (e ∙ sym f))))
+    (made_unique (λ (_ : Unit {0}) o (u : Unit {0}). ⊤) tt nothing_unique))
 
 -- by `terminated(preceded(peek(Any), ..), ..)`
-abbrev RecordRead : {A : Type 0} → LineEnd → Grammar ℕ (Vec (Vec ℕ A) A)
+abbrev pub RecordRead : {A : Type 0} → LineEnd → Grammar ℕ (Vec (Vec ℕ A) A)
 RecordRead ends = Both (λ fields _. fields)
     (Both (λ _ fields. fields) (Ahead (Token (λ b. b))) FieldsRead) (EndRead ends)
 
@@ -301,26 +296,12 @@ module _ {A : Type 0} (ends : LineEnd) where
   back bytes list rest (some, text, t, inr (e, none)) =
       behind bytes text [] rest list some t (e ∙ sym (append-nil text)) tt (inr (refl, none))
 
-  same_record : Same (RecordRead {A = A} ends) (IsRecord ends)
+  pub same_record : Same (RecordRead {A = A} ends) (IsRecord ends)
   same_record = record { there = there; back = back }
 
-  pub reads_record : {E : Type 0} {kind : E → Kind} {g : Grammar ℕ (Vec (Vec ℕ A) A)}
-      {i j : Input ℕ} {result : Result (Vec (Vec ℕ A) A) E}
-      → Reads counted_reading kind g i result j → g ≡ RecordRead ends
-      → Reads counted_reading kind (IsRecord ends) i result j
-  reads_record {E} {kind} {g} {i} {j} {result} r e = reads_as same_record (rw e at r)
-
-pub reads_end : {E : Type 0} {kind : E → Kind} {g : Grammar ℕ (Unit {0})} {i j : Input ℕ}
-    {result : Result (Unit {0}) E} (ends : LineEnd) (end : Bor (List ℕ)) → end.now ≡ line_end ends
-    → Reads counted_reading kind g i result j → g ≡ AnyEnd end
-    → Reads counted_reading kind (EndRead ends) i result j
-reads_end {E} {kind} {g} {i} {j} {result} ends end is r e =
-    reads_as (same_end ends end is) (rw e at r)
-
-module _ {A : Type 0} (ends : LineEnd) where
   -- what is left behind a record is one
   pub record_unique : IsUnique (IsRecord {A = A} ends)
-  record_unique = unique_as (same_record ends) (both_unique (λ fields _. fields)
+  record_unique = unique_as same_record (both_unique (λ fields _. fields)
       (both_unique (λ _ fields. fields) (ahead_unique (Token (λ b. b))) fields_unique)
       (end_unique ends))
 

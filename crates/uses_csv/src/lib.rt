@@ -19,6 +19,7 @@ ghost use Rattle.winnow_exact.specs.Exact.{Reads};
 ghost use Rattle.winnow_exact.specs.Exact.Whole.{ReadsAll};
 
 pub mod pieces;
+pub mod table;
 
 use std::alloc::Allocator;
 use stream_errors::empty::EmptyError;

@@ -1,9 +1,8 @@
-use Rattle.uses_csv.specs.Read.{reads_end}
+use Rattle.uses_csv.specs.Read.{same_end}
+use Rattle.winnow_exact.specs.Exact.Read.{reads_by}
+use Rattle.winnow_exact.specs.Exact.Same.{reads_as}
 use Rattle.uses_csv.proofs.read_end.Goals as goal
 
 pub returns : goal.returns
-returns c = reads_end c.args.end c.bytes.result c.bytes.ensures c.read.ensures (rw (
-  c.alt.ensures,
-  c.void.ensures,
-  c.literal.ensures,
-))
+returns c = reads_as (same_end c.args.end c.bytes.result c.bytes.ensures)
+    (reads_by c.read.ensures (rw (c.alt.ensures, c.void.ensures, c.literal.ensures)))

@@ -1,8 +1,8 @@
-use Rattle.uses_csv.specs.Read.{reads_record}
+use Rattle.uses_csv.specs.Read.{same_record}
+use Rattle.winnow_exact.specs.Exact.Read.{reads_by}
+use Rattle.winnow_exact.specs.Exact.Same.{reads_as}
 use Rattle.uses_csv.proofs.read_record.Goals as goal
 
 pub returns : goal.returns
-returns g c = reads_record c.args.end c.read.ensures (rw (
-  c.terminated.ensures.ignored,
-  c.by-end.ensures.rule,
-))
+returns g c = reads_as (same_record c.args.end)
+    (reads_by c.read.ensures (rw (c.terminated.ensures.ignored, c.by-end.ensures.rule)))
