@@ -24,6 +24,8 @@ READERS = [
     ("JSON: extents, in pieces", "uses_json", "no", "where a value ends, whole and in pieces"),
     ("HTTP/1.1 heads (RFC 9112)", "http_heads", "yes",
         "the request line, field line and head that bytes begin with"),
+    ("HTTP/1.1 size lines of chunks", "http_chunks", "yes",
+        "the size line that bytes begin with, with its extensions, whole and in pieces"),
     ("HTTP/1.1 heads, in pieces", "uses_http", "no", "the same, whole and in pieces"),
     ("DNS headers", "uses_dns", "no", "the header, and which part is missing"),
     ("DNS names, compressed", "dns_names", "yes", "the name at a place, or why and where none is"),

@@ -1,0 +1,8 @@
+use Rattle.winnow_exact.specs.InTurn.{told_by}
+use Rattle.http_chunks.proofs.lines.ended.Goals as goal
+
+pub returns : goal.returns
+returns g c = told_by c.read_cut.ensures (rw (
+  c.terminated.ensures.parser,
+  c.terminated.ensures.ignored,
+))

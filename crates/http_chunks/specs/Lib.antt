@@ -1,0 +1,6 @@
+-- Written by scripts/registries.py: do not edit.
+pub mod Lines
+pub mod Read
+pub mod Refusals
+pub mod SizeLine
+pub mod Written

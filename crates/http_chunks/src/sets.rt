@@ -1,0 +1,31 @@
+//! The bytes of quoted strings.
+#![tactic(auto)]
+
+ghost use Rattle.http_chunks.specs.Lines.{IsQuotedByte};
+ghost use Rattle.std.specs.Prelude.{◌↔◌, IsTrue};
+ghost use Rattle.winnow_exact.specs.Exact.Tokens.{holds_once};
+
+use stream_sets::sets::ContainsToken;
+use winnow_exact::sets::Decides;
+
+/// The bytes that stand for themselves in a quoted string.
+#[derive(Clone, Copy, Drop)]
+pub(crate) struct QuotedBytes;
+
+impl ContainsToken<u8> for QuotedBytes {
+    ghost tells = { λ s b answer. IsTrue answer ↔ IsQuotedByte b };
+
+    #[inline]
+    fn contains_token(&self, b: u8) -> bool {
+        b == b'\t'
+            || b == b' '
+            || b == b'!'
+            || (b'#' <= b && b <= b'[')
+            || (b']' <= b && b <= b'~')
+            || b >= 128
+    }
+}
+
+impl Decides<u8> for QuotedBytes {
+    ghost once = { λ s is. holds_once IsQuotedByte };
+}

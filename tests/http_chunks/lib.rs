@@ -1,0 +1,9 @@
+//! The tests of size lines of chunks, and of which requests are refused.
+#![tactic(auto)]
+
+#[cfg(test)]
+mod pieces;
+#[cfg(test)]
+mod refusals;
+#[cfg(test)]
+mod size_lines;
