@@ -1,4 +1,5 @@
 -- Written by scripts/registries.py: do not edit.
+pub mod Answered
 pub mod Csv
 pub mod One
 pub mod Pieces

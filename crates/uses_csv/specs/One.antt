@@ -98,16 +98,17 @@ module _ {A : Type 0} (ends : LineEnd) where
       let (zs, ws, u, f, can) = behind_text bytes p other b in
       (split_one fields fields_unique record_text_one o p xs zs ys ws t u may can (sym e ∙ f)).0
 
-  never : {P : Type 0} (bytes : List ℕ) (o : Vec (Vec ℕ A) A) (rest : List ℕ)
+  -- in no bytes no record stands
+  pub no_bytes : {P : Type 0} (bytes : List ℕ) (o : Vec (Vec ℕ A) A) (rest : List ℕ)
       → IsRecord ends bytes o rest → [] ≡ bytes → P
   unfolding IsRecord
-  never bytes o rest (some, text, t, way) e = absurd (omega (arith, some, ap (λ l. length l) e))
+  no_bytes bytes o rest (some, text, t, way) e = absurd (omega (arith, some, ap (λ l. length l) e))
 
   each_one : (os ps : List (Vec (Vec ℕ A) A)) (bytes : List ℕ) → Each (IsRecord ends) bytes os []
       → Each (IsRecord ends) bytes ps [] → AllZip SameFields os ps
   each_one [] [] bytes a b = tt
-  each_one [] (p ∷ ps) bytes a (mid, x, more) = never bytes p mid x a
-  each_one (o ∷ os) [] bytes (mid, x, more) b = never bytes o mid x b
+  each_one [] (p ∷ ps) bytes a (mid, x, more) = no_bytes bytes p mid x a
+  each_one (o ∷ os) [] bytes (mid, x, more) b = no_bytes bytes o mid x b
   each_one (o ∷ os) (p ∷ ps) bytes (mid, x, more) (behind, y, others) =
       let P : List ℕ → Type 0 = λ l. Each (IsRecord ends) l ps [] in
       let same = (record_unique ends).one bytes o p mid behind x y in

@@ -1,8 +1,8 @@
 -- Records of which the line end is there: they are those of every longer input.
-use Rattle.std.specs.Prelude.{◌≡◌, ◌<◌, false, true, ℕ, List, ◌++◌, length, Result, Ok, Err, IfOk}
+use Rattle.std.specs.Prelude.{◌≡◌, false, true, ℕ, List, ◌++◌, length, Result, Ok, Err, IfOk}
 use Rattle.std.specs.Borrow.{Bor}
 use Rattle.std.specs.declared.vec.Vec.{Vec}
-use Rattle.std.proofs.Common.{refl, sym, ap, subst, inl, inr, ◌∙◌, arith, append_assoc}
+use Rattle.std.proofs.Common.{refl, sym, ap, subst, inl, ◌∙◌, arith, append_assoc}
 use Rattle.std.proofs.Common.{length-append}
 use Rattle.streams.specs.Bytes.{bytes_follow, bytes_input, bytes_reading}
 use Rattle.streams.specs.Counted.{counted_reading}

@@ -1,5 +1,6 @@
 //! Tables: documents whose first record is a header (RFC 4180, section 2, items 3 and 4).
 
+ghost use Rattle.uses_csv.specs.Answered.{IsAnswered};
 ghost use Rattle.uses_csv.specs.Table.{FieldTold, FirstNamed, FirstOdd, HeadTold, TableTold};
 
 use crate::{LineEnd, Record, parse_document};
@@ -125,8 +126,10 @@ pub fn parse_table<'i, A: Allocator + Copy>(
     end: LineEnd,
     input: &'i [u8],
 ) -> Result<Table<A>, TableFault<ParseFault<&'i [u8], EmptyError>>>
-    ensures { TableTold ⟦<ErrMode<EmptyError> as ParserError<&'i [u8]>>⟧.inner_kind end input.now
-        result }
+    ensures told { TableTold ⟦<ErrMode<EmptyError> as ParserError<&'i [u8]>>⟧.inner_kind end
+        input.now result }
+    ensures answered { IsAnswered ⟦<ErrMode<EmptyError> as ParserError<&'i [u8]>>⟧.inner_kind end
+        input.now result }
 {
     match parse_document(alloc, end, input) {
         Ok(records) => table_of(records),
