@@ -35,11 +35,12 @@ space_most : (b : ℕ) → IsSpace b → b < 33
 space_most b (inl is) = omega (arith, is)
 space_most b (inr is) = omega (arith, is)
 
--- a byte of a token is no control, no white space, no quote, no semicolon and no equals sign
+-- a byte of a token is no control, no white space, no quote, no colon, no semicolon and no equals
+-- sign
 abbrev IsPlain : ℕ → Type 0
-IsPlain b = (33 ≤ b) × (b ≡ 34 → ⊥) × ((b ≤ 58) ⊎ (62 ≤ b))
+IsPlain b = (33 ≤ b) × (b ≡ 34 → ⊥) × ((b ≤ 57) ⊎ (62 ≤ b))
 
-between_plain : (first last b : ℕ) → 35 ≤ first → (last ≤ 58) ⊎ (62 ≤ first) → first ≤ b
+between_plain : (first last b : ℕ) → 35 ≤ first → (last ≤ 57) ⊎ (62 ≤ first) → first ≤ b
     → b ≤ last → IsPlain b
 between_plain first last b least (inl most) above below = (
   omega (arith, least, above),
@@ -72,13 +73,16 @@ token_plain b (inr (inr (inr (inr (inr (inr (inr (inr is)))))))) =
     (omega (arith, is), (λ e. omega (arith, is, e)), inr (omega (arith, is)))
 
 -- so none of the marks round names and values
-token_no_mark : (b : ℕ) → (58 < b) → (b < 62) → IsTokenByte b → ⊥
+pub token_no_mark : (b : ℕ) → (57 < b) → (b < 62) → IsTokenByte b → ⊥
 token_no_mark b above below is = elim (token_plain b is).2 [
   | inl most ↦ omega (arith, most, above)
   | inr least ↦ omega (arith, least, below)
 ]
 
-token_no_space : (b : ℕ) → IsTokenByte b → IsSpace b → ⊥
+pub token_least : (b : ℕ) → IsTokenByte b → 33 ≤ b
+token_least b token = (token_plain b token).0
+
+pub token_no_space : (b : ℕ) → IsTokenByte b → IsSpace b → ⊥
 token_no_space b token space = omega (arith, (token_plain b token).0, space_most b space)
 
 bare_61 : IsSpace 61 → ⊥

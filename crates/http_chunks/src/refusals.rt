@@ -1,9 +1,9 @@
 //! Which requests a server must refuse, of those whose head was read.
 //!
 //! White space between the name of a field and its colon (RFC 9112, section 5.1), and a carriage
-//! return with no line feed behind it (section 2.2), stand in no head that
-//! [`read_head`](http_heads::head::read_head) reads: it backtracks there. The value of a Host field
-//! is not looked at.
+//! return in a name or a value (section 2.2), stand in no head that
+//! [`read_head`](http_heads::head::read_head) reads, by the [laws](crate::laws) of field lines: it
+//! backtracks there. The value of a Host field is not looked at.
 #![tactic(auto)]
 
 ghost use Rattle.http_chunks.specs.Refusals.{AreHosts, IsRefusal};
