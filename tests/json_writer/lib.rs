@@ -2,4 +2,10 @@
 #![tactic(auto)]
 
 #[cfg(test)]
+mod numbers;
+#[cfg(test)]
+mod refused;
+#[cfg(test)]
 mod strings;
+#[cfg(test)]
+mod values;

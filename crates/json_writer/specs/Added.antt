@@ -28,6 +28,10 @@ keeps_trans {before} first second = record {
       ∙ append_assoc before first.more second.more;
 }
 
+pub keeps_more : {before after : List ℕ} (more : List ℕ) → after ≡ before ++ more
+    → Keeps before after
+keeps_more more e = record { more = more; behind = e }
+
 pub adds_keep : {O : Type 0} {text : Text ℕ O} {o : O} {before after : List ℕ}
     → Adds text o before after → Keeps before after
 adds_keep added = record { more = encode_utf8_all added.tokens; behind = added.behind }

@@ -1,0 +1,37 @@
+-- What is read of a text that was written.
+use Rattle.std.specs.Prelude.{◌≡◌, ℕ, List, Result, Ok, IfErr}
+use Rattle.std.specs.Str.{chars}
+use Rattle.std.proofs.Common.{sym, subst}
+use Rattle.streams.specs.Kind.{Kind}
+use Rattle.streams.specs.declared.needed.Needed.{Needed}
+use Rattle.stream_errors.specs.declared.fault.ParseFault.{ParseFault}
+use Rattle.json_texts.specs.Values.{JsonText, ValueText}
+use Rattle.json_texts.specs.declared.value.Value.{Value}
+use Rattle.json_writer.specs.Alike.{AreAlike, texts_alike}
+use Rattle.json_writer.specs.Within.{IsWithin, within_alone, within_refl, within_spaced}
+use Rattle.winnow_exact.specs.Exact.Whole.{IsWant}
+use Rattle.winnow_exact.specs.Held.{HasCharacters}
+use Rattle.winnow_exact.specs.Texts.Told.{IsTextOf, text_found}
+
+module _ {A : Type 0} (level : ℕ) (v : Value A) {text : List ℕ} (shown : List ℕ)
+    (same : shown ≡ text) (written : ValueText HasCharacters level v (chars text)) where
+  -- a text of a value is a text of JSON
+  json_shown : JsonText HasCharacters level v (chars shown)
+  json_shown =
+      let P : List ℕ → Type 0 = λ l. ValueText HasCharacters level v (chars l) in
+      let alone : IsWithin (ValueText {A = A} HasCharacters level)
+      (JsonText HasCharacters level) = within_alone (within_spaced within_refl) in
+      alone.told v (chars shown) (subst P (sym same) written)
+
+  module _ {I X : Type 0} {kind : X → Kind} where
+    -- what is read is alike
+    pub read_alike : {read : Value A}
+        → IsTextOf {I = I} kind (JsonText HasCharacters level) (chars shown) (Ok read)
+        → AreAlike level v read
+    read_alike {read} told = texts_alike level v read (chars shown) json_shown told.stands
+
+    -- and only memory may be wanting
+    pub read_wants : {result : Result (Value A) (ParseFault I X Needed)}
+        → IsTextOf kind (JsonText HasCharacters level) (chars shown) result
+        → IfErr result (λ fault. IsWant kind fault)
+    read_wants told = text_found told v json_shown
