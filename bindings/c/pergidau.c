@@ -9,6 +9,24 @@ uint32_t exported_calc_value(
     const uint8_t *text,
     size_t text_length,
     struct pergidau_number *out);
+uint32_t exported_csv_record(
+    const uint8_t *bytes,
+    size_t bytes_length,
+    uint32_t line_feeds,
+    uint8_t *text,
+    size_t text_length,
+    struct pergidau_span *fields,
+    size_t fields_length,
+    struct pergidau_record *out);
+uint32_t exported_csv_record_in_pieces(
+    const uint8_t *bytes,
+    size_t bytes_length,
+    uint32_t line_feeds,
+    uint8_t *text,
+    size_t text_length,
+    struct pergidau_span *fields,
+    size_t fields_length,
+    struct pergidau_record *out);
 uint32_t exported_http_head(
     const uint8_t *bytes,
     size_t bytes_length,
@@ -34,6 +52,16 @@ uint32_t exported_json_value(
     size_t bytes_length,
     size_t levels,
     size_t *out);
+uint32_t exported_resp_reply(
+    const uint8_t *bytes,
+    size_t bytes_length,
+    size_t levels,
+    struct pergidau_reply *out);
+uint32_t exported_resp_reply_in_pieces(
+    const uint8_t *bytes,
+    size_t bytes_length,
+    size_t levels,
+    struct pergidau_reply *out);
 uint32_t exported_text_position(
     const uint8_t *bytes,
     size_t bytes_length,
@@ -59,6 +87,98 @@ enum pergidau_code pergidau_calc_value(
         text = &no_text;
     }
     return (enum pergidau_code)exported_calc_value(text, text_length, out);
+}
+
+enum pergidau_code pergidau_csv_record(
+    const uint8_t *bytes,
+    size_t bytes_length,
+    uint32_t line_feeds,
+    uint8_t *text,
+    size_t text_length,
+    struct pergidau_span *fields,
+    size_t fields_length,
+    struct pergidau_record *out)
+{
+    const uint8_t no_bytes = {0};
+    uint8_t no_text = {0};
+    struct pergidau_span no_fields = {0};
+    if (bytes_length > PTRDIFF_MAX / sizeof(uint8_t)) {
+        return PERGIDAU_TOO_LONG;
+    }
+    if (bytes == NULL && bytes_length > 0) {
+        return PERGIDAU_NULL;
+    }
+    if (text_length > PTRDIFF_MAX / sizeof(uint8_t)) {
+        return PERGIDAU_TOO_LONG;
+    }
+    if (text == NULL && text_length > 0) {
+        return PERGIDAU_NULL;
+    }
+    if (fields_length > PTRDIFF_MAX / sizeof(struct pergidau_span)) {
+        return PERGIDAU_TOO_LONG;
+    }
+    if (fields == NULL && fields_length > 0) {
+        return PERGIDAU_NULL;
+    }
+    if (out == NULL) {
+        return PERGIDAU_NULL;
+    }
+    if (bytes == NULL) {
+        bytes = &no_bytes;
+    }
+    if (text == NULL) {
+        text = &no_text;
+    }
+    if (fields == NULL) {
+        fields = &no_fields;
+    }
+    return (enum pergidau_code)exported_csv_record(bytes, bytes_length, line_feeds, text, text_length, fields, fields_length, out);
+}
+
+enum pergidau_code pergidau_csv_record_in_pieces(
+    const uint8_t *bytes,
+    size_t bytes_length,
+    uint32_t line_feeds,
+    uint8_t *text,
+    size_t text_length,
+    struct pergidau_span *fields,
+    size_t fields_length,
+    struct pergidau_record *out)
+{
+    const uint8_t no_bytes = {0};
+    uint8_t no_text = {0};
+    struct pergidau_span no_fields = {0};
+    if (bytes_length > PTRDIFF_MAX / sizeof(uint8_t)) {
+        return PERGIDAU_TOO_LONG;
+    }
+    if (bytes == NULL && bytes_length > 0) {
+        return PERGIDAU_NULL;
+    }
+    if (text_length > PTRDIFF_MAX / sizeof(uint8_t)) {
+        return PERGIDAU_TOO_LONG;
+    }
+    if (text == NULL && text_length > 0) {
+        return PERGIDAU_NULL;
+    }
+    if (fields_length > PTRDIFF_MAX / sizeof(struct pergidau_span)) {
+        return PERGIDAU_TOO_LONG;
+    }
+    if (fields == NULL && fields_length > 0) {
+        return PERGIDAU_NULL;
+    }
+    if (out == NULL) {
+        return PERGIDAU_NULL;
+    }
+    if (bytes == NULL) {
+        bytes = &no_bytes;
+    }
+    if (text == NULL) {
+        text = &no_text;
+    }
+    if (fields == NULL) {
+        fields = &no_fields;
+    }
+    return (enum pergidau_code)exported_csv_record_in_pieces(bytes, bytes_length, line_feeds, text, text_length, fields, fields_length, out);
 }
 
 enum pergidau_code pergidau_http_head(
@@ -186,6 +306,50 @@ enum pergidau_code pergidau_json_value(
         bytes = &no_bytes;
     }
     return (enum pergidau_code)exported_json_value(bytes, bytes_length, levels, out);
+}
+
+enum pergidau_code pergidau_resp_reply(
+    const uint8_t *bytes,
+    size_t bytes_length,
+    size_t levels,
+    struct pergidau_reply *out)
+{
+    const uint8_t no_bytes = {0};
+    if (bytes_length > PTRDIFF_MAX / sizeof(uint8_t)) {
+        return PERGIDAU_TOO_LONG;
+    }
+    if (bytes == NULL && bytes_length > 0) {
+        return PERGIDAU_NULL;
+    }
+    if (out == NULL) {
+        return PERGIDAU_NULL;
+    }
+    if (bytes == NULL) {
+        bytes = &no_bytes;
+    }
+    return (enum pergidau_code)exported_resp_reply(bytes, bytes_length, levels, out);
+}
+
+enum pergidau_code pergidau_resp_reply_in_pieces(
+    const uint8_t *bytes,
+    size_t bytes_length,
+    size_t levels,
+    struct pergidau_reply *out)
+{
+    const uint8_t no_bytes = {0};
+    if (bytes_length > PTRDIFF_MAX / sizeof(uint8_t)) {
+        return PERGIDAU_TOO_LONG;
+    }
+    if (bytes == NULL && bytes_length > 0) {
+        return PERGIDAU_NULL;
+    }
+    if (out == NULL) {
+        return PERGIDAU_NULL;
+    }
+    if (bytes == NULL) {
+        bytes = &no_bytes;
+    }
+    return (enum pergidau_code)exported_resp_reply_in_pieces(bytes, bytes_length, levels, out);
 }
 
 enum pergidau_code pergidau_text_position(

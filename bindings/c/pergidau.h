@@ -52,6 +52,27 @@ enum pergidau_code {
  */
 #define PERGIDAU_MOST_LEVELS 512
 
+/* A simple string: bytes among which is neither a carriage return nor a line feed. */
+#define PERGIDAU_RESP_SIMPLE 0
+
+/* An error: such bytes. */
+#define PERGIDAU_RESP_ERROR 1
+
+/* An integer. */
+#define PERGIDAU_RESP_INTEGER 2
+
+/* A bulk string: any bytes. */
+#define PERGIDAU_RESP_BULK 3
+
+/* The null bulk string. */
+#define PERGIDAU_RESP_NULL_BULK 4
+
+/* An array. */
+#define PERGIDAU_RESP_ARRAY 5
+
+/* The null array. */
+#define PERGIDAU_RESP_NULL_ARRAY 6
+
 /* A place in the caller's bytes: so many of them, from one on. */
 struct pergidau_span {
     /* How many bytes stand before it. */
@@ -66,6 +87,16 @@ struct pergidau_number {
     int64_t value;
     /* Where it is refused: how many bytes stand before the place. Else 0. */
     size_t place;
+};
+
+/* What a record has. */
+struct pergidau_record {
+    /* How many fields there are. */
+    size_t fields;
+    /* How many bytes the fields have together, as they are written. */
+    size_t text;
+    /* How many bytes the record has where it was read, the line end among them. */
+    size_t length;
 };
 
 /* The places of a field. */
@@ -102,6 +133,23 @@ struct pergidau_pair {
     size_t place;
 };
 
+/* A reply. */
+struct pergidau_reply {
+    /* What it is: a number of those from PERGIDAU_RESP_SIMPLE to PERGIDAU_RESP_NULL_ARRAY. */
+    size_t kind;
+    /* The number that an integer is. Else 0. */
+    int64_t number;
+    /* How many elements an array has. Else 0. */
+    size_t elements;
+    /*
+     * The bytes of a string or of an error, or those of the elements of an array, which are
+     * replies, one behind the other. Else nothing.
+     */
+    struct pergidau_span place;
+    /* How many bytes the reply has. */
+    size_t length;
+};
+
 /* A place in a text, as a reader of the text would say it. */
 struct pergidau_position {
     /* The number of the line, from 1 on. */
@@ -131,6 +179,57 @@ enum pergidau_code pergidau_calc_value(
     const uint8_t *text,
     size_t text_length,
     struct pergidau_number *out);
+
+/*
+ * The record of comma separated values (RFC 4180) with which the bytes begin. A line end
+ * stands behind it, or the end of the bytes: a carriage return and a line feed where
+ * line_feeds is 0, and else a line feed alone. A field in quotes may have any bytes, and each
+ * quote in it is doubled; one without has no quote, comma, carriage return or line feed. No
+ * bytes begin with no record, and a line end alone is a record of one empty field.
+ *
+ * PERGIDAU_DONE: the bytes of the fields, without the quotes round them and with each quote
+ * once, are written into text, one field behind the other, and so many places there, in order.
+ * PERGIDAU_REFUSED: the bytes begin with no record. PERGIDAU_TOO_SMALL: they begin with one
+ * that wants more entries or more bytes than the buffers have; how many of both is written,
+ * and the buffers are left as they were. PERGIDAU_NO_MEMORY.
+ *
+ * The caller owes bytes_length bytes at bytes that can be read and that nothing changes while
+ * the call runs, text_length bytes at text and fields_length entries at fields that can be
+ * written, and room for one record at out, each apart from the others.
+ */
+enum pergidau_code pergidau_csv_record(
+    const uint8_t *bytes,
+    size_t bytes_length,
+    uint32_t line_feeds,
+    uint8_t *text,
+    size_t text_length,
+    struct pergidau_span *fields,
+    size_t fields_length,
+    struct pergidau_record *out);
+
+/*
+ * The same record where the bytes come in pieces: it answers as soon as a line end is there
+ * that ends it, and then the record is that of all longer bytes too.
+ *
+ * PERGIDAU_DONE, PERGIDAU_TOO_SMALL, PERGIDAU_NO_MEMORY: as for a record that is whole.
+ * PERGIDAU_INCOMPLETE: no record with its line end is there yet; also where none can come, so
+ * the caller bounds how many bytes are held. PERGIDAU_REFUSED: whatever comes behind the
+ * bytes, they begin with no record. The last record may have no line end: where no more bytes
+ * come, the call for whole ones reads it.
+ *
+ * The caller owes bytes_length bytes at bytes that can be read and that nothing changes while
+ * the call runs, text_length bytes at text and fields_length entries at fields that can be
+ * written, and room for one record at out, each apart from the others.
+ */
+enum pergidau_code pergidau_csv_record_in_pieces(
+    const uint8_t *bytes,
+    size_t bytes_length,
+    uint32_t line_feeds,
+    uint8_t *text,
+    size_t text_length,
+    struct pergidau_span *fields,
+    size_t fields_length,
+    struct pergidau_record *out);
 
 /*
  * The head of a request of HTTP/1.1 (RFC 9112) with which the bytes begin: a request line,
@@ -217,6 +316,42 @@ enum pergidau_code pergidau_json_value(
     size_t bytes_length,
     size_t levels,
     size_t *out);
+
+/*
+ * The reply of Redis (RESP2, the second version of its protocol) with which the bytes begin,
+ * in which no more than levels arrays stand in one another. The elements of an array are read
+ * by further calls, of the bytes at its place and of those behind each element.
+ *
+ * A number has no leading zero, and 0 has no sign; a size may have a plus sign before it.
+ *
+ * PERGIDAU_DONE: the reply is written. PERGIDAU_REFUSED: the bytes begin with none.
+ * PERGIDAU_TOO_DEEP: more than 512 levels are asked for. PERGIDAU_NO_MEMORY.
+ *
+ * The caller owes bytes_length bytes at bytes that can be read and that nothing changes while
+ * the call runs, room for one reply at out, apart from them, and 512 KiB of stack.
+ */
+enum pergidau_code pergidau_resp_reply(
+    const uint8_t *bytes,
+    size_t bytes_length,
+    size_t levels,
+    struct pergidau_reply *out);
+
+/*
+ * The same reply where the bytes come in pieces: what it answers is that of all longer bytes
+ * too.
+ *
+ * PERGIDAU_DONE, PERGIDAU_TOO_DEEP, PERGIDAU_NO_MEMORY: as for a reply that is whole.
+ * PERGIDAU_INCOMPLETE: more bytes are needed. PERGIDAU_REFUSED: whatever comes behind the
+ * bytes, they begin with no reply.
+ *
+ * The caller owes bytes_length bytes at bytes that can be read and that nothing changes while
+ * the call runs, room for one reply at out, apart from them, and 512 KiB of stack.
+ */
+enum pergidau_code pergidau_resp_reply_in_pieces(
+    const uint8_t *bytes,
+    size_t bytes_length,
+    size_t levels,
+    struct pergidau_reply *out);
 
 /*
  * The line and the column of the place behind the first offset bytes. Bytes that are no text

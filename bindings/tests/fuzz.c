@@ -50,11 +50,14 @@ static const char *const seeds[] = {
     "[\"\\\"\", 0.1E-7, false]",
     "a,\"b \"\"c\"\"\",\r\n\"d\ne\",f\r\n",
     "GET /hello.txt HTTP/1.1\r\nUser-Agent: curl/7.64.1\r\nHost: www.example.com\r\n\r\n",
+    "+OK\r\n:-12\r\n$-1\r\n",
+    "*3\r\n$3\r\nfoo\r\n*1\r\n:7\r\n*-1\r\n+",
+    "$6\r\nfoo\r\n*\r\n-ERR x\r\n",
     "PUT /x HTTP/1.0\r\nX: 1\r\nX:\t2 \r\nY:\r\nZ: \t \r\n\r\nbody",
 };
 enum { SEEDS = sizeof seeds / sizeof *seeds };
 
-static const char wanted[] = "0123456789+-*/%^!= \t\r\n:;,\"\\[]{}eEntfu.GETHTTP/1.\xff\xc3\x80";
+static const char wanted[] = "0123456789+-*/%^!= \t\r\n:;,\"\\[]{}$eEntfu.GETHTTP/1.\xff\xc3\x80";
 
 /* Fills the bytes: at random, or from parts of seeds, some of whose bytes are turned. */
 static size_t fill(uint8_t *bytes, size_t most)
@@ -194,6 +197,89 @@ static void read_head(const uint8_t *bytes, size_t length)
     }
 }
 
+/* A buffer of the size that ends where the second room does, with nothing in it yet. */
+static void *buffer(size_t size)
+{
+    return memset(buffer_room + PAGES * page - size, 0xab, size);
+}
+
+static void read_record(const uint8_t *bytes, size_t length)
+{
+    struct pergidau_record out, cut;
+    uint32_t line_feeds = (uint32_t)below(3);
+    size_t most = below(24), count = below(4);
+    size_t size = count * sizeof(struct pergidau_span);
+    /* The entries stand behind the bytes, so that too many of these are seen there. */
+    struct pergidau_span *places = buffer(size);
+    uint8_t *text = (uint8_t *)memset((uint8_t *)places - most, 0xab, most);
+    enum pergidau_code code =
+        pergidau_csv_record(bytes, length, line_feeds, text, most, places, count, &out);
+    if (code == PERGIDAU_TOO_SMALL) {
+        HOLDS(out.fields > count || out.text > most);
+        for (size_t i = 0; i < most + size; i++) {
+            HOLDS(text[i] == 0xab);
+        }
+        HOLDS(out.fields <= length + 1 && out.text <= length);
+        most = out.text;
+        count = out.fields;
+        places = malloc(count * sizeof *places);
+        text = (uint8_t *)buffer(most);
+        HOLDS(places != NULL);
+        code = pergidau_csv_record(bytes, length, line_feeds, text, most, places, count, &out);
+        HOLDS(code == PERGIDAU_DONE && out.fields == count && out.text == most);
+        free(places);
+    } else if (code == PERGIDAU_DONE) {
+        size_t sum = 0;
+        HOLDS(out.fields >= 1 && out.length >= 1 && out.length <= length);
+        for (size_t i = 0; i < out.fields; i++) {
+            HOLDS(places[i].offset == sum && within(places[i], out.text));
+            sum += places[i].length;
+        }
+        HOLDS(sum == out.text);
+        /* The record alone is one, and what is one in pieces is the same. */
+        HOLDS(pergidau_csv_record(bytes, out.length, line_feeds, text, most, places, count, &cut)
+              == PERGIDAU_DONE);
+        HOLDS(cut.length == out.length && cut.fields == out.fields && cut.text == out.text);
+        code = pergidau_csv_record_in_pieces(bytes, length, line_feeds, text, most, places, count,
+                                             &cut);
+        HOLDS(code == PERGIDAU_DONE || (code == PERGIDAU_INCOMPLETE && out.length == length));
+        HOLDS(code == PERGIDAU_INCOMPLETE || cut.length == out.length);
+    } else {
+        HOLDS(code == PERGIDAU_REFUSED);
+        code = pergidau_csv_record_in_pieces(bytes, length, line_feeds, text, most, places, count,
+                                             &cut);
+        HOLDS(code == PERGIDAU_INCOMPLETE);
+    }
+}
+
+static void read_reply(const uint8_t *bytes, size_t length)
+{
+    struct pergidau_reply out, part;
+    size_t levels = below(4);
+    enum pergidau_code code = pergidau_resp_reply(bytes, length, levels, &out);
+    enum pergidau_code piece = pergidau_resp_reply_in_pieces(bytes, length, levels, &part);
+    if (code != PERGIDAU_DONE) {
+        HOLDS(code == PERGIDAU_REFUSED);
+        HOLDS(piece == PERGIDAU_REFUSED || piece == PERGIDAU_INCOMPLETE);
+        return;
+    }
+    HOLDS(piece == PERGIDAU_DONE && part.length == out.length && part.kind == out.kind);
+    HOLDS(out.length >= 3 && out.length <= length && within(out.place, out.length));
+    HOLDS(!memcmp(bytes + out.length - 2, "\r\n", 2));
+    HOLDS((out.kind == PERGIDAU_RESP_ARRAY) == (bytes[0] == '*' && bytes[1] != '-'));
+    /* Its elements are replies, one behind the other, and fill its place. */
+    size_t at = out.place.offset, end = at + out.place.length;
+    for (size_t i = 0; i < out.elements; i++) {
+        HOLDS(pergidau_resp_reply(bytes + at, end - at, levels - 1, &part) == PERGIDAU_DONE);
+        at += part.length;
+    }
+    HOLDS(out.kind != PERGIDAU_RESP_ARRAY || at == end);
+    /* No shorter beginning is a reply, and each can become one. */
+    size_t cut = below(out.length);
+    HOLDS(pergidau_resp_reply(bytes, cut, levels, &part) == PERGIDAU_REFUSED);
+    HOLDS(pergidau_resp_reply_in_pieces(bytes, cut, levels, &part) == PERGIDAU_INCOMPLETE);
+}
+
 static void read_place(const uint8_t *bytes, size_t length)
 {
     struct pergidau_position out;
@@ -207,6 +293,8 @@ static void read_all(const uint8_t *bytes, size_t length)
     read_pair(bytes, length);
     read_json(bytes, length);
     read_head(bytes, length);
+    read_record(bytes, length);
+    read_reply(bytes, length);
     read_place(bytes, length);
 }
 

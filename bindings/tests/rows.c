@@ -254,6 +254,188 @@ static void test_heads(void)
     }
 }
 
+enum { MOST_CSV = 4 };
+
+/* Of line feeds alone, and of carriage returns and line feeds. */
+static const struct {
+    const char *text;
+    uint32_t line_feeds;
+    const char *fields[MOST_CSV];
+    size_t count, rest;
+} records[] = {
+    {"aaa,bbb,ccc\r\nzzz,yyy,xxx\r\n", 0, {"aaa", "bbb", "ccc"}, 3, 13},
+    {"zzz,yyy,xxx", 0, {"zzz", "yyy", "xxx"}, 3, 0},
+    {"\"aaa\",\"b\r\nbb\",\"ccc\"\r\nzzz", 0, {"aaa", "b\r\nbb", "ccc"}, 3, 3},
+    {"\"aaa\",\"b\"\"bb\",\"ccc\"", 0, {"aaa", "b\"bb", "ccc"}, 3, 0},
+    {"a,\n\n", 1, {"a", ""}, 2, 1},
+    {"\n", 1, {""}, 1, 0},
+    {"\"\"\"\"\n,", 7, {"\""}, 1, 1},
+    {",,\"\",", 1, {"", "", "", ""}, 4, 0},
+};
+
+/* With a line end behind them these are no records either. */
+static const char *no_records[] = {"a\"", "\"a\"b", "a\r\n", "\"a\" ", "a\rb"};
+
+static void test_record(size_t i)
+{
+    const char *row = records[i].text;
+    uint32_t line_feeds = records[i].line_feeds;
+    size_t length = strlen(row), count = records[i].count, bytes = 0, sum = 0;
+    uint8_t *input = copied(row, length);
+    struct pergidau_record out;
+    for (size_t k = 0; k < count; k++) {
+        bytes += strlen(records[i].fields[k]);
+    }
+    uint8_t *text = copied(row, bytes);
+    struct pergidau_span *places = malloc(count * sizeof *places);
+    if (places == NULL) {
+        exit(2);
+    }
+    same("csv_record", row,
+         pergidau_csv_record(input, length, line_feeds, text, bytes, places, count, &out),
+         PERGIDAU_DONE);
+    same("the length", row, (long long)out.length, (long long)(length - records[i].rest));
+    same("the fields", row, (long long)out.fields, (long long)count);
+    same("the bytes", row, (long long)out.text, (long long)bytes);
+    for (size_t k = 0; k < count; k++) {
+        shown(row, text, places[k], records[i].fields[k]);
+        same("the place", row, (long long)places[k].offset, (long long)sum);
+        sum += places[k].length;
+    }
+    same("no entry", row,
+         pergidau_csv_record(input, length, line_feeds, text, bytes, places, count - 1, &out),
+         PERGIDAU_TOO_SMALL);
+    same("wanted entries", row, (long long)out.fields, (long long)count);
+    if (bytes > 0) {
+        same("no byte", row,
+             pergidau_csv_record(input, length, line_feeds, text, bytes - 1, places, count, &out),
+             PERGIDAU_TOO_SMALL);
+        same("wanted bytes", row, (long long)out.text, (long long)bytes);
+    }
+    /* In pieces it is one once its line end is there. */
+    size_t end = length - records[i].rest;
+    bool ended = end > 0 && input[end - 1] == '\n';
+    for (size_t room = 0; room <= end; room++) {
+        uint8_t *piece = copied(row, room);
+        same("a piece", row,
+             pergidau_csv_record_in_pieces(piece, room, line_feeds, text, bytes, places, count,
+                                           &out),
+             ended && room == end ? PERGIDAU_DONE : PERGIDAU_INCOMPLETE);
+        free(piece);
+    }
+    free(places);
+    free(text);
+    free(input);
+}
+
+static void test_records(void)
+{
+    struct pergidau_record out;
+    for (size_t i = 0; i < sizeof records / sizeof *records; i++) {
+        test_record(i);
+    }
+    for (size_t i = 0; i < sizeof no_records / sizeof *no_records; i++) {
+        uint8_t text[8];
+        struct pergidau_span places[MOST_CSV];
+        size_t length = strlen(no_records[i]);
+        uint8_t *input = copied(no_records[i], length);
+        same("no record", no_records[i],
+             pergidau_csv_record(input, length, 1, text, sizeof text, places, MOST_CSV, &out),
+             PERGIDAU_REFUSED);
+        free(input);
+    }
+}
+
+static const struct {
+    const char *bytes;
+    size_t levels, kind;
+    long long number;
+    size_t elements;
+    const char *text;
+    size_t rest;
+} replies[] = {
+    {"+OK\r\n", 0, PERGIDAU_RESP_SIMPLE, 0, 0, "OK", 0},
+    {"-ERR unknown\r\n+", 0, PERGIDAU_RESP_ERROR, 0, 0, "ERR unknown", 1},
+    {":1000\r\n", 0, PERGIDAU_RESP_INTEGER, 1000, 0, "", 0},
+    {":-1\r\n", 0, PERGIDAU_RESP_INTEGER, -1, 0, "", 0},
+    {"$6\r\nfoobar\r\n$", 0, PERGIDAU_RESP_BULK, 0, 0, "foobar", 1},
+    {"$2\r\n\r\n\r\n", 0, PERGIDAU_RESP_BULK, 0, 0, "\r\n", 0},
+    {"$0\r\n\r\n", 0, PERGIDAU_RESP_BULK, 0, 0, "", 0},
+    {"$-1\r\n", 0, PERGIDAU_RESP_NULL_BULK, 0, 0, "", 0},
+    {"*-1\r\n", 0, PERGIDAU_RESP_NULL_ARRAY, 0, 0, "", 0},
+    {"*0\r\n*", 1, PERGIDAU_RESP_ARRAY, 0, 0, "", 1},
+    {"*2\r\n:1\r\n$1\r\na\r\n", 1, PERGIDAU_RESP_ARRAY, 0, 2, ":1\r\n$1\r\na\r\n", 0},
+    {"*1\r\n*1\r\n+a\r\n+b\r\n", 2, PERGIDAU_RESP_ARRAY, 0, 1, "*1\r\n+a\r\n", 4},
+};
+
+/* With more behind them these are no replies of no level either. */
+static const char *no_replies[] = {"x",       ":1a\r\n", ":01\r\n",        "$-2\r\n",
+                                   "+a\rb", "+a\n",    "$1\r\nab\r\n", "*1\r\n:1\r\n"};
+
+static void test_replies(void)
+{
+    struct pergidau_reply out;
+    for (size_t i = 0; i < sizeof replies / sizeof *replies; i++) {
+        const char *row = replies[i].bytes;
+        size_t length = strlen(row), levels = replies[i].levels;
+        for (size_t end = 0; end <= length; end++) {
+            bool whole = end >= length - replies[i].rest;
+            uint8_t *bytes = copied(row, end);
+            same("a piece", row, pergidau_resp_reply_in_pieces(bytes, end, levels, &out),
+                 whole ? PERGIDAU_DONE : PERGIDAU_INCOMPLETE);
+            same("resp_reply", row, pergidau_resp_reply(bytes, end, levels, &out),
+                 whole ? PERGIDAU_DONE : PERGIDAU_REFUSED);
+            if (whole) {
+                same("the kind", row, (long long)out.kind, (long long)replies[i].kind);
+                same("the number", row, out.number, replies[i].number);
+                same("the elements", row, (long long)out.elements, (long long)replies[i].elements);
+                same("the length", row, (long long)out.length,
+                     (long long)(length - replies[i].rest));
+                shown(row, bytes, out.place, replies[i].text);
+            }
+            free(bytes);
+        }
+        if (levels > 0) {
+            same("fewer levels", row,
+                 pergidau_resp_reply((const uint8_t *)row, length, levels - 1, &out),
+                 PERGIDAU_REFUSED);
+        }
+    }
+    for (size_t i = 0; i < sizeof no_replies / sizeof *no_replies; i++) {
+        size_t length = strlen(no_replies[i]);
+        uint8_t *bytes = copied(no_replies[i], length);
+        same("no reply", no_replies[i], pergidau_resp_reply(bytes, length, 0, &out),
+             PERGIDAU_REFUSED);
+        same("no reply", no_replies[i], pergidau_resp_reply_in_pieces(bytes, length, 0, &out),
+             PERGIDAU_REFUSED);
+        free(bytes);
+    }
+    /* As many arrays in one another as may be asked for. */
+    size_t most = PERGIDAU_MOST_LEVELS;
+    uint8_t *deep = malloc(4 * most + 3);
+    if (deep == NULL) {
+        exit(2);
+    }
+    for (size_t i = 0; i < most; i++) {
+        memcpy(deep + 4 * i, "*1\r\n", 4);
+    }
+    memcpy(deep + 4 * most, "+\r\n", 3);
+    same("resp_reply", "deep arrays", pergidau_resp_reply(deep, 4 * most + 3, most, &out),
+         PERGIDAU_DONE);
+    same("resp_reply", "deeper arrays", pergidau_resp_reply(deep, 4 * most + 3, most - 1, &out),
+         PERGIDAU_REFUSED);
+    free(deep);
+    const uint8_t *bytes = (const uint8_t *)"+\r\n";
+    same("null", "reply", pergidau_resp_reply(NULL, 1, 0, &out), PERGIDAU_NULL);
+    same("null", "reply", pergidau_resp_reply(bytes, 3, 0, NULL), PERGIDAU_NULL);
+    same("too long", "reply", pergidau_resp_reply(bytes, (size_t)PTRDIFF_MAX + 1, 0, &out),
+         PERGIDAU_TOO_LONG);
+    same("too deep", "reply", pergidau_resp_reply(bytes, 3, PERGIDAU_MOST_LEVELS + 1, &out),
+         PERGIDAU_TOO_DEEP);
+    same("nothing", "reply", pergidau_resp_reply(NULL, 0, 0, &out), PERGIDAU_REFUSED);
+    same("nothing", "reply", pergidau_resp_reply_in_pieces(NULL, 0, 0, &out), PERGIDAU_INCOMPLETE);
+}
+
 static void test_positions(void)
 {
     const char *text = "gr\xc3\xb6\xc3\x9f" "e=1\nh\xc3\xb6he?2\n";
@@ -262,6 +444,37 @@ static void test_positions(void)
                                                            &out), PERGIDAU_DONE);
     same("the line", "a line", (long long)out.line, 2);
     same("the column", "a line", (long long)out.column, 5);
+}
+
+static void test_wrong_records(void)
+{
+    const uint8_t *bytes = (const uint8_t *)"a";
+    size_t far = (size_t)PTRDIFF_MAX + 1;
+    uint8_t text[1];
+    struct pergidau_span places[1];
+    struct pergidau_record out;
+    same("null", "record", pergidau_csv_record(NULL, 1, 0, text, 1, places, 1, &out),
+         PERGIDAU_NULL);
+    same("null", "record", pergidau_csv_record(bytes, 1, 0, NULL, 1, places, 1, &out),
+         PERGIDAU_NULL);
+    same("null", "record", pergidau_csv_record(bytes, 1, 0, text, 1, NULL, 1, &out),
+         PERGIDAU_NULL);
+    same("null", "record", pergidau_csv_record(bytes, 1, 0, text, 1, places, 1, NULL),
+         PERGIDAU_NULL);
+    same("too long", "record", pergidau_csv_record(bytes, far, 0, text, 1, places, 1, &out),
+         PERGIDAU_TOO_LONG);
+    same("too long", "record", pergidau_csv_record(bytes, 1, 0, text, far, places, 1, &out),
+         PERGIDAU_TOO_LONG);
+    same("too long", "record",
+         pergidau_csv_record(bytes, 1, 0, text, 1, places, (size_t)PTRDIFF_MAX / sizeof *places + 1,
+                             &out),
+         PERGIDAU_TOO_LONG);
+    same("nothing", "record", pergidau_csv_record(NULL, 0, 0, NULL, 0, NULL, 0, &out),
+         PERGIDAU_REFUSED);
+    same("no room", "record", pergidau_csv_record(bytes, 1, 0, NULL, 0, NULL, 0, &out),
+         PERGIDAU_TOO_SMALL);
+    same("nothing", "record", pergidau_csv_record_in_pieces(NULL, 0, 0, NULL, 0, NULL, 0, &out),
+         PERGIDAU_INCOMPLETE);
 }
 
 /* What no caller owes: it is refused, and nothing is read or written. */
@@ -301,6 +514,7 @@ static void test_wrong_use(void)
     same("wanted", "head", (long long)head.fields, 3);
     same("nothing", "head", pergidau_http_head_in_pieces(NULL, 0, NULL, 0, &head),
          PERGIDAU_INCOMPLETE);
+    test_wrong_records();
 }
 
 int main(void)
@@ -309,6 +523,8 @@ int main(void)
     test_pairs();
     test_json();
     test_heads();
+    test_records();
+    test_replies();
     test_positions();
     test_wrong_use();
     return wrong;

@@ -28,6 +28,27 @@ pub const TOO_DEEP: u32 = 6;
 /// stack.
 pub const MOST_LEVELS: usize = 512;
 
+/// A simple string: bytes among which is neither a carriage return nor a line feed.
+pub const RESP_SIMPLE: usize = 0;
+
+/// An error: such bytes.
+pub const RESP_ERROR: usize = 1;
+
+/// An integer.
+pub const RESP_INTEGER: usize = 2;
+
+/// A bulk string: any bytes.
+pub const RESP_BULK: usize = 3;
+
+/// The null bulk string.
+pub const RESP_NULL_BULK: usize = 4;
+
+/// An array.
+pub const RESP_ARRAY: usize = 5;
+
+/// The null array.
+pub const RESP_NULL_ARRAY: usize = 6;
+
 /// A place in the caller's bytes: so many of them, from one on.
 #[repr(C)]
 #[derive(Clone, Copy, Debug, Default, PartialEq, Eq)]
@@ -46,6 +67,18 @@ pub struct Number {
     pub value: i64,
     /// Where it is refused: how many bytes stand before the place. Else 0.
     pub place: usize,
+}
+
+/// What a record has.
+#[repr(C)]
+#[derive(Clone, Copy, Debug, Default, PartialEq, Eq)]
+pub struct Record {
+    /// How many fields there are.
+    pub fields: usize,
+    /// How many bytes the fields have together, as they are written.
+    pub text: usize,
+    /// How many bytes the record has where it was read, the line end among them.
+    pub length: usize,
 }
 
 /// The places of a field.
@@ -88,6 +121,23 @@ pub struct Pair {
     pub place: usize,
 }
 
+/// A reply.
+#[repr(C)]
+#[derive(Clone, Copy, Debug, Default, PartialEq, Eq)]
+pub struct Reply {
+    /// What it is: a number of those from `RESP_SIMPLE` to `RESP_NULL_ARRAY`.
+    pub kind: usize,
+    /// The number that an integer is. Else 0.
+    pub number: i64,
+    /// How many elements an array has. Else 0.
+    pub elements: usize,
+    /// The bytes of a string or of an error, or those of the elements of an array, which are
+    /// replies, one behind the other. Else nothing.
+    pub place: Span,
+    /// How many bytes the reply has.
+    pub length: usize,
+}
+
 /// A place in a text, as a reader of the text would say it.
 #[repr(C)]
 #[derive(Clone, Copy, Debug, Default, PartialEq, Eq)]
@@ -117,6 +167,54 @@ extern "C" {
         text: *const u8,
         text_length: usize,
         out: *mut Number,
+    ) -> u32;
+
+    /// The record of comma separated values (RFC 4180) with which the bytes begin. A line end stands
+    /// behind it, or the end of the bytes: a carriage return and a line feed where `line_feeds` is 0,
+    /// and else a line feed alone. A field in quotes may have any bytes, and each quote in it is
+    /// doubled; one without has no quote, comma, carriage return or line feed. No bytes begin with no
+    /// record, and a line end alone is a record of one empty field.
+    ///
+    /// `DONE`: the bytes of the fields, without the quotes round them and with each quote once, are
+    /// written into `text`, one field behind the other, and so many places there, in order. `REFUSED`:
+    /// the bytes begin with no record. `TOO_SMALL`: they begin with one that wants more entries or more
+    /// bytes than the buffers have; how many of both is written, and the buffers are left as they were.
+    /// `NO_MEMORY`.
+    ///
+    /// The caller owes `bytes_length` bytes at `bytes` that can be read and that nothing changes while
+    /// the call runs, `text_length` bytes at `text` and `fields_length` entries at `fields` that can be
+    /// written, and room for one record at `out`, each apart from the others.
+    pub fn exported_csv_record(
+        bytes: *const u8,
+        bytes_length: usize,
+        line_feeds: u32,
+        text: *mut u8,
+        text_length: usize,
+        fields: *mut Span,
+        fields_length: usize,
+        out: *mut Record,
+    ) -> u32;
+
+    /// The same record where the bytes come in pieces: it answers as soon as a line end is there that
+    /// ends it, and then the record is that of all longer bytes too.
+    ///
+    /// `DONE`, `TOO_SMALL`, `NO_MEMORY`: as for a record that is whole. `INCOMPLETE`: no record with
+    /// its line end is there yet; also where none can come, so the caller bounds how many bytes are
+    /// held. `REFUSED`: whatever comes behind the bytes, they begin with no record. The last record may
+    /// have no line end: where no more bytes come, the call for whole ones reads it.
+    ///
+    /// The caller owes `bytes_length` bytes at `bytes` that can be read and that nothing changes while
+    /// the call runs, `text_length` bytes at `text` and `fields_length` entries at `fields` that can be
+    /// written, and room for one record at `out`, each apart from the others.
+    pub fn exported_csv_record_in_pieces(
+        bytes: *const u8,
+        bytes_length: usize,
+        line_feeds: u32,
+        text: *mut u8,
+        text_length: usize,
+        fields: *mut Span,
+        fields_length: usize,
+        out: *mut Record,
     ) -> u32;
 
     /// The head of a request of HTTP/1.1 (RFC 9112) with which the bytes begin: a request line, field
@@ -196,6 +294,38 @@ extern "C" {
         bytes_length: usize,
         levels: usize,
         out: *mut usize,
+    ) -> u32;
+
+    /// The reply of Redis (RESP2, the second version of its protocol) with which the bytes begin, in
+    /// which no more than `levels` arrays stand in one another. The elements of an array are read by
+    /// further calls, of the bytes at its place and of those behind each element.
+    ///
+    /// A number has no leading zero, and 0 has no sign; a size may have a plus sign before it.
+    ///
+    /// `DONE`: the reply is written. `REFUSED`: the bytes begin with none. `TOO_DEEP`: more than 512
+    /// levels are asked for. `NO_MEMORY`.
+    ///
+    /// The caller owes `bytes_length` bytes at `bytes` that can be read and that nothing changes while
+    /// the call runs, room for one reply at `out`, apart from them, and 512 KiB of stack.
+    pub fn exported_resp_reply(
+        bytes: *const u8,
+        bytes_length: usize,
+        levels: usize,
+        out: *mut Reply,
+    ) -> u32;
+
+    /// The same reply where the bytes come in pieces: what it answers is that of all longer bytes too.
+    ///
+    /// `DONE`, `TOO_DEEP`, `NO_MEMORY`: as for a reply that is whole. `INCOMPLETE`: more bytes are
+    /// needed. `REFUSED`: whatever comes behind the bytes, they begin with no reply.
+    ///
+    /// The caller owes `bytes_length` bytes at `bytes` that can be read and that nothing changes while
+    /// the call runs, room for one reply at `out`, apart from them, and 512 KiB of stack.
+    pub fn exported_resp_reply_in_pieces(
+        bytes: *const u8,
+        bytes_length: usize,
+        levels: usize,
+        out: *mut Reply,
     ) -> u32;
 
     /// The line and the column of the place behind the first `offset` bytes. Bytes that are no text

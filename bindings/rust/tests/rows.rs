@@ -1,6 +1,7 @@
 //! Rows of the readers' tests, from Rust.
 use pergidau::{calc_value, http_head, http_head_in_pieces, ini_pair, json_check, json_value};
-use pergidau::{Error, Field, Place, MOST_LEVELS};
+use pergidau::{csv_record, csv_record_in_pieces, csv_records, resp_reply, resp_reply_in_pieces};
+use pergidau::{Error, Field, LineEnd, Place, Reply, Span, MOST_LEVELS};
 
 fn refused(offset: usize, column: usize) -> Error {
     Error::Refused(Some(Place { offset, line: 1, column }))
@@ -95,6 +96,108 @@ fn http_head_of_requests() {
     assert_eq!(small.to_string(), "the buffer is too small: 3 entries are wanted");
     let never = http_head_in_pieces(b"GET  / HTTP/1.1\r\n", &mut fields);
     assert_eq!(never.unwrap_err(), Error::Refused(None));
+}
+
+#[test]
+fn csv_record_of_lines() {
+    let rows: [(&[u8], LineEnd, &[&[u8]], &[u8]); 6] = [
+        (b"aaa,bbb,ccc\r\nzzz", LineEnd::CrLf, &[b"aaa", b"bbb", b"ccc"], b"zzz"),
+        (b"\"aaa\",\"b\r\nbb\",\"ccc\"", LineEnd::CrLf, &[b"aaa", b"b\r\nbb", b"ccc"], b""),
+        (b"\"b\"\"bb\"\n,", LineEnd::Lf, &[b"b\"bb"], b","),
+        (b"\n\n", LineEnd::Lf, &[b""], b"\n"),
+        (b",", LineEnd::Lf, &[b"", b""], b""),
+        (b"\xff,\0", LineEnd::CrLf, &[b"\xff", b"\0"], b""),
+    ];
+    for (bytes, end, want, rest) in rows {
+        let (mut text, mut fields) = ([0; 16], [Span::default(); 4]);
+        let record = csv_record(bytes, end, &mut text, &mut fields).unwrap();
+        assert_eq!(record.fields().collect::<Vec<_>>(), want, "{bytes:?}");
+        assert_eq!(record.rest(), rest, "{bytes:?}");
+        assert_eq!(record.get(want.len() - 1), want.last().copied());
+        assert_eq!(record.get(want.len()), None);
+    }
+    for bytes in [&b""[..], b"a\"", b"\"a", b"\"a\"b", b"a\rb"] {
+        let record = csv_record(bytes, LineEnd::CrLf, &mut [], &mut []);
+        assert_eq!(record.unwrap_err(), Error::Refused(None), "{bytes:?}");
+    }
+    let (mut text, mut fields) = ([0; 3], [Span::default(); 2]);
+    let small = csv_record(b"ab,cd", LineEnd::Lf, &mut text, &mut fields).unwrap_err();
+    assert_eq!(small.to_string(), "the buffer is too small: 2 entries and 4 bytes are wanted");
+}
+
+#[test]
+fn csv_record_of_pieces() {
+    let (mut text, mut fields) = ([0; 16], [Span::default(); 4]);
+    let bytes = b"a,\"b\r\n\"\r\nc";
+    for end in 0..9 {
+        let piece = csv_record_in_pieces(&bytes[..end], LineEnd::CrLf, &mut text, &mut fields);
+        assert_eq!(piece.unwrap_err(), Error::Incomplete, "{end}");
+    }
+    for end in 9..=bytes.len() {
+        let piece = csv_record_in_pieces(&bytes[..end], LineEnd::CrLf, &mut text, &mut fields);
+        let record = piece.unwrap();
+        assert_eq!(record.fields().collect::<Vec<_>>(), [&b"a"[..], b"b\r\n"]);
+        assert_eq!(record.rest(), &bytes[9..end]);
+    }
+}
+
+#[test]
+fn csv_records_of_a_document() {
+    let document = b"a,b\r\n\"1\r\n2\",\r\nlong enough for more room,x,y\r\n";
+    let records: Result<Vec<_>, _> = csv_records(document, LineEnd::CrLf).collect();
+    let want: [&[&[u8]]; 3] =
+        [&[b"a", b"b"], &[b"1\r\n2", b""], &[b"long enough for more room", b"x", b"y"]];
+    assert_eq!(records.unwrap(), want);
+    let mut refused = csv_records(b"a\r\nb\rc\r\n", LineEnd::CrLf);
+    assert_eq!(refused.next(), Some(Ok(vec![b"a".to_vec()])));
+    let place = Place { offset: 3, line: 2, column: 1 };
+    assert_eq!(refused.next(), Some(Err(Error::Refused(Some(place)))));
+    assert_eq!(refused.next(), None);
+    assert_eq!(csv_records(b"", LineEnd::Lf).count(), 0);
+}
+
+#[test]
+fn resp_reply_of_bytes() {
+    let rows: [(&[u8], Reply, &[u8]); 9] = [
+        (b"+OK\r\n", Reply::Simple(b"OK"), b""),
+        (b"-ERR unknown\r\n+", Reply::Error(b"ERR unknown"), b"+"),
+        (b":1000\r\n", Reply::Integer(1000), b""),
+        (b":-9223372036854775808\r\n", Reply::Integer(i64::MIN), b""),
+        (b"$6\r\nfoobar\r\n$", Reply::Bulk(b"foobar"), b"$"),
+        (b"$2\r\n\r\n\r\n", Reply::Bulk(b"\r\n"), b""),
+        (b"$0\r\n\r\n", Reply::Bulk(b""), b""),
+        (b"$-1\r\n", Reply::NullBulk, b""),
+        (b"*-1\r\n", Reply::NullArray, b""),
+    ];
+    for (bytes, want, rest) in rows {
+        assert_eq!(resp_reply(bytes, 0), Ok((want, rest)), "{bytes:?}");
+        for end in 0..bytes.len() - rest.len() {
+            assert_eq!(resp_reply(&bytes[..end], 0), Err(Error::Refused(None)), "{bytes:?}");
+            assert_eq!(resp_reply_in_pieces(&bytes[..end], 0), Err(Error::Incomplete), "{bytes:?}");
+        }
+        assert_eq!(resp_reply_in_pieces(bytes, 0), Ok((want, rest)), "{bytes:?}");
+    }
+    for bytes in [&b"x"[..], b":1a\r\n", b":01\r\n", b"$-2\r\n", b"+a\rb", b"$1\r\nab\r\n", b"*0\r\n"] {
+        assert_eq!(resp_reply(bytes, 0), Err(Error::Refused(None)), "{bytes:?}");
+        assert_eq!(resp_reply_in_pieces(bytes, 0), Err(Error::Refused(None)), "{bytes:?}");
+    }
+    assert_eq!(resp_reply(b"+\r\n", MOST_LEVELS + 1), Err(Error::TooDeep));
+}
+
+#[test]
+fn resp_reply_of_arrays() {
+    let (reply, rest) = resp_reply(b"*3\r\n*1\r\n:1\r\n$-1\r\n+a\r\n+b\r\n", 2).unwrap();
+    let Reply::Array(mut elements) = reply else { panic!("{reply:?}") };
+    assert_eq!(rest, b"+b\r\n");
+    assert_eq!(elements.len(), 3);
+    let Some(Ok(Reply::Array(inner))) = elements.next() else { panic!("{elements:?}") };
+    assert_eq!(inner.collect::<Result<Vec<_>, _>>().unwrap(), [Reply::Integer(1)]);
+    assert_eq!(elements.next(), Some(Ok(Reply::NullBulk)));
+    assert_eq!(elements.next(), Some(Ok(Reply::Simple(b"a"))));
+    assert_eq!(elements.next(), None);
+    let deep = "*1\r\n".repeat(MOST_LEVELS) + ":1\r\n";
+    assert!(resp_reply(deep.as_bytes(), MOST_LEVELS).is_ok());
+    assert_eq!(resp_reply(deep.as_bytes(), MOST_LEVELS - 1), Err(Error::Refused(None)));
 }
 
 #[test]

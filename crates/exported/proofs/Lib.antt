@@ -2,4 +2,8 @@ pub mod ErrorKinds
 pub mod Gaps
 pub mod Heads
 pub mod Lines
+pub mod Pieces
 pub mod Places
+pub mod Records
+pub mod Replies
+pub mod Texts

@@ -1,4 +1,8 @@
 -- Written by scripts/registries.py: do not edit.
 pub mod Code
+pub mod Csv
 pub mod Http
+pub mod Pieces
+pub mod Resp
 pub mod Span
+pub mod Texts

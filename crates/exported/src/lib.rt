@@ -7,8 +7,10 @@
 
 pub mod calc;
 pub mod code;
+pub mod csv;
 pub mod http;
 pub mod ini;
 pub mod json;
+pub mod resp;
 pub mod span;
 pub mod text;

@@ -1,0 +1,177 @@
+//! Records of comma separated values.
+use crate::exports::{self, Span};
+use crate::{at, Error, Wanted};
+#[cfg(feature = "std")]
+use crate::Place;
+
+/// What ends a line.
+#[derive(Clone, Copy, Debug, Default, PartialEq, Eq)]
+pub enum LineEnd {
+    /// A carriage return and a line feed, as RFC 4180 has it.
+    #[default]
+    CrLf,
+    /// A line feed alone.
+    Lf,
+}
+
+/// A record: its fields, as slices of the buffer that they were written into.
+#[derive(Clone, Copy, Debug)]
+pub struct Record<'i, 'b> {
+    text: &'b [u8],
+    places: &'b [Span],
+    rest: &'i [u8],
+}
+
+impl<'i, 'b> Record<'i, 'b> {
+    /// The fields, in order, without the quotes round them and with each quote in them once.
+    pub fn fields(&self) -> impl ExactSizeIterator<Item = &'b [u8]> + 'b {
+        let text = self.text;
+        self.places.iter().map(move |place| at(text, *place))
+    }
+
+    /// The field of this number, from 0 on.
+    pub fn get(&self, number: usize) -> Option<&'b [u8]> {
+        self.places.get(number).map(|place| at(self.text, *place))
+    }
+
+    /// What stands behind the record and its line end.
+    pub fn rest(&self) -> &'i [u8] {
+        self.rest
+    }
+}
+
+type Export = unsafe extern "C" fn(
+    *const u8,
+    usize,
+    u32,
+    *mut u8,
+    usize,
+    *mut Span,
+    usize,
+    *mut exports::Record,
+) -> u32;
+
+fn read<'i, 'b>(
+    export: Export,
+    bytes: &'i [u8],
+    end: LineEnd,
+    text: &'b mut [u8],
+    fields: &'b mut [Span],
+) -> Result<Record<'i, 'b>, Error> {
+    let mut out = exports::Record::default();
+    let line_feeds = u32::from(end == LineEnd::Lf);
+    let (room, most) = (text.as_mut_ptr(), text.len());
+    let (entries, count) = (fields.as_mut_ptr(), fields.len());
+    // SAFETY: the pointers are those of live borrows, and the bytes are only read.
+    let code = unsafe {
+        export(bytes.as_ptr(), bytes.len(), line_feeds, room, most, entries, count, &mut out)
+    };
+    match code {
+        exports::DONE => Ok(Record {
+            text: &text[..out.text],
+            places: &fields[..out.fields],
+            rest: &bytes[out.length..],
+        }),
+        code => Err(Error::of(code, None, Wanted { entries: out.fields, bytes: out.text })),
+    }
+}
+
+/// The record of comma separated values (RFC 4180) with which the bytes begin; a line end, or the
+/// end of the bytes, stands behind it. The bytes of its fields are written into `text`, and their
+/// places into `fields`; where one of them is too small, the error says how much is wanted. No bytes
+/// begin with no record.
+///
+/// ```
+/// use pergidau::{csv_record, LineEnd, Span};
+///
+/// let (mut text, mut fields) = ([0; 64], [Span::default(); 8]);
+/// let record = csv_record(b"a,\"b \"\"c\"\"\"\nd", LineEnd::Lf, &mut text, &mut fields)?;
+/// assert_eq!(record.fields().collect::<Vec<_>>(), [&b"a"[..], b"b \"c\""]);
+/// assert_eq!(record.rest(), b"d");
+/// # Ok::<(), pergidau::Error>(())
+/// ```
+pub fn csv_record<'i, 'b>(
+    bytes: &'i [u8],
+    end: LineEnd,
+    text: &'b mut [u8],
+    fields: &'b mut [Span],
+) -> Result<Record<'i, 'b>, Error> {
+    read(exports::exported_csv_record, bytes, end, text, fields)
+}
+
+/// The same record where the bytes come in pieces: [`Error::Incomplete`] says that no record with
+/// its line end is there yet, also where none can come. Where no more bytes come, [`csv_record`]
+/// reads a last record that has no line end.
+///
+/// ```
+/// use pergidau::{csv_record_in_pieces, Error, LineEnd};
+///
+/// let record = csv_record_in_pieces(b"a,b", LineEnd::CrLf, &mut [], &mut []);
+/// assert_eq!(record.unwrap_err(), Error::Incomplete);
+/// ```
+pub fn csv_record_in_pieces<'i, 'b>(
+    bytes: &'i [u8],
+    end: LineEnd,
+    text: &'b mut [u8],
+    fields: &'b mut [Span],
+) -> Result<Record<'i, 'b>, Error> {
+    read(exports::exported_csv_record_in_pieces, bytes, end, text, fields)
+}
+
+/// The records of a document, one after the other, each with fields of its own. After an error
+/// there are no more.
+#[cfg(feature = "std")]
+#[derive(Clone, Debug)]
+pub struct CsvRecords<'i> {
+    document: &'i [u8],
+    left: &'i [u8],
+    end: LineEnd,
+    text: Vec<u8>,
+    fields: Vec<Span>,
+}
+
+#[cfg(feature = "std")]
+impl Iterator for CsvRecords<'_> {
+    type Item = Result<Vec<Vec<u8>>, Error>;
+
+    fn next(&mut self) -> Option<Self::Item> {
+        while !self.left.is_empty() {
+            match csv_record(self.left, self.end, &mut self.text, &mut self.fields) {
+                Ok(record) => {
+                    self.left = record.rest();
+                    return Some(Ok(record.fields().map(<[u8]>::to_vec).collect()));
+                }
+                Err(Error::TooSmall(wanted)) => {
+                    self.text.resize(wanted.bytes.max(self.text.len()), 0);
+                    self.fields.resize(wanted.entries.max(self.fields.len()), Span::default());
+                }
+                Err(error) => {
+                    let place = Place::of(self.document, self.document.len() - self.left.len());
+                    self.left = &[];
+                    return Some(Err(match error {
+                        Error::Refused(_) => Error::Refused(Some(place)),
+                        error => error,
+                    }));
+                }
+            }
+        }
+        None
+    }
+}
+
+/// The records of a document. Where the bytes begin with no record any more, the error has the place
+/// where it is wanted.
+///
+/// ```
+/// use pergidau::{csv_records, LineEnd};
+///
+/// let records: Result<Vec<_>, _> = csv_records(b"a,b\n\"c\nd\",\n", LineEnd::Lf).collect();
+/// assert_eq!(records?, [[b"a".to_vec(), b"b".to_vec()], [b"c\nd".to_vec(), Vec::new()]]);
+/// let refused = csv_records(b"a\nb\"\n", LineEnd::Lf).last();
+/// assert_eq!(refused.unwrap().unwrap_err().to_string(), "refused at line 2, column 1");
+/// # Ok::<(), pergidau::Error>(())
+/// ```
+#[cfg(feature = "std")]
+pub fn csv_records(document: &[u8], end: LineEnd) -> CsvRecords<'_> {
+    CsvRecords { document, left: document, end, text: Vec::new(), fields: Vec::new() }
+}

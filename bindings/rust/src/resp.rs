@@ -1,0 +1,107 @@
+//! Replies of Redis.
+use crate::exports::{self, MOST_LEVELS};
+use crate::{at, Error, NOTHING};
+
+/// A reply of Redis: its strings are slices of the bytes that were read.
+#[derive(Clone, Copy, Debug, PartialEq, Eq)]
+pub enum Reply<'i> {
+    /// A simple string: bytes among which is neither a carriage return nor a line feed.
+    Simple(&'i [u8]),
+    /// An error: such bytes.
+    Error(&'i [u8]),
+    /// An integer.
+    Integer(i64),
+    /// A bulk string: any bytes.
+    Bulk(&'i [u8]),
+    /// The null bulk string.
+    NullBulk,
+    /// An array: its elements.
+    Array(Elements<'i>),
+    /// The null array.
+    NullArray,
+}
+
+/// The elements of an array, each read when it is asked for. They were read once already, so the one
+/// error that comes is [`Error::NoMemory`], behind which there are no more.
+#[derive(Clone, Copy, Debug, PartialEq, Eq)]
+pub struct Elements<'i> {
+    left: &'i [u8],
+    count: usize,
+}
+
+impl<'i> Iterator for Elements<'i> {
+    type Item = Result<Reply<'i>, Error>;
+
+    fn next(&mut self) -> Option<Self::Item> {
+        self.count = self.count.checked_sub(1)?;
+        match resp_reply(self.left, MOST_LEVELS) {
+            Ok((reply, rest)) => {
+                self.left = rest;
+                Some(Ok(reply))
+            }
+            Err(error) => {
+                self.count = 0;
+                Some(Err(error))
+            }
+        }
+    }
+
+    fn size_hint(&self) -> (usize, Option<usize>) {
+        (self.count, Some(self.count))
+    }
+}
+
+impl ExactSizeIterator for Elements<'_> {}
+
+type Export = unsafe extern "C" fn(*const u8, usize, usize, *mut exports::Reply) -> u32;
+
+fn read(export: Export, bytes: &[u8], levels: usize) -> Result<(Reply<'_>, &[u8]), Error> {
+    let mut out = exports::Reply::default();
+    // SAFETY: the pointers are those of live borrows, and the bytes are only read.
+    let code = unsafe { export(bytes.as_ptr(), bytes.len(), levels, &mut out) };
+    if code != exports::DONE {
+        return Err(Error::of(code, None, NOTHING));
+    }
+    let inside = at(bytes, out.place);
+    let reply = match out.kind {
+        exports::RESP_SIMPLE => Reply::Simple(inside),
+        exports::RESP_ERROR => Reply::Error(inside),
+        exports::RESP_INTEGER => Reply::Integer(out.number),
+        exports::RESP_BULK => Reply::Bulk(inside),
+        exports::RESP_NULL_BULK => Reply::NullBulk,
+        exports::RESP_ARRAY => Reply::Array(Elements { left: inside, count: out.elements }),
+        exports::RESP_NULL_ARRAY => Reply::NullArray,
+        _ => return Err(Error::Unknown(code)),
+    };
+    Ok((reply, &bytes[out.length..]))
+}
+
+/// The reply of Redis (RESP2) with which the bytes begin, in which no more than `levels` arrays stand
+/// in one another, and what stands behind it.
+///
+/// ```
+/// use pergidau::{resp_reply, Reply};
+///
+/// let (reply, rest) = resp_reply(b"*2\r\n$3\r\nfoo\r\n:7\r\n+", 1)?;
+/// let Reply::Array(elements) = reply else { panic!() };
+/// let elements: Result<Vec<_>, _> = elements.collect();
+/// assert_eq!(elements?, [Reply::Bulk(b"foo"), Reply::Integer(7)]);
+/// assert_eq!(rest, b"+");
+/// # Ok::<(), pergidau::Error>(())
+/// ```
+pub fn resp_reply(bytes: &[u8], levels: usize) -> Result<(Reply<'_>, &[u8]), Error> {
+    read(exports::exported_resp_reply, bytes, levels)
+}
+
+/// The same reply where the bytes come in pieces: [`Error::Incomplete`] says that more of them are
+/// needed, and [`Error::Refused`] that they begin with none, whatever comes behind them.
+///
+/// ```
+/// use pergidau::{resp_reply_in_pieces, Error};
+///
+/// assert_eq!(resp_reply_in_pieces(b"$6\r\nfoo", 0), Err(Error::Incomplete));
+/// assert_eq!(resp_reply_in_pieces(b"$x\r\n", 0), Err(Error::Refused(None)));
+/// ```
+pub fn resp_reply_in_pieces(bytes: &[u8], levels: usize) -> Result<(Reply<'_>, &[u8]), Error> {
+    read(exports::exported_resp_reply_in_pieces, bytes, levels)
+}

@@ -1,0 +1,146 @@
+-- What stands in replies, and where.
+use Rattle.std.proofs.Common.{◌≡◌, ◌∙◌, ◌+◌, ◌-◌, ◌≤◌, ◌++◌, ◌∷◌, [], ℕ, List, Global, ap}
+use Rattle.std.proofs.Common.{append-nil, append_assoc, arith, length, length-append, subst, sym}
+use Rattle.std.specs.Borrow.{Bor}
+use Rattle.std.specs.declared.vec.Vec.{Vec}
+use Rattle.winnow.specs.Equal.{same_first, same_others}
+use Rattle.uses_resp.specs.Parts.{IsBehindFeed, IsLine, NoFeed, Opened, StandsBy, array_is}
+use Rattle.uses_resp.specs.Parts.{bulk_is, error_is, simple_is, stands_as}
+use Rattle.uses_resp.specs.Resp.{line_end}
+use Rattle.uses_resp.specs.declared.reply.Reply as made
+use Rattle.uses_resp.specs.declared.reply.Reply.{out-Reply}
+use Rattle.uses_resp.specs.declared.reply.Reply.TheOpen.{Reply-F}
+use Rattle.winnow_exact.specs.InTurn.{First}
+use Rattle.exported.specs.Pieces.{MayFollow}
+use Rattle.exported.specs.Resp.{AreElements, Found, IsReply, IsReplyForGood, IsShown}
+use Rattle.exported.specs.Resp.{IsShownBy, ShowsReply}
+use Rattle.exported.specs.Span.{EndsWith, StandsAt}
+use Rattle.exported.specs.declared.resp.Reply.{Reply}
+use Rattle.exported.specs.declared.span.Span.{Span}
+
+-- of what stands for good, nothing need follow
+pub reply_stands : (level : ℕ) (input : List ℕ) (reply : Found) (rest : List ℕ)
+    → MayFollow input [] → IsReplyForGood level input reply rest → IsReply level input reply rest
+reply_stands level input reply rest none good =
+    let P : List ℕ → Type 0 = λ l. IsReply level l reply (rest ++ []) in
+    let Q : List ℕ → Type 0 = λ l. IsReply level input reply l in
+    subst Q (append-nil rest) (subst P (append-nil input) (good [] none))
+
+-- ---- what stands behind the first line feed
+
+-- behind some bytes that are none
+pub feed_more : (line rest behind more : List ℕ) (b : ℕ) → (b ≡ 10 → ⊥) → NoFeed line
+    → rest ≡ b ∷ more → rest ≡ line ++ 10 ∷ behind
+    → (left : List ℕ) × NoFeed left × (more ≡ left ++ 10 ∷ behind)
+feed_more [] rest behind more b other none e f = absurd (other (same_first (sym e ∙ f)))
+feed_more (x ∷ line) rest behind more b other none e f =
+    (line, none.1, same_others (sym e ∙ f))
+
+pub feed_first : (line rest behind more : List ℕ) (b : ℕ) → b ≡ 10 → NoFeed line
+    → rest ≡ b ∷ more → rest ≡ line ++ 10 ∷ behind → more ≡ behind
+feed_first [] rest behind more b is none e f = same_others (sym e ∙ f)
+feed_first (x ∷ line) rest behind more b is none e f =
+    absurd (none.0 (sym (same_first (sym e ∙ f)) ∙ is))
+
+-- ---- as the code finds them
+
+pub reply_long : (level : ℕ) (input : List ℕ) (reply : Found) (rest : List ℕ)
+    → IsReply level input reply rest → length rest ≤ length input
+unfolding First
+reply_long level input reply rest (front, is, e) =
+    omega (arith, ap length e, length-append front rest)
+
+pub feed_ends : (input behind left : List ℕ) → IsBehindFeed input behind → left ≡ behind
+    → EndsWith input left
+feed_ends input behind left (line, none, e) is = record {
+  before = line ++ 10 ∷ [];
+  splits = e ∙ ap (λ l. line ++ 10 ∷ l) (sym is) ∙ sym (append_assoc line (10 ∷ []) left);
+}
+
+-- a line behind its first byte
+pub line_shown : (input text rest : List ℕ) (place : Span) → IsLine input text rest
+    → place.offset ≡ 1 → place.length ≡ length text → StandsAt input place text
+line_shown input text rest place (mark, e) begins ends = record {
+  before = mark ∷ [];
+  behind = line_end ++ rest;
+  splits = e;
+  begins = begins;
+  ends = ends;
+}
+
+pub elements_long : (bytes rest left : List ℕ) → left ≡ bytes ++ rest
+    → length rest ≤ length left
+elements_long bytes rest left e =
+    omega (arith, ap length e, length-append bytes rest)
+
+pub elements_count : (bytes rest left : List ℕ) (n : ℕ) → left ≡ bytes ++ rest → length rest ≡ n
+    → length bytes ≡ length left - n
+elements_count bytes rest left n e is =
+    omega (arith, ap length e, length-append bytes rest, is)
+
+pub reply_told : (begins : List ℕ → Found → List ℕ → Type 0) (level : ℕ) (input : List ℕ)
+    (it : Reply) (reply : Found) (rest : List ℕ) (left : ℕ) → begins input reply rest
+    → length rest ≡ left → IsShown level input reply it → it.length + left ≡ length input
+    → ShowsReply begins level input it
+reply_told begins level input it reply rest left is behind shown ends = record {
+  reply = reply;
+  rest = rest;
+  is_reply = is;
+  is_shown = shown;
+  ends = ap (λ n. it.length + n) behind ∙ ends;
+}
+
+-- what stands in a reply that is made so
+module _ (level : ℕ) (input : List ℕ) (reply : Found) (rest : List ℕ)
+    (is : IsReply level input reply rest) where
+  opened : (kind : Opened Global) (form : Found) → reply ≡ form
+      → out-Reply (Bor (List ℕ)) Global form ≡ kind → StandsBy level input kind rest
+  opened kind form same form_is =
+      stands_as level input rest reply kind is
+      (ap (out-Reply (Bor (List ℕ)) Global) same ∙ form_is)
+
+  pub simple_stands : (text : Bor (List ℕ)) → reply ≡ made.Simple text
+      → IsLine input text.now rest
+  simple_stands text same = opened (Reply-F.Simple text) (made.Simple text) same (simple_is text)
+
+  pub error_stands : (text : Bor (List ℕ)) → reply ≡ made.Error text → IsLine input text.now rest
+  error_stands text same = opened (Reply-F.Error text) (made.Error text) same (error_is text)
+
+  pub bulk_stands : (text : Bor (List ℕ)) → reply ≡ made.Bulk text
+      → IsBehindFeed input (text.now ++ (line_end ++ rest))
+  bulk_stands text same = opened (Reply-F.Bulk text) (made.Bulk text) same (bulk_is text)
+
+  pub array_stands : (list : Vec Found Global) → reply ≡ made.Array list
+      → StandsBy level input (Reply-F.Array list) rest
+  array_stands list same = opened (Reply-F.Array list) (made.Array list) same (array_is list)
+
+-- ---- what is told of a reply that is made so
+
+module _ (level : ℕ) (input : List ℕ) (reply : Found) (it : Reply) where
+  shown_made : (kind : Opened Global) (form : Found) → reply ≡ form
+      → out-Reply (Bor (List ℕ)) Global form ≡ kind → IsShownBy level input kind it
+      → IsShown level input reply it
+  shown_made kind form same form_is =
+      let P : Opened Global → Type 0 = λ k. IsShownBy level input k it in
+      subst P (sym (ap (out-Reply (Bor (List ℕ)) Global) same ∙ form_is))
+
+  pub simple_shown : (text : Bor (List ℕ)) → reply ≡ made.Simple text → it.kind ≡ 0
+      → StandsAt input it.place text.now → IsShown level input reply it
+  simple_shown text same kind at =
+      shown_made (Reply-F.Simple text) (made.Simple text) same (simple_is text) (kind, at)
+
+  pub error_shown : (text : Bor (List ℕ)) → reply ≡ made.Error text → it.kind ≡ 1
+      → StandsAt input it.place text.now → IsShown level input reply it
+  error_shown text same kind at =
+      shown_made (Reply-F.Error text) (made.Error text) same (error_is text) (kind, at)
+
+  pub bulk_shown : (text : Bor (List ℕ)) → reply ≡ made.Bulk text → it.kind ≡ 3
+      → StandsAt input it.place text.now → IsShown level input reply it
+  bulk_shown text same kind at =
+      shown_made (Reply-F.Bulk text) (made.Bulk text) same (bulk_is text) (kind, at)
+
+  pub array_shown : (list : Vec Found Global) → reply ≡ made.Array list → it.kind ≡ 5
+      → it.elements ≡ length list.items → AreElements level input list.items it
+      → IsShown level input reply it
+  array_shown list same kind count are =
+      shown_made (Reply-F.Array list) (made.Array list) same (array_is list) (kind, count, are)

@@ -1,0 +1,11 @@
+-- What stands behind the first line feed is what stands behind the first that is left.
+use Rattle.std.proofs.Common.{◌≡◌, ◌++◌, ◌∷◌, ℕ, List, length}
+use Rattle.uses_resp.specs.Parts.{NoFeed}
+use Rattle.exported.proofs.resp.places.behind_feed.Given as goal
+
+abbrev pub invariant-bytes : goal.invariant-bytes
+invariant-bytes l = (line behind : List ℕ) → NoFeed line → l.bytes ≡ line ++ 10 ∷ behind
+    → (left : List ℕ) × NoFeed left × (l.rest ≡ left ++ 10 ∷ behind)
+
+abbrev pub decreases-bytes : goal.decreases-bytes
+decreases-bytes l = length l.rest

@@ -1,0 +1,180 @@
+//! Records of comma separated values.
+
+ghost use Rattle.std.specs.Prelude.{◌≡◌, ◌≤◌, ◌+◌, ◌<◌, ◌⊎◌, length, take};
+ghost use Rattle.uses_csv.specs.Csv.{IsRecord};
+ghost use Rattle.exported.specs.Code.{done, incomplete, no_memory, refused, too_small};
+ghost use Rattle.exported.specs.Csv.{IsRecordForGood, NoRecord, NoRecordForGood, ShowsRecord};
+ghost use Rattle.exported.specs.Csv.{WantsRecord, ends_of};
+ghost use Rattle.exported.specs.Texts.{AreFields, text_of};
+
+pub mod texts;
+
+use crate::code::{DONE, INCOMPLETE, NO_MEMORY, REFUSED, TOO_SMALL};
+use crate::csv::texts::{bytes_of, copy_fields, place_fields};
+use crate::span::{MOST_IN_PIECES, Span};
+use std::alloc::Global;
+use uses_csv::pieces::read_record_in_pieces;
+use uses_csv::{LineEnd, read_record};
+use winnow::error::ParserError;
+use winnow::stream::Partial;
+
+/// What a record has.
+#[repr(C)]
+#[derive(Clone, Copy, Drop)]
+pub struct Record {
+    /// How many fields there are.
+    pub fields: usize,
+    /// How many bytes the fields have together, as they are written.
+    pub text: usize,
+    /// How many bytes the record has where it was read, the line end among them.
+    pub length: usize,
+}
+
+/// The record of nothing.
+const NONE: Record = Record {
+    fields: 0,
+    text: 0,
+    length: 0,
+};
+
+/// What ends a line.
+fn line_end(line_feeds: u32) -> LineEnd
+    ensures { result ≡ ends_of line_feeds }
+{
+    match line_feeds {
+        0 => LineEnd::CrLf,
+        _ => LineEnd::Lf,
+    }
+}
+
+/// Writes the fields of a record, behind which so many bytes are left, where there is room.
+fn write_record(
+    bytes: &[u8],
+    found: &[Vec<u8>],
+    left: usize,
+    text: &mut [u8],
+    fields: &mut [Span],
+    out: &mut Record,
+) -> u32
+    requires { length (text_of found.now) + left ≤ length bytes.now }
+    ensures count { out.new.fields ≡ length found.now }
+    ensures bytes { out.new.text ≡ length (text_of found.now) }
+    ensures ends { out.new.length + left ≡ length bytes.now }
+    ensures fields { result ≡ done
+        → AreFields (take out.new.text text.new) (take out.new.fields fields.new) found.now }
+    ensures small { result ≡ too_small
+        → (length fields.old < out.new.fields) ⊎ (length text.old < out.new.text) }
+    ensures kept { result ≡ too_small → (fields.new ≡ fields.old) × (text.new ≡ text.old) }
+    ensures codes { (result ≡ done) ⊎ (result ≡ too_small) }
+{
+    let (count, total) = (found.len(), bytes_of(found));
+    *out = Record {
+        fields: count,
+        text: total,
+        length: bytes.len() - left,
+    };
+    if fields.len() < count || text.len() < total {
+        return TOO_SMALL;
+    }
+    copy_fields(found, &mut text[..total]);
+    place_fields(found, &mut fields[..count]);
+    DONE
+}
+
+/// The record of comma separated values (RFC 4180) with which the bytes begin. A line end stands
+/// behind it, or the end of the bytes: a carriage return and a line feed where `line_feeds` is 0,
+/// and else a line feed alone. A field in quotes may have any bytes, and each quote in it is
+/// doubled; one without has no quote, comma, carriage return or line feed. No bytes begin with no
+/// record, and a line end alone is a record of one empty field.
+///
+/// `DONE`: the bytes of the fields, without the quotes round them and with each quote once, are
+/// written into `text`, one field behind the other, and so many places there, in order. `REFUSED`:
+/// the bytes begin with no record. `TOO_SMALL`: they begin with one that wants more entries or more
+/// bytes than the buffers have; how many of both is written, and the buffers are left as they were.
+/// `NO_MEMORY`.
+///
+/// The caller owes `bytes_length` bytes at `bytes` that can be read and that nothing changes while
+/// the call runs, `text_length` bytes at `text` and `fields_length` entries at `fields` that can be
+/// written, and room for one record at `out`, each apart from the others.
+#[unsafe(no_mangle)]
+pub extern "C" fn exported_csv_record(
+    alloc: Global,
+    bytes: &[u8],
+    line_feeds: u32,
+    text: &mut [u8],
+    fields: &mut [Span],
+    out: &mut Record,
+) -> u32
+    ensures record { result ≡ done → ShowsRecord (IsRecord (ends_of line_feeds)) bytes.now out.new
+        (take out.new.text text.new) (take out.new.fields fields.new) }
+    ensures small { result ≡ too_small
+        → WantsRecord (IsRecord (ends_of line_feeds)) bytes.now out.new
+        × ((length fields.old < out.new.fields) ⊎ (length text.old < out.new.text)) }
+    ensures kept { result ≡ too_small → (fields.new ≡ fields.old) × (text.new ≡ text.old) }
+    ensures refused { result ≡ refused → NoRecord (ends_of line_feeds) bytes.now }
+    ensures codes { (result ≡ done) ⊎ ((result ≡ too_small) ⊎ ((result ≡ refused)
+        ⊎ (result ≡ no_memory))) }
+{
+    *out = NONE;
+    let mut left = bytes;
+    match read_record(alloc, line_end(line_feeds), &mut left) {
+        Ok(found) => write_record(bytes, &found, left.len(), text, fields, out),
+        Err(error) => {
+            if ParserError::<&[u8]>::is_memory(&error) {
+                NO_MEMORY
+            } else {
+                REFUSED
+            }
+        }
+    }
+}
+
+/// The same record where the bytes come in pieces: it answers as soon as a line end is there that
+/// ends it, and then the record is that of all longer bytes too.
+///
+/// `DONE`, `TOO_SMALL`, `NO_MEMORY`: as for a record that is whole. `INCOMPLETE`: no record with
+/// its line end is there yet; also where none can come, so the caller bounds how many bytes are
+/// held. `REFUSED`: whatever comes behind the bytes, they begin with no record. The last record may
+/// have no line end: where no more bytes come, the call for whole ones reads it.
+///
+/// The caller owes `bytes_length` bytes at `bytes` that can be read and that nothing changes while
+/// the call runs, `text_length` bytes at `text` and `fields_length` entries at `fields` that can be
+/// written, and room for one record at `out`, each apart from the others.
+#[unsafe(no_mangle)]
+pub extern "C" fn exported_csv_record_in_pieces(
+    alloc: Global,
+    bytes: &[u8],
+    line_feeds: u32,
+    text: &mut [u8],
+    fields: &mut [Span],
+    out: &mut Record,
+) -> u32
+    ensures record { result ≡ done
+        → ShowsRecord (IsRecordForGood (ends_of line_feeds)) bytes.now out.new
+        (take out.new.text text.new) (take out.new.fields fields.new) }
+    ensures small { result ≡ too_small
+        → WantsRecord (IsRecordForGood (ends_of line_feeds)) bytes.now out.new
+        × ((length fields.old < out.new.fields) ⊎ (length text.old < out.new.text)) }
+    ensures kept { result ≡ too_small → (fields.new ≡ fields.old) × (text.new ≡ text.old) }
+    ensures refused { result ≡ refused → NoRecordForGood (ends_of line_feeds) bytes.now }
+    ensures codes { (result ≡ done) ⊎ ((result ≡ too_small) ⊎ ((result ≡ refused)
+        ⊎ ((result ≡ incomplete) ⊎ (result ≡ no_memory)))) }
+{
+    *out = NONE;
+    if bytes.len() > MOST_IN_PIECES {
+        return REFUSED;
+    }
+    let mut pieces = Partial::new(bytes);
+    match read_record_in_pieces(alloc, line_end(line_feeds), &mut pieces) {
+        Ok(found) => write_record(bytes, &found, pieces.into_inner().len(), text, fields, out),
+        Err(error) => {
+            if ParserError::<Partial<&[u8]>>::is_memory(&error) {
+                NO_MEMORY
+            } else if ParserError::<Partial<&[u8]>>::is_incomplete(&error) {
+                INCOMPLETE
+            } else {
+                REFUSED
+            }
+        }
+    }
+}

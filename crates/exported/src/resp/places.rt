@@ -1,0 +1,103 @@
+//! Where the parts of a reply stand.
+
+ghost use Rattle.std.specs.Prelude.{◌≡◌, ◌+◌, ◌++◌, ◌∷◌, List, length, ℕ};
+ghost use Rattle.uses_resp.specs.Parts.{NoFeed};
+ghost use Rattle.exported.specs.Resp.{IsReply, IsShown};
+
+use crate::resp::{
+    NONE, RESP_ARRAY, RESP_BULK, RESP_ERROR, RESP_INTEGER, RESP_NULL_ARRAY, RESP_NULL_BULK,
+    RESP_SIMPLE, Reply,
+};
+use crate::span::{Span, first_of};
+use std::alloc::Global;
+use uses_resp::reply;
+
+/// What stands behind the first line feed.
+fn behind_feed<'i>(bytes: &'i [u8]) -> &'i [u8]
+    ensures { (line rest : List ℕ) → NoFeed line → bytes.now ≡ line ++ 10 ∷ rest
+        → result.now ≡ rest }
+{
+    let mut rest = bytes;
+    'bytes: while let Some((first, more)) = rest.split_first() {
+        rest = more;
+        if *first == b'\n' {
+            return rest;
+        }
+    }
+    rest
+}
+
+/// What is told of a reply with which the bytes begin, behind which so many are left.
+pub fn reply_at(
+    bytes: &[u8],
+    level: usize,
+    found: &reply::Reply<&[u8], Global>,
+    left: usize,
+) -> Reply
+    requires { (rest : List ℕ) × IsReply level bytes.now found.now rest × (length rest ≡ left) }
+    ensures shown { IsShown level bytes.now found.now result }
+    ensures ends { result.length + left ≡ length bytes.now }
+{
+    let length = bytes.len() - left;
+    match found {
+        reply::Reply::Simple(text) => {
+            let place = Span {
+                offset: 1,
+                length: text.len(),
+            };
+            Reply {
+                kind: RESP_SIMPLE,
+                place,
+                length,
+                ..NONE
+            }
+        }
+        reply::Reply::Error(text) => {
+            let place = Span {
+                offset: 1,
+                length: text.len(),
+            };
+            Reply {
+                kind: RESP_ERROR,
+                place,
+                length,
+                ..NONE
+            }
+        }
+        reply::Reply::Integer(number) => Reply {
+            kind: RESP_INTEGER,
+            number: *number,
+            length,
+            ..NONE
+        },
+        reply::Reply::Bulk(text) => {
+            let place = first_of(bytes, behind_feed(bytes), text.len());
+            Reply {
+                kind: RESP_BULK,
+                place,
+                length,
+                ..NONE
+            }
+        }
+        reply::Reply::NullBulk => Reply {
+            kind: RESP_NULL_BULK,
+            length,
+            ..NONE
+        },
+        reply::Reply::Array(elements) => {
+            let behind = behind_feed(bytes);
+            Reply {
+                kind: RESP_ARRAY,
+                elements: elements.len(),
+                place: first_of(bytes, behind, behind.len() - left),
+                length,
+                ..NONE
+            }
+        }
+        reply::Reply::NullArray => Reply {
+            kind: RESP_NULL_ARRAY,
+            length,
+            ..NONE
+        },
+    }
+}
