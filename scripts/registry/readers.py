@@ -23,6 +23,9 @@ READERS = [
     ("JSON: written", "json_writer", "no",
         "the text of a value, exactly where it has one, nested to a level; it reads back"),
     ("JSON: extents, in pieces", "uses_json", "no", "where a value ends, whole and in pieces"),
+    ("TOML 1.0, a subset", "toml_reader", "yes",
+        "`Ok` exactly where the text is lines of this document; the first line that says a key or "
+        "a table again"),
     ("HTTP/1.1 heads (RFC 9112)", "http_heads", "yes",
         "the request line, field line and head that bytes begin with"),
     ("HTTP/1.1 size lines of chunks", "http_chunks", "yes",

@@ -1,0 +1,9 @@
+use Rattle.winnow_exact.specs.Exact.Read.{reads_by}
+use Rattle.toml_reader.proofs.escapes.read_character.Goals as goal
+
+pub returns : goal.returns
+returns c = reads_by c.read.ensures (rw (
+  c.alt.ensures,
+  c.one_of.ensures,
+  c.preceded-escaped.ensures.ignored,
+))

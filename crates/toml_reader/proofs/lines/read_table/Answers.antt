@@ -1,0 +1,11 @@
+use Rattle.winnow_exact.specs.Exact.Read.{reads_by}
+use Rattle.toml_reader.proofs.lines.read_table.Goals as goal
+
+pub returns : goal.returns
+returns g c = reads_by c.read_between.ensures (rw (
+  c.terminated.ensures.parser,
+  c.repeat-name.ensures.occurrences,
+  c.repeat-name.ensures.parser,
+  c.from.ensures,
+  c.one_of.ensures,
+))

@@ -1,0 +1,10 @@
+use Rattle.toml_reader.specs.Parts.{reads_all_by}
+use Rattle.toml_reader.proofs.parts.parse_lines_of.Goals as goal
+
+pub returns : goal.returns
+returns g c = reads_all_by c.read_all.ensures (rw (
+  c.separated.ensures.occurrences,
+  c.separated.ensures.parser,
+  c.separated.ensures.separator,
+  c.from.ensures,
+))

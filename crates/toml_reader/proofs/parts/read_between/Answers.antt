@@ -1,0 +1,9 @@
+use Rattle.winnow_exact.specs.Exact.Read.{reads_by}
+use Rattle.toml_reader.proofs.parts.read_between.Goals as goal
+
+pub returns : goal.returns
+returns g c = reads_by c.read.ensures (rw (
+  c.delimited.ensures.ignored1,
+  c.delimited.ensures.parser,
+  c.delimited.ensures.ignored2,
+))

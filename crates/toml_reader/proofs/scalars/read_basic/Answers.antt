@@ -1,0 +1,8 @@
+use Rattle.winnow_exact.specs.Exact.Read.{reads_by}
+use Rattle.toml_reader.proofs.scalars.read_basic.Goals as goal
+
+pub returns : goal.returns
+returns g c = reads_by c.read_between.ensures (rw (
+  c.repeat-characters.ensures.occurrences,
+  c.from.ensures,
+))

@@ -1,0 +1,13 @@
+use Rattle.std.proofs.Common.{refl}
+use Rattle.json_reader.specs.Alike.{spelled, spelled_none}
+use Rattle.toml_reader.specs.Toml.{IsBoolean}
+use Rattle.winnow_exact.specs.Exact.Read.{reads_meaning, reads_no_meaning}
+use Rattle.toml_reader.proofs.scalars.read_boolean.Goals as goal
+
+pub returns-in-Ok : goal.returns-in-Ok
+returns-in-Ok g c = reads_meaning IsBoolean
+    (spelled c.args.word c.args.is (rw c.literal.ensures at c.in-Ok.ensures)) refl
+
+pub returns-in-Err : goal.returns-in-Err
+returns-in-Err g c = reads_no_meaning IsBoolean
+    (spelled_none c.args.word c.args.is (rw c.literal.ensures at c.in-Err.ensures))

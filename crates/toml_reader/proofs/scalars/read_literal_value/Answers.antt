@@ -1,0 +1,10 @@
+use Rattle.std.proofs.Common.{refl}
+use Rattle.toml_reader.specs.Toml.{IsText}
+use Rattle.winnow_exact.specs.Exact.Read.{reads_meaning, reads_no_meaning}
+use Rattle.toml_reader.proofs.scalars.read_literal_value.Goals as goal
+
+pub returns-in-Ok : goal.returns-in-Ok
+returns-in-Ok g c = reads_meaning IsText c.in-Ok.ensures refl
+
+pub returns-in-Err : goal.returns-in-Err
+returns-in-Err g c = reads_no_meaning IsText c.in-Err.ensures

@@ -1,0 +1,10 @@
+-- Written by scripts/registries.py: do not edit.
+pub mod Document
+pub mod Escapes
+pub mod First
+pub mod Lines
+pub mod Parts
+pub mod Repeats
+pub mod Toml
+pub mod Unique
+pub mod Values

@@ -1,0 +1,11 @@
+//! The tests of documents of TOML.
+#![tactic(auto)]
+
+#[cfg(test)]
+mod documents;
+#[cfg(test)]
+mod refused;
+#[cfg(test)]
+mod repeats;
+#[cfg(test)]
+mod shown;

@@ -1,0 +1,25 @@
+//! Memory that is refused.
+use std::alloc::Global;
+use stream_errors::fault::ParseFault;
+use stream_errors::parser_error::ParserError;
+use test_support::refusing::Refusing;
+use toml_reader::lines::parse_lines;
+
+const TEXT: &str = "[a]\nb = ['c', \"d\"] # e\n";
+
+#[test]
+fn parse_lines_refused_memory(rt: HostRuntime) {
+    let mut met = true;
+    let mut n = 0u64;
+    while met {
+        let heap: Refusing<Global> = Refusing::once(rt.alloc(), n);
+        let wants = match parse_lines(&heap, 1, TEXT) {
+            Err(ParseFault::Refused(error)) => ParserError::<&str>::is_memory(error.inner()),
+            _ => false,
+        };
+        met = heap.met();
+        assert_eq!(rt; wants, met, "{n}");
+        n += 1;
+    }
+    assert!(rt; n > 5);
+}
