@@ -10,4 +10,9 @@ fn main() {
     }
     println!("cargo:rustc-link-lib=static=timed");
     println!("cargo:rustc-link-lib=static=libc_c");
+    if env::var_os("CARGO_FEATURE_REQUESTS").is_some() {
+        for name in ["malloc", "calloc", "realloc"] {
+            println!("cargo:rustc-link-arg=-Wl,--wrap={name}");
+        }
+    }
 }

@@ -2,8 +2,9 @@
 """Lays the crate `timed` with all that it stands on into a folder: `bench/lay.py FOLDER`.
 
 The library is copied by `scripts/vendor`, so that a later run copies, and `rt` proves, only what
-changed since. Beside it stand the readers, whose documents are a workload, and `timed`, whose files
-end in `.rs` here, since a file `.rt` stands only in a crate that `crates.txt` names.
+changed since. Beside it stand the readers whose formats are workloads, with what they stand on, and
+`timed`, whose files end in `.rs` here, since a file `.rt` stands only in a crate that `crates.txt`
+names.
 """
 import pathlib
 import shutil
@@ -15,30 +16,32 @@ TOP = HERE.parent
 sys.path.insert(0, str(TOP / "scripts"))
 from laid import copy_crate, library  # noqa: E402
 
-READERS = ("readers_calc", "readers")
-TIMED = "timed staticlib: winnow readers"
+READERS = ("readers", "json_values", "uses_csv", "uses_resp")
+TIMED = f"timed staticlib: winnow json_texts {' '.join(READERS)}"
 
 
-def main(words):
-    if len(words) != 1:
-        sys.exit(__doc__.strip())
-    room = pathlib.Path(words[0]).resolve()
+def lay(room):
+    """Lays the crates into a folder, and names them in its `crates.txt`."""
     room.mkdir(parents=True, exist_ok=True)
     vendor = [sys.executable, str(TOP / "scripts/vendor"), "--force", str(room)]
     subprocess.run(vendor, check=True, stdout=subprocess.DEVNULL)
-    for name in (*READERS, "timed"):
+    lines = library(*READERS)
+    above = [name for name in lines if name not in library()]
+    for name in (*above, "timed"):
         for part in ("src", "specs", "proofs"):
             shutil.rmtree(room / "crates" / name / part, ignore_errors=True)
-    for name in READERS:
+    for name in above:
         copy_crate(name, room / "crates")
     source = room / "crates/timed/src"
     source.mkdir(parents=True)
     for file in sorted((HERE / "timed").glob("*.rs")):
         shutil.copyfile(file, source / f"{file.stem}.rt")
-    lines = [*library(*READERS).values(), TIMED]
-    (room / "crates.txt").write_text("\n".join(lines) + "\n", encoding="utf-8")
+    named = "\n".join([*lines.values(), TIMED])
+    (room / "crates.txt").write_text(named + "\n", encoding="utf-8")
     shutil.copyfile(TOP / "HANDLES", room / "HANDLES")
 
 
 if __name__ == "__main__":
-    main(sys.argv[1:])
+    if len(sys.argv) != 2:
+        sys.exit(__doc__.strip())
+    lay(pathlib.Path(sys.argv[1]).resolve())

@@ -20,6 +20,13 @@ extern "C" {
     fn timed_expression(text: *const u8, size: usize, out: *mut Outcome);
     fn timed_names_by_table(text: *const u8, size: usize, out: *mut Outcome);
     fn timed_names_by_ranges(text: *const u8, size: usize, out: *mut Outcome);
+    fn timed_wide_words(text: *const u8, size: usize, out: *mut Outcome);
+    fn timed_escapes(text: *const u8, size: usize, out: *mut Outcome);
+    fn timed_json(text: *const u8, size: usize, out: *mut Outcome);
+    fn timed_csv(text: *const u8, size: usize, out: *mut Outcome);
+    fn timed_replies(text: *const u8, size: usize, out: *mut Outcome);
+    fn timed_number_items(text: *const u8, size: usize, out: *mut Outcome);
+    fn timed_number_lists(text: *const u8, size: usize, out: *mut Outcome);
     fn timed_until(
         literal: *const u8,
         length: usize,
@@ -61,6 +68,13 @@ workloads! {
     expression = timed_expression;
     names_by_table = timed_names_by_table;
     names_by_ranges = timed_names_by_ranges;
+    wide_words = timed_wide_words;
+    escapes = timed_escapes;
+    json = timed_json;
+    csv = timed_csv;
+    replies = timed_replies;
+    number_items = timed_number_items;
+    number_lists = timed_number_lists;
 }
 
 pub fn until(text: &[u8], literal: &'static [u8]) -> Outcome {

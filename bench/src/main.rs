@@ -1,11 +1,13 @@
 //! Times the library's parsers beside nom 7 and hand-written loops, and prints a table in Markdown.
 //!
 //! All that read one text take turns, and the best of their turns stands. What they answer is
-//! compared. Only ratios are printed.
+//! compared. Only ratios are printed. `counts.py` has it run one of them once, and counts.
 mod by_hand;
 mod by_nom;
 mod library;
 mod outcome;
+#[cfg(feature = "requests")]
+mod requests;
 mod texts;
 mod workloads;
 
@@ -68,16 +70,58 @@ fn hard_search(turns: usize) -> String {
     format!("| up to 39 `a` and a `b`, in a text of `a` | {beside:.2} | | {growth:.2} |")
 }
 
-fn main() {
-    let mut words = std::env::args().skip(1);
-    let turns = words.next().and_then(|word| word.parse().ok()).unwrap_or(60);
-    let only = words.next().unwrap_or_default();
+/// One run of a reader: what `counts.py` counts the instructions of.
+#[no_mangle]
+#[inline(never)]
+fn counted_run(reader: &Reader, text: &[u8]) -> Outcome {
+    reader(text)
+}
+
+/// Runs a reader of a workload once, by its place among the readers, and prints how many bytes the
+/// text has, and what requests for memory there were, if they are counted.
+fn run_once(name: &str, place: usize) {
+    let all = workloads::all();
+    let workload = all.iter().find(|workload| workload.name == name).expect("a workload");
+    let text = (workload.text)(MIDDLE);
+    let readers = [Some(&workload.library), Some(&workload.nom), workload.hand.as_ref()];
+    let reader = readers[place].expect("a reader");
+    #[cfg(feature = "requests")]
+    let before = requests::so_far();
+    let told = counted_run(reader, black_box(&text));
+    #[cfg(feature = "requests")]
+    {
+        let (requests, bytes) = requests::so_far();
+        println!("requests {} {}", requests - before.0, bytes - before.1);
+    }
+    assert!(told.count > 0, "{name}: nothing was read");
+    println!("text {}", text.len());
+}
+
+/// Prints the workloads' names, and how many read each.
+fn list() {
+    for workload in workloads::all() {
+        println!("{} {}", 2 + usize::from(workload.hand.is_some()), workload.name);
+    }
+}
+
+/// Times the workloads whose names have a word.
+fn time(turns: usize, only: &str) {
     println!("| Workload | beside nom 7 | beside a loop by hand | 4 MiB beside 64 KiB, a byte |");
     println!("|---|---|---|---|");
-    for workload in workloads::all().iter().filter(|w| w.name.contains(&only)) {
+    for workload in workloads::all().iter().filter(|w| w.name.contains(only)) {
         println!("{}", row(workload, turns));
     }
     if only.is_empty() {
         println!("{}", hard_search(turns));
+    }
+}
+
+fn main() {
+    let words: Vec<String> = std::env::args().skip(1).collect();
+    let word = |at: usize| words.get(at).map_or("", String::as_str);
+    match word(0) {
+        "list" => list(),
+        "run" => run_once(word(2), word(1).parse().expect("the place of a reader")),
+        turns => time(turns.parse().unwrap_or(60), word(1)),
     }
 }

@@ -1,4 +1,7 @@
 //! The texts that the workloads read: made from a fixed seed, so that each run reads the same.
+mod formats;
+
+pub use formats::*;
 
 /// Numbers that look random, the same ones in each run.
 struct Dice(u64);

@@ -102,6 +102,35 @@ pub fn all() -> Vec<Workload> {
             by_nom::names,
         )
         .by_hand(by_hand::names),
+        Workload::new("values of JSON", texts::json, library::json, by_nom::json)
+            .by_hand(by_hand::json),
+        Workload::new("rows with quotes", texts::csv, library::csv, by_nom::csv)
+            .by_hand(by_hand::csv),
+        Workload::new("replies of Redis", texts::replies, library::replies, by_nom::replies)
+            .by_hand(by_hand::replies),
+        Workload::new("texts with escapes", texts::escapes, library::escapes, by_nom::escapes)
+            .by_hand(by_hand::escapes),
+        Workload::new(
+            "fields of bits across bytes",
+            texts::bytes,
+            library::wide_words,
+            by_nom::wide_words,
+        )
+        .by_hand(by_hand::wide_words),
+        Workload::new(
+            "the sum of numbers by an iterator",
+            texts::numbers,
+            library::number_items,
+            by_nom::number_items,
+        )
+        .by_hand(by_hand::number_items),
+        Workload::new(
+            "lists of numbers in a list",
+            texts::number_lists,
+            library::number_lists,
+            by_nom::number_lists,
+        )
+        .by_hand(by_hand::number_lists),
     ];
     let literals: [(&str, &'static [u8]); 4] =
         [("1 byte", b";"), ("2 bytes", b"--"), ("8 bytes", b"</title>"), ("40 bytes", LONG)];

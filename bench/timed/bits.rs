@@ -1,4 +1,5 @@
-//! Fields of bits: the first words of headers of the Internet Protocol, version 4 (RFC 791).
+//! Fields of bits: the first words of headers of the Internet Protocol, version 4 (RFC 791), and
+//! fields that begin in one byte and end in another.
 #![tactic(auto, using(winnow::specs::Rules::ends_follow))]
 
 ghost use Rattle.winnow.specs.Input.{IsEndOf};
@@ -37,32 +38,91 @@ fn word<I: ByteStream + StreamIsPartial + Copy>(input: &mut I) -> Result<u64, Er
     }
 }
 
-/// Adds up the fields of the words that stand first, and answers how many bytes are left behind
-/// them.
-fn read_words<I: ByteStream + StreamIsPartial + Copy>(input: &mut I, out: &mut Outcome) -> usize {
+/// How many words stand first, the sum of their fields, and how many bytes are left behind them.
+fn read_words<I: ByteStream + StreamIsPartial + Copy>(input: &mut I) -> Outcome {
+    let mut count: u64 = 0;
+    let mut sum: u64 = 0;
     let mut left = input.eof_offset();
     // No more words stand there than bytes.
     for _ in 0..left {
         match word(input) {
             Ok(fields) => {
-                out.count = out.count.wrapping_add(1);
-                out.sum = out.sum.wrapping_add(fields);
+                count = count.wrapping_add(1);
+                sum = sum.wrapping_add(fields);
                 left = input.eof_offset();
             }
             Err(_) => break,
         }
     }
-    left
+    Outcome {
+        count,
+        sum,
+        left: left as u64,
+    }
 }
 
 /// Words of four fields: how many they are, and the sum of their fields.
 #[unsafe(no_mangle)]
 pub extern "C" fn timed_words_of_bits(input: &[u8], out: &mut Outcome) {
     let mut rest = input;
-    *out = Outcome {
-        count: 0,
-        sum: 0,
-        left: 0,
-    };
-    out.left = read_words(&mut rest, out) as u64;
+    *out = read_words(&mut rest);
+}
+
+/// The parsers of four fields of 64 bits, of which the last two lie in three bytes and in four.
+type WideFields<I, E> = (
+    Take<I, u8, E>,
+    Take<I, u16, E>,
+    Take<I, u32, E>,
+    Take<I, u32, E>,
+);
+
+/// The parser of these fields.
+fn wide_fields<I: ByteStream + StreamIsPartial, E: ParserError<Bits<I>>>() -> WideFields<I, E> {
+    (take(3_u8), take(13_u8), take(21_u8), take(27_u8))
+}
+
+/// The sum of the fields of the 64 bits that stand first.
+fn wide_word<I: ByteStream + StreamIsPartial + Copy>(
+    input: &mut I,
+) -> Result<u64, ErrMode<EmptyError>>
+    ensures { IsEndOf I.reading (I.view input.new) (I.view input.old) }
+{
+    match bits(wide_fields::<I, ErrMode<EmptyError>>()).parse_next(input) {
+        Ok((first, second, third, fourth)) => {
+            let fields = (first as u64).wrapping_add(second as u64);
+            let more = (third as u64).wrapping_add(fourth as u64);
+            Ok(fields.wrapping_add(more))
+        }
+        Err(error) => Err(error),
+    }
+}
+
+/// The same of words whose fields cross bytes.
+fn read_wide_words<I: ByteStream + StreamIsPartial + Copy>(input: &mut I) -> Outcome {
+    let mut count: u64 = 0;
+    let mut sum: u64 = 0;
+    let mut left = input.eof_offset();
+    // No more words stand there than bytes.
+    for _ in 0..left {
+        match wide_word(input) {
+            Ok(fields) => {
+                count = count.wrapping_add(1);
+                sum = sum.wrapping_add(fields);
+                left = input.eof_offset();
+            }
+            Err(_) => break,
+        }
+    }
+    Outcome {
+        count,
+        sum,
+        left: left as u64,
+    }
+}
+
+/// Words of four fields that cross bytes: how many they are, and the sum of their fields.
+#[unsafe(no_mangle)]
+pub extern "C" fn timed_wide_words(input: &[u8], out: &mut Outcome) {
+    let mut rest = input;
+    *out = read_wide_words(&mut rest);
 }

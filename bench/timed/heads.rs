@@ -10,46 +10,23 @@ use std::alloc::Global;
 use winnow::Parser;
 use winnow::combinator::{repeat, separated_pair, terminated};
 use winnow::error::{ErrMode, InputError};
-use winnow::stream::{ContainsToken, Range};
+use winnow::stream::{ByteSet, Range};
 use winnow::token::{take_until, take_while};
 
 /// A header: its name and its value.
 type Header<'i> = (&'i [u8], &'i [u8]);
 
-/// The bytes of names and methods.
-#[derive(Clone, Copy, Drop)]
-struct NameBytes;
-
-impl ContainsToken<u8> for NameBytes {
-    ghost tells = { λ _ _ _. ⊤ };
-
-    #[inline(always)]
-    fn contains_token(&self, b: u8) -> bool {
-        b.is_ascii_alphanumeric() || b == b'-'
-    }
-}
-
-/// The bytes of targets.
-#[derive(Clone, Copy, Drop)]
-struct TargetBytes;
-
-impl ContainsToken<u8> for TargetBytes {
-    ghost tells = { λ _ _ _. ⊤ };
-
-    #[inline(always)]
-    fn contains_token(&self, b: u8) -> bool {
-        b > b' ' && b < 127
-    }
-}
-
 /// The method and the target of a request line.
-fn request<'i>(input: &mut &'i [u8]) -> Result<Header<'i>, ErrMode<InputError<&'i [u8]>>>
+fn request<'i>(
+    names: ByteSet,
+    input: &mut &'i [u8],
+) -> Result<Header<'i>, ErrMode<InputError<&'i [u8]>>>
     ensures { IsEndOf bytes_reading (bytes_input input.new.now) (bytes_input input.old.now) }
 {
     let mut line = (
-        take_while(Range::from(1..), NameBytes),
+        take_while(Range::from(1..), names),
         b' ',
-        take_while(Range::from(1..), TargetBytes),
+        take_while(Range::from(1..), b'!'..=b'~'),
         b" HTTP/1.1\r\n".as_slice(),
     );
     match line.parse_next(input) {
@@ -59,12 +36,15 @@ fn request<'i>(input: &mut &'i [u8]) -> Result<Header<'i>, ErrMode<InputError<&'
 }
 
 /// A header: its name, a colon and a space, its value, and the end of its line.
-fn header<'i>(input: &mut &'i [u8]) -> Result<Header<'i>, ErrMode<InputError<&'i [u8]>>>
+fn header<'i>(
+    names: ByteSet,
+    input: &mut &'i [u8],
+) -> Result<Header<'i>, ErrMode<InputError<&'i [u8]>>>
     ensures { IsEndOf bytes_reading (bytes_input input.new.now) (bytes_input input.old.now) }
 {
     terminated(
         separated_pair(
-            take_while(Range::from(1..), NameBytes),
+            take_while(Range::from(1..), names),
             b": ".as_slice(),
             take_until(Range::from(0..), b'\r'),
         ),
@@ -75,7 +55,9 @@ fn header<'i>(input: &mut &'i [u8]) -> Result<Header<'i>, ErrMode<InputError<&'i
 
 /// The parser of a header.
 #[derive(Clone, Copy)]
-struct HeaderReader;
+struct HeaderReader {
+    names: ByteSet,
+}
 
 impl<'i> Parser<&'i [u8], Header<'i>, ErrMode<InputError<&'i [u8]>>> for HeaderReader {
     ghost State = { ⊤ };
@@ -91,28 +73,33 @@ impl<'i> Parser<&'i [u8], Header<'i>, ErrMode<InputError<&'i [u8]>>> for HeaderR
         &mut self,
         input: &mut &'i [u8],
     ) -> Result<Header<'i>, ErrMode<InputError<&'i [u8]>>> {
-        header(input)
+        header(self.names, input)
     }
 }
 
 /// The headers behind a request line.
 fn headers<'i>(
     alloc: Global,
+    names: ByteSet,
     input: &mut &'i [u8],
 ) -> Result<Vec<Header<'i>, Global>, ErrMode<InputError<&'i [u8]>>>
     ensures { IsEndOf bytes_reading (bytes_input input.new.now) (bytes_input input.old.now) }
 {
-    repeat(alloc, Range::from(0..), HeaderReader).parse_next(input)
+    repeat(alloc, Range::from(0..), HeaderReader { names }).parse_next(input)
 }
 
 /// A head: the request line, the headers and an empty line. It answers how many headers there are.
-fn head<'i>(alloc: Global, input: &mut &'i [u8]) -> Result<usize, ErrMode<InputError<&'i [u8]>>>
+fn head<'i>(
+    alloc: Global,
+    names: ByteSet,
+    input: &mut &'i [u8],
+) -> Result<usize, ErrMode<InputError<&'i [u8]>>>
     ensures { IsEndOf bytes_reading (bytes_input input.new.now) (bytes_input input.old.now) }
 {
-    if let Err(error) = request(input) {
+    if let Err(error) = request(names, input) {
         return Err(error);
     }
-    let headers = match headers(alloc, input) {
+    let headers = match headers(alloc, names, input) {
         Ok(headers) => headers,
         Err(error) => return Err(error),
     };
@@ -126,6 +113,7 @@ fn head<'i>(alloc: Global, input: &mut &'i [u8]) -> Result<usize, ErrMode<InputE
 #[derive(Clone, Copy, Drop)]
 struct HeadReader {
     alloc: Global,
+    names: ByteSet,
 }
 
 impl<'i> Parser<&'i [u8], usize, ErrMode<InputError<&'i [u8]>>> for HeadReader {
@@ -139,16 +127,17 @@ impl<'i> Parser<&'i [u8], usize, ErrMode<InputError<&'i [u8]>>> for HeadReader {
 
     #[inline(always)]
     fn parse_next(&mut self, input: &mut &'i [u8]) -> Result<usize, ErrMode<InputError<&'i [u8]>>> {
-        head(self.alloc, input)
+        head(self.alloc, self.names, input)
     }
 }
 
 /// How many heads there are, and how many headers they have.
 fn heads<'i>(
     alloc: Global,
+    names: ByteSet,
     input: &mut &'i [u8],
 ) -> Result<(u64, u64), ErrMode<InputError<&'i [u8]>>> {
-    repeat(alloc, Range::from(0..), HeadReader { alloc })
+    repeat(alloc, Range::from(0..), HeadReader { alloc, names })
         .fold(
             || (0u64, 0u64),
             |all: (u64, u64), n: usize| (all.0.wrapping_add(1), all.1.wrapping_add(n as u64)),
@@ -160,13 +149,14 @@ fn heads<'i>(
 /// where a request for memory was refused.
 #[unsafe(no_mangle)]
 pub extern "C" fn timed_heads(alloc: Global, input: &[u8], out: &mut Outcome) {
+    let names = ByteSet::from_set(&(b'-', b'0'..=b'9', b'A'..=b'Z', b'a'..=b'z'));
     let mut rest = input;
     *out = Outcome {
         count: 0,
         sum: 0,
         left: 0,
     };
-    if let Ok(all) = heads(alloc, &mut rest) {
+    if let Ok(all) = heads(alloc, names, &mut rest) {
         out.count = all.0;
         out.sum = all.1;
         out.left = rest.len() as u64;

@@ -4,9 +4,12 @@
 pub mod binary;
 pub mod bits;
 pub mod documents;
+pub mod escapes;
 pub mod fields;
+pub mod formats;
 pub mod formulas;
 pub mod heads;
+pub mod lists;
 pub mod names;
 pub mod numbers;
 pub mod outcome;

@@ -38,9 +38,9 @@ pub extern "C" fn timed_names_by_table(alloc: Global, input: &[u8], out: &mut Ou
     }
 }
 
-/// The same where the set is a tuple of a byte and ranges.
+/// The same where the set is a tuple of a byte and ranges, the commonest first.
 fn names_by_ranges<'i>(alloc: Global, input: &mut &'i [u8]) -> Result<usize, ErrMode<EmptyError>> {
-    let set = (b'-', b'0'..=b'9', b'A'..=b'Z', b'a'..=b'z');
+    let set = (b'a'..=b'z', b'A'..=b'Z', b'-', b'0'..=b'9');
     repeat(
         alloc,
         Range::from(0..),

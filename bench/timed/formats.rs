@@ -1,0 +1,152 @@
+//! Values of JSON, comma separated values with quotes, and replies of Redis, by the readers of these
+//! formats.
+
+use crate::outcome::Outcome;
+use json_texts::value::Value;
+use json_values::value::parse_value;
+use std::alloc::Global;
+use std::str;
+use uses_csv::{LineEnd, Record, parse_document};
+use uses_resp::read::read_reply;
+use uses_resp::reply::Reply;
+use winnow::stream::{Partial, Stream};
+
+/// How many bytes a text or a number has.
+fn text_bytes(value: &Value<Global>) -> u64 {
+    match value {
+        Value::Text(text) => text.len() as u64,
+        Value::Number(text) => text.len() as u64,
+        _ => 0,
+    }
+}
+
+/// How many bytes the names of members have, and the texts and numbers among their values.
+fn member_bytes(members: &[(String<Global>, Value<Global>)]) -> u64 {
+    let mut sum: u64 = 0;
+    for member in members {
+        sum = sum
+            .wrapping_add(member.0.len() as u64)
+            .wrapping_add(text_bytes(&member.1));
+    }
+    sum
+}
+
+/// The same of all objects among values.
+#[inline(never)]
+fn object_bytes(values: &[Value<Global>]) -> u64 {
+    let mut sum: u64 = 0;
+    for value in values {
+        match value {
+            Value::Object(members) => sum = sum.wrapping_add(member_bytes(members)),
+            _ => {}
+        }
+    }
+    sum
+}
+
+/// An array of JSON: how many elements it has, and how many bytes the names, texts and numbers of
+/// the objects among them. Nothing is told of another text, or where a request for memory was
+/// refused.
+#[unsafe(no_mangle)]
+pub extern "C" fn timed_json(alloc: Global, input: &[u8], out: &mut Outcome) {
+    *out = Outcome {
+        count: 0,
+        sum: 0,
+        left: 0,
+    };
+    let Ok(text) = str::from_utf8(input) else {
+        return;
+    };
+    if let Ok(Value::Array(values)) = parse_value(alloc, 16, text) {
+        out.count = values.len() as u64;
+        out.sum = object_bytes(&values);
+    }
+}
+
+/// How many bytes the fields of a record have.
+fn field_bytes(record: &Record<Global>) -> u64 {
+    let mut sum: u64 = 0;
+    for field in record {
+        sum = sum.wrapping_add(field.len() as u64);
+    }
+    sum
+}
+
+/// How many bytes all fields have.
+#[inline(never)]
+fn record_bytes(records: &[Record<Global>]) -> u64 {
+    let mut sum: u64 = 0;
+    for record in records {
+        sum = sum.wrapping_add(field_bytes(record));
+    }
+    sum
+}
+
+/// Records of fields, with quotes round some: how many records there are, and how many bytes their
+/// fields have. Nothing is told of other bytes, or where a request for memory was refused.
+#[unsafe(no_mangle)]
+pub extern "C" fn timed_csv(alloc: Global, input: &[u8], out: &mut Outcome) {
+    *out = Outcome {
+        count: 0,
+        sum: 0,
+        left: 0,
+    };
+    if let Ok(records) = parse_document(alloc, LineEnd::Lf, input) {
+        out.count = records.len() as u64;
+        out.sum = record_bytes(&records);
+    }
+}
+
+/// How many bytes a reply has, if it is bytes.
+fn bytes_of(reply: &Reply<&[u8], Global>) -> u64 {
+    match reply {
+        Reply::Simple(bytes) => bytes.len() as u64,
+        Reply::Error(bytes) => bytes.len() as u64,
+        Reply::Bulk(bytes) => bytes.len() as u64,
+        _ => 0,
+    }
+}
+
+/// How many bytes a reply has, or the elements of an array.
+fn reply_bytes(reply: &Reply<&[u8], Global>) -> u64 {
+    let mut sum: u64 = bytes_of(reply);
+    match reply {
+        Reply::Array(elements) => {
+            for element in elements {
+                sum = sum.wrapping_add(bytes_of(element));
+            }
+        }
+        _ => {}
+    }
+    sum
+}
+
+/// How many replies stand first, how many bytes they have, and how many bytes are left behind them.
+fn read_replies(alloc: Global, input: &mut Partial<&[u8]>) -> Outcome {
+    let mut count: u64 = 0;
+    let mut sum: u64 = 0;
+    let mut left = input.eof_offset();
+    // No more replies stand there than bytes.
+    for _ in 0..left {
+        match read_reply(alloc, 4, input) {
+            Ok(reply) => {
+                count = count.wrapping_add(1);
+                sum = sum.wrapping_add(reply_bytes(&reply));
+                left = input.eof_offset();
+            }
+            Err(_) => break,
+        }
+    }
+    Outcome {
+        count,
+        sum,
+        left: left as u64,
+    }
+}
+
+/// Replies of Redis: how many they are, and how many bytes they have, or their elements.
+#[unsafe(no_mangle)]
+pub extern "C" fn timed_replies(alloc: Global, input: &[u8], out: &mut Outcome) {
+    let mut rest = Partial::new(input);
+    *out = read_replies(alloc, &mut rest);
+}

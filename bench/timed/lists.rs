@@ -1,0 +1,77 @@
+//! Numbers by an iterator, and lists of them in a list.
+
+ghost use Rattle.std.specs.Prelude.{◌≡◌, false};
+
+use crate::outcome::Outcome;
+use std::alloc::Global;
+use winnow::ascii::impls::DecUint;
+use winnow::combinator::impls::ParseIter;
+use winnow::combinator::{separated, terminated};
+use winnow::error::{EmptyError, ErrMode, InputError};
+use winnow::prelude::*;
+
+/// How many items an input is, and their sum; what is left is 1 where a part is no item.
+fn sum_of_items<P: Parser<I, u32, E>, I: StreamIsPartial, E: ParserError<I>>(
+    item: &mut P,
+    input: I,
+) -> Outcome
+    requires callable { P.can_parse item.old }
+    requires whole { I.supports_partial ≡ false }
+{
+    let mut count: u64 = 0;
+    let mut sum: u64 = 0;
+    let mut left: u64 = 0;
+    let items: ParseIter<'_, P, I, u32, E> = item.parse_iter(input);
+    for item in items {
+        match item {
+            Ok(number) => {
+                count = count.wrapping_add(1);
+                sum = sum.wrapping_add(number as u64);
+            }
+            Err(_) => left = 1,
+        }
+    }
+    Outcome { count, sum, left }
+}
+
+/// The sum of numbers by an iterator, with a comma behind each.
+#[unsafe(no_mangle)]
+pub extern "C" fn timed_number_items(input: &[u8], out: &mut Outcome) {
+    let mut item = terminated(DecUint, b',');
+    *out = sum_of_items::<_, &[u8], EmptyError>(&mut item, input);
+}
+
+/// A list of lists of numbers.
+type Lists = Vec<Vec<u32, Global>, Global>;
+
+/// Lists of numbers, with line feeds between them.
+fn lists<'i>(alloc: Global, input: &mut &'i [u8]) -> Result<Lists, ErrMode<InputError<&'i [u8]>>> {
+    let list = separated(alloc, Range::from(1..), DecUint, b',');
+    separated(alloc, Range::from(0..), list, b'\n').parse_next(input)
+}
+
+/// How many numbers all lists have.
+fn numbers(lists: &[Vec<u32, Global>]) -> u64 {
+    let mut sum: u64 = 0;
+    for list in lists {
+        sum = sum.wrapping_add(list.len() as u64);
+    }
+    sum
+}
+
+/// Lists of numbers with commas between them, and line feeds between the lists: how many lists there
+/// are, and how many numbers. Nothing is told where a request for memory was refused.
+#[unsafe(no_mangle)]
+pub extern "C" fn timed_number_lists(alloc: Global, input: &[u8], out: &mut Outcome) {
+    let mut rest = input;
+    *out = Outcome {
+        count: 0,
+        sum: 0,
+        left: 0,
+    };
+    if let Ok(all) = lists(alloc, &mut rest) {
+        out.count = all.len() as u64;
+        out.sum = numbers(&all);
+        out.left = rest.len() as u64;
+    }
+}
