@@ -8,10 +8,14 @@ use Rattle.std.proofs.lemmas.List.{take-append-drop, length-take-le, drop_at, at
 use Rattle.std.proofs.lemmas.List.{get_or_at}
 use Rattle.std.proofs.Math.Dec.{eqb}
 use Rattle.std.proofs.Math.Seq.{take-append_seam}
+use Rattle.std.proofs.lemmas.Str.{encode_ascii}
+use Rattle.std.specs.Char.{encode_utf8}
+use Rattle.std.specs.declared.ops.Range.{Range}
 use Rattle.memchr.specs.Find.{OccursAt, Passes, FindsNeedle, IsFirstByte, is_byte, is_byte2}
 use Rattle.memchr.specs.Find.{is_byte3}
 use Rattle.memchr.proofs.lemmas.MatchLemmas.{OccursAt-from_part, OccursAt-split}
-use Rattle.stream_searches.specs.FindSlice.{Stands, IsFirstMatch}
+use Rattle.stream_searches.specs.FindSlice.{Stands, IsFirstMatch, FindsSlice}
+use Rattle.stream_searches.specs.Three.{IsOneOfThree}
 
 -- a needle that stands behind some bytes occurs there
 occurs : (hay needle front rest : List ℕ) → hay ≡ front ++ (needle ++ rest)
@@ -168,3 +172,17 @@ three_stand a b c hay r first =
           (or_right (eqb b a) (eqb b b) (eq-eqb b b refl)),
     )
     are_bytes xs (inr (inr e)) = (c, e, or_right (eqb c a || eqb c b) (eqb c c) (eq-eqb c c refl))
+
+-- one of two characters that are ASCII, so a byte each
+pub two_ascii_stand : (a b : ℕ) → a < 128 → b < 128 → (hay : List ℕ) (r : Option (Range ℕ))
+    → FindsSlice length (λ xs. (xs ≡ a ∷ []) ⊎ (xs ≡ b ∷ [])) hay r
+    → FindsSlice length (λ xs. (xs ≡ encode_utf8 a) ⊎ (xs ≡ encode_utf8 b)) hay r
+two_ascii_stand a b first second hay r found =
+    rw (encode_ascii a first, encode_ascii b second) found
+
+-- one of three characters that are ASCII
+pub three_ascii_stand : (a b c : ℕ) → a < 128 → b < 128 → c < 128 → (hay : List ℕ)
+    (r : Option (Range ℕ)) → FindsSlice length (IsOneOfThree (a ∷ []) (b ∷ []) (c ∷ [])) hay r
+    → FindsSlice length (IsOneOfThree (encode_utf8 a) (encode_utf8 b) (encode_utf8 c)) hay r
+three_ascii_stand a b c first second third hay r found =
+    rw (encode_ascii a first, encode_ascii b second, encode_ascii c third) found

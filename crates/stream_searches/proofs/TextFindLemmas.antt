@@ -134,21 +134,18 @@ three_characters all a b d utf8 ua ub ud r found =
 -- A search of a text for one of two characters.
 pub two_characters : (all : List ℕ) (a b : ℕ) → IsUtf8 all → IsUtf8 (encode_utf8 a)
     → IsUtf8 (encode_utf8 b) → (r : Option (Range ℕ))
-    → FindsSlice length (IsOneOfThree (encode_utf8 a) (encode_utf8 b) (encode_utf8 b)) all r
+    → FindsSlice length (λ xs. (xs ≡ encode_utf8 a) ⊎ (xs ≡ encode_utf8 b)) all r
     → FindsSlice width (λ xs. (xs ≡ a ∷ []) ⊎ (xs ≡ b ∷ [])) (chars all) r
 two_characters all a b utf8 ua ub r found =
-    texts_stand all (IsOneOfThree (encode_utf8 a) (encode_utf8 b) (encode_utf8 b))
+    texts_stand all (λ xs. (xs ≡ encode_utf8 a) ⊎ (xs ≡ encode_utf8 b))
     (λ xs. (xs ≡ a ∷ []) ⊎ (xs ≡ b ∷ [])) to_chars to_bytes utf8 r found
   where
-    to_chars : (lit : List ℕ) → IsOneOfThree (encode_utf8 a) (encode_utf8 b) (encode_utf8 b) lit
+    to_chars : (lit : List ℕ) → (lit ≡ encode_utf8 a) ⊎ (lit ≡ encode_utf8 b)
         → IsUtf8 lit × ((chars lit ≡ a ∷ []) ⊎ (chars lit ≡ b ∷ []))
     to_chars lit (inl e) = one_char (λ xs. (xs ≡ a ∷ []) ⊎ (xs ≡ b ∷ [])) a lit ua e (inl refl)
-    to_chars lit (inr (inl e)) =
-        one_char (λ xs. (xs ≡ a ∷ []) ⊎ (xs ≡ b ∷ [])) b lit ub e (inr refl)
-    to_chars lit (inr (inr e)) =
-        one_char (λ xs. (xs ≡ a ∷ []) ⊎ (xs ≡ b ∷ [])) b lit ub e (inr refl)
+    to_chars lit (inr e) = one_char (λ xs. (xs ≡ a ∷ []) ⊎ (xs ≡ b ∷ [])) b lit ub e (inr refl)
 
     to_bytes : (cs : List ℕ) → (cs ≡ a ∷ []) ⊎ (cs ≡ b ∷ [])
-        → IsOneOfThree (encode_utf8 a) (encode_utf8 b) (encode_utf8 b) (encode_utf8_all cs)
+        → (encode_utf8_all cs ≡ encode_utf8 a) ⊎ (encode_utf8_all cs ≡ encode_utf8 b)
     to_bytes cs (inl e) = inl (ap encode_utf8_all e ∙ encodes-one a)
-    to_bytes cs (inr e) = inr (inl (ap encode_utf8_all e ∙ encodes-one b))
+    to_bytes cs (inr e) = inr (ap encode_utf8_all e ∙ encodes-one b)

@@ -15,7 +15,7 @@ use std::ops;
 
 /// Searches bytes for the UTF-8 of one of three characters.
 #[inline(always)]
-fn find_characters(all: &[u8], first: char, second: char, third: char) -> Option<ops::Range<usize>>
+fn find_encoded(all: &[u8], first: char, second: char, third: char) -> Option<ops::Range<usize>>
     ensures utf8 { IsUtf8 (encode_utf8 first) × IsUtf8 (encode_utf8 second)
         × IsUtf8 (encode_utf8 third) }
     ensures finds { FindsSlice length
@@ -28,6 +28,42 @@ fn find_characters(all: &[u8], first: char, second: char, third: char) -> Option
         second.encode_utf8(&mut [0; 4]).as_bytes(),
         third.encode_utf8(&mut [0; 4]).as_bytes(),
     )
+}
+
+/// Searches bytes for the UTF-8 of one of two characters. Where both are ASCII it is a byte each,
+/// which is sought many bytes at a time, and needs no comparison where it was found.
+#[inline(always)]
+fn find_two_characters(all: &[u8], first: char, second: char) -> Option<ops::Range<usize>>
+    ensures utf8 { IsUtf8 (encode_utf8 first) × IsUtf8 (encode_utf8 second) }
+    ensures finds { FindsSlice length
+        (λ xs. (xs ≡ encode_utf8 first) ⊎ (xs ≡ encode_utf8 second)) all.now result }
+{
+    if first.is_ascii() && second.is_ascii() {
+        all.find_slice((first as u8, second as u8))
+    } else {
+        find_encoded(all, first, second, second)
+    }
+}
+
+/// Searches bytes for the UTF-8 of one of three characters: for three bytes, where all are ASCII.
+#[inline(always)]
+fn find_three_characters(
+    all: &[u8],
+    first: char,
+    second: char,
+    third: char,
+) -> Option<ops::Range<usize>>
+    ensures utf8 { IsUtf8 (encode_utf8 first) × IsUtf8 (encode_utf8 second)
+        × IsUtf8 (encode_utf8 third) }
+    ensures finds { FindsSlice length
+        (IsOneOfThree (encode_utf8 first) (encode_utf8 second) (encode_utf8 third)) all.now
+        result }
+{
+    if first.is_ascii() && second.is_ascii() && third.is_ascii() {
+        all.find_slice((first as u8, second as u8, third as u8))
+    } else {
+        find_encoded(all, first, second, third)
+    }
 }
 
 /// A character stands for the bytes of its UTF-8.
@@ -48,7 +84,7 @@ impl<'a> FindSlice<(char, char)> for &'a [u8] {
 
     #[inline(always)]
     fn find_slice(&self, substr: (char, char)) -> Option<ops::Range<usize>> {
-        find_characters(*self, substr.0, substr.1, substr.1)
+        find_two_characters(*self, substr.0, substr.1)
     }
 
     ghost stays_first = { λ t. two_characters_stay bytes_reading t.0 t.1 };
@@ -61,7 +97,7 @@ impl<'a> FindSlice<(char, char, char)> for &'a [u8] {
 
     #[inline(always)]
     fn find_slice(&self, substr: (char, char, char)) -> Option<ops::Range<usize>> {
-        find_characters(*self, substr.0, substr.1, substr.2)
+        find_three_characters(*self, substr.0, substr.1, substr.2)
     }
 
     ghost stays_first = { λ t. three_characters_stay bytes_reading t.0 t.1 t.2 };
@@ -83,7 +119,7 @@ impl<'a> FindSlice<(char, char)> for &'a str {
 
     #[inline(always)]
     fn find_slice(&self, substr: (char, char)) -> Option<ops::Range<usize>> {
-        find_characters(self.as_bytes(), substr.0, substr.1, substr.1)
+        find_two_characters(self.as_bytes(), substr.0, substr.1)
     }
 
     ghost stays_first = { λ t. two_stay text_reading t.0 t.1 };
@@ -94,7 +130,7 @@ impl<'a> FindSlice<(char, char, char)> for &'a str {
 
     #[inline(always)]
     fn find_slice(&self, substr: (char, char, char)) -> Option<ops::Range<usize>> {
-        find_characters(self.as_bytes(), substr.0, substr.1, substr.2)
+        find_three_characters(self.as_bytes(), substr.0, substr.1, substr.2)
     }
 
     ghost stays_first = { λ t. three_stay text_reading t.0 t.1 t.2 };

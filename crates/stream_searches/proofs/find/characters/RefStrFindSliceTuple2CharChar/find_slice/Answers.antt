@@ -8,10 +8,10 @@ use Rattle.stream_searches.proofs.find.characters.RefStrFindSliceTuple2CharChar.
 pub returns : goal.returns
 returns c =
     let all = c.as_bytes in
-    let utf8 = c.find_characters.ensures.utf8 in
+    let utf8 = c.find_two_characters.ensures.utf8 in
     let P : List ℕ → Type 0 =
     λ l. FindsSlice width (λ xs. (xs ≡ c.args.substr.0 ∷ []) ⊎ (xs ≡ c.args.substr.1 ∷ []))
-    (chars l) c.find_characters.result in
+    (chars l) c.find_two_characters.result in
     subst P all.ensures.value
     (two_characters all.result.now c.args.substr.0 c.args.substr.1 all.ensures.utf8 utf8.0
-    utf8.1 c.find_characters.result c.find_characters.ensures.finds)
+    utf8.1 c.find_two_characters.result c.find_two_characters.ensures.finds)
