@@ -54,30 +54,39 @@ fn take_of_two_bytes<I: ByteStream, O: BitOutput>(input: &mut Bits<I>, count: us
     }
 }
 
-/// The next `count` bits as a number: those of a byte at once.
+/// The next `count` bits as a number, which begin in one byte and end in a later one: what is left
+/// of the first byte, then whole bytes, then what is missing. Each turn of the loop takes as many,
+/// so that the compiler folds counts that it knows, and unrolls the loop.
 #[inline(always)]
 fn take_across_bytes<I: ByteStream, O: BitOutput>(input: &mut Bits<I>, count: usize) -> O
     requires possible { (⟦<Bits<I> as Stream>⟧.view input.old).left.possible ≡ true }
     requires there { count ≤ length (⟦<Bits<I> as Stream>⟧.view input.old).left.tokens }
     requires fits { count ≤ O.WIDTH }
+    requires across { 8 < input.old.1 + count }
     ensures { ReadsNumber (bits_reading I.reading) count (⟦<Bits<I> as Stream>⟧.view input.old)
         (O.number result) (⟦<Bits<I> as Stream>⟧.view input.new) }
 {
-    let mut number = O::default();
-    let mut missing = count;
-    while 0 < missing {
-        let here = (8 - input.1).min(missing);
-        match input.next_of_byte(here) {
+    let here = 8 - input.1;
+    let mut number: O = take_within_byte(input, here);
+    let mut missing = count - here;
+    while 8 <= missing {
+        match input.next_of_byte(8) {
             Some(bits) => {
-                number = number.push_bits(bits, here);
-                missing -= here;
+                number = number.push_bits(bits, 8);
+                missing -= 8;
             }
             None => {
                 return number;
             }
         }
     }
-    number
+    if missing == 0 {
+        return number;
+    }
+    match input.next_of_byte(missing) {
+        Some(bits) => number.push_bits(bits, missing),
+        None => number,
+    }
 }
 
 /// The next `count` bits as a number. Those of one byte or two take no loop, so that the compiler

@@ -7,6 +7,7 @@ use Rattle.winnow_bits.proofs.bits.fields.take_across_bytes.Given as goal
 abbrev pub invariant-loop-missing : goal.invariant-loop-missing
 invariant-loop-missing g l = record {
   some : l.missing ≤ l.count;
+  whole : l.input.1 ≡ 0;
   reads : ReadsNumber (bits_reading g.I.Stream.reading) (l.count - l.missing)
       (bits_input (g.I.Stream.view l.fn.input.0) l.fn.input.1) (g.O.BitOutput.number l.number)
       (bits_input (g.I.Stream.view l.input.0) l.input.1);
