@@ -5,7 +5,7 @@ use Rattle.stream_errors.specs.Form.{Answer}
 use Rattle.streams.specs.Input.{Input}
 use Rattle.streams.specs.Kind.{Kind}
 use Rattle.winnow_expression.specs.Units.{units_left}
-use Rattle.winnow_expression.specs.Calls.{call_at}
+use Rattle.winnow_expression.specs.Calls.{Call, Open, call_at}
 use Rattle.winnow_expression.specs.Expression.{ExpressionRuns}
 use Rattle.winnow_expression.specs.Grammar.{Grammar, CallEnds, Closes, Infixes, Postfixes, Prefixes}
 use Rattle.winnow_expression.specs.Grammar.{TurnEnds}
@@ -15,8 +15,6 @@ use Rattle.winnow_expression.specs.Expression.{resume_goes}
 use Rattle.winnow_expression.specs.Machine.{AllEnd}
 use Rattle.winnow_expression.specs.Loop.{Leads, Resumed}
 use Rattle.winnow_expression.specs.declared.combinator.places.First.TheVariants.{Operand}
-use Rattle.winnow_expression.specs.declared.combinator.calls.Call.{Call}
-use Rattle.winnow_expression.specs.declared.combinator.calls.Open.{Open}
 
 -- a failure is handed on by every open operator
 resumed_failure : {S W T V F G H : Type 0} (g : Grammar S W T V F G H) (xs : List (Open V F H))

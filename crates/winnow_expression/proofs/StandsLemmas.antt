@@ -8,7 +8,7 @@ use Rattle.streams.specs.Input.{Input}
 use Rattle.streams.specs.Kind.{Kind}
 use Rattle.winnow_core.specs.Runs.{Runs}
 use Rattle.winnow_expression.specs.Units.{units_left}
-use Rattle.winnow_expression.specs.Calls.{Interrupts, call_at}
+use Rattle.winnow_expression.specs.Calls.{Call, Calls, Interrupts, Open, call_at}
 use Rattle.winnow_expression.specs.Expression.{CallRuns, ExpressionRuns}
 use Rattle.winnow_expression.specs.Grammar.{Folding, Grammar, CallEnds, Closes, Infixes, Postfixes}
 use Rattle.winnow_expression.specs.Grammar.{TurnEnds}
@@ -21,8 +21,6 @@ use Rattle.winnow_expression.proofs.LeadsLemmas.{close_fails, call_done, all_don
 use Rattle.winnow_expression.proofs.LeadsLemmas.{expression_fails, of_all}
 use Rattle.winnow_expression.proofs.RankLemmas.{rank_consumed, rank_operand, rank_infix, rank_close}
 use Rattle.winnow_expression.specs.declared.combinator.places.Next.{Next}
-use Rattle.winnow_expression.specs.declared.combinator.calls.Call.{Call}
-use Rattle.winnow_expression.specs.declared.combinator.calls.Calls.{Calls}
 use Rattle.winnow_expression.specs.declared.combinator.calls.Operator.{Operator}
 use Rattle.winnow_expression.specs.declared.combinator.calls.Operator.TheVariants.{
   Prefix as prefix_open,
@@ -30,7 +28,6 @@ use Rattle.winnow_expression.specs.declared.combinator.calls.Operator.TheVariant
 use Rattle.winnow_expression.specs.declared.combinator.calls.Operator.TheVariants.{
   Infix as infix_open,
 }
-use Rattle.winnow_expression.specs.declared.combinator.calls.Open.{Open}
 use Rattle.winnow_expression.specs.declared.combinator.machine.Turn.{Turn}
 use Rattle.winnow_expression.specs.declared.combinator.machine.Turn.TheVariants.{Ends, EndsAll}
 use Rattle.winnow_expression.specs.declared.combinator.machine.Turn.TheVariants.{Goes, Interrupted}
@@ -44,75 +41,75 @@ fewer_or_same m n le = elim (cases_lt m n) [
 ]
 
 -- an operator is opened
-pushed : {S W T V F G H A : Type 0} (g : Grammar S W T V F G H) (whole : Call) (z : S × W)
-    (o : Input T) (calls after : Calls V F H A) (x : Open V F H) (power : ℤ) (t : S × W)
+pushed : {S W T V F G H : Type 0} (g : Grammar S W T V F G H) (whole : Call) (z : S × W)
+    (o : Input T) (calls after : Calls V F H) (x : Open V F H) (power : ℤ) (t : S × W)
     (j : Input T) → Interrupts calls x power (units_left g.folding.units j) after
     → Leads g whole z o (call_at power (units_left g.folding.units j)) None
-    (x ∷ reverse calls.open.items) t j
-    → Nested (x ∷ reverse calls.open.items) (units_left g.folding.units j)
+    (x ∷ reverse calls.opened) t j
+    → Nested (x ∷ reverse calls.opened) (units_left g.folding.units j)
     → Stands g whole z o after None t j
 pushed g whole z o calls after x power t j opened known nested =
     let P : List (Open _ _ _) → Call → Type 0 = λ xs call. Leads g whole z o call None xs t j
     × Nested xs call.began × (units_left g.folding.units j ≤ call.began)
     × (call.turn ≡ call.began) in
-    subst (λ xs. P xs after.present) (sym (popped after.open.items calls.open.items x opened.0))
-    (subst (λ call. P (x ∷ reverse calls.open.items) call) (sym opened.1)
+    subst (λ xs. P xs after.present) (sym (popped after.opened calls.opened x opened.0))
+    (subst (λ call. P (x ∷ reverse calls.opened) call) (sym opened.1)
     (known, nested, omega arith, refl))
 
-pub operand_kept : {S W T V F G H A : Type 0} (g : Grammar S W T V F G H) (whole : Call)
-    (z : S × W) (o : Input T) (calls after : Calls V F H A) (given left : Option V) (s : S × W)
+pub operand_kept : {S W T V F G H : Type 0} (g : Grammar S W T V F G H) (whole : Call)
+    (z : S × W) (o : Input T) (calls after : Calls V F H) (given left : Option V) (s : S × W)
     (t : S) (i j : Input T) → Stands g whole z o calls given s i → given ≡ None
     → OperandStep g.folding.units g.first g.folding.refusal calls s.0 i (Ok left) after t j
     → units_left g.folding.units j ≤ units_left g.folding.units i
     → Stands g whole z o after left (t, s.1) j
-    × (rank (units_left g.folding.units j) after.present (reverse after.open.items) left
-    < rank (units_left g.folding.units i) calls.present (reverse calls.open.items) given)
+    × (rank (units_left g.folding.units j) after.present (reverse after.opened) left
+    < rank (units_left g.folding.units i) calls.present (reverse calls.opened) given)
 operand_kept {V = V} g whole z o calls after given left s t i j stands none step ends =
     let P : Option V → Type 0 = λ l. Stands g whole z o calls l s i in
     let Q : Option V → Type 0 =
-    λ l. rank (units_left g.folding.units j) after.present (reverse after.open.items) left
-    < rank (units_left g.folding.units i) calls.present (reverse calls.open.items) l in
+    λ l. rank (units_left g.folding.units j) after.present (reverse after.opened) left
+    < rank (units_left g.folding.units i) calls.present (reverse calls.opened) l in
     let both = kept g whole z o calls after left s t i j (subst P none stands) step ends in
     (both.0, subst Q (sym none) both.1)
   where
-    kept : {S W T V F G H A : Type 0} (g : Grammar S W T V F G H) (whole : Call)
-        (z : S × W) (o : Input T) (calls after : Calls V F H A) (left : Option V) (s : S × W)
+    kept : {S W T V F G H : Type 0} (g : Grammar S W T V F G H) (whole : Call)
+        (z : S × W) (o : Input T) (calls after : Calls V F H) (left : Option V) (s : S × W)
         (t : S) (i j : Input T) → Stands g whole z o calls None s i
         → OperandStep g.folding.units g.first g.folding.refusal calls s.0 i (Ok left) after t j
         → units_left g.folding.units j ≤ units_left g.folding.units i
         → Stands g whole z o after left (t, s.1) j
-        × (rank (units_left g.folding.units j) after.present (reverse after.open.items) left
-        < rank (units_left g.folding.units i) calls.present (reverse calls.open.items) None)
+        × (rank (units_left g.folding.units j) after.present (reverse after.opened) left
+        < rank (units_left g.folding.units i) calls.present (reverse calls.opened) None)
     kept g whole z o calls after left s t i j stands (inl (kind, failed, e)) ends = absurd (cc)
     kept {V = V} g whole z o calls after left s t i j stands (inr (inl (v, read, e, same))) ends =
-        let R : Calls _ _ _ _ → Option V → Type 0 = λ c l. Stands g whole z o c l (t, s.1) j
-        × (rank (units_left g.folding.units j) c.present (reverse c.open.items) l
-        < rank (units_left g.folding.units i) calls.present (reverse calls.open.items) None) in
+        let R : Calls _ _ _ → Option V → Type 0 = λ c l. Stands g whole z o c l (t, s.1) j
+        × (rank (units_left g.folding.units j) c.present (reverse c.opened) l
+        < rank (units_left g.folding.units i) calls.present (reverse calls.opened) None) in
         let is : left ≡ Some v = cc in
         subst (λ c. R c left) (sym same) (subst (R calls) (sym is) (
           (
-            leads_operand g whole calls.present z o (reverse calls.open.items) v s t i j
+            leads_operand g whole calls.present z o (reverse calls.opened) v s t i j
                 stands.0 read,
             stands.1,
             omega (arith, ends, stands.2),
             tt,
           ),
           rank_operand (units_left g.folding.units i) (units_left g.folding.units j)
-              calls.present (reverse calls.open.items) v
+              calls.present (reverse calls.opened) v
               (fewer_or_same (units_left g.folding.units j) (units_left g.folding.units i)
               ends),
         ))
     kept {V = V} g whole z o calls after left s t i j stands
         (inr (inr (x, power, read, e, opened))) ends =
         let R : Option V → Type 0 = λ l. Stands g whole z o after l (t, s.1) j
-        × (rank (units_left g.folding.units j) after.present (reverse after.open.items) l
-        < rank (units_left g.folding.units i) calls.present (reverse calls.open.items) None) in
+        × (rank (units_left g.folding.units j) after.present (reverse after.opened) l
+        < rank (units_left g.folding.units i) calls.present (reverse calls.opened) None) in
         let is : left ≡ None = cc in
         let N : Open _ _ _ → Type 0 =
-        λ y. Nested (y ∷ reverse calls.open.items) (units_left g.folding.units j) in
+        λ y. Nested (y ∷ reverse calls.opened) (units_left g.folding.units j) in
         subst R (sym is) (
           pushed g whole z o calls after x power (t, s.1) j opened
-              (leads_prefix g whole calls.present z o (reverse calls.open.items) x power s t i j
+              (leads_prefix g whole calls.present z o (reverse calls.opened) x power s t i j
               stands.0 read)
               (subst N (sym read.3) (
                 omega (arith, read.2, stands.2, stands.3),
@@ -121,61 +118,61 @@ operand_kept {V = V} g whole z o calls after given left s t i j stands none step
               )),
           rank_consumed (units_left g.folding.units i) (units_left g.folding.units j)
               calls.present after.present
-              (reverse calls.open.items) (reverse after.open.items) None None read.2
-              (omega (arith, ap length (popped after.open.items calls.open.items x opened.0))),
+              (reverse calls.opened) (reverse after.opened) None None read.2
+              (omega (arith, ap length (popped after.opened calls.opened x opened.0))),
         )
 
-pub infix_kept : {S W T V F G H A : Type 0} (g : Grammar S W T V F G H) (whole : Call)
-    (z : S × W) (o : Input T) (calls after : Calls V F H A) (left : V) (s : S × W)
+pub infix_kept : {S W T V F G H : Type 0} (g : Grammar S W T V F G H) (whole : Call)
+    (z : S × W) (o : Input T) (calls after : Calls V F H) (left : V) (s : S × W)
     (t : W) (i j : Input T) → Stands g whole z o calls (Some left) s i
     → TurnStep g.folding.units g.next g.behind g.folding.refusal calls left s.1 i
     (Ok Interrupted) after t j
     → units_left g.folding.units j ≤ units_left g.folding.units i
     → Stands g whole z o after None (s.0, t) j
-    × (rank {V = V} (units_left g.folding.units j) after.present (reverse after.open.items) None
-    < rank (units_left g.folding.units i) calls.present (reverse calls.open.items) (Some left))
+    × (rank {V = V} (units_left g.folding.units j) after.present (reverse after.opened) None
+    < rank (units_left g.folding.units i) calls.present (reverse calls.opened) (Some left))
 infix_kept {V = V} g whole z o calls after left s t i j stands step ends =
     let (x, power, read, opened) =
     interrupted_of g.folding.units g.next g.behind g.folding.refusal calls after left s.1 t
     i j step in
     let N : Open _ _ _ → Type 0 =
-    λ y. Nested (y ∷ reverse calls.open.items) (units_left g.folding.units j) in
+    λ y. Nested (y ∷ reverse calls.opened) (units_left g.folding.units j) in
     let Q : List (Open _ _ _) → Type 0 =
     λ xs. rank {V = V} (units_left g.folding.units j) after.present xs None
-    < rank (units_left g.folding.units i) calls.present (reverse calls.open.items) (Some left) in (
+    < rank (units_left g.folding.units i) calls.present (reverse calls.opened) (Some left) in (
       pushed g whole z o calls after x power (s.0, t) j opened
-          (leads_infix g whole calls.present z o left (reverse calls.open.items) x power s t i j
+          (leads_infix g whole calls.present z o left (reverse calls.opened) x power s t i j
           stands.0 read)
           (subst N (sym read.6) (ends, stands.2, stands.1)),
-      subst Q (sym (popped after.open.items calls.open.items x opened.0))
+      subst Q (sym (popped after.opened calls.opened x opened.0))
           (rank_infix (units_left g.folding.units i) (units_left g.folding.units j)
           calls.present after.present x
-          (reverse calls.open.items) left
+          (reverse calls.opened) left
           (fewer_or_same (units_left g.folding.units j) (units_left g.folding.units i)
           ends) stands.1 stands.2 read.4
           (ap (λ y. y.call.turn) read.6) (ap (λ c. c.began) opened.1)),
     )
 
-pub postfix_kept : {S W T V F G H A : Type 0} (g : Grammar S W T V F G H) (whole : Call)
-    (z : S × W) (o : Input T) (calls after : Calls V F H A) (left v : V) (s : S × W)
+pub postfix_kept : {S W T V F G H : Type 0} (g : Grammar S W T V F G H) (whole : Call)
+    (z : S × W) (o : Input T) (calls after : Calls V F H) (left v : V) (s : S × W)
     (t : W) (i j : Input T) → Stands g whole z o calls (Some left) s i
     → TurnStep g.folding.units g.next g.behind g.folding.refusal calls left s.1 i (Ok (Goes v))
     after t j
     → units_left g.folding.units j ≤ units_left g.folding.units i
     → Stands g whole z o after (Some v) (s.0, t) j
-    × (rank (units_left g.folding.units j) after.present (reverse after.open.items) (Some v)
-    < rank (units_left g.folding.units i) calls.present (reverse calls.open.items) (Some left))
+    × (rank (units_left g.folding.units j) after.present (reverse after.opened) (Some v)
+    < rank (units_left g.folding.units i) calls.present (reverse calls.opened) (Some left))
 postfix_kept g whole z o calls after left v s t i j stands step ends =
     let (read, same) =
     goes_of g.folding.units g.next g.behind g.folding.refusal calls after left v s.1 t i j
     step in
     let (power, fold, m, ran, reaches, folded, moved) = read in
-    let R : Calls _ _ _ _ → Type 0 = λ c. Stands g whole z o c (Some v) (s.0, t) j
-    × (rank (units_left g.folding.units j) c.present (reverse c.open.items) (Some v)
-    < rank (units_left g.folding.units i) calls.present (reverse calls.open.items) (Some left)) in
+    let R : Calls _ _ _ → Type 0 = λ c. Stands g whole z o c (Some v) (s.0, t) j
+    × (rank (units_left g.folding.units j) c.present (reverse c.opened) (Some v)
+    < rank (units_left g.folding.units i) calls.present (reverse calls.opened) (Some left)) in
     subst R (sym same) (
       (
-        leads_postfix g whole calls.present z o left v (reverse calls.open.items) s t i j
+        leads_postfix g whole calls.present z o left v (reverse calls.opened) s t i j
             stands.0 read,
         stands.1,
         omega (arith, ends, stands.2),
@@ -183,7 +180,7 @@ postfix_kept g whole z o calls after left v s t i j stands step ends =
       ),
       rank_consumed (units_left g.folding.units i) (units_left g.folding.units j) calls.present
           calls.present
-          (reverse calls.open.items) (reverse calls.open.items) (Some left) (Some v)
+          (reverse calls.opened) (reverse calls.opened) (Some left) (Some v)
           (omega (arith, ends, moved)) (omega arith),
     )
 
@@ -208,26 +205,26 @@ behind_turn g (infix_open left fold) turn began u v w m j falls below less
     ]
 
 -- the operators above, the last of them first
-pub above_last : {V F H A : Type 0} (calls after : Calls V F H A) (rest : List (Open V F H))
-    (x : Open V F H) → after ≡ calls → after.open.items ≡ rest ++ (x ∷ [])
-    → reverse calls.open.items ≡ x ∷ reverse rest
+pub above_last : {V F H : Type 0} (calls after : Calls V F H) (rest : List (Open V F H))
+    (x : Open V F H) → after ≡ calls → after.opened ≡ rest ++ (x ∷ [])
+    → reverse calls.opened ≡ x ∷ reverse rest
 above_last calls after rest x same last =
-    ap (λ c. reverse c.open.items) (sym same) ∙ popped after.open.items rest x last
+    ap (λ c. reverse c.opened) (sym same) ∙ popped after.opened rest x last
 
-pub close_kept : {S W T V F G H A : Type 0} (g : Grammar S W T V F G H) (whole : Call)
-    (z : S × W) (o : Input T) (calls after final : Calls V F H A) (left v w : V)
+pub close_kept : {S W T V F G H : Type 0} (g : Grammar S W T V F G H) (whole : Call)
+    (z : S × W) (o : Input T) (calls after final : Calls V F H) (left v w : V)
     (x : Open V F H) (rest : List (Open V F H)) (s : S × W) (t : W) (i m j : Input T)
     → Stands g whole z o calls (Some left) s i
     → TurnStep g.folding.units g.next g.behind g.folding.refusal calls left s.1 i (Ok (Ends v))
     after t m
     → units_left g.folding.units m ≤ units_left g.folding.units i
-    → after.open.items ≡ rest ++ (x ∷ [])
+    → after.opened ≡ rest ++ (x ∷ [])
     → Closes g.folding x.operator x.call.turn m v (Ok w) j
     → units_left g.folding.units j ≤ units_left g.folding.units m
-    → final.present ≡ x.call → final.open.items ≡ rest
+    → final.present ≡ x.call → final.opened ≡ rest
     → Stands g whole z o final (Some w) (s.0, t) j
-    × (rank (units_left g.folding.units j) final.present (reverse final.open.items) (Some w)
-    < rank (units_left g.folding.units i) calls.present (reverse calls.open.items) (Some left))
+    × (rank (units_left g.folding.units j) final.present (reverse final.opened) (Some w)
+    < rank (units_left g.folding.units i) calls.present (reverse calls.opened) (Some left))
 close_kept {V = V} {F = F} {H = H} g whole z o calls after final left v w x rest s t i m j
     stands step ends last closes
     closed present items =
@@ -244,8 +241,8 @@ close_kept {V = V} {F = F} {H = H} g whole z o calls after final left v w x rest
     × Nested (reverse ys) call.began × (units_left g.folding.units j ≤ call.began) × Unit {0})
     × (rank (units_left g.folding.units j) call (reverse ys) (Some w)
     < rank (units_left g.folding.units i) calls.present xs (Some left)) in
-    subst (λ call. R call final.open.items (reverse calls.open.items)) (sym present)
-    (subst (λ ys. R x.call ys (reverse calls.open.items)) (sym items)
+    subst (λ call. R call final.opened (reverse calls.opened)) (sym present)
+    (subst (λ ys. R x.call ys (reverse calls.opened)) (sym items)
     (subst (λ xs. R x.call rest xs) (sym open_) (
       (
         leads_close g whole calls.present z o left v w x (reverse rest) s t i m j known ended_

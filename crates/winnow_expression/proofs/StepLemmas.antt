@@ -8,7 +8,7 @@ use Rattle.streams.specs.Input.{Input}
 use Rattle.streams.specs.Kind.{Kind}
 use Rattle.winnow_core.specs.Runs.{Runs}
 use Rattle.winnow_expression.specs.Units.{units_left}
-use Rattle.winnow_expression.specs.Calls.{Interrupts, call_at}
+use Rattle.winnow_expression.specs.Calls.{Call, Calls, Interrupts, Open, call_at}
 use Rattle.winnow_expression.specs.Expression.{CallRuns, ExpressionRuns}
 use Rattle.winnow_expression.specs.Grammar.{Folding, Grammar, CallEnds, Closes, Infixes, Postfixes}
 use Rattle.winnow_expression.specs.Grammar.{TurnEnds}
@@ -21,8 +21,6 @@ use Rattle.winnow_expression.proofs.LeadsLemmas.{close_fails, call_done, all_don
 use Rattle.winnow_expression.proofs.LeadsLemmas.{expression_fails, of_all}
 use Rattle.winnow_expression.proofs.RankLemmas.{rank_consumed, rank_operand, rank_infix, rank_close}
 use Rattle.winnow_expression.specs.declared.combinator.places.Next.{Next}
-use Rattle.winnow_expression.specs.declared.combinator.calls.Call.{Call}
-use Rattle.winnow_expression.specs.declared.combinator.calls.Calls.{Calls}
 use Rattle.winnow_expression.specs.declared.combinator.calls.Operator.{Operator}
 use Rattle.winnow_expression.specs.declared.combinator.calls.Operator.TheVariants.{
   Prefix as prefix_open,
@@ -30,15 +28,14 @@ use Rattle.winnow_expression.specs.declared.combinator.calls.Operator.TheVariant
 use Rattle.winnow_expression.specs.declared.combinator.calls.Operator.TheVariants.{
   Infix as infix_open,
 }
-use Rattle.winnow_expression.specs.declared.combinator.calls.Open.{Open}
 use Rattle.winnow_expression.specs.declared.combinator.machine.Turn.{Turn}
 use Rattle.winnow_expression.specs.declared.combinator.machine.Turn.TheVariants.{Ends, EndsAll}
 use Rattle.winnow_expression.specs.declared.combinator.machine.Turn.TheVariants.{Goes, Interrupted}
 
 -- what a step was, by its answer
-pub goes_of : {W T V F G H A : Type 0} (units : List T → ℕ) (next : Runs W T (Next G H))
+pub goes_of : {W T V F G H : Type 0} (units : List T → ℕ) (next : Runs W T (Next G H))
     (behind : G → Input T → V → Answer V → Input T → Type 0) (refusal : Kind)
-    (calls after : Calls V F H A) (left v : V) (s t : W) (i j : Input T)
+    (calls after : Calls V F H) (left v : V) (s t : W) (i j : Input T)
     → TurnStep units next behind refusal calls left s i (Ok (Goes v)) after t j
     → Postfixes units next behind calls.present left s i v t j × (after ≡ calls)
 goes_of units next behind refusal calls after left v s t i j
@@ -54,9 +51,9 @@ goes_of units next behind refusal calls after left v s t i j (inr (inl (w, read,
 goes_of units next behind refusal calls after left v s t i j
     (inr (inr (x, power, read, e, opened))) = absurd (cc)
 
-pub interrupted_of : {W T V F G H A : Type 0} (units : List T → ℕ) (next : Runs W T (Next G H))
+pub interrupted_of : {W T V F G H : Type 0} (units : List T → ℕ) (next : Runs W T (Next G H))
     (behind : G → Input T → V → Answer V → Input T → Type 0) (refusal : Kind)
-    (calls after : Calls V F H A) (left : V) (s t : W) (i j : Input T)
+    (calls after : Calls V F H) (left : V) (s t : W) (i j : Input T)
     → TurnStep units next behind refusal calls left s i (Ok Interrupted) after t j
     → (x : Open V F H) × (power : ℤ) × Infixes units next calls.present left s i x power t j
     × Interrupts calls x power (units_left units j) after
@@ -71,9 +68,9 @@ interrupted_of units next behind refusal calls after left s t i j
 interrupted_of units next behind refusal calls after left s t i j
     (inr (inr (x, power, read, e, opened))) = (x, power, read, opened)
 
-pub ends_of : {W T V F G H A : Type 0} (units : List T → ℕ) (next : Runs W T (Next G H))
+pub ends_of : {W T V F G H : Type 0} (units : List T → ℕ) (next : Runs W T (Next G H))
     (behind : G → Input T → V → Answer V → Input T → Type 0) (refusal : Kind)
-    (calls after : Calls V F H A) (left v : V) (s t : W) (i j : Input T)
+    (calls after : Calls V F H) (left v : V) (s t : W) (i j : Input T)
     → TurnStep units next behind refusal calls left s i (Ok (Ends v)) after t j
     → TurnEnds F units next behind refusal calls.present left s i (Ok (v, false)) t j
     × (after ≡ calls)
@@ -92,9 +89,9 @@ ends_of units next behind refusal calls after left v s t i j (inr (inl (w, read,
 ends_of units next behind refusal calls after left v s t i j
     (inr (inr (x, power, read, e, opened))) = absurd (cc)
 
-pub all_of : {W T V F G H A : Type 0} (units : List T → ℕ) (next : Runs W T (Next G H))
+pub all_of : {W T V F G H : Type 0} (units : List T → ℕ) (next : Runs W T (Next G H))
     (behind : G → Input T → V → Answer V → Input T → Type 0) (refusal : Kind)
-    (calls after : Calls V F H A) (left v : V) (s t : W) (i j : Input T)
+    (calls after : Calls V F H) (left v : V) (s t : W) (i j : Input T)
     → TurnStep units next behind refusal calls left s i (Ok (EndsAll v)) after t j
     → TurnEnds F units next behind refusal calls.present left s i (Ok (v, true)) t j
     × (after ≡ calls)
@@ -113,9 +110,9 @@ all_of units next behind refusal calls after left v s t i j (inr (inl (w, read, 
 all_of units next behind refusal calls after left v s t i j
     (inr (inr (x, power, read, e, opened))) = absurd (cc)
 
-pub failure_of : {W T V F G H A : Type 0} (units : List T → ℕ) (next : Runs W T (Next G H))
+pub failure_of : {W T V F G H : Type 0} (units : List T → ℕ) (next : Runs W T (Next G H))
     (behind : G → Input T → V → Answer V → Input T → Type 0) (refusal kind : Kind)
-    (calls after : Calls V F H A) (left : V) (s t : W) (i j : Input T)
+    (calls after : Calls V F H) (left : V) (s t : W) (i j : Input T)
     → TurnStep units next behind refusal calls left s i (Err kind) after t j
     → TurnEnds F units next behind refusal calls.present left s i (Err kind) t j
 failure_of units next behind refusal kind calls after left s t i j

@@ -8,7 +8,7 @@ use Rattle.winnow_core.specs.Runs.{Runs}
 use Rattle.winnow_expression.specs.Units.{units_left}
 use Rattle.winnow_expression.specs.Operators.{fold_of, neither_power}
 use Rattle.winnow_expression.specs.Machine.{InfixTurn, PostfixTurn, TurnStep}
-use Rattle.winnow_expression.specs.declared.combinator.calls.Calls.{Calls}
+use Rattle.winnow_expression.specs.Calls.{Calls}
 use Rattle.winnow_expression.specs.declared.combinator.operators.Infix.{Infix}
 use Rattle.winnow_expression.specs.declared.combinator.calls.Operator.TheVariants.{
   Infix as infix_open,
@@ -27,25 +27,25 @@ on_err : {A : Type 0} (P : Type 0) (answer : Answer A) (k : Kind) → answer ≡
 on_err P (Ok v) k e = absurd (cc)
 on_err P (Err l) k e = tt
 
-pub fails_step : {W T V F G H A : Type 0} (units : List T → ℕ) (next : Runs W T (Next G H))
+pub fails_step : {W T V F G H : Type 0} (units : List T → ℕ) (next : Runs W T (Next G H))
     (behind : G → Input T → V → Answer V → Input T → Type 0) (refusal : Kind)
-    (calls : Calls V F H A) (left : V) (s t : W) (i j : Input T) (answer : Answer (Turn V))
+    (calls : Calls V F H) (left : V) (s t : W) (i j : Input T) (answer : Answer (Turn V))
     (kind : Kind) → next s i (Err kind) t j → answer ≡ Err kind
     → TurnStep units next behind refusal calls left s i answer calls t j
 fails_step units next behind refusal calls left s t i j answer kind ran e =
     inl (Err kind, inr (inl (kind, ran, refl)), e, on_all answer refl)
 
-pub nothing_step : {W T V F G H A : Type 0} (units : List T → ℕ) (next : Runs W T (Next G H))
+pub nothing_step : {W T V F G H : Type 0} (units : List T → ℕ) (next : Runs W T (Next G H))
     (behind : G → Input T → V → Answer V → Input T → Type 0) (refusal : Kind)
-    (calls : Calls V F H A) (left : V) (s t : W) (i j : Input T) (answer : Answer (Turn V))
+    (calls : Calls V F H) (left : V) (s t : W) (i j : Input T) (answer : Answer (Turn V))
     → next s i (Ok Nothing) t j → answer ≡ Ok (Ends left)
     → TurnStep units next behind refusal calls left s i answer calls t j
 nothing_step units next behind refusal calls left s t i j answer ran e =
     inl (Ok (left, false), inl (ran, refl), e, on_all answer refl)
 
-pub postfix_step : {W T V F G H A : Type 0} (units : List T → ℕ) (next : Runs W T (Next G H))
+pub postfix_step : {W T V F G H : Type 0} (units : List T → ℕ) (next : Runs W T (Next G H))
     (behind : G → Input T → V → Answer V → Input T → Type 0) (refusal : Kind)
-    (calls : Calls V F H A) (power least given : ℤ) (fold : G) (x : Remaining T) (here : ℕ)
+    (calls : Calls V F H) (power least given : ℤ) (fold : G) (x : Remaining T) (here : ℕ)
     (left : V) (s t : W)
     (i m j : Input T) (answer : Answer (Turn V)) → next s i (Ok (Postfix power fold)) t m
     → least ≡ calls.present.least → given ≡ power → x ≡ i.left → here ≡ units_left units i
@@ -120,9 +120,9 @@ postfix_step units next behind refusal calls power least given fold x here left 
       refl,
     ))
 
-pub infix_step : {W T V F G H A : Type 0} (units : List T → ℕ) (next : Runs W T (Next G H))
+pub infix_step : {W T V F G H : Type 0} (units : List T → ℕ) (next : Runs W T (Next G H))
     (behind : G → Input T → V → Answer V → Input T → Type 0) (refusal : Kind)
-    (calls after : Calls V F H A) (infix_ : Infix H) (x : Remaining T) (here : ℕ) (left : V)
+    (calls after : Calls V F H) (infix_ : Infix H) (x : Remaining T) (here : ℕ) (left : V)
     (s t : W) (i m j : Input T) (answer : Answer (Turn V)) → next s i (Ok (infix_read infix_)) t m
     → x ≡ i.left → here ≡ units_left units i
     → InfixTurn units refusal infix_ x here calls left m answer after j

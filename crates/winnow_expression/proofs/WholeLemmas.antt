@@ -8,7 +8,7 @@ use Rattle.streams.specs.Input.{Input}
 use Rattle.streams.specs.Kind.{Kind}
 use Rattle.winnow_core.specs.Runs.{Runs}
 use Rattle.winnow_expression.specs.Units.{units_left}
-use Rattle.winnow_expression.specs.Calls.{Interrupts, call_at}
+use Rattle.winnow_expression.specs.Calls.{Call, Calls, Interrupts, Open, call_at}
 use Rattle.winnow_expression.specs.Expression.{CallRuns, ExpressionRuns}
 use Rattle.winnow_expression.specs.Grammar.{Folding, Grammar, CallEnds, Closes, Infixes, Postfixes}
 use Rattle.winnow_expression.specs.Grammar.{TurnEnds}
@@ -21,8 +21,6 @@ use Rattle.winnow_expression.proofs.LeadsLemmas.{close_fails, call_done, all_don
 use Rattle.winnow_expression.proofs.LeadsLemmas.{expression_fails, of_all}
 use Rattle.winnow_expression.proofs.RankLemmas.{rank_consumed, rank_operand, rank_infix, rank_close}
 use Rattle.winnow_expression.specs.declared.combinator.places.Next.{Next}
-use Rattle.winnow_expression.specs.declared.combinator.calls.Call.{Call}
-use Rattle.winnow_expression.specs.declared.combinator.calls.Calls.{Calls}
 use Rattle.winnow_expression.specs.declared.combinator.calls.Operator.{Operator}
 use Rattle.winnow_expression.specs.declared.combinator.calls.Operator.TheVariants.{
   Prefix as prefix_open,
@@ -30,7 +28,6 @@ use Rattle.winnow_expression.specs.declared.combinator.calls.Operator.TheVariant
 use Rattle.winnow_expression.specs.declared.combinator.calls.Operator.TheVariants.{
   Infix as infix_open,
 }
-use Rattle.winnow_expression.specs.declared.combinator.calls.Open.{Open}
 use Rattle.winnow_expression.specs.declared.combinator.machine.Turn.{Turn}
 use Rattle.winnow_expression.specs.declared.combinator.machine.Turn.TheVariants.{Ends, EndsAll}
 use Rattle.winnow_expression.specs.declared.combinator.machine.Turn.TheVariants.{Goes, Interrupted}
@@ -46,8 +43,8 @@ at_level g level given z o a t j is runs =
     let P : ℤ → Type 0 =
     λ l. CallRuns g (call_at l (units_left g.folding.units o)) z o a t j in subst P is runs
 
-pub operand_ends : {S W T V F G H A : Type 0} (g : Grammar S W T V F G H) (level given : ℤ)
-    (z : S × W) (o : Input T) (calls after : Calls V F H A) (before : Option V) (answer : Answer V)
+pub operand_ends : {S W T V F G H : Type 0} (g : Grammar S W T V F G H) (level given : ℤ)
+    (z : S × W) (o : Input T) (calls after : Calls V F H) (before : Option V) (answer : Answer V)
     (kind : Kind) (s : S × W) (t : S) (i j : Input T) → given ≡ level
     → Stands g (call_at given (units_left g.folding.units o)) z o calls before s i → before ≡ None
     → OperandStep g.folding.units g.first g.folding.refusal calls s.0 i (Err kind) after t j
@@ -57,22 +54,22 @@ operand_ends {H = H} g level given z o calls after before answer kind s t i j is
     (inl (other, failed, e)) f =
     let P : Option _ → Type 0 =
     λ l. Leads g (call_at given (units_left g.folding.units o)) z o calls.present l
-    (reverse calls.open.items) s i in
+    (reverse calls.opened) s i in
     let same : other ≡ kind = cc in
     let Q : Kind → Type 0 =
     λ k. CallEnds H g.folding.units g.first g.folding.refusal calls.present s.0 i k t j in
     expression_fails g level z o answer kind (t, s.1) j f
     (at_level g level given z o (Err kind) (t, s.1) j is
     (call_fails g (call_at given (units_left g.folding.units o)) calls.present z o
-    (reverse calls.open.items) kind s
+    (reverse calls.opened) kind s
     t i j (subst P none stands.0) (subst Q same failed)))
 operand_ends g level given z o calls after before answer kind s t i j is stands none
     (inr (inl (v, read, e, same))) f = absurd (cc)
 operand_ends g level given z o calls after before answer kind s t i j is stands none
     (inr (inr (x, power, read, e, opened))) f = absurd (cc)
 
-pub turn_ends_whole : {S W T V F G H A : Type 0} (g : Grammar S W T V F G H) (level given : ℤ)
-    (z : S × W) (o : Input T) (calls after : Calls V F H A) (left : V) (answer : Answer V)
+pub turn_ends_whole : {S W T V F G H : Type 0} (g : Grammar S W T V F G H) (level given : ℤ)
+    (z : S × W) (o : Input T) (calls after : Calls V F H) (left : V) (answer : Answer V)
     (kind : Kind) (s : S × W) (t : W) (i j : Input T) → given ≡ level
     → Stands g (call_at given (units_left g.folding.units o)) z o calls (Some left) s i
     → TurnStep g.folding.units g.next g.behind g.folding.refusal calls left s.1 i (Err kind)
@@ -82,19 +79,19 @@ turn_ends_whole g level given z o calls after left answer kind s t i j is stands
     expression_fails g level z o answer kind (s.0, t) j f
     (at_level g level given z o (Err kind) (s.0, t) j is
     (turn_fails g (call_at given (units_left g.folding.units o)) calls.present z o left
-    (reverse calls.open.items)
+    (reverse calls.opened)
     kind s t i j stands.0
     (failure_of g.folding.units g.next g.behind g.folding.refusal kind calls after left s.1 t i
     j step)))
 
-pub close_ends : {S W T V F G H A : Type 0} (g : Grammar S W T V F G H) (level given : ℤ)
-    (z : S × W) (o : Input T) (calls after : Calls V F H A) (left v : V) (answer : Answer V)
+pub close_ends : {S W T V F G H : Type 0} (g : Grammar S W T V F G H) (level given : ℤ)
+    (z : S × W) (o : Input T) (calls after : Calls V F H) (left v : V) (answer : Answer V)
     (kind : Kind) (x : Open V F H) (rest : List (Open V F H)) (s : S × W) (t : W)
     (i m j : Input T) → given ≡ level
     → Stands g (call_at given (units_left g.folding.units o)) z o calls (Some left) s i
     → TurnStep g.folding.units g.next g.behind g.folding.refusal calls left s.1 i (Ok (Ends v))
     after t m
-    → after.open.items ≡ rest ++ (x ∷ [])
+    → after.opened ≡ rest ++ (x ∷ [])
     → Closes g.folding x.operator x.call.turn m v (Err kind) j → answer ≡ Err kind
     → ExpressionRuns g level z o answer (s.0, t) j
 close_ends g level given z o calls after left v answer kind x rest s t i m j is stands step last
@@ -111,13 +108,13 @@ close_ends g level given z o calls after left v answer kind x rest s t i m j is 
     (reverse rest) kind s t
     i m j (subst P (above_last calls after rest x same last) stands.0) ended_ closes))
 
-pub call_ends_whole : {S W T V F G H A : Type 0} (g : Grammar S W T V F G H) (level given : ℤ)
-    (z : S × W) (o : Input T) (calls after : Calls V F H A) (left v : V) (s : S × W) (t : W)
+pub call_ends_whole : {S W T V F G H : Type 0} (g : Grammar S W T V F G H) (level given : ℤ)
+    (z : S × W) (o : Input T) (calls after : Calls V F H) (left v : V) (s : S × W) (t : W)
     (i j : Input T) → given ≡ level
     → Stands g (call_at given (units_left g.folding.units o)) z o calls (Some left) s i
     → TurnStep g.folding.units g.next g.behind g.folding.refusal calls left s.1 i (Ok (Ends v))
     after t j
-    → after.open.items ≡ [] → ExpressionRuns g level z o (Ok v) (s.0, t) j
+    → after.opened ≡ [] → ExpressionRuns g level z o (Ok v) (s.0, t) j
 call_ends_whole g level given z o calls after left v s t i j is stands step none =
     let (ended_, same) =
     ends_of g.folding.units g.next g.behind g.folding.refusal calls after left v s.1 t i j
@@ -129,16 +126,16 @@ call_ends_whole g level given z o calls after left v s t i j is stands step none
       at_level g level given z o (Ok (v, false)) (s.0, t) j is
           (call_done g (call_at given (units_left g.folding.units o)) calls.present z o left v s
           t i j
-          (subst P (ap (λ c. reverse c.open.items) (sym same) ∙ ap reverse none) stands.0) ended_),
+          (subst P (ap (λ c. reverse c.opened) (sym same) ∙ ap reverse none) stands.0) ended_),
     )
 
-pub all_ends_whole : {S W T V F G H A : Type 0} (g : Grammar S W T V F G H) (level given : ℤ)
-    (z : S × W) (o : Input T) (calls after : Calls V F H A) (left v : V) (answer : Answer V)
+pub all_ends_whole : {S W T V F G H : Type 0} (g : Grammar S W T V F G H) (level given : ℤ)
+    (z : S × W) (o : Input T) (calls after : Calls V F H) (left v : V) (answer : Answer V)
     (s : S × W) (t : W) (i m j : Input T) → given ≡ level
     → Stands g (call_at given (units_left g.folding.units o)) z o calls (Some left) s i
     → TurnStep g.folding.units g.next g.behind g.folding.refusal calls left s.1 i
     (Ok (EndsAll v)) after t m
-    → AllEnd g.folding (reverse after.open.items) v m answer j
+    → AllEnd g.folding (reverse after.opened) v m answer j
     → ExpressionRuns g level z o answer (s.0, t) j
 all_ends_whole g level given z o calls after left v answer s t i m j is stands step ended_ =
     let (ends, same) =
@@ -148,12 +145,12 @@ all_ends_whole g level given z o calls after left v answer s t i m j is stands s
     expression_all g level z o answer (s.0, t) j
     (at_level g level given z o (of_all answer) (s.0, t) j is
     (all_done g (call_at given (units_left g.folding.units o)) calls.present z o left v
-    (reverse calls.open.items) s
-    t i m j answer stands.0 ends (subst P (ap (λ c. reverse c.open.items) same) ended_)))
+    (reverse calls.opened) s
+    t i m j answer stands.0 ends (subst P (ap (λ c. reverse c.opened) same) ended_)))
 
 -- at the place of an operator, where its left operand is there
-pub stands_at : {S W T V F G H A : Type 0} (g : Grammar S W T V F G H) (whole : Call)
-    (z : S × W) (o : Input T) (calls : Calls V F H A) (left : Option V) (v : V) (s : S × W)
+pub stands_at : {S W T V F G H : Type 0} (g : Grammar S W T V F G H) (whole : Call)
+    (z : S × W) (o : Input T) (calls : Calls V F H) (left : Option V) (v : V) (s : S × W)
     (i : Input T) → Stands g whole z o calls left s i → left ≡ Some v
     → Stands g whole z o calls (Some v) s i
 stands_at g whole z o calls left v s i stands is =
@@ -166,9 +163,9 @@ falls_at u n call later xs ys left after v is falls =
     let P : Option _ → Type 0 =
     λ l. rank n later ys after < rank u call xs l in subst P (sym is) falls
 
-pub step_at : {W T V F G H A : Type 0} (units : List T → ℕ) (next : Runs W T (Next G H))
+pub step_at : {W T V F G H : Type 0} (units : List T → ℕ) (next : Runs W T (Next G H))
     (behind : G → Input T → V → Answer V → Input T → Type 0) (refusal : Kind)
-    (calls after : Calls V F H A) (left : V) (s t : W) (i j : Input T) (given turn : Turn V)
+    (calls after : Calls V F H) (left : V) (s t : W) (i j : Input T) (given turn : Turn V)
     → given ≡ turn → TurnStep units next behind refusal calls left s i (Ok given) after t j
     → TurnStep units next behind refusal calls left s i (Ok turn) after t j
 step_at units next behind refusal calls after left s t i j given turn is step =
@@ -176,10 +173,10 @@ step_at units next behind refusal calls after left s t i j given turn is step =
     λ x. TurnStep units next behind refusal calls left s i (Ok x) after t j in subst P is step
 
 -- where the loop begins
-pub stands_start : {S W T V F G H A : Type 0} (g : Grammar S W T V F G H) (level given : ℤ)
-    (here : ℕ) (z : S × W) (o : Input T) (calls : Calls V F H A) → given ≡ level
+pub stands_start : {S W T V F G H : Type 0} (g : Grammar S W T V F G H) (level given : ℤ)
+    (here : ℕ) (z : S × W) (o : Input T) (calls : Calls V F H) → given ≡ level
     → here ≡ units_left g.folding.units o → calls.present ≡ call_at given here
-    → calls.open.items ≡ []
+    → calls.opened ≡ []
     → Stands {V = V} g (call_at level (units_left g.folding.units o)) z o calls None z o
 stands_start {V = V} {F = F} {H = H} g level given here z o calls same is present none =
     let P : Call → List (Open V F H) → Type 0 = λ call xs.
@@ -188,7 +185,7 @@ stands_start {V = V} {F = F} {H = H} g level given here z o calls same is presen
     × (call.turn ≡ call.began) in
     let at : calls.present ≡ call_at level (units_left g.folding.units o) =
     present ∙ ap (λ l. call_at l here) same ∙ ap (λ n. call_at level n) is in
-    subst (λ call. P call calls.open.items) (sym at)
+    subst (λ call. P call calls.opened) (sym at)
     (subst (λ xs. P (call_at level (units_left g.folding.units o)) xs) (sym none) (
       record {
         leads = λ b a u w m n runs resumed. leads_same g level z o b a u w m n runs resumed;

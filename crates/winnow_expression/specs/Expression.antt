@@ -4,12 +4,10 @@ use Rattle.stream_errors.specs.Form.{Answer}
 use Rattle.streams.specs.Input.{Input}
 use Rattle.streams.specs.Kind.{Kind}
 use Rattle.winnow_core.specs.Runs.{Runs}
-use Rattle.winnow_expression.specs.Calls.{call_at}
+use Rattle.winnow_expression.specs.Calls.{Call, Open, call_at}
 use Rattle.winnow_expression.specs.Grammar.{CallEnds, Grammar, Infixes, Postfixes, Prefixes}
 use Rattle.winnow_expression.specs.Grammar.{ResumeEnds, ResumeGoes, TurnEnds}
 use Rattle.winnow_expression.specs.Units.{units_left}
-use Rattle.winnow_expression.specs.declared.combinator.calls.Call.{Call}
-use Rattle.winnow_expression.specs.declared.combinator.calls.Open.{Open}
 use Rattle.winnow_expression.specs.declared.combinator.impls.expression.Expression.{Expression}
 use Rattle.winnow_expression.specs.declared.combinator.places.First.TheVariants.{Operand}
 pub mod Agree

@@ -16,7 +16,7 @@ use Rattle.winnow_expression.specs.declared.combinator.places.Next.{Next}
 use Rattle.winnow_expression.specs.declared.combinator.places.Next.TheVariants.{Nothing, Postfix}
 use Rattle.winnow_expression.specs.declared.combinator.places.Next.TheVariants.{Infix as infix_read}
 use Rattle.winnow_expression.specs.declared.combinator.operators.Infix.{Infix}
-use Rattle.winnow_expression.specs.declared.combinator.calls.Call.{Call}
+use Rattle.winnow_expression.specs.Calls.{Call, Open}
 use Rattle.winnow_expression.specs.declared.combinator.calls.Operator.{Operator}
 use Rattle.winnow_expression.specs.declared.combinator.calls.Operator.TheVariants.{
   Prefix as prefix_open,
@@ -24,7 +24,6 @@ use Rattle.winnow_expression.specs.declared.combinator.calls.Operator.TheVariant
 use Rattle.winnow_expression.specs.declared.combinator.calls.Operator.TheVariants.{
   Infix as infix_open,
 }
-use Rattle.winnow_expression.specs.declared.combinator.calls.Open.{Open}
 
 -- What the folds of prefixes and infixes do, how many units tokens take, and the kind of the error
 -- where nothing is consumed.

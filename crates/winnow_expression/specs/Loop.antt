@@ -6,11 +6,9 @@ use Rattle.streams.specs.Input.{Input}
 use Rattle.winnow_expression.specs.Units.{units_left}
 use Rattle.winnow_expression.specs.Expression.{CallRuns, TurnRuns, ResumeRuns}
 use Rattle.winnow_expression.specs.Grammar.{Grammar}
-use Rattle.winnow_expression.specs.declared.combinator.calls.Call.{Call}
+use Rattle.winnow_expression.specs.Calls.{Call, Calls, Open}
 use Rattle.winnow_expression.specs.declared.combinator.calls.Operator.{Operator}
 use Rattle.winnow_expression.specs.declared.combinator.calls.Operator.TheVariants.{Prefix, Infix}
-use Rattle.winnow_expression.specs.declared.combinator.calls.Open.{Open}
-use Rattle.winnow_expression.specs.declared.combinator.calls.Calls.{Calls}
 
 -- What the outermost call does, by what the call below the open operators answered, the first of
 -- them the last that was opened.
@@ -51,11 +49,11 @@ Begun None call = call.turn ≡ call.began
 Begun (Some v) call = Unit {0}
 
 -- What the loop keeps.
-abbrev pub Stands : {S W T V F G H A : Type 0} → Grammar S W T V F G H → Call → S × W → Input T
-    → Calls V F H A → Option V → S × W → Input T → Type 0
+abbrev pub Stands : {S W T V F G H : Type 0} → Grammar S W T V F G H → Call → S × W → Input T
+    → Calls V F H → Option V → S × W → Input T → Type 0
 Stands g whole s i calls left t j =
-    Leads g whole s i calls.present left (reverse calls.open.items) t j
-    × Nested (reverse calls.open.items) calls.present.began
+    Leads g whole s i calls.present left (reverse calls.opened) t j
+    × Nested (reverse calls.opened) calls.present.began
     × (units_left g.folding.units j ≤ calls.present.began) × Begun left calls.present
 
 -- whether one number is above another, as a number

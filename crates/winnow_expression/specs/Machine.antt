@@ -7,28 +7,26 @@ use Rattle.streams.specs.Reading.{Reading}
 use Rattle.streams.specs.Kind.{Kind, memory}
 use Rattle.winnow_core.specs.Runs.{Runs}
 use Rattle.winnow_expression.specs.Units.{units_left}
-use Rattle.winnow_expression.specs.Calls.{Interrupts}
+use Rattle.winnow_expression.specs.Calls.{Calls, Interrupts, Open}
 use Rattle.winnow_expression.specs.Operators.{fold_of, left_power, neither_power, right_power}
 use Rattle.winnow_expression.specs.Grammar.{Folding, Prefixes, CallEnds, Infixes, Postfixes}
 use Rattle.winnow_expression.specs.Grammar.{TurnEnds, Closes}
 use Rattle.winnow_expression.specs.declared.combinator.places.First.{First}
 use Rattle.winnow_expression.specs.declared.combinator.places.Next.{Next}
 use Rattle.winnow_expression.specs.declared.combinator.places.First.TheVariants.{Operand}
-use Rattle.winnow_expression.specs.declared.combinator.calls.Open.{Open}
 use Rattle.winnow_expression.specs.declared.combinator.operators.Infix.{Infix}
 use Rattle.winnow_expression.specs.declared.combinator.calls.Operator.TheVariants.{
   Infix as infix_open,
 }
-use Rattle.winnow_expression.specs.declared.combinator.calls.Calls.{Calls}
 use Rattle.winnow_expression.specs.declared.combinator.machine.Turn.{Turn}
 use Rattle.winnow_expression.specs.declared.combinator.machine.Turn.TheVariants.{Ends, EndsAll}
 use Rattle.winnow_expression.specs.declared.combinator.machine.Turn.TheVariants.{Goes, Interrupted}
 
 -- At the place of an operand: the answer is the value of an operand, or none where a prefix is
 -- open.
-abbrev pub OperandStep : {S T V F H A : Type 0} → (List T → ℕ) → Runs S T (First V F) → Kind
-    → Calls V F H A → S
-    → Input T → Answer (Option V) → Calls V F H A → S → Input T → Type 0
+abbrev pub OperandStep : {S T V F H : Type 0} → (List T → ℕ) → Runs S T (First V F) → Kind
+    → Calls V F H → S
+    → Input T → Answer (Option V) → Calls V F H → S → Input T → Type 0
 OperandStep {V = V} {F = F} {H = H} units first refusal calls s i answer after t j =
     ((kind : Kind) × CallEnds H units first refusal calls.present s i kind t j
     × (answer ≡ Err kind))
@@ -62,9 +60,9 @@ PostfixTurn {V = V} units behind refusal least power fold x here left m answer j
     × (units_left units j ≡ here → ⊥) × (answer ≡ Ok (Goes value)))))
 
 -- An infix is read behind what was left at x.
-abbrev pub InfixTurn : {T V F H A : Type 0} → (List T → ℕ) → Kind → Infix H → Remaining T → ℕ
-    → Calls V F H A → V
-    → Input T → Answer (Turn V) → Calls V F H A → Input T → Type 0
+abbrev pub InfixTurn : {T V F H : Type 0} → (List T → ℕ) → Kind → Infix H → Remaining T → ℕ
+    → Calls V F H → V
+    → Input T → Answer (Turn V) → Calls V F H → Input T → Type 0
 InfixTurn {V = V} {F = F} {H = H} units refusal infix_ x here calls left m answer after j =
     ((left_power infix_ <ℤ calls.present.least) × (j ≡ back_at x m) × (answer ≡ Ok (Ends left))
     × (after ≡ calls))
@@ -81,9 +79,9 @@ InfixTurn {V = V} {F = F} {H = H} units refusal infix_ x here calls left m answe
     }) (right_power infix_) (units_left units j) after))))))
 
 -- At the place of an operator, behind a value.
-abbrev pub TurnStep : {W T V F G H A : Type 0} → (List T → ℕ) → Runs W T (Next G H)
-    → (G → Input T → V → Answer V → Input T → Type 0) → Kind → Calls V F H A → V
-    → W → Input T → Answer (Turn V) → Calls V F H A → W → Input T → Type 0
+abbrev pub TurnStep : {W T V F G H : Type 0} → (List T → ℕ) → Runs W T (Next G H)
+    → (G → Input T → V → Answer V → Input T → Type 0) → Kind → Calls V F H → V
+    → W → Input T → Answer (Turn V) → Calls V F H → W → Input T → Type 0
 TurnStep {V = V} {F = F} {H = H} units next behind refusal calls left s i answer after t j =
     ((a : Answer (V × Bool)) × TurnEnds F units next behind refusal calls.present left s i a t j
     × (answer ≡ ended a) × OnOk answer (after ≡ calls))

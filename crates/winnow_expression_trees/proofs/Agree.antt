@@ -7,7 +7,7 @@ use Rattle.stream_errors.specs.Form.{Answer}
 use Rattle.streams.specs.Input.{Input}
 use Rattle.streams.specs.Kind.{memory}
 use Rattle.winnow_expression.specs.Units.{units_left}
-use Rattle.winnow_expression.specs.Calls.{call_at}
+use Rattle.winnow_expression.specs.Calls.{Call, Open, call_at}
 use Rattle.winnow_expression.specs.Operators.{right_power}
 use Rattle.winnow_expression.specs.Grammar.{Grammar, Closes}
 use Rattle.winnow_expression.specs.Grammar.{TurnEnds}
@@ -22,8 +22,6 @@ use Rattle.winnow_expression.specs.declared.combinator.places.First.TheVariants.
 }
 use Rattle.winnow_expression.specs.declared.combinator.places.Next.TheVariants.{Nothing, Postfix}
 use Rattle.winnow_expression.specs.declared.combinator.places.Next.TheVariants.{Infix as infix_read}
-use Rattle.winnow_expression.specs.declared.combinator.calls.Call.{Call}
-use Rattle.winnow_expression.specs.declared.combinator.calls.Open.{Open}
 use Rattle.winnow_expression_trees.specs.Reading.{Over}
 use Rattle.winnow_expression_trees.proofs.TreeCalls.{Reads, Grows}
 use Rattle.winnow_expression_trees.proofs.TreeCalls.{grows_stop, grows_block}

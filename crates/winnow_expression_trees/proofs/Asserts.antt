@@ -4,14 +4,13 @@ use Rattle.std.proofs.Common.{refl, sym, ◌∙◌, subst, inl, inr}
 use Rattle.stream_errors.specs.Form.{Answer}
 use Rattle.streams.specs.Input.{Input}
 use Rattle.streams.specs.Kind.{Kind, memory}
-use Rattle.winnow_expression.specs.Calls.{call_at}
+use Rattle.winnow_expression.specs.Calls.{Call, Open, call_at}
 use Rattle.winnow_expression.specs.Expression.{CallRuns, TurnRuns, ResumeRuns, call_ends}
 use Rattle.winnow_expression.specs.Expression.{LeveledRuns, call_operand, call_prefix}
 use Rattle.winnow_expression.specs.Expression.{turn_ends, turn_postfix, turn_infix, resume_ends}
 use Rattle.winnow_expression.specs.Expression.{resume_goes}
 use Rattle.winnow_expression.specs.Grammar.{Grammar, Closes, TurnEnds}
 use Rattle.winnow_expression.specs.Units.{units_left}
-use Rattle.winnow_expression.specs.declared.combinator.calls.Call.{Call}
 use Rattle.winnow_expression.specs.declared.combinator.calls.Operator.{Operator}
 use Rattle.winnow_expression.specs.declared.combinator.calls.Operator.TheVariants.{
   Prefix as prefix_open,
@@ -19,7 +18,6 @@ use Rattle.winnow_expression.specs.declared.combinator.calls.Operator.TheVariant
 use Rattle.winnow_expression.specs.declared.combinator.calls.Operator.TheVariants.{
   Infix as infix_open,
 }
-use Rattle.winnow_expression.specs.declared.combinator.calls.Open.{Open}
 use Rattle.winnow_expression.specs.declared.combinator.places.First.{First}
 use Rattle.winnow_expression.specs.declared.combinator.places.Next.{Next}
 use Rattle.winnow_expression_trees.specs.Accepting.{asserting}

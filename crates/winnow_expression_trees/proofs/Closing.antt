@@ -13,14 +13,13 @@ use Rattle.winnow_expression.specs.Expression.{resume_ends}
 use Rattle.winnow_expression.specs.Expression.{resume_goes}
 use Rattle.winnow_expression_trees.specs.Tree.{Tree, before, between}
 use Rattle.winnow_expression.specs.declared.combinator.operators.Infix.{Infix}
-use Rattle.winnow_expression.specs.declared.combinator.calls.Call.{Call}
+use Rattle.winnow_expression.specs.Calls.{Call, Open}
 use Rattle.winnow_expression.specs.declared.combinator.calls.Operator.TheVariants.{
   Prefix as prefix_open,
 }
 use Rattle.winnow_expression.specs.declared.combinator.calls.Operator.TheVariants.{
   Infix as infix_open,
 }
-use Rattle.winnow_expression.specs.declared.combinator.calls.Open.{Open}
 use Rattle.winnow_expression_trees.specs.Premises.{NotMemory, Same, FoldAlike, FoldsAlike}
 use Rattle.winnow_expression_trees.specs.Value.{Value}
 

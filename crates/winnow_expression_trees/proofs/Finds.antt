@@ -5,7 +5,7 @@ use Rattle.std.proofs.Common.{refl, sym, ◌∙◌, ap, subst, inl, inr}
 use Rattle.stream_errors.specs.Form.{Answer}
 use Rattle.streams.specs.Input.{Input}
 use Rattle.winnow_expression.specs.Units.{units_left}
-use Rattle.winnow_expression.specs.Calls.{call_at}
+use Rattle.winnow_expression.specs.Calls.{Call, Open, call_at}
 use Rattle.winnow_expression.specs.Operators.{fold_of, left_power, neither_power}
 use Rattle.winnow_expression.specs.Grammar.{Grammar, Folding, Closes, TurnEnds}
 use Rattle.winnow_expression.specs.Expression.{CallRuns, TurnRuns, ResumeRuns, call_ends}
@@ -20,14 +20,12 @@ use Rattle.winnow_expression.specs.declared.combinator.places.First.TheVariants.
 use Rattle.winnow_expression.specs.declared.combinator.places.Next.TheVariants.{Nothing, Postfix}
 use Rattle.winnow_expression.specs.declared.combinator.places.Next.TheVariants.{Infix as infix_read}
 use Rattle.winnow_expression.specs.declared.combinator.operators.Infix.{Infix}
-use Rattle.winnow_expression.specs.declared.combinator.calls.Call.{Call}
 use Rattle.winnow_expression.specs.declared.combinator.calls.Operator.TheVariants.{
   Prefix as prefix_open,
 }
 use Rattle.winnow_expression.specs.declared.combinator.calls.Operator.TheVariants.{
   Infix as infix_open,
 }
-use Rattle.winnow_expression.specs.declared.combinator.calls.Open.{Open}
 use Rattle.winnow_expression_trees.proofs.TreeCalls.{Reads, Grows, reads_operand, reads_prefix}
 use Rattle.winnow_expression_trees.proofs.TreeCalls.{reads_ended, grows_stop, grows_block}
 use Rattle.winnow_expression_trees.proofs.TreeCalls.{grows_postfix, grows_infix, grows_ended}

@@ -17,14 +17,13 @@ use Rattle.winnow_expression.specs.declared.combinator.places.Next.{Next}
 use Rattle.winnow_expression.specs.declared.combinator.places.Next.TheVariants.{Postfix}
 use Rattle.winnow_expression.specs.declared.combinator.places.Next.TheVariants.{Infix as infix_read}
 use Rattle.winnow_expression.specs.declared.combinator.operators.Infix.{Infix}
-use Rattle.winnow_expression.specs.declared.combinator.calls.Call.{Call}
+use Rattle.winnow_expression.specs.Calls.{Call, Open}
 use Rattle.winnow_expression.specs.declared.combinator.calls.Operator.TheVariants.{
   Prefix as prefix_open,
 }
 use Rattle.winnow_expression.specs.declared.combinator.calls.Operator.TheVariants.{
   Infix as infix_open,
 }
-use Rattle.winnow_expression.specs.declared.combinator.calls.Open.{Open}
 use Rattle.winnow_expression_trees.specs.Failure.{Begins, InfixTakes, RefusedBy, TakesLeft}
 use Rattle.winnow_expression_trees.specs.Keeps.{Above, Binds, EdgeAbove, Keeps, Outcome, Reaches}
 use Rattle.winnow_expression_trees.specs.Premises.{FoldAlike, FoldsAlike}

@@ -4,7 +4,7 @@ use Rattle.std.proofs.Common.{refl, sym, ap, subst, inl, inr}
 use Rattle.stream_errors.specs.Form.{Answer}
 use Rattle.streams.specs.Input.{Input}
 use Rattle.streams.specs.Kind.{Kind}
-use Rattle.winnow_expression.specs.Calls.{call_at}
+use Rattle.winnow_expression.specs.Calls.{Call, Open, call_at}
 use Rattle.winnow_expression.specs.Expression.{CallRuns, TurnRuns, ResumeRuns, call_ends}
 use Rattle.winnow_expression.specs.Expression.{ExpressionRuns, LeveledRuns}
 use Rattle.winnow_expression.specs.Expression.{call_operand, call_prefix}
@@ -12,7 +12,6 @@ use Rattle.winnow_expression.specs.Expression.{turn_ends, turn_postfix, turn_inf
 use Rattle.winnow_expression.specs.Expression.{resume_goes}
 use Rattle.winnow_expression.specs.Grammar.{Grammar, Closes, TurnEnds}
 use Rattle.winnow_expression.specs.Units.{units_left}
-use Rattle.winnow_expression.specs.declared.combinator.calls.Call.{Call}
 use Rattle.winnow_expression.specs.declared.combinator.calls.Operator.{Operator}
 use Rattle.winnow_expression.specs.declared.combinator.calls.Operator.TheVariants.{
   Prefix as prefix_open,
@@ -20,7 +19,6 @@ use Rattle.winnow_expression.specs.declared.combinator.calls.Operator.TheVariant
 use Rattle.winnow_expression.specs.declared.combinator.calls.Operator.TheVariants.{
   Infix as infix_open,
 }
-use Rattle.winnow_expression.specs.declared.combinator.calls.Open.{Open}
 use Rattle.winnow_expression_trees.specs.Accepting.{FoldAnswers, accepting}
 use Rattle.winnow_expression_trees.proofs.Closing.{clash}
 use Rattle.winnow_expression_trees.proofs.Fails.{err_ok, err_same}

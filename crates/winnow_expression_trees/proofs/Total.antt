@@ -6,7 +6,7 @@ use Rattle.stream_errors.specs.Form.{Answer}
 use Rattle.streams.specs.Input.{Input}
 use Rattle.streams.specs.Kind.{Kind, memory}
 use Rattle.winnow_expression.specs.Units.{units_left}
-use Rattle.winnow_expression.specs.Calls.{call_at}
+use Rattle.winnow_expression.specs.Calls.{Call, Open, call_at}
 use Rattle.winnow_expression.specs.Expression.{ExpressionRuns}
 use Rattle.winnow_expression.specs.Grammar.{Grammar}
 use Rattle.winnow_expression.specs.Expression.{CallRuns, TurnRuns, ResumeRuns, call_ends}
@@ -19,8 +19,6 @@ use Rattle.winnow_expression.specs.declared.combinator.places.First.TheVariants.
 }
 use Rattle.winnow_expression.specs.declared.combinator.places.Next.TheVariants.{Postfix}
 use Rattle.winnow_expression.specs.declared.combinator.places.Next.TheVariants.{Infix as infix_read}
-use Rattle.winnow_expression.specs.declared.combinator.calls.Call.{Call}
-use Rattle.winnow_expression.specs.declared.combinator.calls.Open.{Open}
 use Rattle.winnow_expression_trees.specs.Failure.{Begins, FailsBy, RefusedBy, begins_infix}
 use Rattle.winnow_expression_trees.specs.Failure.{begins_prefix, begins_whole, comes_start}
 use Rattle.winnow_expression_trees.specs.Keeps.{Keeps}

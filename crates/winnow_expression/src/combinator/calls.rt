@@ -1,33 +1,101 @@
 //! Calls of an expression, and the operators that interrupt them.
-ghost use Rattle.winnow_expression.specs.Calls.{Interrupts, call_at};
-ghost use Rattle.std.specs.Prelude.{◌≡◌, ◌≤◌, OnErr, OnOk, vec_capacity, vec_len};
+ghost use Rattle.std.specs.Prelude.{◌≡◌, ◌≤◌, ◌≤ℤ◌, ◌<ℤ◌, ◌↔◌, IsTrue, IsFalse, OnErr, OnOk, Some};
+ghost use Rattle.std.specs.Prelude.{vec_capacity, vec_len};
+ghost use Rattle.winnow_expression.specs.Calls.{Interrupts, call_at, call_of, calls_of, open_of};
+ghost use Rattle.winnow_expression.specs.Calls.{asked, greatest, with_infix};
 
 use std::alloc::Allocator;
 
+/// What a call refuses of the operators that are not below its `least`.
+#[derive(Clone, Copy)]
+pub enum Refuses {
+    /// None of them.
+    Nothing,
+    /// An infix of this power: the last infix was a `Neither` of it.
+    Neither(i64),
+    /// All of them: the least power that it takes is one above the greatest.
+    All,
+}
+
 /// A call: an expression, or the right operand of an operator.
+///
+/// It is copied with each operator that interrupts it, so it is kept small: the least power may be
+/// one above the greatest `i64`, and what tells that has no field of its own.
 #[derive(Clone, Copy)]
 pub struct Call {
-    /// The least power of its operators.
-    pub least: i128,
+    /// The least power of its operators, if it takes any.
+    pub least: i64,
     /// How many units were left where it began.
     pub began: usize,
     /// How many units were left where its present turn began.
     pub turn: usize,
-    /// The power of the last infix, if that was a `Neither`.
-    pub neither: Option<i64>,
+    pub refuses: Refuses,
 }
 
 impl Call {
-    /// A call that begins.
+    /// A call that begins; it takes no operators where there is no least power.
     #[inline(always)]
-    pub fn new(least: i128, units: usize) -> Call
-        ensures { result ≡ call_at least units }
+    pub fn new(least: Option<i64>, units: usize) -> Call
+        ensures { call_of result ≡ call_at (asked least) units }
+    {
+        match least {
+            Some(least) => Call {
+                least,
+                began: units,
+                turn: units,
+                refuses: Refuses::Nothing,
+            },
+            None => Call {
+                least: i64::MAX,
+                began: units,
+                turn: units,
+                refuses: Refuses::All,
+            },
+        }
+    }
+
+    /// Whether operators of this power are too weak.
+    #[inline(always)]
+    pub fn is_above(&self, power: i64) -> bool
+        ensures above { IsTrue result → power <ℤ (call_of self.now).least }
+        ensures reached { IsFalse result → (call_of self.now).least ≤ℤ power }
+    {
+        if power < self.least {
+            return true;
+        }
+        match self.refuses {
+            Refuses::Nothing => false,
+            Refuses::Neither(_) => false,
+            Refuses::All => true,
+        }
+    }
+
+    /// Whether the last infix was a `Neither` of this power.
+    #[inline(always)]
+    pub fn has_neither(&self, power: i64) -> bool
+        ensures { IsTrue result ↔ ((call_of self.now).neither ≡ Some power) }
+    {
+        match self.refuses {
+            Refuses::Nothing => false,
+            Refuses::Neither(other) => other == power,
+            Refuses::All => false,
+        }
+    }
+
+    /// The call behind an infix that it took, whose turn began where so many units were left, and
+    /// whose power it remembers if it was a `Neither`.
+    #[inline(always)]
+    pub fn behind(&self, units: usize, neither: Option<i64>) -> Call
+        requires { (call_of self.now).least ≤ℤ greatest }
+        ensures { call_of result ≡ with_infix (call_of self.now) units neither }
     {
         Call {
-            least,
-            began: units,
             turn: units,
-            neither: None,
+            refuses: match neither {
+                Some(power) => Refuses::Neither(power),
+                None => Refuses::Nothing,
+            },
+            ..*self
         }
     }
 }
@@ -56,8 +124,15 @@ pub struct Calls<O, F, H, A: Allocator> {
 impl<O: Drop, F: Drop, H: Drop, A: Allocator> Calls<O, F, H, A> {
     /// Opens an operator: a call of this least power begins for its right operand. It fails only
     /// where the list of open operators is full and could not grow.
-    pub fn interrupt(&mut self, above: Open<O, F, H>, least: i128, units: usize) -> Result<(), ()>
-        ensures opened { OnOk result (Interrupts self.old above least units self.new) }
+    pub fn interrupt(
+        &mut self,
+        above: Open<O, F, H>,
+        least: Option<i64>,
+        units: usize,
+    ) -> Result<(), ()>
+        ensures opened { OnOk result
+            (Interrupts (calls_of self.old) (open_of above) (asked least) units
+            (calls_of self.new)) }
         ensures full { OnErr result (vec_capacity self.old.«open» ≤ vec_len self.old.«open») }
     {
         match self.open.push(above) {

@@ -2,6 +2,7 @@
 ghost use Rattle.std.specs.Prelude.{◌≡◌, reverse};
 ghost use Rattle.stream_errors.specs.Form.{answer_by, assert_kind};
 ghost use Rattle.streams.specs.Input.{IsEndOf};
+ghost use Rattle.winnow_expression.specs.Calls.{call_of, calls_of, opens_of};
 ghost use Rattle.winnow_expression.specs.Expression.{ExpressionRuns};
 ghost use Rattle.winnow_expression.specs.Grammar.{Closes, folding, grammar};
 ghost use Rattle.winnow_expression.specs.Machine.{AllEnd, EndsToo, InfixTurn, OperandStep};
@@ -66,9 +67,9 @@ pub fn operand_step<
 >(first: &mut P, calls: &mut Calls<O, F, H, A>, input: &mut I) -> Result<Option<O>, E>
     requires { P.can_parse first.old }
     ensures again { P.can_parse first.new }
-    ensures ran { OperandStep I.reading.units (P.meaning E.form) (assert_kind E.form) calls.old
-        (P.state first.old) (I.view input.old)
-        (answer_by E.kind result) calls.new (P.state first.new) (I.view input.new) }
+    ensures ran { OperandStep I.reading.units (P.meaning E.form) (assert_kind E.form)
+        (calls_of calls.old) (P.state first.old) (I.view input.old)
+        (answer_by E.kind result) (calls_of calls.new) (P.state first.new) (I.view input.new) }
     ensures ends { IsEndOf I.reading (I.view input.new) (I.view input.old) }
 {
     let units = input.eof_offset();
@@ -83,7 +84,7 @@ pub fn operand_step<
                 operator: Operator::Prefix(fold),
                 call: calls.present,
             };
-            match calls.interrupt(above, i128::from(power), behind) {
+            match calls.interrupt(above, Some(power), behind) {
                 Ok(()) => Ok(None),
                 Err(()) => Err(E::no_memory(input)),
             }
@@ -105,8 +106,8 @@ pub fn turn_step<
     requires { Q.can_parse next.old }
     ensures again { Q.can_parse next.new }
     ensures ran { TurnStep I.reading.units (Q.meaning E.form) (G.folds E.form)
-        (assert_kind E.form) calls.old left (Q.state next.old) (I.view input.old)
-        (answer_by E.kind result) calls.new (Q.state next.new) (I.view input.new) }
+        (assert_kind E.form) (calls_of calls.old) left (Q.state next.old) (I.view input.old)
+        (answer_by E.kind result) (calls_of calls.new) (Q.state next.new) (I.view input.new) }
     ensures ends { IsEndOf I.reading (I.view input.new) (I.view input.old) }
 {
     let start = input.checkpoint();
@@ -114,8 +115,7 @@ pub fn turn_step<
     match next.parse_next(input)? {
         Next::Nothing => Ok(Turn::Ends(left)),
         Next::Postfix(power, fold) => {
-            let least = calls.present.least;
-            postfix_turn(least, i128::from(power), fold, &start, units, left, input)
+            postfix_turn(&calls.present, power, fold, &start, units, left, input)
         }
         Next::Infix(operator) => infix_turn(operator, &start, units, calls, left, input),
     }
@@ -123,20 +123,20 @@ pub fn turn_step<
 
 /// A postfix is read: it is folded, or put back where it is below the least power.
 fn postfix_turn<I: Stream, O: Drop, E: ParserError<I>, G: FoldUnary<I, O, E>>(
-    least: i128,
-    power: i128,
+    call: &Call,
+    power: i64,
     fold: G,
     start: &I::Checkpoint,
     units: usize,
     left: O,
     input: &mut I,
 ) -> Result<Turn<O>, E>
-    ensures ran { PostfixTurn I.reading.units (G.folds E.form) (assert_kind E.form) least power
-        fold (I.seen start.now) units left (I.view input.old)
+    ensures ran { PostfixTurn I.reading.units (G.folds E.form) (assert_kind E.form)
+        (call_of call.now).least power fold (I.seen start.now) units left (I.view input.old)
         (answer_by E.kind result) (I.view input.new) }
     ensures ends { EndsToo I.reading (I.seen start.now) (I.view input.old) (I.view input.new) }
 {
-    if power < least {
+    if call.is_above(power) {
         input.reset(start);
         return Ok(Turn::Ends(left));
     }
@@ -157,16 +157,16 @@ fn infix_turn<I: Stream, O: Drop, E: ParserError<I>, F: Drop, H: Drop, A: Alloca
     input: &mut I,
 ) -> Result<Turn<O>, E>
     ensures ran { InfixTurn I.reading.units (assert_kind E.form) operator (I.seen start.now)
-        units calls.old left (I.view input.old)
-        (answer_by E.kind result) calls.new (I.view input.new) }
+        units (calls_of calls.old) left (I.view input.old)
+        (answer_by E.kind result) (calls_of calls.new) (I.view input.new) }
     ensures ends { EndsToo I.reading (I.seen start.now) (I.view input.old) (I.view input.new) }
 {
     let binding = operator.binding();
-    if i128::from(binding.left) < calls.present.least {
+    if calls.present.is_above(binding.left) {
         input.reset(start);
         return Ok(Turn::Ends(left));
     }
-    if calls.present.neither == Some(binding.left) {
+    if calls.present.has_neither(binding.left) {
         input.reset(start);
         return Ok(Turn::EndsAll(left));
     }
@@ -174,14 +174,9 @@ fn infix_turn<I: Stream, O: Drop, E: ParserError<I>, F: Drop, H: Drop, A: Alloca
     if behind == calls.present.began {
         return Err(E::assert(input, "a call must consume before an infix"));
     }
-    let call = Call {
-        turn: units,
-        neither: binding.neither,
-        ..calls.present
-    };
     let above = Open {
         operator: Operator::Infix(left, binding.fold),
-        call,
+        call: calls.present.behind(units, binding.neither),
     };
     match calls.interrupt(above, binding.right, behind) {
         Ok(()) => Ok(Turn::Interrupted),
@@ -200,7 +195,7 @@ fn end_all<
 >(operators: Vec<Open<O, F, H>, A>, value: O, input: &mut I) -> Result<O, E>
     ensures ran { AllEnd
         (folding (F.folds E.form) (H.folds E.form) I.reading.units (assert_kind E.form))
-        (reverse operators.items) value (I.view input.old)
+        (reverse (opens_of operators.items)) value (I.view input.old)
         (answer_by E.kind result) (I.view input.new) }
     ensures ends { IsEndOf I.reading (I.view input.new) (I.view input.old) }
 {
@@ -237,7 +232,7 @@ pub fn expression_from<
 {
     let units = input.eof_offset();
     let mut calls = Calls {
-        present: Call::new(i128::from(level), units),
+        present: Call::new(Some(level), units),
         open: Vec::new(alloc),
     };
     let mut left: Option<O> = None;

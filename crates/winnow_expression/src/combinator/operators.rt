@@ -1,9 +1,10 @@
 //! Operators, as their parsers answer them.
-ghost use Rattle.std.specs.Prelude.{◌≡◌, MatchOption};
+ghost use Rattle.std.specs.Prelude.{◌≡◌, ◌+ℤ◌, pos, MatchOption};
 ghost use Rattle.winnow_core.specs.Agrees.{agrees_by};
 ghost use Rattle.winnow_core.specs.Runs.{Keeps};
 ghost use Rattle.winnow_core.specs.SameMeaning.{same_refl};
 ghost use Rattle.winnow_core.specs.Stable.Grows.{leaf_stays};
+ghost use Rattle.winnow_expression.specs.Calls.{asked};
 ghost use Rattle.winnow_expression.specs.Operators.{IsInfixClone, IsPostfixClone, IsPrefixClone};
 ghost use Rattle.winnow_expression.specs.Operators.{OperatorRuns, fold_of, left_power};
 ghost use Rattle.winnow_expression.specs.Operators.{neither_power, right_power};
@@ -62,9 +63,22 @@ pub enum Infix<F> {
 #[derive(Drop)]
 pub struct Binding<F> {
     pub left: i64,
-    pub right: i128,
+    /// The least power in the right operand, if any is.
+    pub right: Option<i64>,
     pub neither: Option<i64>,
     pub fold: F,
+}
+
+/// The least power above this one, if there is one.
+#[inline(always)]
+fn above(power: i64) -> Option<i64>
+    ensures { asked result ≡ power +ℤ pos 1 }
+{
+    if power < i64::MAX {
+        Some(power + 1)
+    } else {
+        None
+    }
 }
 
 impl<F> Infix<F> {
@@ -72,31 +86,32 @@ impl<F> Infix<F> {
     ///
     /// ```
     /// let binding = Infix::Left(5, "sum").binding();
-    /// assert_eq!(rt; (binding.left, binding.right), (5, 6));
+    /// assert_eq!(rt; (binding.left, binding.right), (5, Some(6)));
+    /// assert_eq!(rt; Infix::Left(i64::MAX, "sum").binding().right, None);
     /// ```
     #[inline(always)]
     pub fn binding(self) -> Binding<F>
         ensures left { result.left ≡ left_power self }
-        ensures right { result.right ≡ right_power self }
+        ensures right { asked result.right ≡ right_power self }
         ensures neither { result.neither ≡ neither_power self }
         ensures fold { result.fold ≡ fold_of self }
     {
         match self {
             Infix::Left(power, fold) => Binding {
                 left: power,
-                right: i128::from(power) + 1,
+                right: above(power),
                 neither: None,
                 fold,
             },
             Infix::Right(power, fold) => Binding {
                 left: power,
-                right: i128::from(power),
+                right: Some(power),
                 neither: None,
                 fold,
             },
             Infix::Neither(power, fold) => Binding {
                 left: power,
-                right: i128::from(power) + 1,
+                right: above(power),
                 neither: Some(power),
                 fold,
             },

@@ -1,4 +1,5 @@
 use Rattle.std.proofs.Common.{length, reverse}
+use Rattle.winnow_expression.specs.Calls.{opens_of}
 use Rattle.winnow_expression.specs.Grammar.{folding}
 use Rattle.streams.specs.Input.{Input, IsEndOf}
 use Rattle.stream_errors.specs.Form.{Answer, assert_kind}
@@ -11,11 +12,11 @@ invariant-operators g l =
     → AllEnd (folding (g.F.FoldUnary.folds g.E.HasKind.form)
     (g.H.FoldBinary.folds g.E.HasKind.form) g.I.Stream.reading.units
     (assert_kind g.E.HasKind.form))
-    (reverse l.open.items) l.value (g.I.Stream.view l.input) answer j
+    (reverse (opens_of l.open.items)) l.value (g.I.Stream.view l.input) answer j
     → AllEnd (folding (g.F.FoldUnary.folds g.E.HasKind.form)
     (g.H.FoldBinary.folds g.E.HasKind.form) g.I.Stream.reading.units
     (assert_kind g.E.HasKind.form))
-    (reverse l.fn.operators.items) l.fn.value (g.I.Stream.view l.fn.input) answer j)
+    (reverse (opens_of l.fn.operators.items)) l.fn.value (g.I.Stream.view l.fn.input) answer j)
     × IsEndOf g.I.Stream.reading (g.I.Stream.view l.input) (g.I.Stream.view l.fn.input)
 
 abbrev pub decreases-operators : goal.decreases-operators

@@ -1,5 +1,7 @@
 use Rattle.std.proofs.Common.{rules, refl, Some, None}
+use Rattle.winnow_expression.specs.Calls.{call_of, calls_of, open_of, opens_of}
 use Rattle.winnow_expression.specs.Grammar.{folding, grammar}
+use Rattle.winnow_expression.proofs.EndLemmas.{opens_last, opens_none}
 use Rattle.streams.specs.Input.{is_end_of_refl, is_end_of_trans, is_end_of_trans3}
 use Rattle.stream_errors.specs.Form.{assert_kind}
 use Rattle.winnow_expression.specs.Units.{ends_less}
@@ -19,8 +21,8 @@ returns-in_err-left-in-None-clause-ran g c =
     (assert_kind g.E.HasKind.form)) in
     let start : g.P.Parser.State × g.Q.Parser.State =
     (g.P.Parser.state c.args.first.now, g.Q.Parser.state c.args.next.now) in
-    operand_ends whole c.args.level _ start (g.I.Stream.view c.args.input.now) c.places.calls
-    c.operand_step.new.calls c.places.left _
+    operand_ends whole c.args.level _ start (g.I.Stream.view c.args.input.now)
+    (calls_of c.places.calls) (calls_of c.operand_step.new.calls) c.places.left _
     (g.E.HasKind.kind c.in_err-left-in-None.field-0.0)
     (g.P.Parser.state c.places.first, g.Q.Parser.state c.places.next)
     (g.P.Parser.state c.operand_step.new.first) (g.I.Stream.view c.places.input)
@@ -40,8 +42,8 @@ places-smaller-in-None g c =
     (assert_kind g.E.HasKind.form)) in
     let start : g.P.Parser.State × g.Q.Parser.State =
     (g.P.Parser.state c.args.first.now, g.Q.Parser.state c.args.next.now) in
-    (operand_kept whole _ start (g.I.Stream.view c.args.input.now) c.places.calls
-    c.operand_step.new.calls c.places.left c.in_ok-left-in-None.left
+    (operand_kept whole _ start (g.I.Stream.view c.args.input.now) (calls_of c.places.calls)
+    (calls_of c.operand_step.new.calls) c.places.left c.in_ok-left-in-None.left
     (g.P.Parser.state c.places.first, g.Q.Parser.state c.places.next)
     (g.P.Parser.state c.operand_step.new.first) (g.I.Stream.view c.places.input)
     (g.I.Stream.view c.operand_step.new.input) c.places.invariant.0 c.in-None.is
@@ -57,8 +59,8 @@ places-preserved-in-None g c =
     (assert_kind g.E.HasKind.form)) in
     let start : g.P.Parser.State × g.Q.Parser.State =
     (g.P.Parser.state c.args.first.now, g.Q.Parser.state c.args.next.now) in (
-      (operand_kept whole _ start (g.I.Stream.view c.args.input.now) c.places.calls
-          c.operand_step.new.calls c.places.left c.in_ok-left-in-None.left
+      (operand_kept whole _ start (g.I.Stream.view c.args.input.now) (calls_of c.places.calls)
+          (calls_of c.operand_step.new.calls) c.places.left c.in_ok-left-in-None.left
           (g.P.Parser.state c.places.first, g.Q.Parser.state c.places.next)
           (g.P.Parser.state c.operand_step.new.first) (g.I.Stream.view c.places.input)
           (g.I.Stream.view c.operand_step.new.input) c.places.invariant.0 c.in-None.is
@@ -78,13 +80,13 @@ returns-in_err-value-in-Some-clause-ran g c =
     (assert_kind g.E.HasKind.form)) in
     let start : g.P.Parser.State × g.Q.Parser.State =
     (g.P.Parser.state c.args.first.now, g.Q.Parser.state c.args.next.now) in
-    turn_ends_whole whole c.args.level _ start (g.I.Stream.view c.args.input.now) c.places.calls
-    c.turn_step.new.calls c.in-Some.value _
+    turn_ends_whole whole c.args.level _ start (g.I.Stream.view c.args.input.now)
+    (calls_of c.places.calls) (calls_of c.turn_step.new.calls) c.in-Some.value _
     (g.E.HasKind.kind c.in_err-value-in-Some.field-0.0)
     (g.P.Parser.state c.places.first, g.Q.Parser.state c.places.next)
     (g.Q.Parser.state c.turn_step.new.next) (g.I.Stream.view c.places.input)
     (g.I.Stream.view c.turn_step.new.input) (search rules depth 1)
-    (stands_at whole _ start (g.I.Stream.view c.args.input.now) c.places.calls
+    (stands_at whole _ start (g.I.Stream.view c.args.input.now) (calls_of c.places.calls)
     c.places.left c.in-Some.value
     (g.P.Parser.state c.places.first, g.Q.Parser.state c.places.next)
     (g.I.Stream.view c.places.input) c.places.invariant.0 c.in-Some.is)
@@ -103,20 +105,20 @@ places-smaller-in-Goes g c =
     (assert_kind g.E.HasKind.form)) in
     let start : g.P.Parser.State × g.Q.Parser.State =
     (g.P.Parser.state c.args.first.now, g.Q.Parser.state c.args.next.now) in
-    falls_at _ _ c.places.calls.present c.turn_step.new.calls.present _ _ c.places.left
-    (Some c.in-Goes.value) c.in-Some.value c.in-Some.is
-    (postfix_kept whole _ start (g.I.Stream.view c.args.input.now) c.places.calls
-    c.turn_step.new.calls c.in-Some.value c.in-Goes.value
+    falls_at _ _ (call_of c.places.calls.present) (call_of c.turn_step.new.calls.present) _ _
+    c.places.left (Some c.in-Goes.value) c.in-Some.value c.in-Some.is
+    (postfix_kept whole _ start (g.I.Stream.view c.args.input.now) (calls_of c.places.calls)
+    (calls_of c.turn_step.new.calls) c.in-Some.value c.in-Goes.value
     (g.P.Parser.state c.places.first, g.Q.Parser.state c.places.next)
     (g.Q.Parser.state c.turn_step.new.next) (g.I.Stream.view c.places.input)
     (g.I.Stream.view c.turn_step.new.input)
-    (stands_at whole _ start (g.I.Stream.view c.args.input.now) c.places.calls
+    (stands_at whole _ start (g.I.Stream.view c.args.input.now) (calls_of c.places.calls)
     c.places.left c.in-Some.value
     (g.P.Parser.state c.places.first, g.Q.Parser.state c.places.next)
     (g.I.Stream.view c.places.input) c.places.invariant.0 c.in-Some.is)
     (step_at g.I.Stream.reading.units (g.Q.Parser.meaning g.E.HasKind.form)
     (g.G.FoldUnary.folds g.E.HasKind.form) (assert_kind g.E.HasKind.form)
-    c.places.calls c.turn_step.new.calls c.in-Some.value
+    (calls_of c.places.calls) (calls_of c.turn_step.new.calls) c.in-Some.value
     (g.Q.Parser.state c.places.next) (g.Q.Parser.state c.turn_step.new.next)
     (g.I.Stream.view c.places.input) (g.I.Stream.view c.turn_step.new.input) _ _
     c.in-Goes.is c.in_ok-value-in-Some.ensures.ran)
@@ -131,18 +133,18 @@ places-preserved-in-Goes g c =
     (assert_kind g.E.HasKind.form)) in
     let start : g.P.Parser.State × g.Q.Parser.State =
     (g.P.Parser.state c.args.first.now, g.Q.Parser.state c.args.next.now) in (
-      (postfix_kept whole _ start (g.I.Stream.view c.args.input.now) c.places.calls
-          c.turn_step.new.calls c.in-Some.value c.in-Goes.value
+      (postfix_kept whole _ start (g.I.Stream.view c.args.input.now) (calls_of c.places.calls)
+          (calls_of c.turn_step.new.calls) c.in-Some.value c.in-Goes.value
           (g.P.Parser.state c.places.first, g.Q.Parser.state c.places.next)
           (g.Q.Parser.state c.turn_step.new.next) (g.I.Stream.view c.places.input)
           (g.I.Stream.view c.turn_step.new.input)
-          (stands_at whole _ start (g.I.Stream.view c.args.input.now) c.places.calls
+          (stands_at whole _ start (g.I.Stream.view c.args.input.now) (calls_of c.places.calls)
           c.places.left c.in-Some.value
           (g.P.Parser.state c.places.first, g.Q.Parser.state c.places.next)
           (g.I.Stream.view c.places.input) c.places.invariant.0 c.in-Some.is)
           (step_at g.I.Stream.reading.units (g.Q.Parser.meaning g.E.HasKind.form)
           (g.G.FoldUnary.folds g.E.HasKind.form) (assert_kind g.E.HasKind.form)
-          c.places.calls c.turn_step.new.calls c.in-Some.value
+          (calls_of c.places.calls) (calls_of c.turn_step.new.calls) c.in-Some.value
           (g.Q.Parser.state c.places.next) (g.Q.Parser.state c.turn_step.new.next)
           (g.I.Stream.view c.places.input) (g.I.Stream.view c.turn_step.new.input) _ _
           c.in-Goes.is c.in_ok-value-in-Some.ensures.ran)
@@ -161,20 +163,21 @@ places-smaller-in-Interrupted g c =
     (assert_kind g.E.HasKind.form)) in
     let start : g.P.Parser.State × g.Q.Parser.State =
     (g.P.Parser.state c.args.first.now, g.Q.Parser.state c.args.next.now) in
-    falls_at _ _ c.places.calls.present c.turn_step.new.calls.present _ _ c.places.left None
+    falls_at _ _ (call_of c.places.calls.present) (call_of c.turn_step.new.calls.present) _ _
+    c.places.left None
     c.in-Some.value c.in-Some.is
-    (infix_kept whole _ start (g.I.Stream.view c.args.input.now) c.places.calls
-    c.turn_step.new.calls c.in-Some.value
+    (infix_kept whole _ start (g.I.Stream.view c.args.input.now) (calls_of c.places.calls)
+    (calls_of c.turn_step.new.calls) c.in-Some.value
     (g.P.Parser.state c.places.first, g.Q.Parser.state c.places.next)
     (g.Q.Parser.state c.turn_step.new.next) (g.I.Stream.view c.places.input)
     (g.I.Stream.view c.turn_step.new.input)
-    (stands_at whole _ start (g.I.Stream.view c.args.input.now) c.places.calls
+    (stands_at whole _ start (g.I.Stream.view c.args.input.now) (calls_of c.places.calls)
     c.places.left c.in-Some.value
     (g.P.Parser.state c.places.first, g.Q.Parser.state c.places.next)
     (g.I.Stream.view c.places.input) c.places.invariant.0 c.in-Some.is)
     (step_at g.I.Stream.reading.units (g.Q.Parser.meaning g.E.HasKind.form)
     (g.G.FoldUnary.folds g.E.HasKind.form) (assert_kind g.E.HasKind.form)
-    c.places.calls c.turn_step.new.calls c.in-Some.value
+    (calls_of c.places.calls) (calls_of c.turn_step.new.calls) c.in-Some.value
     (g.Q.Parser.state c.places.next) (g.Q.Parser.state c.turn_step.new.next)
     (g.I.Stream.view c.places.input) (g.I.Stream.view c.turn_step.new.input) _ _
     c.in-Interrupted.is c.in_ok-value-in-Some.ensures.ran)
@@ -189,18 +192,18 @@ places-preserved-in-Interrupted g c =
     (assert_kind g.E.HasKind.form)) in
     let start : g.P.Parser.State × g.Q.Parser.State =
     (g.P.Parser.state c.args.first.now, g.Q.Parser.state c.args.next.now) in (
-      (infix_kept whole _ start (g.I.Stream.view c.args.input.now) c.places.calls
-          c.turn_step.new.calls c.in-Some.value
+      (infix_kept whole _ start (g.I.Stream.view c.args.input.now) (calls_of c.places.calls)
+          (calls_of c.turn_step.new.calls) c.in-Some.value
           (g.P.Parser.state c.places.first, g.Q.Parser.state c.places.next)
           (g.Q.Parser.state c.turn_step.new.next) (g.I.Stream.view c.places.input)
           (g.I.Stream.view c.turn_step.new.input)
-          (stands_at whole _ start (g.I.Stream.view c.args.input.now) c.places.calls
+          (stands_at whole _ start (g.I.Stream.view c.args.input.now) (calls_of c.places.calls)
           c.places.left c.in-Some.value
           (g.P.Parser.state c.places.first, g.Q.Parser.state c.places.next)
           (g.I.Stream.view c.places.input) c.places.invariant.0 c.in-Some.is)
           (step_at g.I.Stream.reading.units (g.Q.Parser.meaning g.E.HasKind.form)
           (g.G.FoldUnary.folds g.E.HasKind.form) (assert_kind g.E.HasKind.form)
-          c.places.calls c.turn_step.new.calls c.in-Some.value
+          (calls_of c.places.calls) (calls_of c.turn_step.new.calls) c.in-Some.value
           (g.Q.Parser.state c.places.next) (g.Q.Parser.state c.turn_step.new.next)
           (g.I.Stream.view c.places.input) (g.I.Stream.view c.turn_step.new.input) _ _
           c.in-Interrupted.is c.in_ok-value-in-Some.ensures.ran)
@@ -219,23 +222,27 @@ returns-in_err-close-in-Some-pop-clause-ran g c =
     (assert_kind g.E.HasKind.form)) in
     let start : g.P.Parser.State × g.Q.Parser.State =
     (g.P.Parser.state c.args.first.now, g.Q.Parser.state c.args.next.now) in
-    close_ends whole c.args.level _ start (g.I.Stream.view c.args.input.now) c.places.calls
-    c.turn_step.new.calls c.in-Some.value c.in-Ends.value _
-    (g.E.HasKind.kind c.in_err-close-in-Some-pop.field-0.0) c.in-Some-pop.above
-    c.pop.new.self.items (g.P.Parser.state c.places.first, g.Q.Parser.state c.places.next)
+    close_ends whole c.args.level _ start (g.I.Stream.view c.args.input.now)
+    (calls_of c.places.calls) (calls_of c.turn_step.new.calls) c.in-Some.value c.in-Ends.value _
+    (g.E.HasKind.kind c.in_err-close-in-Some-pop.field-0.0) (open_of c.in-Some-pop.above)
+    (opens_of c.pop.new.self.items) (
+      g.P.Parser.state c.places.first,
+      g.Q.Parser.state
+          c.places.next,
+    )
     (g.Q.Parser.state c.turn_step.new.next) (g.I.Stream.view c.places.input)
     (g.I.Stream.view c.turn_step.new.input) (g.I.Stream.view c.close.new.input)
     (search rules depth 1)
-    (stands_at whole _ start (g.I.Stream.view c.args.input.now) c.places.calls
+    (stands_at whole _ start (g.I.Stream.view c.args.input.now) (calls_of c.places.calls)
     c.places.left c.in-Some.value
     (g.P.Parser.state c.places.first, g.Q.Parser.state c.places.next)
     (g.I.Stream.view c.places.input) c.places.invariant.0 c.in-Some.is)
     (step_at g.I.Stream.reading.units (g.Q.Parser.meaning g.E.HasKind.form)
-    (g.G.FoldUnary.folds g.E.HasKind.form) (assert_kind g.E.HasKind.form) c.places.calls
-    c.turn_step.new.calls c.in-Some.value (g.Q.Parser.state c.places.next)
+    (g.G.FoldUnary.folds g.E.HasKind.form) (assert_kind g.E.HasKind.form) (calls_of c.places.calls)
+    (calls_of c.turn_step.new.calls) c.in-Some.value (g.Q.Parser.state c.places.next)
     (g.Q.Parser.state c.turn_step.new.next) (g.I.Stream.view c.places.input)
     (g.I.Stream.view c.turn_step.new.input) _ _ c.in-Ends.is
-    c.in_ok-value-in-Some.ensures.ran) c.in-Some-pop.ensures.items
+    c.in_ok-value-in-Some.ensures.ran) (opens_last _ _ _ c.in-Some-pop.ensures.items)
     (search rules depth 1) (search rules depth 1)
 
 pub returns-in_err-close-in-Some-pop-clause-ends : goal.returns-in_err-close-in-Some-pop-clause-ends
@@ -251,28 +258,30 @@ places-smaller g c =
     (assert_kind g.E.HasKind.form)) in
     let start : g.P.Parser.State × g.Q.Parser.State =
     (g.P.Parser.state c.args.first.now, g.Q.Parser.state c.args.next.now) in
-    falls_at _ _ c.places.calls.present c.in-Some-pop.above.call _ _ c.places.left
-    (Some c.in_ok-close-in-Some-pop.field-0) c.in-Some.value c.in-Some.is
-    (close_kept whole _ start (g.I.Stream.view c.args.input.now) c.places.calls
-    c.turn_step.new.calls
-    (record { present = c.in-Some-pop.above.call; «open» = c.pop.new.self })
-    c.in-Some.value c.in-Ends.value c.in_ok-close-in-Some-pop.field-0
-    c.in-Some-pop.above c.pop.new.self.items
+    falls_at _ _ (call_of c.places.calls.present) (call_of c.in-Some-pop.above.call) _ _
+    c.places.left (Some c.in_ok-close-in-Some-pop.field-0) c.in-Some.value c.in-Some.is
+    (close_kept whole _ start (g.I.Stream.view c.args.input.now) (calls_of c.places.calls)
+    (calls_of c.turn_step.new.calls)
+    (record {
+      present = call_of c.in-Some-pop.above.call;
+      opened = opens_of c.pop.new.self.items;
+    }) c.in-Some.value c.in-Ends.value c.in_ok-close-in-Some-pop.field-0
+    (open_of c.in-Some-pop.above) (opens_of c.pop.new.self.items)
     (g.P.Parser.state c.places.first, g.Q.Parser.state c.places.next)
     (g.Q.Parser.state c.turn_step.new.next) (g.I.Stream.view c.places.input)
     (g.I.Stream.view c.turn_step.new.input) (g.I.Stream.view c.close.new.input)
-    (stands_at whole _ start (g.I.Stream.view c.args.input.now) c.places.calls
+    (stands_at whole _ start (g.I.Stream.view c.args.input.now) (calls_of c.places.calls)
     c.places.left c.in-Some.value
     (g.P.Parser.state c.places.first, g.Q.Parser.state c.places.next)
     (g.I.Stream.view c.places.input) c.places.invariant.0 c.in-Some.is)
     (step_at g.I.Stream.reading.units (g.Q.Parser.meaning g.E.HasKind.form)
     (g.G.FoldUnary.folds g.E.HasKind.form) (assert_kind g.E.HasKind.form)
-    c.places.calls c.turn_step.new.calls c.in-Some.value
+    (calls_of c.places.calls) (calls_of c.turn_step.new.calls) c.in-Some.value
     (g.Q.Parser.state c.places.next) (g.Q.Parser.state c.turn_step.new.next)
     (g.I.Stream.view c.places.input) (g.I.Stream.view c.turn_step.new.input) _ _
     c.in-Ends.is c.in_ok-value-in-Some.ensures.ran)
     (ends_less g.I.Stream.reading _ _ c.turn_step.ensures.ends)
-    c.in-Some-pop.ensures.items (search rules depth 1)
+    (opens_last _ _ _ c.in-Some-pop.ensures.items) (search rules depth 1)
     (ends_less g.I.Stream.reading _ _ c.close.ensures.ends) refl refl).1
 
 pub places-preserved : goal.places-preserved
@@ -284,26 +293,28 @@ places-preserved g c =
     (assert_kind g.E.HasKind.form)) in
     let start : g.P.Parser.State × g.Q.Parser.State =
     (g.P.Parser.state c.args.first.now, g.Q.Parser.state c.args.next.now) in (
-      (close_kept whole _ start (g.I.Stream.view c.args.input.now) c.places.calls
-          c.turn_step.new.calls
-          (record { present = c.in-Some-pop.above.call; «open» = c.pop.new.self })
-          c.in-Some.value c.in-Ends.value c.in_ok-close-in-Some-pop.field-0
-          c.in-Some-pop.above c.pop.new.self.items
+      (close_kept whole _ start (g.I.Stream.view c.args.input.now) (calls_of c.places.calls)
+          (calls_of c.turn_step.new.calls)
+          (record {
+            present = call_of c.in-Some-pop.above.call;
+            opened = opens_of c.pop.new.self.items;
+          }) c.in-Some.value c.in-Ends.value c.in_ok-close-in-Some-pop.field-0
+          (open_of c.in-Some-pop.above) (opens_of c.pop.new.self.items)
           (g.P.Parser.state c.places.first, g.Q.Parser.state c.places.next)
           (g.Q.Parser.state c.turn_step.new.next) (g.I.Stream.view c.places.input)
           (g.I.Stream.view c.turn_step.new.input) (g.I.Stream.view c.close.new.input)
-          (stands_at whole _ start (g.I.Stream.view c.args.input.now) c.places.calls
+          (stands_at whole _ start (g.I.Stream.view c.args.input.now) (calls_of c.places.calls)
           c.places.left c.in-Some.value
           (g.P.Parser.state c.places.first, g.Q.Parser.state c.places.next)
           (g.I.Stream.view c.places.input) c.places.invariant.0 c.in-Some.is)
           (step_at g.I.Stream.reading.units (g.Q.Parser.meaning g.E.HasKind.form)
           (g.G.FoldUnary.folds g.E.HasKind.form) (assert_kind g.E.HasKind.form)
-          c.places.calls c.turn_step.new.calls c.in-Some.value
+          (calls_of c.places.calls) (calls_of c.turn_step.new.calls) c.in-Some.value
           (g.Q.Parser.state c.places.next) (g.Q.Parser.state c.turn_step.new.next)
           (g.I.Stream.view c.places.input) (g.I.Stream.view c.turn_step.new.input) _ _
           c.in-Ends.is c.in_ok-value-in-Some.ensures.ran)
           (ends_less g.I.Stream.reading _ _ c.turn_step.ensures.ends)
-          c.in-Some-pop.ensures.items (search rules depth 1)
+          (opens_last _ _ _ c.in-Some-pop.ensures.items) (search rules depth 1)
           (ends_less g.I.Stream.reading _ _ c.close.ensures.ends) refl refl).0,
       is_end_of_trans3 c.close.ensures.ends c.turn_step.ensures.ends c.places.invariant.1,
       c.places.invariant.2,
@@ -319,21 +330,21 @@ returns-in-None-pop-clause-ran g c =
     (assert_kind g.E.HasKind.form)) in
     let start : g.P.Parser.State × g.Q.Parser.State =
     (g.P.Parser.state c.args.first.now, g.Q.Parser.state c.args.next.now) in
-    call_ends_whole whole c.args.level _ start (g.I.Stream.view c.args.input.now) c.places.calls
-    c.turn_step.new.calls c.in-Some.value c.in-Ends.value
+    call_ends_whole whole c.args.level _ start (g.I.Stream.view c.args.input.now)
+    (calls_of c.places.calls) (calls_of c.turn_step.new.calls) c.in-Some.value c.in-Ends.value
     (g.P.Parser.state c.places.first, g.Q.Parser.state c.places.next)
     (g.Q.Parser.state c.turn_step.new.next) (g.I.Stream.view c.places.input)
     (g.I.Stream.view c.turn_step.new.input) (search rules depth 1)
-    (stands_at whole _ start (g.I.Stream.view c.args.input.now) c.places.calls
+    (stands_at whole _ start (g.I.Stream.view c.args.input.now) (calls_of c.places.calls)
     c.places.left c.in-Some.value
     (g.P.Parser.state c.places.first, g.Q.Parser.state c.places.next)
     (g.I.Stream.view c.places.input) c.places.invariant.0 c.in-Some.is)
     (step_at g.I.Stream.reading.units (g.Q.Parser.meaning g.E.HasKind.form)
-    (g.G.FoldUnary.folds g.E.HasKind.form) (assert_kind g.E.HasKind.form) c.places.calls
-    c.turn_step.new.calls c.in-Some.value (g.Q.Parser.state c.places.next)
+    (g.G.FoldUnary.folds g.E.HasKind.form) (assert_kind g.E.HasKind.form) (calls_of c.places.calls)
+    (calls_of c.turn_step.new.calls) c.in-Some.value (g.Q.Parser.state c.places.next)
     (g.Q.Parser.state c.turn_step.new.next) (g.I.Stream.view c.places.input)
     (g.I.Stream.view c.turn_step.new.input) _ _ c.in-Ends.is
-    c.in_ok-value-in-Some.ensures.ran) (search rules depth 1)
+    c.in_ok-value-in-Some.ensures.ran) (opens_none _ (search rules depth 1))
 
 pub returns-in-None-pop-clause-ends : goal.returns-in-None-pop-clause-ends
 returns-in-None-pop-clause-ends g c =
@@ -348,19 +359,19 @@ returns-in-EndsAll-clause-ran g c =
     (assert_kind g.E.HasKind.form)) in
     let start : g.P.Parser.State × g.Q.Parser.State =
     (g.P.Parser.state c.args.first.now, g.Q.Parser.state c.args.next.now) in
-    all_ends_whole whole c.args.level _ start (g.I.Stream.view c.args.input.now) c.places.calls
-    c.turn_step.new.calls c.in-Some.value c.in-EndsAll.value _
+    all_ends_whole whole c.args.level _ start (g.I.Stream.view c.args.input.now)
+    (calls_of c.places.calls) (calls_of c.turn_step.new.calls) c.in-Some.value c.in-EndsAll.value _
     (g.P.Parser.state c.places.first, g.Q.Parser.state c.places.next)
     (g.Q.Parser.state c.turn_step.new.next) (g.I.Stream.view c.places.input)
     (g.I.Stream.view c.turn_step.new.input) (g.I.Stream.view c.end_all.new.input)
     (search rules depth 1)
-    (stands_at whole _ start (g.I.Stream.view c.args.input.now) c.places.calls
+    (stands_at whole _ start (g.I.Stream.view c.args.input.now) (calls_of c.places.calls)
     c.places.left c.in-Some.value
     (g.P.Parser.state c.places.first, g.Q.Parser.state c.places.next)
     (g.I.Stream.view c.places.input) c.places.invariant.0 c.in-Some.is)
     (step_at g.I.Stream.reading.units (g.Q.Parser.meaning g.E.HasKind.form)
-    (g.G.FoldUnary.folds g.E.HasKind.form) (assert_kind g.E.HasKind.form) c.places.calls
-    c.turn_step.new.calls c.in-Some.value (g.Q.Parser.state c.places.next)
+    (g.G.FoldUnary.folds g.E.HasKind.form) (assert_kind g.E.HasKind.form) (calls_of c.places.calls)
+    (calls_of c.turn_step.new.calls) c.in-Some.value (g.Q.Parser.state c.places.next)
     (g.Q.Parser.state c.turn_step.new.next) (g.I.Stream.view c.places.input)
     (g.I.Stream.view c.turn_step.new.input) _ _ c.in-EndsAll.is
     c.in_ok-value-in-Some.ensures.ran) c.end_all.ensures.ran
@@ -378,8 +389,9 @@ places-init g c =
     let start : g.P.Parser.State × g.Q.Parser.State =
     (g.P.Parser.state c.args.first.now, g.Q.Parser.state c.args.next.now) in (
       stands_start whole _ _ _ start (g.I.Stream.view c.args.input.now)
-          (record { present = c.new.result; «open» = c.new-2.result }) (search rules depth 1)
-          c.eof_offset-units.ensures c.new.ensures c.new-2.ensures.items,
+          (record { present = call_of c.new.result; opened = opens_of c.new-2.result.items })
+          (search rules depth 1)
+          c.eof_offset-units.ensures c.new.ensures (opens_none _ c.new-2.ensures.items),
       is_end_of_refl g.I.Stream.reading (g.I.Stream.view c.args.input.now),
       c.requires.first,
       c.requires.next,

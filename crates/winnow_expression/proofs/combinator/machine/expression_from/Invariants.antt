@@ -3,7 +3,7 @@ use Rattle.winnow_expression.specs.Grammar.{folding, grammar}
 use Rattle.streams.specs.Input.{IsEndOf}
 use Rattle.stream_errors.specs.Form.{assert_kind}
 use Rattle.winnow_expression.specs.Units.{units_left}
-use Rattle.winnow_expression.specs.Calls.{call_at}
+use Rattle.winnow_expression.specs.Calls.{call_at, call_of, calls_of, opens_of}
 use Rattle.winnow_expression.specs.Loop.{Stands, rank}
 use Rattle.winnow_expression.proofs.combinator.machine.expression_from.Given as goal
 
@@ -16,11 +16,12 @@ invariant-places g l =
     (assert_kind g.E.HasKind.form)))
     (call_at l.fn.level (units_left g.I.Stream.reading.units (g.I.Stream.view l.fn.input)))
     (g.P.Parser.state l.fn.first, g.Q.Parser.state l.fn.next) (g.I.Stream.view l.fn.input)
-    l.calls l.left (g.P.Parser.state l.first, g.Q.Parser.state l.next) (g.I.Stream.view l.input)
+    (calls_of l.calls) l.left (g.P.Parser.state l.first, g.Q.Parser.state l.next)
+    (g.I.Stream.view l.input)
     × IsEndOf g.I.Stream.reading (g.I.Stream.view l.input) (g.I.Stream.view l.fn.input)
     × g.P.Parser.can_parse l.first × g.Q.Parser.can_parse l.next
 
 abbrev pub decreases-places : goal.decreases-places
 decreases-places g l =
-    rank (units_left g.I.Stream.reading.units (g.I.Stream.view l.input)) l.calls.present
-    (reverse l.calls.open.items) l.left
+    rank (units_left g.I.Stream.reading.units (g.I.Stream.view l.input)) (call_of l.calls.present)
+    (reverse (opens_of l.calls.open.items)) l.left
