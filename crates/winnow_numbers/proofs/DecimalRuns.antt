@@ -5,7 +5,7 @@ use Rattle.std.proofs.Common.{length-append}
 use Rattle.std.proofs.lemmas.Str.{IsUtf8-from_ascii}
 use Rattle.std.proofs.lemmas.Str.Ascii.{IsAscii-cons, IsAscii-nil}
 use Rattle.std.specs.List.{AllByRecursion}
-use Rattle.std.specs.Prelude.{ℤ}
+use Rattle.std.specs.Prelude.{ℤ, pos, neg_ℤ, if◌then◌else◌, ◌==◌, IfSome, Option}
 use Rattle.std.specs.Str.{IsAscii, IsUtf8}
 use Rattle.streams.specs.Input.{Input}
 use Rattle.streams.specs.Kind.{Kind, backtrack}
@@ -15,9 +15,10 @@ use Rattle.stream_sets.specs.AsChar.{IsDecDigit}
 use Rattle.winnow_numbers.specs.DecInt.{DecIntRuns}
 use Rattle.winnow_numbers.specs.DecUint.{DecUintRuns}
 use Rattle.winnow_numbers.specs.DecimalText.{IsSignedText, IsUnsignedText, ReadsSigned}
-use Rattle.winnow_numbers.specs.DecimalText.{ReadsUnsigned}
+use Rattle.winnow_numbers.specs.DecimalText.{ReadsUnsigned, signed_value}
 use Rattle.winnow_numbers.specs.Digits.{AreCharacters, value_in}
-use Rattle.winnow_numbers.specs.Numeral.{DigitsRuns, IsSign, NumeralRuns, SignRuns}
+use Rattle.winnow_numbers.specs.Numeral.{DigitsRuns, IsSign, NumeralRuns, SignRuns, SignedBy}
+use Rattle.winnow_numbers.specs.Numeral.{sign_of}
 use Rattle.winnow_numbers.specs.Numeral.Known.{digits_are, unsigned}
 use Rattle.winnow_numbers.proofs.NumeralLemmas.{TakesNumeral}
 
@@ -181,7 +182,53 @@ module _ {K T S : Type 0} (seen : K → T) (code : K → ℕ) (reading : Reading
       let unsigned = inr (λ e. absurd cc, refl, refl) in
       inl (digits, n, (i, unsigned, run), subst (λ v. v < bound) same fits, is ∙ same, refl)
 
+  -- a numeral was passed behind its sign
+  pub signed_run : (i a j : Input T) (sign : Option ℕ) (m : ℕ) (z : ℤ)
+      → SignRuns seen code reading true i (sign_of sign) a
+      → ((digits : List ℕ) × DigitsRuns seen code reading true a digits j
+      × (m ≡ value_in 10 digits)) → SignedBy sign m z
+      → (signs : List ℕ) × (digits : List ℕ) × NumeralRuns seen code reading true i signs digits j
+      × (z ≡ signed_value signs digits)
+  signed_run i a j None m z first (digits, run, same) is =
+      ([], digits, (a, first, run), is ∙ ap (λ v. pos v) same)
+  signed_run i a j (Some c) m z first (digits, inl (x, may, zero, passes, e), same) is =
+      let nothing : m ≡ 0 = same ∙ ap (λ l. value_in 10 l) e in
+      absurd (omega (arith, is.0, nothing))
+  signed_run i a j (Some c) m z first (digits, inr run, same) is = (
+    c ∷ [],
+    digits,
+    (a, first, inr run),
+    is.1 ∙ ap (λ v. if c == 45 then neg_ℤ (pos v) else pos v) same,
+  )
+
+  -- ... as an answer, if there is one
+  pub signed_some : (i a j : Input T) (sign : Option ℕ) (m : ℕ) (answer : Option ℤ)
+      → SignRuns seen code reading true i (sign_of sign) a
+      → ((digits : List ℕ) × DigitsRuns seen code reading true a digits j
+      × (m ≡ value_in 10 digits)) → IfSome answer (λ z. SignedBy sign m z)
+      → IfSome answer (λ z. (signs : List ℕ) × (digits : List ℕ)
+      × NumeralRuns seen code reading true i signs digits j × (z ≡ signed_value signs digits))
+  signed_some i a j sign m None first run is = tt
+  signed_some i a j sign m (Some z) first run is = signed_run i a j sign m z first run is
+
+  -- a numeral was passed whose number is z, and fits
+  pub int_passed : {N : Type 0} (number : N → ℤ) (fits : ℤ → Type 0) (form : ErrorForm)
+      (i j : Input T) (z given : ℤ) (n : N)
+      → ((sign : List ℕ) × (digits : List ℕ) × NumeralRuns seen code reading true i sign digits j
+      × (z ≡ signed_value sign digits)) → given ≡ z → fits given × (number n ≡ given)
+      → DecIntRuns number fits seen code reading form i (Ok n) j
+  int_passed number fits form i j z given n (sign, digits, run, same) at (fit, is) =
+      inl (sign, digits, n, run, subst fits (at ∙ same) fit, is ∙ at ∙ same, refl)
+
   -- a run from the same place
+  pub int_again : {N : Type 0} (number : N → ℤ) (fits : ℤ → Type 0) (form : ErrorForm)
+      (i a j : Input T) (answer : Answer N) → a ≡ i
+      → DecIntRuns number fits seen code reading form a answer j
+      → DecIntRuns number fits seen code reading form i answer j
+  int_again number fits form i a j answer same run =
+      let P : Input T → Type 0 = λ x. DecIntRuns number fits seen code reading form x answer j in
+      subst P same run
+
   pub uint_again : {N : Type 0} (number : N → ℕ) (bound : ℕ) (form : ErrorForm)
       (i a j : Input T) (answer : Answer N) → a ≡ i
       → DecUintRuns number bound seen code reading form a answer j

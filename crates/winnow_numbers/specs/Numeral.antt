@@ -1,5 +1,6 @@
 -- Decimal numerals at the beginning of an input.
-use Rattle.std.specs.Prelude.{◌≡◌, ◌≤◌, ⊤, ℕ, Bool, true, false, List, [], ◌∷◌, Some, ◌⊎◌}
+use Rattle.std.specs.Prelude.{◌≡◌, ◌<◌, ◌≤◌, ◌==◌, ⊤, ℕ, ℤ, pos, neg_ℤ, Bool, true, false, List}
+use Rattle.std.specs.Prelude.{[], ◌∷◌, Option, Some, None, if◌then◌else◌, ◌⊎◌}
 use Rattle.std.specs.List.{All, AllByRecursion}
 use Rattle.streams.specs.Input.{Input, Passes}
 use Rattle.streams.specs.Kind.{Kind, backtrack}
@@ -67,6 +68,16 @@ NoDigits {K} {T} seen code zero i =
 abbrev pub is_none : List ℕ → Bool
 is_none [] = true
 is_none (c ∷ cs) = false
+
+-- the sign that was passed, if one was
+abbrev pub sign_of : Option ℕ → List ℕ
+sign_of None = []
+sign_of (Some c) = c ∷ []
+
+-- A number behind a sign, negative behind '-', or behind none; behind a sign it is not 0.
+abbrev pub SignedBy : Option ℕ → ℕ → ℤ → Type 0
+SignedBy None n z = z ≡ pos n
+SignedBy (Some c) n z = (0 < n) × (z ≡ (if c == 45 then neg_ℤ (pos n) else pos n))
 
 -- A numeral is passed: a sign, where one may stand, and digits. A '0' has no sign.
 abbrev pub NumeralRuns : {K T S : Type 0} → (K → T) → (K → ℕ) → Reading T S → Bool → Input T

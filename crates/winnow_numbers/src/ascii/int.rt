@@ -1,13 +1,15 @@
 //! Decimal signed numbers.
-ghost use Rattle.std.specs.Prelude.{ℤ, FitsSigned};
+ghost use Rattle.std.specs.Prelude.{◌≡◌, ℕ, ℤ, FitsSigned, IfSome, List, MatchOption, true};
 ghost use Rattle.std.specs.Int.{w8, w16, w32, w64, w128};
 ghost use Rattle.std.specs.Str.{IsUtf8};
 ghost use Rattle.stream_errors.specs.Form.{answer_by};
 ghost use Rattle.streams.specs.Input.{IsEndOf};
 ghost use Rattle.winnow_numbers.specs.DecInt.{DecIntRuns};
-ghost use Rattle.winnow_numbers.specs.DecimalText.{ReadsSigned};
+ghost use Rattle.winnow_numbers.specs.DecimalText.{ReadsSigned, signed_value};
+ghost use Rattle.winnow_numbers.specs.Numeral.{NumeralRuns, SignedBy};
 
-use crate::ascii::numeral::take_numeral;
+use crate::ascii::digits::small_numeral;
+use crate::ascii::numeral::{first_sign, take_numeral};
 use std::str;
 use stream_errors::parser_error::ParserError;
 use stream_sets::as_bstr::{AsBStr, SlicesAsBytes};
@@ -31,6 +33,11 @@ pub trait Int: Sized {
     /// where the text is something else, or the number does not fit.
     fn try_from_dec_int(slice: &str) -> Option<Self>
         ensures { ReadsSigned number fits slice.now result };
+
+    /// The value of a number, `None` exactly where it does not fit.
+    fn try_from_number(value: i64) -> Option<Self>
+        ensures { MatchOption result (fits value → ⊥)
+            (λ n. fits value × (number n ≡ value)) };
 }
 
 impl Int for i8 {
@@ -41,6 +48,15 @@ impl Int for i8 {
     #[inline(always)]
     fn try_from_dec_int(slice: &str) -> Option<i8> {
         slice.parse().ok()
+    }
+
+    #[inline(always)]
+    fn try_from_number(value: i64) -> Option<i8> {
+        if value >= i8::MIN as i64 && value <= i8::MAX as i64 {
+            Some(value as i8)
+        } else {
+            None
+        }
     }
 }
 
@@ -53,6 +69,15 @@ impl Int for i16 {
     fn try_from_dec_int(slice: &str) -> Option<i16> {
         slice.parse().ok()
     }
+
+    #[inline(always)]
+    fn try_from_number(value: i64) -> Option<i16> {
+        if value >= i16::MIN as i64 && value <= i16::MAX as i64 {
+            Some(value as i16)
+        } else {
+            None
+        }
+    }
 }
 
 impl Int for i32 {
@@ -63,6 +88,15 @@ impl Int for i32 {
     #[inline(always)]
     fn try_from_dec_int(slice: &str) -> Option<i32> {
         slice.parse().ok()
+    }
+
+    #[inline(always)]
+    fn try_from_number(value: i64) -> Option<i32> {
+        if value >= i32::MIN as i64 && value <= i32::MAX as i64 {
+            Some(value as i32)
+        } else {
+            None
+        }
     }
 }
 
@@ -75,6 +109,11 @@ impl Int for i64 {
     fn try_from_dec_int(slice: &str) -> Option<i64> {
         slice.parse().ok()
     }
+
+    #[inline(always)]
+    fn try_from_number(value: i64) -> Option<i64> {
+        Some(value)
+    }
 }
 
 impl Int for i128 {
@@ -86,6 +125,11 @@ impl Int for i128 {
     fn try_from_dec_int(slice: &str) -> Option<i128> {
         slice.parse().ok()
     }
+
+    #[inline(always)]
+    fn try_from_number(value: i64) -> Option<i128> {
+        Some(value as i128)
+    }
 }
 
 impl Int for isize {
@@ -96,6 +140,11 @@ impl Int for isize {
     #[inline(always)]
     fn try_from_dec_int(slice: &str) -> Option<isize> {
         slice.parse().ok()
+    }
+
+    #[inline(always)]
+    fn try_from_number(value: i64) -> Option<isize> {
+        Some(value as isize)
     }
 }
 
@@ -136,12 +185,72 @@ where
     ensures ends { IsEndOf Input.reading (Input.view input.new) (Input.view input.old) }
 {
     let start = input.checkpoint();
-    match take_numeral::<Input, Error>(input, true) {
-        Ok(slice) => match int_of::<Input::Slice, Output>(&slice) {
+    if let Some(number) = small_int(input) {
+        if let Some(number) = Output::try_from_number(number) {
+            return Ok(number);
+        }
+    }
+    input.reset(&start);
+    any_int(input)
+}
+
+/// Passes the numeral that stands first, with its sign, and answers its number. It may answer none,
+/// and stand anywhere, where there is none, where it has many digits, or where a cut input ends in
+/// it.
+#[inline(always)]
+fn small_int<I: StreamIsPartial + SlicesAsBytes>(input: &mut I) -> Option<i64>
+where
+    I::Token: AsChar,
+    I::Slice: AsBStr,
+    ensures ran { IfSome result (λ number. (sign : List ℕ) × (digits : List ℕ)
+        × NumeralRuns I.seen_as I.Token.code I.reading true (I.view input.old) sign digits
+        (I.view input.new) × (number ≡ signed_value sign digits)) }
+    ensures status { (I.view input.new).status ≡ (I.view input.old).status }
+    ensures ends { IsEndOf I.reading (I.view input.new) (I.view input.old) }
+{
+    let sign = first_sign(input);
+    let number = small_numeral(input)?;
+    with_sign(sign, number)
+}
+
+/// The number behind a sign, or behind none. It answers none where that is above `i64::MAX`, or is
+/// 0 behind a sign.
+#[inline(always)]
+fn with_sign(sign: Option<char>, number: u64) -> Option<i64>
+    ensures { IfSome result (λ z. SignedBy sign number z) }
+{
+    if number > i64::MAX as u64 {
+        return None;
+    }
+    let number = number as i64;
+    match sign {
+        None => Some(number),
+        Some(_) if number == 0 => None,
+        Some('-') => Some(-number),
+        Some(_) => Some(number),
+    }
+}
+
+/// A decimal signed number, by the slice of its numeral.
+#[inline(never)]
+fn any_int<I, N, E>(input: &mut I) -> Result<N, E>
+where
+    I: StreamIsPartial + SlicesAsBytes,
+    I::Token: AsChar,
+    I::Slice: AsBStr,
+    N: Int,
+    E: ParserError<I>,
+    ensures ran { DecIntRuns N.number N.fits I.seen_as I.Token.code I.reading
+        E.form (I.view input.old) (answer_by E.kind result) (I.view input.new) }
+    ensures ends { IsEndOf I.reading (I.view input.new) (I.view input.old) }
+{
+    let start = input.checkpoint();
+    match take_numeral::<I, E>(input, true) {
+        Ok(slice) => match int_of::<I::Slice, N>(&slice) {
             Some(number) => Ok(number),
             None => {
                 input.reset(&start);
-                Err(Error::from_input(input))
+                Err(E::from_input(input))
             }
         },
         Err(error) => Err(error),

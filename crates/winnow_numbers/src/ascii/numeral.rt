@@ -5,7 +5,7 @@ ghost use Rattle.streams.specs.Kind.{backtrack};
 ghost use Rattle.stream_errors.specs.Form.{incomplete_kind};
 ghost use Rattle.winnow_numbers.specs.Digits.{AreCharacters};
 ghost use Rattle.winnow_numbers.specs.Numeral.{DigitsRuns, LacksDigits, NoDigits, NoNumeral};
-ghost use Rattle.winnow_numbers.specs.Numeral.{NumeralRuns, SignRuns, is_none};
+ghost use Rattle.winnow_numbers.specs.Numeral.{NumeralRuns, SignRuns, is_none, sign_of};
 
 use stream_errors::parser_error::ParserError;
 use stream_sets::as_char::AsChar;
@@ -62,16 +62,32 @@ where
     if !signed {
         return true;
     }
+    match first_sign(input) {
+        None => true,
+        Some(_) => false,
+    }
+}
+
+/// Passes the sign that stands first, and answers it.
+#[inline(always)]
+pub(crate) fn first_sign<I: Stream>(input: &mut I) -> Option<char>
+where
+    I::Token: AsChar,
+    ensures ran { SignRuns I.seen_as I.Token.code I.reading true (I.view input.old)
+        (sign_of result) (I.view input.new) }
+    ensures status { (I.view input.new).status ≡ (I.view input.old).status }
+    ensures ends { IsEndOf I.reading (I.view input.new) (I.view input.old) }
+{
     let start = input.checkpoint();
     match input.next_token() {
-        None => true,
+        None => None,
         Some(token) => {
             let character = token.as_char();
             if character == '+' || character == '-' {
-                return false;
+                return Some(character);
             }
             input.reset(&start);
-            true
+            None
         }
     }
 }

@@ -1,42 +1,26 @@
-use Rattle.std.proofs.Common.{inl, inr, refl, ap, ◌∙◌}
-use Rattle.streams.specs.Input.{back_at}
-use Rattle.winnow_numbers.proofs.NumeralLemmas.{back_same, is_sign, no_sign}
+use Rattle.std.proofs.Common.{ap, subst, sym}
+use Rattle.std.specs.Prelude.{Bool}
+use Rattle.winnow_numbers.specs.Numeral.{SignRuns, is_none, sign_of}
 use Rattle.winnow_numbers.proofs.ascii.numeral.pass_sign.Goals as goal
 
-pub returns-then-character-eq43-clause-ran : goal.returns-then-character-eq43-clause-ran
-returns-then-character-eq43-clause-ran g c = (
-  _,
-  inl (
-    c.in-Some.token,
-    c.if-not-signed.false,
-    is_sign _ _ c.as_char-character.ensures c.then-character-eq43.either,
-    c.in-Some.ensures.passes,
-    refl,
-  ),
-  refl,
-)
+pub returns-in-None-clause-ran : goal.returns-in-None-clause-ran
+returns-in-None-clause-ran g c =
+    let P : Bool → Type 0 =
+    λ signed. SignRuns g.I.Stream.seen_as g.I.Token.AsChar.code g.I.Stream.reading signed
+    (g.I.Stream.view c.args.input.now) (sign_of c.first_sign.result)
+    (g.I.Stream.view c.first_sign.new.input) in (
+      sign_of c.first_sign.result,
+      subst P (sym c.if-not-signed.false) c.first_sign.ensures.ran,
+      sym (ap (λ sign. is_none (sign_of sign)) c.in-None.is),
+    )
 
-pub returns-clause-ran : goal.returns-clause-ran
-returns-clause-ran g c =
-    let passes = c.in-Some.ensures.passes in (
-      _,
-      inr (
-        λ _. inr (
-          _,
-          _,
-          passes.tokens,
-          (
-            c.in-Some.token,
-            refl,
-            no_sign _ _ c.as_char-character.ensures c.if-character-eq43.false
-                c.if-character-eq45.false,
-          ),
-        ),
-        refl,
-        c.reset.ensures ∙ ap (λ x. back_at x (g.I.Stream.view c.next_token.new.self))
-            c.checkpoint-start.ensures
-            ∙ back_same (g.I.Stream.view c.args.input.now) (g.I.Stream.view c.next_token.new.self)
-            passes.status,
-      ),
-      refl,
+pub returns-in-Some-clause-ran : goal.returns-in-Some-clause-ran
+returns-in-Some-clause-ran g c =
+    let P : Bool → Type 0 =
+    λ signed. SignRuns g.I.Stream.seen_as g.I.Token.AsChar.code g.I.Stream.reading signed
+    (g.I.Stream.view c.args.input.now) (sign_of c.first_sign.result)
+    (g.I.Stream.view c.first_sign.new.input) in (
+      sign_of c.first_sign.result,
+      subst P (sym c.if-not-signed.false) c.first_sign.ensures.ran,
+      sym (ap (λ sign. is_none (sign_of sign)) c.in-Some.is),
     )
