@@ -28,6 +28,9 @@ fn numbers_by_their_types(rt: HostRuntime) {
             want,
         );
     }
+    for (number, want) in [(-128, Some(-128)), (127, Some(127)), (-129, None), (128, None)] {
+        assert_eq!(rt; i8::try_from_number(number), want, "try_from_number of {number}");
+    }
     assert_eq!(rt; 0xA_u8.push_nibble(0xB), 0xAB, "push_nibble");
     assert_eq!(rt; 0xFFF_u16.push_nibble(0xF), u16::MAX, "push_nibble");
     assert_eq!(rt; 1_u128.push_nibble(2), 18, "push_nibble");

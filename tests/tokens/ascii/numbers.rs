@@ -181,6 +181,28 @@ where
     ];
     answers_each::<I, i8, E, _>(rt, "dec_int::<i8>", DecInt, &rows);
     answers::<I, i32, E, _>(rt, "dec_int::<i32>", DecInt, "-0", Err(Backtrack), "-0");
+    let among_sixteen_bytes = [
+        ("-128; and so forth", Ok(-128), "; and so forth"),
+        ("+127; and so forth", Ok(127), "; and so forth"),
+        ("0127; and so forth", Ok(0), "127; and so forth"),
+        ("128; and so forth", Err(Backtrack), "128; and so forth"),
+        ("-0; and so forth...", Err(Backtrack), "-0; and so forth..."),
+        ("+0; and so forth...", Err(Backtrack), "+0; and so forth..."),
+        ("-; and so forth...", Err(Backtrack), "-; and so forth..."),
+    ];
+    answers_each::<I, i8, E, _>(rt, "dec_int::<i8>", DecInt, &among_sixteen_bytes);
+    let least = "-9223372036854775808";
+    answers::<I, i64, E, _>(rt, "dec_int::<i64>", DecInt, least, Ok(i64::MIN), "");
+    let below = "-9223372036854775809";
+    answers::<I, i64, E, _>(rt, "dec_int::<i64>", DecInt, below, Err(Backtrack), below);
+    answers::<I, i128, E, _>(
+        rt,
+        "dec_int::<i128>",
+        DecInt,
+        "-18446744073709551616",
+        Ok(-18_446_744_073_709_551_616),
+        "",
+    );
 }
 
 /// How `dec_int` of a signed byte ends.
