@@ -5,3 +5,5 @@
 mod tokens;
 #[cfg(test)]
 mod values;
+#[cfg(test)]
+mod walks;

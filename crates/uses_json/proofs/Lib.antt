@@ -8,4 +8,5 @@ pub mod Standing
 pub mod Taking
 pub mod Texts
 pub mod Values
+pub mod Walks
 pub mod Words

@@ -4,3 +4,4 @@ pub mod Ranges
 pub mod Strings
 pub mod Texts
 pub mod Value
+pub mod Walk

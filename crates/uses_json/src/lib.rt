@@ -6,3 +6,4 @@ mod scalar;
 pub mod string;
 mod tokens;
 pub mod value;
+pub mod walk;
