@@ -1,12 +1,12 @@
 -- What parsers read, in the words of JSON.
-use Rattle.std.specs.Prelude.{◌≡◌, ◌↔◌, ◌≤◌, ◌++◌, ℕ, Bool, true, false, IsTrue, Result}
+use Rattle.std.specs.Prelude.{◌≡◌, ◌↔◌, ◌≤◌, ◌++◌, ℕ, Bool, true, IsTrue, Result}
 use Rattle.std.specs.Prelude.{Ok, Err, Some, None, IfOk, MatchResult, string_bytes}
 use Rattle.std.specs.declared.string.String.{String}
 use Rattle.std.specs.Range.{range_inclusive_end, range_inclusive_start}
 use Rattle.std.specs.Str.{chars, encode_utf8_all}
 use Rattle.std.specs.declared.ops.RangeInclusive.{RangeInclusive}
-use Rattle.std.proofs.Common.{refl, sym, ap, inl, inr, ◌∙◌, arith}
-use Rattle.streams.specs.Equal.{none_is_some, same_some, true_is_false}
+use Rattle.std.proofs.Common.{refl, sym, ap, ◌∙◌, arith}
+use Rattle.streams.specs.Equal.{none_is_some, same_some}
 use Rattle.streams.specs.Input.{Input, IsEndOf}
 use Rattle.streams.specs.Kind.{Kind, memory}
 use Rattle.streams.specs.Reading.{Reading}
@@ -15,7 +15,6 @@ use Rattle.stream_errors.specs.Growth.{grown}
 use Rattle.stream_sets.specs.AsChar.{IsDecDigit}
 use Rattle.stream_sets.specs.Sets.{EitherTells}
 use Rattle.json_texts.specs.Number.{Integer, IsLeading, Slice}
-use Rattle.json_texts.specs.Strings.{Character, Escape, IsUnescaped}
 use Rattle.json_texts.specs.Values.{HasText}
 use Rattle.json_texts.specs.Words.{Char, OneIn, RunOf, Word, pair}
 use Rattle.winnow_exact.specs.Exact.{Reads}
@@ -48,40 +47,9 @@ module _ (set : RangeInclusive ℕ) (low high : ℕ) (start : range_inclusive_st
     λ is. (λ t. omega (arith, is, start, end), λ x. refl),
   )
 
-  range_missed : ((low ≤ c) × (c ≤ high) → ⊥) → RangeTells set c false
-  range_missed not =
-      (λ t. true_is_false (sym t), λ is. absurd (not (omega (arith, is, start, end))))
-
 -- what three of them tell
 abbrev pub RangesTell : RangeInclusive ℕ × RangeInclusive ℕ × RangeInclusive ℕ → ℕ → Bool → Type 0
 RangesTell s = EitherTells (RangeTells s.0) (EitherTells (RangeTells s.1) (RangeTells s.2))
-
--- characters that stand for themselves, by their ranges
-module _ (s : RangeInclusive ℕ × RangeInclusive ℕ × RangeInclusive ℕ)
-    (a : range_inclusive_start s.0 ≡ 32) (b : range_inclusive_end s.0 ≡ 33)
-    (d : range_inclusive_start s.1 ≡ 35) (e : range_inclusive_end s.1 ≡ 91)
-    (f : range_inclusive_start s.2 ≡ 93) (g : range_inclusive_end s.2 ≡ 1114111) (c : ℕ) where
-  plain_there : RangesTell s c true → IsUnescaped c
-  plain_there (inl (it, t)) = inl ((range_told s.0 32 33 a b c).0 it)
-  plain_there (inr (out, inl (it, t))) = inr (inl ((range_told s.1 35 91 d e c).0 it))
-  plain_there (inr (out, inr (miss, it))) = inr (inr ((range_told s.2 93 1114111 f g c).0 it))
-
-  plain_back : IsUnescaped c → RangesTell s c true
-  plain_back (inl is) = inl ((range_told s.0 32 33 a b c).1 is, refl)
-  plain_back (inr (inl is)) = inr (
-    range_missed s.0 32 33 a b c (λ x. absurd (omega (arith, x, is))),
-    inl ((range_told s.1 35 91 d e c).1 is, refl),
-  )
-  plain_back (inr (inr is)) = inr (
-    range_missed s.0 32 33 a b c (λ x. absurd (omega (arith, x, is))),
-    inr (
-      range_missed s.1 35 91 d e c (λ x. absurd (omega (arith, x, is))),
-      (range_told s.2 93 1114111 f g c).1 is,
-    ),
-  )
-
-  pub plain_told : RangesTell s c true ↔ IsUnescaped c
-  plain_told = (plain_there, plain_back)
 
 -- the characters of what stands by grammars that are the same
 taken_same : {O : Type 0} {g h : Grammar ℕ O} → Same g h
@@ -102,15 +70,6 @@ integer_same set start end =
     either_same (same_refl _)
     (taken_same (both_same pair
     (class_same RangeTells set IsLeading (range_told set 49 57 start end)) (same_refl _)))
-
--- a character of a string, by the ranges of those that stand for themselves
-pub character_same : (s : RangeInclusive ℕ × RangeInclusive ℕ × RangeInclusive ℕ)
-    → range_inclusive_start s.0 ≡ 32 → range_inclusive_end s.0 ≡ 33
-    → range_inclusive_start s.1 ≡ 35 → range_inclusive_end s.1 ≡ 91
-    → range_inclusive_start s.2 ≡ 93 → range_inclusive_end s.2 ≡ 1114111
-    → Same (Either (TokenOf (λ c. c) RangesTell s) Escape) Character
-character_same s a b d e f g =
-    either_same (class_same RangesTell s IsUnescaped (plain_told s a b d e f g)) (same_refl _)
 
 -- a text that is read
 abbrev pub Spelling : Slice → Grammar ℕ Slice

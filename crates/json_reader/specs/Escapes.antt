@@ -7,7 +7,7 @@ use Rattle.json_texts.specs.Strings.{ArePair, Character, CodeUnit, Digit, Escape
 use Rattle.json_texts.specs.Strings.{IsNumberOf, IsUnescaped, Quoted, SaysOne, StandsFor, Unicode}
 use Rattle.json_texts.specs.Strings.{one_unit}
 use Rattle.json_texts.specs.Words.{Char, latter, pair}
-use Rattle.winnow_exact.specs.Exact.Tokens.{token_of_takes, token_takes}
+use Rattle.winnow_exact.specs.Exact.Tokens.{token_takes}
 use Rattle.winnow_exact.specs.Grammar.{Both, Gathered, Grammar, InClass, IsUnique, Many, Takes}
 use Rattle.winnow_exact.specs.Grammar.{Token}
 use Rattle.winnow_exact.specs.Grammar.Meaning.{Meaning, meaning_takes, meaning_unique}
@@ -104,16 +104,13 @@ escape_takes =
 
 -- ---- strings
 
-pub character_unique : IsUnique Character
+character_unique : IsUnique Character
 character_unique =
     either_unique (token_of_unique (λ c. c) (InClass IsUnescaped (λ c. c)) tt) escape_unique
 
-pub character_takes : Takes Character
-character_takes =
-    either_takes (token_of_takes (λ c. c) (InClass IsUnescaped (λ c. c)) tt) escape_takes
-
 module _ {A : Type 0} where
-  characters_unique : IsUnique (Gathered (HasCharacters {A = A}) (Many Character (from_to 0 None)))
+  pub characters_unique :
+      IsUnique (Gathered (HasCharacters {A = A}) (Many Character (from_to 0 None)))
   characters_unique =
       gathered_unique HasCharacters (many_unique character_unique (from_to 0 None))
 

@@ -3,4 +3,5 @@ pub mod Alike
 pub mod Escapes
 pub mod First
 pub mod Numbers
+pub mod Runs
 pub mod Unique

@@ -1,48 +1,84 @@
 //! Strings of JSON (RFC 8259, section 7), with their escapes undone.
-ghost use Rattle.json_reader.specs.Escapes.{character_takes, character_unique};
-ghost use Rattle.json_texts.specs.Strings.{Character, Quoted, StringText};
-ghost use Rattle.std.specs.Prelude.{◌≡◌, ⊤};
+ghost use Rattle.json_reader.specs.Escapes.{characters_unique};
+ghost use Rattle.json_reader.specs.Runs.{Characters, PlainRun};
+ghost use Rattle.json_texts.specs.Strings.{Quoted, StringText};
+ghost use Rattle.std.specs.Prelude.{◌≡◌};
 ghost use Rattle.streams.specs.Text.{text_input, text_reading};
 ghost use Rattle.winnow_exact.specs.Exact.{Reads};
 ghost use Rattle.winnow_exact.specs.Held.{HasCharacters};
 ghost use Rattle.winnow_exact.specs.Texts.{Anything};
 ghost use Rattle.winnow_exact.specs.Texts.Told.{ReadsText};
 
-use crate::escapes::{AnyEscape, read_escape};
-use crate::parts::{read_between, read_either};
+use crate::escapes::read_escape;
+use crate::parts::read_between;
 use std::alloc::Allocator;
 use stream_errors::empty::EmptyError;
 use stream_errors::mode::ErrMode;
+use stream_errors::parser_error::ParserError;
 use stream_sets::range::Range;
 use streams::has_kind::HasKind;
 use winnow_exact::exact::Exact;
 use winnow_exact::rule::Rule;
-use winnow_repeat::combinator::repeat;
-use winnow_token::token::one_of;
+use winnow_token::token::take_while;
 
-/// The name of a character of a string.
+/// Characters that stand for themselves, as many as stand.
+fn read_plain<'i>(input: &mut &'i str) -> Result<&'i str, ErrMode<EmptyError>>
+    ensures { Reads text_reading ⟦<ErrMode<EmptyError> as HasKind>⟧.kind PlainRun
+        (text_input input.old.now) result (text_input input.new.now) }
+{
+    let plain = (' '..='!', '#'..='[', ']'..='\u{10FFFF}');
+    take_while(Range::from(0..), plain).read(input)
+}
+
+/// The name of what [`read_characters`] reads.
 #[derive(Clone, Copy, Drop)]
-struct AnyCharacter;
+struct AnyCharacters<A>(A);
 
-impl<'i> Rule<&'i str, char> for AnyCharacter {
-    ghost grammar = { λ _. Character };
+impl<'i, A: Allocator> Rule<&'i str, String<A>> for AnyCharacters<A> {
+    ghost grammar = { λ _. Characters };
 
-    ghost consumes = { λ _. ⊤ };
+    ghost consumes = { λ _. ⊥ };
 
     fn name() {}
 
-    ghost unique = { λ _. character_unique };
+    ghost unique = { λ _. characters_unique };
 
-    ghost takes = { λ _ _. character_takes };
+    ghost takes = { λ _ never. absurd never };
 }
 
-/// A character that stands for itself, or one that is escaped.
-fn read_character<'i>(input: &mut &'i str) -> Result<char, ErrMode<EmptyError>>
-    ensures { Reads text_reading ⟦<ErrMode<EmptyError> as HasKind>⟧.kind Character
+/// The characters of a string, their escapes undone: runs of those that stand for themselves, with
+/// an escape between two.
+fn read_characters<'i, A: Allocator + Copy>(
+    alloc: A,
+    input: &mut &'i str,
+) -> Result<String<A>, ErrMode<EmptyError>>
+    ensures { Reads text_reading ⟦<ErrMode<EmptyError> as HasKind>⟧.kind Characters
         (text_input input.old.now) result (text_input input.new.now) }
 {
-    let plain = one_of((' '..='!', '#'..='[', ']'..='\u{10FFFF}'));
-    read_either(plain, AnyEscape.by(read_escape), input)
+    let mut text = String::new(alloc);
+    'runs: loop {
+        match read_plain(input) {
+            Ok(plain) => match text.push_str(plain) {
+                Ok(()) => (),
+                Err(_) => return Err(ParserError::<&'i str>::no_memory(input)),
+            },
+            Err(error) => return Err(error),
+        }
+        let here = *input;
+        match read_escape(input) {
+            Ok(c) => match text.push(c) {
+                Ok(()) => (),
+                Err(_) => return Err(ParserError::<&'i str>::no_memory(input)),
+            },
+            Err(error) => {
+                if ParserError::<&'i str>::is_memory(&error) {
+                    return Err(error);
+                }
+                *input = here;
+                return Ok(text);
+            }
+        }
+    }
 }
 
 /// The string that stands first, its escapes undone.
@@ -68,6 +104,6 @@ pub fn read_string<'i, A: Allocator + Copy>(
         (StringText HasCharacters) Anything (text_input input.old.now) result
         (text_input input.new.now) }
 {
-    let characters = repeat(alloc, Range::from(0..), AnyCharacter.by(read_character));
+    let characters = AnyCharacters(alloc).by(|input: &mut &str| read_characters(alloc, input));
     read_between('"', characters, '"', input)
 }

@@ -1,3 +1,4 @@
+use Rattle.std.proofs.Common.{refl}
 use Rattle.json_texts.specs.Strings.{string_of}
 use Rattle.winnow_exact.specs.Exact.Read.{reads_by}
 use Rattle.winnow_exact.specs.Held.{HasCharacters}
@@ -5,10 +6,7 @@ use Rattle.winnow_exact.specs.Texts.Told.{text_told}
 use Rattle.json_reader.proofs.string.read_string.Goals as goal
 
 pub returns-clause-grammar : goal.returns-clause-grammar
-returns-clause-grammar g c = reads_by c.read_between.ensures (rw (
-  c.repeat-characters.ensures.occurrences,
-  c.from.ensures,
-))
+returns-clause-grammar g c = reads_by c.read_between.ensures refl
 
 pub returns-clause-text : goal.returns-clause-text
 returns-clause-text g c = text_told (string_of HasCharacters) (returns-clause-grammar g c)
