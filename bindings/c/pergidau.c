@@ -43,6 +43,14 @@ uint32_t exported_ini_pair(
     const uint8_t *bytes,
     size_t bytes_length,
     struct pergidau_pair *out);
+uint32_t exported_ini_document(
+    const uint8_t *bytes,
+    size_t bytes_length,
+    uint8_t *text,
+    size_t text_length,
+    struct pergidau_entry *entries,
+    size_t entries_length,
+    struct pergidau_document *out);
 uint32_t exported_json_check(
     const uint8_t *text,
     size_t text_length,
@@ -52,6 +60,11 @@ uint32_t exported_json_value(
     size_t bytes_length,
     size_t levels,
     size_t *out);
+uint32_t exported_json_next(
+    const uint8_t *bytes,
+    size_t bytes_length,
+    size_t levels,
+    struct pergidau_json_item *out);
 uint32_t exported_resp_reply(
     const uint8_t *bytes,
     size_t bytes_length,
@@ -268,6 +281,51 @@ enum pergidau_code pergidau_ini_pair(
     return (enum pergidau_code)exported_ini_pair(bytes, bytes_length, out);
 }
 
+enum pergidau_code pergidau_ini_document(
+    const uint8_t *bytes,
+    size_t bytes_length,
+    uint8_t *text,
+    size_t text_length,
+    struct pergidau_entry *entries,
+    size_t entries_length,
+    struct pergidau_document *out)
+{
+    const uint8_t no_bytes = {0};
+    uint8_t no_text = {0};
+    struct pergidau_entry no_entries = {0};
+    if (bytes_length > PTRDIFF_MAX / sizeof(uint8_t)) {
+        return PERGIDAU_TOO_LONG;
+    }
+    if (bytes == NULL && bytes_length > 0) {
+        return PERGIDAU_NULL;
+    }
+    if (text_length > PTRDIFF_MAX / sizeof(uint8_t)) {
+        return PERGIDAU_TOO_LONG;
+    }
+    if (text == NULL && text_length > 0) {
+        return PERGIDAU_NULL;
+    }
+    if (entries_length > PTRDIFF_MAX / sizeof(struct pergidau_entry)) {
+        return PERGIDAU_TOO_LONG;
+    }
+    if (entries == NULL && entries_length > 0) {
+        return PERGIDAU_NULL;
+    }
+    if (out == NULL) {
+        return PERGIDAU_NULL;
+    }
+    if (bytes == NULL) {
+        bytes = &no_bytes;
+    }
+    if (text == NULL) {
+        text = &no_text;
+    }
+    if (entries == NULL) {
+        entries = &no_entries;
+    }
+    return (enum pergidau_code)exported_ini_document(bytes, bytes_length, text, text_length, entries, entries_length, out);
+}
+
 enum pergidau_code pergidau_json_check(
     const uint8_t *text,
     size_t text_length,
@@ -306,6 +364,28 @@ enum pergidau_code pergidau_json_value(
         bytes = &no_bytes;
     }
     return (enum pergidau_code)exported_json_value(bytes, bytes_length, levels, out);
+}
+
+enum pergidau_code pergidau_json_next(
+    const uint8_t *bytes,
+    size_t bytes_length,
+    size_t levels,
+    struct pergidau_json_item *out)
+{
+    const uint8_t no_bytes = {0};
+    if (bytes_length > PTRDIFF_MAX / sizeof(uint8_t)) {
+        return PERGIDAU_TOO_LONG;
+    }
+    if (bytes == NULL && bytes_length > 0) {
+        return PERGIDAU_NULL;
+    }
+    if (out == NULL) {
+        return PERGIDAU_NULL;
+    }
+    if (bytes == NULL) {
+        bytes = &no_bytes;
+    }
+    return (enum pergidau_code)exported_json_next(bytes, bytes_length, levels, out);
 }
 
 enum pergidau_code pergidau_resp_reply(

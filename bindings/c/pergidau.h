@@ -44,6 +44,8 @@ enum pergidau_code {
     PERGIDAU_NULL = 7,
     /* A length is more than PTRDIFF_MAX bytes. */
     PERGIDAU_TOO_LONG = 8,
+    /* Nothing more stands there: white space at most, and a closing bracket or the end. */
+    PERGIDAU_END = 9,
 };
 
 /*
@@ -51,6 +53,27 @@ enum pergidau_code {
  * the stack.
  */
 #define PERGIDAU_MOST_LEVELS 512
+
+/* The word null. */
+#define PERGIDAU_JSON_NULL 0
+
+/* The word false. */
+#define PERGIDAU_JSON_FALSE 1
+
+/* The word true. */
+#define PERGIDAU_JSON_TRUE 2
+
+/* A number. */
+#define PERGIDAU_JSON_NUMBER 3
+
+/* A string: its place has the quotes round it, and escapes as they are written. */
+#define PERGIDAU_JSON_STRING 4
+
+/* An array: its place has the brackets round it. */
+#define PERGIDAU_JSON_ARRAY 5
+
+/* An object: its place has the brackets round it. */
+#define PERGIDAU_JSON_OBJECT 6
 
 /* A simple string: bytes among which is neither a carriage return nor a line feed. */
 #define PERGIDAU_RESP_SIMPLE 0
@@ -131,6 +154,38 @@ struct pergidau_pair {
     struct pergidau_span value;
     /* Where the line is refused: how many bytes stand before the place. Else 0. */
     size_t place;
+};
+
+/* An entry of a document: a pair, or the head of a section. */
+struct pergidau_entry {
+    /*
+     * The key of a pair. The head of a section has none, and by that it is known: a key has
+     * bytes.
+     */
+    struct pergidau_span key;
+    /* The value of a pair, or the name of a section. It may have no bytes. */
+    struct pergidau_span value;
+};
+
+/* What a document has. */
+struct pergidau_document {
+    /* How many entries there are. */
+    size_t entries;
+    /* How many bytes the keys, the values and the names have together. */
+    size_t text;
+    /* Where the document is refused: how many bytes stand before the place. Else 0. */
+    size_t place;
+};
+
+/* A value, or a name in an object. */
+struct pergidau_json_item {
+    /*
+     * What it is: a number of those from PERGIDAU_JSON_NULL to PERGIDAU_JSON_OBJECT. A name is
+     * a string.
+     */
+    size_t kind;
+    /* Its bytes. */
+    struct pergidau_span place;
 };
 
 /* A reply. */
@@ -285,6 +340,33 @@ enum pergidau_code pergidau_ini_pair(
     struct pergidau_pair *out);
 
 /*
+ * A document of sections: each a name in brackets, and pairs, a key of ASCII letters or
+ * digits, = with spaces and tabs round it, and a value that ends before ; and the end of its
+ * line, without the white space behind it. White space, and comments from ; to the end of a
+ * line, stand before, between and behind them. Names and values are UTF-8, and no pair stands
+ * before the first section.
+ *
+ * PERGIDAU_DONE: the bytes of its entries are written into text, those of the key before those
+ * of the value and one entry behind the other, and so many places there, in order: of each
+ * section its head, and then its pairs. PERGIDAU_REFUSED: the bytes are no document; written
+ * is the length of their longest beginning that is made of such parts. PERGIDAU_TOO_SMALL:
+ * they are one that wants more entries or more bytes than the buffers have; how many of both
+ * is written, and the buffers are left as they were. PERGIDAU_NO_MEMORY.
+ *
+ * The caller owes bytes_length bytes at bytes that can be read and that nothing changes while
+ * the call runs, text_length bytes at text and entries_length entries at entries that can be
+ * written, and room for one document at out, each apart from the others.
+ */
+enum pergidau_code pergidau_ini_document(
+    const uint8_t *bytes,
+    size_t bytes_length,
+    uint8_t *text,
+    size_t text_length,
+    struct pergidau_entry *entries,
+    size_t entries_length,
+    struct pergidau_document *out);
+
+/*
  * Whether a text is one of JSON (RFC 8259): a value with white space round it, in which no
  * more than levels arrays and objects stand in one another.
  *
@@ -316,6 +398,31 @@ enum pergidau_code pergidau_json_value(
     size_t bytes_length,
     size_t levels,
     size_t *out);
+
+/*
+ * The next value of JSON (RFC 8259), for a walk through a text that was checked: the longest
+ * value that stands behind white space, a comma or a colon at most, and white space, in which
+ * no more than levels arrays and objects stand in one another.
+ *
+ * From the start of the text it reads the text's value. What an array has in it is read from
+ * behind its first byte on: a value at each call, of the bytes behind the place of the last
+ * one. What an object has in it are names and values in turn. Their levels are one less than
+ * those of the value that they stand in. So a walk through all levels reads each byte once for
+ * each level that it stands in. Of bytes that were not checked as a text, more than JSON
+ * allows is passed, as a comma before the first value.
+ *
+ * PERGIDAU_DONE: what it is and its place are written. PERGIDAU_END: behind white space stands
+ * a closing bracket, or nothing. PERGIDAU_REFUSED: neither stands there. PERGIDAU_TOO_DEEP:
+ * more than 512 levels are asked for.
+ *
+ * The caller owes bytes_length bytes at bytes that can be read and that nothing changes while
+ * the call runs, room for one item at out, apart from them, and 512 KiB of stack.
+ */
+enum pergidau_code pergidau_json_next(
+    const uint8_t *bytes,
+    size_t bytes_length,
+    size_t levels,
+    struct pergidau_json_item *out);
 
 /*
  * The reply of Redis (RESP2, the second version of its protocol) with which the bytes begin,

@@ -45,6 +45,9 @@ static const char *const seeds[] = {
     "2 ^ 3 ^ 2",
     "key=value\n",
     "a=\xc3\xa9;b c\t=",
+    "[a]\nx = 1 ; one\r\n\n",
+    "; c\n[]\n[b c]x=2\nx=\xc3\xa9",
+    ", 1 ]",
     "{\"a\": [1, -2.5e3, true, {\"b\": null}], \"\\u00e9\\n\": \"x\"} ",
     "[[[[[[]]]]]]",
     "[\"\\\"\", 0.1E-7, false]",
@@ -149,6 +152,100 @@ static void read_json(const uint8_t *bytes, size_t length)
     }
 }
 
+/* Walks through what stands there, and counts what is passed. It ends where the caller's bytes do,
+ * or at a closing bracket. */
+static size_t walk(const uint8_t *bytes, size_t length, size_t levels)
+{
+    struct pergidau_json_item item;
+    size_t count = 0;
+    enum pergidau_code code;
+    while ((code = pergidau_json_next(bytes, length, levels, &item)) == PERGIDAU_DONE) {
+        HOLDS(within(item.place, length) && item.place.length > 0);
+        HOLDS(item.kind <= PERGIDAU_JSON_OBJECT);
+        const uint8_t *value = bytes + item.place.offset;
+        count++;
+        if (item.kind == PERGIDAU_JSON_ARRAY || item.kind == PERGIDAU_JSON_OBJECT) {
+            HOLDS(levels > 0);
+            size_t inside = walk(value + 1, item.place.length - 1, levels - 1);
+            HOLDS(item.kind == PERGIDAU_JSON_ARRAY || inside % 2 == 0);
+        }
+        length -= item.place.offset + item.place.length;
+        bytes = value + item.place.length;
+    }
+    HOLDS(code == PERGIDAU_END);
+    return count;
+}
+
+static void read_values(const uint8_t *bytes, size_t length)
+{
+    struct pergidau_json_item item;
+    size_t levels = below(8), found;
+    enum pergidau_code code = pergidau_json_next(bytes, length, levels, &item);
+    HOLDS(code == PERGIDAU_DONE || code == PERGIDAU_REFUSED || code == PERGIDAU_END);
+    if (code == PERGIDAU_DONE) {
+        HOLDS(within(item.place, length));
+        size_t behind = length - item.place.offset;
+        HOLDS(pergidau_json_value(bytes + item.place.offset, behind, levels, &found)
+              == PERGIDAU_DONE);
+        HOLDS(found == item.place.length);
+        for (size_t i = 0; i < item.place.offset; i++) {
+            HOLDS(memchr(" \t\r\n,:", bytes[i], 6));
+        }
+    } else {
+        HOLDS(item.place.length == 0);
+    }
+    if (pergidau_json_check(bytes, length, levels) == PERGIDAU_DONE) {
+        HOLDS(walk(bytes, length, levels) == 1);
+    }
+}
+
+/* A buffer of the size that ends where the second room does, with nothing in it yet. */
+static void *buffer(size_t size)
+{
+    return memset(buffer_room + PAGES * page - size, 0xab, size);
+}
+
+static void read_document(const uint8_t *bytes, size_t length)
+{
+    struct pergidau_document out;
+    size_t most = below(24), count = below(4);
+    size_t size = count * sizeof(struct pergidau_entry);
+    struct pergidau_entry *entries = buffer(size);
+    uint8_t *text = (uint8_t *)memset((uint8_t *)entries - most, 0xab, most);
+    enum pergidau_code code =
+        pergidau_ini_document(bytes, length, text, most, entries, count, &out);
+    if (code == PERGIDAU_TOO_SMALL) {
+        HOLDS(out.entries > count || out.text > most);
+        for (size_t i = 0; i < most + size; i++) {
+            HOLDS(text[i] == 0xab);
+        }
+        HOLDS(out.entries <= length && out.text <= length);
+        most = out.text;
+        count = out.entries;
+        entries = malloc(count * sizeof *entries);
+        text = (uint8_t *)buffer(most);
+        HOLDS(entries != NULL);
+        code = pergidau_ini_document(bytes, length, text, most, entries, count, &out);
+        HOLDS(code == PERGIDAU_DONE && out.entries == count && out.text == most);
+        free(entries);
+    } else if (code == PERGIDAU_DONE) {
+        size_t sum = 0;
+        for (size_t i = 0; i < out.entries; i++) {
+            HOLDS(entries[i].key.offset == sum && within(entries[i].key, out.text));
+            sum += entries[i].key.length;
+            HOLDS(entries[i].value.offset == sum && within(entries[i].value, out.text));
+            sum += entries[i].value.length;
+        }
+        HOLDS(sum == out.text);
+        HOLDS(out.entries == 0 || entries[0].key.length == 0);
+    } else {
+        HOLDS(code == PERGIDAU_REFUSED && out.place <= length);
+        /* What stands before the place is a document. */
+        HOLDS(pergidau_ini_document(bytes, out.place, NULL, 0, NULL, 0, &out)
+              != PERGIDAU_REFUSED);
+    }
+}
+
 static void read_head(const uint8_t *bytes, size_t length)
 {
     struct pergidau_head out, cut;
@@ -195,12 +292,6 @@ static void read_head(const uint8_t *bytes, size_t length)
         code = pergidau_http_head_in_pieces(bytes, length, fields, count, &cut);
         HOLDS(code == PERGIDAU_REFUSED || code == PERGIDAU_INCOMPLETE);
     }
-}
-
-/* A buffer of the size that ends where the second room does, with nothing in it yet. */
-static void *buffer(size_t size)
-{
-    return memset(buffer_room + PAGES * page - size, 0xab, size);
 }
 
 static void read_record(const uint8_t *bytes, size_t length)
@@ -292,6 +383,8 @@ static void read_all(const uint8_t *bytes, size_t length)
     read_formula(bytes, length);
     read_pair(bytes, length);
     read_json(bytes, length);
+    read_values(bytes, length);
+    read_document(bytes, length);
     read_head(bytes, length);
     read_record(bytes, length);
     read_reply(bytes, length);

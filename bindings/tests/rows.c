@@ -153,6 +153,210 @@ static void test_json(void)
     free(deep);
 }
 
+static void shown(const char *row, const uint8_t *bytes, struct pergidau_span place,
+                  const char *want)
+{
+    bool is = place.length == strlen(want) && !memcmp(bytes + place.offset, want, place.length);
+    same(want, row, is, true);
+}
+
+/* What a walk through a text passes, each with its kind's letter, and a comma behind each. */
+static const struct {
+    size_t levels;
+    const char *text, *walk;
+} walks[] = {
+    {0, "null", "n null,"},
+    {0, " -1.5e3 ", "d -1.5e3,"},
+    {1, "[]", "a []("},
+    {2, "[ 1 ,2,[true,[]]]", NULL},
+    {3, " [ 1 ,2,[true , []]] ", "a [ 1 ,2,[true , []]](d 1,d 2,a [true , []](t true,a []("},
+    {1, "{ \"a\" : 1 , \"a\" :false }", "o { \"a\" : 1 , \"a\" :false }(s \"a\",d 1,s \"a\",f false,"},
+    {2, "{\"\":{}}", "o {\"\":{}}(s \"\",o {}("},
+    {9, "[1,]", NULL},
+};
+
+/* Walks through what stands there, by the pattern of a caller, and writes what is passed. */
+static char *walk(const uint8_t *bytes, size_t length, size_t levels, char *into)
+{
+    static const char letters[] = "nftdsao";
+    struct pergidau_json_item item;
+    while (pergidau_json_next(bytes, length, levels, &item) == PERGIDAU_DONE) {
+        const uint8_t *value = bytes + item.place.offset;
+        *into++ = letters[item.kind];
+        *into++ = ' ';
+        memcpy(into, value, item.place.length);
+        into += item.place.length;
+        if (item.kind == PERGIDAU_JSON_ARRAY || item.kind == PERGIDAU_JSON_OBJECT) {
+            *into++ = '(';
+            into = walk(value + 1, item.place.length - 1, levels - 1, into);
+        } else {
+            *into++ = ',';
+        }
+        length -= item.place.offset + item.place.length;
+        bytes = value + item.place.length;
+    }
+    same("the end", (const char *)bytes, pergidau_json_next(bytes, length, levels, &item),
+         PERGIDAU_END);
+    *into = 0;
+    return into;
+}
+
+static const struct {
+    size_t levels;
+    const char *bytes;
+    enum pergidau_code code;
+    size_t kind, offset, length;
+} nexts[] = {
+    {0, " , \"a\" : 1", PERGIDAU_DONE, PERGIDAU_JSON_STRING, 3, 3},
+    {0, ":1]", PERGIDAU_DONE, PERGIDAU_JSON_NUMBER, 1, 1},
+    {0, "01", PERGIDAU_DONE, PERGIDAU_JSON_NUMBER, 0, 1},
+    {0, "nullx", PERGIDAU_DONE, PERGIDAU_JSON_NULL, 0, 4},
+    {0, " \t\r\n]", PERGIDAU_END, 0, 0, 0},
+    {0, "}", PERGIDAU_END, 0, 0, 0},
+    {0, "", PERGIDAU_END, 0, 0, 0},
+    {0, ",", PERGIDAU_REFUSED, 0, 0, 0},
+    {0, ", ]", PERGIDAU_REFUSED, 0, 0, 0},
+    {0, ",,1", PERGIDAU_REFUSED, 0, 0, 0},
+    {0, "[]", PERGIDAU_REFUSED, 0, 0, 0},
+    {1, ", []]", PERGIDAU_DONE, PERGIDAU_JSON_ARRAY, 2, 2},
+    {PERGIDAU_MOST_LEVELS + 1, "1", PERGIDAU_TOO_DEEP, 0, 0, 0},
+};
+
+static void test_walks(void)
+{
+    struct pergidau_json_item item;
+    for (size_t i = 0; i < sizeof walks / sizeof *walks; i++) {
+        const char *row = walks[i].text;
+        size_t length = strlen(row);
+        uint8_t *text = copied(row, length);
+        char passed[256] = "";
+        bool is = pergidau_json_check(text, length, walks[i].levels) == PERGIDAU_DONE;
+        same("is walked", row, is, walks[i].walk != NULL);
+        if (is && walks[i].walk != NULL) {
+            walk(text, length, walks[i].levels, passed);
+            same(passed, row, strcmp(passed, walks[i].walk), 0);
+        }
+        free(text);
+    }
+    for (size_t i = 0; i < sizeof nexts / sizeof *nexts; i++) {
+        size_t length = strlen(nexts[i].bytes);
+        uint8_t *bytes = copied(nexts[i].bytes, length);
+        same("json_next", nexts[i].bytes,
+             pergidau_json_next(bytes, length, nexts[i].levels, &item), nexts[i].code);
+        same("the kind", nexts[i].bytes, (long long)item.kind, (long long)nexts[i].kind);
+        same("the place", nexts[i].bytes, (long long)item.place.offset,
+             (long long)nexts[i].offset);
+        same("the length", nexts[i].bytes, (long long)item.place.length,
+             (long long)nexts[i].length);
+        free(bytes);
+    }
+    same("null", "item", pergidau_json_next(NULL, 1, 1, &item), PERGIDAU_NULL);
+    same("null", "item", pergidau_json_next((const uint8_t *)"1", 1, 1, NULL), PERGIDAU_NULL);
+    same("too long", "item",
+         pergidau_json_next((const uint8_t *)"1", (size_t)PTRDIFF_MAX + 1, 1, &item),
+         PERGIDAU_TOO_LONG);
+    same("nothing", "item", pergidau_json_next(NULL, 0, 1, &item), PERGIDAU_END);
+}
+
+enum { MOST_ENTRIES = 8 };
+
+/* The key and the value of each entry; the head of a section has no key. */
+static const struct {
+    const char *bytes;
+    enum pergidau_code code;
+    const char *entries[MOST_ENTRIES][2];
+    size_t count, place;
+} documents[] = {
+    {"", PERGIDAU_DONE, {{0}}, 0, 0},
+    {" ; nothing\n", PERGIDAU_DONE, {{0}}, 0, 0},
+    {"[a]", PERGIDAU_DONE, {{"", "a"}}, 1, 0},
+    {"[]\nx=", PERGIDAU_DONE, {{"", ""}, {"x", ""}}, 2, 0},
+    {"; c\r\n[a]\nx = 1 ; one\ny=2\n[b c]\nx=2\nx =\t3 \r\n",
+     PERGIDAU_DONE,
+     {{"", "a"}, {"x", "1"}, {"y", "2"}, {"", "b c"}, {"x", "2"}, {"x", "3"}},
+     6,
+     0},
+    {"x=1", PERGIDAU_REFUSED, {{0}}, 0, 0},
+    {"[a]\nx\n", PERGIDAU_REFUSED, {{0}}, 0, 4},
+    {"[a]\nx=1\n [b", PERGIDAU_REFUSED, {{0}}, 0, 9},
+    {"[a]\nx=\xff", PERGIDAU_REFUSED, {{0}}, 0, 4},
+};
+
+static void test_document(size_t i)
+{
+    const char *row = documents[i].bytes;
+    size_t length = strlen(row), count = documents[i].count, bytes = 0, sum = 0;
+    uint8_t *input = copied(row, length);
+    struct pergidau_document out;
+    for (size_t k = 0; k < count; k++) {
+        bytes += strlen(documents[i].entries[k][0]) + strlen(documents[i].entries[k][1]);
+    }
+    uint8_t *text = malloc(bytes ? bytes : 1);
+    struct pergidau_entry *entries = malloc((count ? count : 1) * sizeof *entries);
+    if (text == NULL || entries == NULL) {
+        exit(2);
+    }
+    same("ini_document", row,
+         pergidau_ini_document(input, length, text, bytes, entries, count, &out),
+         documents[i].code);
+    same("the entries", row, (long long)out.entries, (long long)count);
+    same("the bytes", row, (long long)out.text, (long long)bytes);
+    same("the place", row, (long long)out.place, (long long)documents[i].place);
+    for (size_t k = 0; k < count; k++) {
+        shown(row, text, entries[k].key, documents[i].entries[k][0]);
+        shown(row, text, entries[k].value, documents[i].entries[k][1]);
+        same("the key's place", row, (long long)entries[k].key.offset, (long long)sum);
+        sum += entries[k].key.length;
+        same("the value's place", row, (long long)entries[k].value.offset, (long long)sum);
+        sum += entries[k].value.length;
+    }
+    if (count > 0) {
+        same("no entry", row,
+             pergidau_ini_document(input, length, text, bytes, entries, count - 1, &out),
+             PERGIDAU_TOO_SMALL);
+        same("wanted entries", row, (long long)out.entries, (long long)count);
+    }
+    if (bytes > 0) {
+        same("no byte", row,
+             pergidau_ini_document(input, length, text, bytes - 1, entries, count, &out),
+             PERGIDAU_TOO_SMALL);
+        same("wanted bytes", row, (long long)out.text, (long long)bytes);
+    }
+    free(entries);
+    free(text);
+    free(input);
+}
+
+static void test_documents(void)
+{
+    const uint8_t *bytes = (const uint8_t *)"[a]";
+    size_t far = (size_t)PTRDIFF_MAX + 1;
+    uint8_t text[1];
+    struct pergidau_entry entries[1];
+    struct pergidau_document out;
+    for (size_t i = 0; i < sizeof documents / sizeof *documents; i++) {
+        test_document(i);
+    }
+    same("null", "document", pergidau_ini_document(NULL, 1, text, 1, entries, 1, &out),
+         PERGIDAU_NULL);
+    same("null", "document", pergidau_ini_document(bytes, 3, NULL, 1, entries, 1, &out),
+         PERGIDAU_NULL);
+    same("null", "document", pergidau_ini_document(bytes, 3, text, 1, NULL, 1, &out),
+         PERGIDAU_NULL);
+    same("null", "document", pergidau_ini_document(bytes, 3, text, 1, entries, 1, NULL),
+         PERGIDAU_NULL);
+    same("too long", "document", pergidau_ini_document(bytes, far, text, 1, entries, 1, &out),
+         PERGIDAU_TOO_LONG);
+    same("too long", "document",
+         pergidau_ini_document(bytes, 3, text, 1, entries,
+                               (size_t)PTRDIFF_MAX / sizeof *entries + 1, &out),
+         PERGIDAU_TOO_LONG);
+    same("no room", "document", pergidau_ini_document(bytes, 3, NULL, 0, NULL, 0, &out),
+         PERGIDAU_TOO_SMALL);
+    same("nothing", "document", pergidau_ini_document(NULL, 0, NULL, 0, NULL, 0, &out),
+         PERGIDAU_DONE);
+}
+
 static const char hello[] = "GET /hello.txt HTTP/1.1\r\nUser-Agent: curl/7.64.1\r\n"
                             "Host: www.example.com\r\nAccept-Language: en, mi\r\n\r\n";
 
@@ -191,13 +395,6 @@ static const char *no_heads[] = {
     "A b HTTP/1.1\r\nX: 1\r\n 2\r\n\r\n", "A b HTTP/1.1\r\nX : 1\r\n\r\n",
     "A b HTTP/1.1\r\nX\r\n\r\n",         "A b HTTP/1.1\r\nX: 1\r\n: 2\r\n\r\n",
 };
-
-static void shown(const char *row, const uint8_t *bytes, struct pergidau_span place,
-                  const char *want)
-{
-    bool is = place.length == strlen(want) && !memcmp(bytes + place.offset, want, place.length);
-    same(want, row, is, true);
-}
 
 static void test_heads(void)
 {
@@ -522,6 +719,8 @@ int main(void)
     test_formulas();
     test_pairs();
     test_json();
+    test_walks();
+    test_documents();
     test_heads();
     test_records();
     test_replies();

@@ -24,9 +24,33 @@ pub const TOO_SMALL: u32 = 5;
 /// More levels are asked for than `MOST_LEVELS`.
 pub const TOO_DEEP: u32 = 6;
 
+/// Nothing more stands there: white space at most, and a closing bracket or the end.
+pub const END: u32 = 9;
+
 /// How many levels of arrays and objects in one another may be asked for. Each takes some of the
 /// stack.
 pub const MOST_LEVELS: usize = 512;
+
+/// The word null.
+pub const JSON_NULL: usize = 0;
+
+/// The word false.
+pub const JSON_FALSE: usize = 1;
+
+/// The word true.
+pub const JSON_TRUE: usize = 2;
+
+/// A number.
+pub const JSON_NUMBER: usize = 3;
+
+/// A string: its place has the quotes round it, and escapes as they are written.
+pub const JSON_STRING: usize = 4;
+
+/// An array: its place has the brackets round it.
+pub const JSON_ARRAY: usize = 5;
+
+/// An object: its place has the brackets round it.
+pub const JSON_OBJECT: usize = 6;
 
 /// A simple string: bytes among which is neither a carriage return nor a line feed.
 pub const RESP_SIMPLE: usize = 0;
@@ -119,6 +143,38 @@ pub struct Pair {
     pub value: Span,
     /// Where the line is refused: how many bytes stand before the place. Else 0.
     pub place: usize,
+}
+
+/// An entry of a document: a pair, or the head of a section.
+#[repr(C)]
+#[derive(Clone, Copy, Debug, Default, PartialEq, Eq)]
+pub struct Entry {
+    /// The key of a pair. The head of a section has none, and by that it is known: a key has bytes.
+    pub key: Span,
+    /// The value of a pair, or the name of a section. It may have no bytes.
+    pub value: Span,
+}
+
+/// What a document has.
+#[repr(C)]
+#[derive(Clone, Copy, Debug, Default, PartialEq, Eq)]
+pub struct Document {
+    /// How many entries there are.
+    pub entries: usize,
+    /// How many bytes the keys, the values and the names have together.
+    pub text: usize,
+    /// Where the document is refused: how many bytes stand before the place. Else 0.
+    pub place: usize,
+}
+
+/// A value, or a name in an object.
+#[repr(C)]
+#[derive(Clone, Copy, Debug, Default, PartialEq, Eq)]
+pub struct JsonItem {
+    /// What it is: a number of those from `JSON_NULL` to `JSON_OBJECT`. A name is a string.
+    pub kind: usize,
+    /// Its bytes.
+    pub place: Span,
 }
 
 /// A reply.
@@ -266,6 +322,32 @@ extern "C" {
         out: *mut Pair,
     ) -> u32;
 
+    /// A document of sections: each a name in brackets, and pairs, a key of ASCII letters or digits,
+    /// `=` with spaces and tabs round it, and a value that ends before `;` and the end of its line,
+    /// without the white space behind it. White space, and comments from `;` to the end of a line,
+    /// stand before, between and behind them. Names and values are UTF-8, and no pair stands before the
+    /// first section.
+    ///
+    /// `DONE`: the bytes of its entries are written into `text`, those of the key before those of the
+    /// value and one entry behind the other, and so many places there, in order: of each section its
+    /// head, and then its pairs. `REFUSED`: the bytes are no document; written is the length of their
+    /// longest beginning that is made of such parts. `TOO_SMALL`: they are one that wants more entries
+    /// or more bytes than the buffers have; how many of both is written, and the buffers are left as
+    /// they were. `NO_MEMORY`.
+    ///
+    /// The caller owes `bytes_length` bytes at `bytes` that can be read and that nothing changes while
+    /// the call runs, `text_length` bytes at `text` and `entries_length` entries at `entries` that can
+    /// be written, and room for one document at `out`, each apart from the others.
+    pub fn exported_ini_document(
+        bytes: *const u8,
+        bytes_length: usize,
+        text: *mut u8,
+        text_length: usize,
+        entries: *mut Entry,
+        entries_length: usize,
+        out: *mut Document,
+    ) -> u32;
+
     /// Whether a text is one of JSON (RFC 8259): a value with white space round it, in which no more
     /// than `levels` arrays and objects stand in one another.
     ///
@@ -294,6 +376,30 @@ extern "C" {
         bytes_length: usize,
         levels: usize,
         out: *mut usize,
+    ) -> u32;
+
+    /// The next value of JSON (RFC 8259), for a walk through a text that was checked: the longest value
+    /// that stands behind white space, a comma or a colon at most, and white space, in which no more
+    /// than `levels` arrays and objects stand in one another.
+    ///
+    /// From the start of the text it reads the text's value. What an array has in it is read from
+    /// behind its first byte on: a value at each call, of the bytes behind the place of the last one.
+    /// What an object has in it are names and values in turn. Their levels are one less than those of
+    /// the value that they stand in. So a walk through all levels reads each byte once for each level
+    /// that it stands in. Of bytes that were not checked as a text, more than JSON allows is passed, as
+    /// a comma before the first value.
+    ///
+    /// `DONE`: what it is and its place are written. `END`: behind white space stands a closing
+    /// bracket, or nothing. `REFUSED`: neither stands there. `TOO_DEEP`: more than 512 levels are asked
+    /// for.
+    ///
+    /// The caller owes `bytes_length` bytes at `bytes` that can be read and that nothing changes while
+    /// the call runs, room for one item at `out`, apart from them, and 512 KiB of stack.
+    pub fn exported_json_next(
+        bytes: *const u8,
+        bytes_length: usize,
+        levels: usize,
+        out: *mut JsonItem,
     ) -> u32;
 
     /// The reply of Redis (RESP2, the second version of its protocol) with which the bytes begin, in

@@ -17,14 +17,18 @@ mod csv;
 mod error;
 mod exports;
 mod http;
+mod ini;
+mod json;
 mod resp;
 
 pub use crate::csv::{csv_record, csv_record_in_pieces, LineEnd, Record};
 #[cfg(feature = "std")]
 pub use crate::csv::{csv_records, CsvRecords};
 pub use crate::error::{Error, Place, Wanted};
-pub use crate::exports::{Field, Span, MOST_LEVELS};
+pub use crate::exports::{Entry, Field, Span, MOST_LEVELS};
 pub use crate::http::{http_head, http_head_in_pieces, Head};
+pub use crate::ini::{ini_document, Document, Section, Sections};
+pub use crate::json::{json, Json, JsonElements, JsonKind, JsonMembers};
 pub use crate::resp::{resp_reply, resp_reply_in_pieces, Elements, Reply};
 
 /// Nothing is wanted.

@@ -1,7 +1,8 @@
 //! Rows of the readers' tests, from Rust.
 use pergidau::{calc_value, http_head, http_head_in_pieces, ini_pair, json_check, json_value};
 use pergidau::{csv_record, csv_record_in_pieces, csv_records, resp_reply, resp_reply_in_pieces};
-use pergidau::{Error, Field, LineEnd, Place, Reply, Span, MOST_LEVELS};
+use pergidau::{ini_document, json, Json, JsonKind};
+use pergidau::{Entry, Error, Field, LineEnd, Place, Reply, Span, MOST_LEVELS};
 
 fn refused(offset: usize, column: usize) -> Error {
     Error::Refused(Some(Place { offset, line: 1, column }))
@@ -65,6 +66,84 @@ fn json_of_texts() {
     let deep = "[".repeat(MOST_LEVELS) + &"]".repeat(MOST_LEVELS);
     assert_eq!(json_check(deep.as_bytes(), MOST_LEVELS), Ok(()));
     assert_eq!(json_check(deep.as_bytes(), MOST_LEVELS - 1), Err(Error::Refused(None)));
+}
+
+/// The texts of what is no array or object, in order, and the names, each with a colon.
+fn walk<'i>(value: Json<'i>, into: &mut Vec<String>) {
+    match value.kind() {
+        JsonKind::Array => value.elements().for_each(|it| walk(it, into)),
+        JsonKind::Object => value.members().for_each(|(name, it)| {
+            into.push(format!("{name}:"));
+            walk(it, into);
+        }),
+        _ => into.push(value.text().to_string()),
+    }
+}
+
+#[test]
+fn json_walks() {
+    let rows: [(&str, &[&str]); 8] = [
+        ("null", &["null"]),
+        (" -1.5e3 ", &["-1.5e3"]),
+        ("[]", &[]),
+        (" [ 1 ,2, [true , []], {} ] ", &["1", "2", "true"]),
+        ("{\"a\": [false], \"b\" :\"c,]\"}", &["a:", "false", "b:", "\"c,]\""]),
+        ("{\"a\\\"\": {\"\": 0}}", &["a\\\":", ":", "0"]),
+        ("[[1], [[2]], 3]", &["1", "2", "3"]),
+        ("[\"\u{e9}\", {\"\u{1F600}\": 1}]", &["\"\u{e9}\"", "\u{1F600}:", "1"]),
+    ];
+    for (text, want) in rows {
+        let mut got = Vec::new();
+        walk(json(text, 3).unwrap(), &mut got);
+        assert_eq!(got, want, "{text}");
+    }
+    let kinds = json("[null, false, true, 0, \"\", [], {}]", 2).unwrap();
+    let want = [
+        JsonKind::Null, JsonKind::False, JsonKind::True, JsonKind::Number, JsonKind::String,
+        JsonKind::Array, JsonKind::Object,
+    ];
+    assert_eq!(kinds.elements().map(|it| it.kind()).collect::<Vec<_>>(), want);
+    assert_eq!(kinds.members().count(), 0);
+    assert_eq!(json("1", 0).unwrap().elements().count(), 0);
+    assert_eq!(json("[1,]", 9), Err(Error::Refused(None)));
+    assert_eq!(json("", 9), Err(Error::Refused(None)));
+    assert_eq!(json("1", MOST_LEVELS + 1), Err(Error::TooDeep));
+    let deep = "[".repeat(MOST_LEVELS) + &"]".repeat(MOST_LEVELS);
+    let (mut value, mut levels) = (json(&deep, MOST_LEVELS).unwrap(), 1);
+    while let Some(inner) = value.elements().next() {
+        (value, levels) = (inner, levels + 1);
+    }
+    assert_eq!(levels, MOST_LEVELS);
+}
+
+#[test]
+fn ini_document_of_sections() {
+    let (mut text, mut entries) = ([0; 64], [Entry::default(); 8]);
+    let bytes = b"; c\r\n[a]\nx = 1 ; one\ny=\n[]\n[b c]x=2\nx=\xc3\xa9";
+    let document = ini_document(bytes, &mut text, &mut entries).unwrap();
+    let want: [(&[u8], &[(&[u8], &[u8])]); 3] = [
+        (b"a", &[(b"x", b"1"), (b"y", b"")]),
+        (b"", &[]),
+        (b"b c", &[(b"x", b"2"), (b"x", b"\xc3\xa9")]),
+    ];
+    assert_eq!(document.sections().count(), want.len());
+    for (section, (name, pairs)) in document.sections().zip(want) {
+        assert_eq!(section.name(), name);
+        assert_eq!(section.pairs().collect::<Vec<_>>(), pairs);
+    }
+    let empty = ini_document(b" \n;x", &mut [], &mut []).unwrap();
+    assert_eq!(empty.sections().count(), 0);
+    let small = ini_document(bytes, &mut text[..10], &mut entries).unwrap_err();
+    assert_eq!(small.to_string(), "the buffer is too small: 7 entries and 12 bytes are wanted");
+    let small = ini_document(bytes, &mut text[..12], &mut entries[..6]).unwrap_err();
+    assert_eq!(small.to_string(), "the buffer is too small: 7 entries and 12 bytes are wanted");
+    assert!(ini_document(bytes, &mut text[..12], &mut entries[..7]).is_ok());
+    for (bytes, offset, line, column) in
+        [(&b"x=1"[..], 0, 1, 1), (b"[a]\nx\n", 4, 2, 1), (b"[a]\nx=1\n [b", 9, 3, 2)]
+    {
+        let refused = ini_document(bytes, &mut text, &mut entries).unwrap_err();
+        assert_eq!(refused, Error::Refused(Some(Place { offset, line, column })), "{bytes:?}");
+    }
 }
 
 /// The request of RFC 9110, section 3.9, and what a client sends behind it.

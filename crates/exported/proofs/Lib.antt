@@ -1,6 +1,8 @@
+pub mod Entries
 pub mod ErrorKinds
 pub mod Gaps
 pub mod Heads
+pub mod Items
 pub mod Lines
 pub mod Pieces
 pub mod Places

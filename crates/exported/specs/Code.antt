@@ -22,6 +22,9 @@ too_small = 5
 abbrev pub too_deep : ℕ
 too_deep = 6
 
+abbrev pub end : ℕ
+end = 9
+
 -- how many levels of JSON may be asked for
 abbrev pub most_levels : ℕ
 most_levels = 512

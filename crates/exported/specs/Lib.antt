@@ -2,6 +2,8 @@
 pub mod Code
 pub mod Csv
 pub mod Http
+pub mod Ini
+pub mod Json
 pub mod Pieces
 pub mod Resp
 pub mod Span

@@ -27,3 +27,6 @@ pub const NULL: u32 = 7;
 
 /// A length is more than `PTRDIFF_MAX` bytes.
 pub const TOO_LONG: u32 = 8;
+
+/// Nothing more stands there: white space at most, and a closing bracket or the end.
+pub const END: u32 = 9;

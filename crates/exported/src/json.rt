@@ -2,16 +2,72 @@
 
 ghost use Rattle.std.specs.Prelude.{◌≡◌, ◌≤◌, ◌<◌, ◌⊎◌, drop, length, take};
 ghost use Rattle.std.specs.Str.{IsUtf8};
-ghost use Rattle.uses_json.specs.Texts.{IsLongest, NoneStands};
+ghost use Rattle.uses_json.specs.Texts.{IsLongest, NoneStands, Then};
 ghost use Rattle.uses_json.specs.Value.{IsText, IsValue};
-ghost use Rattle.exported.specs.Code.{done, most_levels, no_text, refused, too_deep};
+ghost use Rattle.uses_json.specs.Walk.{EndsItems, IsLead};
+ghost use Rattle.exported.specs.Code.{done, end, most_levels, no_text, refused, too_deep};
+ghost use Rattle.exported.specs.Json.{ShowsItem, number_of};
 
-use crate::code::{DONE, NO_TEXT, REFUSED, TOO_DEEP};
-use uses_json::value;
+use crate::code::{DONE, END, NO_TEXT, REFUSED, TOO_DEEP};
+use crate::span::{NOWHERE, Span};
+use uses_json::walk::Kind;
+use uses_json::{value, walk};
 
 /// How many levels of arrays and objects in one another may be asked for. Each takes some of the
 /// stack.
 pub const MOST_LEVELS: usize = 512;
+
+/// The word null.
+pub const JSON_NULL: usize = 0;
+
+/// The word false.
+pub const JSON_FALSE: usize = 1;
+
+/// The word true.
+pub const JSON_TRUE: usize = 2;
+
+/// A number.
+pub const JSON_NUMBER: usize = 3;
+
+/// A string: its place has the quotes round it, and escapes as they are written.
+pub const JSON_STRING: usize = 4;
+
+/// An array: its place has the brackets round it.
+pub const JSON_ARRAY: usize = 5;
+
+/// An object: its place has the brackets round it.
+pub const JSON_OBJECT: usize = 6;
+
+/// A value, or a name in an object.
+#[repr(C)]
+#[derive(Clone, Copy, Drop)]
+pub struct JsonItem {
+    /// What it is: a number of those from `JSON_NULL` to `JSON_OBJECT`. A name is a string.
+    pub kind: usize,
+    /// Its bytes.
+    pub place: Span,
+}
+
+/// Nothing.
+const NO_ITEM: JsonItem = JsonItem {
+    kind: JSON_NULL,
+    place: NOWHERE,
+};
+
+/// The number of what a value is.
+fn number_of(kind: Kind) -> usize
+    ensures { result ≡ number_of kind }
+{
+    match kind {
+        Kind::Null => JSON_NULL,
+        Kind::False => JSON_FALSE,
+        Kind::True => JSON_TRUE,
+        Kind::Number => JSON_NUMBER,
+        Kind::String => JSON_STRING,
+        Kind::Array => JSON_ARRAY,
+        Kind::Object => JSON_OBJECT,
+    }
+}
 
 /// Whether a text is one of JSON (RFC 8259): a value with white space round it, in which no more
 /// than `levels` arrays and objects stand in one another.
@@ -68,6 +124,57 @@ pub extern "C" fn exported_json_value(bytes: &[u8], levels: usize, out: &mut usi
     match value::read_value(levels, &mut left) {
         Some(found) => {
             *out = found.len();
+            DONE
+        }
+        None => REFUSED,
+    }
+}
+
+/// The next value of JSON (RFC 8259), for a walk through a text that was checked: the longest value
+/// that stands behind white space, a comma or a colon at most, and white space, in which no more
+/// than `levels` arrays and objects stand in one another.
+///
+/// From the start of the text it reads the text's value. What an array has in it is read from
+/// behind its first byte on: a value at each call, of the bytes behind the place of the last one.
+/// What an object has in it are names and values in turn. Their levels are one less than those of
+/// the value that they stand in. So a walk through all levels reads each byte once for each level
+/// that it stands in. Of bytes that were not checked as a text, more than JSON allows is passed, as
+/// a comma before the first value.
+///
+/// `DONE`: what it is and its place are written. `END`: behind white space stands a closing
+/// bracket, or nothing. `REFUSED`: neither stands there. `TOO_DEEP`: more than 512 levels are asked
+/// for.
+///
+/// The caller owes `bytes_length` bytes at `bytes` that can be read and that nothing changes while
+/// the call runs, room for one item at `out`, apart from them, and 512 KiB of stack.
+#[unsafe(no_mangle)]
+pub extern "C" fn exported_json_next(bytes: &[u8], levels: usize, out: &mut JsonItem) -> u32
+    ensures item { result ≡ done → ShowsItem levels bytes.now out.new }
+    ensures end { result ≡ end → EndsItems bytes.now }
+    ensures refused { result ≡ refused → NoneStands (Then IsLead (IsValue levels)) bytes.now
+        × (EndsItems bytes.now → ⊥) }
+    ensures deep { result ≡ too_deep → most_levels < levels }
+    ensures codes { (result ≡ done) ⊎ ((result ≡ end) ⊎ ((result ≡ refused)
+        ⊎ (result ≡ too_deep))) }
+{
+    *out = NO_ITEM;
+    if levels > MOST_LEVELS {
+        return TOO_DEEP;
+    }
+    if walk::is_end(bytes) {
+        return END;
+    }
+    let mut left = bytes;
+    match walk::read_next(levels, &mut left) {
+        Some(text) => {
+            let place = Span {
+                offset: bytes.len() - left.len() - text.len(),
+                length: text.len(),
+            };
+            *out = JsonItem {
+                kind: number_of(walk::kind_of(text)),
+                place,
+            };
             DONE
         }
         None => REFUSED,

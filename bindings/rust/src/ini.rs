@@ -1,0 +1,97 @@
+//! Documents of sections and pairs.
+use crate::exports::{self, Entry};
+use crate::{at, Error, Place, Wanted};
+
+/// A document: its sections, as slices of the buffer that their texts were written into.
+#[derive(Clone, Copy, Debug)]
+pub struct Document<'b> {
+    text: &'b [u8],
+    entries: &'b [Entry],
+}
+
+impl<'b> Document<'b> {
+    /// The sections, in order.
+    pub fn sections(&self) -> Sections<'b> {
+        Sections { text: self.text, left: self.entries }
+    }
+}
+
+/// The sections of a document.
+#[derive(Clone, Copy, Debug)]
+pub struct Sections<'b> {
+    text: &'b [u8],
+    left: &'b [Entry],
+}
+
+impl<'b> Iterator for Sections<'b> {
+    type Item = Section<'b>;
+
+    fn next(&mut self) -> Option<Section<'b>> {
+        let (head, behind) = self.left.split_first()?;
+        let count = behind.iter().position(|it| it.key.length == 0).unwrap_or(behind.len());
+        let (pairs, left) = behind.split_at(count);
+        self.left = left;
+        Some(Section { text: self.text, name: at(self.text, head.value), pairs })
+    }
+}
+
+/// A section: its name and its pairs. All are UTF-8.
+#[derive(Clone, Copy, Debug)]
+pub struct Section<'b> {
+    text: &'b [u8],
+    name: &'b [u8],
+    pairs: &'b [Entry],
+}
+
+impl<'b> Section<'b> {
+    /// The name between the brackets.
+    pub fn name(&self) -> &'b [u8] {
+        self.name
+    }
+
+    /// The keys and the values of its pairs, in order, repeats kept.
+    pub fn pairs(&self) -> impl ExactSizeIterator<Item = (&'b [u8], &'b [u8])> + 'b {
+        let text = self.text;
+        self.pairs.iter().map(move |it| (at(text, it.key), at(text, it.value)))
+    }
+}
+
+/// A document of sections, each a name in brackets and pairs, with white space and comments between
+/// them. The bytes of its names, keys and values are written into `text`, and their places into
+/// `entries`; where one of them is too small, the error says how much is wanted. A refusal has the
+/// place where the first part begins that is no section, pair, white space or comment.
+///
+/// ```
+/// use pergidau::{ini_document, Entry};
+///
+/// let (mut text, mut entries) = ([0; 64], [Entry::default(); 8]);
+/// let document = ini_document(b"[a]\nx = 1 ; one\ny=2\n", &mut text, &mut entries)?;
+/// let section = document.sections().next().unwrap();
+/// assert_eq!(section.name(), b"a");
+/// assert_eq!(section.pairs().collect::<Vec<_>>(), [(&b"x"[..], &b"1"[..]), (b"y", b"2")]);
+/// let refused = ini_document(b"[a]\nx\n", &mut text, &mut entries).unwrap_err();
+/// assert_eq!(refused.to_string(), "refused at line 2, column 1");
+/// # Ok::<(), pergidau::Error>(())
+/// ```
+pub fn ini_document<'b>(
+    bytes: &[u8],
+    text: &'b mut [u8],
+    entries: &'b mut [Entry],
+) -> Result<Document<'b>, Error> {
+    let mut out = exports::Document::default();
+    let (room, most) = (text.as_mut_ptr(), text.len());
+    let (places, count) = (entries.as_mut_ptr(), entries.len());
+    // SAFETY: the pointers are those of live borrows, and the bytes are only read.
+    let code = unsafe {
+        exports::exported_ini_document(
+            bytes.as_ptr(), bytes.len(), room, most, places, count, &mut out,
+        )
+    };
+    match code {
+        exports::DONE => Ok(Document { text: &text[..out.text], entries: &entries[..out.entries] }),
+        code => {
+            let wanted = Wanted { entries: out.entries, bytes: out.text };
+            Err(Error::of(code, Some(Place::of(bytes, out.place)), wanted))
+        }
+    }
+}

@@ -1,0 +1,32 @@
+-- Where the next value stands.
+use Rattle.std.proofs.Common.{◌≡◌, ◌∙◌, ◌+◌, ◌-◌, ◌≤◌, ◌++◌, ℕ, List, ap, arith, length}
+use Rattle.std.proofs.Common.{length-append}
+use Rattle.uses_json.specs.Walk.{IsNext}
+use Rattle.exported.specs.Span.{StandsAt}
+use Rattle.exported.specs.declared.span.Span.{Span}
+
+next_lengths : (level : ℕ) (text bytes rest : List ℕ) → (it : IsNext level text bytes rest)
+    → length bytes ≡ length it.lead + (length text + length rest)
+next_lengths level text bytes rest it =
+    omega (
+      arith,
+      ap length it.splits,
+      length-append it.lead it.start,
+      ap length it.longest.splits,
+      length-append text rest,
+    )
+
+pub next_within : (level : ℕ) (text bytes rest : List ℕ) → IsNext level text bytes rest
+    → length rest + length text ≤ length bytes
+next_within level text bytes rest it = omega (arith, next_lengths level text bytes rest it)
+
+pub next_stands : (level : ℕ) (text bytes rest : List ℕ) (place : Span)
+    → IsNext level text bytes rest → place.offset ≡ length bytes - length rest - length text
+    → place.length ≡ length text → StandsAt bytes place text
+next_stands level text bytes rest place it begins ends = record {
+  before = it.lead;
+  behind = rest;
+  splits = it.splits ∙ ap (λ l. it.lead ++ l) it.longest.splits;
+  begins = omega (arith, begins, next_lengths level text bytes rest it);
+  ends = ends;
+}

@@ -1,0 +1,46 @@
+-- Documents of sections and pairs, and where their texts are written.
+use Rattle.std.specs.Prelude.{◌≡◌, ◌<◌, ℕ, List, [], ◌∷◌, ◌++◌, length, slice_index_or}
+use Rattle.std.specs.List.{flat_map}
+use Rattle.readers.specs.Document.{HasSections, SectionText}
+use Rattle.exported.specs.Span.{StandsAt}
+use Rattle.exported.specs.declared.ini.Document.{Document}
+use Rattle.exported.specs.declared.ini.Entry.{Entry}
+
+-- The key and the value of an entry. The head of a section has no key, and its name as the value.
+abbrev pub EntryText : Type 0
+EntryText = List ℕ × List ℕ
+
+-- the head of each section, and its pairs behind it
+abbrev pub entries_of : List SectionText → List EntryText
+entries_of sections = flat_map (λ s. ([], s.0) ∷ s.1) sections
+
+-- the bytes of entries, one behind the other
+abbrev pub text_of : List EntryText → List ℕ
+text_of entries = flat_map (λ e. e.0 ++ e.1) entries
+
+-- The text is the bytes of these entries, which stand there at these places, each at the places of
+-- its number.
+pub record AreEntries (text : List ℕ) (places : List Entry) (entries : List EntryText) : Type 0
+  where
+    pub whole : text ≡ text_of entries
+    pub count : length places ≡ length entries
+    pub each : (k : ℕ) (p : Entry) (e : EntryText) → k < length entries
+        → StandsAt text (slice_index_or places k p).key (slice_index_or entries k e).0
+        × StandsAt text (slice_index_or places k p).value (slice_index_or entries k e).1
+
+-- The input is a document with these sections, which has so many entries and bytes of these.
+pub record CountsDocument (input : List ℕ) (found : Document) (sections : List SectionText) : Type 0
+  where
+    pub has : HasSections input sections
+    pub count : found.entries ≡ length (entries_of sections)
+    pub bytes : found.text ≡ length (text_of (entries_of sections))
+
+-- The input is a document, whose entries stand in this text at these places.
+abbrev pub ShowsDocument : List ℕ → Document → List ℕ → List Entry → Type 0
+ShowsDocument input found text places =
+    (sections : List SectionText) × CountsDocument input found sections
+    × AreEntries text places (entries_of sections)
+
+-- The input is a document, for which so much room is wanted.
+abbrev pub WantsDocument : List ℕ → Document → Type 0
+WantsDocument input found = (sections : List SectionText) × CountsDocument input found sections

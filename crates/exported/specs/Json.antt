@@ -1,0 +1,28 @@
+-- Values of JSON, one after the other.
+use Rattle.std.specs.Prelude.{◌≡◌, ℕ, List}
+use Rattle.uses_json.specs.Walk.{IsNext, IsOfKind}
+use Rattle.uses_json.specs.declared.walk.Kind.{Kind}
+use Rattle.uses_json.specs.declared.walk.Kind.TheVariants as kinds
+use Rattle.exported.specs.Span.{StandsAt}
+use Rattle.exported.specs.declared.json.JsonItem.{JsonItem}
+
+-- the number of what a value is
+abbrev pub number_of : Kind → ℕ
+number_of kinds.Null = 0
+number_of kinds.False = 1
+number_of kinds.True = 2
+number_of kinds.Number = 3
+number_of kinds.String = 4
+number_of kinds.Array = 5
+number_of kinds.Object = 6
+
+-- Behind what may stand before it the input has a value, the longest there, of this kind and at
+-- this place.
+pub record ShowsItem (level : ℕ) (input : List ℕ) (it : JsonItem) : Type 0 where
+  pub text : List ℕ
+  pub rest : List ℕ
+  pub kind : Kind
+  pub is_next : IsNext level text input rest
+  pub is_kind : IsOfKind level kind text
+  pub is_number : it.kind ≡ number_of kind
+  pub place : StandsAt input it.place text
