@@ -1,5 +1,7 @@
 //! Times readers of the library beside crates that do the same work, and prints a table: the best of
-//! so many turns, in megabytes a second.
+//! so many turns, in megabytes a second, and the requests for memory of one more.
+mod requests;
+
 use std::hint::black_box;
 use std::time::Instant;
 
@@ -18,9 +20,12 @@ fn row(what: &str, text: &[u8], turns: u32, readers: &[Reader]) {
         }
     }
     assert!(answers.iter().all(|it| *it == answers[0]), "{what}: {answers:?}");
-    for ((name, _), time) in readers.iter().zip(&best) {
+    for ((name, reader), time) in readers.iter().zip(&best) {
         let speed = text.len() as f64 / time / 1e6;
-        println!("| {what} | {} | {name} | {speed:.0} |", text.len());
+        let (count, bytes) = requests::of(|| {
+            black_box(reader(black_box(text)));
+        });
+        println!("| {what} | {} | {name} | {speed:.0} | {count} | {bytes} |", text.len());
     }
 }
 
@@ -47,6 +52,62 @@ fn heads() -> Vec<u8> {
         Accept-Charset: Shift_JIS,utf-8;q=0.7,*;q=0.7\r\nKeep-Alive: 115\r\n\
         Connection: keep-alive\r\nCookie: wp_ozh_wsa_visits=2; __utma=xxxxxxxxx.xxxxxxxxxx\r\n\r\n";
     head.repeat(1000).into_bytes()
+}
+
+/// Records of comma separated values, some fields in quotes.
+fn records() -> Vec<u8> {
+    let record = |k: u32| {
+        format!("{k},item {k},\"a \"\"{k}\"\", b\",{}.5,,\"two\nlines\",plain text\n", k * 7)
+    };
+    (0..10000).map(record).collect::<String>().into_bytes()
+}
+
+fn records_by_library(text: &[u8]) -> usize {
+    let (mut bytes, mut fields) = ([0; 256], [pergidau::Span::default(); 16]);
+    let (mut rest, mut sum) = (text, 0);
+    while let Ok(record) =
+        pergidau::csv_record(rest, pergidau::LineEnd::Lf, &mut bytes, &mut fields)
+    {
+        sum += record.fields().map(<[u8]>::len).sum::<usize>();
+        rest = record.rest();
+    }
+    sum
+}
+
+fn records_by_csv(text: &[u8]) -> usize {
+    let mut reader = csv::ReaderBuilder::new()
+        .has_headers(false)
+        .terminator(csv::Terminator::Any(b'\n'))
+        .from_reader(text);
+    let (mut record, mut sum) = (csv::ByteRecord::new(), 0);
+    while reader.read_byte_record(&mut record).is_ok_and(|it| it) {
+        sum += record.iter().map(<[u8]>::len).sum::<usize>();
+    }
+    sum
+}
+
+/// How many values a text of JSON has, itself among them.
+fn values(value: pergidau::Json) -> usize {
+    1 + value.elements().map(values).sum::<usize>()
+        + value.members().map(|(_, it)| values(it)).sum::<usize>()
+}
+
+fn values_by_library(text: &[u8]) -> usize {
+    std::str::from_utf8(text)
+        .ok()
+        .and_then(|it| pergidau::json(it, 16).ok())
+        .map_or(0, values)
+}
+
+fn values_by_serde(text: &[u8]) -> usize {
+    fn values(value: &serde_json::Value) -> usize {
+        match value {
+            serde_json::Value::Array(list) => 1 + list.iter().map(values).sum::<usize>(),
+            serde_json::Value::Object(map) => 1 + map.values().map(values).sum::<usize>(),
+            _ => 1,
+        }
+    }
+    serde_json::from_slice(text).as_ref().map_or(0, values)
 }
 
 fn by_library(text: &[u8]) -> usize {
@@ -76,15 +137,23 @@ fn by_httparse(text: &[u8]) -> usize {
 
 fn main() {
     let turns = std::env::args().nth(1).and_then(|it| it.parse().ok()).unwrap_or(50);
-    println!("| Work | Bytes | By | MB/s |\n|---|---|---|---|");
+    println!("| Work | Bytes | By | MB/s | Requests | Bytes asked for |\n|---|---|---|---|---|---|");
     row("check of a text of JSON", &json(), turns, &[
         ("this library", &|text| usize::from(pergidau::json_check(text, 16).is_ok())),
         ("serde_json, `IgnoredAny`", &|text| {
             usize::from(serde_json::from_slice::<serde::de::IgnoredAny>(text).is_ok())
         }),
     ]);
+    row("all values of a text of JSON", &json(), turns, &[
+        ("this library", &values_by_library),
+        ("serde_json, `Value`", &values_by_serde),
+    ]);
     row("1000 heads of requests", &heads(), turns, &[
         ("this library", &by_library),
         ("httparse", &by_httparse),
+    ]);
+    row("10,000 records", &records(), turns, &[
+        ("this library", &records_by_library),
+        ("csv", &records_by_csv),
     ]);
 }
