@@ -104,7 +104,7 @@ escape_takes =
 
 -- ---- strings
 
-character_unique : IsUnique Character
+pub character_unique : IsUnique Character
 character_unique =
     either_unique (token_of_unique (λ c. c) (InClass IsUnescaped (λ c. c)) tt) escape_unique
 
