@@ -4,4 +4,5 @@ pub mod Csv
 pub mod One
 pub mod Pieces
 pub mod Read
+pub mod Runs
 pub mod Table

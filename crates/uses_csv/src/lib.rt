@@ -11,10 +11,11 @@
 ghost use Rattle.std.specs.Prelude.{◌≡◌, ⊤};
 ghost use Rattle.streams.specs.Bytes.{bytes_input, bytes_reading};
 ghost use Rattle.uses_csv.specs.Csv.{AreRecords, IsRecord, line_end};
-ghost use Rattle.uses_csv.specs.Read.{EndRead, FieldRead, FieldsRead, InQuotesRead, PlainRead};
+ghost use Rattle.uses_csv.specs.Read.{EndRead, FieldRead, FieldsRead, PlainRead};
 ghost use Rattle.uses_csv.specs.Read.{QuotedRead, end_unique, field_unique, fields_unique};
-ghost use Rattle.uses_csv.specs.Read.{in_quotes_takes, in_quotes_unique, plain_unique};
+ghost use Rattle.uses_csv.specs.Read.{list_unique, plain_unique};
 ghost use Rattle.uses_csv.specs.Read.{quoted_unique, record_takes, record_unique};
+ghost use Rattle.uses_csv.specs.Runs.{BytesRead, PlainRun, TwoQuotes, UnquotedRun};
 ghost use Rattle.winnow_exact.specs.Exact.{Reads};
 ghost use Rattle.winnow_exact.specs.Exact.Whole.{ReadsAll};
 
@@ -24,6 +25,7 @@ pub mod table;
 use std::alloc::Allocator;
 use stream_errors::empty::EmptyError;
 use stream_errors::fault::ParseFault;
+use stream_errors::growth::OrNoMemory;
 use stream_errors::mode::ErrMode;
 use stream_errors::parser_error::ParserError;
 use stream_sets::range::Range;
@@ -36,7 +38,7 @@ use winnow_exact::rule::Rule;
 use winnow_repeat::combinator::repeat;
 use winnow_separated::combinator::separated;
 use winnow_token::token::impls::Any;
-use winnow_token::token::{literal, none_of};
+use winnow_token::token::{literal, take_till};
 
 /// What ends a line.
 #[derive(Clone, Copy, Debug, PartialEq, Eq)]
@@ -61,28 +63,74 @@ impl LineEnd {
 /// The bytes of the fields of a record, without the quotes round them, and each quote there once.
 pub type Record<A> = Vec<Vec<u8, A>, A>;
 
-/// The name of what [`read_quoted_byte`] reads.
+/// Bytes that are no quotes, as many as stand.
+fn read_unquoted<'i>(input: &mut &'i [u8]) -> Result<&'i [u8], ErrMode<EmptyError>>
+    ensures { Reads bytes_reading ⟦<ErrMode<EmptyError> as HasKind>⟧.kind UnquotedRun
+        (bytes_input input.old.now) result (bytes_input input.new.now) }
+{
+    take_till(Range::from(0..), b'"').read(input)
+}
+
+/// Two quotes.
+fn read_two_quotes<'i>(input: &mut &'i [u8]) -> Result<(), ErrMode<EmptyError>>
+    ensures { Reads bytes_reading ⟦<ErrMode<EmptyError> as HasKind>⟧.kind TwoQuotes
+        (bytes_input input.old.now) result (bytes_input input.new.now) }
+{
+    match b"\"\"".as_slice().read(input) {
+        Ok(_) => Ok(()),
+        Err(error) => Err(error),
+    }
+}
+
+/// The name of what [`read_in_quotes`] reads.
 #[derive(Clone, Copy, Drop)]
-struct QuotedByte;
+struct BytesInQuotes<A>(A);
 
-impl<'i> Rule<&'i [u8], u8> for QuotedByte {
-    ghost grammar = { λ _. InQuotesRead };
+impl<'i, A: Allocator> Rule<&'i [u8], Vec<u8, A>> for BytesInQuotes<A> {
+    ghost grammar = { λ _. BytesRead };
 
-    ghost consumes = { λ _. ⊤ };
+    ghost consumes = { λ _. ⊥ };
 
     fn name() {}
 
-    ghost unique = { λ _. in_quotes_unique };
+    ghost unique = { λ _. list_unique };
 
-    ghost takes = { λ _ _. in_quotes_takes };
+    ghost takes = { λ _ never. absurd never };
 }
 
-/// A byte in quotes: two quotes are one.
-fn read_quoted_byte<'i>(input: &mut &'i [u8]) -> Result<u8, ErrMode<EmptyError>>
-    ensures { Reads bytes_reading ⟦<ErrMode<EmptyError> as HasKind>⟧.kind InQuotesRead
+/// The bytes between the quotes of a field, of two quotes one: runs of bytes that are none, with
+/// two quotes between.
+fn read_in_quotes<'i, A: Allocator + Copy>(
+    alloc: A,
+    input: &mut &'i [u8],
+) -> Result<Vec<u8, A>, ErrMode<EmptyError>>
+    ensures { Reads bytes_reading ⟦<ErrMode<EmptyError> as HasKind>⟧.kind BytesRead
         (bytes_input input.old.now) result (bytes_input input.new.now) }
 {
-    alt((preceded(b'"', b'"'), none_of(b'"'))).read(input)
+    let mut bytes = Vec::new(alloc);
+    'runs: loop {
+        match read_unquoted(input) {
+            Ok(unquoted) => match bytes.extend_from_slice(unquoted) {
+                Ok(()) => (),
+                Err(_) => return Err(ParserError::<&'i [u8]>::no_memory(input)),
+            },
+            Err(error) => return Err(error),
+        }
+        let here = *input;
+        match read_two_quotes(input) {
+            Ok(()) => match bytes.push(b'"') {
+                Ok(()) => (),
+                Err(_) => return Err(ParserError::<&'i [u8]>::no_memory(input)),
+            },
+            Err(error) => {
+                if ParserError::<&'i [u8]>::is_memory(&error) {
+                    return Err(error);
+                }
+                *input = here;
+                return Ok(bytes);
+            }
+        }
+    }
 }
 
 /// The name of what [`read_quoted`] reads.
@@ -109,8 +157,16 @@ fn read_quoted<'i, A: Allocator + Copy>(
     ensures { Reads bytes_reading ⟦<ErrMode<EmptyError> as HasKind>⟧.kind QuotedRead
         (bytes_input input.old.now) result (bytes_input input.new.now) }
 {
-    let bytes = repeat(alloc, Range::from(0..), QuotedByte.by(read_quoted_byte));
+    let bytes = BytesInQuotes(alloc).by(|input: &mut &[u8]| read_in_quotes(alloc, input));
     delimited(b'"', bytes, b'"').read(input)
+}
+
+/// Bytes of a field without quotes, as many as stand.
+fn read_plain_run<'i>(input: &mut &'i [u8]) -> Result<&'i [u8], ErrMode<EmptyError>>
+    ensures { Reads bytes_reading ⟦<ErrMode<EmptyError> as HasKind>⟧.kind PlainRun
+        (bytes_input input.old.now) result (bytes_input input.new.now) }
+{
+    take_till(Range::from(0..), (b'"', b',', b'\r', b'\n')).read(input)
 }
 
 /// The name of what [`read_plain`] reads.
@@ -137,8 +193,10 @@ fn read_plain<'i, A: Allocator + Copy>(
     ensures { Reads bytes_reading ⟦<ErrMode<EmptyError> as HasKind>⟧.kind PlainRead
         (bytes_input input.old.now) result (bytes_input input.new.now) }
 {
-    let plain = none_of((b'"', b',', b'\r', b'\n'));
-    repeat(alloc, Range::from(0..), plain).read(input)
+    match read_plain_run(input) {
+        Ok(plain) => Vec::from_slice(alloc, plain).or_no_memory(input),
+        Err(error) => Err(error),
+    }
 }
 
 /// The name of what [`read_field`] reads.

@@ -1,10 +1,10 @@
-use Rattle.winnow_exact.specs.Exact.Read.{reads_by}
+use Rattle.uses_csv.specs.Runs.{plain_kept, plain_wants}
+use Rattle.winnow_exact.specs.Exact.Read.{reads_wanting}
 use Rattle.uses_csv.proofs.read_plain.Goals as goal
 
-pub returns : goal.returns
-returns g c = reads_by c.read.ensures (rw (
-  c.repeat.ensures.occurrences,
-  c.repeat.ensures.parser,
-  c.from.ensures,
-  c.none_of-plain.ensures,
-))
+pub returns-in-Ok : goal.returns-in-Ok
+returns-in-Ok g c = plain_kept c.from_slice.result c.in-Ok.plain _ _ c.or_no_memory.result
+    c.from_slice.ensures.items c.or_no_memory.ensures c.in-Ok.ensures
+
+pub returns-in-Err : goal.returns-in-Err
+returns-in-Err g c = reads_wanting (plain_wants _ _ c.in-Err.ensures) c.in-Err.ensures.ends

@@ -2,10 +2,5 @@ use Rattle.winnow_exact.specs.Exact.Read.{reads_by}
 use Rattle.uses_csv.proofs.read_quoted.Goals as goal
 
 pub returns : goal.returns
-returns g c = reads_by c.read.ensures (rw (
-  c.delimited.ensures.ignored1,
-  c.delimited.ensures.parser,
-  c.delimited.ensures.ignored2,
-  c.repeat-bytes.ensures.occurrences,
-  c.from.ensures,
-))
+returns g c = reads_by c.read.ensures
+    (rw (c.delimited.ensures.ignored1, c.delimited.ensures.ignored2))

@@ -1,0 +1,11 @@
+use Rattle.uses_csv.specs.Runs.{unquoted_same}
+use Rattle.winnow_exact.specs.Exact.Read.{reads_by}
+use Rattle.winnow_exact.specs.Exact.Same.{reads_as}
+use Rattle.uses_csv.proofs.read_unquoted.Goals as goal
+
+pub returns : goal.returns
+returns c = reads_as unquoted_same (reads_by c.read.ensures (rw (
+  c.take_till.ensures.occurrences,
+  c.take_till.ensures.set,
+  c.from.ensures,
+)))
