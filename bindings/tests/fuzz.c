@@ -5,94 +5,12 @@
 #include <stdio.h>
 #include <stdlib.h>
 #include <string.h>
-#include <sys/mman.h>
 #include <unistd.h>
 
+#include "inputs.h"
 #include "pergidau.h"
 
-enum { PAGES = 2, MOST_FIELDS = 64 };
-
-static size_t page;
-/* Two rooms, each between two pages that cannot be read: for the input, and for the buffers. */
-static uint8_t *input_room, *buffer_room;
-static uint64_t state;
-
-static uint64_t random_number(void)
-{
-    state ^= state << 13;
-    state ^= state >> 7;
-    state ^= state << 17;
-    return state * 0x2545F4914F6CDD1Du;
-}
-
-static size_t below(size_t end)
-{
-    return (size_t)(random_number() % end);
-}
-
-static uint8_t *room(void)
-{
-    uint8_t *start = mmap(NULL, (PAGES + 2) * page, PROT_NONE, MAP_PRIVATE | MAP_ANONYMOUS, -1, 0);
-    if (start == MAP_FAILED || mprotect(start + page, PAGES * page, PROT_READ | PROT_WRITE)) {
-        exit(2);
-    }
-    return start + page;
-}
-
-static const char *const seeds[] = {
-    " 2 + 3 * 4 ^ 5 ! - -7 % 3 = 1",
-    "9223372036854775807 + 1",
-    "2 ^ 3 ^ 2",
-    "key=value\n",
-    "a=\xc3\xa9;b c\t=",
-    "[a]\nx = 1 ; one\r\n\n",
-    "; c\n[]\n[b c]x=2\nx=\xc3\xa9",
-    ", 1 ]",
-    "{\"a\": [1, -2.5e3, true, {\"b\": null}], \"\\u00e9\\n\": \"x\"} ",
-    "[[[[[[]]]]]]",
-    "[\"\\\"\", 0.1E-7, false]",
-    "a,\"b \"\"c\"\"\",\r\n\"d\ne\",f\r\n",
-    "GET /hello.txt HTTP/1.1\r\nUser-Agent: curl/7.64.1\r\nHost: www.example.com\r\n\r\n",
-    "+OK\r\n:-12\r\n$-1\r\n",
-    "*3\r\n$3\r\nfoo\r\n*1\r\n:7\r\n*-1\r\n+",
-    "$6\r\nfoo\r\n*\r\n-ERR x\r\n",
-    "PUT /x HTTP/1.0\r\nX: 1\r\nX:\t2 \r\nY:\r\nZ: \t \r\n\r\nbody",
-};
-enum { SEEDS = sizeof seeds / sizeof *seeds };
-
-static const char wanted[] = "0123456789+-*/%^!= \t\r\n:;,\"\\[]{}$eEntfu.GETHTTP/1.\xff\xc3\x80";
-
-/* Fills the bytes: at random, or from parts of seeds, some of whose bytes are turned. */
-static size_t fill(uint8_t *bytes, size_t most)
-{
-    size_t length = 0, parts = 1 + below(3);
-    if (below(8) == 0) {
-        length = below(most < 64 ? most : 64);
-        for (size_t i = 0; i < length; i++) {
-            bytes[i] = (uint8_t)random_number();
-        }
-        return length;
-    }
-    for (size_t part = 0; part < parts; part++) {
-        const char *seed = seeds[below(SEEDS)];
-        size_t size = strlen(seed), from = below(4) ? 0 : below(size), count = size - from;
-        if (below(3) == 0) {
-            count = below(count + 1);
-        }
-        if (count > most - length) {
-            break;
-        }
-        memcpy(bytes + length, seed + from, count);
-        length += count;
-        if (below(2)) {
-            break;
-        }
-    }
-    for (size_t turns = below(2) ? below(4) : 0; turns > 0 && length > 0; turns--) {
-        bytes[below(length)] = (uint8_t)wanted[below(sizeof wanted - 1)];
-    }
-    return length;
-}
+enum { MOST_FIELDS = 64 };
 
 static void fail(const char *what, const uint8_t *bytes, size_t length)
 {
