@@ -3,3 +3,4 @@ pub mod Leaves
 pub mod Parts
 pub mod Read
 pub mod Resp
+pub mod Room

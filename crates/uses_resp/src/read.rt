@@ -52,6 +52,10 @@ fn read_bulk<'i, A: Allocator>(
     }
 }
 
+/// For how many elements an array has room before one is read, at most: its size is what the bytes
+/// say, and they may state one that they do not have.
+const ROOM_AT_FIRST: usize = 64;
+
 /// What stands behind the `*` of an array.
 #[cycle(read)]
 fn read_array<'i, A: Allocator + Copy>(
@@ -68,7 +72,8 @@ fn read_array<'i, A: Allocator + Copy>(
         Some(size) => match level.checked_sub(1) {
             None => Err(ErrMode::from_input(input)),
             Some(inner) => {
-                let mut replies = Vec::new(alloc);
+                let room = size.min(ROOM_AT_FIRST);
+                let mut replies = Vec::with_capacity(alloc, room).or_no_memory(input)?;
                 for _ in 0..size {
                     let reply = read_reply(alloc, inner, input)?;
                     replies.push(reply).or_no_memory(input)?;

@@ -5,6 +5,7 @@ use Rattle.winnow_exact.specs.InTurn.{passed, stood, told_err, told_ok, wanting}
 use Rattle.winnow_exact.specs.InTurn.Rows.{more_failed, more_stood, none_stood}
 use Rattle.uses_resp.specs.Read.{alone_stood, array_failed, array_stood, made_failed, made_stood}
 use Rattle.uses_resp.specs.Read.{mark_splits, pushed, reply_unique, size_splits, too_deep}
+use Rattle.uses_resp.specs.Room.{roomy}
 use Rattle.uses_resp.specs.Resp.{ArrayBehind, Body, Elements, LineText, MarkText}
 use Rattle.uses_resp.specs.Resp.{ReplyText, SizeText}
 use Rattle.uses_resp.specs.declared.reply.Reply as made
@@ -16,7 +17,17 @@ read_array-returns-in_err-read_size g t c =
     (led_none SizeText (ArrayBehind (Elements c.args.level)) (failed c.in_err-read_size.ensures))
 
 pub read_array-loop-init : goal.read_array-loop-init
-read_array-loop-init g t c = rw c.new-replies.ensures.items (none_stood (ReplyText _))
+read_array-loop-init g t c =
+    rw (roomy c.with_capacity.result c.with_capacity.ensures.items
+    c.in_ok-replies-in-Some-checked_sub.ensures) (none_stood (ReplyText _))
+
+pub read_array-returns-in_err-replies-in-Some-checked_sub :
+    goal.read_array-returns-in_err-replies-in-Some-checked_sub
+read_array-returns-in_err-replies-in-Some-checked_sub g t c =
+    passed _ c.from_residual-in_err-replies-in-Some-checked_sub.result
+    c.from_residual-in_err-replies-in-Some-checked_sub.ensures.1
+    (wanting c.in_ok-read_size.ensures.whole.ends
+    c.in_err-replies-in-Some-checked_sub.ensures.1)
 
 pub read_array-returns-in_err-reply-in-Some-checked_sub :
     goal.read_array-returns-in_err-reply-in-Some-checked_sub
