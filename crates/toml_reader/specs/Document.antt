@@ -1,5 +1,5 @@
 -- Documents (TOML 1.0): lines that say no key and no table again.
-use Rattle.std.specs.Prelude.{◌≡◌, ◌⊎◌, ℕ, List, Option, None, Some, Result, IfOk, IfErr}
+use Rattle.std.specs.Prelude.{◌⊎◌, ℕ, List, Option, None, Some, Result, IfOk, IfErr}
 use Rattle.std.specs.declared.vec.Vec.{Vec}
 use Rattle.stream_errors.specs.Form.{marked_kind}
 use Rattle.toml_reader.specs.Repeats.{IsFirstRepeat}

@@ -1,12 +1,11 @@
 -- What characters of basic strings leave is one rest, and they take characters.
-use Rattle.std.specs.Prelude.{ℕ}
 use Rattle.std.proofs.Common.{inl}
 use Rattle.json_reader.specs.Unique.{char_takes, char_unique}
-use Rattle.json_texts.specs.Words.{Char, latter}
+use Rattle.json_texts.specs.Words.{latter}
 use Rattle.toml_reader.specs.Toml.{Character, Short, StandsFor, Tells}
 use Rattle.toml_reader.specs.declared.characters.Characters.TheVariants.{Basic}
 use Rattle.winnow_exact.specs.Exact.Tokens.{token_of_takes, token_takes}
-use Rattle.winnow_exact.specs.Grammar.{Both, IsUnique, Takes}
+use Rattle.winnow_exact.specs.Grammar.{IsUnique, Takes}
 use Rattle.winnow_exact.specs.Grammar.Meaning.{meaning_takes, meaning_unique}
 use Rattle.winnow_exact.specs.Grammar.Unique.{both_take, both_unique, either_takes, either_unique}
 use Rattle.winnow_exact.specs.Grammar.Unique.{token_of_unique, token_unique}

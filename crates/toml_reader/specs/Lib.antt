@@ -1,8 +1,10 @@
 -- Written by scripts/registries.py: do not edit.
 pub mod Document
 pub mod Escapes
+pub mod Expected
 pub mod First
 pub mod Lines
+pub mod Messages
 pub mod Parts
 pub mod Repeats
 pub mod Toml

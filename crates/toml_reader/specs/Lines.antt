@@ -1,23 +1,22 @@
 -- The grammars of lines and documents are those of what is written.
-use Rattle.std.specs.Prelude.{◌≡◌, ◌⊎◌, ◌≤◌, ◌<◌, ℕ, List, [], ◌∷◌, None}
-use Rattle.std.proofs.Common.{refl, subst, inl, inr, arith}
+use Rattle.std.specs.Prelude.{◌≡◌, ◌⊎◌, ◌<◌, ℕ, [], None}
+use Rattle.std.proofs.Common.{refl, inl, inr, arith}
 use Rattle.streams.specs.Text.{text_reading}
 use Rattle.stream_sets.specs.AsChar.{IsDecDigit, IsSpace}
 use Rattle.stream_sets.specs.Range.{from_to}
-use Rattle.json_texts.specs.Words.{For, between_of, char_of, for_front, for_of, former, latter}
-use Rattle.json_texts.specs.Words.{One, pair}
-use Rattle.toml_reader.specs.Toml.{AnyComment, AnyItem, CharactersText, CommentText, Document}
+use Rattle.json_texts.specs.Words.{For, between_of, char_of, for_front, for_of, latter}
+use Rattle.json_texts.specs.Words.{pair}
+use Rattle.toml_reader.specs.Toml.{AnyComment, AnyItem, CommentText, Document}
 use Rattle.toml_reader.specs.Toml.{DocumentText, Entry, EntryText, IsBare, IsEntry, IsOf, IsTable}
 use Rattle.toml_reader.specs.Toml.{ItemText, Line, LineText, Newline, NewlineText, Separator}
-use Rattle.toml_reader.specs.Toml.{SeparatorText, Spaced, Table, TableText, Tells, WsText}
-use Rattle.toml_reader.specs.Values.{Opens, Past, characters_begin, characters_of, mark_begins}
+use Rattle.toml_reader.specs.Toml.{SeparatorText, Spaced, Table, TableText, Tells}
+use Rattle.toml_reader.specs.Values.{characters_begin, characters_of, mark_begins}
 use Rattle.toml_reader.specs.Values.{mark_of, no_space, past, space_digit, spaced_begins, spaced_of}
 use Rattle.toml_reader.specs.Values.{value_begins, value_of, ws_front, ws_of}
 use Rattle.toml_reader.specs.declared.characters.Characters.TheVariants.{Bare, Comment}
-use Rattle.winnow_exact.specs.Grammar.{NoneStands}
 use Rattle.winnow_exact.specs.Grammar.Meaning.{Meaning}
 use Rattle.winnow_exact.specs.Texts.{Anything, AtEnd, BeginsIn, InFront, IsGrammarOf, MayBegin}
-use Rattle.winnow_exact.specs.Texts.{NotFirst, Perhaps}
+use Rattle.winnow_exact.specs.Texts.{NotFirst}
 use Rattle.winnow_exact.specs.Texts.Fronts.{among_front, begins_wider, front_any, front_begins}
 use Rattle.winnow_exact.specs.Texts.Fronts.{front_behind, may_begin_more, may_begin_none}
 use Rattle.winnow_exact.specs.Texts.Fronts.{none_begins, perhaps_front, spelled_begins, then_front}

@@ -7,11 +7,11 @@ use Rattle.stream_sets.specs.AsChar.{IsSpace}
 use Rattle.stream_sets.specs.Range.{from_to}
 use Rattle.json_reader.specs.Unique.{char_unique, run_unique, word_unique}
 use Rattle.json_texts.specs.Words.{former, latter, pair}
-use Rattle.toml_reader.specs.Toml.{AnyCharacters, AnyComment, AnyItem, AnyValue, Array, Entry}
+use Rattle.toml_reader.specs.Toml.{AnyCharacters, AnyComment, AnyItem, AnyValue, Array}
 use Rattle.toml_reader.specs.Toml.{Integer, IsArray, IsBoolean, IsEntry, IsInteger, IsOf}
 use Rattle.toml_reader.specs.Toml.{IsTable, IsText, Line, Mark}
 use Rattle.toml_reader.specs.Escapes.{character_unique}
-use Rattle.toml_reader.specs.Toml.{Scalar, SpacedOut, Table, Tells, Ws, false_word, true_word}
+use Rattle.toml_reader.specs.Toml.{Scalar, SpacedOut, Tells, Ws, false_word, true_word}
 use Rattle.toml_reader.specs.declared.characters.Characters.{Characters}
 use Rattle.toml_reader.specs.declared.characters.Characters.TheVariants.{Bare, Comment, Literal}
 use Rattle.toml_reader.specs.declared.value.Value.{Value}

@@ -13,7 +13,9 @@
 pub mod characters;
 pub mod document;
 mod escapes;
+pub mod expected;
 pub mod lines;
+pub mod messages;
 mod parts;
 pub mod repeats;
 mod scalars;

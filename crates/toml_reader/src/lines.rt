@@ -198,7 +198,7 @@ fn read_item<'i, A: Allocator + Copy>(
 
 /// The name of what [`read_line`] reads.
 #[derive(Clone, Copy, Drop)]
-struct AnyLine<A>(A, usize);
+pub(crate) struct AnyLine<A>(pub(crate) A, pub(crate) usize);
 
 impl<'i, A: Allocator> Rule<&'i str, Option<Item<A>>> for AnyLine<A> {
     ghost grammar = { λ r. Line r.1 };
@@ -213,7 +213,7 @@ impl<'i, A: Allocator> Rule<&'i str, Option<Item<A>>> for AnyLine<A> {
 }
 
 /// A line: a table, an entry or nothing, and a comment or nothing, up to the line end.
-fn read_line<'i, A: Allocator + Copy>(
+pub(crate) fn read_line<'i, A: Allocator + Copy>(
     alloc: A,
     level: usize,
     input: &mut &'i str,
