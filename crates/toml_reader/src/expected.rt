@@ -99,8 +99,8 @@ fn past<'i, O: Drop, P: Exact<&'i str, O, ErrMode<EmptyError>> + Drop>(
     }
 }
 
-/// What a parser leaves of a text. An error says that it does not read, or that a request for memory
-/// was refused.
+/// What a parser leaves of a text. An error says that it does not read, or that a request for
+/// memory was refused.
 fn behind<'i, O: Drop, P: Exact<&'i str, O, ErrMode<EmptyError>> + Drop>(
     parser: P,
     text: &'i str,
