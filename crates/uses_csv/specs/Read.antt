@@ -41,7 +41,7 @@ use Rattle.winnow_exact.specs.Texts.Tokens.{byte_of, divides_either, divides_oth
 use Rattle.winnow_exact.specs.Texts.Tokens.{token_of}
 
 -- what the set of one byte tells
-abbrev Tells : ℕ → ℕ → Bool → Type 0
+abbrev pub Tells : ℕ → ℕ → Bool → Type 0
 Tells member b answer = IsTrue answer ↔ (b ≡ member)
 
 -- what a list holds
@@ -108,7 +108,7 @@ module _ {A : Type 0} where
   quoted_unique = three_unique (λ _ o _. o) (byte_unique 34) list_unique (byte_unique 34)
 
 -- what the set `(b'"', b',', b'\r', b'\n')` tells
-abbrev Special : ℕ × ℕ × ℕ × ℕ → ℕ → Bool → Type 0
+abbrev pub Special : ℕ × ℕ × ℕ × ℕ → ℕ → Bool → Type 0
 Special s = EitherTells (Tells s.0) (EitherTells (Tells s.1) (EitherTells (Tells s.2) (Tells s.3)))
 
 -- a carriage return or line feed; and these or a comma
@@ -123,7 +123,7 @@ break_ends b (inl is) = (λ e. omega (arith, is, e), inr (λ e. omega (arith, is
 break_ends b (inr (other, is)) =
     (λ e. omega (arith, is, e), inr (λ e. omega (arith, is, e), inr (other, is)))
 
-abbrev PlainByte : Grammar ℕ ℕ
+abbrev pub PlainByte : Grammar ℕ ℕ
 PlainByte = TokenOf (λ b. b) (Others Special) (34, 44, 13, 10)
 
 pub plain_byte : IsGrammarOf PlainByte (OneOf (λ b. b) IsPlain) Anything

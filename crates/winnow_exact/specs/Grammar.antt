@@ -17,6 +17,7 @@ pub mod Known
 pub mod Meaning
 pub mod Numbers
 pub mod Outputs
+pub mod Runs
 pub mod Searches
 pub mod Sequences
 pub mod Till
