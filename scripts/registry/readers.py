@@ -25,7 +25,7 @@ READERS = [
     ("JSON: extents, in pieces", "uses_json", "no", "where a value ends, whole and in pieces"),
     ("TOML 1.0, a subset", "toml_reader", "yes",
         "`Ok` exactly where the text is lines of this document; the first line that says a key or "
-        "a table again"),
+        "a table again, and what the first one lacks that is no line"),
     ("HTTP/1.1 heads (RFC 9112)", "http_heads", "yes",
         "the request line, field line and head that bytes begin with"),
     ("HTTP/1.1 size lines of chunks", "http_chunks", "yes",
