@@ -1,7 +1,15 @@
 //! The types of numbers as text, by the calls of their traits.
-use test_support::rows::same;
-use winnow_numbers::ascii::impls::HexUint;
+use streams::needed::Needed;
+use streams::partial::Partial;
+use test_support::outcomes::Kind::{Backtrack, Incomplete};
+use test_support::rows::{Modal, answers_each, answers_on_cut, same};
+use winnow_numbers::ascii::impls::{HexUint, HexUintParser};
 use winnow_numbers::ascii::{Int, Uint};
+
+/// Cut text and cut bytes.
+type CutText = Partial<&'static str>;
+
+type CutBytes = Partial<&'static [u8]>;
 
 #[test]
 fn numbers_by_their_types(rt: HostRuntime) {
@@ -34,4 +42,45 @@ fn numbers_by_their_types(rt: HostRuntime) {
     assert_eq!(rt; 0xA_u8.push_nibble(0xB), 0xAB, "push_nibble");
     assert_eq!(rt; 0xFFF_u16.push_nibble(0xF), u16::MAX, "push_nibble");
     assert_eq!(rt; 1_u128.push_nibble(2), 18, "push_nibble");
+}
+
+/// A type's greatest number of digits, one digit fewer, and one more.
+macro_rules! digits_of {
+    ($rt:expr; $name:literal, $output:ty, $digits:literal) => {{
+        let all = "ffffffffffffffffffffffffffffffff;";
+        let more = "fffffffffffffffffffffffffffffffff";
+        let (most, fewer) = (&all[32 - $digits..], &all[33 - $digits..]);
+        let digits = &all[32 - $digits..32];
+        let cut_fewer = &all[33 - $digits..32];
+        let too_many = &more[32 - $digits..];
+        let largest = <$output>::MAX;
+        let rows = [
+            (most, Ok(largest), ";"),
+            (digits, Ok(largest), ""),
+            (fewer, Ok(largest >> 4), ";"),
+            (too_many, Err(Backtrack), too_many),
+        ];
+        answers_each::<&str, $output, Modal, _>(&$rt, $name, HexUintParser, &rows);
+        answers_each::<&[u8], $output, Modal, _>(&$rt, $name, HexUintParser, &rows);
+        let cut = [
+            (most, Ok(largest), ";"),
+            (digits, Err(Incomplete(Needed::new(1))), digits),
+            (cut_fewer, Err(Incomplete(Needed::new(1))), cut_fewer),
+            (too_many, Err(Backtrack), too_many),
+        ];
+        for row in cut {
+            answers_on_cut::<CutText, $output, Modal, _>(&$rt, $name, &mut HexUintParser, row);
+            answers_on_cut::<CutBytes, $output, Modal, _>(&$rt, $name, &mut HexUintParser, row);
+        }
+    }};
+}
+
+#[test]
+fn hex_uint_of_the_greatest_number_of_digits(rt: HostRuntime) {
+    digits_of!(rt; "hex_uint::<u8>", u8, 2);
+    digits_of!(rt; "hex_uint::<u16>", u16, 4);
+    digits_of!(rt; "hex_uint::<u32>", u32, 8);
+    digits_of!(rt; "hex_uint::<u64>", u64, 16);
+    digits_of!(rt; "hex_uint::<u128>", u128, 32);
+    digits_of!(rt; "hex_uint::<usize>", usize, 16);
 }
