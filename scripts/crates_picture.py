@@ -68,7 +68,7 @@ def reduced(on):
 
 
 def kind_of(name, on):
-    if name.startswith(("uses", "readers")):
+    if name.startswith(("uses", "readers", "json_", "http_", "dns_", "toml_", "exported")):
         return "callers"
     if name.startswith("winnow_expression"):
         return "expressions"

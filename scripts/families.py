@@ -16,7 +16,6 @@ from family.chosen import write_chosen
 from family.classes import write_classes
 from family.decided import write_decided
 from family.exact import write_exact
-from family.exact_integers import write_exact_integers
 from family.integers import write_integers
 from family.known import write_known
 from family.reads import write_reads
@@ -36,5 +35,4 @@ if __name__ == "__main__":
     write_chosen()
     write_exact()
     write_decided()
-    write_exact_integers()
-    print("stream_sets winnow_core winnow_comb winnow_ascii winnow_integers winnow_binary")
+    print("stream_sets grammars winnow_core winnow_comb winnow_ascii winnow_integers winnow_binary")

@@ -26,9 +26,9 @@ MODELS = {
 NEXT = """Now change, in this order:
   {spec}: the definition, `{kind}Runs`, a line a case
   {file}: the clauses and the documentation of `{name}`, and what it runs
-  {impls}: the struct `{kind}`, its parser, and that it is stable
-  {laws}: that its runs leave an end, stay on longer inputs, and mean the same over streams that
-    are read alike
+  {impls}: the struct `{kind}`, its parser, that it is stable and decided, and what it reads
+  {laws}: that its runs leave an end, stay on longer inputs, mean the same over streams that are
+    read alike, are decided, and read by its grammar
   {known}: what a caller knows of a run that answered
   {test}: what it answers, by values from outside
   {edit}: a line of the code, and a wrong one in its place

@@ -20,15 +20,14 @@ USE = re.compile(r"^pub use ([\w:]+)::(\w+|\{[^}]*\});\n", re.MULTILINE)
 
 def taken(parts):
     """The lines of `crates.txt` that name the library's crates, where these parts are wanted."""
-    lines, found = library(), {}
+    lines = library()
     gone = {crate for part, names in PARTS.items() if part not in parts for crate in names}
-    for crate, line in lines.items():
-        head, _, others = line.partition(":")
-        inside = [it for it in others.split() if it in lines]
-        if crate == "winnow":
-            found[crate] = f"{head}: {' '.join(it for it in inside if it in found)}"
-        elif crate not in gone and all(it in found for it in inside):
-            found[crate] = line
+    on = {crate: [it for it in line.partition(":")[2].split() if it in lines] for crate, line in lines.items()}
+    # What stands on a crate that is gone goes too, but the crate that names all.
+    while lacking := {it for it in on if it not in gone | {"winnow"} and gone.intersection(on[it])}:
+        gone |= lacking
+    found = {crate: line for crate, line in lines.items() if crate not in gone}
+    found["winnow"] = f"winnow: {' '.join(it for it in on['winnow'] if it in found)}"
     return found
 
 

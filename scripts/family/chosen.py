@@ -1,5 +1,6 @@
 """The parsers of integers whose bytes stand in an order that is chosen, in `winnow_binary`."""
 from family.common import camel, documented, write
+from family.exact_integers import chosen_exact
 from family.integers import ALIKE, IMPORTS, WIDTHS, Integer
 from family.stable import integer_block
 
@@ -63,8 +64,10 @@ CHOSEN_STRUCT = (
 //!
 //! {head}
 ghost use Rattle.std.specs.Prelude.{{◌≡◌}};
-ghost use Rattle.winnow_binary.specs.Chosen.{{ChosenRuns}};
+ghost use Rattle.winnow_binary.specs.Chosen.{{ChosenRuns, {name}_endian}};
 ghost use Rattle.winnow_integers.specs.Integer.{{{value}}};
+ghost use Rattle.winnow_integers.specs.Integer.Laws.{{integer_exact, integer_soft, some_bytes}};
+ghost use Rattle.winnow_integers.specs.Integer.Grammar.{{Integer, integer_takes}};
 ghost use Rattle.winnow_integers.specs.Integer.Laws.{{integer_alike, integer_ends, integer_stays}};
 ghost use Rattle.winnow_integers.specs.declared.binary.endianness.Endianness.{{Endianness}};
 ghost use Rattle.winnow_core.specs.Agrees.{{agrees_by}};
@@ -109,6 +112,8 @@ impl<I: StreamIsPartial + ByteStream, E: ParserError<I>> Parser<I, {type}, E> fo
 
 {stable}
 
+{exact}
+
 """
     + ALIKE
 )
@@ -149,5 +154,5 @@ def write_chosen():
         text = "%s of %s, which stand in an order that is chosen." % (one.kind(), one.bytes())
         agrees = "agrees_by (λ p. p.endian) (λ q. q.endian) (integer_alike %d %s I.same_reading)" % (one.width, one.value)
         stable = integer_block(one, kind + "<I, E>", "x", "(%s x)" % one.value)
-        parts = {"stable": stable, "kind": kind, "own": kind + "<I, E>", "other": kind + "<J, F>", "like": "p.endian ≡ q.endian", "agrees": agrees, **vars(one)}
+        parts = {"stable": stable, "exact": chosen_exact(name, one), "kind": kind, "own": kind + "<I, E>", "other": kind + "<J, F>", "like": "p.endian ≡ q.endian", "agrees": agrees, **vars(one)}
         write(CHOSEN + "src/binary/impls/%s.rt" % name, CHOSEN_STRUCT, about=text, name=name, row=row, number=number, **parts)

@@ -82,15 +82,58 @@ use streams::stream::StreamIsPartial;
 """
 
 
+def class_impl(kind, trait, members):
+    return "\n".join(
+        [
+            "impl<I: StreamIsPartial, E: ParserError<I>> %s<I, I::Slice, E> for %s" % (trait, kind),
+            "where",
+            "    I::Token: AsChar,",
+            "{",
+            "\n\n".join("    ghost %s = { %s };" % row for row in members),
+            "}",
+        ]
+    )
+
+
+def class_decided(kind, is_member, least):
+    """That one state and one input decide a take of a class."""
+    members = [
+        ("premise", "λ p. SeenOnce I.seen_as I.Token.code"),
+        ("alike", "λ p. ShowSame I.reading"),
+        ("decided", "λ p form is. class_decided %s %d I.Token.code I.seen_as I.reading form is" % (is_member, least)),
+    ]
+    return class_impl(kind, "Decided", members)
+
+
+def class_exact(kind, is_member, least):
+    """What a take of a class reads."""
+    parts = "%s %d I.Token.code I.seen_as I.reading" % (is_member, least)
+    members = [("premise", "λ p. SeesApart I.seen_as")]
+    if not least:
+        members.append(("consumes", "λ p. ⊥"))
+    members += [
+        ("grammar", "λ p. Class %s" % parts),
+        ("exact", "λ p form is. class_exact %s form is" % parts),
+        ("soft", "λ p form is soft. class_soft %s form" % parts),
+        ("takes", "λ p is some. class_takes %s one_is_some" % parts if least else "λ p is never. absurd never"),
+    ]
+    return class_impl(kind, "Exact", members)
+
+
 CLASS_STRUCT = """//! {about}
 //!
 //! {head}
 ghost use Rattle.std.specs.Prelude.{{None, ⊤}};
 ghost use Rattle.stream_sets.specs.AsChar.{{{member}}};
+ghost use Rattle.stream_sets.specs.Once.{{SeesApart}};
 ghost use Rattle.stream_sets.specs.Range.{{from_to}};
+ghost use Rattle.grammars.specs.Grammar.{{Class}};
 ghost use Rattle.winnow_ascii.specs.Class.{{ClassRuns}};
+ghost use Rattle.winnow_ascii.specs.Class.Laws.{{SeenOnce, class_decided}};
+ghost use Rattle.winnow_ascii.specs.Class.Laws.{{{reads}}};
 ghost use Rattle.winnow_ascii.specs.Class.Laws.{{class_alike, class_ends}};
 ghost use Rattle.winnow_core.specs.Agrees.{{agrees_plain}};
+ghost use Rattle.winnow_core.specs.Literal.Laws.{{ShowSame}};
 ghost use Rattle.winnow_core.specs.Runs.{{Keeps}};
 ghost use Rattle.winnow_core.specs.Stable.Grows.{{leaf_stays}};
 ghost use Rattle.winnow_token.specs.TakeWhile.Laws.{{take_while_stays}};
@@ -101,6 +144,8 @@ use stream_sets::as_char::AsChar;
 use streams::reads_like::ReadsLike;
 use streams::stream::{{Stream, StreamIsPartial}};
 use winnow_core::agrees_with::AgreesWith;
+use winnow_core::decided::Decided;
+use winnow_core::exact::Exact;
 use winnow_core::parser::Parser;
 use winnow_core::stable::Stable;
 
@@ -132,6 +177,10 @@ where
 
 {stable}
 
+{decided}
+
+{exact}
+
 impl<I: StreamIsPartial + ReadsLike<J>, J: StreamIsPartial + Stream<Token = I::Token, Seen = I::Seen, Slice = I::Slice>, E: ParserError<I>, F: ParserError<J>> AgreesWith<I, I::Slice, E, {kind}, J, F> for {kind}
 where
     I::Token: AsChar,
@@ -154,5 +203,10 @@ def write_classes():
     for name, members, one, chars, is_member, front, rest, least in rows:
         call = "%s%d" % (name, least)
         about = "The longest beginning of %s, %s." % (members, "at least one" if least else "none too")
-        stable = class_block(camel(call), least)
-        write(ascii_crate + "src/ascii/impls/%s.rt" % call, CLASS_STRUCT, about=about, stable=stable, call=call, kind=camel(call), member=is_member, least=least, front=front, rest=rest)
+        blocks = {
+            "stable": class_block(camel(call), least),
+            "decided": class_decided(camel(call), is_member, least),
+            "exact": class_exact(camel(call), is_member, least),
+            "reads": "class_exact, class_soft" + (", class_takes, one_is_some" if least else ""),
+        }
+        write(ascii_crate + "src/ascii/impls/%s.rt" % call, CLASS_STRUCT, about=about, **blocks, call=call, kind=camel(call), member=is_member, least=least, front=front, rest=rest)

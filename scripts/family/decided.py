@@ -1,9 +1,9 @@
-"""That tuples of parsers, choices among them and classes are decided, in the crate `winnow_decided`."""
-from family.classes import class_parsers
-from family.common import MOST, NUMBER, block, camel, rust_tuple, tuple_type, tuple_value, upto, write
-from family.exact import LARGE, numbered, nested, part, prefix, spaced, there_lemma, to_split, whole
+"""That tuples of parsers, and choices among them, are decided, beside these parsers."""
+from family.common import MOST, NUMBER, block, rust_tuple, tuple_type, tuple_value, upto, write
+from family.exact import LARGE, numbered, nested, part, prefix, spaced, to_split, whole
 
-DECIDED = "crates/winnow_decided/"
+CORE = "crates/winnow_core/"
+COMB = "crates/winnow_comb/"
 ALIKE = {2: "AlikePairs", 3: "AlikeTriples", 4: "AlikeFour", 5: "AlikeFive", 6: "AlikeSix"}
 
 
@@ -50,15 +50,13 @@ def decided_lemma(n):
 
 LEMMAS = """-- Tuples of four to six parsers are decided.
 -- {head}
-use Rattle.std.proofs.Common.{{refl, ap, inl, inr}}
-use Rattle.streams.specs.Input.{{Input}}
-use Rattle.stream_errors.specs.Form.{{Answer}}
+use Rattle.std.proofs.Common.{{ap}}
+use Rattle.winnow_core.specs.Decided.{{IsDecided}}
+use Rattle.winnow_core.specs.InOrder.Decided.{{AlikeTriples, both_decided, decided_along}}
+use Rattle.winnow_core.specs.InOrder.Decided.{{three_decided}}
 use Rattle.winnow_core.specs.Runs.{{Runs}}
 use Rattle.winnow_core.specs.Sequence.{{{names}}}
-use Rattle.winnow_comb.specs.InOrder.{{BothRuns, ThreeRuns}}
-use Rattle.winnow_decided.specs.Decided.{{IsDecided}}
-use Rattle.winnow_decided.specs.Decided.Sequences.{{AlikeTriples, both_decided, decided_along}}
-use Rattle.winnow_decided.specs.Decided.Sequences.{{three_decided}}
+use Rattle.winnow_core.specs.Sequence.Exact.{{{theres}}}
 
 {family}
 """
@@ -87,8 +85,8 @@ def tuple_block(n):
 BLOCKS = """//! Tuples of two to six answer one thing on one input.
 //!
 //! {head}
-ghost use Rattle.winnow_decided.specs.Decided.Sequences.{{AlikePairs, AlikeTriples, both_decided}};
-ghost use Rattle.winnow_decided.specs.Decided.Sequences.{{three_decided}};
+ghost use Rattle.winnow_core.specs.InOrder.Decided.{{AlikePairs, AlikeTriples, both_decided}};
+ghost use Rattle.winnow_core.specs.InOrder.Decided.{{three_decided}};
 {lemmas}
 
 use crate::decided::Decided;
@@ -122,59 +120,22 @@ CHOICES = """//! Choices among one to six answer one thing on one input.
 //!
 //! {head}
 ghost use Rattle.winnow_comb.specs.Alt.{{alt_alternatives}};
-ghost use Rattle.winnow_decided.specs.Decided.Choices.{{EitherAlike, or_else_decided}};
+ghost use Rattle.winnow_comb.specs.Alt.Laws.{{EitherAlike, or_else_decided}};
 
-use crate::decided::Decided;
+use crate::combinator::impls::alt::AltParser;
 use stream_errors::parser_error::ParserError;
 use streams::stream::Stream;
-use winnow_comb::combinator::impls::AltParser;
-
-{family}
-"""
-
-
-def class_block(name, members, one, chars, is_member, front, rest, least):
-    return "\n".join(
-        [
-            "impl<I: StreamIsPartial, E: ParserError<I>> Decided<I, I::Slice, E> for %s%d" % (camel(name), least),
-            "where",
-            "    I::Token: AsChar,",
-            "{",
-            "    ghost premise = { λ p. SeenOnce I.seen_as I.Token.code };",
-            "",
-            "    ghost alike = { λ p. ShowSame I.reading };",
-            "",
-            "    ghost decided = { λ p form is. class_decided %s %d I.Token.code I.seen_as I.reading form is };" % (is_member, least),
-            "}",
-        ]
-    )
-
-
-CLASSES = """//! Classes of ASCII characters answer one thing on one input.
-//!
-//! {head}
-ghost use Rattle.stream_sets.specs.AsChar.{{IsAlpha, IsAlphanum, IsDecDigit, IsHexDigit}};
-ghost use Rattle.stream_sets.specs.AsChar.{{IsMultispace, IsOctDigit, IsSpace}};
-ghost use Rattle.winnow_decided.specs.Decided.Literals.{{ShowSame}};
-ghost use Rattle.winnow_decided.specs.Decided.Classes.{{SeenOnce, class_decided}};
-
-use crate::decided::Decided;
-use stream_errors::parser_error::ParserError;
-use stream_sets::as_char::AsChar;
-use streams::stream::StreamIsPartial;
-use winnow_ascii::ascii::impls::{{{names}}};
+use winnow_core::decided::Decided;
 
 {family}
 """
 
 
 def write_decided():
-    classes = class_parsers()
-    named = ", ".join(sorted("%s%d" % (camel(row[0]), row[-1]) for row in classes))
-    write(DECIDED + "src/decided/classes.rt", CLASSES, names=named, family="\n\n".join(class_block(*row) for row in classes))
     names = ", ".join("SequenceRuns%d" % n for n in LARGE)
-    lemmas = "\n\n".join("%s\n\n%s\n\n%s" % (alike_spec(n), there_lemma(n), decided_lemma(n)) for n in LARGE)
-    write(DECIDED + "specs/Decided/Tuples.antt", LEMMAS, names=names, family=lemmas)
-    uses = "\n".join("ghost use Rattle.winnow_decided.specs.Decided.Tuples.{%s, tuple%d_decided};" % (ALIKE[n], n) for n in LARGE)
-    write(DECIDED + "src/decided/tuples.rt", BLOCKS, lemmas=uses, family="\n\n".join(tuple_block(n) for n in range(2, MOST + 1)))
-    write(DECIDED + "src/decided/alternatives.rt", CHOICES, family="\n\n".join(choice_block(n) for n in upto(MOST)))
+    theres = ", ".join("there%d" % n for n in LARGE)
+    lemmas = "\n\n".join("%s\n\n%s" % (alike_spec(n), decided_lemma(n)) for n in LARGE)
+    write(CORE + "specs/Sequence/Decided.antt", LEMMAS, names=names, theres=theres, family=lemmas)
+    uses = "\n".join("ghost use Rattle.winnow_core.specs.Sequence.Decided.{%s, tuple%d_decided};" % (ALIKE[n], n) for n in LARGE)
+    write(CORE + "src/parser/tuples/decided.rt", BLOCKS, lemmas=uses, family="\n\n".join(tuple_block(n) for n in range(2, MOST + 1)))
+    write(COMB + "src/combinator/impls/alt/decided.rt", CHOICES, family="\n\n".join(choice_block(n) for n in upto(MOST)))

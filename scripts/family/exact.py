@@ -1,7 +1,9 @@
-"""What tuples of parsers read, and choices among them, in the crate `winnow_exact`."""
+"""What tuples of parsers read, and choices among them, beside these parsers."""
 from family.common import BETWEEN, MOST, NUMBER, block, conjunction, rust_tuple, tuple_type, tuple_value, upto, write
 
-EXACT = "crates/winnow_exact/"
+CORE = "crates/winnow_core/"
+COMB = "crates/winnow_comb/"
+GRAMMARS = "crates/grammars/"
 WORDS = {2: "Both", 3: "Three", 4: "Four", 5: "Five", 6: "Six"}
 LARGE = range(4, MOST + 1)
 
@@ -56,7 +58,7 @@ def word_spec(n):
 WORD_SPECS = """-- What tuples of four to six parsers read.
 -- {head}
 use Rattle.std.specs.Prelude.{{◌≡◌, List}}
-use Rattle.winnow_exact.specs.Grammar.{{Grammar}}
+use Rattle.grammars.specs.Grammar.{{Grammar}}
 
 {family}
 """
@@ -128,7 +130,7 @@ def there_lemma(n):
     arguments = spaced("run#", n)
     name = "there%d" % n
     lines = [
-        "%s : {%s : Type 0} %s (s : %s) (i : Input T) (answer : Answer (%s)) (t : %s) (j : Input T)"
+        "pub %s : {%s : Type 0} %s (s : %s) (i : Input T) (answer : Answer (%s)) (t : %s) (j : Input T)"
         % (name, types, runs, states, tuple_type(numbered("O#", n)), states)
         + " → SequenceRuns%d %s s i answer t j → BothRuns %s (%s %s) run%d %s i answer %s j"
         % (n, arguments, joined(n), run_word(n - 1), spaced("run#", n - 1), n, split("s", n), split("t", n))
@@ -218,17 +220,18 @@ LEMMAS = """-- What tuples of four to six parsers read: what all but the last re
 use Rattle.std.specs.Prelude.{{◌⊎◌}}
 use Rattle.std.proofs.Common.{{refl, ap, inl, inr, ◌∙◌}}
 use Rattle.streams.specs.Input.{{Input}}
+use Rattle.grammars.specs.Grammar.{{Both, Grammar, Takes, Three}}
+use Rattle.grammars.specs.Grammar.Same.{{Same, takes_as}}
+use Rattle.grammars.specs.Grammar.Tuples.{{{words}}}
 use Rattle.stream_errors.specs.Form.{{Answer}}
+use Rattle.winnow_core.specs.Exact.{{IsExact, IsSoft}}
+use Rattle.winnow_core.specs.Exact.Along.{{either_way, exact_along, soft_along}}
+use Rattle.winnow_core.specs.Exact.Same.{{exact_as}}
+use Rattle.winnow_core.specs.InOrder.{{BothRuns, ThreeRuns}}
+use Rattle.winnow_core.specs.InOrder.Exact.{{both_exact, both_soft, both_takes}}
+use Rattle.winnow_core.specs.InOrder.Three.{{three_exact, three_soft, three_takes}}
 use Rattle.winnow_core.specs.Runs.{{Runs}}
 use Rattle.winnow_core.specs.Sequence.{{{names}}}
-use Rattle.winnow_comb.specs.InOrder.{{BothRuns, ThreeRuns}}
-use Rattle.winnow_exact.specs.Exact.{{IsExact, IsSoft}}
-use Rattle.winnow_exact.specs.Exact.Along.{{either_way, exact_along, exact_as, soft_along, takes_as}}
-use Rattle.winnow_exact.specs.Exact.Same.{{Same}}
-use Rattle.winnow_exact.specs.Exact.Sequences.{{both_exact, both_soft, both_takes}}
-use Rattle.winnow_exact.specs.Exact.Three.{{three_exact, three_soft, three_takes}}
-use Rattle.winnow_exact.specs.Grammar.{{Both, Grammar, Takes, Three}}
-use Rattle.winnow_exact.specs.Grammar.Tuples.{{{words}}}
 
 {family}
 """
@@ -276,12 +279,12 @@ BLOCKS = """//! Tuples of two to six read what their members read, one behind th
 //! {head}
 ghost use Rattle.std.specs.Prelude.{{◌≡◌, ◌⊎◌}};
 ghost use Rattle.stream_errors.specs.Form.{{modal}};
-ghost use Rattle.winnow_exact.specs.Exact.Along.{{either_way}};
-ghost use Rattle.winnow_exact.specs.Exact.Sequences.{{both_exact, both_soft, both_takes}};
-ghost use Rattle.winnow_exact.specs.Exact.Three.{{three_exact, three_soft, three_takes}};
+ghost use Rattle.grammars.specs.Grammar.{{Both, Three}};
+ghost use Rattle.grammars.specs.Grammar.Tuples.{{{words}}};
+ghost use Rattle.winnow_core.specs.Exact.Along.{{either_way}};
+ghost use Rattle.winnow_core.specs.InOrder.Exact.{{both_exact, both_soft, both_takes}};
+ghost use Rattle.winnow_core.specs.InOrder.Three.{{three_exact, three_soft, three_takes}};
 {lemmas}
-ghost use Rattle.winnow_exact.specs.Grammar.{{Both, Three}};
-ghost use Rattle.winnow_exact.specs.Grammar.Tuples.{{{words}}};
 
 use crate::exact::Exact;
 use stream_errors::parser_error::ParserError;
@@ -333,15 +336,15 @@ CHOICES = """//! Choices among one to six read what the first branch reads of wh
 //!
 //! {head}
 ghost use Rattle.std.specs.Prelude.{{◌≡◌, ⊤}};
+ghost use Rattle.grammars.specs.Grammar.{{Either}};
+ghost use Rattle.grammars.specs.Grammar.Unique.{{either_takes}};
 ghost use Rattle.winnow_comb.specs.Alt.{{alt_alternatives}};
-ghost use Rattle.winnow_exact.specs.Exact.Choices.{{or_else_exact, or_else_soft}};
-ghost use Rattle.winnow_exact.specs.Grammar.{{Either}};
-ghost use Rattle.winnow_exact.specs.Grammar.Unique.{{either_takes}};
+ghost use Rattle.winnow_comb.specs.Alt.Laws.{{or_else_exact, or_else_soft}};
 
-use crate::exact::Exact;
+use crate::combinator::impls::alt::AltParser;
 use stream_errors::parser_error::ParserError;
 use streams::stream::Stream;
-use winnow_comb::combinator::impls::AltParser;
+use winnow_core::exact::Exact;
 
 {family}
 """
@@ -350,11 +353,11 @@ use winnow_comb::combinator::impls::AltParser;
 def write_exact():
     words = ", ".join(sorted(WORDS[n] for n in LARGE))
     names = ", ".join("SequenceRuns%d" % n for n in LARGE)
-    write(EXACT + "specs/Grammar/Tuples.antt", WORD_SPECS, family="\n\n".join(word_spec(n) for n in LARGE))
+    write(GRAMMARS + "specs/Grammar/Tuples.antt", WORD_SPECS, family="\n\n".join(word_spec(n) for n in LARGE))
     lemmas = "\n\n".join("%s\n\n%s\n\n%s\n\n%s" % (same_lemma(n), there_lemma(n), exact_lemmas(n), takes_lemma(n)) for n in LARGE)
-    write(EXACT + "specs/Exact/Tuples.antt", LEMMAS, names=names, words=words, family=lemmas)
-    uses = "\n".join("ghost use Rattle.winnow_exact.specs.Exact.Tuples.{tuple%d_exact, tuple%d_soft, tuple%d_takes};" % (n, n, n) for n in LARGE)
+    write(CORE + "specs/Sequence/Exact.antt", LEMMAS, names=names, words=words, family=lemmas)
+    uses = "\n".join("ghost use Rattle.winnow_core.specs.Sequence.Exact.{tuple%d_exact, tuple%d_soft, tuple%d_takes};" % (n, n, n) for n in LARGE)
     blocks = "\n\n".join(tuple_block(n) for n in range(2, MOST + 1))
-    write(EXACT + "src/exact/tuples.rt", BLOCKS, lemmas=uses, words=words, family=blocks)
+    write(CORE + "src/parser/tuples/exact.rt", BLOCKS, lemmas=uses, words=words, family=blocks)
     choices = "\n\n".join(choice_block(n) for n in upto(MOST))
-    write(EXACT + "src/exact/alternatives.rt", CHOICES, family=choices)
+    write(COMB + "src/combinator/impls/alt/exact.rt", CHOICES, family=choices)

@@ -1,9 +1,5 @@
-"""What integers as bytes read, in the crate `winnow_exact`."""
-from family.chosen import chosen
-from family.common import camel, write
-from family.integers import fixed
-
-EXACT = "crates/winnow_exact/"
+"""What integers as bytes read: the blocks that stand beside their parsers."""
+from family.common import camel
 
 BLOCK = """impl<I: StreamIsPartial + ByteStream, E: ParserError<I>> Exact<I, %(type)s, E> for %(own)s {
     ghost grammar = { λ p. Integer %(width)d (%(value)s %(order)s) };
@@ -16,7 +12,7 @@ BLOCK = """impl<I: StreamIsPartial + ByteStream, E: ParserError<I>> Exact<I, %(t
 }"""
 
 
-def fixed_block(name, one):
+def fixed_exact(name, one):
     return BLOCK % {
         "type": one.type,
         "own": camel(name),
@@ -29,7 +25,7 @@ def fixed_block(name, one):
     }
 
 
-def chosen_block(name, one):
+def chosen_exact(name, one):
     order = "(%s_endian p)" % name
     return BLOCK % {
         "type": one.type,
@@ -41,57 +37,3 @@ def chosen_block(name, one):
         "by": one.value,
         "state": order,
     }
-
-
-FIXED = """//! Integers as bytes read so many of them, and answer their value.
-//!
-//! {head}
-ghost use Rattle.std.specs.Prelude.{{⊤}};
-ghost use Rattle.winnow_exact.specs.Exact.Integers.{{integer_exact, integer_soft, some_bytes}};
-ghost use Rattle.winnow_exact.specs.Grammar.Integers.{{Integer, integer_takes}};
-ghost use Rattle.winnow_integers.specs.Integer.{{signed_value, unsigned_value}};
-ghost use Rattle.winnow_integers.specs.declared.binary.endianness.Endianness.TheVariants.{{Big, Little}};
-
-use crate::exact::Exact;
-use stream_errors::parser_error::ParserError;
-use streams::byte_stream::ByteStream;
-use streams::stream::StreamIsPartial;
-use winnow_integers::binary::impls::{{{structs}}};
-
-{family}
-"""
-
-CHOSEN = """//! Integers whose bytes stand in an order that is chosen read so many of them.
-//!
-//! {head}
-ghost use Rattle.winnow_binary.specs.Chosen.{{{projections}}};
-ghost use Rattle.winnow_exact.specs.Exact.Integers.{{integer_exact, integer_soft, some_bytes}};
-ghost use Rattle.winnow_exact.specs.Grammar.Integers.{{Integer, integer_takes}};
-ghost use Rattle.winnow_integers.specs.Integer.{{signed_value, unsigned_value}};
-
-use crate::exact::Exact;
-use stream_errors::parser_error::ParserError;
-use streams::byte_stream::ByteStream;
-use streams::stream::StreamIsPartial;
-use winnow_binary::binary::impls::{{{structs}}};
-
-{family}
-"""
-
-
-def write_exact_integers():
-    integers = fixed()
-    write(
-        EXACT + "src/exact/integers.rt",
-        FIXED,
-        structs=", ".join(sorted(camel(name) for name in integers)),
-        family="\n\n".join(fixed_block(name, one) for name, one in integers.items()),
-    )
-    orders = chosen()
-    write(
-        EXACT + "src/exact/integers_by_order.rt",
-        CHOSEN,
-        projections=", ".join(sorted("%s_endian" % name for name in orders)),
-        structs=", ".join(sorted(camel(name) for name in orders)),
-        family="\n\n".join(chosen_block(name, one) for name, one in orders.items()),
-    )

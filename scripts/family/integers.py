@@ -1,5 +1,6 @@
 """The parsers of integers as bytes, in the crate `winnow_integers`."""
 from family.common import camel, documented, write
+from family.exact_integers import fixed_exact
 from family.stable import integer_block
 
 FIXED = "crates/winnow_integers/"
@@ -129,6 +130,7 @@ use streams::byte_stream::ByteStream;
 use streams::reads_like::ReadsLike;
 use streams::stream::{{Stream, StreamIsPartial}};
 use winnow_core::agrees_with::AgreesWith;
+use winnow_core::exact::Exact;
 use winnow_core::parser::Parser;
 use winnow_core::stable::Stable;
 """
@@ -151,6 +153,8 @@ STRUCT = (
 //! {head}
 ghost use Rattle.std.specs.Prelude.{{⊤}};
 ghost use Rattle.winnow_integers.specs.Integer.{{IntegerRuns, {value}}};
+ghost use Rattle.winnow_integers.specs.Integer.Laws.{{integer_exact, integer_soft, some_bytes}};
+ghost use Rattle.winnow_integers.specs.Integer.Grammar.{{Integer, integer_takes}};
 ghost use Rattle.winnow_integers.specs.Integer.Laws.{{integer_alike, integer_ends, integer_stays}};
 ghost use Rattle.winnow_integers.specs.declared.binary.endianness.Endianness.TheVariants.{{{constructor}}};
 ghost use Rattle.winnow_core.specs.Agrees.{{agrees_plain}};
@@ -186,6 +190,8 @@ impl<I: StreamIsPartial + ByteStream, E: ParserError<I>> Parser<I, {type}, E> fo
 }}
 
 {stable}
+
+{exact}
 
 """
     + ALIKE
@@ -276,7 +282,7 @@ def write_fixed():
         own = camel(name)
         agrees = "agrees_plain (integer_alike %d (λ _. %s %s) I.same_reading)" % (one.width, one.value, one.constructor)
         stable = integer_block(one, own, "_", "(%s %s)" % (one.value, one.constructor))
-        parts = {"own": own, "other": own, "like": "⊤", "agrees": agrees, "stable": stable, **vars(one)}
+        parts = {"own": own, "other": own, "like": "⊤", "agrees": agrees, "stable": stable, "exact": fixed_exact(name, one), **vars(one)}
         write(FIXED + "src/binary/impls/%s.rt" % name, STRUCT, about=about(one), name=name, row=row, number=number, **parts)
         path = struct_path(name, one)
         answers = FIXED + "proofs/binary/impls/%s/Answers.antt" % "/".join(path)

@@ -62,6 +62,8 @@ use Rattle.streams.specs.Kind.{{Kind}}
 use Rattle.winnow_core.specs.Runs.{{Runs}}
 
 pub mod Cases
+pub mod Decided
+pub mod Exact
 pub mod Grows
 pub mod Known
 pub mod LargeGrows
@@ -194,6 +196,9 @@ ghost use Rattle.winnow_core.specs.SameMeaning.{{same_refl}};
 ghost use Rattle.winnow_core.specs.Sequence.{{{names}}};
 ghost use Rattle.winnow_core.specs.Sequence.Laws.{{{laws}}};
 
+mod decided;
+mod exact;
+mod small;
 mod stable;
 
 use crate::agrees_with::AgreesWith;

@@ -20,6 +20,9 @@ READERS = [
         "the number, string or word that a text begins with, its escapes undone"),
     ("JSON: values", "json_values", "yes",
         "`Ok` exactly where the text is one of this value, nested to a level"),
+    ("JSON: values from bytes", "json_pieces", "no",
+        "the value whose text the bytes begin with, whole and in pieces, one by one; `Ok` exactly "
+        "where the bytes are a text of this value"),
     ("JSON: written", "json_writer", "no",
         "the text of a value, exactly where it has one, nested to a level; it reads back"),
     ("JSON: extents, in pieces", "uses_json", "no", "where a value ends, whole and in pieces"),

@@ -10,12 +10,12 @@ use Rattle.std.proofs.lemmas.List.{length-take-le, take-append-drop, take_all}
 use Rattle.streams.specs.Counted.{counted_reading}
 use Rattle.streams.specs.Equal.{none_is_some, same_first, same_others, true_is_false}
 use Rattle.stream_sets.specs.Range.{from_to}
-use Rattle.winnow_exact.specs.Exact.Same.{Same}
-use Rattle.winnow_exact.specs.Grammar.{Counted, Gathered, Grammar, IsUnique, Many, NoneStands}
-use Rattle.winnow_exact.specs.Grammar.{TokenOf}
-use Rattle.winnow_exact.specs.Grammar.Known.{slice_for}
-use Rattle.winnow_exact.specs.Grammar.Lengths.{SaysOne, Sized, same_beginnings}
-use Rattle.winnow_exact.specs.Grammar.Unique.{many_unique}
+use Rattle.grammars.specs.Grammar.Same.{Same}
+use Rattle.grammars.specs.Grammar.{Counted, Gathered, Grammar, IsUnique, Many, NoneStands}
+use Rattle.grammars.specs.Grammar.{TokenOf}
+use Rattle.grammars.specs.Grammar.Known.{slice_for}
+use Rattle.grammars.specs.Grammar.Lengths.{SaysOne, Sized, same_beginnings}
+use Rattle.grammars.specs.Grammar.Unique.{many_unique}
 use Rattle.dns_names.specs.Names.{AreLabels, At, FaultBy, GoesNot, GoesOn, HasNoName, IsCut}
 use Rattle.dns_names.specs.Names.{IsLabel, IsName, IsPointer, IsRoot, Label, NameBy}
 use Rattle.dns_names.specs.Names.{EndingTold, NameTold, NoEnding}

@@ -3,9 +3,9 @@ ghost use Rattle.dns_names.specs.Names.{IsLabel};
 ghost use Rattle.std.specs.Prelude.{◌≡◌, None};
 ghost use Rattle.stream_sets.specs.Range.{from_to};
 ghost use Rattle.streams.specs.Bytes.{bytes_input, bytes_reading};
-ghost use Rattle.winnow_exact.specs.Exact.{Reads};
-ghost use Rattle.winnow_exact.specs.Grammar.{Counted, Gathered, Many};
-ghost use Rattle.winnow_exact.specs.Grammar.Lengths.{SaysOne, Sized};
+ghost use Rattle.winnow_core.specs.Exact.{Reads};
+ghost use Rattle.grammars.specs.Grammar.{Counted, Gathered, Many};
+ghost use Rattle.grammars.specs.Grammar.Lengths.{SaysOne, Sized};
 
 use std::alloc::Allocator;
 use stream_errors::empty::EmptyError;
@@ -16,7 +16,7 @@ use stream_sets::range::Range;
 use streams::has_kind::HasKind;
 use streams::stream::StreamIsPartial;
 use winnow_binary::binary::length_take;
-use winnow_exact::exact::Exact;
+use winnow_core::exact::Exact;
 use winnow_repeat::combinator::repeat;
 use winnow_token::token::one_of;
 

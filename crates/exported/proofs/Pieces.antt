@@ -9,8 +9,8 @@ use Rattle.winnow.specs.Form.{need_of_kind}
 use Rattle.winnow.specs.Input.{Input}
 use Rattle.winnow.specs.Kind.{Kind, memory}
 use Rattle.winnow.specs.Partial.{with_flag}
-use Rattle.winnow_exact.specs.Exact.Cut.{Asks, ReadsOrAsks}
-use Rattle.winnow_exact.specs.Grammar.{Grammar, NoneStands}
+use Rattle.winnow.specs.Cut.{Asks, ReadsOrAsks}
+use Rattle.winnow.specs.Grammar.{Grammar, NoneStands}
 use Rattle.exported.specs.Pieces.{MayFollow}
 
 follows : (bytes more : List ℕ) → MayFollow bytes more → Follows bytes_follow

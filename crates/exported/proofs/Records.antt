@@ -5,8 +5,8 @@ use Rattle.std.specs.declared.vec.Vec.{Vec}
 use Rattle.winnow.specs.Following.{most_bytes}
 use Rattle.uses_csv.specs.Csv.{FieldText, InQuotes, IsPlain, IsRecord, RecordText, line_end}
 use Rattle.uses_csv.specs.declared.LineEnd.{LineEnd}
-use Rattle.winnow_exact.specs.Texts.{Among, InList, Itself, Joined, OneOf, Row, Spelled, Text}
-use Rattle.winnow_exact.specs.Texts.{Then}
+use Rattle.winnow.specs.Texts.{Among, InList, Itself, Joined, OneOf, Row, Spelled, Text}
+use Rattle.winnow.specs.Texts.{Then}
 use Rattle.exported.specs.Csv.{CountsRecord, Fields, IsRecordForGood}
 use Rattle.exported.specs.Texts.{AreFields, text_of}
 use Rattle.exported.specs.declared.csv.Record.{Record}

@@ -10,7 +10,7 @@ use Rattle.uses_resp.specs.Resp.{line_end}
 use Rattle.uses_resp.specs.declared.reply.Reply as made
 use Rattle.uses_resp.specs.declared.reply.Reply.{out-Reply}
 use Rattle.uses_resp.specs.declared.reply.Reply.TheOpen.{Reply-F}
-use Rattle.winnow_exact.specs.InTurn.{First}
+use Rattle.winnow.specs.InTurn.{First}
 use Rattle.exported.specs.Pieces.{MayFollow}
 use Rattle.exported.specs.Resp.{AreElements, Found, IsReply, IsReplyForGood, IsShown}
 use Rattle.exported.specs.Resp.{IsShownBy, ShowsReply}

@@ -6,8 +6,8 @@ use Rattle.uses_resp.specs.Parts.{Opened}
 use Rattle.uses_resp.specs.Resp.{Replies, ReplyText}
 use Rattle.uses_resp.specs.declared.reply.Reply.{out-Reply}
 use Rattle.uses_resp.specs.declared.reply.Reply.TheOpen.{Reply-F}
-use Rattle.winnow_exact.specs.InTurn.{First}
-use Rattle.winnow_exact.specs.Texts.{Row}
+use Rattle.winnow.specs.InTurn.{First}
+use Rattle.winnow.specs.Texts.{Row}
 use Rattle.exported.specs.Pieces.{MayFollow}
 use Rattle.exported.specs.Span.{StandsAt}
 use Rattle.exported.specs.declared.resp.Reply.{Reply}

@@ -1,7 +1,7 @@
 //! Replies of Redis.
 
 ghost use Rattle.std.specs.Prelude.{◌≡◌, ◌<◌, ◌⊎◌, List, length, ℕ};
-ghost use Rattle.winnow_exact.specs.InTurn.{First};
+ghost use Rattle.winnow.specs.InTurn.{First};
 ghost use Rattle.uses_resp.specs.Resp.{ReplyText};
 ghost use Rattle.exported.specs.Code.{done, incomplete, most_levels, no_memory, refused, too_deep};
 ghost use Rattle.exported.specs.Resp.{IsReply, IsReplyForGood, NoReply, NoReplyForGood, ShowsReply};

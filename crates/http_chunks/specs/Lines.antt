@@ -7,8 +7,8 @@ use Rattle.http_heads.specs.Bytes.{IsBetween, IsTokenByte, IsValueByte}
 use Rattle.stream_sets.specs.AsChar.{IsHexDigit, IsSpace}
 use Rattle.stream_sets.specs.Range.{from_to}
 use Rattle.streams.specs.Reading.{Reading}
-use Rattle.winnow_exact.specs.Grammar.{Both, Class, Either, Gathered, Grammar, InClass, Many, Maybe}
-use Rattle.winnow_exact.specs.Grammar.{Taken, Three, TokenOf}
+use Rattle.grammars.specs.Grammar.{Both, Class, Either, Gathered, Grammar, InClass, Many, Maybe}
+use Rattle.grammars.specs.Grammar.{Taken, Three, TokenOf}
 
 -- qdtext = HTAB / SP / %x21 / %x23-5B / %x5D-7E / obs-text
 abbrev pub IsQuotedByte : ℕ → Type 0

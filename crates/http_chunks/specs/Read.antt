@@ -10,7 +10,7 @@ use Rattle.std.proofs.lemmas.Str.Parse.{digits_value-take-le}
 use Rattle.http_chunks.specs.Lines.{OneOf, RunOf}
 use Rattle.stream_sets.specs.Range.{from_to}
 use Rattle.streams.specs.Reading.{Reading}
-use Rattle.winnow_exact.specs.Grammar.{Longest, TokenOf}
+use Rattle.grammars.specs.Grammar.{Longest, TokenOf}
 use Rattle.winnow_numbers.specs.Digits.{value_in}
 use Rattle.winnow_numbers.specs.Digits.Known.{value_is}
 

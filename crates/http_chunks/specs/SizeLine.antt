@@ -10,8 +10,8 @@ use Rattle.http_chunks.specs.declared.size_line.SizeLine.{SizeLine}
 use Rattle.http_heads.specs.Bytes.{IsTokenByte, IsValueByte}
 use Rattle.stream_sets.specs.AsChar.{IsHexDigit, IsSpace}
 use Rattle.streams.specs.Counted.{counted_reading}
-use Rattle.winnow_exact.specs.Texts.{Among, AtLeast, Holding, InList, Itself, Members, Of, OneOf}
-use Rattle.winnow_exact.specs.Texts.{Perhaps, Row, Shown, Text, Then}
+use Rattle.grammars.specs.Texts.{Among, AtLeast, Holding, InList, Itself, Members, Of, OneOf}
+use Rattle.grammars.specs.Texts.{Perhaps, Row, Shown, Text, Then}
 use Rattle.winnow_numbers.specs.Digits.{value_in}
 
 -- bytes of the input

@@ -14,20 +14,20 @@ use Rattle.stream_sets.specs.AsChar.{IsHexDigit, IsSpace}
 use Rattle.stream_sets.specs.Range.{from_to}
 use Rattle.streams.specs.Counted.{counted_reading}
 use Rattle.streams.specs.Equal.{same_first, same_others}
-use Rattle.winnow_exact.specs.Grammar.{Both, Grammar, InClass, NoneStands}
-use Rattle.winnow_exact.specs.Grammar.Known.{Byte}
+use Rattle.grammars.specs.Grammar.{Both, Grammar, InClass, NoneStands}
+use Rattle.grammars.specs.Grammar.Known.{Byte}
 use Rattle.winnow_exact.specs.InTurn.{First}
-use Rattle.winnow_exact.specs.Texts.{Anything, AtLeast, Begins, BeginsIn, Holding, InFront}
-use Rattle.winnow_exact.specs.Texts.{IsGrammarOf, Itself, MayBegin, Members, NotFirst, Of, Perhaps}
-use Rattle.winnow_exact.specs.Texts.{Row, Spelled, Text, Then}
-use Rattle.winnow_exact.specs.Texts.Fronts.{among_front, begins_wider, front_any, front_begins}
-use Rattle.winnow_exact.specs.Texts.Fronts.{front_whole, in_list_front, may_begin, members_begin}
-use Rattle.winnow_exact.specs.Texts.Fronts.{none_begins, one_of_begins, row_front, shown_front}
-use Rattle.winnow_exact.specs.Texts.Fronts.{spelled_begins, then_front}
-use Rattle.winnow_exact.specs.Texts.Parts.{behind_less, both_of, either_apart, maybe_of, taken_of}
-use Rattle.winnow_exact.specs.Texts.Parts.{three_of}
-use Rattle.winnow_exact.specs.Texts.Rows.{gathered_of, list_of, many_of}
-use Rattle.winnow_exact.specs.Texts.Tokens.{byte_of, class_of, divides_where, token_of}
+use Rattle.grammars.specs.Texts.{Anything, AtLeast, Begins, BeginsIn, Holding, InFront}
+use Rattle.grammars.specs.Texts.{IsGrammarOf, Itself, MayBegin, Members, NotFirst, Of, Perhaps}
+use Rattle.grammars.specs.Texts.{Row, Spelled, Text, Then}
+use Rattle.grammars.specs.Texts.Fronts.{among_front, begins_wider, front_any, front_begins}
+use Rattle.grammars.specs.Texts.Fronts.{front_whole, in_list_front, may_begin, members_begin}
+use Rattle.grammars.specs.Texts.Fronts.{none_begins, one_of_begins, row_front, shown_front}
+use Rattle.grammars.specs.Texts.Fronts.{spelled_begins, then_front}
+use Rattle.grammars.specs.Texts.Parts.{behind_less, both_of, either_apart, maybe_of, taken_of}
+use Rattle.grammars.specs.Texts.Parts.{three_of}
+use Rattle.grammars.specs.Texts.Rows.{gathered_of, list_of, many_of}
+use Rattle.grammars.specs.Texts.Tokens.{byte_of, class_of, divides_where, token_of}
 
 -- ---- bytes
 

@@ -5,9 +5,9 @@
 ghost use Rattle.http_chunks.specs.Lines.{Ended, Extensions, Line, TextOrToken};
 ghost use Rattle.std.specs.Prelude.{◌≡◌};
 ghost use Rattle.stream_errors.specs.Form.{modal};
-ghost use Rattle.winnow_exact.specs.Exact.Cut.{ReadsOrAsks};
-ghost use Rattle.winnow_exact.specs.Exact.Tokens.{SeesApart};
-ghost use Rattle.winnow_exact.specs.Grammar.{Literally};
+ghost use Rattle.winnow_exact.specs.Cut.{ReadsOrAsks};
+ghost use Rattle.stream_sets.specs.Once.{SeesApart};
+ghost use Rattle.grammars.specs.Grammar.{Literally};
 
 use crate::sets::QuotedBytes;
 use http_heads::sets::{TokenBytes, ValueBytes};
@@ -18,9 +18,9 @@ use stream_sets::range::Range;
 use streams::stream::StreamIsPartial;
 use winnow_ascii::ascii::impls::{HexDigit1, Space0};
 use winnow_comb::combinator::{alt, delimited, opt, preceded, terminated};
+use winnow_core::exact::Exact;
 use winnow_core::parser::Parser;
 use winnow_core::stable::Stable;
-use winnow_exact::exact::Exact;
 use winnow_exact::pieces::ReadsPieces;
 use winnow_repeat::combinator::impls::Repeat;
 use winnow_repeat::combinator::repeat;

@@ -3,8 +3,8 @@
 
 ghost use Rattle.http_chunks.specs.SizeLine.{SizeLineText};
 ghost use Rattle.streams.specs.Bytes.{bytes_follow, bytes_input, bytes_reading};
-ghost use Rattle.winnow_exact.specs.Exact.{Reads};
-ghost use Rattle.winnow_exact.specs.Exact.Cut.{ReadsOrAsks};
+ghost use Rattle.winnow_core.specs.Exact.{Reads};
+ghost use Rattle.winnow_exact.specs.Cut.{ReadsOrAsks};
 ghost use Rattle.winnow_exact.specs.InTurn.{First};
 
 use crate::lines::line;

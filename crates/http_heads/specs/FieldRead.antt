@@ -12,11 +12,11 @@ use Rattle.http_heads.specs.FieldLine.{BeginsBare, EndsBare, FieldLineStands, Is
 use Rattle.http_heads.specs.FieldLine.{IsTrimmed}
 use Rattle.http_heads.specs.Parts.{EndStands, Run, run_back, run_there, run_unique}
 use Rattle.http_heads.specs.declared.field_line.Field.{Field}
-use Rattle.winnow_exact.specs.Exact.Steps.{Steps}
-use Rattle.winnow_exact.specs.Grammar.{Both, Grammar, IsUnique, Takes}
-use Rattle.winnow_exact.specs.Grammar.Known.{Byte, byte_stands, byte_unique, stands_byte}
-use Rattle.winnow_exact.specs.Grammar.Unique.{both_unique, unique_by}
-use Rattle.winnow_exact.specs.Texts.{NotFirst}
+use Rattle.winnow_exact.specs.Steps.{Steps}
+use Rattle.grammars.specs.Grammar.{Both, Grammar, IsUnique, Takes}
+use Rattle.grammars.specs.Grammar.Known.{Byte, byte_stands, byte_unique, stands_byte}
+use Rattle.grammars.specs.Grammar.Unique.{both_unique, unique_by}
+use Rattle.grammars.specs.Texts.{NotFirst}
 
 -- ---- a value, with the white space around it
 

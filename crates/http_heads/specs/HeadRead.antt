@@ -15,10 +15,10 @@ use Rattle.http_heads.specs.RequestLine.{RequestLineStands}
 use Rattle.http_heads.specs.declared.field_line.Field.{Field}
 use Rattle.http_heads.specs.declared.head.Head.{Head}
 use Rattle.http_heads.specs.declared.request_line.RequestLine.{RequestLine}
-use Rattle.winnow_exact.specs.Exact.{Reads}
-use Rattle.winnow_exact.specs.Exact.Steps.{Steps}
-use Rattle.winnow_exact.specs.Grammar.{Both, Each, Gathered, Grammar, IsUnique, Many}
-use Rattle.winnow_exact.specs.Grammar.Unique.{gathered_unique, many_unique}
+use Rattle.winnow_core.specs.Exact.{Reads}
+use Rattle.winnow_exact.specs.Steps.{Steps}
+use Rattle.grammars.specs.Grammar.{Both, Each, Gathered, Grammar, IsUnique, Many}
+use Rattle.grammars.specs.Grammar.Unique.{gathered_unique, many_unique}
 
 -- ---- field lines
 

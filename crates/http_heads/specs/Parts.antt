@@ -11,12 +11,12 @@ use Rattle.streams.specs.Input.{Input, is_end_of_refl}
 use Rattle.streams.specs.Kind.{Kind}
 use Rattle.stream_sets.specs.Range.{from_to}
 use Rattle.http_heads.specs.Bytes.{line_end}
-use Rattle.winnow_exact.specs.Exact.{Reads}
-use Rattle.winnow_exact.specs.Exact.TakeWhile.{class_unique}
-use Rattle.winnow_exact.specs.Grammar.{Class, Grammar, InClass, IsUnique, Literally, Longest}
-use Rattle.winnow_exact.specs.Grammar.Known.Sets.{longest_stands, stands_longest}
-use Rattle.winnow_exact.specs.Grammar.Unique.{literally_unique}
-use Rattle.winnow_exact.specs.Texts.{NotFirst}
+use Rattle.winnow_core.specs.Exact.{Reads}
+use Rattle.winnow_ascii.specs.Class.Laws.{class_unique}
+use Rattle.grammars.specs.Grammar.{Class, Grammar, InClass, IsUnique, Literally, Longest}
+use Rattle.grammars.specs.Grammar.Known.Sets.{longest_stands, stands_longest}
+use Rattle.grammars.specs.Grammar.Unique.{literally_unique}
+use Rattle.grammars.specs.Texts.{NotFirst}
 
 -- ---- literals
 

@@ -8,13 +8,13 @@ use Rattle.http_heads.specs.Parts.{Literal, Run, literal_back, literal_there, li
 use Rattle.http_heads.specs.Parts.{run_back, run_there, run_unique}
 use Rattle.http_heads.specs.RequestLine.{IsRequestLine, RequestLineStands, digits, protocol}
 use Rattle.http_heads.specs.declared.request_line.RequestLine.{RequestLine}
-use Rattle.winnow_exact.specs.Exact.Same.{Same, unique_as}
-use Rattle.winnow_exact.specs.Exact.Steps.{Steps}
-use Rattle.winnow_exact.specs.Grammar.{Both, Grammar, IsUnique, Three, TokenOf}
-use Rattle.winnow_exact.specs.Grammar.Known.{Byte, byte_stands, byte_unique, slice_for, stands_byte}
-use Rattle.winnow_exact.specs.Grammar.Known.Sets.{stands_token_of, token_of_stands}
-use Rattle.winnow_exact.specs.Grammar.Sequences.{three_unique}
-use Rattle.winnow_exact.specs.Grammar.Unique.{both_unique, unique_by}
+use Rattle.grammars.specs.Grammar.Same.{Same, unique_as}
+use Rattle.winnow_exact.specs.Steps.{Steps}
+use Rattle.grammars.specs.Grammar.{Both, Grammar, IsUnique, Three, TokenOf}
+use Rattle.grammars.specs.Grammar.Known.{Byte, byte_stands, byte_unique, slice_for, stands_byte}
+use Rattle.grammars.specs.Grammar.Known.Sets.{stands_token_of, token_of_stands}
+use Rattle.grammars.specs.Grammar.Sequences.{three_unique}
+use Rattle.grammars.specs.Grammar.Unique.{both_unique, unique_by}
 
 -- ---- a digit
 

@@ -10,7 +10,7 @@ ghost use Rattle.std.specs.Prelude.{◌≡◌, IfErr};
 ghost use Rattle.streams.specs.Bytes.{bytes_input, bytes_reading};
 ghost use Rattle.http_heads.specs.Head.{HeadStands, FieldsStand};
 ghost use Rattle.http_heads.specs.HeadRead.{LinesStand};
-ghost use Rattle.winnow_exact.specs.Exact.{Reads};
+ghost use Rattle.winnow_core.specs.Exact.{Reads};
 
 use crate::field_line::{Field, read_field_line, read_line_end};
 use crate::request_line::{RequestLine, read_request_line};

@@ -10,7 +10,7 @@ ghost use Rattle.streams.specs.Bytes.{bytes_input, bytes_reading};
 ghost use Rattle.http_heads.specs.RequestLine.{RequestLineStands};
 ghost use Rattle.http_heads.specs.RequestRead.{DigitStands, MethodTarget, VersionStands};
 ghost use Rattle.http_heads.specs.RequestRead.{digit_unique};
-ghost use Rattle.winnow_exact.specs.Exact.{Reads};
+ghost use Rattle.winnow_core.specs.Exact.{Reads};
 
 use crate::sets::{Digits, TokenBytes, Visible};
 use stream_errors::empty::EmptyError;
@@ -18,7 +18,7 @@ use stream_errors::mode::ErrMode;
 use stream_sets::range::Range;
 use streams::has_kind::HasKind;
 use winnow_comb::combinator::{delimited, separated_pair};
-use winnow_exact::exact::Exact;
+use winnow_core::exact::Exact;
 use winnow_exact::rule::Rule;
 use winnow_token::token::{one_of, take_while};
 

@@ -17,12 +17,12 @@ use Rattle.stream_sets.specs.Sets.{EitherTells}
 use Rattle.json_texts.specs.Number.{Integer, IsLeading, Slice}
 use Rattle.json_texts.specs.Values.{HasText}
 use Rattle.json_texts.specs.Words.{Char, OneIn, RunOf, Word, pair}
-use Rattle.winnow_exact.specs.Exact.{Reads}
-use Rattle.winnow_exact.specs.Exact.Read.{err_as, ok_as, reads_meaning, reads_wanting}
-use Rattle.winnow_exact.specs.Exact.Same.{Same, same_refl}
-use Rattle.winnow_exact.specs.Grammar.{Both, Either, Grammar, Literally, Made, Taken, TokenOf}
-use Rattle.winnow_exact.specs.Grammar.Alike.{both_same, either_same}
-use Rattle.winnow_exact.specs.Grammar.Meaning.{Meaning}
+use Rattle.winnow_core.specs.Exact.{Reads}
+use Rattle.winnow_exact.specs.Read.{err_as, ok_as, reads_meaning, reads_wanting}
+use Rattle.grammars.specs.Grammar.Same.{Same, same_refl}
+use Rattle.grammars.specs.Grammar.{Both, Either, Grammar, Literally, Made, Taken, TokenOf}
+use Rattle.grammars.specs.Grammar.Alike.{both_same, either_same}
+use Rattle.grammars.specs.Grammar.Meaning.{Meaning}
 
 -- a character of a set, where the set is a class
 pub class_same : {X : Type 0} (tells : X → ℕ → Bool → Type 0) (set : X) (class : ℕ → Type 0)

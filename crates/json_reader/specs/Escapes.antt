@@ -7,16 +7,16 @@ use Rattle.json_texts.specs.Strings.{ArePair, Character, CodeUnit, Digit, Escape
 use Rattle.json_texts.specs.Strings.{IsNumberOf, IsUnescaped, Quoted, SaysOne, StandsFor, Unicode}
 use Rattle.json_texts.specs.Strings.{one_unit}
 use Rattle.json_texts.specs.Words.{Char, latter, pair}
-use Rattle.winnow_exact.specs.Exact.Tokens.{token_takes}
-use Rattle.winnow_exact.specs.Grammar.{Both, Gathered, Grammar, InClass, IsUnique, Many, Takes}
-use Rattle.winnow_exact.specs.Grammar.{Token}
-use Rattle.winnow_exact.specs.Grammar.Meaning.{Meaning, meaning_takes, meaning_unique}
-use Rattle.winnow_exact.specs.Grammar.Outputs.{IsAlike, both_alike, second_alike, token_alike}
-use Rattle.winnow_exact.specs.Grammar.Sequences.{four_take, four_unique, three_take, three_unique}
-use Rattle.winnow_exact.specs.Grammar.Unique.{both_take, both_unique, either_takes, either_unique}
-use Rattle.winnow_exact.specs.Grammar.Unique.{gathered_unique, many_unique, token_of_unique}
-use Rattle.winnow_exact.specs.Grammar.Unique.{token_unique}
-use Rattle.winnow_exact.specs.Held.{HasCharacters}
+use Rattle.winnow_token.specs.Any.Laws.{token_takes}
+use Rattle.grammars.specs.Grammar.{Both, Gathered, Grammar, InClass, IsUnique, Many, Takes}
+use Rattle.grammars.specs.Grammar.{Token}
+use Rattle.grammars.specs.Grammar.Meaning.{Meaning, meaning_takes, meaning_unique}
+use Rattle.grammars.specs.Grammar.Outputs.{IsAlike, both_alike, second_alike, token_alike}
+use Rattle.grammars.specs.Grammar.Sequences.{four_take, four_unique, three_take, three_unique}
+use Rattle.grammars.specs.Grammar.Unique.{both_take, both_unique, either_takes, either_unique}
+use Rattle.grammars.specs.Grammar.Unique.{gathered_unique, many_unique, token_of_unique}
+use Rattle.grammars.specs.Grammar.Unique.{token_unique}
+use Rattle.stream_sets.specs.Accumulator.Holds.{HasCharacters}
 
 -- ---- units
 

@@ -14,13 +14,13 @@ use Rattle.json_texts.specs.Values.{ScalarText, ValueText}
 use Rattle.json_texts.specs.Values.Texts.{value_of}
 use Rattle.json_texts.specs.Words.{Word}
 use Rattle.json_texts.specs.declared.value.Value.{Value}
-use Rattle.winnow_exact.specs.Exact.{Reads}
-use Rattle.winnow_exact.specs.Exact.Read.{neither_stands, reads_former, reads_other}
-use Rattle.winnow_exact.specs.Grammar.{NoneStands}
-use Rattle.winnow_exact.specs.Grammar.Meaning.{Meaning, none_means}
-use Rattle.winnow_exact.specs.Held.{HasCharacters}
-use Rattle.winnow_exact.specs.Texts.{Begins, IsGrammarOf, NotFirst}
-use Rattle.winnow_exact.specs.Texts.Fronts.{may_begin, none_begins}
+use Rattle.winnow_core.specs.Exact.{Reads}
+use Rattle.winnow_exact.specs.Read.{neither_stands, reads_former, reads_other}
+use Rattle.grammars.specs.Grammar.{NoneStands}
+use Rattle.grammars.specs.Grammar.Meaning.{Meaning, none_means}
+use Rattle.stream_sets.specs.Accumulator.Holds.{HasCharacters}
+use Rattle.grammars.specs.Texts.{Begins, IsGrammarOf, NotFirst}
+use Rattle.grammars.specs.Texts.Fronts.{may_begin, none_begins}
 
 -- what a number begins with
 abbrev pub IsNumeric : ℕ → Type 0

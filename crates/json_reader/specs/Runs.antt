@@ -21,16 +21,16 @@ use Rattle.json_reader.specs.Alike.{RangeTells, RangesTell, range_told}
 use Rattle.json_reader.specs.Escapes.{escape_takes}
 use Rattle.json_texts.specs.Strings.{Character, Escape, IsUnescaped}
 use Rattle.json_texts.specs.Words.{OneIn}
-use Rattle.winnow_exact.specs.Exact.{Reads}
-use Rattle.winnow_exact.specs.Exact.Read.{neither_stands}
-use Rattle.winnow_exact.specs.Exact.Same.{Same}
-use Rattle.winnow_exact.specs.Grammar.{Each, Either, Gathered, Grammar, Longest, Many}
-use Rattle.winnow_exact.specs.Grammar.{NoneStands, TokenOf}
-use Rattle.winnow_exact.specs.Grammar.Runs as runs
-use Rattle.winnow_exact.specs.Grammar.Runs.{RunOf, each_behind, each_one, run_takes}
-use Rattle.winnow_exact.specs.Held.{HasCharacters}
-use Rattle.winnow_exact.specs.Texts.{Divides, NotFirst}
-use Rattle.winnow_exact.specs.Texts.Tokens.{divides_as, divides_either, divides_seen}
+use Rattle.winnow_core.specs.Exact.{Reads}
+use Rattle.winnow_exact.specs.Read.{neither_stands}
+use Rattle.grammars.specs.Grammar.Same.{Same}
+use Rattle.grammars.specs.Grammar.{Each, Either, Gathered, Grammar, Longest, Many}
+use Rattle.grammars.specs.Grammar.{NoneStands, TokenOf}
+use Rattle.winnow_exact.specs.RunByRun as runs
+use Rattle.winnow_exact.specs.RunByRun.{RunOf, each_behind, each_one, run_takes}
+use Rattle.stream_sets.specs.Accumulator.Holds.{HasCharacters}
+use Rattle.grammars.specs.Texts.{Divides, NotFirst}
+use Rattle.grammars.specs.Texts.Tokens.{divides_as, divides_either, divides_seen}
 
 -- characters, as many as stand, held by a string
 abbrev pub Characters : {A : Type 0} → Grammar ℕ (String A)

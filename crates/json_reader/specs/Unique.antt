@@ -4,9 +4,9 @@ use Rattle.std.proofs.Common.{sym, ap, ◌∙◌, arith, length-append}
 use Rattle.streams.specs.Equal.{same_rest}
 use Rattle.streams.specs.Text.{text_reading}
 use Rattle.json_texts.specs.Words.{Char, RunOf, Word}
-use Rattle.winnow_exact.specs.Exact.TakeWhile.{class_takes, class_unique, one_is_some}
-use Rattle.winnow_exact.specs.Grammar.{IsUnique, Takes}
-use Rattle.winnow_exact.specs.Grammar.Unique.{literally_takes, literally_unique}
+use Rattle.winnow_ascii.specs.Class.Laws.{class_takes, class_unique, one_is_some}
+use Rattle.grammars.specs.Grammar.{IsUnique, Takes}
+use Rattle.grammars.specs.Grammar.Unique.{literally_takes, literally_unique}
 
 -- ---- characters
 

@@ -4,9 +4,9 @@ ghost use Rattle.json_reader.specs.Numbers.{fraction_unique, integer_takes, inte
 ghost use Rattle.json_texts.specs.Number.{Exponent, Fraction, GoesOn, Integer, Number, NumberText};
 ghost use Rattle.std.specs.Prelude.{◌≡◌, ⊤};
 ghost use Rattle.streams.specs.Text.{text_input, text_reading};
-ghost use Rattle.winnow_exact.specs.Exact.{Reads};
-ghost use Rattle.winnow_exact.specs.Texts.{NotFirst};
-ghost use Rattle.winnow_exact.specs.Texts.Told.{ReadsText};
+ghost use Rattle.winnow_core.specs.Exact.{Reads};
+ghost use Rattle.grammars.specs.Texts.{NotFirst};
+ghost use Rattle.winnow_exact.specs.Told.{ReadsText};
 
 use crate::parts::{read_exponent_of, read_integer_of, read_latter, read_number_of};
 use stream_errors::empty::EmptyError;
@@ -14,7 +14,7 @@ use stream_errors::mode::ErrMode;
 use streams::has_kind::HasKind;
 use winnow_ascii::ascii::impls::{Digit0, Digit1};
 use winnow_comb::combinator::alt;
-use winnow_exact::exact::Exact;
+use winnow_core::exact::Exact;
 use winnow_exact::rule::Rule;
 use winnow_token::token::one_of;
 

@@ -8,11 +8,11 @@ ghost use Rattle.json_texts.specs.Words.{Word};
 ghost use Rattle.std.specs.Prelude.{◌≡◌, false, IsTrue};
 ghost use Rattle.std.specs.Str.{chars};
 ghost use Rattle.streams.specs.Text.{text_input, text_reading};
-ghost use Rattle.winnow_exact.specs.Exact.{Reads};
-ghost use Rattle.winnow_exact.specs.Grammar.Meaning.{Meaning};
-ghost use Rattle.winnow_exact.specs.Held.{HasCharacters};
-ghost use Rattle.winnow_exact.specs.Texts.{Begins, NotFirst};
-ghost use Rattle.winnow_exact.specs.Texts.Told.{ReadsText};
+ghost use Rattle.winnow_core.specs.Exact.{Reads};
+ghost use Rattle.grammars.specs.Grammar.Meaning.{Meaning};
+ghost use Rattle.stream_sets.specs.Accumulator.Holds.{HasCharacters};
+ghost use Rattle.grammars.specs.Texts.{Begins, NotFirst};
+ghost use Rattle.winnow_exact.specs.Told.{ReadsText};
 
 use crate::number::read_number;
 use crate::string::read_string;
@@ -22,7 +22,7 @@ use stream_errors::empty::EmptyError;
 use stream_errors::growth::OrNoMemory;
 use stream_errors::mode::ErrMode;
 use streams::has_kind::HasKind;
-use winnow_exact::exact::Exact;
+use winnow_core::exact::Exact;
 use winnow_token::token::literal;
 
 /// Whether this character is first.

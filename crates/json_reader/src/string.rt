@@ -4,10 +4,10 @@ ghost use Rattle.json_reader.specs.Runs.{Characters, PlainRun};
 ghost use Rattle.json_texts.specs.Strings.{Quoted, StringText};
 ghost use Rattle.std.specs.Prelude.{◌≡◌};
 ghost use Rattle.streams.specs.Text.{text_input, text_reading};
-ghost use Rattle.winnow_exact.specs.Exact.{Reads};
-ghost use Rattle.winnow_exact.specs.Held.{HasCharacters};
-ghost use Rattle.winnow_exact.specs.Texts.{Anything};
-ghost use Rattle.winnow_exact.specs.Texts.Told.{ReadsText};
+ghost use Rattle.winnow_core.specs.Exact.{Reads};
+ghost use Rattle.stream_sets.specs.Accumulator.Holds.{HasCharacters};
+ghost use Rattle.grammars.specs.Texts.{Anything};
+ghost use Rattle.winnow_exact.specs.Told.{ReadsText};
 
 use crate::escapes::read_escape;
 use crate::parts::read_between;
@@ -17,7 +17,7 @@ use stream_errors::mode::ErrMode;
 use stream_errors::parser_error::ParserError;
 use stream_sets::range::Range;
 use streams::has_kind::HasKind;
-use winnow_exact::exact::Exact;
+use winnow_core::exact::Exact;
 use winnow_exact::rule::Rule;
 use winnow_token::token::take_while;
 

@@ -5,10 +5,10 @@ use Rattle.std.specs.declared.string.String.{String}
 use Rattle.std.specs.declared.vec.Vec.{Vec}
 use Rattle.stream_sets.specs.AsChar.{IsMultispace}
 use Rattle.stream_sets.specs.Range.{from_to}
-use Rattle.winnow_exact.specs.Grammar.{Both, Either, Gathered, Grammar, Parted, Three}
-use Rattle.winnow_exact.specs.Grammar.Meaning.{Meaning}
-use Rattle.winnow_exact.specs.Texts.{Among, InList}
-use Rattle.winnow_exact.specs.Texts.{Joined, Spelled, Text, Then}
+use Rattle.grammars.specs.Grammar.{Both, Either, Gathered, Grammar, Parted, Three}
+use Rattle.grammars.specs.Grammar.Meaning.{Meaning}
+use Rattle.grammars.specs.Texts.{Among, InList}
+use Rattle.grammars.specs.Texts.{Joined, Spelled, Text, Then}
 use Rattle.json_texts.specs.Number.{Number, NumberText, Slice}
 use Rattle.json_texts.specs.Strings.{Quoted, StringText}
 use Rattle.json_texts.specs.Words.{Between, Char, For, One, Run, RunOf, Word, former}

@@ -9,15 +9,15 @@ use Rattle.std.proofs.lemmas.List.Elements.{All-weaker}
 use Rattle.streams.specs.Equal.{true_is_false}
 use Rattle.streams.specs.Stream.{AnswersSeen}
 use Rattle.streams.specs.Text.{text_reading}
-use Rattle.winnow_exact.specs.Exact.Same.{Same}
-use Rattle.winnow_exact.specs.Grammar.{Both, Class, Grammar, InClass, Literally, Longest}
-use Rattle.winnow_exact.specs.Grammar.{Three, Token, TokenOf}
-use Rattle.winnow_exact.specs.Grammar.Meaning.{Meaning}
-use Rattle.winnow_exact.specs.Grammar.Tuples.{Four}
-use Rattle.winnow_exact.specs.Texts.{Anything, Begins, BeginsIn, InFront, IsGrammarOf, NotFirst}
-use Rattle.winnow_exact.specs.Texts.{Of, Spelled, Text, Then}
-use Rattle.winnow_exact.specs.Texts.Fronts.{of_front, then_front}
-use Rattle.winnow_exact.specs.Texts.Parts.{both_of, made_of, same_of}
+use Rattle.grammars.specs.Grammar.Same.{Same}
+use Rattle.grammars.specs.Grammar.{Both, Class, Grammar, InClass, Literally, Longest}
+use Rattle.grammars.specs.Grammar.{Three, Token, TokenOf}
+use Rattle.grammars.specs.Grammar.Meaning.{Meaning}
+use Rattle.grammars.specs.Grammar.Tuples.{Four}
+use Rattle.grammars.specs.Texts.{Anything, Begins, BeginsIn, InFront, IsGrammarOf, NotFirst}
+use Rattle.grammars.specs.Texts.{Of, Spelled, Text, Then}
+use Rattle.grammars.specs.Texts.Fronts.{of_front, then_front}
+use Rattle.grammars.specs.Texts.Parts.{both_of, made_of, same_of}
 
 -- ---- what is made of two outputs
 

@@ -19,14 +19,14 @@ use Rattle.json_texts.specs.Values.{WordText}
 use Rattle.json_texts.specs.Words.{Char, char_of, for_front, pair}
 use Rattle.json_texts.specs.declared.value.Value.{Value}
 use Rattle.json_values.specs.General.{none_both, none_three}
-use Rattle.winnow_exact.specs.Exact.{Reads}
-use Rattle.winnow_exact.specs.Exact.Read.{neither_stands, reads_former, reads_other}
-use Rattle.winnow_exact.specs.Grammar.{Grammar, NoneStands, Three}
-use Rattle.winnow_exact.specs.Grammar.Meaning.{Meaning, none_means}
-use Rattle.winnow_exact.specs.Held.{HasCharacters}
-use Rattle.winnow_exact.specs.Texts.{Begins, BeginsIn, NotFirst}
-use Rattle.winnow_exact.specs.Texts.Fronts.{among_front, begins_more, begins_wider, may_begin}
-use Rattle.winnow_exact.specs.Texts.Fronts.{none_begins, not_first, spelled_begins}
+use Rattle.winnow_core.specs.Exact.{Reads}
+use Rattle.winnow_exact.specs.Read.{neither_stands, reads_former, reads_other}
+use Rattle.grammars.specs.Grammar.{Grammar, NoneStands, Three}
+use Rattle.grammars.specs.Grammar.Meaning.{Meaning, none_means}
+use Rattle.stream_sets.specs.Accumulator.Holds.{HasCharacters}
+use Rattle.grammars.specs.Texts.{Begins, BeginsIn, NotFirst}
+use Rattle.grammars.specs.Texts.Fronts.{among_front, begins_more, begins_wider, may_begin}
+use Rattle.grammars.specs.Texts.Fronts.{none_begins, not_first, spelled_begins}
 
 -- the kind of an error
 abbrev pub no_memory_kind : ErrMode EmptyError Needed → Kind

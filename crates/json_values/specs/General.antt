@@ -3,8 +3,8 @@ use Rattle.std.specs.Prelude.{◌≡◌, List, Result}
 use Rattle.streams.specs.Kind.{Kind}
 use Rattle.streams.specs.declared.needed.Needed.{Needed}
 use Rattle.stream_errors.specs.declared.fault.ParseFault.{ParseFault}
-use Rattle.winnow_exact.specs.Exact.Whole.{ReadsAll}
-use Rattle.winnow_exact.specs.Grammar.{Both, Grammar, NoneStands, Three}
+use Rattle.winnow_core.specs.Exact.Whole.{ReadsAll}
+use Rattle.grammars.specs.Grammar.{Both, Grammar, NoneStands, Three}
 
 -- ---- where nothing stands
 

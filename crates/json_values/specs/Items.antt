@@ -6,8 +6,8 @@ use Rattle.streams.specs.Input.{Input}
 use Rattle.streams.specs.Kind.{Kind}
 use Rattle.streams.specs.Reading.{Reading}
 use Rattle.json_texts.specs.Words.{former, pair}
-use Rattle.winnow_exact.specs.Exact.{Reads}
-use Rattle.winnow_exact.specs.Grammar.{Both, Gathered, Grammar, Parted, Three}
+use Rattle.winnow_core.specs.Exact.{Reads}
+use Rattle.grammars.specs.Grammar.{Both, Gathered, Grammar, Parted, Three}
 
 module _ {T M W A : Type 0} where
   -- items with a mark between each two of them, between two others; white space is behind the first

@@ -11,12 +11,12 @@ use Rattle.json_texts.specs.Values.{IsNumber, IsObject, IsString, IsWord, Member
 use Rattle.json_texts.specs.Values.{Punctuation, Scalar, SpacedOut}
 use Rattle.json_texts.specs.Words.{former, pair}
 use Rattle.json_texts.specs.declared.value.Value.{Value}
-use Rattle.winnow_exact.specs.Grammar.{Grammar, IsUnique, Takes}
-use Rattle.winnow_exact.specs.Grammar.Meaning.{meaning_takes, meaning_unique}
-use Rattle.winnow_exact.specs.Grammar.Sequences.{three_take, three_unique}
-use Rattle.winnow_exact.specs.Grammar.Unique.{both_take, both_unique, either_takes, either_unique}
-use Rattle.winnow_exact.specs.Grammar.Unique.{gathered_unique, parted_unique}
-use Rattle.winnow_exact.specs.Held.{HasCharacters}
+use Rattle.grammars.specs.Grammar.{Grammar, IsUnique, Takes}
+use Rattle.grammars.specs.Grammar.Meaning.{meaning_takes, meaning_unique}
+use Rattle.grammars.specs.Grammar.Sequences.{three_take, three_unique}
+use Rattle.grammars.specs.Grammar.Unique.{both_take, both_unique, either_takes, either_unique}
+use Rattle.grammars.specs.Grammar.Unique.{gathered_unique, parted_unique}
+use Rattle.stream_sets.specs.Accumulator.Holds.{HasCharacters}
 
 -- ---- white space and marks
 

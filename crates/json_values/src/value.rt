@@ -8,11 +8,11 @@ ghost use Rattle.json_reader.specs.Escapes.{quoted_takes, quoted_unique};
 ghost use Rattle.std.specs.Prelude.{◌≡◌, ◌⊎◌, ◌<◌, false, IsTrue, ⊤};
 ghost use Rattle.std.specs.Str.{chars};
 ghost use Rattle.streams.specs.Text.{text_input, text_reading};
-ghost use Rattle.winnow_exact.specs.Exact.{Reads};
-ghost use Rattle.winnow_exact.specs.Exact.Whole.{ReadsAll};
-ghost use Rattle.winnow_exact.specs.Held.{HasCharacters};
-ghost use Rattle.winnow_exact.specs.Texts.{Begins, NotFirst};
-ghost use Rattle.winnow_exact.specs.Texts.Told.{IsTextOf, ReadsText};
+ghost use Rattle.winnow_core.specs.Exact.{Reads};
+ghost use Rattle.winnow_core.specs.Exact.Whole.{ReadsAll};
+ghost use Rattle.stream_sets.specs.Accumulator.Holds.{HasCharacters};
+ghost use Rattle.grammars.specs.Texts.{Begins, NotFirst};
+ghost use Rattle.winnow_exact.specs.Told.{IsTextOf, ReadsText};
 
 use crate::parts::{Marks, parse_spaced, read_array_of, read_object_of};
 use json_reader::scalar::read_scalar;

@@ -5,10 +5,10 @@ use Rattle.std.proofs.Common.{sym, subst, inl, inr, ◌∙◌}
 use Rattle.std.proofs.lemmas.List.{append_cancel_right}
 use Rattle.stream_sets.specs.Range.{from_to}
 use Rattle.json_texts.specs.Words.{former, latter}
-use Rattle.winnow_exact.specs.Grammar.{Both, Each, Either, Gathered, Grammar, IsUnique, Made}
-use Rattle.winnow_exact.specs.Grammar.{Many, NoneStands, Parted, Stops, Three}
-use Rattle.winnow_exact.specs.Grammar.Meaning.{Meaning}
-use Rattle.winnow_exact.specs.Grammar.Unique.{both_unique}
+use Rattle.grammars.specs.Grammar.{Both, Each, Either, Gathered, Grammar, IsUnique, Made}
+use Rattle.grammars.specs.Grammar.{Many, NoneStands, Parted, Stops, Three}
+use Rattle.grammars.specs.Grammar.Meaning.{Meaning}
+use Rattle.grammars.specs.Grammar.Unique.{both_unique}
 
 -- Outputs that stand first in the same tokens are alike.
 pub record Agrees {O : Type 0} (alike : O → O → Type 0) (grammar : Grammar ℕ O) : Type 0 where

@@ -24,13 +24,13 @@ use Rattle.json_values.specs.Unique.{value_unique}
 use Rattle.json_writer.specs.Agreed.{Agrees, ArePairwise, between_agrees, either_agrees}
 use Rattle.json_writer.specs.Agreed.{former_agrees, gathered_agree, latter_agrees, many_agree}
 use Rattle.json_writer.specs.Agreed.{means_agree, one_beginning, parted_agree}
-use Rattle.winnow_exact.specs.Grammar.{Gathered, Grammar, InClass, IsUnique, Taken, Three, Token}
-use Rattle.winnow_exact.specs.Grammar.Meaning.{Meaning}
-use Rattle.winnow_exact.specs.Grammar.Outputs.{IsAlike, either_alike, made_alike, second_alike}
-use Rattle.winnow_exact.specs.Grammar.Outputs.{token_of_alike}
-use Rattle.winnow_exact.specs.Grammar.Sequences.{three_unique}
-use Rattle.winnow_exact.specs.Grammar.Unique.{both_unique}
-use Rattle.winnow_exact.specs.Held.{HasCharacters}
+use Rattle.grammars.specs.Grammar.{Gathered, Grammar, InClass, IsUnique, Taken, Three, Token}
+use Rattle.grammars.specs.Grammar.Meaning.{Meaning}
+use Rattle.grammars.specs.Grammar.Outputs.{IsAlike, either_alike, made_alike, second_alike}
+use Rattle.grammars.specs.Grammar.Outputs.{token_of_alike}
+use Rattle.grammars.specs.Grammar.Sequences.{three_unique}
+use Rattle.grammars.specs.Grammar.Unique.{both_unique}
+use Rattle.stream_sets.specs.Accumulator.Holds.{HasCharacters}
 
 -- ---- values that are alike
 

@@ -9,9 +9,9 @@ use Rattle.json_texts.specs.Values.{JsonText, ValueText}
 use Rattle.json_texts.specs.declared.value.Value.{Value}
 use Rattle.json_writer.specs.Alike.{AreAlike, texts_alike}
 use Rattle.json_writer.specs.Within.{IsWithin, within_alone, within_refl, within_spaced}
-use Rattle.winnow_exact.specs.Exact.Whole.{IsWant}
-use Rattle.winnow_exact.specs.Held.{HasCharacters}
-use Rattle.winnow_exact.specs.Texts.Told.{IsTextOf, text_found}
+use Rattle.winnow_core.specs.Exact.Whole.{IsWant}
+use Rattle.stream_sets.specs.Accumulator.Holds.{HasCharacters}
+use Rattle.winnow_exact.specs.Told.{IsTextOf, text_found}
 
 module _ {A : Type 0} (level : ℕ) (v : Value A) {text : List ℕ} (shown : List ℕ)
     (same : shown ≡ text) (written : ValueText HasCharacters level v (chars text)) where

@@ -11,7 +11,7 @@ use Rattle.streams.specs.Kind.{Kind, memory}
 use Rattle.streams.specs.Text.{text_input, text_reading}
 use Rattle.json_reader.specs.Numbers.{number_unique}
 use Rattle.json_texts.specs.Number.{Number, NumberText, Slice, number_of}
-use Rattle.winnow_exact.specs.Exact.{Reads}
+use Rattle.winnow_core.specs.Exact.{Reads}
 
 -- a text of no bytes has no characters
 pub all_read : (text : List ℕ) (is_empty : Bool) → is_empty ≡ (length text == 0)

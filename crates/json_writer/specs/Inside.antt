@@ -18,8 +18,8 @@ use Rattle.json_texts.specs.declared.value.Value as values
 use Rattle.json_texts.specs.declared.value.Value.TheOpen.{Value-F}
 use Rattle.json_texts.specs.declared.value.Value.TheVariants.{outs-Array, outs-Boolean, outs-Null}
 use Rattle.json_texts.specs.declared.value.Value.TheVariants.{outs-Number, outs-Object, outs-Text}
-use Rattle.winnow_exact.specs.Held.{HasCharacters}
-use Rattle.winnow_exact.specs.Texts.{Among, InList, Joined, Of, Row, Shown, Text, Then}
+use Rattle.stream_sets.specs.Accumulator.Holds.{HasCharacters}
+use Rattle.grammars.specs.Texts.{Among, InList, Joined, Of, Row, Shown, Text, Then}
 
 -- ---- which value it is
 

@@ -7,8 +7,8 @@ ghost use Rattle.json_writer.specs.Refused.{HasNoText, IsRefused};
 ghost use Rattle.json_writer.specs.declared.error.WriteError.TheVariants.{Memory};
 ghost use Rattle.std.specs.Prelude.{◌≡◌, ◌⊎◌, IfErr, IfOk, IsTrue, OnOk, string_bytes};
 ghost use Rattle.std.specs.Str.{chars};
-ghost use Rattle.winnow_exact.specs.Exact.Whole.{IsWant};
-ghost use Rattle.winnow_exact.specs.Held.{HasCharacters};
+ghost use Rattle.winnow_core.specs.Exact.Whole.{IsWant};
+ghost use Rattle.stream_sets.specs.Accumulator.Holds.{HasCharacters};
 
 use crate::error::WriteError;
 use crate::nested::write_nested;

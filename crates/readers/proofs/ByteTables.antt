@@ -11,7 +11,8 @@ use Rattle.winnow.specs.Input.{Input}
 use Rattle.winnow.specs.Kind.{Kind}
 use Rattle.winnow.specs.Literal.Known.{TokenTaken}
 use Rattle.winnow.specs.Stream.{AnswersSeen}
-use Rattle.winnow.specs.TakeWhile.{IsEnded, IsLongest}
+use Rattle.winnow.specs.Longest.{IsLongest}
+use Rattle.winnow.specs.TakeWhile.{IsEnded}
 use Rattle.winnow.specs.TakeWhile.Known.{TooFew, Took}
 use Rattle.readers.specs.DocumentRuns.{IsFront}
 use Rattle.readers.specs.Tables.{HasExactly, TellsByte}

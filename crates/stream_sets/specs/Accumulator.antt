@@ -9,6 +9,7 @@ use Rattle.std.specs.declared.cmp.Ordering.{Ordering}
 use Rattle.std.specs.declared.string.String.{String}
 use Rattle.std.specs.declared.vec.Vec.{Vec}
 pub mod Entries
+pub mod Holds
 pub mod Known
 
 -- What an accumulator is to a repetition.

@@ -2,6 +2,8 @@
 pub mod Accumulator
 pub mod AsBStr
 pub mod AsChar
+pub mod Longest
+pub mod Once
 pub mod ParseSlice
 pub mod Range
 pub mod Sets

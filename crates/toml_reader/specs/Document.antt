@@ -7,7 +7,7 @@ use Rattle.toml_reader.specs.Toml.{DocumentText}
 use Rattle.toml_reader.specs.declared.document.Fault.{Fault}
 use Rattle.toml_reader.specs.declared.document.Fault.TheVariants.{Lines, Repeat}
 use Rattle.toml_reader.specs.declared.value.Item.{Item}
-use Rattle.winnow_exact.specs.Exact.Whole.{IsWant}
+use Rattle.winnow_core.specs.Exact.Whole.{IsWant}
 
 -- a document of some lines, of which this is the first that says something again, if one does
 abbrev pub HasFirst : {A : Type 0} → ℕ → List ℕ → Option ℕ → Vec (Option (Item A)) A → Type 0

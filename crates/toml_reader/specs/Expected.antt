@@ -20,9 +20,9 @@ use Rattle.toml_reader.specs.declared.expected.Lack.{Lack}
 use Rattle.toml_reader.specs.declared.expected.Outcome as ways
 use Rattle.toml_reader.specs.declared.expected.Outcome.TheVariants.{Last, Before}
 use Rattle.toml_reader.specs.declared.expected.Outcome.TheVariants as lines
-use Rattle.winnow_exact.specs.Grammar.{Grammar, Longest, NoneStands, Takes}
-use Rattle.winnow_exact.specs.Grammar.Unique.{both_take, either_takes}
-use Rattle.winnow_exact.specs.Texts.{NotFirst}
+use Rattle.grammars.specs.Grammar.{Grammar, Longest, NoneStands, Takes}
+use Rattle.grammars.specs.Grammar.Unique.{both_take, either_takes}
+use Rattle.grammars.specs.Texts.{NotFirst}
 
 -- unquoted-key, as it stands in the text
 abbrev pub BareKey : Grammar ℕ Slice

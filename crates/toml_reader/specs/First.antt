@@ -18,12 +18,12 @@ use Rattle.toml_reader.specs.Toml.{false_word, true_word}
 use Rattle.toml_reader.specs.Values as texts
 use Rattle.toml_reader.specs.declared.value.Item.{Item}
 use Rattle.toml_reader.specs.declared.value.Value.{Value}
-use Rattle.winnow_exact.specs.Exact.{Reads}
-use Rattle.winnow_exact.specs.Exact.Read.{reads_former, reads_other}
-use Rattle.winnow_exact.specs.Grammar.{Either, Grammar, NoneStands}
-use Rattle.winnow_exact.specs.Grammar.Meaning.{Meaning}
-use Rattle.winnow_exact.specs.Texts.{Begins, BeginsIn, IsGrammarOf, NotFirst, Text}
-use Rattle.winnow_exact.specs.Texts.Fronts.{may_begin, none_begins}
+use Rattle.winnow_core.specs.Exact.{Reads}
+use Rattle.winnow_exact.specs.Read.{reads_former, reads_other}
+use Rattle.grammars.specs.Grammar.{Either, Grammar, NoneStands}
+use Rattle.grammars.specs.Grammar.Meaning.{Meaning}
+use Rattle.grammars.specs.Texts.{Begins, BeginsIn, IsGrammarOf, NotFirst, Text}
+use Rattle.grammars.specs.Texts.Fronts.{may_begin, none_begins}
 
 -- the kind of an error
 abbrev pub no_memory_kind : ErrMode EmptyError Needed → Kind

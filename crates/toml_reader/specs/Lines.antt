@@ -14,15 +14,15 @@ use Rattle.toml_reader.specs.Values.{characters_begin, characters_of, mark_begin
 use Rattle.toml_reader.specs.Values.{mark_of, no_space, past, space_digit, spaced_begins, spaced_of}
 use Rattle.toml_reader.specs.Values.{value_begins, value_of, ws_front, ws_of}
 use Rattle.toml_reader.specs.declared.characters.Characters.TheVariants.{Bare, Comment}
-use Rattle.winnow_exact.specs.Grammar.Meaning.{Meaning}
-use Rattle.winnow_exact.specs.Texts.{Anything, AtEnd, BeginsIn, InFront, IsGrammarOf, MayBegin}
-use Rattle.winnow_exact.specs.Texts.{NotFirst}
-use Rattle.winnow_exact.specs.Texts.Fronts.{among_front, begins_wider, front_any, front_begins}
-use Rattle.winnow_exact.specs.Texts.Fronts.{front_behind, may_begin_more, may_begin_none}
-use Rattle.winnow_exact.specs.Texts.Fronts.{none_begins, perhaps_front, spelled_begins, then_front}
-use Rattle.winnow_exact.specs.Texts.Parts.{behind_less, both_of, either_apart, maybe_of, three_of}
-use Rattle.winnow_exact.specs.Texts.Rows.{list_of, parted_of}
-use Rattle.winnow_exact.specs.Texts.Tokens.{divides_seen, divides_where, longest_of}
+use Rattle.grammars.specs.Grammar.Meaning.{Meaning}
+use Rattle.grammars.specs.Texts.{Anything, AtEnd, BeginsIn, InFront, IsGrammarOf, MayBegin}
+use Rattle.grammars.specs.Texts.{NotFirst}
+use Rattle.grammars.specs.Texts.Fronts.{among_front, begins_wider, front_any, front_begins}
+use Rattle.grammars.specs.Texts.Fronts.{front_behind, may_begin_more, may_begin_none}
+use Rattle.grammars.specs.Texts.Fronts.{none_begins, perhaps_front, spelled_begins, then_front}
+use Rattle.grammars.specs.Texts.Parts.{behind_less, both_of, either_apart, maybe_of, three_of}
+use Rattle.grammars.specs.Texts.Rows.{list_of, parted_of}
+use Rattle.grammars.specs.Texts.Tokens.{divides_seen, divides_where, longest_of}
 
 -- ---- tables
 

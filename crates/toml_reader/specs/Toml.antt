@@ -17,13 +17,13 @@ use Rattle.toml_reader.specs.declared.value.Item.{Item}
 use Rattle.toml_reader.specs.declared.value.Item.TheVariants as items
 use Rattle.toml_reader.specs.declared.value.Value.{Value}
 use Rattle.toml_reader.specs.declared.value.Value as values
-use Rattle.winnow_exact.specs.Grammar.{Both, Either, Gathered, Grammar, Longest, Many, Maybe}
-use Rattle.winnow_exact.specs.Grammar.{Parted, Three, Token, TokenOf}
-use Rattle.winnow_exact.specs.Grammar.Meaning.{Meaning}
-use Rattle.winnow_exact.specs.Grammar.Numbers.{SignedDecimal}
-use Rattle.winnow_exact.specs.Held.{HasCharacters}
-use Rattle.winnow_exact.specs.Texts.{Among, AtLeast, Holding, InList, Joined, Members, OneOf}
-use Rattle.winnow_exact.specs.Texts.{Perhaps, Row, Spelled, Text, Then}
+use Rattle.grammars.specs.Grammar.{Both, Either, Gathered, Grammar, Longest, Many, Maybe}
+use Rattle.grammars.specs.Grammar.{Parted, Three, Token, TokenOf}
+use Rattle.grammars.specs.Grammar.Meaning.{Meaning}
+use Rattle.winnow_numbers.specs.Numeral.Grammar.{SignedDecimal}
+use Rattle.stream_sets.specs.Accumulator.Holds.{HasCharacters}
+use Rattle.grammars.specs.Texts.{Among, AtLeast, Holding, InList, Joined, Members, OneOf}
+use Rattle.grammars.specs.Texts.{Perhaps, Row, Spelled, Text, Then}
 use Rattle.winnow_numbers.specs.Decimal.{IsSignedDecimalOf}
 
 -- ---- characters

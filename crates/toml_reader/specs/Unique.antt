@@ -15,16 +15,16 @@ use Rattle.toml_reader.specs.Toml.{Scalar, SpacedOut, Tells, Ws, false_word, tru
 use Rattle.toml_reader.specs.declared.characters.Characters.{Characters}
 use Rattle.toml_reader.specs.declared.characters.Characters.TheVariants.{Bare, Comment, Literal}
 use Rattle.toml_reader.specs.declared.value.Value.{Value}
-use Rattle.winnow_exact.specs.Exact.Numbers.{dec_int_exact}
-use Rattle.winnow_exact.specs.Exact.TakeWhile.{longest_unique}
-use Rattle.winnow_exact.specs.Exact.Tokens.{holds_once, seen_once}
-use Rattle.winnow_exact.specs.Grammar.{Grammar, IsUnique}
-use Rattle.winnow_exact.specs.Grammar.Meaning.{meaning_unique}
-use Rattle.winnow_exact.specs.Grammar.Sequences.{three_unique}
-use Rattle.winnow_exact.specs.Grammar.Unique.{both_unique, either_unique, gathered_unique}
-use Rattle.winnow_exact.specs.Grammar.Unique.{many_unique, maybe_unique, parted_unique}
-use Rattle.winnow_exact.specs.Grammar.Unique.{token_of_unique}
-use Rattle.winnow_exact.specs.Held.{HasCharacters}
+use Rattle.winnow_numbers.specs.Numeral.Exact.{dec_int_exact}
+use Rattle.winnow_token.specs.TakeWhile.Exact.{longest_unique}
+use Rattle.stream_sets.specs.Once.{holds_once, seen_once}
+use Rattle.grammars.specs.Grammar.{Grammar, IsUnique}
+use Rattle.grammars.specs.Grammar.Meaning.{meaning_unique}
+use Rattle.grammars.specs.Grammar.Sequences.{three_unique}
+use Rattle.grammars.specs.Grammar.Unique.{both_unique, either_unique, gathered_unique}
+use Rattle.grammars.specs.Grammar.Unique.{many_unique, maybe_unique, parted_unique}
+use Rattle.grammars.specs.Grammar.Unique.{token_of_unique}
+use Rattle.stream_sets.specs.Accumulator.Holds.{HasCharacters}
 
 ws_unique : IsUnique Ws
 ws_unique = run_unique IsSpace 0

@@ -19,19 +19,19 @@ use Rattle.toml_reader.specs.Toml.{false_word, true_word}
 use Rattle.toml_reader.specs.declared.characters.Characters.{Characters}
 use Rattle.toml_reader.specs.declared.characters.Characters.TheVariants.{Basic, Literal}
 use Rattle.toml_reader.specs.declared.value.Value.{Value}
-use Rattle.winnow_exact.specs.Grammar.{Both, Either, Grammar, NoneStands, TokenOf}
-use Rattle.winnow_exact.specs.Grammar.Meaning.{Meaning}
-use Rattle.winnow_exact.specs.Grammar.Numbers.{SignedDecimal}
-use Rattle.winnow_exact.specs.Held.{HasCharacters}
-use Rattle.winnow_exact.specs.Texts.{Among, Anything, AtLeast, Begins, BeginsIn, InFront, InList}
-use Rattle.winnow_exact.specs.Texts.{IsGrammarOf, Joined, NotFirst, OneOf, Row, Spelled, Text}
-use Rattle.winnow_exact.specs.Texts.{Then}
-use Rattle.winnow_exact.specs.Texts.Fronts.{among_front, begins_wider, front_any, front_begins}
-use Rattle.winnow_exact.specs.Texts.Fronts.{holding_front, may_begin, none_begins, not_first}
-use Rattle.winnow_exact.specs.Texts.Fronts.{one_of_begins, spelled_begins, then_front}
-use Rattle.winnow_exact.specs.Texts.Parts.{behind_less, both_of, either_apart}
-use Rattle.winnow_exact.specs.Texts.Rows.{gathered_of, list_of, many_of, parted_of}
-use Rattle.winnow_exact.specs.Texts.Tokens.{divides_where, token_of}
+use Rattle.grammars.specs.Grammar.{Both, Either, Grammar, NoneStands, TokenOf}
+use Rattle.grammars.specs.Grammar.Meaning.{Meaning}
+use Rattle.winnow_numbers.specs.Numeral.Grammar.{SignedDecimal}
+use Rattle.stream_sets.specs.Accumulator.Holds.{HasCharacters}
+use Rattle.grammars.specs.Texts.{Among, Anything, AtLeast, Begins, BeginsIn, InFront, InList}
+use Rattle.grammars.specs.Texts.{IsGrammarOf, Joined, NotFirst, OneOf, Row, Spelled, Text}
+use Rattle.grammars.specs.Texts.{Then}
+use Rattle.grammars.specs.Texts.Fronts.{among_front, begins_wider, front_any, front_begins}
+use Rattle.grammars.specs.Texts.Fronts.{holding_front, may_begin, none_begins, not_first}
+use Rattle.grammars.specs.Texts.Fronts.{one_of_begins, spelled_begins, then_front}
+use Rattle.grammars.specs.Texts.Parts.{behind_less, both_of, either_apart}
+use Rattle.grammars.specs.Texts.Rows.{gathered_of, list_of, many_of, parted_of}
+use Rattle.grammars.specs.Texts.Tokens.{divides_where, token_of}
 use Rattle.winnow_numbers.specs.Decimal.{IsSignedDecimalOf}
 use Rattle.winnow_numbers.specs.DecimalText.{AreDigits}
 use Rattle.winnow_numbers.specs.Digits.{NoneFirst}

@@ -1,10 +1,10 @@
 //! Characters of keys, strings and comments (TOML 1.0: Comment, Keys, String).
 ghost use Rattle.std.specs.Prelude.{◌↔◌, IsTrue};
 ghost use Rattle.toml_reader.specs.Toml.{IsBare, IsOf, IsShown};
-ghost use Rattle.winnow_exact.specs.Exact.Tokens.{holds_once};
+ghost use Rattle.stream_sets.specs.Once.{holds_once};
 
+use stream_sets::decides::Decides;
 use stream_sets::sets::ContainsToken;
-use winnow_exact::sets::Decides;
 
 /// A set of characters.
 ///

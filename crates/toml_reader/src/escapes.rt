@@ -4,15 +4,15 @@ ghost use Rattle.streams.specs.Text.{text_input, text_reading};
 ghost use Rattle.toml_reader.specs.Escapes.{character_takes, character_unique, short_takes};
 ghost use Rattle.toml_reader.specs.Escapes.{short_unique};
 ghost use Rattle.toml_reader.specs.Toml.{Character, Short, StandsFor};
-ghost use Rattle.winnow_exact.specs.Exact.{Reads};
+ghost use Rattle.winnow_core.specs.Exact.{Reads};
 
 use crate::characters::Characters;
 use stream_errors::empty::EmptyError;
 use stream_errors::mode::ErrMode;
 use streams::has_kind::HasKind;
 use winnow_comb::combinator::{alt, preceded};
+use winnow_core::exact::Exact;
 use winnow_core::parser::Parser;
-use winnow_exact::exact::Exact;
 use winnow_exact::rule::Rule;
 use winnow_token::token::impls::Any;
 use winnow_token::token::one_of;

@@ -5,8 +5,8 @@ ghost use Rattle.json_texts.specs.Words.{Char};
 ghost use Rattle.toml_reader.specs.Expected.{BareKey, EntryLacks, IsFirstLack, IsLine, IsPast};
 ghost use Rattle.toml_reader.specs.Expected.{ItemLacks, Lacks, Stands, TableLacks};
 ghost use Rattle.toml_reader.specs.Toml.{AnyValue, Line, Mark, Newline, Separator, Ws};
-ghost use Rattle.winnow_exact.specs.Grammar.{NoneStands};
-ghost use Rattle.winnow_exact.specs.Texts.{NotFirst};
+ghost use Rattle.grammars.specs.Grammar.{NoneStands};
+ghost use Rattle.grammars.specs.Texts.{NotFirst};
 
 use crate::characters::Characters;
 use crate::lines::{AnyLine, read_line, read_value};
@@ -20,7 +20,7 @@ use stream_errors::parser_error::ParserError;
 use stream_sets::range::Range;
 use winnow_ascii::ascii::impls::Space0;
 use winnow_comb::combinator::{alt, preceded};
-use winnow_exact::exact::Exact;
+use winnow_core::exact::Exact;
 use winnow_exact::rule::Rule;
 use winnow_token::token::take_while;
 

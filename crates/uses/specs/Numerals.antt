@@ -1,8 +1,8 @@
 -- Numbers in decimal digits.
 use Rattle.std.specs.Prelude.{◌^◌, ℕ, ℤ, FitsSigned}
 use Rattle.std.specs.Int.{w16}
-use Rattle.winnow_exact.specs.Grammar.{Grammar}
-use Rattle.winnow_exact.specs.Grammar.Numbers.{Decimal, SignedDecimal}
+use Rattle.winnow.specs.Grammar.{Grammar}
+use Rattle.winnow.specs.Numeral.Grammar.{Decimal, SignedDecimal}
 
 -- the digits of a number below 2 ^ 16
 abbrev pub IsPortNumber : Grammar ℕ ℕ

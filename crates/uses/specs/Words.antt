@@ -3,8 +3,8 @@ use Rattle.std.specs.Prelude.{ℕ, List}
 use Rattle.std.specs.Borrow.{Bor}
 use Rattle.winnow.specs.AsChar.{IsAlpha}
 use Rattle.winnow.specs.Counted.{counted_reading}
-use Rattle.winnow_exact.specs.Grammar.{Both, Class, Either, Grammar, Three}
-use Rattle.winnow_exact.specs.Grammar.Known.{Byte}
+use Rattle.winnow.specs.Grammar.{Both, Class, Either, Grammar, Three}
+use Rattle.winnow.specs.Grammar.Known.{Byte}
 
 -- a word: as many letters as stand first, at least one
 abbrev pub Word : Grammar ℕ (Bor (List ℕ))

@@ -7,14 +7,14 @@ ghost use Rattle.uses.specs.Words.{Sign};
 ghost use Rattle.winnow.specs.Bytes.{bytes_input, bytes_reading};
 ghost use Rattle.winnow.specs.Form.{answer_by, assert_kind};
 ghost use Rattle.winnow.specs.Alt.Slice.{AltSliceRuns};
-ghost use Rattle.winnow_exact.specs.Exact.{Reads};
-ghost use Rattle.winnow_exact.specs.Grammar.FirstOf.{FirstOf};
+ghost use Rattle.winnow.specs.Exact.{Reads};
+ghost use Rattle.winnow.specs.Grammar.FirstOf.{FirstOf};
 
 use winnow::Parser;
 use winnow::combinator::alt;
 use winnow::error::{EmptyError, HasKind, ParserError};
+use winnow::exact::Exact;
 use winnow::stream::Stream;
-use winnow_exact::exact::Exact;
 
 /// Chooses among branches that stay with their owner, who learns the new state of each.
 pub fn choose_among<P: Parser<I, O, E>, I: Stream, O, E: ParserError<I>>(

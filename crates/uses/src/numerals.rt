@@ -4,7 +4,7 @@
 ghost use Rattle.std.specs.Fmt.{decimal};
 ghost use Rattle.std.specs.Prelude.{◌≡◌, ◌++◌, IfOk};
 ghost use Rattle.winnow.specs.Bytes.{bytes_input, bytes_reading};
-ghost use Rattle.winnow_exact.specs.Exact.{Reads};
+ghost use Rattle.winnow.specs.Exact.{Reads};
 ghost use Rattle.uses.specs.Numerals.{IsOffset, IsPortNumber};
 ghost use Rattle.winnow.specs.DecInt.Known.{StartsWritten};
 

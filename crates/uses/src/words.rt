@@ -3,12 +3,12 @@
 
 ghost use Rattle.uses.specs.Words.{Assignment, Mark, MarkedWord, Word};
 ghost use Rattle.winnow.specs.Bytes.{bytes_input, bytes_reading};
-ghost use Rattle.winnow_exact.specs.Exact.{Reads};
+ghost use Rattle.winnow.specs.Exact.{Reads};
 
 use winnow::ascii::impls::Alpha1;
 use winnow::combinator::preceded;
 use winnow::error::{EmptyError, HasKind};
-use winnow_exact::exact::Exact;
+use winnow::exact::Exact;
 
 /// A word at the front of bytes: as many letters as stand first, at least one. It fails, by a
 /// backtrack, where no letter stands first.

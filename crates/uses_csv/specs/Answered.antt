@@ -17,9 +17,9 @@ use Rattle.uses_csv.specs.declared.table.Ragged.{Ragged}
 use Rattle.uses_csv.specs.declared.table.Table.{Table}
 use Rattle.uses_csv.specs.declared.table.TableFault.{TableFault}
 use Rattle.uses_csv.specs.declared.table.TableFault.TheVariants.{Document, Empty, Width}
-use Rattle.winnow_exact.specs.Exact.Whole.{IsWant, ReadsAll}
-use Rattle.winnow_exact.specs.Grammar.{Each}
-use Rattle.winnow_exact.specs.Grammar.Known.{Listed}
+use Rattle.winnow_core.specs.Exact.Whole.{IsWant, ReadsAll}
+use Rattle.grammars.specs.Grammar.{Each}
+use Rattle.grammars.specs.Grammar.Known.{Listed}
 
 -- The same numbers.
 abbrev pub SameNumbers : Ragged → Ragged → Type 0

@@ -13,9 +13,9 @@ use Rattle.streams.specs.Partial.{with_flag}
 use Rattle.uses_csv.specs.Csv.{IsRecord, RecordText, line_end}
 use Rattle.uses_csv.specs.Read.{FieldsRead, fields, some_end}
 use Rattle.uses_csv.specs.declared.LineEnd.{LineEnd}
-use Rattle.winnow_exact.specs.Exact.{Reads}
-use Rattle.winnow_exact.specs.Exact.Cut.{ReadsOrAsks}
-use Rattle.winnow_exact.specs.Grammar.{Both, Grammar, Literally}
+use Rattle.winnow_core.specs.Exact.{Reads}
+use Rattle.winnow_exact.specs.Cut.{ReadsOrAsks}
+use Rattle.grammars.specs.Grammar.{Both, Grammar, Literally}
 
 -- Bytes begin with a record and a line end.
 abbrev pub IsLine : {A : Type 0} → LineEnd → Grammar ℕ (Vec (Vec ℕ A) A)

@@ -16,29 +16,30 @@ use Rattle.uses_csv.specs.Csv.{AreRecords, FieldText, InQuotes, IsPlain, IsRecor
 use Rattle.uses_csv.specs.Csv.{QuotedText, RecordText, line_end}
 use Rattle.uses_csv.specs.declared.LineEnd.{LineEnd}
 use Rattle.uses_csv.specs.declared.LineEnd.TheVariants.{CrLf, Lf}
-use Rattle.winnow_exact.specs.Exact.Same.{Same, unique_as}
-use Rattle.winnow_exact.specs.Exact.Tokens.{token_of_takes}
-use Rattle.winnow_exact.specs.Exact.Whole.{ReadsAll, reads_all_as}
-use Rattle.winnow_exact.specs.Grammar.{Ahead, Both, Either, Gathered, Grammar, IsUnique, Literally}
-use Rattle.winnow_exact.specs.Grammar.{Made, Many, NoTokens, NoneStands, Others, Parted}
-use Rattle.winnow_exact.specs.Grammar.{Takes, Three, Token, TokenOf}
-use Rattle.winnow_exact.specs.Grammar.Known.{Byte, byte_stands, byte_takes, byte_unique}
-use Rattle.winnow_exact.specs.Grammar.Known.{repeated_list, slice_for}
-use Rattle.winnow_exact.specs.Grammar.Sequences.{three_unique}
-use Rattle.winnow_exact.specs.Grammar.Unique.{ahead_unique, both_take, both_unique, either_takes}
-use Rattle.winnow_exact.specs.Grammar.Unique.{either_unique, gathered_unique, literally_unique}
-use Rattle.winnow_exact.specs.Grammar.Unique.{made_unique, many_unique}
-use Rattle.winnow_exact.specs.Grammar.Unique.{parted_unique, token_of_unique}
-use Rattle.winnow_exact.specs.Texts.{Anything, AtLeast, InFront, InList, IsGrammarOf, Itself}
-use Rattle.winnow_exact.specs.Texts.{MayBegin, NotFirst, OneOf, Row, Spelled}
-use Rattle.winnow_exact.specs.Texts.Fronts.{begins_wider, front_any, front_begins, front_behind}
-use Rattle.winnow_exact.specs.Texts.Fronts.{in_list_front, may_begin_more, none_begins}
-use Rattle.winnow_exact.specs.Texts.Fronts.{one_of_begins}
-use Rattle.winnow_exact.specs.Texts.Fronts.{row_front, spelled_begins, then_front}
-use Rattle.winnow_exact.specs.Texts.Parts.{behind_less, both_of, either_apart, three_of}
-use Rattle.winnow_exact.specs.Texts.Rows.{list_of, many_of, parted_of}
-use Rattle.winnow_exact.specs.Texts.Tokens.{byte_of, divides_either, divides_others, divides_where}
-use Rattle.winnow_exact.specs.Texts.Tokens.{token_of}
+use Rattle.grammars.specs.Grammar.Same.{Same, unique_as}
+use Rattle.winnow_token.specs.OneOf.Laws.{token_of_takes}
+use Rattle.winnow_core.specs.Exact.Whole.{ReadsAll, reads_all_as}
+use Rattle.grammars.specs.Grammar.{Ahead, Both, Either, Gathered, Grammar, IsUnique, Literally}
+use Rattle.grammars.specs.Grammar.{Made, Many, NoTokens, NoneStands, Parted}
+use Rattle.stream_sets.specs.Once.{Others}
+use Rattle.grammars.specs.Grammar.{Takes, Three, Token, TokenOf}
+use Rattle.grammars.specs.Grammar.Known.{Byte, byte_stands, byte_takes, byte_unique}
+use Rattle.grammars.specs.Grammar.Known.{repeated_list, slice_for}
+use Rattle.grammars.specs.Grammar.Sequences.{three_unique}
+use Rattle.grammars.specs.Grammar.Unique.{ahead_unique, both_take, both_unique, either_takes}
+use Rattle.grammars.specs.Grammar.Unique.{either_unique, gathered_unique, literally_unique}
+use Rattle.grammars.specs.Grammar.Unique.{made_unique, many_unique}
+use Rattle.grammars.specs.Grammar.Unique.{parted_unique, token_of_unique}
+use Rattle.grammars.specs.Texts.{Anything, AtLeast, InFront, InList, IsGrammarOf, Itself}
+use Rattle.grammars.specs.Texts.{MayBegin, NotFirst, OneOf, Row, Spelled}
+use Rattle.grammars.specs.Texts.Fronts.{begins_wider, front_any, front_begins, front_behind}
+use Rattle.grammars.specs.Texts.Fronts.{in_list_front, may_begin_more, none_begins}
+use Rattle.grammars.specs.Texts.Fronts.{one_of_begins}
+use Rattle.grammars.specs.Texts.Fronts.{row_front, spelled_begins, then_front}
+use Rattle.grammars.specs.Texts.Parts.{behind_less, both_of, either_apart, three_of}
+use Rattle.grammars.specs.Texts.Rows.{list_of, many_of, parted_of}
+use Rattle.grammars.specs.Texts.Tokens.{byte_of, divides_either, divides_others, divides_where}
+use Rattle.grammars.specs.Texts.Tokens.{token_of}
 
 -- what the set of one byte tells
 abbrev pub Tells : ℕ → ℕ → Bool → Type 0

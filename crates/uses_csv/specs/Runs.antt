@@ -15,20 +15,21 @@ use Rattle.stream_errors.specs.Growth.{grown}
 use Rattle.uses_csv.specs.Csv.{IsPlain}
 use Rattle.uses_csv.specs.Read.{InQuotesRead, IsBreak, PlainByte, PlainRead, Special, Tells}
 use Rattle.uses_csv.specs.Read.{in_quotes, plain_byte}
-use Rattle.winnow_exact.specs.Exact.{Reads}
-use Rattle.winnow_exact.specs.Exact.Read.{reads_wanting}
-use Rattle.winnow_exact.specs.Exact.Same.{Same}
-use Rattle.winnow_exact.specs.Grammar.{Both, Each, Either, Gathered, Grammar, Literally, Longest}
-use Rattle.winnow_exact.specs.Grammar.{Many, NoneStands, Others, TokenOf}
-use Rattle.winnow_exact.specs.Grammar.Known.{byte_stands, slice_for}
-use Rattle.winnow_exact.specs.Grammar.Runs as runs
-use Rattle.winnow_exact.specs.Grammar.Runs.{RunOf, each_behind, each_one, each_run, run_same}
-use Rattle.winnow_exact.specs.Grammar.Runs.{run_takes, run_wants}
-use Rattle.winnow_exact.specs.Texts.{MayBegin, OneOf, Spelled, Then, Among}
-use Rattle.winnow_exact.specs.Texts.Fronts.{begins_wider, may_begin_more, none_begins}
-use Rattle.winnow_exact.specs.Texts.Fronts.{one_of_begins}
-use Rattle.winnow_exact.specs.Texts.Tokens.{divides_either, divides_others, divides_seen}
-use Rattle.winnow_exact.specs.Texts.Tokens.{divides_where}
+use Rattle.winnow_core.specs.Exact.{Reads}
+use Rattle.winnow_exact.specs.Read.{reads_wanting}
+use Rattle.grammars.specs.Grammar.Same.{Same}
+use Rattle.grammars.specs.Grammar.{Both, Each, Either, Gathered, Grammar, Literally, Longest}
+use Rattle.grammars.specs.Grammar.{Many, NoneStands, TokenOf}
+use Rattle.stream_sets.specs.Once.{Others}
+use Rattle.grammars.specs.Grammar.Known.{byte_stands, slice_for}
+use Rattle.winnow_exact.specs.RunByRun as runs
+use Rattle.winnow_exact.specs.RunByRun.{RunOf, each_behind, each_one, each_run, run_same}
+use Rattle.winnow_exact.specs.RunByRun.{run_takes, run_wants}
+use Rattle.grammars.specs.Texts.{MayBegin, OneOf, Spelled, Then, Among}
+use Rattle.grammars.specs.Texts.Fronts.{begins_wider, may_begin_more, none_begins}
+use Rattle.grammars.specs.Texts.Fronts.{one_of_begins}
+use Rattle.grammars.specs.Texts.Tokens.{divides_either, divides_others, divides_seen}
+use Rattle.grammars.specs.Texts.Tokens.{divides_where}
 
 -- Bytes that are no quotes.
 abbrev pub UnquotedRun : Grammar ℕ (Bor (List ℕ))

@@ -19,9 +19,9 @@ use Rattle.uses_csv.specs.declared.table.Ragged.{Ragged}
 use Rattle.uses_csv.specs.declared.table.Table.{Table}
 use Rattle.uses_csv.specs.declared.table.TableFault.{TableFault}
 use Rattle.uses_csv.specs.declared.table.TableFault.TheVariants.{Document, Empty, Width}
-use Rattle.winnow_exact.specs.Exact.Whole.{IsWant, ReadsAll}
-use Rattle.winnow_exact.specs.Grammar.{Each}
-use Rattle.winnow_exact.specs.Grammar.Known.{Listed}
+use Rattle.winnow_core.specs.Exact.Whole.{IsWant, ReadsAll}
+use Rattle.grammars.specs.Grammar.{Each}
+use Rattle.grammars.specs.Grammar.Known.{Listed}
 
 -- All before this place are such, and what stands there is one of those.
 pub record IsFirst {X : Type 0} (such those : X → Type 0) (xs : List X) (place : ℕ) : Type 0 where

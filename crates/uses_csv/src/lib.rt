@@ -16,8 +16,8 @@ ghost use Rattle.uses_csv.specs.Read.{QuotedRead, end_unique, field_unique, fiel
 ghost use Rattle.uses_csv.specs.Read.{list_unique, plain_unique};
 ghost use Rattle.uses_csv.specs.Read.{quoted_unique, record_takes, record_unique};
 ghost use Rattle.uses_csv.specs.Runs.{BytesRead, PlainRun, TwoQuotes, UnquotedRun};
-ghost use Rattle.winnow_exact.specs.Exact.{Reads};
-ghost use Rattle.winnow_exact.specs.Exact.Whole.{ReadsAll};
+ghost use Rattle.winnow_core.specs.Exact.{Reads};
+ghost use Rattle.winnow_core.specs.Exact.Whole.{ReadsAll};
 
 pub mod pieces;
 pub mod table;
@@ -32,8 +32,8 @@ use stream_sets::range::Range;
 use streams::has_kind::HasKind;
 use winnow_comb::combinator::{alt, delimited, peek, preceded, terminated};
 use winnow_core::combinator::impls::Eof;
+use winnow_core::exact::Exact;
 use winnow_core::parser::Parser;
-use winnow_exact::exact::Exact;
 use winnow_exact::rule::Rule;
 use winnow_repeat::combinator::repeat;
 use winnow_separated::combinator::separated;

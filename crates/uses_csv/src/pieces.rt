@@ -5,7 +5,7 @@ ghost use Rattle.streams.specs.Bytes.{bytes_follow, bytes_input, bytes_reading};
 ghost use Rattle.streams.specs.Input.{IsEndOf};
 ghost use Rattle.uses_csv.specs.Csv.{IsRecord};
 ghost use Rattle.uses_csv.specs.Pieces.{IsLine};
-ghost use Rattle.winnow_exact.specs.Exact.Cut.{ReadsOrAsks};
+ghost use Rattle.winnow_exact.specs.Cut.{ReadsOrAsks};
 
 use crate::{Fields, LineEnd, Record, read_fields, read_record};
 use std::alloc::Allocator;
@@ -17,7 +17,7 @@ use streams::needed::Needed;
 use streams::partial::Partial;
 use streams::stream::{Stream, StreamIsPartial};
 use winnow_comb::combinator::terminated;
-use winnow_exact::exact::Exact;
+use winnow_core::exact::Exact;
 use winnow_exact::rule::Rule;
 use winnow_token::token::literal;
 

@@ -11,8 +11,8 @@ use Rattle.winnow_core.specs.Literal.Known.{token_taken}
 use Rattle.winnow_core.specs.Runs.{Keeps, Runs}
 use Rattle.winnow_core.specs.Value.{ValueRuns}
 use Rattle.winnow_core.specs.VerifyMap.{VerifyMapRuns}
-use Rattle.winnow_decided.specs.Decided.{AlikeAnswers, IsDecided}
-use Rattle.winnow_decided.specs.Decided.{NotMemory as NotWantOfMemory}
+use Rattle.winnow_core.specs.Decided.{AlikeAnswers, IsDecided}
+use Rattle.winnow_core.specs.Decided.{NotMemory as NotWantOfMemory}
 use Rattle.winnow_expression.specs.Units.{units_left}
 use Rattle.winnow_expression_trees.specs.Premises.{IsStateless, NotMemory, Same}
 

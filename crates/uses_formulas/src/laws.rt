@@ -8,8 +8,8 @@ use stream_errors::parser_error::ParserError;
 use streams::stream::Stream;
 use winnow_comb::combinator::impls::AltParser;
 use winnow_core::combinator::impls::Value;
+use winnow_core::decided::Decided;
 use winnow_core::parser::Parser;
-use winnow_decided::decided::Decided;
 
 /// The stream of bytes.
 type Bytes = &'static [u8];

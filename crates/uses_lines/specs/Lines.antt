@@ -8,12 +8,13 @@ use Rattle.streams.specs.Input.{Input}
 use Rattle.streams.specs.Kind.{Kind}
 use Rattle.stream_sets.specs.Range.{bounds_of, from_to}
 use Rattle.stream_sets.specs.declared.range.Range.{Range}
-use Rattle.winnow_exact.specs.Exact.{Reads}
-use Rattle.winnow_exact.specs.Exact.Same.{Same, reads_as, takes_as, unique_as}
-use Rattle.winnow_exact.specs.Grammar.{Both, Either, Grammar, IsUnique, Repeated, Takes}
-use Rattle.winnow_exact.specs.Grammar.Known.{Byte, Listed, byte_stands, byte_takes, byte_unique}
-use Rattle.winnow_exact.specs.Grammar.Known.{repeated_list, stands_byte}
-use Rattle.winnow_exact.specs.Grammar.Unique.{both_take, both_unique, either_unique}
+use Rattle.winnow_core.specs.Exact.{Reads}
+use Rattle.grammars.specs.Grammar.Same.{Same, takes_as, unique_as}
+use Rattle.winnow_core.specs.Exact.Same.{reads_as}
+use Rattle.grammars.specs.Grammar.{Both, Either, Grammar, IsUnique, Repeated, Takes}
+use Rattle.grammars.specs.Grammar.Known.{Byte, Listed, byte_stands, byte_takes, byte_unique}
+use Rattle.grammars.specs.Grammar.Known.{repeated_list, stands_byte}
+use Rattle.grammars.specs.Grammar.Unique.{both_take, both_unique, either_unique}
 
 -- a line: a `y` or an `n`, and a line feed
 unfoldable pub IsLine : Grammar ℕ ℕ

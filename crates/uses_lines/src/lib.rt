@@ -10,11 +10,11 @@ ghost use Rattle.std.specs.declared.vec.Vec.{Vec};
 ghost use Rattle.streams.specs.Bytes.{bytes_input, bytes_reading};
 ghost use Rattle.uses_lines.specs.InWords.{IsLetter, LetterLines, SameLetters};
 ghost use Rattle.uses_lines.specs.Lines.{AreLines, IsLine, line_takes, unique_line};
-ghost use Rattle.winnow_exact.specs.Exact.{Reads};
-ghost use Rattle.winnow_exact.specs.Exact.Whole.{ReadsAll};
-ghost use Rattle.winnow_exact.specs.Texts.{NotFirst};
-ghost use Rattle.winnow_exact.specs.Texts.Back.{ReadsBack};
-ghost use Rattle.winnow_exact.specs.Texts.Told.{IsTextOf, ReadsText};
+ghost use Rattle.winnow_core.specs.Exact.{Reads};
+ghost use Rattle.winnow_core.specs.Exact.Whole.{ReadsAll};
+ghost use Rattle.grammars.specs.Texts.{NotFirst};
+ghost use Rattle.winnow_exact.specs.Back.{ReadsBack};
+ghost use Rattle.winnow_exact.specs.Told.{IsTextOf, ReadsText};
 
 use std::alloc::Allocator;
 use stream_errors::empty::EmptyError;
@@ -24,7 +24,7 @@ use stream_errors::parser_error::ParserError;
 use stream_sets::range::Range;
 use streams::has_kind::HasKind;
 use winnow_comb::combinator::{alt, terminated};
-use winnow_exact::exact::Exact;
+use winnow_core::exact::Exact;
 use winnow_exact::rule::Rule;
 use winnow_repeat::combinator::repeat;
 

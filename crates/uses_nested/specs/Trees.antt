@@ -13,18 +13,18 @@ use Rattle.stream_errors.specs.Mode.{mode_kind}
 use Rattle.stream_errors.specs.declared.empty.EmptyError.{EmptyError}
 use Rattle.stream_errors.specs.declared.mode.ErrMode.{ErrMode}
 use Rattle.stream_sets.specs.Range.{from_to}
-use Rattle.winnow_exact.specs.Exact.{Reads}
-use Rattle.winnow_exact.specs.Exact.Numbers.{decimal_takes, decimal_unique}
-use Rattle.winnow_exact.specs.Exact.Read.{reads_former, reads_other}
-use Rattle.winnow_exact.specs.Grammar.{Either, Gathered, Grammar, IsUnique, Made, NoneStands}
-use Rattle.winnow_exact.specs.Grammar.{Parted, Takes, Three}
-use Rattle.winnow_exact.specs.Grammar.Known.{Byte, byte_stands, byte_takes, byte_unique}
-use Rattle.winnow_exact.specs.Grammar.Meaning.{Meaning, meaning_takes, meaning_unique}
-use Rattle.winnow_exact.specs.Grammar.Numbers.{Decimal}
-use Rattle.winnow_exact.specs.Grammar.Sequences.{three_take, three_unique}
-use Rattle.winnow_exact.specs.Grammar.Unique.{either_takes, either_unique, gathered_unique}
-use Rattle.winnow_exact.specs.Grammar.Unique.{parted_unique}
-use Rattle.winnow_exact.specs.Texts.{NotFirst}
+use Rattle.winnow_core.specs.Exact.{Reads}
+use Rattle.winnow_numbers.specs.Numeral.Exact.{decimal_takes, decimal_unique}
+use Rattle.winnow_exact.specs.Read.{reads_former, reads_other}
+use Rattle.grammars.specs.Grammar.{Either, Gathered, Grammar, IsUnique, Made, NoneStands}
+use Rattle.grammars.specs.Grammar.{Parted, Takes, Three}
+use Rattle.grammars.specs.Grammar.Known.{Byte, byte_stands, byte_takes, byte_unique}
+use Rattle.grammars.specs.Grammar.Meaning.{Meaning, meaning_takes, meaning_unique}
+use Rattle.winnow_numbers.specs.Numeral.Grammar.{Decimal}
+use Rattle.grammars.specs.Grammar.Sequences.{three_take, three_unique}
+use Rattle.grammars.specs.Grammar.Unique.{either_takes, either_unique, gathered_unique}
+use Rattle.grammars.specs.Grammar.Unique.{parted_unique}
+use Rattle.grammars.specs.Texts.{NotFirst}
 use Rattle.winnow_numbers.specs.Decimal.{IsDecimalOf}
 use Rattle.winnow_numbers.specs.Digits.Known.{same_characters}
 use Rattle.uses_nested.specs.declared.Tree.{Tree}

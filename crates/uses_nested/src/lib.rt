@@ -8,9 +8,9 @@ ghost use Rattle.std.specs.Prelude.{◌≡◌, ◌⊎◌, ◌<◌, false, IsTrue
 ghost use Rattle.streams.specs.Bytes.{bytes_input, bytes_reading};
 ghost use Rattle.uses_nested.specs.Trees.{AreElements, IsLeaf, IsTree, Opens, no_memory_kind};
 ghost use Rattle.uses_nested.specs.Trees.{tree_takes, tree_unique};
-ghost use Rattle.winnow_exact.specs.Exact.{Reads};
+ghost use Rattle.winnow_core.specs.Exact.{Reads};
 ghost use Rattle.winnow_exact.specs.Rule.{CallsRead};
-ghost use Rattle.winnow_exact.specs.Texts.{NotFirst};
+ghost use Rattle.grammars.specs.Texts.{NotFirst};
 ghost use Rattle.std.specs.Fn.{CalledAtMut};
 
 use std::alloc::Allocator;
@@ -21,7 +21,7 @@ use stream_sets::range::Range;
 use streams::has_kind::HasKind;
 use streams::stream::Stream;
 use winnow_comb::combinator::delimited;
-use winnow_exact::exact::Exact;
+use winnow_core::exact::Exact;
 use winnow_exact::rule::{By, Rule};
 use winnow_numbers::ascii::impls::DecUint;
 use winnow_separated::combinator::impls::Separated;

@@ -6,8 +6,8 @@ use Rattle.streams.specs.Counted.{counted_reading}
 use Rattle.streams.specs.Reading.{Reading}
 use Rattle.stream_sets.specs.AsChar.{IsAlpha, IsAlphanum}
 use Rattle.stream_sets.specs.Range.{from_to}
-use Rattle.winnow_exact.specs.Grammar.{Both, Class, Gathered, Grammar, Maybe, Parted, Three}
-use Rattle.winnow_exact.specs.Grammar.Known.{Byte}
+use Rattle.grammars.specs.Grammar.{Both, Class, Gathered, Grammar, Maybe, Parted, Three}
+use Rattle.grammars.specs.Grammar.Known.{Byte}
 
 module _ {K T L : Type 0} (reading : Reading T L) (seen : K → T) (code : K → ℕ)
     (literal : ℕ → Grammar T ℕ) where

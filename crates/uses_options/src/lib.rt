@@ -6,10 +6,10 @@ ghost use Rattle.std.specs.Prelude.{◌≡◌, []};
 ghost use Rattle.stream_errors.specs.Form.{modal};
 ghost use Rattle.streams.specs.Bytes.{bytes_follow, bytes_input, bytes_reading};
 ghost use Rattle.uses_options.specs.Options.{AreOptions, OptionsOf};
-ghost use Rattle.winnow_exact.specs.Exact.{Reads};
-ghost use Rattle.winnow_exact.specs.Exact.Cut.{ReadsOrAsks};
-ghost use Rattle.winnow_exact.specs.Exact.Tokens.{SeesApart};
-ghost use Rattle.winnow_exact.specs.Grammar.{Literally};
+ghost use Rattle.winnow_core.specs.Exact.{Reads};
+ghost use Rattle.winnow_exact.specs.Cut.{ReadsOrAsks};
+ghost use Rattle.stream_sets.specs.Once.{SeesApart};
+ghost use Rattle.grammars.specs.Grammar.{Literally};
 
 use std::alloc::Allocator;
 use stream_errors::empty::EmptyError;

@@ -8,7 +8,7 @@
 ghost use Rattle.std.specs.Prelude.{◌≡◌, true};
 ghost use Rattle.stream_errors.specs.Form.{answer_by, modal};
 ghost use Rattle.uses_pieces.specs.Pieces.{SameSettings};
-ghost use Rattle.winnow_decided.specs.Pieces.{IsForGood};
+ghost use Rattle.winnow_exact.specs.ForGood.{IsForGood};
 
 use stream_errors::empty::EmptyError;
 use stream_errors::mode::ErrMode;
@@ -18,7 +18,7 @@ use streams::partial::Partial;
 use streams::stream::Stream;
 use winnow_ascii::ascii::impls::{Alpha1, Digit1};
 use winnow_core::parser::Parser;
-use winnow_decided::pieces::parse_for_good;
+use winnow_exact::for_good::parse_for_good;
 
 /// A piece of bytes, as clauses name it.
 type Bytes = Partial<&'static [u8]>;

@@ -16,19 +16,20 @@ use Rattle.stream_sets.specs.AsChar.{IsDecDigit}
 use Rattle.stream_sets.specs.Range.{from_to}
 use Rattle.stream_sets.specs.Sets.{EitherTells}
 use Rattle.winnow_numbers.specs.Digits.{NoneFirst}
-use Rattle.winnow_exact.specs.Exact.Numbers.{dec_int_exact}
+use Rattle.winnow_numbers.specs.Numeral.Exact.{dec_int_exact}
 use Rattle.winnow_numbers.specs.Digits.Known.{own_characters, same_characters}
-use Rattle.winnow_exact.specs.Exact.Same.{Same}
-use Rattle.winnow_exact.specs.Grammar.{Both, Counted, Grammar, IsUnique, Literally, Longest}
-use Rattle.winnow_exact.specs.Grammar.{NoneStands}
-use Rattle.winnow_exact.specs.Grammar.{Others, Token}
-use Rattle.winnow_exact.specs.Grammar.Known.{slice_for}
-use Rattle.winnow_exact.specs.Grammar.Numbers.{SignedDecimal}
-use Rattle.winnow_exact.specs.Grammar.Searches as searches
-use Rattle.winnow_exact.specs.Texts.{Anything, IsGrammarOf, Members, NotFirst, Text}
-use Rattle.winnow_exact.specs.Texts.Tokens.{counted_of, divides_either, divides_others}
-use Rattle.winnow_exact.specs.Texts.Tokens.{divides_seen}
-use Rattle.winnow_exact.specs.Texts.Tokens.{divides_where, longest_of}
+use Rattle.grammars.specs.Grammar.Same.{Same}
+use Rattle.grammars.specs.Grammar.{Both, Counted, Grammar, IsUnique, Literally, Longest}
+use Rattle.grammars.specs.Grammar.{NoneStands}
+use Rattle.stream_sets.specs.Once.{Others}
+use Rattle.grammars.specs.Grammar.{Token}
+use Rattle.grammars.specs.Grammar.Known.{slice_for}
+use Rattle.winnow_numbers.specs.Numeral.Grammar.{SignedDecimal}
+use Rattle.grammars.specs.Grammar.Searches as searches
+use Rattle.grammars.specs.Texts.{Anything, IsGrammarOf, Members, NotFirst, Text}
+use Rattle.grammars.specs.Texts.Tokens.{counted_of, divides_either, divides_others}
+use Rattle.grammars.specs.Texts.Tokens.{divides_seen}
+use Rattle.grammars.specs.Texts.Tokens.{divides_where, longest_of}
 use Rattle.winnow_exact.specs.InTurn.{Failed, First, Stood, failed_as, stood_as, wanting}
 use Rattle.uses_resp.specs.Read.{integer_splits, one_line, signed_plain}
 use Rattle.uses_resp.specs.declared.leaves.Mark.TheVariants.{Colon, Dollar, Minus, Plus, Star}

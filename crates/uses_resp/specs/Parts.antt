@@ -17,7 +17,7 @@ use Rattle.uses_resp.specs.declared.reply.Reply.TheViews.{rolls-Error, rolls-Int
 use Rattle.uses_resp.specs.declared.reply.Reply.TheViews.{rolls-NullArray}
 use Rattle.uses_resp.specs.declared.reply.Reply.TheViews.{rolls-NullBulk, rolls-Simple}
 use Rattle.winnow_exact.specs.InTurn.{First, Led}
-use Rattle.winnow_exact.specs.Texts.{Members, Row, SoMany}
+use Rattle.grammars.specs.Texts.{Members, Row, SoMany}
 
 -- no line feed
 abbrev pub NoFeed : List ℕ → Type 0

@@ -15,13 +15,13 @@ use Rattle.streams.specs.Input.{Input, is_end_of_refl}
 use Rattle.streams.specs.Kind.{Kind, backtrack}
 use Rattle.streams.specs.Reading.{Reading}
 use Rattle.stream_errors.specs.Growth.{grown}
-use Rattle.winnow_exact.specs.Grammar.{IsUnique}
+use Rattle.grammars.specs.Grammar.{IsUnique}
 use Rattle.stream_sets.specs.AsChar.{IsDecDigit}
 use Rattle.winnow_numbers.specs.Decimal.{IsDecimalOf, IsSignedDecimalOf}
 use Rattle.winnow_numbers.specs.Digits.{value_in}
-use Rattle.winnow_exact.specs.Grammar.Lengths.{same_beginnings}
-use Rattle.winnow_exact.specs.Grammar.Unique.{unique_by}
-use Rattle.winnow_exact.specs.Texts.{Members, SoMany, Text}
+use Rattle.grammars.specs.Grammar.Lengths.{same_beginnings}
+use Rattle.grammars.specs.Grammar.Unique.{unique_by}
+use Rattle.grammars.specs.Texts.{Members, SoMany, Text}
 use Rattle.winnow_exact.specs.InTurn.{Failed, First, Splits, Stood, failed_as, led_unique, refused}
 use Rattle.winnow_exact.specs.InTurn.{stood_as}
 use Rattle.winnow_exact.specs.InTurn.Rows.{RowOf, row_unique}

@@ -6,7 +6,7 @@ use Rattle.std.specs.Borrow.{Bor}
 use Rattle.std.specs.declared.vec.Vec.{Vec}
 use Rattle.streams.specs.Bytes.{bytes_reading}
 use Rattle.winnow_numbers.specs.Decimal.{IsSignedDecimalOf}
-use Rattle.winnow_exact.specs.Texts.{Members, Row, SoMany, Text}
+use Rattle.grammars.specs.Texts.{Members, Row, SoMany, Text}
 use Rattle.winnow_exact.specs.InTurn.{Led}
 use Rattle.uses_resp.specs.declared.leaves.Mark.{Mark}
 use Rattle.uses_resp.specs.declared.leaves.Mark.TheVariants.{Colon, Dollar, Minus, Plus, Star}

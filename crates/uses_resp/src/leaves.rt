@@ -3,8 +3,8 @@
 ghost use Rattle.std.specs.Int.{w64};
 ghost use Rattle.std.specs.Prelude.{FitsSigned, IfOk};
 ghost use Rattle.streams.specs.Bytes.{bytes_follow, bytes_input, bytes_reading};
-ghost use Rattle.winnow_exact.specs.Exact.{Reads};
-ghost use Rattle.winnow_exact.specs.Exact.Cut.{ReadsOrAsks};
+ghost use Rattle.winnow_core.specs.Exact.{Reads};
+ghost use Rattle.winnow_exact.specs.Cut.{ReadsOrAsks};
 ghost use Rattle.winnow_exact.specs.InTurn.{First};
 ghost use Rattle.uses_resp.specs.Leaves.{SignedRead};
 ghost use Rattle.uses_resp.specs.Resp.{DataText, IntegerText, LineText, MarkText, SizeText};
@@ -16,7 +16,7 @@ use stream_errors::parser_error::ParserError;
 use streams::has_kind::HasKind;
 use streams::partial::Partial;
 use streams::stream::Stream;
-use winnow_exact::exact::Exact;
+use winnow_core::exact::Exact;
 use winnow_numbers::ascii::impls::DecInt;
 
 type Bytes = Partial<&'static [u8]>;

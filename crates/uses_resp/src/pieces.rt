@@ -2,11 +2,12 @@
 ghost use Rattle.std.specs.Prelude.{◌≡◌, ◌∷◌, [], None};
 ghost use Rattle.stream_errors.specs.Form.{modal};
 ghost use Rattle.stream_sets.specs.Range.{from_to};
-ghost use Rattle.winnow_exact.specs.Exact.Cut.{ReadsOrAsks};
-ghost use Rattle.winnow_exact.specs.Exact.Literals.{SpellsByText};
-ghost use Rattle.winnow_exact.specs.Exact.Tokens.{SeesApart};
-ghost use Rattle.winnow_exact.specs.Grammar.{Both, Counted, Longest, Others, Token};
-ghost use Rattle.winnow_exact.specs.Grammar.Searches.{Text};
+ghost use Rattle.winnow_exact.specs.Cut.{ReadsOrAsks};
+ghost use Rattle.winnow_core.specs.Literal.Laws.{SpellsByText};
+ghost use Rattle.stream_sets.specs.Once.{SeesApart};
+ghost use Rattle.grammars.specs.Grammar.{Both, Counted, Longest, Token};
+ghost use Rattle.stream_sets.specs.Once.{Others};
+ghost use Rattle.grammars.specs.Grammar.Searches.{Text};
 
 use stream_errors::parser_error::ParserError;
 use stream_searches::compare::Compare;

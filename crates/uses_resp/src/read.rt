@@ -2,7 +2,7 @@
 
 ghost use Rattle.std.specs.Prelude.{ℕ};
 ghost use Rattle.streams.specs.Bytes.{bytes_follow, bytes_reading};
-ghost use Rattle.winnow_exact.specs.Exact.Cut.{ReadsOrAsks};
+ghost use Rattle.winnow_exact.specs.Cut.{ReadsOrAsks};
 ghost use Rattle.winnow_exact.specs.InTurn.{First, Led};
 ghost use Rattle.uses_resp.specs.Resp.{ArrayBehind, BulkBehind, Elements, For, IntegerText};
 ghost use Rattle.uses_resp.specs.Resp.{ReplyText, SizeText};

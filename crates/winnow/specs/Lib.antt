@@ -24,6 +24,7 @@ pub use Rattle.winnow_core.specs.Ends as EndsOfRuns
 pub use Rattle.winnow_core.specs.Take as TakeAdapter
 pub use Rattle.winnow_core.specs.Laws as ParserLaws
 pub use Rattle.winnow_token.specs.Literal as LiteralParser
+pub use Rattle.winnow_expression.specs.Grammar as OperatorGrammar
 pub use Rattle.winnow_comb.specs.Laws as CombinatorLaws
 pub use Rattle.winnow_meanings.specs.Laws as MeaningLaws
 pub use Rattle.winnow_expression_trees.specs.Reading as ReadingOfParts
@@ -59,6 +60,8 @@ pub use Rattle.streams.specs.Utf8
 pub use Rattle.stream_sets.specs.Accumulator
 pub use Rattle.stream_sets.specs.AsBStr
 pub use Rattle.stream_sets.specs.AsChar
+pub use Rattle.stream_sets.specs.Longest
+pub use Rattle.stream_sets.specs.Once
 pub use Rattle.stream_sets.specs.ParseSlice
 pub use Rattle.stream_sets.specs.Range
 pub use Rattle.stream_sets.specs.Sets
@@ -66,6 +69,9 @@ pub use Rattle.stream_sets.specs.Sets
 pub use Rattle.byte_sets.specs.ByteSet
 -- Lines and columns of a text.
 pub use Rattle.text_positions.specs.Position
+-- Grammars over tokens, and texts that stand for values: the words, and what holds of them.
+pub use Rattle.grammars.specs.Grammar
+pub use Rattle.grammars.specs.Texts
 -- Literals beside the beginning of a stream, and searches of a stream for them.
 pub use Rattle.stream_searches.specs.Caseless
 pub use Rattle.stream_searches.specs.Compare
@@ -97,15 +103,19 @@ pub use Rattle.stream_recovery.specs.Recorded
 pub use Rattle.winnow_core.specs.Agrees
 pub use Rattle.winnow_core.specs.AndThen
 pub use Rattle.winnow_core.specs.ByRef
+pub use Rattle.winnow_core.specs.Closures
 pub use Rattle.winnow_core.specs.CompleteErr
 pub use Rattle.winnow_core.specs.Context
 pub use Rattle.winnow_core.specs.ContextWith
+pub use Rattle.winnow_core.specs.Decided
 pub use Rattle.winnow_core.specs.Decides
 pub use Rattle.winnow_core.specs.DefaultValue
 pub use Rattle.winnow_core.specs.Eof
 pub use Rattle.winnow_core.specs.ErrInto
+pub use Rattle.winnow_core.specs.Exact
 pub use Rattle.winnow_core.specs.FlatMap
 pub use Rattle.winnow_core.specs.Func
+pub use Rattle.winnow_core.specs.InOrder
 pub use Rattle.winnow_core.specs.Literal
 pub use Rattle.winnow_core.specs.MakesError
 pub use Rattle.winnow_core.specs.MakesOutput
@@ -126,6 +136,7 @@ pub use Rattle.winnow_core.specs.Short
 pub use Rattle.winnow_core.specs.Span
 pub use Rattle.winnow_core.specs.Splits
 pub use Rattle.winnow_core.specs.Stable
+pub use Rattle.winnow_core.specs.States
 pub use Rattle.winnow_core.specs.TryMap
 pub use Rattle.winnow_core.specs.Value
 pub use Rattle.winnow_core.specs.Verify
@@ -170,7 +181,6 @@ pub use Rattle.winnow_comb.specs.CutErr
 pub use Rattle.winnow_comb.specs.Delimited
 pub use Rattle.winnow_comb.specs.Empty
 pub use Rattle.winnow_comb.specs.Fail
-pub use Rattle.winnow_comb.specs.InOrder
 pub use Rattle.winnow_comb.specs.Not
 pub use Rattle.winnow_comb.specs.Opt
 pub use Rattle.winnow_comb.specs.Peek
@@ -218,7 +228,6 @@ pub use Rattle.winnow_bits.specs.Needs
 pub use Rattle.winnow_expression.specs.Calls
 pub use Rattle.winnow_expression.specs.Expression
 pub use Rattle.winnow_expression.specs.Folds
-pub use Rattle.winnow_expression.specs.Grammar
 pub use Rattle.winnow_expression.specs.Loop
 pub use Rattle.winnow_expression.specs.Machine
 pub use Rattle.winnow_expression.specs.Operators
@@ -249,3 +258,15 @@ pub use Rattle.winnow_escapes.specs.TakeEscaped
 -- What a parser means, whatever it is made of: the law of each call, and what compositions mean.
 pub use Rattle.winnow_meanings.specs.Compositions
 pub use Rattle.winnow_meanings.specs.Memory
+-- What readers by grammars stand on: functions as parsers by what they read, input in pieces, and
+-- what calls in turn tell.
+pub use Rattle.winnow_exact.specs.Back
+pub use Rattle.winnow_exact.specs.Cut
+pub use Rattle.winnow_exact.specs.ForGood
+pub use Rattle.winnow_exact.specs.InTurn
+pub use Rattle.winnow_exact.specs.Longer
+pub use Rattle.winnow_exact.specs.Read
+pub use Rattle.winnow_exact.specs.Rule
+pub use Rattle.winnow_exact.specs.RunByRun
+pub use Rattle.winnow_exact.specs.Steps
+pub use Rattle.winnow_exact.specs.Told

@@ -6,6 +6,7 @@ pub use Rattle.stream_sets.specs.Accumulator.Known.{known_accumulators}
 pub use Rattle.stream_errors.specs.Form.Known.{known_answers}
 pub use Rattle.winnow_core.specs.Eof.Known.{known_ends}
 pub use Rattle.winnow_core.specs.FlatMap.Known.{known_flat_maps}
+pub use Rattle.winnow_core.specs.InOrder.Known.{known_in_order}
 pub use Rattle.winnow_core.specs.Literal.Known.{known_literals}
 pub use Rattle.winnow_core.specs.MakesError.Known.{known_errors}
 pub use Rattle.winnow_core.specs.MakesOutput.Known.{known_outputs}
@@ -35,7 +36,6 @@ pub use Rattle.winnow_numbers.specs.DecUint.Known.{known_unsigned_numbers}
 pub use Rattle.winnow_numbers.specs.HexUint.Known.{known_hexadecimal_numbers}
 pub use Rattle.winnow_comb.specs.Alt.Known.{known_choices}
 pub use Rattle.winnow_comb.specs.Cond.Known.{known_conditions}
-pub use Rattle.winnow_comb.specs.InOrder.Known.{known_in_order}
 pub use Rattle.winnow_comb.specs.Not.Known.{known_nots}
 pub use Rattle.winnow_comb.specs.Opt.Known.{known_options}
 pub use Rattle.winnow_comb.specs.Peek.Known.{known_peeks}

@@ -29,6 +29,7 @@ pub use winnow_escapes::laws::{
     escaped_text_and_the_rest_are_the_input, take_escaped_leaves_an_end,
     the_escaped_slice_and_the_rest_are_the_input,
 };
+pub use winnow_exact::laws::a_decided_answer_stays_on_longer_inputs;
 pub use winnow_expression_trees::laws::parts::{
     a_byte_is_stateless, a_choice_is_stateless, a_number_is_stateless, a_value_is_stateless,
     an_unset_parser_is_stateless,

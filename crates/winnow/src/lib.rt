@@ -18,7 +18,9 @@
 pub mod ascii;
 pub mod binary;
 pub mod combinator;
+pub mod decided;
 pub mod error;
+pub mod exact;
 pub mod laws;
 pub mod prelude;
 pub mod stable;

@@ -4,18 +4,14 @@ use Rattle.std.specs.Borrow.{Bor}
 use Rattle.streams.specs.Input.{Input, Takes}
 use Rattle.streams.specs.Kind.{Kind, backtrack}
 use Rattle.streams.specs.Reading.{Reading}
-use Rattle.stream_errors.specs.Form.{ErrorForm, Answer}
+use Rattle.grammars.specs.Grammar.Searches.{HasNoLineEnd}
 use Rattle.stream_searches.specs.Compare.{IsShort, StandsFirst}
-use Rattle.stream_searches.specs.FindSlice.{Stands, IsFirstMatch}
+use Rattle.stream_searches.specs.FindSlice.{IsFirstMatch}
+use Rattle.stream_errors.specs.Form.{ErrorForm, Answer}
 use Rattle.winnow_core.specs.Short.{ShortKind}
+pub mod Exact
 pub mod Known
 pub mod Laws
-
--- Neither a carriage return nor a line feed stands anywhere, where `sought` says for which lists a
--- pair of characters is searched.
-abbrev pub HasNoLineEnd : {T : Type 0} → (ℕ × ℕ → List T → Type 0) → List T → Type 0
-HasNoLineEnd {T} sought tokens =
-    (front hit rest : List T) → Stands (sought (13, 10)) tokens front hit rest → ⊥
 
 -- A line is taken: what stands before the first carriage return or line feed; or all that is left,
 -- where there is neither and an error for want of more input backtracks.

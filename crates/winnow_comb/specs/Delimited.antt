@@ -1,6 +1,6 @@
 -- A child between two whose outputs are let go.
 use Rattle.winnow_core.specs.Runs.{Runs}
-use Rattle.winnow_comb.specs.InOrder.{ThreeRuns}
+use Rattle.winnow_core.specs.InOrder.{ThreeRuns}
 use Rattle.winnow_comb.specs.declared.combinator.impls.delimited.Delimited.{Delimited}
 
 -- the parser before

@@ -8,7 +8,6 @@ pub mod CutErr
 pub mod Delimited
 pub mod Empty
 pub mod Fail
-pub mod InOrder
 pub mod Laws
 pub mod Not
 pub mod Opt

@@ -1,6 +1,6 @@
 -- Two children with one between them whose output is let go.
 use Rattle.winnow_core.specs.Runs.{Runs}
-use Rattle.winnow_comb.specs.InOrder.{ThreeRuns}
+use Rattle.winnow_core.specs.InOrder.{ThreeRuns}
 use Rattle.winnow_comb.specs.declared.combinator.impls.separated_pair.SeparatedPair.{SeparatedPair}
 pub mod Known
 

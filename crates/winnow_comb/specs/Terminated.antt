@@ -1,6 +1,6 @@
 -- A child before one whose output is let go.
 use Rattle.winnow_core.specs.Runs.{Runs}
-use Rattle.winnow_comb.specs.InOrder.{BothRuns}
+use Rattle.winnow_core.specs.InOrder.{BothRuns}
 use Rattle.winnow_comb.specs.declared.combinator.impls.terminated.Terminated.{Terminated}
 pub mod Known
 

@@ -7,6 +7,8 @@
 
 pub mod agrees_with;
 pub mod combinator;
+pub mod decided;
+pub mod exact;
 pub mod laws;
 pub mod literal;
 pub mod parser;

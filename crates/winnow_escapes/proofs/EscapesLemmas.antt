@@ -9,7 +9,8 @@ use Rattle.stream_errors.specs.Form.{Answer}
 use Rattle.stream_errors.specs.Form.Known.{at_kind, ok_is_err, same_ok}
 use Rattle.streams.specs.Equal.{none_is_some, same_some}
 use Rattle.winnow_core.specs.Runs.{Runs}
-use Rattle.winnow_repeat.specs.Chain.{Accumulates, Chain, IsItem}
+use Rattle.stream_sets.specs.Accumulator.Holds.{Accumulates}
+use Rattle.winnow_repeat.specs.Chain.{Chain, IsItem}
 use Rattle.winnow_escapes.specs.Escaped.{EscapeTurnRuns, NoTurnRuns, TriedRuns}
 use Rattle.winnow_escapes.specs.declared.ascii.turns.Turn.{Turn}
 

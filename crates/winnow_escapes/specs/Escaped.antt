@@ -6,7 +6,8 @@ use Rattle.streams.specs.Kind.{Kind, backtrack, memory}
 use Rattle.stream_errors.specs.Form.{Answer}
 use Rattle.stream_sets.specs.Accumulator.{Accumulator}
 use Rattle.winnow_core.specs.Runs.{Runs}
-use Rattle.winnow_repeat.specs.Chain.{Accumulates, Chain}
+use Rattle.stream_sets.specs.Accumulator.Holds.{Accumulates}
+use Rattle.winnow_repeat.specs.Chain.{Chain}
 use Rattle.winnow_escapes.specs.declared.ascii.impls.escaped.Escaped.{Escaped}
 use Rattle.winnow_escapes.specs.declared.ascii.turns.Turn.{Turn}
 use Rattle.winnow_escapes.specs.declared.ascii.turns.Turn.TheVariants.{Normal, Escape}

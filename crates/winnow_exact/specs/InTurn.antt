@@ -9,9 +9,9 @@ use Rattle.streams.specs.Following.{Following, Follows, follows_end}
 use Rattle.streams.specs.Input.{Input, IsEndOf, is_end_of_refl, is_end_of_trans}
 use Rattle.streams.specs.Kind.{Kind, backtrack, memory}
 use Rattle.streams.specs.Reading.{Reading}
-use Rattle.winnow_exact.specs.Exact.Cut.{Asks, ReadsOrAsks}
-use Rattle.winnow_exact.specs.Grammar.{Grammar, IsUnique, NoneStands}
-use Rattle.winnow_exact.specs.Texts.{Text}
+use Rattle.winnow_exact.specs.Cut.{Asks, ReadsOrAsks}
+use Rattle.grammars.specs.Grammar.{Grammar, IsUnique, NoneStands}
+use Rattle.grammars.specs.Texts.{Text}
 pub mod Rows
 
 -- A text of the output is first.

@@ -1,7 +1,11 @@
 -- Written by scripts/registries.py: do not edit.
-pub mod Exact
-pub mod Grammar
-pub mod Held
+pub mod Back
+pub mod Cut
+pub mod ForGood
 pub mod InTurn
+pub mod Longer
+pub mod Read
 pub mod Rule
-pub mod Texts
+pub mod RunByRun
+pub mod Steps
+pub mod Told

@@ -7,9 +7,9 @@ use Rattle.streams.specs.Reading.{Reading}
 use Rattle.stream_errors.specs.Form.{Answer, answer_by}
 use Rattle.stream_errors.specs.Form.Known.{ok_is_err, same_kind, same_output}
 use Rattle.winnow_core.specs.Func.{FuncRuns}
-use Rattle.winnow_exact.specs.Exact.{IsExact, IsSoft, Reads}
-use Rattle.winnow_exact.specs.Exact.Same.{pair_is}
-use Rattle.winnow_exact.specs.Grammar.{Grammar, IsUnique, NoneStands}
+use Rattle.winnow_core.specs.Exact.{IsExact, IsSoft, Reads}
+use Rattle.winnow_core.specs.States.{pair_is}
+use Rattle.grammars.specs.Grammar.{Grammar, IsUnique, NoneStands}
 use Rattle.winnow_exact.specs.declared.rule.By.{By}
 
 -- the name of what is read

@@ -1,8 +1,8 @@
-//! Parsers that read exactly what a grammar says, and functions as parsers by what they read.
+//! What readers by grammars stand on: functions as parsers by what they read, input in pieces, and
+//! what calls in turn tell.
 #![tactic(auto)]
 
-pub mod exact;
-pub mod gathers;
+pub mod for_good;
+pub mod laws;
 pub mod pieces;
 pub mod rule;
-pub mod sets;

@@ -1,11 +1,11 @@
 //! The trait of parsers that read an input in pieces by a grammar.
 ghost use Rattle.std.specs.Prelude.{◌≡◌};
 ghost use Rattle.stream_errors.specs.Form.{modal};
-ghost use Rattle.winnow_exact.specs.Exact.Cut.{ReadsOrAsks};
+ghost use Rattle.winnow_exact.specs.Cut.{ReadsOrAsks};
 
-use crate::exact::Exact;
 use stream_errors::parser_error::ParserError;
 use streams::stream::Stream;
+use winnow_core::exact::Exact;
 use winnow_core::stable::Stable;
 
 /// A parser that reads by a grammar, and is stable: what it answers on a cut input it answers on
@@ -27,10 +27,10 @@ use winnow_core::stable::Stable;
 /// assert_eq!(rt; answer, Ok(b"ab".as_slice()));
 /// ```
 pub trait ReadsPieces<I: Stream, O, E: ParserError<I>>: Exact<I, O, E> + Stable<I, O, E> {
-    /// As [`read`](crate::exact::Exact::read), and its grammar says what it answers on a cut input
-    /// too: whatever follows until the input is complete, an output stands first in all of it,
-    /// with what is left and what followed; an error that backtracks says that none does. Else it
-    /// asks for more, or wants memory. The caller owes errors with a mode.
+    /// As [`read`](winnow_core::exact::Exact::read), and its grammar says what it answers on a cut
+    /// input too: whatever follows until the input is complete, an output stands first in all of
+    /// it, with what is left and what followed; an error that backtracks says that none does. Else
+    /// it asks for more, or wants memory. The caller owes errors with a mode.
     #[inline(always)]
     final fn read_cut(&mut self, input: &mut I) -> Result<O, E>
         requires callable { Self.can_parse self.old }

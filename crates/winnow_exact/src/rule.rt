@@ -2,12 +2,12 @@
 ghost use Rattle.std.specs.Fn.{CalledAtMut};
 ghost use Rattle.std.specs.Prelude.{◌≡◌, ⊤};
 ghost use Rattle.winnow_core.specs.Func.{LeavesEndsFrom};
-ghost use Rattle.winnow_exact.specs.Grammar.{Grammar, IsUnique, Takes};
+ghost use Rattle.grammars.specs.Grammar.{Grammar, IsUnique, Takes};
 ghost use Rattle.winnow_exact.specs.Rule.{ByRuns, CallsRead, by_exact, by_rule, by_run, by_soft};
 
-use crate::exact::Exact;
 use stream_errors::parser_error::ParserError;
 use streams::stream::Stream;
+use winnow_core::exact::Exact;
 use winnow_core::parser::Parser;
 
 /// The name of what is read: a value that has a grammar.

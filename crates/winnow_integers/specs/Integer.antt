@@ -10,6 +10,7 @@ use Rattle.winnow_integers.specs.declared.binary.endianness.Endianness.{Endianne
 use Rattle.winnow_integers.specs.declared.binary.endianness.Endianness.TheVariants.{Big, Little}
 use Rattle.winnow_integers.specs.declared.binary.endianness.Endianness.TheVariants.{Native}
 use Rattle.winnow_core.specs.Short.{ShortKind}
+pub mod Grammar
 pub mod Known
 pub mod Laws
 pub mod Reads

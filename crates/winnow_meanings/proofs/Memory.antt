@@ -9,7 +9,7 @@ use Rattle.stream_sets.specs.Accumulator.{Accumulator}
 use Rattle.stream_sets.specs.Range.{Bounds, bounds_of, from_to}
 use Rattle.winnow_comb.specs.Alt.{OrElse}
 use Rattle.winnow_comb.specs.Alt.Slice.{AltSliceRuns, Backtracked}
-use Rattle.winnow_comb.specs.InOrder.{BothRuns}
+use Rattle.winnow_core.specs.InOrder.{BothRuns}
 use Rattle.winnow_comb.specs.Opt.{OptRuns}
 use Rattle.winnow_core.specs.Runs.{Runs}
 use Rattle.winnow_core.specs.Sequence.{SequenceRuns2}

@@ -23,7 +23,8 @@ use Rattle.stream_errors.specs.Form.{Answer, ErrorForm, incomplete_kind}
 use Rattle.stream_sets.specs.AsChar.{IsHexDigit}
 use Rattle.stream_sets.specs.declared.range.Range.{Range}
 use Rattle.stream_sets.specs.Range.{bounds_of, from_to}
-use Rattle.winnow_token.specs.TakeWhile.{IsEnded, IsLongest, TakeWhileRuns}
+use Rattle.winnow_token.specs.TakeWhile.{IsEnded, TakeWhileRuns}
+use Rattle.stream_sets.specs.Longest.{IsLongest}
 use Rattle.winnow_numbers.specs.Digits.{AreCharacters, IsIn, NoneFirst, SomeFirst, value_in}
 use Rattle.winnow_numbers.specs.HexUint.{HexUintRuns}
 use Rattle.winnow_numbers.specs.Digits.Known.{value_is}

@@ -12,7 +12,8 @@ use Rattle.streams.specs.Reading.{Reading}
 use Rattle.streams.specs.Stream.{AnswersSeen, Cuts, IsBoundary}
 use Rattle.stream_errors.specs.Form.{ErrorForm, incomplete_kind, plain, modal}
 use Rattle.stream_sets.specs.AsChar.{IsDecDigit}
-use Rattle.winnow_token.specs.TakeWhile.{IsEnded, IsLongest}
+use Rattle.winnow_token.specs.TakeWhile.{IsEnded}
+use Rattle.stream_sets.specs.Longest.{IsLongest}
 use Rattle.winnow_ascii.specs.Class.{ClassRuns}
 use Rattle.winnow_numbers.specs.Digits.{AreCharacters, IsIn, NoneFirst}
 use Rattle.winnow_numbers.specs.Numeral.{DigitsRuns, IsLeadingDigit, IsSign, LacksDigits, NoDigits}

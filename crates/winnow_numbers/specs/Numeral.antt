@@ -8,6 +8,8 @@ use Rattle.streams.specs.Reading.{Reading}
 use Rattle.stream_errors.specs.Form.{ErrorForm, incomplete_kind, plain, modal}
 use Rattle.stream_sets.specs.AsChar.{IsDecDigit}
 use Rattle.winnow_numbers.specs.Digits.{AreCharacters, IsIn, NoneFirst}
+pub mod Exact
+pub mod Grammar
 pub mod Known
 pub mod Laws
 pub mod Once

@@ -8,7 +8,8 @@ use Rattle.stream_errors.specs.Form.{Answer}
 use Rattle.stream_sets.specs.Accumulator.{nothing_kept}
 use Rattle.stream_sets.specs.Range.{Bounds, IsBelow}
 use Rattle.winnow_core.specs.Runs.{Runs}
-use Rattle.winnow_repeat.specs.Chain.{Accumulates, Chain}
+use Rattle.stream_sets.specs.Accumulator.Holds.{Accumulates}
+use Rattle.winnow_repeat.specs.Chain.{Chain}
 use Rattle.winnow_repeat.specs.Fold.{FoldItemsRun, FoldedRuns}
 use Rattle.winnow_repeat.proofs.RepeatLemmas.{chain_more}
 

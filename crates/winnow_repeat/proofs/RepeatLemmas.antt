@@ -11,7 +11,8 @@ use Rattle.stream_sets.specs.Range.{IsBelow, from_to}
 use Rattle.streams.specs.Kind.{Kind}
 use Rattle.streams.specs.Equal.{same_some, none_is_some}
 use Rattle.stream_errors.specs.Form.{Answer}
-use Rattle.winnow_repeat.specs.Chain.{Accumulates, Chain, IsItem, IsSuccess, Successes}
+use Rattle.stream_sets.specs.Accumulator.Holds.{Accumulates}
+use Rattle.winnow_repeat.specs.Chain.{Chain, IsItem, IsSuccess, Successes}
 use Rattle.stream_sets.specs.Accumulator.{Accumulator}
 use Rattle.winnow_repeat.specs.Repeat.{RepeatManyRuns, RepeatRuns}
 

@@ -6,9 +6,12 @@ use Rattle.stream_errors.specs.Form.{Answer}
 use Rattle.winnow_core.specs.Runs.{Runs}
 use Rattle.stream_sets.specs.declared.range.Range.{Range}
 use Rattle.stream_sets.specs.Range.{Bounds, IsBelow, IsWithin, bounds_of, from_to}
-use Rattle.winnow_repeat.specs.Chain.{Chain, Accumulates}
+use Rattle.winnow_repeat.specs.Chain.{Chain}
+use Rattle.stream_sets.specs.Accumulator.Holds.{Accumulates}
 use Rattle.stream_sets.specs.Accumulator.{Accumulator}
 use Rattle.winnow_repeat.specs.declared.combinator.impls.repeat.Repeat.{Repeat}
+pub mod Decided
+pub mod Exact
 pub mod Known
 pub mod Laws
 pub mod Reads

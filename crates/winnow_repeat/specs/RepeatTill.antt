@@ -8,9 +8,11 @@ use Rattle.stream_sets.specs.Accumulator.{Accumulator}
 use Rattle.stream_sets.specs.Range.{Bounds, IsBelow, IsWithin, bounds_of}
 use Rattle.stream_sets.specs.declared.range.Range.{Range}
 use Rattle.winnow_core.specs.Runs.{Runs}
-use Rattle.winnow_repeat.specs.Chain.{Accumulates, Chain, Successes}
+use Rattle.stream_sets.specs.Accumulator.Holds.{Accumulates}
+use Rattle.winnow_repeat.specs.Chain.{Chain, Successes}
 use Rattle.winnow_repeat.specs.Repeat.{capacity_of}
 use Rattle.winnow_repeat.specs.declared.combinator.impls.repeat_till.RepeatTill.{RepeatTill}
+pub mod Exact
 pub mod Items
 pub mod Known
 pub mod Laws

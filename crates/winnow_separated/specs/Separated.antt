@@ -7,11 +7,14 @@ use Rattle.stream_sets.specs.Accumulator.{Accumulator}
 use Rattle.stream_sets.specs.Range.{Bounds, IsBelow, IsWithin, bounds_of, from_to}
 use Rattle.stream_sets.specs.declared.range.Range.{Range}
 use Rattle.winnow_core.specs.Runs.{Runs}
-use Rattle.winnow_repeat.specs.Chain.{Accumulates, Chain}
+use Rattle.stream_sets.specs.Accumulator.Holds.{Accumulates}
+use Rattle.winnow_repeat.specs.Chain.{Chain}
 use Rattle.winnow_repeat.specs.Repeat.{ItemsRun, capacity_of}
 pub use Rattle.winnow_separated.specs.Link.{LinkRuns}
 use Rattle.winnow_separated.specs.Link.{SeparatesNothing}
 use Rattle.winnow_separated.specs.declared.combinator.impls.separated.Separated.{Separated}
+pub mod Decided
+pub mod Exact
 pub mod Known
 pub mod Laws
 pub mod Reads

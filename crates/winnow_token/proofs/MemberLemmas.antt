@@ -14,7 +14,8 @@ use Rattle.streams.specs.Stream.{AnswersSeen, FindsFirst, with_offsets}
 use Rattle.streams.specs.Equal.{same_first, same_others, true_is_false}
 use Rattle.stream_errors.specs.Form.{ErrorForm, Answer}
 use Rattle.stream_sets.specs.Range.{IsBelow, IsWithin, from_to}
-use Rattle.winnow_token.specs.TakeWhile.{IsLongest, IsEnded, TakeWhileRuns}
+use Rattle.stream_sets.specs.Longest.{IsLongest}
+use Rattle.winnow_token.specs.TakeWhile.{IsEnded, TakeWhileRuns}
 use Rattle.winnow_token.specs.Members.{CountsMembers, FoundRuns}
 
 -- `count` members stand first, and `left` are the tokens behind them, each with its offset.

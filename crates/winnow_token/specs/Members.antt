@@ -6,7 +6,8 @@ use Rattle.streams.specs.Kind.{backtrack}
 use Rattle.streams.specs.Reading.{Reading}
 use Rattle.streams.specs.Stream.{Cuts}
 use Rattle.stream_errors.specs.Form.{ErrorForm, Answer, incomplete_kind}
-use Rattle.winnow_token.specs.TakeWhile.{IsLongest, IsEnded, IsOpen, missing_of}
+use Rattle.stream_sets.specs.Longest.{IsLongest}
+use Rattle.winnow_token.specs.TakeWhile.{IsEnded, IsOpen, missing_of}
 
 -- So many members stand first, and end at the offset; or all tokens are members, and more could be
 -- taken.

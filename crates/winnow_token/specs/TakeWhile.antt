@@ -1,14 +1,17 @@
 -- Takes by set.
-use Rattle.std.specs.Prelude.{◌≡◌, ◌<◌, ◌≤◌, ◌-◌, ℕ, max, Bool, true, false, List, ◌∷◌, ◌++◌}
-use Rattle.std.specs.Prelude.{length, Option, Some, Ok, Err, ◌⊎◌}
+use Rattle.std.specs.Prelude.{◌≡◌, ◌<◌, ◌≤◌, ◌-◌, ℕ, max, Bool, true, false, List, ◌∷◌, length}
+use Rattle.std.specs.Prelude.{Option, Some, Ok, Err, ◌⊎◌}
 use Rattle.std.specs.List.{All}
 use Rattle.streams.specs.Input.{Input, Takes}
 use Rattle.streams.specs.Kind.{backtrack}
 use Rattle.streams.specs.Reading.{Reading}
+use Rattle.stream_sets.specs.Longest.{IsLongest}
 use Rattle.stream_sets.specs.Range.{Bounds, IsBelow, IsWithin}
-use Rattle.stream_errors.specs.Form.{ErrorForm, Answer, incomplete_kind, assert_kind}
 use Rattle.stream_sets.specs.declared.range.Range.{Range}
+use Rattle.stream_errors.specs.Form.{ErrorForm, Answer, incomplete_kind, assert_kind}
 use Rattle.winnow_token.specs.declared.token.impls.take_while.TakeWhile.{TakeWhile}
+pub mod Decided
+pub mod Exact
 pub mod Known
 pub mod Laws
 
@@ -19,15 +22,6 @@ take_while_occurrences s = s.occurrences
 -- the set whose members are taken
 abbrev pub take_while_set : {S I E : Type 0} → TakeWhile S I E → S
 take_while_set s = s.set
-
--- The tokens' longest beginning of members, of at most the greatest number.
-pub record IsLongest {T : Type 0} (member : T → Bool → Type 0) (greatest : Option ℕ)
-    (tokens front rest : List T) : Type 0 where
-  pub splits : tokens ≡ front ++ rest
-  pub members : All (λ t. member t true) front
-  pub within : IsWithin greatest (length front)
-  pub stops : (x : T) (more : List T) → rest ≡ x ∷ more
-      → member x false ⊎ (greatest ≡ Some (length front))
 
 -- Whatever more input comes, that beginning ends there: before a token that is no member, or at the
 -- greatest number.

@@ -7,16 +7,16 @@ use Rattle.std.specs.List.{All}
 use Rattle.std.proofs.Common.{refl, sym, ap, subst, inl, inr, ◌∙◌, arith, append_assoc}
 use Rattle.stream_sets.specs.AsChar.{IsDecDigit, IsMultispace}
 use Rattle.stream_sets.specs.Range.{from_to}
-use Rattle.winnow_exact.specs.Exact.Same.{Same}
-use Rattle.winnow_exact.specs.Grammar.{Both, Grammar, Three}
-use Rattle.winnow_exact.specs.Texts.{Anything, Begins, BeginsIn, InFront, InList}
-use Rattle.winnow_exact.specs.Texts.{IsGrammarOf}
-use Rattle.winnow_exact.specs.Texts.{Joined, NotFirst, Spelled, Text}
-use Rattle.winnow_exact.specs.Texts.Fronts.{among_front, begins_wider, front_any, front_begins}
-use Rattle.winnow_exact.specs.Texts.Fronts.{may_begin, none_begins, not_first}
-use Rattle.winnow_exact.specs.Texts.Fronts.{spelled_begins, then_front}
-use Rattle.winnow_exact.specs.Texts.Parts.{behind_less, both_of, either_apart, same_of}
-use Rattle.winnow_exact.specs.Texts.Rows.{list_of, parted_of}
+use Rattle.grammars.specs.Grammar.Same.{Same}
+use Rattle.grammars.specs.Grammar.{Both, Grammar, Three}
+use Rattle.grammars.specs.Texts.{Anything, Begins, BeginsIn, InFront, InList}
+use Rattle.grammars.specs.Texts.{IsGrammarOf}
+use Rattle.grammars.specs.Texts.{Joined, NotFirst, Spelled, Text}
+use Rattle.grammars.specs.Texts.Fronts.{among_front, begins_wider, front_any, front_begins}
+use Rattle.grammars.specs.Texts.Fronts.{may_begin, none_begins, not_first}
+use Rattle.grammars.specs.Texts.Fronts.{spelled_begins, then_front}
+use Rattle.grammars.specs.Texts.Parts.{behind_less, both_of, either_apart, same_of}
+use Rattle.grammars.specs.Texts.Rows.{list_of, parted_of}
 use Rattle.json_texts.specs.Number.{GoesOn, number_begins}
 use Rattle.json_texts.specs.Number.{number_of}
 use Rattle.json_texts.specs.Strings.{Quoted, string_begins, string_of}

@@ -3,7 +3,7 @@ use Rattle.std.proofs.Common.{length}
 use Rattle.streams.specs.Bytes.{bytes_input, bytes_reading}
 use Rattle.streams.specs.Input.{IsEndOf}
 use Rattle.uses_csv.specs.Read.{InQuotesRead}
-use Rattle.winnow_exact.specs.Grammar.{Each}
+use Rattle.grammars.specs.Grammar.{Each}
 use Rattle.uses_csv.proofs.read_in_quotes.Given as goal
 
 abbrev pub invariant-runs : goal.invariant-runs

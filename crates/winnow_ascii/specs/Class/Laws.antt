@@ -1,5 +1,5 @@
 -- What holds of the runs of a class.
-use Rattle.std.specs.Prelude.{◌≡◌, ◌↔◌, ⊤, ℕ, IsTrue, None}
+use Rattle.std.specs.Prelude.{◌≡◌, ◌↔◌, ⊤, ℕ, IsTrue, None, ◌<◌}
 use Rattle.streams.specs.Input.{Input, IsEndOf}
 use Rattle.streams.specs.Reading.{Reading}
 use Rattle.streams.specs.SameReading.{SameReading, reading_path}
@@ -10,6 +10,16 @@ use Rattle.winnow_core.specs.Runs.{Keeps}
 use Rattle.winnow_core.specs.SameMeaning.{SameMeaning, same_by, same_trans}
 use Rattle.winnow_ascii.specs.Class.{ClassRuns}
 use Rattle.winnow_token.specs.TakeWhile.Laws.{take_while_ends}
+use Rattle.std.proofs.Common.{refl, sym, ◌∙◌, subst, arith}
+use Rattle.streams.specs.Equal.{true_is_false}
+use Rattle.stream_sets.specs.Once.{TellsOnce, SeesApart, holds_once, seen_once}
+use Rattle.winnow_core.specs.Decided.{IsDecided}
+use Rattle.winnow_core.specs.Literal.Laws.{ShowSame}
+use Rattle.winnow_token.specs.TakeWhile.Decided.{take_while_decided}
+use Rattle.grammars.specs.Grammar.{Class, InClass, IsUnique, Takes}
+use Rattle.winnow_core.specs.Exact.{IsExact, IsSoft}
+use Rattle.winnow_token.specs.TakeWhile.Exact.{longest_unique, take_while_exact, take_while_soft}
+use Rattle.winnow_token.specs.TakeWhile.Exact.{longest_takes}
 
 -- they leave an end
 pub class_ends : {K T S : Type 0} (class : ℕ → Type 0) (least : ℕ) (code : K → ℕ) (seen : K → T)
@@ -28,3 +38,59 @@ class_alike class least code {seen} {others} {a} {b} reading tokens =
     same_trans
     (same_by (λ r form. Keeps (λ _. ClassRuns class least code seen r form)) (reading_path reading))
     (same_by (λ f form. Keeps (λ _. ClassRuns class least code f b form)) tokens)
+
+-- ---- one state and one input decide it
+
+-- Tokens that are seen as the same are one character.
+abbrev pub SeenOnce : {K T : Type 0} → (K → T) → (K → ℕ) → Type 0
+SeenOnce {K} seen code = (k l : K) → seen k ≡ seen l → code k ≡ code l
+
+class_once : {K T : Type 0} (class : ℕ → Type 0) (code : K → ℕ) (seen : K → T)
+    → SeenOnce seen code
+    → TellsOnce (AnswersSeen seen (λ t b. IsTrue b ↔ class (code t)))
+class_once {K} class code seen once x (t, is, has) (u, was, lacks) =
+    let same : code t ≡ code u = once t u (is ∙ sym was) in
+    let P : ℕ → Type 0 = λ n. class n in
+    true_is_false (sym (lacks.1 (subst P same (has.0 refl))))
+
+-- The characters of a class, at least so many.
+pub class_decided : {K T L : Type 0} (class : ℕ → Type 0) (least : ℕ) (code : K → ℕ) (seen : K → T)
+    (reading : Reading T L) (form : ErrorForm) → SeenOnce seen code
+    → IsDecided tt (Keeps (λ (_ : ⊤). ClassRuns class least code seen reading form))
+    (ShowSame reading)
+class_decided class least code seen reading form once =
+    take_while_decided reading form
+    (λ (_ : ⊤). AnswersSeen seen (λ t b. IsTrue b ↔ class (code t)))
+    (λ _. from_to least None) tt (class_once class code seen once)
+
+-- ---- what it reads
+
+-- The characters of a class, at least so many.
+module _ {K T L : Type 0} (class : ℕ → Type 0) (least : ℕ) (code : K → ℕ) (seen : K → T)
+    (reading : Reading T L) (form : ErrorForm) where
+  pub class_exact : SeesApart seen
+      → IsExact tt (Keeps (λ (_ : ⊤). ClassRuns class least code seen reading form))
+      (Class class least code seen reading)
+  class_exact apart = take_while_exact reading form seen (InClass class code) (λ s. s)
+      (λ _. from_to least None) tt tt
+      (seen_once seen (InClass class code tt) apart (holds_once (λ k. class (code k))))
+
+  pub class_soft : IsSoft tt (Keeps (λ (_ : ⊤). ClassRuns class least code seen reading form))
+  class_soft = take_while_soft reading form seen (InClass class code) (λ s. s)
+      (λ _. from_to least None) tt tt
+
+-- so many characters of a class leave one rest
+pub class_unique : {K T L : Type 0} (class : ℕ → Type 0) (least : ℕ) (code : K → ℕ) (seen : K → T)
+    (reading : Reading T L) → SeesApart seen → IsUnique (Class class least code seen reading)
+class_unique class least code seen reading apart =
+    longest_unique reading seen (InClass class code) tt (from_to least None)
+    (seen_once seen (InClass class code tt) apart (holds_once (λ k. class (code k))))
+
+pub class_takes : {K T L : Type 0} (class : ℕ → Type 0) (least : ℕ) (code : K → ℕ) (seen : K → T)
+    (reading : Reading T L) → 0 < least → Takes (Class class least code seen reading)
+class_takes class least code seen reading some =
+    longest_takes reading seen (InClass class code) tt (from_to least None) some
+
+-- one is at least one
+pub one_is_some : 0 < 1
+one_is_some = omega arith

@@ -1,18 +1,24 @@
 -- What holds of the runs of a line end.
-use Rattle.std.specs.Prelude.{ℕ, List, ⊤, Err}
+use Rattle.std.specs.Prelude.{ℕ, List, ⊤, Err, ◌≡◌, ◌⊎◌, false, [], ◌∷◌, Ok}
 use Rattle.std.specs.Borrow.{Bor}
-use Rattle.std.proofs.Common.{inl, inr}
+use Rattle.std.proofs.Common.{inl, inr, refl, ap}
 use Rattle.streams.specs.Input.{Input, IsEndOf}
 use Rattle.streams.specs.Reading.{Reading}
 use Rattle.streams.specs.SameReading.{SameFacts, SameReading, facts_path, reading_path}
 use Rattle.stream_errors.specs.Form.{Answer, ErrorForm, modal}
-use Rattle.streams.specs.Kind.{backtrack}
+use Rattle.streams.specs.Kind.{backtrack, Kind, memory}
 use Rattle.winnow_core.specs.Literal.Laws.{literal_ends, literal_stays}
 use Rattle.winnow_core.specs.Runs.{Keeps}
 use Rattle.winnow_core.specs.SameMeaning.{SameMeaning, same_by, same_trans}
 use Rattle.winnow_ascii.specs.Crlf.Laws.{crlf_ends, crlf_stays}
 use Rattle.winnow_ascii.specs.LineEnding.{LineEndingRuns}
 use Rattle.winnow_core.specs.Stable.Grows.{Stays}
+use Rattle.grammars.specs.Grammar.{Either, NoneStands}
+use Rattle.grammars.specs.Grammar.Searches.{LineEnd, Text}
+use Rattle.grammars.specs.Grammar.Unique.{either_unique}
+use Rattle.winnow_core.specs.Exact.{IsExact, IsSoft}
+use Rattle.winnow_core.specs.Exact.Failed.{none_at_backtrack}
+use Rattle.winnow_core.specs.Literal.Laws.{SpellsByText, TextRuns, text_exact, text_soft}
 
 -- they leave an end
 pub line_ending_ends : {T L : Type 0} (spells : Bor (List ℕ) → List T → Type 0)
@@ -44,3 +50,81 @@ module _ {T L : Type 0} (spells : Bor (List ℕ) → List T → Type 0) (reading
       let q =
       literal_stays reading (spells text) (λ slice. slice) more flag i (Err backtrack) i is_cut tt r
       in inr (text, is, q, crlf_stays spells reading more flag i answer j is_cut final both)
+
+-- ---- what it reads
+
+-- ---- lines
+
+module _ {T L : Type 0} (reading : Reading T L) (form : ErrorForm)
+    (spells : Bor (List ℕ) → List T → Type 0) (alike : SpellsByText spells)
+    (same_units : (t : Bor (List ℕ)) (xs ys : List T) → spells t xs → spells t ys
+    → reading.units xs ≡ reading.units ys) where
+  text_at : (bytes : List ℕ) → IsExact tt (Keeps (λ (_ : ⊤). TextRuns reading spells bytes form))
+      (Text reading spells bytes)
+  text_at = text_exact reading form spells alike same_units
+
+  pub line_ending_exact : IsExact tt (Keeps (λ (_ : ⊤). LineEndingRuns spells reading form))
+      (LineEnd reading spells)
+  unfolding Either
+  line_ending_exact = record {
+    kept = λ i answer t j is (r, same). (same, still i answer j is r);
+    stands = λ i o t j is (r, kept). stands i o j is r;
+    none = λ i k t j is (r, kept). none i k j is r;
+    unique = either_unique (text_at (10 ∷ [])).unique (text_at (13 ∷ 10 ∷ [])).unique;
+  }
+    where
+      feed : IsExact tt (Keeps (λ (_ : ⊤). TextRuns reading spells (10 ∷ []) form))
+          (Text reading spells (10 ∷ []))
+      feed = text_at (10 ∷ [])
+
+      both : IsExact tt (Keeps (λ (_ : ⊤). TextRuns reading spells (13 ∷ 10 ∷ []) form))
+          (Text reading spells (13 ∷ 10 ∷ []))
+      both = text_at (13 ∷ 10 ∷ [])
+
+      still : (i : Input T) (answer : Answer L) (j : Input T) → i.status.cut ≡ false
+          → LineEndingRuns spells reading form i answer j → j.status.cut ≡ false
+      still i answer j is (inl (text, here, r, other)) =
+          (feed.kept i answer tt j is ((text, here, r), refl)).1
+      still i answer j is (inr (text, here, r, more)) =
+          (both.kept i answer tt j is (more, refl)).1
+
+      stands : (i : Input T) (o : L) (j : Input T) → i.status.cut ≡ false
+          → LineEndingRuns spells reading form i (Ok o) j
+          → LineEnd reading spells i.left.tokens o j.left.tokens
+      stands i o j is (inl (text, here, r, other)) =
+          inl (feed.stands i o tt j is ((text, here, r), refl))
+      stands i o j is (inr (text, here, r, more)) = inr (
+        none_at_backtrack feed i tt i is ((text, here, r), refl),
+        both.stands i o tt j is (more, refl),
+      )
+
+      none : (i : Input T) (k : Kind) (j : Input T) → i.status.cut ≡ false
+          → LineEndingRuns spells reading form i (Err k) j
+          → (k ≡ memory) ⊎ NoneStands (LineEnd reading spells) i.left.tokens
+      none i k j is (inl (text, here, r, other)) =
+          elim ((text_soft reading form spells alike same_units (10 ∷ [])).soft i k tt j is
+          ((text, here, r), refl)) [
+            | inl m ↦ inl m
+            | inr b ↦ absurd (other (ap Err b))
+          ]
+      none i k j is (inr (text, here, r, more)) =
+          let first = none_at_backtrack feed i tt i is ((text, here, r), refl) in
+          elim (both.none i k tt j is (more, refl)) [
+            | inl m ↦ inl m
+            | inr nothing ↦ inr (λ o rest it. elim it [
+              | inl x ↦ first o rest x
+              | inr (n, y) ↦ nothing o rest y
+            ])
+          ]
+
+  pub line_ending_soft : IsSoft tt (Keeps (λ (_ : ⊤). LineEndingRuns spells reading form))
+  line_ending_soft = record { soft = λ i k t j is (r, kept). soft i k j is r }
+    where
+      soft : (i : Input T) (k : Kind) (j : Input T) → i.status.cut ≡ false
+          → LineEndingRuns spells reading form i (Err k) j → (k ≡ memory) ⊎ (k ≡ backtrack)
+      soft i k j is (inl (text, here, r, other)) =
+          (text_soft reading form spells alike same_units (10 ∷ [])).soft i k tt j is
+          ((text, here, r), refl)
+      soft i k j is (inr (text, here, r, more)) =
+          (text_soft reading form spells alike same_units (13 ∷ 10 ∷ [])).soft i k tt j is
+          (more, refl)

@@ -17,7 +17,8 @@ use Rattle.stream_searches.specs.Compare.{StandsFirst}
 use Rattle.stream_searches.specs.FindSlice.{IsFirstMatch}
 use Rattle.winnow_core.specs.Short.Known.{short_whole}
 use Rattle.winnow_ascii.specs.Crlf.Known.{SpellsAscii, crlf_ascii, return_ascii}
-use Rattle.winnow_ascii.specs.TillLineEnding.{HasNoLineEnd, LineRuns, TillLineEndingRuns}
+use Rattle.grammars.specs.Grammar.Searches.{HasNoLineEnd}
+use Rattle.winnow_ascii.specs.TillLineEnding.{LineRuns, TillLineEndingRuns}
 
 -- a carriage return or a line feed
 abbrev pub EndsLine : ℕ → Type 0

@@ -1,12 +1,12 @@
 -- What holds of the runs of a length and a parser of so many tokens.
-use Rattle.std.specs.Prelude.{◌≡◌, ℕ, Bool, false, List, Err}
-use Rattle.std.proofs.Common.{ap, subst, ◌∙◌, inl, inr}
+use Rattle.std.specs.Prelude.{◌≡◌, ℕ, Bool, false, List, Err, ◌⊎◌, ◌++◌, length, Ok}
+use Rattle.std.proofs.Common.{ap, subst, ◌∙◌, inl, inr, refl, sym, arith, length-append}
 use Rattle.streams.specs.Input.{Input, Status, Takes, passes_end}
 use Rattle.streams.specs.Place.{Place}
 use Rattle.streams.specs.Reading.{Reading, ShowsOneList}
 use Rattle.streams.specs.SameReading.{SameReading, reading_path}
 use Rattle.streams.specs.Stream.{IsUpdate, update_begins, update_tokens}
-use Rattle.stream_errors.specs.Form.{ErrorForm, modal}
+use Rattle.stream_errors.specs.Form.{ErrorForm, modal, Answer}
 use Rattle.streams.specs.Following.{Following, follows_end}
 use Rattle.winnow_core.specs.Agrees.{Agrees}
 use Rattle.winnow_core.specs.Agrees.Sizes.{agrees2}
@@ -17,6 +17,14 @@ use Rattle.winnow_binary.specs.Length.Laws.{length_ends, length_grows}
 use Rattle.winnow_binary.specs.LengthAndThen.{LengthAndThenRuns, TakenRuns, only_first}
 use Rattle.winnow_core.specs.Stable.Grows.{Grows, final_by}
 use Rattle.winnow_core.specs.Stable.Longer.{passes_cut, passes_more, short_final}
+use Rattle.streams.specs.Kind.{Kind, backtrack, memory}
+use Rattle.grammars.specs.Grammar.{Grammar, NoneStands}
+use Rattle.grammars.specs.Grammar.Lengths.{Inside, SaysOne, Sized, inside_unique, same_beginnings}
+use Rattle.stream_errors.specs.Form.Known.{at_output, ok_is_err, same_kind}
+use Rattle.winnow_core.specs.CompleteErr.{CompleteErrRuns, complete_kind}
+use Rattle.winnow_core.specs.Exact.{IsExact, IsSoft}
+use Rattle.winnow_core.specs.Exact.Failed.{short_backtracks}
+use Rattle.winnow_binary.specs.Length.Laws.{length_exact, length_soft}
 
 -- what is taken leaves an end
 pub taken_ends : {S T L O : Type 0} (reading : Reading T L) (form : ErrorForm) (counts : Bool)
@@ -107,3 +115,114 @@ module _ {T : Type 0} {following : Following T} where
         → Grows following (LengthAndThenRuns number reading modal counts count run)
     length_and_then_grows number run reads =
         length_grows number (TakenRuns reading modal counts run) reads (taken_grows run)
+
+-- ---- what it reads
+
+-- ---- a parser of so many tokens
+
+module _ {S T L O : Type 0} (reading : Reading T L) (form : ErrorForm) (counts : Bool)
+    {run : Runs S T O} {g : Grammar T O} {s : S} (c : IsExact s run g) (n : ℕ) where
+  -- a run of the parser on its own tokens, where no need of more is told
+  inside_kept : (i : Input T) (answer : Answer O) (t : S) (j : Input T) → i.status.cut ≡ false
+      → CompleteErrRuns run s i answer t j → t ≡ s
+  inside_kept i answer t j is (inl (o, r, same, e)) = (c.kept i (Ok o) t j is r).0
+  inside_kept i answer t j is (inr (k, l, r, became, e)) = (c.kept i (Err k) t j is r).0
+
+  inside_stands : (i : Input T) (o : O) (t : S) (j : Input T) → i.status.cut ≡ false
+      → CompleteErrRuns run s i (Ok o) t j → g i.left.tokens o j.left.tokens
+  inside_stands i o t j is (inl (p, r, same, e)) =
+      at_output (λ x. g i.left.tokens x j.left.tokens) e (c.stands i p t j is r)
+  inside_stands i o t j is (inr (k, l, r, became, e)) = ok_is_err refl e
+
+  inside_fails : (i : Input T) (k : Kind) (t : S) (j : Input T) → i.status.cut ≡ false
+      → CompleteErrRuns run s i (Err k) t j → (k ≡ memory) ⊎ NoneStands g i.left.tokens
+  inside_fails i k t j is (inl (o, r, same, e)) = ok_is_err e refl
+  inside_fails i k t j is (inr (l, m, r, became, e)) = elim (c.none i l t j is r) [
+    | inl wanted ↦ inl (same_kind e ∙ became ∙ ap complete_kind wanted)
+    | inr nothing ↦ inr nothing
+  ]
+
+  pub inside_exact : IsExact s (TakenRuns reading form counts run n) (Inside g n)
+  unfolding Inside
+  inside_exact = record {
+    kept = kept;
+    stands = stands;
+    none = none;
+    unique = inside_unique g n;
+  }
+    where
+      kept : (i : Input T) (answer : Answer O) (t : S) (j : Input T) → i.status.cut ≡ false
+          → TakenRuns reading form counts run n s i answer t j
+          → (t ≡ s) × (j.status.cut ≡ false)
+      kept i answer t j is (inl (taken, rest, many, passes, r)) = (
+        inside_kept (only_first taken i) answer t rest refl r,
+        ap (λ z. z.cut) passes.status ∙ is,
+      )
+      kept i answer t j is (inr (k, few, short, e, same, back)) =
+          (same, ap (λ z. z.status.cut) back ∙ is)
+
+      stands : (i : Input T) (o : O) (t : S) (j : Input T) → i.status.cut ≡ false
+          → TakenRuns reading form counts run n s i (Ok o) t j
+          → Inside g n i.left.tokens o j.left.tokens
+      stands i o t j is (inl (taken, rest, many, passes, r)) = (
+        taken,
+        rest.left.tokens,
+        many,
+        passes.tokens,
+        inside_stands (only_first taken i) o t rest refl r,
+      )
+      stands i o t j is (inr (k, few, short, e, same, back)) = ok_is_err refl e
+
+      none_inside : (tokens taken left : List T) → tokens ≡ taken ++ left → length taken ≡ n
+          → NoneStands g taken → NoneStands (Inside g n) tokens
+      none_inside tokens taken left e many nothing o rest (front, end, many2, e2, x) =
+          let P : List T → Type 0 = λ l. g l o end in
+          let same = (same_beginnings front taken rest left (many2 ∙ sym many) (sym e2 ∙ e)).0 in
+          nothing o end (subst P same x)
+
+      none : (i : Input T) (k : Kind) (t : S) (j : Input T) → i.status.cut ≡ false
+          → TakenRuns reading form counts run n s i (Err k) t j
+          → (k ≡ memory) ⊎ NoneStands (Inside g n) i.left.tokens
+      none i k t j is (inl (taken, rest, many, passes, r)) =
+          elim (inside_fails (only_first taken i) k t rest refl r) [
+            | inl m ↦ inl m
+            | inr nothing ↦ inr
+                (none_inside i.left.tokens taken j.left.tokens passes.tokens many nothing)
+          ]
+      none i k t j is (inr (l, few, short, e, same, back)) =
+          inr (λ o rest (front, end, many, split, x). absurd
+          (omega (arith, ap (λ l. length l) split, length-append front rest, many, few)))
+
+-- it fails so that others are tried
+module _ {S T L O : Type 0} (reading : Reading T L) (form : ErrorForm) (counts : Bool)
+    {run : Runs S T O} {s : S} (f : IsSoft s run) (n : ℕ) where
+  pub inside_soft : IsSoft s (TakenRuns reading form counts run n)
+  inside_soft = record { soft = soft }
+    where
+      fails : (i : Input T) (k : Kind) (t : S) (j : Input T) → i.status.cut ≡ false
+          → CompleteErrRuns run s i (Err k) t j → (k ≡ memory) ⊎ (k ≡ backtrack)
+      fails i k t j is (inl (o, r, same, e)) = ok_is_err e refl
+      fails i k t j is (inr (l, m, r, became, e)) = elim (f.soft i l t j is r) [
+        | inl wanted ↦ inl (same_kind e ∙ became ∙ ap complete_kind wanted)
+        | inr back ↦ inr (same_kind e ∙ became ∙ ap complete_kind back)
+      ]
+
+      soft : (i : Input T) (k : Kind) (t : S) (j : Input T) → i.status.cut ≡ false
+          → TakenRuns reading form counts run n s i (Err k) t j
+          → (k ≡ memory) ⊎ (k ≡ backtrack)
+      soft i k t j is (inl (taken, rest, many, passes, r)) =
+          fails (only_first taken i) k t rest refl r
+      soft i k t j is (inr (l, few, short, e, same, back)) =
+          inr (same_kind e ∙ short_backtracks form _ i l is short)
+
+module _ {S V T N L O : Type 0} (number : N → ℕ) (reading : Reading T L) (form : ErrorForm)
+    (counts : Bool) {count : Runs S T N} {run : Runs V T O} {g : Grammar T N} {s : S × V} where
+  pub length_and_then_exact : {h : Grammar T O} → SaysOne number g → IsExact s.0 count g
+      → IsExact s.1 run h → IsExact s (LengthAndThenRuns number reading form counts count run)
+      (Sized number (Inside h) g)
+  length_and_then_exact {h} says c d =
+      length_exact number c (Inside h) (inside_exact reading form counts d) says
+
+  pub length_and_then_soft : IsExact s.0 count g → IsSoft s.0 count → IsSoft s.1 run
+      → IsSoft s (LengthAndThenRuns number reading form counts count run)
+  length_and_then_soft c f h = length_soft number c f (inside_soft reading form counts h)

@@ -1,6 +1,6 @@
 -- What holds of the runs of a length and so many tokens.
-use Rattle.std.specs.Prelude.{◌≡◌, ℕ, Bool, ⊤}
-use Rattle.std.proofs.Common.{subst}
+use Rattle.std.specs.Prelude.{◌≡◌, ℕ, Bool, ⊤, false, length}
+use Rattle.std.proofs.Common.{subst, refl, ap}
 use Rattle.streams.specs.Reading.{Reading}
 use Rattle.streams.specs.SameReading.{SameReading, reading_path}
 use Rattle.stream_errors.specs.Form.{ErrorForm, modal}
@@ -13,6 +13,12 @@ use Rattle.winnow_binary.specs.Length.Laws.{length_ends, length_grows}
 use Rattle.winnow_binary.specs.LengthTake.{LengthTakeRuns}
 use Rattle.winnow_core.specs.Stable.Grows.{Grows, grows, leaf_stays, stays_beside}
 use Rattle.winnow_core.specs.Stable.{IsStable}
+use Rattle.grammars.specs.Grammar.{Counted, Grammar, Takes}
+use Rattle.grammars.specs.Grammar.Lengths.{SaysOne, Sized, sized_takes}
+use Rattle.winnow_core.specs.Exact.{IsExact, IsSoft}
+use Rattle.winnow_core.specs.Exact.Along.{exact_along, soft_along}
+use Rattle.winnow_token.specs.Take.Laws.{take_exact, take_soft}
+use Rattle.winnow_binary.specs.Length.Laws.{length_exact, length_soft}
 
 -- they leave an end, where those of the length do
 pub length_take_ends : {S T N L : Type 0} (number : N → ℕ) (reading : Reading T L)
@@ -52,3 +58,39 @@ module _ {T : Type 0} {following : Following T} where
         → Grows following count
         → IsStable following (LengthTakeRuns number reading modal counts count)
     length_take_stays number reads = stays_beside tt (length_grows number _ reads take_grows)
+
+-- ---- what it reads
+
+-- ---- tokens
+
+-- so many tokens, as a run by no state
+module _ {T L : Type 0} (reading : Reading T L) (form : ErrorForm) (counts : Bool) where
+  some_exact : (n : ℕ) → IsExact tt (Keeps (λ (_ : ⊤). TakeRuns reading form counts n))
+      (Counted reading n)
+  some_exact n = exact_along (λ (_ : ⊤). n) (λ t same. refl)
+      (λ i answer t j r. (r.0, refl)) (take_exact reading form counts n)
+
+  some_soft : (n : ℕ) → IsSoft tt (Keeps (λ (_ : ⊤). TakeRuns reading form counts n))
+  some_soft n = soft_along (λ (_ : ⊤). n) (λ i answer t j r. (r.0, refl))
+      (take_soft reading form counts n)
+
+module _ {S T N L : Type 0} (number : N → ℕ) (reading : Reading T L) (form : ErrorForm)
+    (counts : Bool) {count : Runs S T N} {g : Grammar T N} {s : S} where
+  pub length_take_exact : SaysOne number g → IsExact s count g
+      → IsExact s (LengthTakeRuns number reading form counts count)
+      (Sized number (Counted reading) g)
+  length_take_exact says c = exact_along (λ x. (x, tt)) (λ t same. ap (λ x. x.0) same)
+      (λ i answer t j r. r)
+      (length_exact number c (Counted reading) (some_exact reading form counts) says)
+
+  pub length_take_soft : IsExact s count g → IsSoft s count
+      → IsSoft s (LengthTakeRuns number reading form counts count)
+  length_take_soft c f = soft_along (λ x. (x, tt)) (λ i answer t j r. r)
+      (length_soft number c f (some_soft reading form counts))
+
+-- a length that takes tokens takes some with those behind it
+pub length_take_takes : {S T N L : Type 0} (number : N → ℕ) (reading : Reading T L)
+    {count : Runs S T N} {g : Grammar T N} {s : S} → IsExact s count g → Takes g
+    → Takes (Sized number (Counted reading) g)
+length_take_takes number reading c takes = sized_takes number (Counted reading) c.unique
+    (λ n. (take_exact reading modal false n).unique) takes

@@ -1,9 +1,9 @@
 -- What holds of the runs of choices.
-use Rattle.std.specs.Prelude.{◌≡◌, Err}
-use Rattle.std.proofs.Common.{refl, subst, ap, ◌∙◌, inl, inr}
+use Rattle.std.specs.Prelude.{◌≡◌, Err, ◌⊎◌, Ok, false}
+use Rattle.std.proofs.Common.{refl, subst, ap, ◌∙◌, inl, inr, sym}
 use Rattle.streams.specs.Input.{Input, Remaining, back_at, is_end_of_back, is_end_of_trans}
 use Rattle.streams.specs.Input.{with_more}
-use Rattle.streams.specs.Kind.{backtrack}
+use Rattle.streams.specs.Kind.{backtrack, Kind, memory}
 use Rattle.streams.specs.Reading.{Reading}
 use Rattle.stream_errors.specs.Form.{Answer}
 use Rattle.streams.specs.Following.{Following}
@@ -12,6 +12,13 @@ use Rattle.winnow_core.specs.Agrees.Sizes.{agrees2}
 use Rattle.winnow_core.specs.Runs.{Runs, LeaveEnds, Meaning}
 use Rattle.winnow_comb.specs.Alt.{OrElse}
 use Rattle.winnow_core.specs.Stable.Grows.{Grows}
+use Rattle.winnow_core.specs.Decided.{AlikeAnswers, IsDecided, NotMemory}
+use Rattle.winnow_core.specs.Decided.Inputs.{widened, back_not_memory}
+use Rattle.winnow_core.specs.States.{pair_is}
+use Rattle.grammars.specs.Grammar.{Either, Grammar, NoneStands}
+use Rattle.grammars.specs.Grammar.Unique.{either_unique}
+use Rattle.winnow_core.specs.Exact.{IsExact, IsSoft}
+use Rattle.winnow_core.specs.Exact.Failed.{none_at_backtrack}
 
 -- they leave an end, where those of the branches do
 pub or_else_ends : {S1 S2 T L O : Type 0} (reading : Reading T L) (run : Runs S1 T O)
@@ -58,3 +65,124 @@ module _ {T : Type 0} {following : Following T} where
       let (p, last) =
       rest more flag s.1 (back_at i.left a) answer t.1 j (still.0, may.1) final others in
       (inr (with_more a more flag, q, p), last)
+
+-- ---- one state and one input decide it
+
+-- Alike in one way or in the other.
+abbrev pub EitherAlike : {O : Type 0} → (O → O → Type 0) → (O → O → Type 0) → O → O → Type 0
+EitherAlike first others o p = first o p ⊎ others o p
+
+-- what is alike to a backtrack is one
+pub is_backtrack : {O : Type 0} (alike : O → O → Type 0) (a : Answer O)
+    → AlikeAnswers alike a (Err backtrack) → a ≡ Err backtrack
+is_backtrack alike (Ok o) like = absurd like
+is_backtrack alike (Err k) like = ap Err like
+
+pub backtrack_is : {O : Type 0} (alike : O → O → Type 0) (a : Answer O)
+    → AlikeAnswers alike (Err backtrack) a → a ≡ Err backtrack
+backtrack_is alike (Ok o) like = absurd like
+backtrack_is alike (Err k) like = ap Err (sym like)
+
+module _ {S1 S2 T O : Type 0} {run1 : Runs S1 T O} {run2 : Runs S2 T O}
+    {alike1 alike2 : O → O → Type 0} {s : S1 × S2} where
+  pub or_else_decided : IsDecided s.0 run1 alike1 → IsDecided s.1 run2 alike2
+      → IsDecided s (OrElse run1 run2) (EitherAlike alike1 alike2)
+  or_else_decided c1 c2 = record { kept = kept; decided = decided }
+    where
+      kept : (i : Input T) (answer : Answer O) (t : S1 × S2) (j : Input T) → NotMemory answer
+          → OrElse run1 run2 s i answer t j → (t ≡ s) × (j.status ≡ i.status)
+      kept i answer t j other (inl (r, not, same2)) =
+          let (same, still) = c1.kept i answer t.0 j other r in
+          (pair_is same same2, still)
+      kept i answer t j other (inr (a, r, others)) =
+          let (same, on) = c1.kept i (Err backtrack) t.0 a back_not_memory r in
+          let (same2, still) = c2.kept (back_at i.left a) answer t.1 j other others in
+          (pair_is same same2, still ∙ on)
+
+      decided : (i : Input T) (a b : Answer O) (t u : S1 × S2) (j k : Input T) → NotMemory a
+          → NotMemory b → OrElse run1 run2 s i a t j → OrElse run1 run2 s i b u k
+          → AlikeAnswers (EitherAlike alike1 alike2) a b × (j ≡ k)
+      decided i a b t u j k na nb (inl (r, not, same)) (inl (q, not2, same2)) =
+          let (like, place) = c1.decided i a b t.0 u.0 j k na nb r q in
+          (widened alike1 (EitherAlike alike1 alike2) (λ o p x. inl x) a b like, place)
+      decided i a b t u j k na nb (inl (r, not, same)) (inr (m, q, others)) =
+          let (like, place) =
+          c1.decided i a (Err backtrack) t.0 u.0 j m na back_not_memory r q in
+          absurd (not (is_backtrack alike1 a like))
+      decided i a b t u j k na nb (inr (m, r, others)) (inl (q, not, same)) =
+          let (like, place) =
+          c1.decided i (Err backtrack) b t.0 u.0 m k back_not_memory nb r q in
+          absurd (not (backtrack_is alike1 b like))
+      decided i a b t u j k na nb (inr (m, r, others)) (inr (n, q, others2)) =
+          let (like, place) = c1.decided i (Err backtrack) (Err backtrack) t.0 u.0 m n
+          back_not_memory back_not_memory r q in
+          let Q : Input T → Type 0 = λ x. run2 s.1 (back_at i.left x) b u.1 k in
+          let (like2, place2) = c2.decided (back_at i.left m) a b t.1 u.1 j k na nb others
+          (subst Q (sym place) others2) in
+          (widened alike2 (EitherAlike alike1 alike2) (λ o p x. inr x) a b like2, place2)
+
+-- ---- what it reads
+
+module _ {S1 S2 T O : Type 0} {run1 : Runs S1 T O} {run2 : Runs S2 T O}
+    {g1 : Grammar T O} {g2 : Grammar T O} {s : S1 × S2} where
+  pub or_else_exact : IsExact s.0 run1 g1 → IsSoft s.0 run1 → IsExact s.1 run2 g2
+      → IsExact s (OrElse run1 run2) (Either g1 g2)
+  unfolding Either
+  or_else_exact c1 f1 c2 = record {
+    kept = kept;
+    stands = stands;
+    none = none;
+    unique = either_unique c1.unique c2.unique;
+  }
+    where
+      kept : (i : Input T) (answer : Answer O) (t : S1 × S2) (j : Input T)
+          → i.status.cut ≡ false → OrElse run1 run2 s i answer t j
+          → (t ≡ s) × (j.status.cut ≡ false)
+      kept i answer t j is (inl (r, other, same2)) =
+          let (same, still) = c1.kept i answer t.0 j is r in
+          (pair_is same same2, still)
+      kept i answer t j is (inr (a, r, others)) =
+          let (same, on) = c1.kept i (Err backtrack) t.0 a is r in
+          let (same2, still) = c2.kept (back_at i.left a) answer t.1 j on others in
+          (pair_is same same2, still)
+
+      stands : (i : Input T) (o : O) (t : S1 × S2) (j : Input T)
+          → i.status.cut ≡ false → OrElse run1 run2 s i (Ok o) t j
+          → Either g1 g2 i.left.tokens o j.left.tokens
+      stands i o t j is (inl (r, other, kept)) = inl (c1.stands i o t.0 j is r)
+      stands i o t j is (inr (a, r, others)) =
+          let on = (c1.kept i (Err backtrack) t.0 a is r).1 in
+          inr (
+            none_at_backtrack c1 i t.0 a is r,
+            c2.stands (back_at i.left a) o t.1 j on others,
+          )
+
+      none : (i : Input T) (k : Kind) (t : S1 × S2) (j : Input T)
+          → i.status.cut ≡ false → OrElse run1 run2 s i (Err k) t j
+          → (k ≡ memory) ⊎ NoneStands (Either g1 g2) i.left.tokens
+      none i k t j is (inl (r, other, kept)) = elim (f1.soft i k t.0 j is r) [
+        | inl m ↦ inl m
+        | inr b ↦ absurd (other (ap Err b))
+      ]
+      none i k t j is (inr (a, r, others)) =
+          let on = (c1.kept i (Err backtrack) t.0 a is r).1 in
+          let first = none_at_backtrack c1 i t.0 a is r in
+          elim (c2.none (back_at i.left a) k t.1 j on others) [
+            | inl m ↦ inl m
+            | inr nothing ↦ inr (λ o rest it. elim it [
+              | inl x ↦ first o rest x
+              | inr (n, y) ↦ nothing o rest y
+            ])
+          ]
+
+pub or_else_soft : {S1 S2 T O : Type 0} {run1 : Runs S1 T O} {run2 : Runs S2 T O}
+    {g1 : Grammar T O} {s : S1 × S2} → IsExact s.0 run1 g1
+    → IsSoft s.0 run1 → IsSoft s.1 run2 → IsSoft s (OrElse run1 run2)
+or_else_soft {S1} {S2} {T} {O} {run1} {run2} {s = s} c1 f1 f2 = record { soft = soft }
+  where
+    soft : (i : Input T) (k : Kind) (t : S1 × S2) (j : Input T)
+        → i.status.cut ≡ false → OrElse run1 run2 s i (Err k) t j
+        → (k ≡ memory) ⊎ (k ≡ backtrack)
+    soft i k t j is (inl (r, other, kept)) = f1.soft i k t.0 j is r
+    soft i k t j is (inr (a, r, others)) =
+        f2.soft (back_at i.left a) k t.1 j (c1.kept i (Err backtrack) t.0 a is r).1 others

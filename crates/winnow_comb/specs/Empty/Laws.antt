@@ -2,7 +2,29 @@
 use Rattle.winnow_comb.specs.Empty.{EmptyRuns}
 use Rattle.winnow_core.specs.Stable.Longer.{same_more}
 use Rattle.winnow_core.specs.Stable.Grows.{Stays}
+use Rattle.std.specs.Prelude.{⊤}
+use Rattle.std.proofs.Common.{refl, ap, ◌∙◌}
+use Rattle.grammars.specs.Grammar.{Nothing}
+use Rattle.grammars.specs.Grammar.Unique.{unique_nothing}
+use Rattle.stream_errors.specs.Form.Known.{ok_is_err, same_ok}
+use Rattle.winnow_core.specs.Exact.{IsExact, IsSoft}
+use Rattle.winnow_core.specs.Runs.{Keeps}
 
 -- on a cut input, runs of a final answer are runs on each longer one
 pub empty_stays : {T : Type 0} → Stays (EmptyRuns {T = T})
 empty_stays more flag i answer j is_cut final (e, same) = (e, same_more more flag same)
+
+-- ---- what it reads
+
+module _ {T : Type 0} where
+  pub empty_exact : IsExact tt (Keeps (λ (_ : ⊤). EmptyRuns {T = T})) (Nothing tt)
+  unfolding Nothing
+  empty_exact = record {
+    kept = λ i answer t j is ((e, back), same). (same, ap (λ z. z.status.cut) back ∙ is);
+    stands = λ i o t j is ((e, back), same). (same_ok refl e, ap (λ z. z.left.tokens) back);
+    none = λ i k t j is ((e, back), same). ok_is_err e refl;
+    unique = unique_nothing tt;
+  }
+
+  pub empty_soft : IsSoft tt (Keeps (λ (_ : ⊤). EmptyRuns {T = T}))
+  empty_soft = record { soft = λ i k t j is ((e, back), same). ok_is_err e refl }

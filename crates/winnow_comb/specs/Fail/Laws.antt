@@ -2,7 +2,35 @@
 use Rattle.winnow_comb.specs.Fail.{FailRuns}
 use Rattle.winnow_core.specs.Stable.Longer.{same_more}
 use Rattle.winnow_core.specs.Stable.Grows.{Stays}
+use Rattle.std.specs.Prelude.{⊤}
+use Rattle.std.proofs.Common.{refl, ap, inr, ◌∙◌}
+use Rattle.grammars.specs.Grammar.{Never, Takes}
+use Rattle.stream_errors.specs.Form.Known.{ok_is_err, same_kind}
+use Rattle.winnow_core.specs.Exact.{IsExact, IsSoft}
+use Rattle.winnow_core.specs.Runs.{Keeps}
 
 -- on a cut input, runs of a final answer are runs on each longer one
 pub fail_stays : {T O : Type 0} → Stays (FailRuns {T = T} {O = O})
 fail_stays more flag i answer j is_cut final (e, same) = (e, same_more more flag same)
+
+-- ---- what it reads
+
+module _ {T : Type 0} where
+  pub fail_exact : {O : Type 0} → IsExact tt (Keeps (λ (_ : ⊤). FailRuns {T = T} {O = O})) Never
+  unfolding Never
+  fail_exact = record {
+    kept = λ i answer t j is ((e, back), same). (same, ap (λ z. z.status.cut) back ∙ is);
+    stands = λ i o t j is ((e, back), same). ok_is_err refl e;
+    none = λ i k t j is ((e, back), same). inr (λ o rest never. never);
+    unique = record {
+      ends = λ tokens o rest never. absurd never;
+      one = λ tokens o p rest other never too. absurd never;
+    };
+  }
+
+  pub fail_soft : {O : Type 0} → IsSoft tt (Keeps (λ (_ : ⊤). FailRuns {T = T} {O = O}))
+  fail_soft = record { soft = λ i k t j is ((e, back), same). inr (same_kind e) }
+
+pub never_takes : {T O : Type 0} → Takes (Never {T = T} {O = O})
+unfolding Never
+never_takes = record { fewer = λ tokens o rest never. absurd never }

@@ -4,7 +4,7 @@ use Rattle.std.specs.Prelude.{Ok}
 use Rattle.std.proofs.Common.{sym, subst}
 use Rattle.streams.specs.Input.{Input}
 use Rattle.streams.specs.Kind.{Kind}
-use Rattle.winnow_comb.specs.InOrder.Known.{BothCases, both_ok}
+use Rattle.winnow_core.specs.InOrder.Known.{BothCases, both_ok}
 
 -- an output: both succeeded, and it is that of the second
 pub preceded_ok : {T O1 O2 : Type 0}

@@ -4,7 +4,7 @@ use Rattle.std.specs.Prelude.{Ok}
 use Rattle.std.proofs.Common.{sym, subst}
 use Rattle.streams.specs.Input.{Input}
 use Rattle.streams.specs.Kind.{Kind}
-use Rattle.winnow_comb.specs.InOrder.Known.{ThreeCases, three_ok}
+use Rattle.winnow_core.specs.InOrder.Known.{ThreeCases, three_ok}
 
 -- an output: all three succeeded, and it is those of the first and the third
 pub separated_pair_ok : {T O1 O2 O3 : Type 0}

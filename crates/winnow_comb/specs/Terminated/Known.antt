@@ -7,7 +7,7 @@ use Rattle.streams.specs.Kind.{Kind}
 use Rattle.winnow_core.specs.Reads.{Reads}
 use Rattle.winnow_core.specs.Runs.{Runs}
 use Rattle.winnow_comb.specs.Terminated.{TerminatedRuns}
-use Rattle.winnow_comb.specs.InOrder.Known.{BothCases, both_ok, both_reads}
+use Rattle.winnow_core.specs.InOrder.Known.{BothCases, both_ok, both_reads}
 
 -- an output: both succeeded, and it is that of the first
 pub terminated_ok : {T O1 O2 : Type 0}

@@ -4,6 +4,10 @@ use Rattle.streams.specs.Following.{Following}
 use Rattle.winnow_core.specs.ByRef.{ByRefRuns}
 use Rattle.winnow_core.specs.Runs.{Runs, LeaveEnds}
 use Rattle.winnow_core.specs.Stable.Grows.{Grows}
+use Rattle.std.specs.Prelude.{ℕ}
+use Rattle.grammars.specs.Grammar.{Grammar}
+use Rattle.winnow_core.specs.Exact.{IsExact, IsSoft}
+use Rattle.winnow_core.specs.States.{pair_is}
 
 -- they leave an end, where those of the parser do
 pub by_ref_ends : {S T L O : Type 0} (reading : Reading T L) (run : Runs S T O)
@@ -16,3 +20,20 @@ module _ {T : Type 0} {following : Following T} where
       → Grows following (ByRefRuns run)
   by_ref_grows child more flag s i answer t j may final (r, kept) =
       let (q, still) = child more flag s.0 i answer t.0 j may final r in ((q, kept), still)
+
+-- ---- what it reads
+
+module _ {S T O : Type 0} {run : Runs S T O} where
+  pub by_ref_exact : {g : Grammar T O} {s : S × ℕ} → IsExact s.0 run g
+      → IsExact s (ByRefRuns run) g
+  by_ref_exact c = record {
+    kept = λ i answer t j is (r, same2).
+        let (same, still) = c.kept i answer t.0 j is r in
+        (pair_is same same2, still);
+    stands = λ i o t j is (r, same). c.stands i o t.0 j is r;
+    none = λ i k t j is (r, same). c.none i k t.0 j is r;
+    unique = c.unique;
+  }
+
+  pub by_ref_soft : {s : S × ℕ} → IsSoft s.0 run → IsSoft s (ByRefRuns run)
+  by_ref_soft f = record { soft = λ i k t j is (r, same). f.soft i k t.0 j is r }

@@ -1,6 +1,6 @@
 -- What holds of the runs of the end of the input.
-use Rattle.std.specs.Prelude.{⊤}
-use Rattle.std.proofs.Common.{inl, inr}
+use Rattle.std.specs.Prelude.{⊤, ◌≡◌, ◌⊎◌, [], Ok, Err}
+use Rattle.std.proofs.Common.{inl, inr, refl, sym, ap, subst, ◌∙◌}
 use Rattle.streams.specs.Input.{Input, IsEndOf, takes_end}
 use Rattle.streams.specs.Reading.{Reading}
 use Rattle.streams.specs.SameReading.{SameReading, reading_path}
@@ -9,6 +9,10 @@ use Rattle.winnow_core.specs.Ends.{same_ends}
 use Rattle.winnow_core.specs.Eof.{EofRuns}
 use Rattle.winnow_core.specs.Runs.{Keeps}
 use Rattle.winnow_core.specs.SameMeaning.{SameMeaning, same_by}
+use Rattle.streams.specs.Kind.{Kind, backtrack, memory}
+use Rattle.grammars.specs.Grammar.{NoTokens, NoneStands}
+use Rattle.stream_errors.specs.Form.Known.{ok_is_err, same_ok, same_kind}
+use Rattle.winnow_core.specs.Exact.{IsExact, IsSoft}
 
 -- it leaves an end
 pub eof_ends : {T L : Type 0} (reading : Reading T L) (i : Input T) (answer : Answer L)
@@ -20,3 +24,46 @@ eof_ends reading i answer j (inr (some, e, same)) = same_ends reading i j same
 pub eof_alike : {T L : Type 0} {a b : Reading T L} → SameReading a b
     → SameMeaning (λ (s : ⊤). s) (λ _. Keeps (λ _. EofRuns a)) (λ _. Keeps (λ _. EofRuns b))
 eof_alike same = same_by (λ r form. Keeps (λ _. EofRuns r)) (reading_path same)
+
+-- ---- what it reads
+
+module _ {T L : Type 0} (reading : Reading T L) where
+  pub eof_exact : IsExact tt (Keeps (λ (_ : ⊤). EofRuns reading)) (NoTokens reading)
+  unfolding NoTokens
+  eof_exact = record {
+    kept = λ i answer t j is (r, same). (same, still i answer j r ∙ is);
+    stands = λ i o t j is (r, kept). stands i o j r;
+    none = λ i k t j is (r, kept). inr (none i k j r);
+    unique = record {
+      ends = λ tokens o rest (nothing, e, shown). ([], nothing ∙ sym e);
+      one = λ tokens o p rest other (nothing, e, shown) (too, f, shown2). e ∙ sym f;
+    };
+  }
+    where
+      still : (i : Input T) (answer : Answer L) (j : Input T) → EofRuns reading i answer j
+          → j.status.cut ≡ i.status.cut
+      still i answer j (inl (slice, nothing, takes, e)) = ap (λ z. z.cut) takes.passed.status
+      still i answer j (inr (some, e, same)) = ap (λ z. z.status.cut) same
+
+      stands : (i : Input T) (o : L) (j : Input T) → EofRuns reading i (Ok o) j
+          → NoTokens reading i.left.tokens o j.left.tokens
+      stands i o j (inl (slice, nothing, takes, e)) =
+          let Q : L → Type 0 = λ s. reading.shows s [] in (
+            nothing,
+            sym takes.passed.tokens ∙ nothing,
+            subst Q (sym (same_ok refl e)) takes.shown,
+          )
+      stands i o j (inr (some, e, same)) = ok_is_err refl e
+
+      none : (i : Input T) (k : Kind) (j : Input T) → EofRuns reading i (Err k) j
+          → NoneStands (NoTokens reading) i.left.tokens
+      none i k j (inl (slice, nothing, takes, e)) = ok_is_err e refl
+      none i k j (inr (some, e, same)) = λ o rest (nothing, f, shown). some nothing
+
+  pub eof_soft : IsSoft tt (Keeps (λ (_ : ⊤). EofRuns reading))
+  eof_soft = record { soft = λ i k t j is (r, kept). soft i k j r }
+    where
+      soft : (i : Input T) (k : Kind) (j : Input T) → EofRuns reading i (Err k) j
+          → (k ≡ memory) ⊎ (k ≡ backtrack)
+      soft i k j (inl (slice, nothing, takes, e)) = ok_is_err e refl
+      soft i k j (inr (some, e, same)) = inr (same_kind e)

@@ -5,7 +5,6 @@ use Rattle.streams.specs.Input.{Input}
 use Rattle.streams.specs.Kind.{Kind}
 use Rattle.stream_errors.specs.Form.{Answer, answer_by}
 use Rattle.stream_errors.specs.Form.Known.{at_kind, ok_is_err}
-use Rattle.winnow_core.specs.FlatMap.{FlatMapRuns}
 
 -- the runs of FlatMapRuns, by what the child's, the closure's and those of the parser made relate
 abbrev pub FlatMapCases : {H T O U : Type 0} → (O → Input T → Type 0) → (O → H → Type 0)

@@ -1,12 +1,20 @@
 -- What holds of the runs of a parser that an output decides.
-use Rattle.std.specs.Prelude.{Ok, Err}
-use Rattle.std.proofs.Common.{inl, inr}
-use Rattle.streams.specs.Input.{is_end_of_trans, with_more}
+use Rattle.std.specs.Prelude.{Ok, Err, ◌≡◌, ◌⊎◌, false, List}
+use Rattle.std.proofs.Common.{inl, inr, refl, subst}
+use Rattle.streams.specs.Input.{is_end_of_trans, with_more, Input}
 use Rattle.streams.specs.Reading.{Reading}
 use Rattle.streams.specs.Following.{Following}
 use Rattle.winnow_core.specs.FlatMap.{FlatMapRuns}
 use Rattle.winnow_core.specs.Runs.{Runs, LeaveEnds}
 use Rattle.winnow_core.specs.Stable.Grows.{Grows, final_by}
+use Rattle.streams.specs.Kind.{Kind, backtrack, memory}
+use Rattle.grammars.specs.Grammar.{Grammar, NoneStands}
+use Rattle.grammars.specs.Grammar.Decided.{Decided, EachMade, MadeAlike, decided_unique}
+use Rattle.stream_errors.specs.Form.{Answer}
+use Rattle.stream_errors.specs.Form.Known.{at_kind, ok_is_err}
+use Rattle.winnow_core.specs.Closures.{Gives, Stays}
+use Rattle.winnow_core.specs.Exact.{IsExact, IsSoft}
+use Rattle.winnow_core.specs.States.{pair_is}
 
 -- they leave an end, where those of the child and of the parsers made do
 pub flat_map_ends : {S G H V T L O U : Type 0} (reading : Reading T L)
@@ -33,3 +41,95 @@ module _ {T : Type 0} {following : Following T} where
       (inr (k, r, kept, e)) =
       let (q, still) = child more flag s.0 i (Err k) t.0 j may (final_by (Err k) e final) r in
       (inr (k, q, kept, e), still)
+
+-- ---- what it reads
+
+-- what a closure that stays makes in a call it gives
+given : {G O H : Type 0} (step : G → O → H → G → Type 0) {f h : G} (o : O) (made : H)
+    → Stays step f → step f o made h → Gives step f o made
+given {G} step {f} {h} o made stays called =
+    let P : G → Type 0 = λ x. step f o made x in
+    subst P (stays o made h called) called
+
+module _ {S G H V T O U : Type 0} {run : Runs S T O} {second : Runs V T U} {g : Grammar T O}
+    (step : G → O → H → G → Type 0) (state : H → V) (reads : H → Grammar T U) {s : S × G}
+    (stays : Stays step s.1) (c : IsExact s.0 run g) where
+  pub flat_map_exact : EachMade (Gives step) s.1
+      (λ made. IsExact (state made) second (reads made))
+      → MadeAlike (Gives step) s.1 reads g
+      → IsExact s (FlatMapRuns step state run second) (Decided (Gives step) s.1 reads g)
+  unfolding Decided
+  flat_map_exact d alike = record {
+    kept = kept;
+    stands = stands;
+    none = none;
+    unique = decided_unique (Gives step) s.1 reads c.unique (λ o made m. (d o made m).unique)
+        alike;
+  }
+    where
+      kept : (i : Input T) (answer : Answer U) (t : S × G) (j : Input T) → i.status.cut ≡ false
+          → FlatMapRuns step state run second s i answer t j
+          → (t ≡ s) × (j.status.cut ≡ false)
+      kept i answer t j is (inl (o, a, made, v, r, called, q)) =
+          let (same, on) = c.kept i (Ok o) t.0 a is r in
+          let m = given step o made stays called in
+          (pair_is same (stays o made t.1 called), ((d o made m).kept a answer v j on q).1)
+      kept i answer t j is (inr (k, r, same2, e)) =
+          let (same, still) = c.kept i (Err k) t.0 j is r in
+          (pair_is same same2, still)
+
+      stands : (i : Input T) (u : U) (t : S × G) (j : Input T) → i.status.cut ≡ false
+          → FlatMapRuns step state run second s i (Ok u) t j
+          → Decided (Gives step) s.1 reads g i.left.tokens u j.left.tokens
+      stands i u t j is (inl (o, a, made, v, r, called, q)) =
+          let on = (c.kept i (Ok o) t.0 a is r).1 in
+          let m = given step o made stays called in (
+            o,
+            a.left.tokens,
+            made,
+            c.stands i o t.0 a is r,
+            m,
+            (d o made m).stands a u v j on q,
+          )
+      stands i u t j is (inr (k, r, same, e)) = ok_is_err refl e
+
+      Goal : Input T → Kind → Type 0
+      Goal i k = (k ≡ memory) ⊎ NoneStands (Decided (Gives step) s.1 reads g) i.left.tokens
+
+      none_made : (i a : Input T) (o : O) (made : H) → g i.left.tokens o a.left.tokens
+          → Gives step s.1 o made → NoneStands (reads made) a.left.tokens
+          → NoneStands (Decided (Gives step) s.1 reads g) i.left.tokens
+      none_made i a o made x m nothing u rest (p, mid, other, y, n, z) =
+          let P : List T → Type 0 = λ l. reads made l u rest in
+          let same = c.unique.one i.left.tokens p o mid a.left.tokens y x in
+          let there =
+          (alike i.left.tokens o p a.left.tokens mid made other x y m n).back mid u rest z in
+          nothing u rest (subst P same there)
+
+      none : (i : Input T) (k : Kind) (t : S × G) (j : Input T) → i.status.cut ≡ false
+          → FlatMapRuns step state run second s i (Err k) t j → Goal i k
+      none i k t j is (inl (o, a, made, v, r, called, q)) =
+          let on = (c.kept i (Ok o) t.0 a is r).1 in
+          let m = given step o made stays called in
+          elim ((d o made m).none a k v j on q) [
+            | inl wanted ↦ inl wanted
+            | inr nothing ↦ inr (none_made i a o made (c.stands i o t.0 a is r) m nothing)
+          ]
+      none i k t j is (inr (l, r, same, e)) = at_kind (Goal i) e (elim (c.none i l t.0 j is r) [
+        | inl wanted ↦ inl wanted
+        | inr nothing ↦ inr (λ u rest (o, mid, made, x, m, y). nothing o mid x)
+      ])
+
+  pub flat_map_soft : IsSoft s.0 run
+      → EachMade (Gives step) s.1 (λ made. IsSoft (state made) second)
+      → IsSoft s (FlatMapRuns step state run second)
+  flat_map_soft f d = record { soft = soft }
+    where
+      Goal : Kind → Type 0
+      Goal k = (k ≡ memory) ⊎ (k ≡ backtrack)
+
+      soft : (i : Input T) (k : Kind) (t : S × G) (j : Input T) → i.status.cut ≡ false
+          → FlatMapRuns step state run second s i (Err k) t j → Goal k
+      soft i k t j is (inl (o, a, made, v, r, called, q)) =
+          (d o made (given step o made stays called)).soft a k v j (c.kept i (Ok o) t.0 a is r).1 q
+      soft i k t j is (inr (l, r, same, e)) = at_kind Goal e (f.soft i l t.0 j is r)

@@ -1,18 +1,28 @@
 -- What holds of the runs of a literal.
-use Rattle.std.specs.Prelude.{List, ◌++◌, [], ◌∷◌, None, Err, ◌≡◌}
-use Rattle.std.proofs.Common.{inl, inr, subst, append_assoc, arith, length-append, refl}
-use Rattle.streams.specs.Input.{Input, IsEndOf, takes_end}
+use Rattle.std.specs.Prelude.{List, ◌++◌, [], ◌∷◌, None, Err, ◌≡◌, ◌⊎◌, ℕ, false, Ok, ⊤}
+use Rattle.std.proofs.Common.{inl, inr, subst, append_assoc, arith, length-append, refl, sym, ap}
+use Rattle.std.proofs.Common.{◌∙◌}
+use Rattle.streams.specs.Input.{Input, IsEndOf, takes_end, Takes}
 use Rattle.streams.specs.Reading.{Reading}
 use Rattle.streams.specs.SameReading.{SameFacts, SameReading, facts_path, reading_path}
 use Rattle.stream_errors.specs.Form.{Answer, ErrorForm, modal}
 use Rattle.stream_searches.specs.Compare.{StandsFirst, IsShort}
-use Rattle.streams.specs.Kind.{incomplete}
+use Rattle.streams.specs.Kind.{incomplete, Kind, backtrack, memory}
 use Rattle.winnow_core.specs.Ends.{same_ends}
 use Rattle.winnow_core.specs.Literal.{LiteralRuns, IsOneToken}
 use Rattle.winnow_core.specs.Runs.{Keeps}
 use Rattle.winnow_core.specs.SameMeaning.{SameMeaning, same_by, same_trans}
 use Rattle.winnow_core.specs.Stable.Longer.{one_beginning, same_more, takes_more}
 use Rattle.winnow_core.specs.Stable.Grows.{Stays, final_by, not_whole}
+use Rattle.streams.specs.Equal.{true_is_false}
+use Rattle.winnow_core.specs.Decided.{AlikeAnswers, IsDecided}
+use Rattle.winnow_core.specs.Decided.Inputs.{both_err, both_ok, same_front, same_passed}
+use Rattle.std.specs.Borrow.{Bor}
+use Rattle.grammars.specs.Grammar.{Literally, NoneStands}
+use Rattle.grammars.specs.Grammar.Searches.{Text}
+use Rattle.grammars.specs.Grammar.Unique.{literally_unique, one_front}
+use Rattle.stream_errors.specs.Form.Known.{ok_is_err, same_ok, same_kind}
+use Rattle.winnow_core.specs.Exact.{IsExact, IsSoft}
 
 -- it leaves an end
 pub literal_ends : {T L O : Type 0} (reading : Reading T L) (form : ErrorForm)
@@ -80,3 +90,194 @@ pub never_short : {T : Type 0} (spelled : List T → Type 0) (tokens : List T) �
 never_short spelled [] one some short = some refl
 never_short spelled (t ∷ ts) one some (x, more, spells) =
     absurd (omega (arith, one (t ∷ ts ++ x ∷ more) spells, length-append ts (x ∷ more)))
+
+-- ---- one state and one input decide it
+
+-- Slices that show the same tokens.
+abbrev pub ShowSame : {T L : Type 0} → Reading T L → L → L → Type 0
+ShowSame {T} reading slice other =
+    (front : List T) × reading.shows slice front × reading.shows other front
+
+-- tokens that stand first in some are no longer than these
+not_longer : {P T L : Type 0} (reading : Reading T L) (tokens front rest more : List T) (x : T)
+    → tokens ≡ front ++ rest → reading.units front ≡ reading.units (tokens ++ x ∷ more) → P
+not_longer reading tokens front rest more x e u =
+    let whole = ap reading.units e in
+    absurd (omega (
+      arith,
+      u,
+      whole,
+      reading.units_add front rest,
+      reading.units_add tokens (x ∷ more),
+      reading.units_positive x more,
+    ))
+
+-- The literal of a state.
+module _ {X S T L O : Type 0} (reading : Reading T L) (form : ErrorForm)
+    (spelled : S → List T → Type 0) (output : S → L → O) (literal : X → S)
+    (alike : O → O → Type 0) (x : X)
+    (same_units : (xs ys : List T) → spelled (literal x) xs → spelled (literal x) ys
+    → reading.units xs ≡ reading.units ys)
+    (shown : (slice other : L) → ShowSame reading slice other
+    → alike (output (literal x) slice) (output (literal x) other)) where
+  abbrev Ran : Input T → Answer O → Input T → Type 0
+  Ran i answer j = LiteralRuns reading form (spelled (literal x)) (output (literal x)) i answer j
+
+  still : (i : Input T) (answer : Answer O) (j : Input T) → Ran i answer j → j.status ≡ i.status
+  still i answer j (inl (front, slice, is, takes, e)) = takes.passed.status
+  still i answer j (inr (inl (short, cut, e, same))) = ap (λ z. z.status) same
+  still i answer j (inr (inr (nothing, cuts, e, same))) = ap (λ z. z.status) same
+
+  took_short : {P : Type 0} (i j : Input T) (front : List T) (slice : L) → spelled (literal x) front
+      → Takes reading front i slice j → IsShort (spelled (literal x)) i.left.tokens → P
+  took_short i j front slice is takes (y, more, other) =
+      not_longer reading i.left.tokens front j.left.tokens more y takes.passed.tokens
+      (same_units front (i.left.tokens ++ y ∷ more) is other)
+
+  meet : (i : Input T) (a b : Answer O) (j k : Input T) → Ran i a j → Ran i b k
+      → AlikeAnswers alike a b × (j ≡ k)
+  meet i a b j k (inl (f, v, is, takes, e)) (inl (g, w, also, takes2, d)) =
+      let same = same_front reading g f k.left.tokens j.left.tokens
+      (sym takes2.passed.tokens ∙ takes.passed.tokens) (same_units g f also is) in
+      let P : List T → Type 0 = λ l. Takes reading l i w k in
+      let there = subst P same takes2 in (
+        both_ok alike e d (shown v w (f, takes.shown, there.shown)),
+        same_passed f takes.passed there.passed,
+      )
+  meet i a b j k (inl (f, v, is, takes, e)) (inr (inl (short, cut, d, same))) =
+      took_short i j f v is takes short
+  meet i a b j k (inl (f, v, is, takes, e)) (inr (inr (nothing, cuts, d, same))) =
+      absurd (nothing (f, j.left.tokens, is, takes.passed.tokens))
+  meet i a b j k (inr (inl (short, cut, e, same))) (inl (g, w, also, takes, d)) =
+      took_short i k g w also takes short
+  meet i a b j k (inr (inl (short, cut, e, same))) (inr (inl (short2, cut2, d, same2))) =
+      (both_err alike e d refl, same ∙ sym same2)
+  meet i a b j k (inr (inl (short, cut, e, same))) (inr (inr (nothing, cuts, d, same2))) =
+      true_is_false (sym cut ∙ cuts short)
+  meet i a b j k (inr (inr (nothing, cuts, e, same))) (inl (g, w, also, takes, d)) =
+      absurd (nothing (g, k.left.tokens, also, takes.passed.tokens))
+  meet i a b j k (inr (inr (nothing, cuts, e, same))) (inr (inl (short, cut, d, same2))) =
+      true_is_false (sym cut ∙ cuts short)
+  meet i a b j k (inr (inr (nothing, cuts, e, same))) (inr (inr (other, cuts2, d, same2))) =
+      (both_err alike e d refl, same ∙ sym same2)
+
+  pub literal_decided : IsDecided x
+      (Keeps (λ y. LiteralRuns reading form (spelled (literal y)) (output (literal y)))) alike
+  literal_decided = record {
+    kept = λ i answer t j other (r, same). (same, still i answer j r);
+    decided = λ i a b t u j k na nb (r, same) (q, also). meet i a b j k r q;
+  }
+
+-- ---- what it reads
+
+-- The literal of a state.
+module _ {X S T L O : Type 0} (reading : Reading T L) (form : ErrorForm)
+    (spelled : S → List T → Type 0) (output : S → L → O) (literal : X → S) (x : X) where
+  pub literal_exact : ((xs ys : List T) → spelled (literal x) xs → spelled (literal x) ys
+      → reading.units xs ≡ reading.units ys)
+      → IsExact x
+      (Keeps (λ y. LiteralRuns reading form (spelled (literal y)) (output (literal y))))
+      (Literally reading spelled output (literal x))
+  unfolding Literally
+  literal_exact same_units = record {
+    kept = λ i answer t j is (r, same). (same, still i answer j r ∙ is);
+    stands = λ i o t j is (r, kept). stands i o j is r;
+    none = λ i k t j is (r, kept). inr (none i k j is r);
+    unique = literally_unique reading spelled output (literal x) same_units;
+  }
+    where
+      still : (i : Input T) (answer : Answer O) (j : Input T)
+          → LiteralRuns reading form (spelled (literal x)) (output (literal x)) i answer j
+          → j.status.cut ≡ i.status.cut
+      still i answer j (inl (front, slice, is, takes, e)) = ap (λ z. z.cut) takes.passed.status
+      still i answer j (inr (inl (short, cut, e, same))) = ap (λ z. z.status.cut) same
+      still i answer j (inr (inr (nothing, cuts, e, same))) = ap (λ z. z.status.cut) same
+
+      stands : (i : Input T) (o : O) (j : Input T) → i.status.cut ≡ false
+          → LiteralRuns reading form (spelled (literal x)) (output (literal x)) i (Ok o) j
+          → Literally reading spelled output (literal x) i.left.tokens o j.left.tokens
+      stands i o j is (inl (front, slice, spells, takes, e)) =
+          (front, slice, spells, takes.shown, takes.passed.tokens, same_ok refl e)
+      stands i o j is (inr (inl (short, cut, e, same))) = ok_is_err refl e
+      stands i o j is (inr (inr (nothing, cuts, e, same))) = ok_is_err refl e
+
+      none : (i : Input T) (k : Kind) (j : Input T) → i.status.cut ≡ false
+          → LiteralRuns reading form (spelled (literal x)) (output (literal x)) i (Err k) j
+          → NoneStands (Literally reading spelled output (literal x)) i.left.tokens
+      none i k j is (inl (front, slice, spells, takes, e)) = ok_is_err e refl
+      none i k j is (inr (inl (short, cut, e, same))) = true_is_false (sym cut ∙ is)
+      none i k j is (inr (inr (nothing, cuts, e, same))) =
+          λ o rest (front, slice, spells, shown, f, g). nothing (front, rest, spells, f)
+
+  pub literal_soft : IsSoft x
+      (Keeps (λ y. LiteralRuns reading form (spelled (literal y)) (output (literal y))))
+  literal_soft = record { soft = λ i k t j is (r, kept). soft i k j is r }
+    where
+      soft : (i : Input T) (k : Kind) (j : Input T) → i.status.cut ≡ false
+          → LiteralRuns reading form (spelled (literal x)) (output (literal x)) i (Err k) j
+          → (k ≡ memory) ⊎ (k ≡ backtrack)
+      soft i k j is (inl (front, slice, spells, takes, e)) = ok_is_err e refl
+      soft i k j is (inr (inl (short, cut, e, same))) = true_is_false (sym cut ∙ is)
+      soft i k j is (inr (inr (nothing, cuts, e, same))) = inr (same_kind e)
+
+-- What two texts of the same bytes stand for is the same.
+abbrev pub SpellsByText : {T : Type 0} → (Bor (List ℕ) → List T → Type 0) → Type 0
+SpellsByText {T} spells = (s t : Bor (List ℕ)) (xs : List T) → s.now ≡ t.now → spells s xs
+    → spells t xs
+
+-- a text of these bytes, whichever it is
+abbrev pub TextRuns : {T L : Type 0} → Reading T L → (Bor (List ℕ) → List T → Type 0) → List ℕ
+    → ErrorForm → Input T → Answer L → Input T → Type 0
+TextRuns reading spells bytes form i answer j =
+    (text : Bor (List ℕ)) × (text.now ≡ bytes)
+    × LiteralRuns reading form (spells text) (λ slice. slice) i answer j
+
+module _ {T L : Type 0} (reading : Reading T L) (form : ErrorForm)
+    (spells : Bor (List ℕ) → List T → Type 0) (alike : SpellsByText spells)
+    (same_units : (t : Bor (List ℕ)) (xs ys : List T) → spells t xs → spells t ys
+    → reading.units xs ≡ reading.units ys) where
+  at_text : (text : Bor (List ℕ)) → IsExact text
+      (Keeps (λ y. LiteralRuns reading form (spells y) (λ slice. slice)))
+      (Literally reading spells (λ _ slice. slice) text)
+  at_text text = literal_exact reading form spells (λ _ slice. slice) (λ y. y) text
+      (same_units text)
+
+  pub text_exact : (bytes : List ℕ)
+      → IsExact tt (Keeps (λ (_ : ⊤). TextRuns reading spells bytes form))
+      (Text reading spells bytes)
+  unfolding Literally
+  text_exact bytes = record {
+    kept = λ i answer t j is ((text, here, r), same).
+        (same, ((at_text text).kept i answer text j is (r, refl)).1);
+    stands = λ i o t j is ((text, here, r), same).
+        let (front, slice, spelled, shown, e, a) = (at_text text).stands i o text j is (r, refl) in
+        (front, slice, (text, here, spelled), shown, e, a);
+    none = λ i k t j is ((text, here, r), same).
+        elim ((at_text text).none i k text j is (r, refl)) [
+          | inl m ↦ inl m
+          | inr nothing ↦ inr (λ o rest (front, slice, (other, was, spelled), shown, e, a).
+              nothing o rest (
+                front,
+                slice,
+                alike other text front (was ∙ sym here) spelled,
+                shown,
+                e,
+                a,
+              ))
+        ];
+    unique = record {
+      ends = λ tokens o rest (front, slice, spelled, shown, e, a). (front, e);
+      one = λ tokens o p rest other (f, v, (s, is, sf), shown, e, a)
+          (g, y, (t, was, sg), shown2, e2, b).
+          one_front reading f g rest other (sym e ∙ e2)
+          (same_units s f g sf (alike t s g (was ∙ sym is) sg));
+    };
+  }
+
+  pub text_soft : (bytes : List ℕ)
+      → IsSoft tt (Keeps (λ (_ : ⊤). TextRuns reading spells bytes form))
+  text_soft bytes = record {
+    soft = λ i k t j is ((text, here, r), same).
+        (literal_soft reading form spells (λ _ slice. slice) (λ y. y) text).soft i k text j is
+        (r, refl);
+  }

@@ -5,7 +5,6 @@ use Rattle.std.proofs.Common.{refl, inl, inr}
 use Rattle.streams.specs.Kind.{Kind}
 use Rattle.stream_errors.specs.Form.{Answer, answer_by}
 use Rattle.stream_errors.specs.Form.Known.{at_kind, at_output, ok_is_err}
-use Rattle.winnow_core.specs.MakesError.{MakesError}
 
 -- the runs of MakesError, by what the child's relate; Became is what a kind became
 abbrev pub MakesErrorCases : {O : Type 0} → (O → Type 0) → Type 0 → (Kind → Type 0)

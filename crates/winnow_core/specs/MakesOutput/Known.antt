@@ -5,7 +5,6 @@ use Rattle.std.proofs.Common.{refl, inl, inr}
 use Rattle.streams.specs.Kind.{Kind}
 use Rattle.stream_errors.specs.Form.{Answer, answer_by}
 use Rattle.stream_errors.specs.Form.Known.{at_kind, at_output, ok_is_err}
-use Rattle.winnow_core.specs.MakesOutput.{MakesOutput}
 
 -- the runs of MakesOutput, by what the child's relate; Made is what is made of an output
 abbrev pub MakesOutputCases : {O U : Type 0} → (O → Type 0) → (O → U → Type 0) → (Kind → Type 0)

@@ -4,7 +4,6 @@ use Rattle.std.proofs.Common.{refl, inl, inr}
 use Rattle.streams.specs.Kind.{Kind}
 use Rattle.stream_errors.specs.Form.{Answer, answer_by}
 use Rattle.stream_errors.specs.Form.Known.{at_kind, at_output, ok_is_err}
-use Rattle.winnow_core.specs.Map.{MapRuns}
 
 -- the runs of MapRuns, by what the child's and the closure's relate
 abbrev pub MapCases : {O U : Type 0} → (O → Type 0) → (O → U → Type 0) → (Kind → Type 0) → Type 0

@@ -6,7 +6,6 @@ use Rattle.streams.specs.Input.{Input}
 use Rattle.streams.specs.Kind.{Kind}
 use Rattle.stream_errors.specs.Form.{Answer, answer_by}
 use Rattle.stream_errors.specs.Form.Known.{at_kind, at_output, ok_is_err}
-use Rattle.winnow_core.specs.Settles.{Settles}
 
 -- the runs of Settles, by what the child's relate; Accepted and Refused are how an output was
 -- settled, and Back that the input is back at the start

@@ -1,5 +1,5 @@
 -- Parsers that are not stable: no implementation can say so.
-use Rattle.std.specs.Prelude.{◌≡◌, ⊤, true, [], ◌∷◌, Ok}
+use Rattle.std.specs.Prelude.{⊤, true, [], ◌∷◌, Ok}
 use Rattle.std.proofs.Common.{refl, sym, ap, inl, inr, ◌∙◌}
 use Rattle.streams.specs.Following.{Following, Follows}
 use Rattle.streams.specs.Input.{Input, Takes, at_start}

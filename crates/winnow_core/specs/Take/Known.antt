@@ -4,7 +4,6 @@ use Rattle.std.proofs.Common.{refl, inl, inr}
 use Rattle.streams.specs.Kind.{Kind}
 use Rattle.stream_errors.specs.Form.{Answer}
 use Rattle.stream_errors.specs.Form.Known.{at_kind, at_output, ok_is_err}
-use Rattle.winnow_core.specs.Take.{TakeRuns}
 
 -- the runs of TakeRuns, by what the child's relate; Read is that these tokens stand between its
 -- start and its end

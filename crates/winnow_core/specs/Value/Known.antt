@@ -4,7 +4,6 @@ use Rattle.std.proofs.Common.{refl, inl, inr}
 use Rattle.streams.specs.Kind.{Kind, memory}
 use Rattle.stream_errors.specs.Form.{Answer, answer_by}
 use Rattle.stream_errors.specs.Form.Known.{at_kind, at_output, ok_is_err, same_kind}
-use Rattle.winnow_core.specs.Value.{ValueRuns}
 
 -- the runs of ValueRuns, by what the child's relate; Cloned is that this is a clone of the value,
 -- and Refused that its clone may be refused memory

@@ -5,7 +5,6 @@ use Rattle.streams.specs.Input.{Input}
 use Rattle.streams.specs.Kind.{Kind, backtrack}
 use Rattle.stream_errors.specs.Form.{Answer, answer_by}
 use Rattle.stream_errors.specs.Form.Known.{at_kind, at_output, ok_is_err, same_kind}
-use Rattle.winnow_core.specs.VerifyMap.{VerifyMapRuns}
 
 -- the runs of VerifyMapRuns, by what the child's and the closure's relate; Back is that the input
 -- is back at the start

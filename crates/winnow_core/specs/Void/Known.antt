@@ -4,7 +4,6 @@ use Rattle.std.proofs.Common.{refl, inl, inr}
 use Rattle.streams.specs.Kind.{Kind}
 use Rattle.stream_errors.specs.Form.{Answer, answer_by}
 use Rattle.stream_errors.specs.Form.Known.{at_kind, ok_is_err}
-use Rattle.winnow_core.specs.Void.{VoidRuns}
 
 -- the runs of VoidRuns, by what the child's relate
 abbrev pub VoidCases : {O : Type 0} → (O → Type 0) → (Kind → Type 0) → Answer (Unit {0}) → Type 0

@@ -1,5 +1,5 @@
 -- What holds of the runs of an output with the slice that was read.
-use Rattle.std.specs.Prelude.{◌≡◌, List, ◌++◌, Ok, Err}
+use Rattle.std.specs.Prelude.{◌≡◌, List, ◌++◌}
 use Rattle.std.proofs.Common.{ap, sym, subst, ◌∙◌, inl, inr, append_assoc}
 use Rattle.streams.specs.Reading.{Reading}
 use Rattle.streams.specs.SameReading.{SameReading, reading_path}

@@ -6,6 +6,9 @@ ghost use Rattle.winnow_core.specs.Literal.Laws.{literal_alike, literal_ends, li
 ghost use Rattle.winnow_core.specs.Runs.{Keeps};
 ghost use Rattle.winnow_core.specs.Stable.Grows.{leaf_stays};
 
+mod decided;
+mod exact;
+
 use crate::agrees_with::AgreesWith;
 use crate::literal::take_literal;
 use crate::parser::Parser;

@@ -13,6 +13,9 @@ ghost use Rattle.winnow_core.specs.Sequence.{SequenceRuns6};
 ghost use Rattle.winnow_core.specs.Sequence.Laws.{sequence1_ends, sequence2_ends, sequence3_ends};
 ghost use Rattle.winnow_core.specs.Sequence.Laws.{sequence4_ends, sequence5_ends, sequence6_ends};
 
+mod decided;
+mod exact;
+mod small;
 mod stable;
 
 use crate::agrees_with::AgreesWith;

@@ -6,8 +6,8 @@ use Rattle.streams.specs.Following.{Following}
 use Rattle.streams.specs.Input.{Input, is_end_of_refl, is_end_of_trans}
 use Rattle.streams.specs.Kind.{Kind}
 use Rattle.streams.specs.Reading.{Reading}
-use Rattle.winnow_exact.specs.Grammar.{IsUnique}
-use Rattle.winnow_exact.specs.Texts.{Row, Text}
+use Rattle.grammars.specs.Grammar.{IsUnique}
+use Rattle.grammars.specs.Texts.{Row, Text}
 use Rattle.winnow_exact.specs.InTurn.{Failed, First, Stood, completes_end}
 
 -- So many texts, one behind the other.

@@ -11,7 +11,8 @@ use Rattle.streams.specs.Stream.{AnswersSeen}
 use Rattle.stream_sets.specs.Range.{Bounds, IsBelow, IsWithin}
 use Rattle.stream_errors.specs.Form.{Answer, ErrorForm}
 use Rattle.winnow_core.specs.Literal.{LiteralRuns}
-use Rattle.winnow_token.specs.TakeWhile.{IsEnded, IsLongest, IsOpen, TakeWhileRuns}
+use Rattle.winnow_token.specs.TakeWhile.{IsEnded, IsOpen, TakeWhileRuns}
+use Rattle.stream_sets.specs.Longest.{IsLongest}
 use Rattle.winnow_expression_trees.specs.Premises.{NotMemory, Same}
 use Rattle.winnow_expression_trees.specs.Premises.Laws.{IsPlain, both_err, both_ok}
 

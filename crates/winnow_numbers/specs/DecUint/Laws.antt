@@ -1,10 +1,10 @@
 -- What holds of the runs of decimal unsigned numbers.
-use Rattle.std.specs.Prelude.{◌≡◌, ℕ, false, ⊤, [], Err}
-use Rattle.std.proofs.Common.{inl, inr}
+use Rattle.std.specs.Prelude.{◌≡◌, ℕ, false, ⊤, [], Err, Bool, List, Ok}
+use Rattle.std.proofs.Common.{inl, inr, refl, ap, ◌∙◌}
 use Rattle.streams.specs.Input.{Input, IsEndOf, with_more}
 use Rattle.streams.specs.Reading.{Reading}
 use Rattle.streams.specs.SameReading.{SameReading, reading_path}
-use Rattle.stream_errors.specs.Form.{Answer, ErrorForm, modal}
+use Rattle.stream_errors.specs.Form.{Answer, ErrorForm, modal, plain}
 use Rattle.winnow_core.specs.Ends.{same_ends}
 use Rattle.winnow_core.specs.Runs.{Keeps}
 use Rattle.winnow_core.specs.SameMeaning.{SameMeaning, same_by, same_trans}
@@ -13,6 +13,13 @@ use Rattle.winnow_numbers.specs.Numeral.Laws.{no_numeral_ends, numeral_ends, num
 use Rattle.winnow_numbers.specs.Numeral.Laws.{no_numeral_more}
 use Rattle.winnow_core.specs.Stable.Longer.{same_more}
 use Rattle.winnow_core.specs.Stable.Grows.{Stays, final_by}
+use Rattle.streams.specs.Kind.{Kind}
+use Rattle.winnow_core.specs.Decided.{AlikeAnswers, IsDecided}
+use Rattle.winnow_numbers.specs.DecUint.Known.{dec_uint_once}
+use Rattle.winnow_numbers.specs.Digits.{SeenOnce}
+use Rattle.winnow_numbers.specs.NumberLaws.{AnswersSame}
+use Rattle.winnow_numbers.specs.Numeral.{DigitsRuns, LacksDigits, NoNumeral, NumeralRuns, left_by}
+use Rattle.winnow_numbers.specs.Numeral.Known.{sign_status}
 
 -- they leave an end
 pub dec_uint_ends : {N K T S : Type 0} (number : N → ℕ) (bound : ℕ) (seen : K → T)
@@ -64,3 +71,62 @@ module _ {K T L : Type 0} (seen : K → T) (code : K → ℕ) (reading : Reading
   dec_uint_stays number bound more flag i answer j is_cut final (inr (inr (k, none, e))) =
       let known = final_by (Err k) e final in
       inr (inr (k, no_numeral_more seen code reading false more flag i k j is_cut known none, e))
+
+-- ---- one state and one input decide it
+
+-- Values of one number.
+abbrev pub OneNumber : {N V : Type 0} → (N → V) → N → N → Type 0
+OneNumber number m n = number m ≡ number n
+
+same_alike : {N V : Type 0} (number : N → V) (a b : Answer N) → AnswersSame number a b
+    → AlikeAnswers (OneNumber number) a b
+same_alike number (Ok m) (Ok n) same = same
+same_alike number (Ok m) (Err l) same = same
+same_alike number (Err k) (Ok n) same = same
+same_alike number (Err k) (Err l) same = same
+
+module _ {N K T L : Type 0} (number : N → ℕ) (bound : ℕ) (seen : K → T) (code : K → ℕ)
+    (reading : Reading T L) (form : ErrorForm) where
+  digits_status : (zero : Bool) (i : Input T) (digits : List ℕ) (j : Input T)
+      → DigitsRuns seen code reading zero i digits j → j.status ≡ i.status
+  digits_status zero i digits j (inl (x, may, is, p, e)) = p.status
+  digits_status zero i digits j
+      (inr (front, first, others, e, leads, are, p, chars, stops, whole)) = p.status
+
+  numeral_status : (signed : Bool) (i : Input T) (sign digits : List ℕ) (j : Input T)
+      → NumeralRuns seen code reading signed i sign digits j → j.status ≡ i.status
+  numeral_status signed i sign digits j (a, first, r) =
+      digits_status _ a digits j r ∙ sign_status seen code reading signed i sign a first
+
+  left_status : (f : ErrorForm) (i b : Input T) → b.status ≡ i.status
+      → (left_by f i b).status ≡ i.status
+  left_status plain i b same = refl
+  left_status modal i b same = same
+
+  lacks_status : (i b : Input T) → LacksDigits seen code reading i b → b.status ≡ i.status
+  lacks_status i b (inl (none, same)) = ap (λ z. z.status) same
+  lacks_status i b (inr (x, leads, p, all)) = p.status
+
+  none_status : (signed : Bool) (i : Input T) (k : Kind) (j : Input T)
+      → NoNumeral seen code reading form signed i k j → j.status ≡ i.status
+  none_status signed i k j (sign, a, first, inl (b, lacks, cut, kind, at)) =
+      ap (λ z. z.status) at ∙ left_status form i b
+      (lacks_status a b lacks ∙ sign_status seen code reading signed i sign a first)
+  none_status signed i k j (sign, a, first, inr (none, kind, at)) = ap (λ z. z.status) at
+
+  still : (i : Input T) (answer : Answer N) (j : Input T)
+      → DecUintRuns number bound seen code reading form i answer j → j.status ≡ i.status
+  still i answer j (inl (digits, n, p, fits, is, e)) = numeral_status _ i _ digits j p
+  still i answer j (inr (inl (digits, a, p, large, e, same))) = ap (λ z. z.status) same
+  still i answer j (inr (inr (k, none, e))) = none_status _ i k j none
+
+  pub dec_uint_decided : SeenOnce seen code
+      → IsDecided tt (Keeps (λ (_ : ⊤). DecUintRuns number bound seen code reading form))
+      (OneNumber number)
+  dec_uint_decided once = record {
+    kept = λ i answer t j free (r, same). (same, still i answer j r);
+    decided = λ i a b t u j k na nb (r, same) (q, also).
+        let (like, place) =
+        dec_uint_once number bound seen code reading form once i a b j k r q in
+        (same_alike number a b like, place);
+  }

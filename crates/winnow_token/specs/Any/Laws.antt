@@ -1,7 +1,8 @@
 -- What holds of the runs of one token.
-use Rattle.std.specs.Prelude.{◌≡◌, ⊤, true, Err}
-use Rattle.std.proofs.Common.{inl, inr}
-use Rattle.streams.specs.Input.{Input, IsEndOf, passes_end}
+use Rattle.std.specs.Prelude.{◌≡◌, ⊤, true, Err, ℕ, List, [], ◌∷◌, Option, ◌⊎◌, false, length}
+use Rattle.std.specs.Prelude.{Some, Ok}
+use Rattle.std.proofs.Common.{inl, inr, sym, ap, subst, ◌∙◌, refl, arith}
+use Rattle.streams.specs.Input.{Input, IsEndOf, passes_end, Passes}
 use Rattle.streams.specs.Reading.{Reading}
 use Rattle.streams.specs.SameReading.{SameReading, reading_path}
 use Rattle.stream_errors.specs.Form.{Answer, ErrorForm, modal}
@@ -12,6 +13,16 @@ use Rattle.winnow_token.specs.Any.{AnyRuns, NoTokenRuns}
 use Rattle.winnow_core.specs.Stable.Longer.{short_final, passes_more}
 use Rattle.winnow_core.specs.Stable.{IsFinal}
 use Rattle.winnow_core.specs.Stable.Grows.{final_by, Stays}
+use Rattle.streams.specs.Equal.{same_first, true_is_false}
+use Rattle.streams.specs.Kind.{Kind, backtrack, memory}
+use Rattle.winnow_core.specs.Decided.{AlikeAnswers, IsDecided}
+use Rattle.winnow_core.specs.Decided.Inputs.{both_err, both_ok, same_passed}
+use Rattle.winnow_core.specs.Short.{ShortKind}
+use Rattle.grammars.specs.Grammar.{NoneStands, Takes, Token}
+use Rattle.grammars.specs.Grammar.Unique.{token_unique}
+use Rattle.stream_errors.specs.Form.Known.{ok_is_err, same_ok, same_kind}
+use Rattle.winnow_core.specs.Exact.{IsExact, IsSoft}
+use Rattle.winnow_core.specs.Exact.Failed.{short_backtracks}
 
 -- it leaves an end
 pub any_ends : {K T L : Type 0} (seen : K → T) (reading : Reading T L) (form : ErrorForm)
@@ -43,3 +54,98 @@ any_stays seen reading more flag i answer j is_cut final (inl (x, passes, e)) =
     inl (x, passes_more more flag passes, e)
 any_stays seen reading more flag i answer j is_cut final (inr none) =
     no_token_final i is_cut final none
+
+-- ---- what it reads
+
+-- no token is first in none
+pub first_of_none : {P T : Type 0} {x : T} {tokens rest : List T} → tokens ≡ []
+    → tokens ≡ x ∷ rest → P
+first_of_none e f = absurd (cc)
+
+module _ {K T L : Type 0} (seen : K → T) (reading : Reading T L) (form : ErrorForm) where
+  pub any_exact : IsExact tt (Keeps (λ (_ : ⊤). AnyRuns seen reading form)) (Token seen)
+  unfolding Token
+  any_exact = record {
+    kept = λ i answer t j is (r, same). (same, still i answer j r ∙ is);
+    stands = λ i k t j is (r, kept). stands i k j r;
+    none = λ i k t j is (r, kept). inr (none i k j r);
+    unique = token_unique seen;
+  }
+    where
+      still : (i : Input T) (answer : Answer K) (j : Input T) → AnyRuns seen reading form i answer j
+          → j.status.cut ≡ i.status.cut
+      still i answer j (inl (x, passes, e)) = ap (λ z. z.cut) passes.status
+      still i answer j (inr (k, nothing, short, e, same)) = ap (λ z. z.status.cut) same
+
+      stands : (i : Input T) (k : K) (j : Input T) → AnyRuns seen reading form i (Ok k) j
+          → Token seen i.left.tokens k j.left.tokens
+      stands i k j (inl (x, passes, e)) =
+          passes.tokens ∙ ap (λ y. seen y ∷ j.left.tokens) (sym (same_ok refl e))
+      stands i k j (inr (l, nothing, short, e, same)) = ok_is_err refl e
+
+      none : (i : Input T) (k : Kind) (j : Input T) → AnyRuns seen reading form i (Err k) j
+          → NoneStands (Token seen) i.left.tokens
+      none i k j (inl (x, passes, e)) = ok_is_err e refl
+      none i k j (inr (l, nothing, short, e, same)) = λ o rest f. first_of_none nothing f
+
+  pub any_soft : IsSoft tt (Keeps (λ (_ : ⊤). AnyRuns seen reading form))
+  any_soft = record { soft = λ i k t j is (r, kept). soft i k j is r }
+    where
+      soft : (i : Input T) (k : Kind) (j : Input T) → i.status.cut ≡ false
+          → AnyRuns seen reading form i (Err k) j → (k ≡ memory) ⊎ (k ≡ backtrack)
+      soft i k j is (inl (x, passes, e)) = ok_is_err e refl
+      soft i k j is (inr (l, nothing, short, e, same)) =
+          inr (same_kind e ∙ short_backtracks form (Some 1) i l is short)
+
+pub token_takes : {K T : Type 0} (seen : K → T) → Takes (Token seen)
+unfolding Token
+token_takes seen = record { fewer = λ tokens k rest e. omega (arith, ap (λ l. length l) e) }
+
+-- ---- one state and one input decide it
+
+-- Tokens that are seen as the same.
+abbrev pub SeenSame : {K T : Type 0} → (K → T) → K → K → Type 0
+SeenSame seen k l = seen k ≡ seen l
+
+-- the kind of an error for want of more input is one
+pub one_short : {T : Type 0} (form : ErrorForm) (need : Option ℕ) (i : Input T) (k l : Kind)
+    → ShortKind form need i k → ShortKind form need i l → k ≡ l
+one_short form need i k l (inl (cut, e)) (inl (cut2, f)) = e ∙ sym f
+one_short form need i k l (inl (cut, e)) (inr (whole, f)) = true_is_false (sym cut ∙ whole)
+one_short form need i k l (inr (whole, e)) (inl (cut, f)) = true_is_false (sym cut ∙ whole)
+one_short form need i k l (inr (whole, e)) (inr (whole2, f)) = e ∙ sym f
+
+module _ {K T L : Type 0} (seen : K → T) (reading : Reading T L) (form : ErrorForm) where
+  -- two first tokens that are taken
+  pub same_token : (i j k : Input T) (x y : K) → Passes reading (seen x ∷ []) i j
+      → Passes reading (seen y ∷ []) i k → SeenSame seen x y × (j ≡ k)
+  same_token i j k x y p q =
+      let same = same_first (sym p.tokens ∙ q.tokens) in
+      let P : T → Type 0 = λ t. Passes reading (t ∷ []) i k in
+      (same, same_passed (seen x ∷ []) p (subst P (sym same) q))
+
+  pub no_token : {O : Type 0} (alike : O → O → Type 0) (i : Input T) (a b : Answer O)
+      (j k : Input T)
+      → NoTokenRuns form i a j → NoTokenRuns form i b k → AlikeAnswers alike a b × (j ≡ k)
+  no_token alike i a b j k (l, none, short, e, at) (h, none2, short2, f, at2) =
+      (both_err alike e f (one_short form _ i l h short short2), at ∙ sym at2)
+
+  any_meet : (i : Input T) (a b : Answer K) (j k : Input T) → AnyRuns seen reading form i a j
+      → AnyRuns seen reading form i b k → AlikeAnswers (SeenSame seen) a b × (j ≡ k)
+  any_meet i a b j k (inl (x, p, e)) (inl (y, q, f)) =
+      let (same, place) = same_token i j k x y p q in
+      (both_ok (SeenSame seen) e f same, place)
+  any_meet i a b j k (inl (x, p, e)) (inr (l, none, short, f, at)) = first_of_none none p.tokens
+  any_meet i a b j k (inr (l, none, short, e, at)) (inl (y, q, f)) = first_of_none none q.tokens
+  any_meet i a b j k (inr r) (inr q) = no_token (SeenSame seen) i a b j k r q
+
+  pub any_decided : IsDecided tt (Keeps (λ (_ : ⊤). AnyRuns seen reading form)) (SeenSame seen)
+  any_decided = record {
+    kept = λ i answer t j free (r, same). (same, still i answer j r);
+    decided = λ i a b t u j k na nb (r, same) (q, also). any_meet i a b j k r q;
+  }
+    where
+      still : (i : Input T) (answer : Answer K) (j : Input T) → AnyRuns seen reading form i answer j
+          → j.status ≡ i.status
+      still i answer j (inl (x, passes, e)) = passes.status
+      still i answer j (inr (k, nothing, short, e, same)) = ap (λ z. z.status) same

@@ -1,6 +1,6 @@
 -- What holds of the runs of one token of a set.
-use Rattle.std.specs.Prelude.{◌≡◌, Bool, ◌++◌}
-use Rattle.std.proofs.Common.{inl, inr, ap}
+use Rattle.std.specs.Prelude.{◌≡◌, Bool, ◌++◌, ◌⊎◌, true, false, ◌∷◌, length, Some, Ok, Err}
+use Rattle.std.proofs.Common.{inl, inr, ap, refl, sym, ◌∙◌, subst, arith}
 use Rattle.streams.specs.Input.{Input, IsEndOf, passes_end}
 use Rattle.streams.specs.Reading.{Reading}
 use Rattle.streams.specs.SameReading.{SameReading, reading_path}
@@ -12,6 +12,19 @@ use Rattle.winnow_token.specs.OneOf.{OneOfRuns}
 use Rattle.winnow_core.specs.Stable.Longer.{same_more, passes_more}
 use Rattle.winnow_core.specs.Stable.Grows.{Stays}
 use Rattle.winnow_token.specs.Any.Laws.{no_token_final}
+use Rattle.streams.specs.Equal.{same_first}
+use Rattle.streams.specs.Stream.{AnswersSeen}
+use Rattle.stream_sets.specs.Once.{TellsOnce}
+use Rattle.winnow_core.specs.Decided.{AlikeAnswers, IsDecided}
+use Rattle.winnow_core.specs.Decided.Inputs.{both_err, both_ok}
+use Rattle.winnow_token.specs.Any.Laws.{SeenSame, no_token, same_token}
+use Rattle.winnow_token.specs.Any.Laws.{first_of_none}
+use Rattle.streams.specs.Kind.{Kind, backtrack, memory}
+use Rattle.grammars.specs.Grammar.{NoneStands, Takes, TokenOf}
+use Rattle.grammars.specs.Grammar.Unique.{token_of_unique}
+use Rattle.stream_errors.specs.Form.Known.{ok_is_err, same_ok, same_kind}
+use Rattle.winnow_core.specs.Exact.{IsExact, IsSoft}
+use Rattle.winnow_core.specs.Exact.Failed.{short_backtracks}
 
 -- it leaves an end
 pub one_of_ends : {K T L : Type 0} (seen : K → T) (reading : Reading T L) (form : ErrorForm)
@@ -43,3 +56,102 @@ one_of_stays seen reading member more flag i answer j is_cut final
     inr (inl (x, rest ++ more, ap (λ l. l ++ more) first, is, e, same_more more flag same))
 one_of_stays seen reading member more flag i answer j is_cut final (inr (inr none)) =
     no_token_final i is_cut final none
+
+-- ---- one state and one input decide it
+
+module _ {X K T L : Type 0} (seen : K → T) (reading : Reading T L) (form : ErrorForm)
+    (tells : X → K → Bool → Type 0) (set : X)
+    (once : TellsOnce (AnswersSeen seen (tells set))) where
+  one_of_meet : (i : Input T) (a b : Answer K) (j k : Input T)
+      → OneOfRuns seen reading form (tells set) i a j
+      → OneOfRuns seen reading form (tells set) i b k
+      → AlikeAnswers (SeenSame seen) a b × (j ≡ k)
+  one_of_meet i a b j k (inl (x, p, has, e)) (inl (y, q, too, f)) =
+      let (same, place) = same_token seen reading form i j k x y p q in
+      (both_ok (SeenSame seen) e f same, place)
+  one_of_meet i a b j k (inl (x, p, has, e)) (inr (inl (y, rest, is, lacks, f, at))) =
+      absurd (once (seen x) (x, refl, has) (y, same_first (sym is ∙ p.tokens), lacks))
+  one_of_meet i a b j k (inl (x, p, has, e)) (inr (inr (l, none, short, f, at))) =
+      first_of_none none p.tokens
+  one_of_meet i a b j k (inr (inl (x, rest, is, lacks, e, at))) (inl (y, q, has, f)) =
+      absurd (once (seen y) (y, refl, has) (x, same_first (sym is ∙ q.tokens), lacks))
+  one_of_meet i a b j k (inr (inl (x, rest, is, lacks, e, at)))
+      (inr (inl (y, more, is2, lacks2, f, at2))) =
+      (both_err (SeenSame seen) e f refl, at ∙ sym at2)
+  one_of_meet i a b j k (inr (inl (x, rest, is, lacks, e, at)))
+      (inr (inr (l, none, short, f, at2))) = first_of_none none is
+  one_of_meet i a b j k (inr (inr (l, none, short, e, at))) (inl (y, q, has, f)) =
+      first_of_none none q.tokens
+  one_of_meet i a b j k (inr (inr (l, none, short, e, at)))
+      (inr (inl (y, rest, is, lacks, f, at2))) = first_of_none none is
+  one_of_meet i a b j k (inr (inr r)) (inr (inr q)) =
+      no_token seen reading form (SeenSame seen) i a b j k r q
+
+  pub one_of_decided : IsDecided set (Keeps (λ x. OneOfRuns seen reading form (tells x)))
+      (SeenSame seen)
+  one_of_decided = record {
+    kept = λ i answer t j free (r, same). (same, still i answer j r);
+    decided = λ i a b t u j k na nb (r, same) (q, also). one_of_meet i a b j k r q;
+  }
+    where
+      still : (i : Input T) (answer : Answer K) (j : Input T)
+          → OneOfRuns seen reading form (tells set) i answer j → j.status ≡ i.status
+      still i answer j (inl (x, passes, has, e)) = passes.status
+      still i answer j (inr (inl (x, rest, is, lacks, e, same))) = ap (λ z. z.status) same
+      still i answer j (inr (inr (k, nothing, short, e, same))) = ap (λ z. z.status) same
+
+-- ---- what it reads
+
+module _ {X K T L : Type 0} (seen : K → T) (reading : Reading T L) (form : ErrorForm)
+    (tells : X → K → Bool → Type 0) (set : X) where
+  pub one_of_exact : TellsOnce (AnswersSeen seen (tells set))
+      → IsExact set (Keeps (λ x. OneOfRuns seen reading form (tells x))) (TokenOf seen tells set)
+  unfolding TokenOf
+  one_of_exact once = record {
+    kept = λ i answer t j is (r, same). (same, still i answer j r ∙ is);
+    stands = λ i k t j is (r, kept). stands i k j r;
+    none = λ i k t j is (r, kept). inr (none i k j r);
+    unique = token_of_unique seen tells set;
+  }
+    where
+      still : (i : Input T) (answer : Answer K) (j : Input T)
+          → OneOfRuns seen reading form (tells set) i answer j → j.status.cut ≡ i.status.cut
+      still i answer j (inl (x, passes, has, e)) = ap (λ z. z.cut) passes.status
+      still i answer j (inr (inl (x, rest, is, lacks, e, same))) = ap (λ z. z.status.cut) same
+      still i answer j (inr (inr (k, nothing, short, e, same))) = ap (λ z. z.status.cut) same
+
+      stands : (i : Input T) (k : K) (j : Input T)
+          → OneOfRuns seen reading form (tells set) i (Ok k) j
+          → TokenOf seen tells set i.left.tokens k j.left.tokens
+      stands i k j (inl (x, passes, has, e)) =
+          let same : x ≡ k = sym (same_ok refl e) in
+          let P : K → Type 0 = λ y. tells set y true × (i.left.tokens ≡ seen y ∷ j.left.tokens) in
+          subst P same (has, passes.tokens)
+      stands i k j (inr (inl (x, rest, is, lacks, e, same))) = ok_is_err refl e
+      stands i k j (inr (inr (l, nothing, short, e, same))) = ok_is_err refl e
+
+      none : (i : Input T) (k : Kind) (j : Input T)
+          → OneOfRuns seen reading form (tells set) i (Err k) j
+          → NoneStands (TokenOf seen tells set) i.left.tokens
+      none i k j (inl (x, passes, has, e)) = ok_is_err e refl
+      none i k j (inr (inl (x, rest, is, lacks, e, same))) =
+          λ y more (has, f). once (seen x) (y, same_first (sym f ∙ is), has) (x, refl, lacks)
+      none i k j (inr (inr (l, nothing, short, e, same))) =
+          λ y more (has, f). first_of_none nothing f
+
+  pub one_of_soft : IsSoft set (Keeps (λ x. OneOfRuns seen reading form (tells x)))
+  one_of_soft = record { soft = λ i k t j is (r, kept). soft i k j is r }
+    where
+      soft : (i : Input T) (k : Kind) (j : Input T) → i.status.cut ≡ false
+          → OneOfRuns seen reading form (tells set) i (Err k) j → (k ≡ memory) ⊎ (k ≡ backtrack)
+      soft i k j is (inl (x, passes, has, e)) = ok_is_err e refl
+      soft i k j is (inr (inl (x, rest, was, lacks, e, same))) = inr (same_kind e)
+      soft i k j is (inr (inr (l, nothing, short, e, same))) =
+          inr (same_kind e ∙ short_backtracks form (Some 1) i l is short)
+
+pub token_of_takes : {X K T : Type 0} (seen : K → T) (tells : X → K → Bool → Type 0) (set : X)
+    → Takes (TokenOf seen tells set)
+unfolding TokenOf
+token_of_takes seen tells set = record {
+  fewer = λ tokens k rest (has, e). omega (arith, ap (λ l. length l) e);
+}

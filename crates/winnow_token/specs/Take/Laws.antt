@@ -1,7 +1,7 @@
 -- What holds of the runs of takes by count.
-use Rattle.std.specs.Prelude.{◌≡◌, ℕ, Bool, Err}
-use Rattle.std.proofs.Common.{inl, inr}
-use Rattle.streams.specs.Input.{Input, IsEndOf, takes_end}
+use Rattle.std.specs.Prelude.{◌≡◌, ℕ, Bool, Err, ◌<◌, List, length, ◌⊎◌, false, [], ◌∷◌, ◌++◌, Ok}
+use Rattle.std.proofs.Common.{inl, inr, sym, ap, subst, ◌∙◌, arith, length-append, refl}
+use Rattle.streams.specs.Input.{Input, IsEndOf, takes_end, Takes}
 use Rattle.streams.specs.Reading.{Reading}
 use Rattle.streams.specs.SameReading.{SameReading, reading_path}
 use Rattle.stream_errors.specs.Form.{Answer, ErrorForm, modal}
@@ -11,6 +11,17 @@ use Rattle.winnow_core.specs.SameMeaning.{SameMeaning, same_by, same_trans}
 use Rattle.winnow_token.specs.Take.{TakeRuns}
 use Rattle.winnow_core.specs.Stable.Longer.{takes_more, short_final}
 use Rattle.winnow_core.specs.Stable.Grows.{Stays, final_by}
+use Rattle.winnow_core.specs.Decided.{AlikeAnswers, IsDecided}
+use Rattle.winnow_core.specs.Decided.Adapters.{as_long_front}
+use Rattle.winnow_core.specs.Decided.Inputs.{both_err, both_ok, same_passed}
+use Rattle.winnow_core.specs.Literal.Laws.{ShowSame}
+use Rattle.winnow_token.specs.Any.Laws.{one_short}
+use Rattle.streams.specs.Equal.{same_others}
+use Rattle.streams.specs.Kind.{Kind, backtrack, memory}
+use Rattle.grammars.specs.Grammar.{Counted, NoneStands, Takes as TakesSome}
+use Rattle.stream_errors.specs.Form.Known.{ok_is_err, same_ok, same_kind}
+use Rattle.winnow_core.specs.Exact.{IsExact, IsSoft}
+use Rattle.winnow_core.specs.Exact.Failed.{short_backtracks}
 
 -- they leave an end
 pub take_ends : {T L : Type 0} (reading : Reading T L) (form : ErrorForm) (counts : Bool)
@@ -37,3 +48,103 @@ take_stays reading counts n more flag i answer j is_cut final (inl (front, slice
     inl (front, slice, is, takes_more more flag takes, e)
 take_stays reading counts n more flag i answer j is_cut final (inr (k, few, short, e, same)) =
     short_final i is_cut short (final_by (Err k) e final)
+
+-- ---- one state and one input decide it
+
+-- ---- takes by count
+
+module _ {T L : Type 0} (reading : Reading T L) (form : ErrorForm) (counts : Bool) (n : ℕ) where
+  too_few : {P : Type 0} (i j : Input T) (front : List T) (slice : L) → length front ≡ n
+      → Takes reading front i slice j → length i.left.tokens < n → P
+  too_few i j front slice many takes few =
+      let whole = ap length takes.passed.tokens in
+      absurd (omega (arith, many, whole, few, length-append front j.left.tokens))
+
+  take_meet : (i : Input T) (a b : Answer L) (j k : Input T) → TakeRuns reading form counts n i a j
+      → TakeRuns reading form counts n i b k → AlikeAnswers (ShowSame reading) a b × (j ≡ k)
+  take_meet i a b j k (inl (f, v, many, takes, e)) (inl (g, w, too, takes2, d)) =
+      let same = as_long_front g f k.left.tokens j.left.tokens (too ∙ sym many)
+      (sym takes2.passed.tokens ∙ takes.passed.tokens) in
+      let P : List T → Type 0 = λ l. Takes reading l i w k in
+      let there = subst P same takes2 in (
+        both_ok (ShowSame reading) e d (f, takes.shown, there.shown),
+        same_passed f takes.passed there.passed,
+      )
+  take_meet i a b j k (inl (f, v, many, takes, e)) (inr (l, few, short, d, at)) =
+      too_few i j f v many takes few
+  take_meet i a b j k (inr (l, few, short, e, at)) (inl (g, w, many, takes, d)) =
+      too_few i k g w many takes few
+  take_meet i a b j k (inr (l, few, short, e, at)) (inr (h, few2, short2, d, at2)) =
+      (both_err (ShowSame reading) e d (one_short form _ i l h short short2), at ∙ sym at2)
+
+  pub take_count_decided : IsDecided n (Keeps (λ x. TakeRuns reading form counts x))
+      (ShowSame reading)
+  take_count_decided = record {
+    kept = λ i answer t j free (r, same). (same, still i answer j r);
+    decided = λ i a b t u j k na nb (r, same) (q, also). take_meet i a b j k r q;
+  }
+    where
+      still : (i : Input T) (answer : Answer L) (j : Input T)
+          → TakeRuns reading form counts n i answer j → j.status ≡ i.status
+      still i answer j (inl (front, slice, many, takes, e)) = takes.passed.status
+      still i answer j (inr (k, few, short, e, same)) = ap (λ z. z.status) same
+
+-- ---- what it reads
+
+-- behind beginnings of as many tokens the same is left
+same_behind : {T : Type 0} (f g rest more : List T) → length f ≡ length g → f ++ rest ≡ g ++ more
+    → rest ≡ more
+same_behind [] [] rest more n e = e
+same_behind [] (y ∷ g) rest more n e = absurd (omega (arith, n))
+same_behind (x ∷ f) [] rest more n e = absurd (omega (arith, n))
+same_behind (x ∷ f) (y ∷ g) rest more n e =
+    same_behind f g rest more (omega (arith, n)) (same_others e)
+
+module _ {T L : Type 0} (reading : Reading T L) (form : ErrorForm) (counts : Bool) (n : ℕ) where
+  pub take_exact : IsExact n (Keeps (λ x. TakeRuns reading form counts x)) (Counted reading n)
+  unfolding Counted
+  take_exact = record {
+    kept = λ i answer t j is (r, same). (same, still i answer j r ∙ is);
+    stands = λ i o t j is (r, kept). stands i o j r;
+    none = λ i k t j is (r, kept). inr (none i k j r);
+    unique = record {
+      ends = λ tokens o rest (front, many, shown, e). (front, e);
+      one = λ tokens o p rest other (front, many, shown, e) (g, too, shown2, f).
+          same_behind front g rest other (many ∙ sym too) (sym e ∙ f);
+    };
+  }
+    where
+      still : (i : Input T) (answer : Answer L) (j : Input T)
+          → TakeRuns reading form counts n i answer j → j.status.cut ≡ i.status.cut
+      still i answer j (inl (front, slice, many, takes, e)) = ap (λ z. z.cut) takes.passed.status
+      still i answer j (inr (k, few, short, e, same)) = ap (λ z. z.status.cut) same
+
+      stands : (i : Input T) (o : L) (j : Input T) → TakeRuns reading form counts n i (Ok o) j
+          → Counted reading n i.left.tokens o j.left.tokens
+      stands i o j (inl (front, slice, many, takes, e)) =
+          let Q : L → Type 0 = λ s. reading.shows s front in
+          (front, many, subst Q (sym (same_ok refl e)) takes.shown, takes.passed.tokens)
+      stands i o j (inr (k, few, short, e, same)) = ok_is_err refl e
+
+      none : (i : Input T) (k : Kind) (j : Input T) → TakeRuns reading form counts n i (Err k) j
+          → NoneStands (Counted reading n) i.left.tokens
+      none i k j (inl (front, slice, many, takes, e)) = ok_is_err e refl
+      none i k j (inr (l, few, short, e, same)) = λ o rest (front, many, shown, f). absurd
+          (omega (arith, ap (λ l. length l) f, length-append front rest, many, few))
+
+  pub take_soft : IsSoft n (Keeps (λ x. TakeRuns reading form counts x))
+  take_soft = record { soft = λ i k t j is (r, kept). soft i k j is r }
+    where
+      soft : (i : Input T) (k : Kind) (j : Input T) → i.status.cut ≡ false
+          → TakeRuns reading form counts n i (Err k) j → (k ≡ memory) ⊎ (k ≡ backtrack)
+      soft i k j is (inl (front, slice, many, takes, e)) = ok_is_err e refl
+      soft i k j is (inr (l, few, short, e, same)) =
+          inr (same_kind e ∙ short_backtracks form _ i l is short)
+
+pub counted_takes : {T L : Type 0} (reading : Reading T L) (n : ℕ) → 0 < n
+    → TakesSome (Counted reading n)
+unfolding Counted
+counted_takes reading n some = record {
+  fewer = λ tokens o rest (front, many, shown, e). omega
+      (arith, ap (λ l. length l) e, length-append front rest, many, some);
+}

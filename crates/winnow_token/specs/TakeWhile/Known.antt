@@ -18,7 +18,8 @@ use Rattle.stream_errors.specs.Form.{Answer, ErrorForm, answer_by}
 use Rattle.stream_errors.specs.Form.Known.{ok_is_err, same_err, same_ok}
 use Rattle.winnow_core.specs.Reads.{MustLeave, Reads}
 use Rattle.winnow_core.specs.Runs.{Keeps, Runs}
-use Rattle.winnow_token.specs.TakeWhile.{IsEnded, IsLongest, TakeWhileRuns}
+use Rattle.winnow_token.specs.TakeWhile.{IsEnded, TakeWhileRuns}
+use Rattle.stream_sets.specs.Longest.{IsLongest}
 
 -- Tokens that were taken: the longest beginning of members, enough of them, and what is left.
 pub record Took {T : Type 0} (member : T → Bool → Type 0) (least : ℕ) (greatest : Option ℕ)

@@ -13,7 +13,8 @@ use Rattle.streams.specs.Kind.{incomplete}
 use Rattle.winnow_core.specs.Ends.{same_ends}
 use Rattle.winnow_core.specs.Runs.{Keeps}
 use Rattle.winnow_core.specs.SameMeaning.{SameMeaning, same_by, same_trans}
-use Rattle.winnow_token.specs.TakeWhile.{TakeWhileRuns, IsEnded, IsLongest}
+use Rattle.winnow_token.specs.TakeWhile.{TakeWhileRuns, IsEnded}
+use Rattle.stream_sets.specs.Longest.{IsLongest}
 use Rattle.winnow_core.specs.Stable.Grows.{not_whole, Stays, final_by}
 use Rattle.winnow_core.specs.Stable.Longer.{same_more, takes_more}
 

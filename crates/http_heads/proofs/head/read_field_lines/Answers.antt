@@ -3,7 +3,7 @@ use Rattle.streams.specs.Bytes.{bytes_reading}
 use Rattle.streams.specs.Equal.{true_is_false}
 use Rattle.streams.specs.Input.{is_end_of_refl, is_end_of_trans}
 use Rattle.http_heads.specs.HeadRead.{lines_more, lines_stop}
-use Rattle.winnow_exact.specs.Exact.Read.{reads_wanting}
+use Rattle.winnow_exact.specs.Read.{reads_wanting}
 use Rattle.http_heads.proofs.head.read_field_lines.Goals as goal
 
 pub lines-init : goal.lines-init

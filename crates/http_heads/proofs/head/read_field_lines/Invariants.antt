@@ -3,7 +3,7 @@ use Rattle.std.proofs.Common.{length}
 use Rattle.streams.specs.Bytes.{bytes_input, bytes_reading}
 use Rattle.streams.specs.Input.{IsEndOf}
 use Rattle.http_heads.specs.FieldLine.{FieldLineStands}
-use Rattle.winnow_exact.specs.Grammar.{Each}
+use Rattle.grammars.specs.Grammar.{Each}
 use Rattle.http_heads.proofs.head.read_field_lines.Given as goal
 
 abbrev pub invariant-lines : goal.invariant-lines

@@ -5,9 +5,9 @@ use Rattle.streams.specs.Text.{text_reading}
 use Rattle.stream_sets.specs.Range.{from_to}
 use Rattle.json_reader.specs.Alike.{RangesTell}
 use Rattle.json_reader.specs.Runs.{run_same}
-use Rattle.winnow_exact.specs.Grammar.{Longest}
-use Rattle.winnow_exact.specs.Exact.Read.{reads_by}
-use Rattle.winnow_exact.specs.Exact.Same.{reads_as}
+use Rattle.grammars.specs.Grammar.{Longest}
+use Rattle.winnow_exact.specs.Read.{reads_by}
+use Rattle.winnow_core.specs.Exact.Same.{reads_as}
 use Rattle.json_reader.proofs.string.read_plain.Goals as goal
 
 pub returns : goal.returns

@@ -1,6 +1,6 @@
 use Rattle.json_texts.specs.Values.Texts.{json_of}
-use Rattle.winnow_exact.specs.Held.{HasCharacters}
-use Rattle.winnow_exact.specs.Texts.Told.{texts_told}
+use Rattle.stream_sets.specs.Accumulator.Holds.{HasCharacters}
+use Rattle.winnow_exact.specs.Told.{texts_told}
 use Rattle.json_values.proofs.value.parse_value.Goals as goal
 
 pub returns-clause-grammar : goal.returns-clause-grammar

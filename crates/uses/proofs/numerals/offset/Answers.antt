@@ -2,8 +2,8 @@ use Rattle.std.specs.Int.{w16}
 use Rattle.std.specs.Prelude.{FitsSigned}
 use Rattle.std.proofs.Common.{arith, refl}
 use Rattle.winnow.specs.Counted.{counted_reading}
-use Rattle.winnow_exact.specs.Exact.{exact_told}
-use Rattle.winnow_exact.specs.Exact.Numbers.{dec_int_exact, dec_int_soft}
+use Rattle.winnow.specs.Exact.{exact_told}
+use Rattle.winnow.specs.Numeral.Exact.{dec_int_exact, dec_int_soft}
 use Rattle.winnow.specs.DecInt.Known.{int_written_told}
 use Rattle.winnow.specs.Decimal.Known.{fits_short}
 use Rattle.winnow.specs.Form.{plain}

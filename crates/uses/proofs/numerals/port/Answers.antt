@@ -1,8 +1,8 @@
 use Rattle.std.specs.Prelude.{◌^◌}
 use Rattle.std.proofs.Common.{arith, refl}
 use Rattle.winnow.specs.Counted.{counted_reading}
-use Rattle.winnow_exact.specs.Exact.{exact_told}
-use Rattle.winnow_exact.specs.Exact.Numbers.{dec_uint_exact, dec_uint_soft}
+use Rattle.winnow.specs.Exact.{exact_told}
+use Rattle.winnow.specs.Numeral.Exact.{dec_uint_exact, dec_uint_soft}
 use Rattle.winnow.specs.DecUint.Known.{uint_written_told}
 use Rattle.winnow.specs.Form.{plain}
 use Rattle.uses.proofs.numerals.port.Goals as goal

@@ -3,10 +3,15 @@
 //! Written by scripts/families.py: do not edit.
 ghost use Rattle.std.specs.Prelude.{None, ⊤};
 ghost use Rattle.stream_sets.specs.AsChar.{IsAlphanum};
+ghost use Rattle.stream_sets.specs.Once.{SeesApart};
 ghost use Rattle.stream_sets.specs.Range.{from_to};
+ghost use Rattle.grammars.specs.Grammar.{Class};
 ghost use Rattle.winnow_ascii.specs.Class.{ClassRuns};
+ghost use Rattle.winnow_ascii.specs.Class.Laws.{SeenOnce, class_decided};
+ghost use Rattle.winnow_ascii.specs.Class.Laws.{class_exact, class_soft, class_takes, one_is_some};
 ghost use Rattle.winnow_ascii.specs.Class.Laws.{class_alike, class_ends};
 ghost use Rattle.winnow_core.specs.Agrees.{agrees_plain};
+ghost use Rattle.winnow_core.specs.Literal.Laws.{ShowSame};
 ghost use Rattle.winnow_core.specs.Runs.{Keeps};
 ghost use Rattle.winnow_core.specs.Stable.Grows.{leaf_stays};
 ghost use Rattle.winnow_token.specs.TakeWhile.Laws.{take_while_stays};
@@ -17,6 +22,8 @@ use stream_sets::as_char::AsChar;
 use streams::reads_like::ReadsLike;
 use streams::stream::{Stream, StreamIsPartial};
 use winnow_core::agrees_with::AgreesWith;
+use winnow_core::decided::Decided;
+use winnow_core::exact::Exact;
 use winnow_core::parser::Parser;
 use winnow_core::stable::Stable;
 
@@ -54,6 +61,36 @@ where
 {
     ghost stable = { leaf_stays I.following _
         (λ _. take_while_stays I.reading _ (from_to 1 None)) };
+}
+
+impl<I: StreamIsPartial, E: ParserError<I>> Decided<I, I::Slice, E> for Alphanumeric1
+where
+    I::Token: AsChar,
+{
+    ghost premise = { λ p. SeenOnce I.seen_as I.Token.code };
+
+    ghost alike = { λ p. ShowSame I.reading };
+
+    ghost decided = { λ p form is. class_decided IsAlphanum 1 I.Token.code I.seen_as I.reading
+        form is };
+}
+
+impl<I: StreamIsPartial, E: ParserError<I>> Exact<I, I::Slice, E> for Alphanumeric1
+where
+    I::Token: AsChar,
+{
+    ghost premise = { λ p. SeesApart I.seen_as };
+
+    ghost grammar = { λ p. Class IsAlphanum 1 I.Token.code I.seen_as I.reading };
+
+    ghost exact = { λ p form is. class_exact IsAlphanum 1 I.Token.code I.seen_as I.reading form
+        is };
+
+    ghost soft = { λ p form is soft. class_soft IsAlphanum 1 I.Token.code I.seen_as I.reading
+        form };
+
+    ghost takes = { λ p is some. class_takes IsAlphanum 1 I.Token.code I.seen_as I.reading
+        one_is_some };
 }
 
 impl<

@@ -1,10 +1,14 @@
 //! A carriage return and a line feed.
-ghost use Rattle.std.specs.Prelude.{⊤};
-ghost use Rattle.winnow_ascii.specs.Crlf.{CrlfRuns};
-ghost use Rattle.winnow_ascii.specs.Crlf.Laws.{crlf_alike, crlf_ends, crlf_stays};
+ghost use Rattle.std.specs.Prelude.{⊤, [], ◌∷◌};
+ghost use Rattle.grammars.specs.Grammar.{SpelledBy};
+ghost use Rattle.grammars.specs.Grammar.Searches.{Text};
+ghost use Rattle.grammars.specs.Grammar.Unique.{literally_takes};
 ghost use Rattle.winnow_core.specs.Agrees.{agrees_plain};
+ghost use Rattle.winnow_core.specs.Literal.Laws.{SpellsByText, text_exact, text_soft};
 ghost use Rattle.winnow_core.specs.Runs.{Keeps};
 ghost use Rattle.winnow_core.specs.Stable.Grows.{leaf_stays};
+ghost use Rattle.winnow_ascii.specs.Crlf.{CrlfRuns};
+ghost use Rattle.winnow_ascii.specs.Crlf.Laws.{crlf_alike, crlf_ends, crlf_stays};
 
 use crate::ascii::crlf;
 use stream_errors::parser_error::ParserError;
@@ -12,6 +16,7 @@ use stream_searches::compare::Compare;
 use stream_searches::compare::like::ComparesLike;
 use streams::stream::{Stream, StreamIsPartial};
 use winnow_core::agrees_with::AgreesWith;
+use winnow_core::exact::Exact;
 use winnow_core::parser::Parser;
 use winnow_core::stable::Stable;
 
@@ -43,6 +48,23 @@ impl<I: StreamIsPartial + Compare<&'static str>, E: ParserError<I>> Parser<I, I:
 impl<I: StreamIsPartial + Compare<&'static str>, E: ParserError<I>> Stable<I, I::Slice, E>
     for Crlf {
     ghost stable = { leaf_stays I.following _ (λ _. crlf_stays I.spells I.reading) };
+}
+
+impl<I: StreamIsPartial + Compare<&'static str>, E: ParserError<I>> Exact<I, I::Slice, E> for Crlf {
+    ghost premise = { λ p. SpellsByText I.spells };
+
+    ghost consumes = { λ p. SpelledBy I.spells (13 ∷ 10 ∷ []) [] → ⊥ };
+
+    ghost grammar = { λ p. Text I.reading I.spells (13 ∷ 10 ∷ []) };
+
+    ghost exact = { λ p form is. text_exact I.reading form I.spells is I.same_units
+        (13 ∷ 10 ∷ []) };
+
+    ghost soft = { λ p form is soft. text_soft I.reading form I.spells is I.same_units
+        (13 ∷ 10 ∷ []) };
+
+    ghost takes = { λ p is some. literally_takes I.reading (SpelledBy I.spells)
+        (λ _ slice. slice) (13 ∷ 10 ∷ []) some };
 }
 
 impl<

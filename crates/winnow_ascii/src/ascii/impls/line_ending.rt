@@ -1,11 +1,16 @@
 //! A line end, with or without a carriage return.
-ghost use Rattle.std.specs.Prelude.{⊤};
-ghost use Rattle.winnow_ascii.specs.LineEnding.{LineEndingRuns};
-ghost use Rattle.winnow_ascii.specs.LineEnding.Laws.{line_ending_alike, line_ending_ends};
-ghost use Rattle.winnow_ascii.specs.LineEnding.Laws.{line_ending_stays};
+ghost use Rattle.std.specs.Prelude.{⊤, ◌<◌, ◌∷◌, []};
+ghost use Rattle.grammars.specs.Grammar.{SpelledBy};
+ghost use Rattle.grammars.specs.Grammar.Searches.{LineEnd};
+ghost use Rattle.grammars.specs.Grammar.Unique.{either_takes, literally_takes};
 ghost use Rattle.winnow_core.specs.Agrees.{agrees_plain};
+ghost use Rattle.winnow_core.specs.Literal.Laws.{SpellsByText};
 ghost use Rattle.winnow_core.specs.Runs.{Keeps};
 ghost use Rattle.winnow_core.specs.Stable.Grows.{leaf_stays};
+ghost use Rattle.winnow_ascii.specs.LineEnding.{LineEndingRuns};
+ghost use Rattle.winnow_ascii.specs.LineEnding.Laws.{line_ending_exact, line_ending_soft};
+ghost use Rattle.winnow_ascii.specs.LineEnding.Laws.{line_ending_alike, line_ending_ends};
+ghost use Rattle.winnow_ascii.specs.LineEnding.Laws.{line_ending_stays};
 
 use crate::ascii::line_ending;
 use stream_errors::parser_error::ParserError;
@@ -13,6 +18,7 @@ use stream_searches::compare::Compare;
 use stream_searches::compare::like::ComparesLike;
 use streams::stream::{Stream, StreamIsPartial};
 use winnow_core::agrees_with::AgreesWith;
+use winnow_core::exact::Exact;
 use winnow_core::parser::Parser;
 use winnow_core::stable::Stable;
 
@@ -44,6 +50,24 @@ impl<I: StreamIsPartial + Compare<&'static str>, E: ParserError<I>> Parser<I, I:
 impl<I: StreamIsPartial + Compare<&'static str>, E: ParserError<I>> Stable<I, I::Slice, E>
     for LineEnding {
     ghost stable = { leaf_stays I.following _ (λ _. line_ending_stays I.spells I.reading) };
+}
+
+impl<I: StreamIsPartial + Compare<&'static str>, E: ParserError<I>> Exact<I, I::Slice, E>
+    for LineEnding {
+    ghost premise = { λ p. SpellsByText I.spells };
+
+    ghost consumes = { λ p. (SpelledBy I.spells (10 ∷ []) [] → ⊥)
+        × (SpelledBy I.spells (13 ∷ 10 ∷ []) [] → ⊥) };
+
+    ghost grammar = { λ p. LineEnd I.reading I.spells };
+
+    ghost exact = { λ p form is. line_ending_exact I.reading form I.spells is I.same_units };
+
+    ghost soft = { λ p form is soft. line_ending_soft I.reading form I.spells is I.same_units };
+
+    ghost takes = { λ p is some. either_takes (literally_takes I.reading (SpelledBy I.spells)
+        (λ _ slice. slice) (10 ∷ []) some.0) (literally_takes I.reading (SpelledBy I.spells)
+        (λ _ slice. slice) (13 ∷ 10 ∷ []) some.1) };
 }
 
 impl<

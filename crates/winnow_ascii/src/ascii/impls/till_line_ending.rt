@@ -1,12 +1,16 @@
 //! What stands before a line end.
-ghost use Rattle.std.specs.Prelude.{⊤};
+ghost use Rattle.std.specs.Prelude.{⊤, ◌<◌};
+ghost use Rattle.grammars.specs.Grammar.Searches.{Line};
+ghost use Rattle.winnow_core.specs.Agrees.{agrees_plain};
+ghost use Rattle.winnow_core.specs.Literal.Laws.{SpellsByText};
+ghost use Rattle.winnow_core.specs.Runs.{Keeps};
+ghost use Rattle.winnow_core.specs.Stable.Grows.{leaf_stays};
 ghost use Rattle.winnow_ascii.specs.TillLineEnding.{TillLineEndingRuns};
+ghost use Rattle.winnow_ascii.specs.TillLineEnding.Exact.{till_line_ending_exact};
+ghost use Rattle.winnow_ascii.specs.TillLineEnding.Exact.{till_line_ending_soft};
 ghost use Rattle.winnow_ascii.specs.TillLineEnding.Laws.{till_line_ending_alike};
 ghost use Rattle.winnow_ascii.specs.TillLineEnding.Laws.{till_line_ending_ends};
 ghost use Rattle.winnow_ascii.specs.TillLineEnding.Laws.{till_line_ending_stays};
-ghost use Rattle.winnow_core.specs.Agrees.{agrees_plain};
-ghost use Rattle.winnow_core.specs.Runs.{Keeps};
-ghost use Rattle.winnow_core.specs.Stable.Grows.{leaf_stays};
 
 use crate::ascii::till_line_ending;
 use crate::stable::LineEnds;
@@ -17,6 +21,7 @@ use stream_searches::find::FindSlice;
 use stream_searches::find::like::FindsLike;
 use streams::stream::{Stream, StreamIsPartial};
 use winnow_core::agrees_with::AgreesWith;
+use winnow_core::exact::Exact;
 use winnow_core::parser::Parser;
 use winnow_core::stable::Stable;
 
@@ -51,6 +56,24 @@ impl<I: LineEnds, E: ParserError<I>> Stable<I, I::Slice, E> for TillLineEnding {
     ghost stable = { leaf_stays I.following _
         (λ _. till_line_ending_stays I.spells I.sought I.reading (I.stays_first (13, 10))
         I.seeks_some I.spells_one) };
+}
+
+impl<I: StreamIsPartial + Compare<&'static str> + FindSlice<(char, char)>, E: ParserError<I>> Exact<
+    I,
+    I::Slice,
+    E,
+> for TillLineEnding {
+    ghost premise = { λ p. SpellsByText I.spells };
+
+    ghost consumes = { λ p. ⊥ };
+
+    ghost grammar = { λ p. Line I.reading I.spells I.sought };
+
+    ghost exact = { λ p form is. till_line_ending_exact I.reading form I.spells is I.sought };
+
+    ghost soft = { λ p form is soft. till_line_ending_soft I.reading form I.spells is I.sought };
+
+    ghost takes = { λ p is never. absurd never };
 }
 
 impl<

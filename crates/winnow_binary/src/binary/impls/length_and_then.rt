@@ -1,13 +1,16 @@
 //! A length, and a parser of so many tokens.
-
-ghost use Rattle.stream_errors.specs.Form.{answer_by, modal};
 ghost use Rattle.streams.specs.Input.{IsEndOf};
+ghost use Rattle.grammars.specs.Grammar.Lengths.{Inside, SaysOne, Sized, sized_inside_takes};
+ghost use Rattle.stream_errors.specs.Form.{answer_by, modal};
+ghost use Rattle.winnow_core.specs.CompleteErr.{CompleteErrRuns};
+ghost use Rattle.winnow_core.specs.Stable.Grows.{grows, stays};
 ghost use Rattle.winnow_binary.specs.LengthAndThen.{LengthAndThenRuns, TakenRuns};
+ghost use Rattle.winnow_binary.specs.LengthAndThen.{length_and_then_count, length_and_then_parser};
+ghost use Rattle.winnow_binary.specs.LengthAndThen.Laws.{length_and_then_exact};
+ghost use Rattle.winnow_binary.specs.LengthAndThen.Laws.{length_and_then_soft};
 ghost use Rattle.winnow_binary.specs.LengthAndThen.Laws.{length_and_then_agrees};
 ghost use Rattle.winnow_binary.specs.LengthAndThen.Laws.{length_and_then_ends};
 ghost use Rattle.winnow_binary.specs.LengthAndThen.Laws.{length_and_then_grows};
-ghost use Rattle.winnow_core.specs.CompleteErr.{CompleteErrRuns};
-ghost use Rattle.winnow_core.specs.Stable.Grows.{grows, stays};
 
 use std::marker::PhantomData;
 use stream_errors::parser_error::ParserError;
@@ -15,6 +18,7 @@ use stream_sets::numbers::ToUsize;
 use streams::reads_like::ReadsLike;
 use streams::stream::{Stream, StreamIsPartial, UpdateSlice};
 use winnow_core::agrees_with::AgreesWith;
+use winnow_core::exact::Exact;
 use winnow_core::parser::Parser;
 use winnow_core::short::short;
 use winnow_core::stable::Stable;
@@ -120,6 +124,41 @@ impl<
     ghost stable = { stays
         (length_and_then_grows I.reading I.counts_missing N.number (G.meaning modal)
         (grows (P.leaves_ends modal) P.stable)) };
+}
+
+impl<
+    P: Exact<I, N, E>,
+    G: Exact<I, O, E>,
+    I: StreamIsPartial + UpdateSlice + Copy,
+    N: ToUsize + Drop,
+    O,
+    E: ParserError<I>,
+> Exact<I, O, E> for LengthAndThen<P, G, I, N, O, E> {
+    ghost premise = { λ p. P.premise (length_and_then_count p)
+        × SaysOne N.number (P.grammar (length_and_then_count p))
+        × G.premise (length_and_then_parser p) };
+
+    ghost backtracks = { λ p. P.backtracks (length_and_then_count p)
+        × G.backtracks (length_and_then_parser p) };
+
+    ghost consumes = { λ p. P.consumes (length_and_then_count p) };
+
+    ghost grammar = { λ p. Sized N.number (Inside (G.grammar (length_and_then_parser p)))
+        (P.grammar (length_and_then_count p)) };
+
+    ghost exact = { λ p form is. length_and_then_exact N.number I.reading form
+        I.counts_missing is.1 (P.exact (length_and_then_count p) form is.0)
+        (G.exact (length_and_then_parser p) form is.2) };
+
+    ghost soft = { λ p form is soft. length_and_then_soft N.number I.reading form
+        I.counts_missing (P.exact (length_and_then_count p) form is.0)
+        (P.soft (length_and_then_count p) form is.0 soft.0)
+        (G.soft (length_and_then_parser p) form is.2 soft.1) };
+
+    ghost takes = { λ p is some. sized_inside_takes N.number
+        (G.grammar (length_and_then_parser p))
+        (P.exact (length_and_then_count p) modal is.0).unique
+        (P.takes (length_and_then_count p) is.0 some) };
 }
 
 impl<

@@ -6,6 +6,8 @@ ghost use Rattle.winnow_comb.specs.Attempt.{AttemptRuns};
 ghost use Rattle.winnow_core.specs.Runs.{LeaveEnds, Meaning};
 
 mod agreeing;
+mod decided;
+mod exact;
 mod slices;
 mod tuples;
 

@@ -1,14 +1,22 @@
 //! Two children with one between them whose output is let go.
+ghost use Rattle.std.specs.Prelude.{◌⊎◌};
+ghost use Rattle.grammars.specs.Grammar.{Three};
 ghost use Rattle.stream_errors.specs.Form.{modal};
-ghost use Rattle.winnow_comb.specs.InOrder.Laws.{three_ends, three_grow};
-ghost use Rattle.winnow_comb.specs.SeparatedPair.{SeparatedPairRuns};
 ghost use Rattle.winnow_core.specs.Agrees.Sizes.{agrees3};
+ghost use Rattle.winnow_core.specs.Exact.Along.{either_way};
+ghost use Rattle.winnow_core.specs.InOrder.Decided.{AlikePairs, three_decided};
+ghost use Rattle.winnow_core.specs.InOrder.Laws.{three_ends, three_grow};
+ghost use Rattle.winnow_core.specs.InOrder.Three.{three_exact, three_soft, three_takes};
 ghost use Rattle.winnow_core.specs.Stable.Grows.{grows, stays};
+ghost use Rattle.winnow_comb.specs.SeparatedPair.{SeparatedPairRuns, separated_pair_first};
+ghost use Rattle.winnow_comb.specs.SeparatedPair.{separated_pair_second, separated_pair_separator};
 
 use std::marker::PhantomData;
 use stream_errors::parser_error::ParserError;
 use streams::stream::Stream;
 use winnow_core::agrees_with::AgreesWith;
+use winnow_core::decided::Decided;
+use winnow_core::exact::Exact;
 use winnow_core::parser::Parser;
 use winnow_core::stable::Stable;
 
@@ -77,6 +85,74 @@ impl<
         (three_grow (λ o1 o2 o3. (o1, o3)) (grows (P1.leaves_ends modal) P1.stable)
         (grows (P2.leaves_ends modal) P2.stable)
         (grows (P3.leaves_ends modal) P3.stable)) };
+}
+
+impl<
+    P1: Decided<I, O1, E>,
+    P2: Decided<I, O2, E>,
+    P3: Decided<I, O3, E>,
+    I: Stream,
+    O1: Drop,
+    O2: Drop,
+    O3,
+    E: ParserError<I>,
+> Decided<I, (O1, O3), E> for SeparatedPair<P1, P2, P3, I, O1, O2, O3, E> {
+    ghost premise = { λ p. P1.premise (separated_pair_first p)
+        × P2.premise (separated_pair_separator p) × P3.premise (separated_pair_second p) };
+
+    ghost alike = { λ p. AlikePairs (P1.alike (separated_pair_first p))
+        (P3.alike (separated_pair_second p)) };
+
+    ghost decided = { λ p form is. three_decided
+        (AlikePairs (P1.alike (separated_pair_first p)) (P3.alike (separated_pair_second p)))
+        (λ o q r u x y first between last. (first, last))
+        (P1.decided (separated_pair_first p) form is.0)
+        (P2.decided (separated_pair_separator p) form is.1)
+        (P3.decided (separated_pair_second p) form is.2) };
+}
+
+impl<
+    P1: Exact<I, O1, E>,
+    P2: Exact<I, O2, E>,
+    P3: Exact<I, O3, E>,
+    I: Stream,
+    O1: Drop,
+    O2: Drop,
+    O3,
+    E: ParserError<I>,
+> Exact<I, (O1, O3), E> for SeparatedPair<P1, P2, P3, I, O1, O2, O3, E> {
+    ghost premise = { λ p. P1.premise (separated_pair_first p)
+        × P2.premise (separated_pair_separator p)
+        × P3.premise (separated_pair_second p) };
+
+    ghost backtracks = { λ p. P1.backtracks (separated_pair_first p)
+        × P2.backtracks (separated_pair_separator p)
+        × P3.backtracks (separated_pair_second p) };
+
+    ghost consumes = { λ p. (P1.consumes (separated_pair_first p) ⊎ P2.consumes
+        (separated_pair_separator p))
+        ⊎ P3.consumes (separated_pair_second p) };
+
+    ghost grammar = { λ p. Three (λ o1 o2 o3. (o1, o3)) (P1.grammar (separated_pair_first p))
+        (P2.grammar (separated_pair_separator p)) (P3.grammar (separated_pair_second p)) };
+
+    ghost exact = { λ p form is. three_exact (P1.exact (separated_pair_first p) form is.0)
+        (P2.exact (separated_pair_separator p) form is.1) (P3.exact
+        (separated_pair_second p) form is.2) };
+
+    ghost soft = { λ p form is soft. three_soft (P1.exact (separated_pair_first p) form is.0)
+        (P2.exact (separated_pair_separator p) form is.1) (P1.soft
+        (separated_pair_first p) form is.0 soft.0)
+        (P2.soft (separated_pair_separator p) form is.1 soft.1) (P3.soft
+        (separated_pair_second p) form is.2 soft.2) };
+
+    ghost takes = { λ p is some. three_takes (λ o1 o2 o3. (o1, o3))
+        (P1.exact (separated_pair_first p) modal is.0) (P2.exact
+        (separated_pair_separator p) modal is.1)
+        (P3.exact (separated_pair_second p) modal is.2)
+        (either_way (either_way (P1.takes (separated_pair_first p) is.0) (P2.takes
+        (separated_pair_separator p) is.1))
+        (P3.takes (separated_pair_second p) is.2) some) };
 }
 
 impl<

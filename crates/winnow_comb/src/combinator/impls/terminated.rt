@@ -1,14 +1,22 @@
 //! A child before one whose output is let go.
+ghost use Rattle.std.specs.Prelude.{◌⊎◌};
+ghost use Rattle.grammars.specs.Grammar.{Both};
 ghost use Rattle.stream_errors.specs.Form.{modal};
-ghost use Rattle.winnow_comb.specs.InOrder.Laws.{both_ends, both_grows};
-ghost use Rattle.winnow_comb.specs.Terminated.{TerminatedRuns};
 ghost use Rattle.winnow_core.specs.Agrees.Sizes.{agrees2};
+ghost use Rattle.winnow_core.specs.Exact.Along.{either_way};
+ghost use Rattle.winnow_core.specs.InOrder.Decided.{both_decided};
+ghost use Rattle.winnow_core.specs.InOrder.Exact.{both_exact, both_soft, both_takes};
+ghost use Rattle.winnow_core.specs.InOrder.Laws.{both_ends, both_grows};
 ghost use Rattle.winnow_core.specs.Stable.Grows.{grows, stays};
+ghost use Rattle.winnow_comb.specs.Terminated.{TerminatedRuns, terminated_ignored};
+ghost use Rattle.winnow_comb.specs.Terminated.{terminated_parser};
 
 use std::marker::PhantomData;
 use stream_errors::parser_error::ParserError;
 use streams::stream::Stream;
 use winnow_core::agrees_with::AgreesWith;
+use winnow_core::decided::Decided;
+use winnow_core::exact::Exact;
 use winnow_core::parser::Parser;
 use winnow_core::stable::Stable;
 
@@ -66,6 +74,56 @@ impl<
     ghost stable = { stays
         (both_grows (λ o1 o2. o1) (grows (P1.leaves_ends modal) P1.stable)
         (grows (P2.leaves_ends modal) P2.stable)) };
+}
+
+impl<
+    P1: Decided<I, O1, E>,
+    P2: Decided<I, O2, E>,
+    I: Stream,
+    O1: Drop,
+    O2: Drop,
+    E: ParserError<I>,
+> Decided<I, O1, E> for Terminated<P1, P2, I, O1, O2, E> {
+    ghost premise = { λ p. P1.premise (terminated_parser p) × P2.premise (terminated_ignored p) };
+
+    ghost alike = { λ p. P1.alike (terminated_parser p) };
+
+    ghost decided = { λ p form is. both_decided (P1.alike (terminated_parser p))
+        (λ o q r u like other. like) (P1.decided (terminated_parser p) form is.0)
+        (P2.decided (terminated_ignored p) form is.1) };
+}
+
+impl<
+    P1: Exact<I, O1, E>,
+    P2: Exact<I, O2, E>,
+    I: Stream,
+    O1: Drop,
+    O2: Drop,
+    E: ParserError<I>,
+> Exact<I, O1, E> for Terminated<P1, P2, I, O1, O2, E> {
+    ghost premise = { λ p. P1.premise (terminated_parser p) × P2.premise (terminated_ignored p) };
+
+    ghost backtracks = { λ p. P1.backtracks (terminated_parser p)
+        × P2.backtracks (terminated_ignored p) };
+
+    ghost consumes = { λ p. P1.consumes (terminated_parser p)
+        ⊎ P2.consumes (terminated_ignored p) };
+
+    ghost grammar = { λ p. Both (λ o1 o2. o1) (P1.grammar (terminated_parser p))
+        (P2.grammar (terminated_ignored p)) };
+
+    ghost exact = { λ p form is. both_exact (P1.exact (terminated_parser p) form is.0)
+        (P2.exact (terminated_ignored p) form is.1) };
+
+    ghost soft = { λ p form is soft. both_soft (P1.exact (terminated_parser p) form is.0)
+        (P1.soft (terminated_parser p) form is.0 soft.0)
+        (P2.soft (terminated_ignored p) form is.1 soft.1) };
+
+    ghost takes = { λ p is some. both_takes (λ o1 o2. o1)
+        (P1.exact (terminated_parser p) modal is.0)
+        (P2.exact (terminated_ignored p) modal is.1)
+        (either_way (P1.takes (terminated_parser p) is.0) (P2.takes (terminated_ignored p) is.1)
+        some) };
 }
 
 impl<

@@ -1,13 +1,19 @@
 //! Outputs that another parser reads.
 ghost use Rattle.std.specs.Prelude.{◌≡◌};
+ghost use Rattle.grammars.specs.Grammar.{Made};
+ghost use Rattle.grammars.specs.Grammar.Outputs.{RejectsAll};
+ghost use Rattle.grammars.specs.Grammar.Unique.{made_of_takes};
 ghost use Rattle.stream_errors.specs.Form.{modal};
 ghost use Rattle.winnow_core.specs.Agrees.{agrees_with};
 ghost use Rattle.winnow_core.specs.AndThen.{AndThenSettles, AndThenRuns, and_then_inner};
 ghost use Rattle.winnow_core.specs.AndThen.{and_then_outer};
+ghost use Rattle.winnow_core.specs.Exact.Settled.{NoneWithin, ReadsWithin, and_then_exact};
+ghost use Rattle.winnow_core.specs.Exact.Settled.{and_then_soft};
 ghost use Rattle.winnow_core.specs.Settles.Laws.{settles_ends, settles_grows};
 ghost use Rattle.winnow_core.specs.Stable.Grows.{grows, stays};
 
 use crate::agrees_with::AgreesWith;
+use crate::exact::Exact;
 use crate::parser::Parser;
 use crate::stable::Stable;
 use std::marker::PhantomData;
@@ -74,6 +80,38 @@ impl<
             }
         }
     }
+}
+
+impl<
+    F: Exact<I, O, E>,
+    G: Exact<O, O2, E>,
+    I: Stream,
+    O: StreamIsPartial + Drop,
+    O2,
+    E: ParserError<I> + ParserError<O>,
+> Exact<I, O2, E> for AndThen<F, G, I, O, O2, E> {
+    ghost premise = { λ p. F.premise (and_then_outer p) × G.premise (and_then_inner p)
+        × G.backtracks (and_then_inner p)
+        × RejectsAll (ReadsWithin O.view (G.grammar (and_then_inner p)))
+        (NoneWithin O.view (G.grammar (and_then_inner p))) tt (F.grammar (and_then_outer p)) };
+
+    ghost backtracks = { λ p. F.backtracks (and_then_outer p) };
+
+    ghost consumes = { λ p. F.consumes (and_then_outer p) };
+
+    ghost grammar = { λ p. Made (ReadsWithin O.view (G.grammar (and_then_inner p))) tt
+        (F.grammar (and_then_outer p)) };
+
+    ghost exact = { λ p form is. and_then_exact O.view is.3 (F.exact (and_then_outer p) form is.0)
+        (G.exact (and_then_inner p) form is.1) (G.soft (and_then_inner p) form is.1 is.2) };
+
+    ghost soft = { λ p form is soft. and_then_soft O.view
+        (F.soft (and_then_outer p) form is.0 soft) (G.exact (and_then_inner p) form is.1)
+        (G.soft (and_then_inner p) form is.1 is.2) };
+
+    ghost takes = { λ p is some. made_of_takes
+        (ReadsWithin O.view (G.grammar (and_then_inner p))) tt
+        (F.takes (and_then_outer p) is.0 some) };
 }
 
 // The inner parser reads the same stream in both, an output; so it is one parser under one type of

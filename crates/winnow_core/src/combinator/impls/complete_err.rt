@@ -3,9 +3,11 @@ ghost use Rattle.std.specs.Prelude.{◌≡◌};
 ghost use Rattle.winnow_core.specs.Agrees.{agrees1};
 ghost use Rattle.winnow_core.specs.CompleteErr.{CompleteErrBecomes, CompleteErrRuns};
 ghost use Rattle.winnow_core.specs.CompleteErr.{complete_err_parser};
+ghost use Rattle.winnow_core.specs.Exact.Errors.{complete_err_exact, complete_err_soft};
 ghost use Rattle.winnow_core.specs.MakesError.Laws.{makes_error_ends};
 
 use crate::agrees_with::AgreesWith;
+use crate::exact::Exact;
 use crate::parser::Parser;
 use std::marker::PhantomData;
 use stream_errors::parser_error::ParserError;
@@ -63,6 +65,24 @@ impl<F: Parser<I, O, E>, I: Stream, O, E: ParserError<I>> Parser<I, O, E>
             }
         }
     }
+}
+
+impl<P: Exact<I, O, E>, I: Stream, O, E: ParserError<I>> Exact<I, O, E>
+    for CompleteErr<P, I, O, E> {
+    ghost premise = { λ p. P.premise (complete_err_parser p) };
+
+    ghost backtracks = { λ p. P.backtracks (complete_err_parser p) };
+
+    ghost consumes = { λ p. P.consumes (complete_err_parser p) };
+
+    ghost grammar = { λ p. P.grammar (complete_err_parser p) };
+
+    ghost exact = { λ p form is. complete_err_exact (P.exact (complete_err_parser p) form is) };
+
+    ghost soft = { λ p form is soft. complete_err_soft
+        (P.soft (complete_err_parser p) form is soft) };
+
+    ghost takes = { λ p is some. P.takes (complete_err_parser p) is some };
 }
 
 impl<

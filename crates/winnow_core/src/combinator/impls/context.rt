@@ -6,10 +6,12 @@ ghost use Rattle.winnow_core.specs.Agrees.{agrees_with};
 ghost use Rattle.winnow_core.specs.Context.{ContextBecomes, ContextRuns, context_parser};
 ghost use Rattle.winnow_core.specs.Context.{context_told};
 ghost use Rattle.winnow_core.specs.Context.Laws.{context_keeps};
+ghost use Rattle.winnow_core.specs.Exact.Errors.{context_keeps_kinds, errors_exact, errors_soft};
 ghost use Rattle.winnow_core.specs.MakesError.Laws.{makes_error_ends, makes_error_grows};
 ghost use Rattle.winnow_core.specs.Stable.Grows.{grows, stays};
 
 use crate::agrees_with::AgreesWith;
+use crate::exact::Exact;
 use crate::parser::Parser;
 use crate::stable::Stable;
 use std::alloc::Allocator;
@@ -102,6 +104,31 @@ impl<
         (makes_error_grows (ContextBecomes C.is_clone C.is_infallible)
         (context_keeps C.is_clone C.is_infallible)
         (grows (F.leaves_ends modal) F.stable)) };
+}
+
+impl<
+    F: Exact<I, O, E>,
+    I: Stream,
+    O,
+    E: ParserError<I> + AddContext<I, C, A>,
+    C: Clone,
+    A: Allocator + Copy,
+> Exact<I, O, E> for Context<F, I, O, E, C, A> {
+    ghost premise = { λ p. F.premise (context_parser p) };
+
+    ghost backtracks = { λ p. F.backtracks (context_parser p) };
+
+    ghost consumes = { λ p. F.consumes (context_parser p) };
+
+    ghost grammar = { λ p. F.grammar (context_parser p) };
+
+    ghost exact = { λ p form is. errors_exact (context_keeps_kinds C.is_clone C.is_infallible)
+        (F.exact (context_parser p) form is) };
+
+    ghost soft = { λ p form is soft. errors_soft (context_keeps_kinds C.is_clone C.is_infallible)
+        (F.soft (context_parser p) form is soft) };
+
+    ghost takes = { λ p is some. F.takes (context_parser p) is some };
 }
 
 impl<

@@ -3,10 +3,12 @@ ghost use Rattle.std.specs.Prelude.{◌≡◌};
 ghost use Rattle.winnow_core.specs.Agrees.{agrees1};
 ghost use Rattle.winnow_core.specs.ErrInto.{ErrIntoBecomes, ErrIntoRuns, err_into_parser};
 ghost use Rattle.winnow_core.specs.ErrInto.Laws.{err_into_keeps};
+ghost use Rattle.winnow_core.specs.Exact.Errors.{SameKinds, err_into_exact, err_into_soft};
 ghost use Rattle.winnow_core.specs.MakesError.Laws.{makes_error_ends, makes_error_grows};
 ghost use Rattle.winnow_core.specs.Stable.Grows.{grows_at, stays_beside};
 
 use crate::agrees_with::AgreesWith;
+use crate::exact::Exact;
 use crate::parser::Parser;
 use crate::stable::{KeepsKinds, Stable};
 use std::marker::PhantomData;
@@ -74,6 +76,29 @@ impl<
         (makes_error_grows (ErrIntoBecomes E.kind E2.kind E2.from_gives)
         (err_into_keeps E.kind E2.kind E2.from_gives E2.keeps)
         (grows_at F.meaning E.form E2.from_modal F.leaves_ends F.stable)) };
+}
+
+impl<F: Exact<I, O, E>, I: Stream, O, E: ParserError<I>, E2: ParserError<I> + From<E>> Exact<
+    I,
+    O,
+    E2,
+> for ErrInto<F, I, O, E, E2> {
+    ghost premise = { λ p. F.premise (err_into_parser p)
+        × SameKinds E.kind E2.kind E2.from_gives };
+
+    ghost backtracks = { λ p. F.backtracks (err_into_parser p) };
+
+    ghost consumes = { λ p. F.consumes (err_into_parser p) };
+
+    ghost grammar = { λ p. F.grammar (err_into_parser p) };
+
+    ghost exact = { λ p form is. err_into_exact E.kind E2.kind E2.from_gives is.1
+        (F.exact (err_into_parser p) E.form is.0) };
+
+    ghost soft = { λ p form is soft. err_into_soft E.kind E2.kind E2.from_gives is.1
+        (F.soft (err_into_parser p) E.form is.0 soft) };
+
+    ghost takes = { λ p is some. F.takes (err_into_parser p) is.0 some };
 }
 
 /// The conversion is of one type of error, so both parsers have that.

@@ -1,11 +1,15 @@
 //! Errors made of errors by a closure.
 ghost use Rattle.std.specs.Prelude.{◌≡◌};
 ghost use Rattle.winnow_core.specs.Agrees.{agrees_with};
+ghost use Rattle.winnow_core.specs.Closures.{Stays};
+ghost use Rattle.winnow_core.specs.Exact.Errors.{map_err_exact, map_err_soft};
 ghost use Rattle.winnow_core.specs.MakesError.Laws.{makes_error_ends};
 ghost use Rattle.winnow_core.specs.MapErr.{MapErrBecomes, MapErrRuns, map_err_closure};
 ghost use Rattle.winnow_core.specs.MapErr.{map_err_parser};
+ghost use Rattle.winnow_core.specs.MapErrKept.{KeepsEachKind};
 
 use crate::agrees_with::AgreesWith;
+use crate::exact::Exact;
 use crate::parser::Parser;
 use std::marker::PhantomData;
 use stream_errors::parser_error::ParserError;
@@ -66,6 +70,34 @@ impl<
             Err(error) => Err((self.map)(error)),
         }
     }
+}
+
+impl<
+    F: Exact<I, O, E>,
+    G: FnMut(E) -> E2,
+    I: Stream,
+    O,
+    E: ParserError<I>,
+    E2: ParserError<I>,
+> Exact<I, O, E2> for MapErr<F, G, I, O, E, E2> {
+    ghost premise = { λ p. F.premise (map_err_parser p) × Stays G.step (map_err_closure p)
+        × KeepsEachKind E.kind E2.kind G.step };
+
+    ghost backtracks = { λ p. F.backtracks (map_err_parser p) };
+
+    ghost consumes = { λ p. F.consumes (map_err_parser p) };
+
+    ghost grammar = { λ p. F.grammar (map_err_parser p) };
+
+    ghost exact = { λ p form is. map_err_exact E.kind E2.kind G.step is.2 is.1
+        (F.exact (map_err_parser p) E.form is.0) };
+
+    ghost soft = { λ p form is soft. map_err_soft E.kind E2.kind G.step is.2 is.1
+        (F.soft (map_err_parser p) E.form is.0 soft) };
+
+    ghost takes = { λ p is some. F.takes (map_err_parser p) is.0 some };
+
+    fn stay() {}
 }
 
 /// The closure takes one type of error, so both parsers have that.

@@ -2,6 +2,8 @@
 ghost use Rattle.std.specs.Prelude.{◌≡◌};
 ghost use Rattle.stream_errors.specs.Form.{modal};
 ghost use Rattle.winnow_core.specs.Agrees.{agrees_with};
+ghost use Rattle.winnow_core.specs.Closures.{Stays};
+ghost use Rattle.winnow_core.specs.Exact.Errors.{map_err_kept_exact, map_err_kept_soft};
 ghost use Rattle.winnow_core.specs.MakesError.Laws.{makes_error_ends, makes_error_grows};
 ghost use Rattle.winnow_core.specs.MapErrKept.{KeepsEachKind, MapErrKeptBecomes, MapErrKeptRuns};
 ghost use Rattle.winnow_core.specs.MapErrKept.{map_err_kept_closure, map_err_kept_keeps};
@@ -9,6 +11,7 @@ ghost use Rattle.winnow_core.specs.MapErrKept.{map_err_kept_parser};
 ghost use Rattle.winnow_core.specs.Stable.Grows.{grows, stays};
 
 use crate::agrees_with::AgreesWith;
+use crate::exact::Exact;
 use crate::parser::Parser;
 use crate::stable::Stable;
 use std::marker::PhantomData;
@@ -85,6 +88,34 @@ impl<
 > Stable<I, O, E2> for MapErrKept<F, G, I, O, E, E2> {
     ghost stable = { stays (makes_error_grows (MapErrKeptBecomes E.kind E2.kind G.step)
         (map_err_kept_keeps E.kind E2.kind G.step) (grows (F.leaves_ends modal) F.stable)) };
+
+    fn stay() {}
+}
+
+impl<
+    F: Exact<I, O, E>,
+    G: FnMut(E) -> E2,
+    I: Stream,
+    O,
+    E: ParserError<I>,
+    E2: ParserError<I>,
+> Exact<I, O, E2> for MapErrKept<F, G, I, O, E, E2> {
+    ghost premise = { λ p. F.premise (map_err_kept_parser p)
+        × Stays G.step (map_err_kept_closure p) };
+
+    ghost backtracks = { λ p. F.backtracks (map_err_kept_parser p) };
+
+    ghost consumes = { λ p. F.consumes (map_err_kept_parser p) };
+
+    ghost grammar = { λ p. F.grammar (map_err_kept_parser p) };
+
+    ghost exact = { λ p form is. map_err_kept_exact E.kind E2.kind G.step is.1
+        (F.exact (map_err_kept_parser p) form is.0) };
+
+    ghost soft = { λ p form is soft. map_err_kept_soft E.kind E2.kind G.step is.1
+        (F.soft (map_err_kept_parser p) form is.0 soft) };
+
+    ghost takes = { λ p is some. F.takes (map_err_kept_parser p) is.0 some };
 
     fn stay() {}
 }

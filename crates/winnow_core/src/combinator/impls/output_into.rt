@@ -1,13 +1,17 @@
 //! Outputs that are converted.
 ghost use Rattle.std.specs.Prelude.{◌≡◌};
+ghost use Rattle.grammars.specs.Grammar.{Made};
+ghost use Rattle.grammars.specs.Grammar.Unique.{made_of_takes};
 ghost use Rattle.stream_errors.specs.Form.{modal};
 ghost use Rattle.winnow_core.specs.Agrees.{agrees1};
+ghost use Rattle.winnow_core.specs.Exact.Adapters.{output_exact, output_soft};
 ghost use Rattle.winnow_core.specs.MakesOutput.Laws.{makes_output_ends, made_of_output};
 ghost use Rattle.winnow_core.specs.MakesOutput.Laws.{makes_output_grows};
 ghost use Rattle.winnow_core.specs.OutputInto.{OutputIntoRuns, output_into_parser};
 ghost use Rattle.winnow_core.specs.Stable.Grows.{grows, stays};
 
 use crate::agrees_with::AgreesWith;
+use crate::exact::Exact;
 use crate::parser::Parser;
 use crate::stable::Stable;
 use std::marker::PhantomData;
@@ -63,6 +67,27 @@ impl<F: Stable<I, O, E>, I: Stream, O, O2: From<O>, E: ParserError<I>> Stable<I,
     ghost stable = { stays
         (makes_output_grows (λ i o j u. O2.from_gives o u) (made_of_output _)
         (grows (F.leaves_ends modal) F.stable)) };
+}
+
+impl<F: Exact<I, O, E>, I: Stream, O, O2: From<O>, E: ParserError<I>> Exact<I, O2, E>
+    for OutputInto<F, I, O, O2, E> {
+    ghost premise = { λ p. F.premise (output_into_parser p) };
+
+    ghost backtracks = { λ p. F.backtracks (output_into_parser p) };
+
+    ghost consumes = { λ p. F.consumes (output_into_parser p) };
+
+    ghost grammar = { λ p. Made (λ (_ : Unit {0}) o u. O2.from_gives o u) tt
+        (F.grammar (output_into_parser p)) };
+
+    ghost exact = { λ p form is. output_exact (λ (_ : Unit {0}) o u. O2.from_gives o u) tt
+        (F.exact (output_into_parser p) form is) };
+
+    ghost soft = { λ p form is soft. output_soft (λ o u. O2.from_gives o u)
+        (F.soft (output_into_parser p) form is soft) };
+
+    ghost takes = { λ p is some. made_of_takes (λ (_ : Unit {0}) o u. O2.from_gives o u) tt
+        (F.takes (output_into_parser p) is some) };
 }
 
 impl<

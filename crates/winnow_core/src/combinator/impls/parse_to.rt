@@ -1,12 +1,21 @@
 //! Outputs that are read as text.
-ghost use Rattle.std.specs.Prelude.{◌≡◌};
+ghost use Rattle.std.specs.Prelude.{◌≡◌, Some};
+ghost use Rattle.grammars.specs.Grammar.{Made};
+ghost use Rattle.grammars.specs.Grammar.Outputs.{RejectsAll};
+ghost use Rattle.grammars.specs.Grammar.Unique.{made_of_takes};
 ghost use Rattle.stream_errors.specs.Form.{modal};
 ghost use Rattle.winnow_core.specs.Agrees.{agrees1};
+ghost use Rattle.winnow_core.specs.Decided.Adapters.{ReadsSame, parse_to_decided};
+ghost use Rattle.winnow_core.specs.Decided.Made.{MadeAlike};
+ghost use Rattle.winnow_core.specs.Exact.Settled.{ReadsNone, ReadsSome, parse_to_exact};
+ghost use Rattle.winnow_core.specs.Exact.Settled.{parse_to_soft};
 ghost use Rattle.winnow_core.specs.ParseTo.{ParseToSettles, ParseToRuns, parse_to_parser};
 ghost use Rattle.winnow_core.specs.Settles.Laws.{settles_ends, settles_grows};
 ghost use Rattle.winnow_core.specs.Stable.Grows.{grows, stays_beside};
 
 use crate::agrees_with::AgreesWith;
+use crate::decided::Decided;
+use crate::exact::Exact;
 use crate::parser::Parser;
 use crate::stable::Stable;
 use std::marker::PhantomData;
@@ -76,6 +85,41 @@ impl<F: Stable<I, O, E>, I: Stream, O: ParseSlice<O2> + Drop, O2, E: ParserError
 > for ParseTo<F, I, O, O2, E> {
     ghost stable = { stays_beside tt
         (settles_grows (ParseToSettles O.reads) (grows (F.leaves_ends modal) F.stable)) };
+}
+
+impl<F: Decided<I, O, E>, I: Stream, O: ParseSlice<O2> + Drop, O2, E: ParserError<I>> Decided<
+    I,
+    O2,
+    E,
+> for ParseTo<F, I, O, O2, E> {
+    ghost premise = { λ p. F.premise (parse_to_parser p)
+        × ReadsSame O.reads (F.alike (parse_to_parser p)) };
+
+    ghost alike = { λ p. MadeAlike (F.alike (parse_to_parser p)) (λ o u. O.reads o (Some u)) };
+
+    ghost decided = { λ p form is. parse_to_decided O.reads is.1
+        (F.decided (parse_to_parser p) form is.0) };
+}
+
+impl<F: Exact<I, O, E>, I: Stream, O: ParseSlice<O2> + Drop, O2, E: ParserError<I>> Exact<I, O2, E>
+    for ParseTo<F, I, O, O2, E> {
+    ghost premise = { λ p. F.premise (parse_to_parser p) × RejectsAll (ReadsSome O.reads)
+        (ReadsNone O.reads) tt (F.grammar (parse_to_parser p)) };
+
+    ghost backtracks = { λ p. F.backtracks (parse_to_parser p) };
+
+    ghost consumes = { λ p. F.consumes (parse_to_parser p) };
+
+    ghost grammar = { λ p. Made (ReadsSome O.reads) tt (F.grammar (parse_to_parser p)) };
+
+    ghost exact = { λ p form is. parse_to_exact O.reads is.1
+        (F.exact (parse_to_parser p) form is.0) };
+
+    ghost soft = { λ p form is soft. parse_to_soft O.reads
+        (F.soft (parse_to_parser p) form is.0 soft) };
+
+    ghost takes = { λ p is some. made_of_takes (ReadsSome O.reads) tt
+        (F.takes (parse_to_parser p) is.0 some) };
 }
 
 impl<

@@ -1,12 +1,16 @@
 //! The places between which a parser read.
 ghost use Rattle.std.specs.Prelude.{◌≡◌};
+ghost use Rattle.grammars.specs.Grammar.{Made};
+ghost use Rattle.grammars.specs.Grammar.Unique.{made_of_takes};
 ghost use Rattle.stream_errors.specs.Form.{modal};
 ghost use Rattle.winnow_core.specs.Agrees.{agrees1};
+ghost use Rattle.winnow_core.specs.Exact.Adapters.{AnyPlaces, span_exact, span_soft};
 ghost use Rattle.winnow_core.specs.MakesOutput.Laws.{makes_output_ends, makes_output_grows};
 ghost use Rattle.winnow_core.specs.Span.{SpanRuns, span_parser, places};
 ghost use Rattle.winnow_core.specs.Stable.Grows.{grows, stays};
 
 use crate::agrees_with::AgreesWith;
+use crate::exact::Exact;
 use crate::parser::Parser;
 use crate::stable::Stable;
 use std::marker::PhantomData;
@@ -66,6 +70,25 @@ impl<F: Stable<I, O, E>, I: Location, O: Drop, E: ParserError<I>> Stable<I, Rang
     ghost stable = { stays
         (makes_output_grows (λ i o j span. span ≡ places i j) (λ more flag i o j span is. is)
         (grows (F.leaves_ends modal) F.stable)) };
+}
+
+impl<F: Exact<I, O, E>, I: Location, O: Drop, E: ParserError<I>> Exact<I, Range<usize>, E>
+    for Span<F, I, O, E> {
+    ghost premise = { λ p. F.premise (span_parser p) };
+
+    ghost backtracks = { λ p. F.backtracks (span_parser p) };
+
+    ghost consumes = { λ p. F.consumes (span_parser p) };
+
+    ghost grammar = { λ p. Made AnyPlaces tt (F.grammar (span_parser p)) };
+
+    ghost exact = { λ p form is. span_exact (F.meaning form) (F.state (span_parser p))
+        (F.exact (span_parser p) form is) };
+
+    ghost soft = { λ p form is soft. span_soft (F.meaning form) (F.state (span_parser p))
+        (F.soft (span_parser p) form is soft) };
+
+    ghost takes = { λ p is some. made_of_takes AnyPlaces tt (F.takes (span_parser p) is some) };
 }
 
 impl<

@@ -1,12 +1,18 @@
 //! The slice that a parser read, in the place of its output.
 ghost use Rattle.std.specs.Prelude.{◌≡◌, List, ◌++◌};
-ghost use Rattle.stream_errors.specs.Form.{modal};
 ghost use Rattle.streams.specs.Input.{Ends};
+ghost use Rattle.grammars.specs.Grammar.{Taken};
+ghost use Rattle.stream_errors.specs.Form.{modal};
+ghost use Rattle.winnow_core.specs.Decided.Adapters.{take_decided};
+ghost use Rattle.winnow_core.specs.Exact.Adapters.{take_exact, take_soft, taken_takes};
+ghost use Rattle.winnow_core.specs.Literal.Laws.{ShowSame};
 ghost use Rattle.winnow_core.specs.Stable.Grows.{grows, stays};
 ghost use Rattle.winnow_core.specs.Take.{TakeRuns, take_parser};
 ghost use Rattle.winnow_core.specs.Take.Laws.{take_agrees, take_ends, take_adapter_grows};
 
 use crate::agrees_with::AgreesWith;
+use crate::decided::Decided;
+use crate::exact::Exact;
 use crate::parser::Parser;
 use crate::stable::Stable;
 use std::marker::PhantomData;
@@ -75,6 +81,32 @@ pub(crate) fn slice_from<I: Stream>(start: &I::Checkpoint, input: &mut I) -> I::
 impl<F: Stable<I, O, E>, I: Stream, O: Drop, E: ParserError<I>> Stable<I, I::Slice, E>
     for Take<F, I, O, E> {
     ghost stable = { stays (take_adapter_grows I.reading (grows (F.leaves_ends modal) F.stable)) };
+}
+
+impl<F: Decided<I, O, E>, I: Stream, O: Drop, E: ParserError<I>> Decided<I, I::Slice, E>
+    for Take<F, I, O, E> {
+    ghost premise = { λ p. F.premise (take_parser p) };
+
+    ghost alike = { λ p. ShowSame I.reading };
+
+    ghost decided = { λ p form is. take_decided I.reading (F.decided (take_parser p) form is) };
+}
+
+impl<F: Exact<I, O, E>, I: Stream, O: Drop, E: ParserError<I>> Exact<I, I::Slice, E>
+    for Take<F, I, O, E> {
+    ghost premise = { λ p. F.premise (take_parser p) };
+
+    ghost backtracks = { λ p. F.backtracks (take_parser p) };
+
+    ghost consumes = { λ p. F.consumes (take_parser p) };
+
+    ghost grammar = { λ p. Taken I.reading (F.grammar (take_parser p)) };
+
+    ghost exact = { λ p form is. take_exact I.reading (F.exact (take_parser p) form is) };
+
+    ghost soft = { λ p form is soft. take_soft I.reading (F.soft (take_parser p) form is soft) };
+
+    ghost takes = { λ p is some. taken_takes I.reading (F.takes (take_parser p) is some) };
 }
 
 impl<

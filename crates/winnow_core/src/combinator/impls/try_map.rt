@@ -1,14 +1,20 @@
 //! Outputs made of outputs by a closure that may fail.
 ghost use Rattle.std.specs.Prelude.{◌≡◌};
+ghost use Rattle.grammars.specs.Grammar.{Made};
+ghost use Rattle.grammars.specs.Grammar.Outputs.{RejectsAll};
+ghost use Rattle.grammars.specs.Grammar.Unique.{made_of_takes};
 ghost use Rattle.stream_errors.specs.Form.{modal};
 ghost use Rattle.stream_errors.specs.Given.{Keeping};
 ghost use Rattle.winnow_core.specs.Agrees.{agrees_with};
+ghost use Rattle.winnow_core.specs.Closures.{Stays};
+ghost use Rattle.winnow_core.specs.Exact.Settled.{GivesErr, GivesOk, try_map_exact, try_map_soft};
 ghost use Rattle.winnow_core.specs.Settles.Laws.{settles_ends, settles_grows};
 ghost use Rattle.winnow_core.specs.Stable.Grows.{grows, stays};
 ghost use Rattle.winnow_core.specs.TryMap.{TryMapSettles, TryMapRuns, try_map_closure};
 ghost use Rattle.winnow_core.specs.TryMap.{try_map_parser};
 
 use crate::agrees_with::AgreesWith;
+use crate::exact::Exact;
 use crate::parser::Parser;
 use crate::stable::Stable;
 use std::marker::PhantomData;
@@ -89,6 +95,38 @@ impl<
 > Stable<I, O2, E> for TryMap<F, G, I, O, O2, E, E2> {
     ghost stable = { stays
         (settles_grows (TryMapSettles G.step) (grows (F.leaves_ends modal) F.stable)) };
+
+    fn stay() {}
+}
+
+impl<
+    F: Exact<I, O, E>,
+    G: FnMut(O) -> Result<O2, E2>,
+    I: Stream,
+    O,
+    O2,
+    E: ParserError<I> + FromExternalError<I, E2>,
+    E2,
+> Exact<I, O2, E> for TryMap<F, G, I, O, O2, E, E2> {
+    ghost premise = { λ p. F.premise (try_map_parser p) × Stays G.step (try_map_closure p)
+        × RejectsAll (GivesOk G.step) (GivesErr G.step) (try_map_closure p)
+        (F.grammar (try_map_parser p)) };
+
+    ghost backtracks = { λ p. F.backtracks (try_map_parser p) };
+
+    ghost consumes = { λ p. F.consumes (try_map_parser p) };
+
+    ghost grammar = { λ p. Made (GivesOk G.step) (try_map_closure p)
+        (F.grammar (try_map_parser p)) };
+
+    ghost exact = { λ p form is. try_map_exact G.step is.1 is.2
+        (F.exact (try_map_parser p) form is.0) };
+
+    ghost soft = { λ p form is soft. try_map_soft G.step is.1
+        (F.soft (try_map_parser p) form is.0 soft) };
+
+    ghost takes = { λ p is some. made_of_takes (GivesOk G.step) (try_map_closure p)
+        (F.takes (try_map_parser p) is.0 some) };
 
     fn stay() {}
 }

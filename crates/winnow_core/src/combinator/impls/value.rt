@@ -1,12 +1,18 @@
 //! Values in the place of outputs.
 ghost use Rattle.std.specs.Prelude.{◌≡◌};
+ghost use Rattle.grammars.specs.Grammar.{Made};
+ghost use Rattle.grammars.specs.Grammar.Unique.{made_of_takes};
 ghost use Rattle.stream_errors.specs.Form.{modal};
 ghost use Rattle.winnow_core.specs.Agrees.{agrees_with};
+ghost use Rattle.winnow_core.specs.Decided.Adapters.{BothClones, value_decided};
+ghost use Rattle.winnow_core.specs.Exact.Adapters.{value_exact, value_soft};
 ghost use Rattle.winnow_core.specs.Stable.Grows.{grows, stays};
-ghost use Rattle.winnow_core.specs.Value.Laws.{value_ends, value_grows};
 ghost use Rattle.winnow_core.specs.Value.{ValueRuns, value_kept, value_parser};
+ghost use Rattle.winnow_core.specs.Value.Laws.{value_ends, value_grows};
 
 use crate::agrees_with::AgreesWith;
+use crate::decided::Decided;
+use crate::exact::Exact;
 use crate::parser::Parser;
 use crate::stable::Stable;
 use std::marker::PhantomData;
@@ -66,6 +72,37 @@ impl<F: Stable<I, O, E>, I: Stream, O: Drop, O2: Clone, E: ParserError<I>> Stabl
     for Value<F, I, O, O2, E> {
     ghost stable = { stays
         (value_grows O2.is_clone O2.is_infallible (grows (F.leaves_ends modal) F.stable)) };
+}
+
+impl<F: Decided<I, O, E>, I: Stream, O: Drop, O2: Clone, E: ParserError<I>> Decided<I, O2, E>
+    for Value<F, I, O, O2, E> {
+    ghost premise = { λ p. F.premise (value_parser p) };
+
+    ghost alike = { λ p. BothClones O2.is_clone (value_kept p) };
+
+    ghost decided = { λ p form is. value_decided O2.is_clone O2.is_infallible
+        (F.decided (value_parser p) form is) };
+}
+
+impl<F: Exact<I, O, E>, I: Stream, O: Drop, O2: Clone, E: ParserError<I>> Exact<I, O2, E>
+    for Value<F, I, O, O2, E> {
+    ghost premise = { λ p. F.premise (value_parser p) };
+
+    ghost backtracks = { λ p. F.backtracks (value_parser p) };
+
+    ghost consumes = { λ p. F.consumes (value_parser p) };
+
+    ghost grammar = { λ p. Made (λ v o u. O2.is_clone v u) (value_kept p)
+        (F.grammar (value_parser p)) };
+
+    ghost exact = { λ p form is. value_exact O2.is_clone O2.is_infallible
+        (F.exact (value_parser p) form is) };
+
+    ghost soft = { λ p form is soft. value_soft O2.is_clone O2.is_infallible
+        (F.soft (value_parser p) form is soft) };
+
+    ghost takes = { λ p is some. made_of_takes (λ v o u. O2.is_clone v u) (value_kept p)
+        (F.takes (value_parser p) is some) };
 }
 
 impl<

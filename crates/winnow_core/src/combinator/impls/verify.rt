@@ -1,14 +1,23 @@
 //! Outputs that a closure tests.
-ghost use Rattle.std.specs.Fn.{CalledAt};
 ghost use Rattle.std.specs.Prelude.{◌≡◌};
+ghost use Rattle.std.specs.Fn.{CalledAt};
+ghost use Rattle.grammars.specs.Grammar.{Made};
+ghost use Rattle.grammars.specs.Grammar.Outputs.{RejectsAll};
+ghost use Rattle.grammars.specs.Grammar.Unique.{made_of_takes};
 ghost use Rattle.stream_errors.specs.Form.{modal};
 ghost use Rattle.winnow_core.specs.Agrees.{agrees_with};
+ghost use Rattle.winnow_core.specs.Closures.{Stays, Finds};
+ghost use Rattle.winnow_core.specs.Decided.Adapters.{FindsSame, verify_decided};
+ghost use Rattle.winnow_core.specs.Exact.Settled.{Misses, settled_exact, settled_soft};
+ghost use Rattle.winnow_core.specs.Exact.Settled.{verify_settler};
 ghost use Rattle.winnow_core.specs.Settles.Laws.{settles_ends, settles_grows};
 ghost use Rattle.winnow_core.specs.Stable.Grows.{grows, stays};
 ghost use Rattle.winnow_core.specs.Verify.{VerifySettles, VerifyRuns, verify_closure};
 ghost use Rattle.winnow_core.specs.Verify.{verify_parser};
 
 use crate::agrees_with::AgreesWith;
+use crate::decided::Decided;
+use crate::exact::Exact;
 use crate::parser::Parser;
 use crate::stable::Stable;
 use std::marker::PhantomData;
@@ -80,6 +89,47 @@ impl<F: Stable<I, O, E>, G: FnMut(&O) -> bool, I: Stream, O: Drop, E: ParserErro
     ghost stable = { stays
         (settles_grows (VerifySettles (CalledAt G.FnMut))
         (grows (F.leaves_ends modal) F.stable)) };
+
+    fn stay() {}
+}
+
+impl<F: Decided<I, O, E>, G: FnMut(&O) -> bool, I: Stream, O: Drop, E: ParserError<I>> Decided<
+    I,
+    O,
+    E,
+> for Verify<F, G, I, O, E> {
+    ghost premise = { λ p. F.premise (verify_parser p) × Stays (CalledAt G.FnMut) (verify_closure p)
+        × FindsSame (CalledAt G.FnMut) (verify_closure p) (F.alike (verify_parser p)) };
+
+    ghost alike = { λ p. F.alike (verify_parser p) };
+
+    ghost decided = { λ p form is. verify_decided (CalledAt G.FnMut) is.1 is.2
+        (F.decided (verify_parser p) form is.0) };
+
+    fn stay() {}
+}
+
+impl<F: Exact<I, O, E>, G: FnMut(&O) -> bool, I: Stream, O: Drop, E: ParserError<I>> Exact<I, O, E>
+    for Verify<F, G, I, O, E> {
+    ghost premise = { λ p. F.premise (verify_parser p) × Stays (CalledAt G.FnMut) (verify_closure p)
+        × RejectsAll (Finds (CalledAt G.FnMut)) (Misses (CalledAt G.FnMut)) (verify_closure p)
+        (F.grammar (verify_parser p)) };
+
+    ghost backtracks = { λ p. F.backtracks (verify_parser p) };
+
+    ghost consumes = { λ p. F.consumes (verify_parser p) };
+
+    ghost grammar = { λ p. Made (Finds (CalledAt G.FnMut)) (verify_closure p)
+        (F.grammar (verify_parser p)) };
+
+    ghost exact = { λ p form is. settled_exact (verify_settler (CalledAt G.FnMut) is.1) is.2
+        (F.exact (verify_parser p) form is.0) };
+
+    ghost soft = { λ p form is soft. settled_soft (verify_settler (CalledAt G.FnMut) is.1)
+        (F.soft (verify_parser p) form is.0 soft) };
+
+    ghost takes = { λ p is some. made_of_takes (Finds (CalledAt G.FnMut)) (verify_closure p)
+        (F.takes (verify_parser p) is.0 some) };
 
     fn stay() {}
 }

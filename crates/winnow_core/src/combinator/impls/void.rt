@@ -1,12 +1,18 @@
 //! Outputs that are dropped.
-ghost use Rattle.std.specs.Prelude.{◌≡◌};
+ghost use Rattle.std.specs.Prelude.{◌≡◌, ⊤};
+ghost use Rattle.grammars.specs.Grammar.{Made};
+ghost use Rattle.grammars.specs.Grammar.Unique.{made_of_takes};
 ghost use Rattle.stream_errors.specs.Form.{modal};
 ghost use Rattle.winnow_core.specs.Agrees.{agrees1};
+ghost use Rattle.winnow_core.specs.Decided.Adapters.{void_decided};
+ghost use Rattle.winnow_core.specs.Exact.Adapters.{void_exact, void_soft};
 ghost use Rattle.winnow_core.specs.Stable.Grows.{grows, stays};
 ghost use Rattle.winnow_core.specs.Void.{VoidRuns, void_parser};
 ghost use Rattle.winnow_core.specs.Void.Laws.{void_ends, void_grows};
 
 use crate::agrees_with::AgreesWith;
+use crate::decided::Decided;
+use crate::exact::Exact;
 use crate::parser::Parser;
 use crate::stable::Stable;
 use std::marker::PhantomData;
@@ -58,6 +64,34 @@ impl<F: Parser<I, O, E>, I: Stream, O: Drop, E: ParserError<I>> Parser<I, (), E>
 impl<F: Stable<I, O, E>, I: Stream, O: Drop, E: ParserError<I>> Stable<I, (), E>
     for Void<F, I, O, E> {
     ghost stable = { stays (void_grows (grows (F.leaves_ends modal) F.stable)) };
+}
+
+impl<F: Decided<I, O, E>, I: Stream, O: Drop, E: ParserError<I>> Decided<I, (), E>
+    for Void<F, I, O, E> {
+    ghost premise = { λ p. F.premise (void_parser p) };
+
+    ghost alike = { λ p o q. ⊤ };
+
+    ghost decided = { λ p form is. void_decided (F.decided (void_parser p) form is) };
+}
+
+impl<F: Exact<I, O, E>, I: Stream, O: Drop, E: ParserError<I>> Exact<I, (), E>
+    for Void<F, I, O, E> {
+    ghost premise = { λ p. F.premise (void_parser p) };
+
+    ghost backtracks = { λ p. F.backtracks (void_parser p) };
+
+    ghost consumes = { λ p. F.consumes (void_parser p) };
+
+    ghost grammar = { λ p. Made (λ (_ : Unit {0}) o (u : Unit {0}). ⊤) tt
+        (F.grammar (void_parser p)) };
+
+    ghost exact = { λ p form is. void_exact (F.exact (void_parser p) form is) };
+
+    ghost soft = { λ p form is soft. void_soft (F.soft (void_parser p) form is soft) };
+
+    ghost takes = { λ p is some. made_of_takes (λ (_ : Unit {0}) o (u : Unit {0}). ⊤) tt
+        (F.takes (void_parser p) is some) };
 }
 
 impl<

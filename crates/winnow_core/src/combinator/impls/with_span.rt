@@ -1,13 +1,17 @@
 //! Outputs with the places between which they were read.
 ghost use Rattle.std.specs.Prelude.{◌≡◌};
+ghost use Rattle.grammars.specs.Grammar.{Made};
+ghost use Rattle.grammars.specs.Grammar.Unique.{made_of_takes};
 ghost use Rattle.stream_errors.specs.Form.{modal};
 ghost use Rattle.winnow_core.specs.Agrees.{agrees1};
+ghost use Rattle.winnow_core.specs.Exact.Adapters.{WithPlaces, with_span_exact, with_span_soft};
 ghost use Rattle.winnow_core.specs.MakesOutput.Laws.{makes_output_ends, makes_output_grows};
 ghost use Rattle.winnow_core.specs.Span.{places};
 ghost use Rattle.winnow_core.specs.Stable.Grows.{grows, stays};
 ghost use Rattle.winnow_core.specs.WithSpan.{WithSpanRuns, with_span_parser};
 
 use crate::agrees_with::AgreesWith;
+use crate::exact::Exact;
 use crate::parser::Parser;
 use crate::stable::Stable;
 use std::marker::PhantomData;
@@ -67,6 +71,26 @@ impl<F: Stable<I, O, E>, I: Location, O, E: ParserError<I>> Stable<I, (O, Range<
     ghost stable = { stays
         (makes_output_grows (λ i o j both. (both.0 ≡ o) × (both.1 ≡ places i j))
         (λ more flag i o j both is. is) (grows (F.leaves_ends modal) F.stable)) };
+}
+
+impl<F: Exact<I, O, E>, I: Location, O, E: ParserError<I>> Exact<I, (O, Range<usize>), E>
+    for WithSpan<F, I, O, E> {
+    ghost premise = { λ p. F.premise (with_span_parser p) };
+
+    ghost backtracks = { λ p. F.backtracks (with_span_parser p) };
+
+    ghost consumes = { λ p. F.consumes (with_span_parser p) };
+
+    ghost grammar = { λ p. Made WithPlaces tt (F.grammar (with_span_parser p)) };
+
+    ghost exact = { λ p form is. with_span_exact (F.meaning form) (F.state (with_span_parser p))
+        (F.exact (with_span_parser p) form is) };
+
+    ghost soft = { λ p form is soft. with_span_soft (F.meaning form)
+        (F.state (with_span_parser p)) (F.soft (with_span_parser p) form is soft) };
+
+    ghost takes = { λ p is some. made_of_takes WithPlaces tt
+        (F.takes (with_span_parser p) is some) };
 }
 
 impl<

@@ -1,13 +1,21 @@
 //! Outputs with the slices that were read.
 ghost use Rattle.std.specs.Prelude.{◌≡◌};
+ghost use Rattle.grammars.specs.Grammar.{AndTaken};
 ghost use Rattle.stream_errors.specs.Form.{modal};
+ghost use Rattle.winnow_core.specs.Decided.Adapters.{with_taken_decided};
+ghost use Rattle.winnow_core.specs.Exact.Adapters.{and_taken_takes, with_taken_exact};
+ghost use Rattle.winnow_core.specs.Exact.Adapters.{with_taken_soft};
+ghost use Rattle.winnow_core.specs.InOrder.Decided.{AlikePairs};
+ghost use Rattle.winnow_core.specs.Literal.Laws.{ShowSame};
 ghost use Rattle.winnow_core.specs.MakesOutput.Laws.{makes_output_ends, makes_output_grows};
 ghost use Rattle.winnow_core.specs.Stable.Grows.{grows, stays};
-ghost use Rattle.winnow_core.specs.WithTaken.Laws.{with_taken_agrees, made_with_taken};
 ghost use Rattle.winnow_core.specs.WithTaken.{WithTakenRuns, with_taken_parser};
+ghost use Rattle.winnow_core.specs.WithTaken.Laws.{with_taken_agrees, made_with_taken};
 
 use crate::agrees_with::AgreesWith;
 use crate::combinator::impls::take::slice_from;
+use crate::decided::Decided;
+use crate::exact::Exact;
 use crate::parser::Parser;
 use crate::stable::Stable;
 use std::marker::PhantomData;
@@ -65,6 +73,36 @@ impl<F: Stable<I, O, E>, I: Stream, O, E: ParserError<I>> Stable<I, (O, I::Slice
     ghost stable = { stays
         (makes_output_grows _ (made_with_taken I.reading)
         (grows (F.leaves_ends modal) F.stable)) };
+}
+
+impl<F: Decided<I, O, E>, I: Stream, O, E: ParserError<I>> Decided<I, (O, I::Slice), E>
+    for WithTaken<F, I, O, E> {
+    ghost premise = { λ p. F.premise (with_taken_parser p) };
+
+    ghost alike = { λ p. AlikePairs (F.alike (with_taken_parser p)) (ShowSame I.reading) };
+
+    ghost decided = { λ p form is. with_taken_decided I.reading
+        (F.decided (with_taken_parser p) form is) };
+}
+
+impl<F: Exact<I, O, E>, I: Stream, O, E: ParserError<I>> Exact<I, (O, I::Slice), E>
+    for WithTaken<F, I, O, E> {
+    ghost premise = { λ p. F.premise (with_taken_parser p) };
+
+    ghost backtracks = { λ p. F.backtracks (with_taken_parser p) };
+
+    ghost consumes = { λ p. F.consumes (with_taken_parser p) };
+
+    ghost grammar = { λ p. AndTaken I.reading (F.grammar (with_taken_parser p)) };
+
+    ghost exact = { λ p form is. with_taken_exact I.reading
+        (F.exact (with_taken_parser p) form is) };
+
+    ghost soft = { λ p form is soft. with_taken_soft I.reading
+        (F.soft (with_taken_parser p) form is soft) };
+
+    ghost takes = { λ p is some. and_taken_takes I.reading
+        (F.takes (with_taken_parser p) is some) };
 }
 
 impl<

@@ -1,10 +1,13 @@
 //! Decimal signed numbers.
 ghost use Rattle.std.specs.Prelude.{⊤};
+ghost use Rattle.stream_sets.specs.Once.{SeesApart};
+ghost use Rattle.winnow_core.specs.Agrees.{agrees_plain};
+ghost use Rattle.winnow_core.specs.Runs.{Keeps};
 ghost use Rattle.winnow_core.specs.Stable.Grows.{leaf_stays};
 ghost use Rattle.winnow_numbers.specs.DecInt.{DecIntRuns};
 ghost use Rattle.winnow_numbers.specs.DecInt.Laws.{dec_int_alike, dec_int_ends, dec_int_stays};
-ghost use Rattle.winnow_core.specs.Agrees.{agrees_plain};
-ghost use Rattle.winnow_core.specs.Runs.{Keeps};
+ghost use Rattle.winnow_numbers.specs.Numeral.Exact.{dec_int_exact, dec_int_soft, signed_takes};
+ghost use Rattle.winnow_numbers.specs.Numeral.Grammar.{SignedDecimal};
 
 use crate::ascii::{Int, dec_int};
 use stream_errors::parser_error::ParserError;
@@ -13,6 +16,7 @@ use stream_sets::as_char::AsChar;
 use streams::reads_like::ReadsLike;
 use streams::stream::{Stream, StreamIsPartial};
 use winnow_core::agrees_with::AgreesWith;
+use winnow_core::exact::Exact;
 use winnow_core::parser::Parser;
 use winnow_core::stable::Stable;
 
@@ -52,6 +56,24 @@ where
 {
     ghost stable = { leaf_stays I.following _
         (λ _. dec_int_stays I.seen_as I.Token.code I.reading O.number O.fits) };
+}
+
+impl<I: StreamIsPartial + SlicesAsBytes, O: Int, E: ParserError<I>> Exact<I, O, E> for DecInt
+where
+    I::Token: AsChar,
+    I::Slice: AsBStr,
+{
+    ghost premise = { λ p. SeesApart I.seen_as };
+
+    ghost grammar = { λ p. SignedDecimal O.number O.fits I.seen_as I.Token.code };
+
+    ghost exact = { λ p form is. dec_int_exact I.seen_as I.Token.code I.reading O.number O.fits
+        form is };
+
+    ghost soft = { λ p form is soft. dec_int_soft I.seen_as I.Token.code I.reading O.number
+        O.fits form };
+
+    ghost takes = { λ p is some. signed_takes I.seen_as I.Token.code I.reading O.number O.fits };
 }
 
 impl<

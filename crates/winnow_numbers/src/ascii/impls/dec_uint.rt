@@ -1,10 +1,14 @@
 //! Decimal unsigned numbers.
 ghost use Rattle.std.specs.Prelude.{⊤};
-ghost use Rattle.winnow_core.specs.Stable.Grows.{leaf_stays};
-ghost use Rattle.winnow_numbers.specs.DecUint.{DecUintRuns};
-ghost use Rattle.winnow_numbers.specs.DecUint.Laws.{dec_uint_alike, dec_uint_ends, dec_uint_stays};
+ghost use Rattle.stream_sets.specs.Once.{SeesApart};
 ghost use Rattle.winnow_core.specs.Agrees.{agrees_plain};
 ghost use Rattle.winnow_core.specs.Runs.{Keeps};
+ghost use Rattle.winnow_core.specs.Stable.Grows.{leaf_stays};
+ghost use Rattle.winnow_numbers.specs.DecUint.{DecUintRuns};
+ghost use Rattle.winnow_numbers.specs.DecUint.Laws.{OneNumber, dec_uint_decided};
+ghost use Rattle.winnow_numbers.specs.DecUint.Laws.{dec_uint_alike, dec_uint_ends, dec_uint_stays};
+ghost use Rattle.winnow_numbers.specs.Numeral.Exact.{dec_uint_exact, dec_uint_soft, decimal_takes};
+ghost use Rattle.winnow_numbers.specs.Numeral.Grammar.{Decimal};
 
 use crate::ascii::{Uint, dec_uint};
 use stream_errors::parser_error::ParserError;
@@ -13,6 +17,8 @@ use stream_sets::as_char::AsChar;
 use streams::reads_like::ReadsLike;
 use streams::stream::{Stream, StreamIsPartial};
 use winnow_core::agrees_with::AgreesWith;
+use winnow_core::decided::Decided;
+use winnow_core::exact::Exact;
 use winnow_core::parser::Parser;
 use winnow_core::stable::Stable;
 
@@ -52,6 +58,36 @@ where
 {
     ghost stable = { leaf_stays I.following _
         (λ _. dec_uint_stays I.seen_as I.Token.code I.reading O.number O.bound) };
+}
+
+impl<I: StreamIsPartial + SlicesAsBytes, O: Uint, E: ParserError<I>> Decided<I, O, E> for DecUint
+where
+    I::Token: AsChar,
+    I::Slice: AsBStr,
+{
+    ghost alike = { λ p. OneNumber O.number };
+
+    ghost decided = { λ p form is. dec_uint_decided O.number O.bound I.seen_as I.Token.code
+        I.reading form I.one_code };
+}
+
+impl<I: StreamIsPartial + SlicesAsBytes, O: Uint, E: ParserError<I>> Exact<I, O, E> for DecUint
+where
+    I::Token: AsChar,
+    I::Slice: AsBStr,
+{
+    ghost premise = { λ p. SeesApart I.seen_as };
+
+    ghost grammar = { λ p. Decimal O.number O.bound I.seen_as I.Token.code };
+
+    ghost exact = { λ p form is. dec_uint_exact I.seen_as I.Token.code I.reading O.number O.bound
+        form is };
+
+    ghost soft = { λ p form is soft. dec_uint_soft I.seen_as I.Token.code I.reading O.number
+        O.bound form };
+
+    ghost takes = { λ p is some. decimal_takes I.seen_as I.Token.code I.reading O.number
+        O.bound };
 }
 
 impl<

@@ -1,11 +1,15 @@
 //! Hexadecimal numbers.
-ghost use Rattle.std.proofs.Common.{arith};
 ghost use Rattle.std.specs.Prelude.{◌≡◌, ◌+◌, ◌*◌, ◌^◌, ◌<◌, ℕ, ⊤};
-ghost use Rattle.winnow_core.specs.Stable.Grows.{leaf_stays};
-ghost use Rattle.winnow_numbers.specs.HexUint.{HexUintRuns};
-ghost use Rattle.winnow_numbers.specs.HexUint.Laws.{hex_uint_alike, hex_uint_ends, hex_uint_stays};
+ghost use Rattle.std.proofs.Common.{arith};
+ghost use Rattle.stream_sets.specs.Once.{SeesApart};
 ghost use Rattle.winnow_core.specs.Agrees.{agrees_plain};
 ghost use Rattle.winnow_core.specs.Runs.{Keeps};
+ghost use Rattle.winnow_core.specs.Stable.Grows.{leaf_stays};
+ghost use Rattle.winnow_numbers.specs.HexUint.{HexUintRuns};
+ghost use Rattle.winnow_numbers.specs.HexUint.Laws.{hex_uint_exact, hex_uint_soft};
+ghost use Rattle.winnow_numbers.specs.HexUint.Laws.{hexadecimal_takes};
+ghost use Rattle.winnow_numbers.specs.HexUint.Laws.{hex_uint_alike, hex_uint_ends, hex_uint_stays};
+ghost use Rattle.winnow_numbers.specs.Numeral.Grammar.{Hexadecimal};
 
 use crate::ascii::hex_uint;
 use crate::ascii::impls::hex_uint::sealed::SealedMarker;
@@ -15,6 +19,7 @@ use stream_sets::as_char::AsChar;
 use streams::reads_like::ReadsLike;
 use streams::stream::{Stream, StreamIsPartial};
 use winnow_core::agrees_with::AgreesWith;
+use winnow_core::exact::Exact;
 use winnow_core::parser::Parser;
 use winnow_core::stable::Stable;
 
@@ -212,6 +217,26 @@ where
 {
     ghost stable = { leaf_stays I.following _
         (λ _. hex_uint_stays I.seen_as I.Token.code I.reading O.number O.nibbles) };
+}
+
+impl<I: StreamIsPartial + SlicesAsBytes, O: HexUint, E: ParserError<I>> Exact<I, O, E>
+    for HexUintParser
+where
+    I::Token: AsChar,
+    I::Slice: AsBStr,
+{
+    ghost premise = { λ p. SeesApart I.seen_as };
+
+    ghost grammar = { λ p. Hexadecimal O.number O.nibbles I.seen_as I.Token.code };
+
+    ghost exact = { λ p form is. hex_uint_exact I.seen_as I.Token.code I.reading O.number
+        O.nibbles form is };
+
+    ghost soft = { λ p form is soft. hex_uint_soft I.seen_as I.Token.code I.reading O.number
+        O.nibbles form };
+
+    ghost takes = { λ p is some. hexadecimal_takes I.seen_as I.Token.code I.reading O.number
+        O.nibbles };
 }
 
 impl<

@@ -1,19 +1,22 @@
 //! Repetition.
-ghost use Rattle.std.specs.Prelude.{◌≡◌};
-ghost use Rattle.stream_errors.specs.Form.{answer_by, assert_kind, modal};
-ghost use Rattle.stream_sets.specs.declared.range.Range.{Range};
+ghost use Rattle.std.specs.Prelude.{◌≡◌, ◌<◌};
 ghost use Rattle.streams.specs.Input.{IsEndOf};
+ghost use Rattle.stream_sets.specs.Range.{IsWithin, bounds_of};
+ghost use Rattle.stream_sets.specs.declared.range.Range.{Range};
+ghost use Rattle.grammars.specs.Grammar.{Repeated};
+ghost use Rattle.stream_errors.specs.Form.{answer_by, assert_kind, modal};
+ghost use Rattle.winnow_core.specs.Agrees.{agrees_with};
 ghost use Rattle.winnow_core.specs.Stable.Grows.{grows, stays};
-ghost use Rattle.winnow_repeat.specs.Repeat.{RangedRuns, RepeatOneRuns};
 ghost use Rattle.winnow_repeat.specs.Fold.{fold_closure, fold_init, fold_occurrences, fold_parser};
-ghost use Rattle.winnow_repeat.specs.Repeat.{repeat_occurrences, repeat_parser};
+ghost use Rattle.winnow_repeat.specs.Repeat.{RangedRuns, RepeatOneRuns, repeat_occurrences};
+ghost use Rattle.winnow_repeat.specs.Repeat.{repeat_parser};
+ghost use Rattle.winnow_repeat.specs.Repeat.Decided.{HeldAlike, repeat_decided};
+ghost use Rattle.winnow_repeat.specs.Repeat.Exact.{repeat_exact, repeat_soft, repeat_takes};
 ghost use Rattle.winnow_repeat.specs.Repeat.Laws.{ranged_ends, repeat_grows};
 ghost use Rattle.winnow_repeat.specs.TryFold.{try_fold_closure, try_fold_init};
-ghost use Rattle.winnow_repeat.specs.TryFold.{try_fold_occurrences};
-ghost use Rattle.winnow_repeat.specs.TryFold.{try_fold_parser};
+ghost use Rattle.winnow_repeat.specs.TryFold.{try_fold_occurrences, try_fold_parser};
 ghost use Rattle.winnow_repeat.specs.VerifyFold.{verify_fold_closure, verify_fold_init};
 ghost use Rattle.winnow_repeat.specs.VerifyFold.{verify_fold_occurrences, verify_fold_parser};
-ghost use Rattle.winnow_core.specs.Agrees.{agrees_with};
 
 use crate::combinator::impls::{RepeatFold, RepeatTryFold, RepeatVerifyFold};
 use crate::combinator::items::{repeat_items, repeat_many};
@@ -22,9 +25,12 @@ use std::marker::PhantomData;
 use stream_errors::external::FromExternalError;
 use stream_errors::parser_error::ParserError;
 use stream_sets::accumulate::Accumulate;
+use stream_sets::gathers::Gathers;
 use stream_sets::range::Range;
 use streams::stream::Stream;
 use winnow_core::agrees_with::AgreesWith;
+use winnow_core::decided::Decided;
+use winnow_core::exact::Exact;
 use winnow_core::parser::Parser;
 use winnow_core::stable::Stable;
 
@@ -169,6 +175,54 @@ impl<
     ghost stable = { stays
         (repeat_grows (P.meaning modal) C.accumulator (assert_kind modal)
         (grows (P.leaves_ends modal) P.stable)) };
+}
+
+impl<
+    P: Decided<I, O, E>,
+    I: Stream,
+    O: Drop,
+    C: Gathers<O, A>,
+    E: ParserError<I>,
+    A: Allocator + Copy,
+> Decided<I, C, E> for Repeat<P, I, O, C, E, A> {
+    ghost premise = { λ p. P.premise (repeat_parser p) };
+
+    ghost alike = { λ p. HeldAlike C.holds (P.alike (repeat_parser p)) };
+
+    ghost decided = { λ p form is. repeat_decided C.accumulator (assert_kind form) C.holds
+        C.gathers (P.state (repeat_parser p), repeat_occurrences p)
+        (P.decided (repeat_parser p) form is) };
+}
+
+impl<
+    P: Exact<I, O, E>,
+    I: Stream,
+    O: Drop,
+    C: Gathers<O, A>,
+    E: ParserError<I>,
+    A: Allocator + Copy,
+> Exact<I, C, E> for Repeat<P, I, O, C, E, A> {
+    ghost premise = { λ p. P.premise (repeat_parser p) × P.backtracks (repeat_parser p)
+        × P.consumes (repeat_parser p) × IsWithin (bounds_of (repeat_occurrences p)).greatest
+        (bounds_of (repeat_occurrences p)).least };
+
+    ghost consumes = { λ p. 0 < (bounds_of (repeat_occurrences p)).least };
+
+    ghost grammar = { λ p. Repeated C.holds (repeat_occurrences p)
+        (P.grammar (repeat_parser p)) };
+
+    ghost exact = { λ p form is. repeat_exact C.accumulator (assert_kind form)
+        (P.state (repeat_parser p), repeat_occurrences p) C.holds C.gathers (P.exact
+        (repeat_parser p) form is.0)
+        (P.soft (repeat_parser p) form is.0 is.1) (P.takes (repeat_parser p) is.0 is.2) is.3 };
+
+    ghost soft = { λ p form is soft. repeat_soft C.accumulator (assert_kind form)
+        (P.state (repeat_parser p), repeat_occurrences p) (P.exact (repeat_parser p) form is.0)
+        (P.soft (repeat_parser p) form is.0 is.1) (P.takes (repeat_parser p) is.0 is.2) is.3 };
+
+    ghost takes = { λ p is some. repeat_takes C.accumulator (assert_kind modal)
+        (P.state (repeat_parser p), repeat_occurrences p) C.holds
+        (P.exact (repeat_parser p) modal is.0) (P.takes (repeat_parser p) is.0 is.2) some };
 }
 
 impl<

@@ -1,23 +1,32 @@
 //! Elements with separators between them.
-ghost use Rattle.std.specs.Prelude.{◌≡◌};
-ghost use Rattle.stream_errors.specs.Form.{answer_by, assert_kind, modal};
-ghost use Rattle.stream_sets.specs.Range.{IsWithin, from_to};
-ghost use Rattle.stream_sets.specs.declared.range.Range.{Range};
+ghost use Rattle.std.specs.Prelude.{◌≡◌, ◌<◌};
 ghost use Rattle.streams.specs.Input.{IsEndOf};
-ghost use Rattle.winnow_core.specs.Stable.Grows.{grows, stays};
-ghost use Rattle.winnow_separated.specs.Separated.{ElementsRun, LinksRun, RangedElements};
-ghost use Rattle.winnow_separated.specs.Separated.{SeparatedRuns};
-ghost use Rattle.winnow_separated.specs.Separated.Laws.{separated_ends, separated_grows};
+ghost use Rattle.stream_sets.specs.Range.{IsWithin, from_to, bounds_of};
+ghost use Rattle.stream_sets.specs.declared.range.Range.{Range};
+ghost use Rattle.grammars.specs.Grammar.{Apart};
+ghost use Rattle.stream_errors.specs.Form.{answer_by, assert_kind, modal};
 ghost use Rattle.winnow_core.specs.Agrees.Beside.{agrees2_with};
+ghost use Rattle.winnow_core.specs.Stable.Grows.{grows, stays};
+ghost use Rattle.winnow_repeat.specs.Repeat.Decided.{HeldAlike};
+ghost use Rattle.winnow_separated.specs.Separated.{ElementsRun, LinksRun, RangedElements};
+ghost use Rattle.winnow_separated.specs.Separated.{SeparatedRuns, separated_occurrences};
+ghost use Rattle.winnow_separated.specs.Separated.{separated_parser, separated_separator};
+ghost use Rattle.winnow_separated.specs.Separated.Decided.{separated_decided};
+ghost use Rattle.winnow_separated.specs.Separated.Exact.{separated_exact, separated_soft};
+ghost use Rattle.winnow_separated.specs.Separated.Exact.{separated_takes};
+ghost use Rattle.winnow_separated.specs.Separated.Laws.{separated_ends, separated_grows};
 
 use crate::combinator::impls::link::Link;
 use std::alloc::Allocator;
 use std::marker::PhantomData;
 use stream_errors::parser_error::ParserError;
 use stream_sets::accumulate::Accumulate;
+use stream_sets::gathers::Gathers;
 use stream_sets::range::Range;
 use streams::stream::Stream;
 use winnow_core::agrees_with::AgreesWith;
+use winnow_core::decided::Decided;
+use winnow_core::exact::Exact;
 use winnow_core::parser::Parser;
 use winnow_core::stable::Stable;
 use winnow_repeat::combinator::items::is_descending;
@@ -78,6 +87,69 @@ impl<
     ghost stable = { stays
         (separated_grows (P.meaning modal) (S.meaning modal) C.accumulator (assert_kind modal)
         (grows (P.leaves_ends modal) P.stable) (grows (S.leaves_ends modal) S.stable)) };
+}
+
+impl<
+    P: Decided<I, O, E>,
+    S: Decided<I, D, E>,
+    I: Stream,
+    O: Drop,
+    D: Drop,
+    C: Gathers<O, A>,
+    E: ParserError<I>,
+    A: Allocator + Copy,
+> Decided<I, C, E> for Separated<P, S, I, O, D, C, E, A> {
+    ghost premise = { λ p. P.premise (separated_parser p) × S.premise (separated_separator p) };
+
+    ghost alike = { λ p. HeldAlike C.holds (P.alike (separated_parser p)) };
+
+    ghost decided = { λ p form is. separated_decided C.accumulator (assert_kind form) C.holds
+        C.gathers
+        (P.state (separated_parser p), S.state (separated_separator p), separated_occurrences p)
+        (P.decided (separated_parser p) form is.0)
+        (S.decided (separated_separator p) form is.1) };
+}
+
+impl<
+    P: Exact<I, O, E>,
+    S: Exact<I, D, E>,
+    I: Stream,
+    O: Drop,
+    D: Drop,
+    C: Gathers<O, A>,
+    E: ParserError<I>,
+    A: Allocator + Copy,
+> Exact<I, C, E> for Separated<P, S, I, O, D, C, E, A> {
+    ghost premise = { λ p. P.premise (separated_parser p) × P.backtracks (separated_parser p)
+        × S.premise (separated_separator p) × S.backtracks (separated_separator p)
+        × S.consumes (separated_separator p)
+        × IsWithin (bounds_of (separated_occurrences p)).greatest
+        (bounds_of (separated_occurrences p)).least };
+
+    ghost consumes = { λ p. P.consumes (separated_parser p)
+        × (0 < (bounds_of (separated_occurrences p)).least) };
+
+    ghost grammar = { λ p. Apart C.holds (separated_occurrences p)
+        (P.grammar (separated_parser p)) (S.grammar (separated_separator p)) };
+
+    ghost exact = { λ p form is. separated_exact C.accumulator (assert_kind form)
+        (P.state (separated_parser p), S.state (separated_separator p), separated_occurrences p)
+        (P.exact (separated_parser p) form is.0) (S.exact (separated_separator p) form is.2)
+        (S.takes (separated_separator p) is.2 is.4) C.holds C.gathers
+        (P.soft (separated_parser p) form is.0 is.1)
+        (S.soft (separated_separator p) form is.2 is.3) is.5 };
+
+    ghost soft = { λ p form is soft. separated_soft C.accumulator (assert_kind form)
+        (P.state (separated_parser p), S.state (separated_separator p), separated_occurrences p)
+        (P.exact (separated_parser p) form is.0) (S.exact (separated_separator p) form is.2)
+        (S.takes (separated_separator p) is.2 is.4)
+        (P.soft (separated_parser p) form is.0 is.1)
+        (S.soft (separated_separator p) form is.2 is.3) is.5 };
+
+    ghost takes = { λ p is some. separated_takes C.holds (separated_occurrences p)
+        (P.exact (separated_parser p) modal is.0).unique
+        (S.exact (separated_separator p) modal is.2).unique
+        (P.takes (separated_parser p) is.0 some.0) some.1 };
 }
 
 impl<

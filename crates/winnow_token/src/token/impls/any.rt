@@ -1,16 +1,21 @@
 //! One token.
 ghost use Rattle.std.specs.Prelude.{⊤};
+ghost use Rattle.grammars.specs.Grammar.{Token};
 ghost use Rattle.winnow_core.specs.Agrees.{agrees_plain};
 ghost use Rattle.winnow_core.specs.Runs.{Keeps};
 ghost use Rattle.winnow_core.specs.Stable.Grows.{leaf_stays};
 ghost use Rattle.winnow_token.specs.Any.{AnyRuns};
+ghost use Rattle.winnow_token.specs.Any.Laws.{any_exact, any_soft, token_takes};
 ghost use Rattle.winnow_token.specs.Any.Laws.{any_alike, any_ends, any_stays};
+ghost use Rattle.winnow_token.specs.Any.Laws.{SeenSame, any_decided};
 
 use crate::token::any;
 use stream_errors::parser_error::ParserError;
 use streams::reads_like::ReadsLike;
 use streams::stream::{Stream, StreamIsPartial};
 use winnow_core::agrees_with::AgreesWith;
+use winnow_core::decided::Decided;
+use winnow_core::exact::Exact;
 use winnow_core::parser::Parser;
 use winnow_core::stable::Stable;
 
@@ -41,6 +46,22 @@ impl<I: StreamIsPartial, E: ParserError<I>> Parser<I, I::Token, E> for Any {
 
 impl<I: StreamIsPartial, E: ParserError<I>> Stable<I, I::Token, E> for Any {
     ghost stable = { leaf_stays I.following _ (λ _. any_stays I.seen_as I.reading) };
+}
+
+impl<I: StreamIsPartial, E: ParserError<I>> Decided<I, I::Token, E> for Any {
+    ghost alike = { λ p. SeenSame I.seen_as };
+
+    ghost decided = { λ p form is. any_decided I.seen_as I.reading form };
+}
+
+impl<I: StreamIsPartial, E: ParserError<I>> Exact<I, I::Token, E> for Any {
+    ghost grammar = { λ p. Token I.seen_as };
+
+    ghost exact = { λ p form is. any_exact I.seen_as I.reading form };
+
+    ghost soft = { λ p form is soft. any_soft I.seen_as I.reading form };
+
+    ghost takes = { λ p is some. token_takes I.seen_as };
 }
 
 impl<

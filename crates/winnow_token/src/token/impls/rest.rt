@@ -1,8 +1,10 @@
 //! All that is left.
-ghost use Rattle.std.specs.Prelude.{⊤};
+ghost use Rattle.std.specs.Prelude.{⊤, ◌<◌};
+ghost use Rattle.grammars.specs.Grammar.{AllTokens};
 ghost use Rattle.winnow_core.specs.Agrees.{agrees_plain};
 ghost use Rattle.winnow_core.specs.Runs.{Keeps};
 ghost use Rattle.winnow_token.specs.Rest.{RestRuns};
+ghost use Rattle.winnow_token.specs.Rest.Laws.{rest_exact, rest_soft};
 ghost use Rattle.winnow_token.specs.Rest.Laws.{rest_alike, rest_ends};
 
 use crate::token::rest;
@@ -10,6 +12,7 @@ use stream_errors::parser_error::ParserError;
 use streams::reads_like::ReadsLike;
 use streams::stream::Stream;
 use winnow_core::agrees_with::AgreesWith;
+use winnow_core::exact::Exact;
 use winnow_core::parser::Parser;
 
 /// The parser [`rest`](crate::token::rest).
@@ -34,6 +37,18 @@ impl<I: Stream, E: ParserError<I>> Parser<I, I::Slice, E> for Rest {
     fn parse_next(&mut self, input: &mut I) -> Result<I::Slice, E> {
         rest(input)
     }
+}
+
+impl<I: Stream, E: ParserError<I>> Exact<I, I::Slice, E> for Rest {
+    ghost consumes = { λ p. ⊥ };
+
+    ghost grammar = { λ p. AllTokens I.reading };
+
+    ghost exact = { λ p form is. rest_exact I.reading };
+
+    ghost soft = { λ p form is soft. rest_soft I.reading };
+
+    ghost takes = { λ p is never. absurd never };
 }
 
 impl<

@@ -1,9 +1,11 @@
 //! How much is left.
-ghost use Rattle.std.specs.Prelude.{⊤};
+ghost use Rattle.std.specs.Prelude.{⊤, ◌<◌};
+ghost use Rattle.grammars.specs.Grammar.{UnitsLeft};
 ghost use Rattle.winnow_core.specs.Agrees.{agrees_plain};
 ghost use Rattle.winnow_core.specs.Ends.{same_ends};
 ghost use Rattle.winnow_core.specs.Runs.{Keeps};
 ghost use Rattle.winnow_token.specs.Rest.{RestLenRuns};
+ghost use Rattle.winnow_token.specs.Rest.Laws.{rest_len_exact, rest_len_soft};
 ghost use Rattle.winnow_token.specs.Rest.Laws.{rest_len_alike};
 
 use crate::token::rest_len;
@@ -11,6 +13,7 @@ use stream_errors::parser_error::ParserError;
 use streams::reads_like::ReadsLike;
 use streams::stream::Stream;
 use winnow_core::agrees_with::AgreesWith;
+use winnow_core::exact::Exact;
 use winnow_core::parser::Parser;
 
 /// The parser [`rest_len`](crate::token::rest_len).
@@ -35,6 +38,18 @@ impl<I: Stream, E: ParserError<I>> Parser<I, usize, E> for RestLen {
     fn parse_next(&mut self, input: &mut I) -> Result<usize, E> {
         rest_len(input)
     }
+}
+
+impl<I: Stream, E: ParserError<I>> Exact<I, usize, E> for RestLen {
+    ghost consumes = { λ p. ⊥ };
+
+    ghost grammar = { λ p. UnitsLeft I.reading };
+
+    ghost exact = { λ p form is. rest_len_exact I.reading };
+
+    ghost soft = { λ p form is soft. rest_len_soft I.reading };
+
+    ghost takes = { λ p is never. absurd never };
 }
 
 impl<

@@ -1,11 +1,15 @@
 //! Takes of what stands before a literal.
-ghost use Rattle.std.specs.Prelude.{◌≡◌};
-ghost use Rattle.stream_sets.specs.Range.{bounds_of};
+ghost use Rattle.std.specs.Prelude.{◌≡◌, ◌<◌};
+ghost use Rattle.stream_sets.specs.Range.{bounds_of, IsWithin};
 ghost use Rattle.stream_sets.specs.declared.range.Range.{Range};
+ghost use Rattle.grammars.specs.Grammar.Searches.{Before};
+ghost use Rattle.grammars.specs.Grammar.Searches.Unique.{before_takes};
 ghost use Rattle.winnow_core.specs.Agrees.{agrees_by_parts};
 ghost use Rattle.winnow_core.specs.Runs.{Keeps};
 ghost use Rattle.winnow_core.specs.Stable.Grows.{leaf_stays};
-ghost use Rattle.winnow_token.specs.TakeUntil.{TakeUntilRuns};
+ghost use Rattle.winnow_token.specs.TakeUntil.{TakeUntilRuns, take_until_literal};
+ghost use Rattle.winnow_token.specs.TakeUntil.{take_until_occurrences};
+ghost use Rattle.winnow_token.specs.TakeUntil.Laws.{take_until_exact, take_until_soft};
 ghost use Rattle.winnow_token.specs.TakeUntil.Laws.{take_until_alike, take_until_ends};
 ghost use Rattle.winnow_token.specs.TakeUntil.Laws.{take_until_stays};
 
@@ -17,6 +21,7 @@ use stream_searches::find::like::FindsLike;
 use stream_sets::range::Range;
 use streams::stream::{Stream, StreamIsPartial};
 use winnow_core::agrees_with::AgreesWith;
+use winnow_core::exact::Exact;
 use winnow_core::parser::Parser;
 use winnow_core::stable::Stable;
 
@@ -58,6 +63,26 @@ impl<T: Copy, I: StreamIsPartial + FindSlice<T>, E: ParserError<I>> Stable<I, I:
     ghost stable = { leaf_stays I.following _
         (λ x. take_until_stays I.reading (I.sought x.1) (I.stays_first x.1)
         (bounds_of x.0)) };
+}
+
+impl<T: Copy, I: StreamIsPartial + FindSlice<T>, E: ParserError<I>> Exact<I, I::Slice, E>
+    for TakeUntil<T, I, E> {
+    ghost premise = { λ p. IsWithin (bounds_of (take_until_occurrences p)).greatest
+        (bounds_of (take_until_occurrences p)).least };
+
+    ghost consumes = { λ p. 0 < (bounds_of (take_until_occurrences p)).least };
+
+    ghost grammar = { λ p. Before I.reading (I.sought (take_until_literal p))
+        (bounds_of (take_until_occurrences p)) };
+
+    ghost exact = { λ p form is. take_until_exact I.reading form (λ x. I.sought x.1)
+        (λ x. bounds_of x.0) (take_until_occurrences p, take_until_literal p) is };
+
+    ghost soft = { λ p form is soft. take_until_soft I.reading form (λ x. I.sought x.1)
+        (λ x. bounds_of x.0) (take_until_occurrences p, take_until_literal p) is };
+
+    ghost takes = { λ p is some. before_takes I.reading (I.sought (take_until_literal p))
+        (bounds_of (take_until_occurrences p)) some };
 }
 
 impl<

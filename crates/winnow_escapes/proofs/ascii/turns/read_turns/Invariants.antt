@@ -1,7 +1,8 @@
 use Rattle.std.proofs.Common.{List}
 use Rattle.streams.specs.Input.{IsEndOf}
 use Rattle.stream_errors.specs.Form.{plain}
-use Rattle.winnow_repeat.specs.Chain.{Accumulates, Chain}
+use Rattle.stream_sets.specs.Accumulator.Holds.{Accumulates}
+use Rattle.winnow_repeat.specs.Chain.{Chain}
 use Rattle.winnow_escapes.specs.Escaped.{EscapeTurnRuns, turns_kept}
 use Rattle.winnow_escapes.proofs.ascii.turns.read_turns.Given as goal
 

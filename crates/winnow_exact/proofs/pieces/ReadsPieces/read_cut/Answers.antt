@@ -1,4 +1,4 @@
-use Rattle.winnow_exact.specs.Exact.Cut.{told_or_asked}
+use Rattle.winnow_exact.specs.Cut.{told_or_asked}
 use Rattle.winnow_exact.proofs.pieces.ReadsPieces.read_cut.Goals as goal
 
 pub returns : goal.returns

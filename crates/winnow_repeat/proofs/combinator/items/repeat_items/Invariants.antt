@@ -1,7 +1,8 @@
 use Rattle.winnow_repeat.specs.Room.{RoomBehind}
 use Rattle.std.proofs.Common.{List, length}
 use Rattle.streams.specs.Input.{IsEndOf}
-use Rattle.winnow_repeat.specs.Chain.{Chain, Accumulates}
+use Rattle.winnow_repeat.specs.Chain.{Chain}
+use Rattle.stream_sets.specs.Accumulator.Holds.{Accumulates}
 use Rattle.winnow_repeat.proofs.combinator.items.repeat_items.Given as goal
 
 abbrev pub invariant-items : goal.invariant-items

@@ -1,4 +1,4 @@
-use Rattle.std.proofs.Common.{◌≡◌, ap, arith, refl, subst, ◌∙◌}
+use Rattle.std.proofs.Common.{ap, arith, refl, subst, ◌∙◌}
 use Rattle.streams.specs.Input.{Input, IsEndOf, Passes, Takes, back_at, passed_again}
 use Rattle.winnow_core.proofs.combinator.impls.take.slice_from.Given as given
 use Rattle.winnow_core.proofs.combinator.impls.take.slice_from.Goals as goal

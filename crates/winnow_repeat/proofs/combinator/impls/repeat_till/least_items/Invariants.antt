@@ -1,6 +1,7 @@
 use Rattle.std.proofs.Common.{◌≡◌, ◌+◌, List, length}
 use Rattle.streams.specs.Input.{IsEndOf}
-use Rattle.winnow_repeat.specs.Chain.{Accumulates, Successes}
+use Rattle.stream_sets.specs.Accumulator.Holds.{Accumulates}
+use Rattle.winnow_repeat.specs.Chain.{Successes}
 use Rattle.winnow_repeat.proofs.combinator.impls.repeat_till.least_items.Given as goal
 
 abbrev pub invariant-items : goal.invariant-items

@@ -1,7 +1,8 @@
 use Rattle.winnow_repeat.specs.Room.{RoomBehind}
 use Rattle.std.proofs.Common.{List, length}
 use Rattle.streams.specs.Input.{IsEndOf}
-use Rattle.winnow_repeat.specs.Chain.{Chain, Accumulates}
+use Rattle.winnow_repeat.specs.Chain.{Chain}
+use Rattle.stream_sets.specs.Accumulator.Holds.{Accumulates}
 use Rattle.winnow_separated.specs.Link.{LinkRuns}
 use Rattle.winnow_separated.proofs.combinator.impls.separated.separated_links.Given as goal
 

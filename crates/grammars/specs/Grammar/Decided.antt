@@ -1,0 +1,76 @@
+-- What stands where an output decides what stands behind it.
+use Rattle.std.specs.Prelude.{◌⊎◌, List}
+use Rattle.std.proofs.Common.{subst, arith, inl, inr}
+use Rattle.grammars.specs.Grammar.{Grammar, IsUnique, Takes}
+use Rattle.grammars.specs.Grammar.Same.{Same, same_sym}
+use Rattle.grammars.specs.Grammar.Unique.{end_of_end, no_longer_than}
+
+-- An output stands, and behind it one of what is made of the first, by some part of the parser.
+unfoldable pub Decided : {F T O H U : Type 0} → (F → O → H → Type 0) → F → (H → Grammar T U)
+    → Grammar T O → Grammar T U
+Decided {T = T} {O} {H} makes part reads grammar tokens u rest =
+    (o : O) × (mid : List T) × (made : H) × grammar tokens o mid × makes part o made
+    × reads made mid u rest
+
+-- Of outputs that stand in the same tokens is made by what the same stands.
+abbrev pub MadeAlike : {F T O H U : Type 0} → (F → O → H → Type 0) → F → (H → Grammar T U)
+    → Grammar T O → Type 0
+MadeAlike {T = T} {O} {H} makes part reads grammar =
+    (tokens : List T) (o p : O) (mid other : List T) (m n : H) → grammar tokens o mid
+    → grammar tokens p other → makes part o m → makes part p n → Same (reads m) (reads n)
+
+-- Each that is made meets this.
+abbrev pub EachMade : {F O H : Type 0} → (F → O → H → Type 0) → F → (H → Type 0) → Type 0
+EachMade {O = O} {H} makes part meets = (o : O) (made : H) → makes part o made → meets made
+
+module _ {F T O H U : Type 0} (makes : F → O → H → Type 0) (part : F) (reads : H → Grammar T U)
+    {g : Grammar T O} (first : IsUnique g)
+    (second : EachMade makes part (λ made. IsUnique (reads made))) where
+  pub decided_unique : MadeAlike makes part reads g → IsUnique (Decided makes part reads g)
+  unfolding Decided
+  decided_unique alike = record {
+    ends = λ tokens u rest (o, mid, made, x, m, y). end_of_end (first.ends tokens o mid x)
+        ((second o made m).ends mid u rest y);
+    one = λ tokens u v rest end (o, mid, made, x, m, y) (p, other, more, z, n, w).
+        let P : List T → Type 0 = λ l. reads made l v end in
+        let same = first.one tokens p o other mid z x in
+        let there = (alike tokens o p mid other made more x z m n).back other v end w in
+        (second o made m).one mid u v rest end y (subst P same there);
+  }
+
+  pub decided_takes : Takes g ⊎ EachMade makes part (λ made. Takes (reads made))
+      → Takes (Decided makes part reads g)
+  unfolding Decided
+  decided_takes (inl takes) = record {
+    fewer = λ tokens u rest (o, mid, made, x, m, y). omega (
+      arith,
+      takes.fewer tokens o mid x,
+      no_longer_than (second o made m) mid u rest y,
+    );
+  }
+  decided_takes (inr each) = record {
+    fewer = λ tokens u rest (o, mid, made, x, m, y). omega (
+      arith,
+      no_longer_than first tokens o mid x,
+      (each o made m).fewer mid u rest y,
+    );
+  }
+
+-- ---- of what is alike, what is alike is made
+
+module _ {F T O H U : Type 0} (makes : F → O → H → Type 0) (part : F) where
+  decided_as : {reads other : H → Grammar T U} {g h : Grammar T O}
+      → ((made : H) → Same (reads made) (other made)) → Same g h → (tokens : List T) (u : U)
+      (rest : List T) → Decided makes part reads g tokens u rest
+      → Decided makes part other h tokens u rest
+  unfolding Decided
+  decided_as each same tokens u rest (o, mid, made, x, m, y) =
+      (o, mid, made, same.there tokens o mid x, m, (each made).there mid u rest y)
+
+  pub decided_same : {reads other : H → Grammar T U} {g h : Grammar T O}
+      → ((made : H) → Same (reads made) (other made)) → Same g h
+      → Same (Decided makes part reads g) (Decided makes part other h)
+  decided_same each same = record {
+    there = decided_as each same;
+    back = decided_as (λ made. same_sym (each made)) (same_sym same);
+  }

@@ -1,0 +1,57 @@
+-- What stands before what is sought, and line ends.
+use Rattle.std.specs.Prelude.{◌≡◌, ◌⊎◌, ◌≤◌, ℕ, List, [], ◌∷◌, ◌++◌, length}
+use Rattle.std.specs.Borrow.{Bor}
+use Rattle.streams.specs.Reading.{Reading}
+use Rattle.stream_sets.specs.Range.{Bounds, IsWithin}
+use Rattle.grammars.specs.Grammar.{Either, Grammar, Literally, SpelledBy}
+use Rattle.stream_searches.specs.Compare.{StandsFirst}
+use Rattle.stream_searches.specs.FindSlice.{Stands}
+pub mod Unique
+
+-- Right behind the front a list that is sought stands, and none does at an earlier place.
+pub record IsBefore {T : Type 0} (sought : List T → Type 0) (tokens front rest : List T) : Type 0
+  where
+    pub splits : tokens ≡ front ++ rest
+    pub stands : StandsFirst sought rest
+    pub first : (other hit behind : List T) → Stands sought tokens other hit behind
+        → length front ≤ length other
+
+-- The tokens before the first place where what is sought stands, as many as the bounds say, and a
+-- slice shows them.
+unfoldable pub Before : {T L : Type 0} → Reading T L → (List T → Type 0) → Bounds → Grammar T L
+Before {T} reading sought bounds tokens slice rest =
+    (front : List T) × IsBefore sought tokens front rest × (bounds.least ≤ length front)
+    × IsWithin bounds.greatest (length front) × reading.shows slice front
+
+-- A text of these bytes.
+abbrev pub Text : {T L : Type 0} → Reading T L → (Bor (List ℕ) → List T → Type 0) → List ℕ
+    → Grammar T L
+Text reading spells = Literally reading (SpelledBy spells) (λ _ slice. slice)
+
+-- A line feed, or a carriage return and a line feed.
+abbrev pub LineEnd : {T L : Type 0} → Reading T L → (Bor (List ℕ) → List T → Type 0) → Grammar T L
+LineEnd reading spells =
+    Either (Text reading spells (10 ∷ [])) (Text reading spells (13 ∷ 10 ∷ []))
+
+-- Neither a carriage return nor a line feed stands anywhere, where `sought` says for which lists a
+-- pair of characters is searched.
+abbrev pub HasNoLineEnd : {T : Type 0} → (ℕ × ℕ → List T → Type 0) → List T → Type 0
+HasNoLineEnd {T} sought tokens =
+    (front hit rest : List T) → Stands (sought (13, 10)) tokens front hit rest → ⊥
+
+-- The front is what stands before the first carriage return or line feed, or all the tokens, where
+-- there is neither.
+abbrev pub IsLineOf : {T : Type 0} → (ℕ × ℕ → List T → Type 0) → List T → List T → List T → Type 0
+IsLineOf sought tokens front rest =
+    IsBefore (sought (13, 10)) tokens front rest
+    ⊎ (HasNoLineEnd sought tokens × (front ≡ tokens) × (rest ≡ []))
+
+-- A line without its end, and a slice shows it. Where a carriage return is left behind it, a line
+-- feed stands behind that.
+unfoldable pub Line : {T L : Type 0} → Reading T L → (Bor (List ℕ) → List T → Type 0)
+    → (ℕ × ℕ → List T → Type 0) → Grammar T L
+Line {T} reading spells sought tokens slice rest =
+    (front : List T) × IsLineOf sought tokens front rest
+    × (StandsFirst (SpelledBy spells (13 ∷ [])) rest
+    → StandsFirst (SpelledBy spells (13 ∷ 10 ∷ [])) rest)
+    × reading.shows slice front

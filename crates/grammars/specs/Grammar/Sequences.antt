@@ -1,0 +1,75 @@
+-- Sequences of three and four: that they leave one rest, and when they take tokens.
+use Rattle.std.specs.Prelude.{◌⊎◌, List}
+use Rattle.std.proofs.Common.{subst, inl, inr, arith}
+use Rattle.grammars.specs.Grammar.{Grammar, IsUnique, Takes, Three}
+use Rattle.grammars.specs.Grammar.Tuples.{Four}
+use Rattle.grammars.specs.Grammar.Unique.{end_of_end, no_longer_than}
+
+module _ {T O1 O2 O3 O : Type 0} (output : O1 → O2 → O3 → O) {g1 : Grammar T O1}
+    {g2 : Grammar T O2} {g3 : Grammar T O3} where
+  pub three_unique : IsUnique g1 → IsUnique g2 → IsUnique g3 → IsUnique (Three output g1 g2 g3)
+  unfolding Three
+  three_unique first second third = record {
+    ends = λ tokens o rest (o1, o2, o3, a, b, x, y, z, e).
+        end_of_end (first.ends tokens o1 a x)
+        (end_of_end (second.ends a o2 b y) (third.ends b o3 rest z));
+    one = λ tokens o p rest other (o1, o2, o3, a, b, x, y, z, e) (p1, p2, p3, c, d, u, v, w, f).
+        let P : List T → Type 0 = λ l. g2 l o2 b in
+        let Q : List T → Type 0 = λ l. g3 l o3 rest in
+        third.one d o3 p3 rest other
+        (subst Q (second.one c o2 p2 b d (subst P (first.one tokens o1 p1 a c x u) y) v) z) w;
+  }
+
+  -- where one of them takes tokens, so do all
+  pub three_take : IsUnique g1 → IsUnique g2 → IsUnique g3 → Takes g1 ⊎ (Takes g2 ⊎ Takes g3)
+      → Takes (Three output g1 g2 g3)
+  unfolding Three
+  three_take first second third some = record {
+    fewer = λ tokens o rest (o1, o2, o3, a, b, x, y, z, e).
+        let one = no_longer_than first tokens o1 a x in
+        let two = no_longer_than second a o2 b y in
+        let three = no_longer_than third b o3 rest z in
+        elim some [
+          | inl takes ↦ omega (arith, takes.fewer tokens o1 a x, two, three)
+          | inr (inl takes) ↦ omega (arith, one, takes.fewer a o2 b y, three)
+          | inr (inr takes) ↦ omega (arith, one, two, takes.fewer b o3 rest z)
+        ];
+  }
+
+module _ {T O1 O2 O3 O4 : Type 0} {g1 : Grammar T O1} {g2 : Grammar T O2} {g3 : Grammar T O3}
+    {g4 : Grammar T O4} (first : IsUnique g1) (second : IsUnique g2) (third : IsUnique g3)
+    (fourth : IsUnique g4) where
+  pub four_unique : IsUnique (Four g1 g2 g3 g4)
+  unfolding Four
+  four_unique = record {
+    ends = λ tokens o rest (o1, o2, o3, o4, a, b, c, x, y, z, w, e).
+        end_of_end (first.ends tokens o1 a x)
+        (end_of_end (second.ends a o2 b y)
+        (end_of_end (third.ends b o3 c z) (fourth.ends c o4 rest w)));
+    one = λ tokens o p rest other (o1, o2, o3, o4, a, b, c, x, y, z, w, e)
+        (p1, p2, p3, p4, d, f, g, t, u, v, s, h).
+        let P : List T → Type 0 = λ l. g2 l o2 b in
+        let Q : List T → Type 0 = λ l. g3 l o3 c in
+        let R : List T → Type 0 = λ l. g4 l o4 rest in
+        let one = first.one tokens o1 p1 a d x t in
+        let two = second.one d o2 p2 b f (subst P one y) u in
+        let three = third.one f o3 p3 c g (subst Q two z) v in
+        fourth.one g o4 p4 rest other (subst R three w) s;
+  }
+
+  -- where one of them takes tokens, so do all
+  pub four_take : Takes g1 ⊎ (Takes g2 ⊎ (Takes g3 ⊎ Takes g4)) → Takes (Four g1 g2 g3 g4)
+  unfolding Four
+  four_take some = record {
+    fewer = λ tokens o rest (o1, o2, o3, o4, a, b, c, x, y, z, w, e).
+        let one = no_longer_than first tokens o1 a x in
+        let two = no_longer_than second a o2 b y in
+        let three = no_longer_than third b o3 c z in
+        let four = no_longer_than fourth c o4 rest w in
+        elim some [
+          | inl takes ↦ omega (arith, takes.fewer tokens o1 a x, two, three, four)
+          | inr (inl takes) ↦ omega (arith, one, takes.fewer a o2 b y, three, four)
+          | inr (inr (inl takes)) ↦ omega (arith, one, two, takes.fewer b o3 c z, four)
+          | inr (inr (inr takes)) ↦ omega (arith, one, two, three, takes.fewer c o4 rest w)
+        ];
+  }

@@ -1,0 +1,160 @@
+-- Texts: which tokens are written for a value; and grammars that are those of texts.
+use Rattle.std.specs.Prelude.{◌≡◌, ◌⊎◌, ◌≤◌, ℕ, List, [], ◌∷◌, ◌++◌, length, Option, Some, None}
+use Rattle.std.specs.Prelude.{Bool, true, false, ⊤, ◌↔◌, zero, suc}
+use Rattle.std.specs.List.{All}
+use Rattle.std.specs.declared.vec.Vec.{Vec}
+use Rattle.streams.specs.Reading.{Reading}
+use Rattle.grammars.specs.Grammar.{Grammar}
+pub mod Fronts
+pub mod Parts
+pub mod Rows
+pub mod Tokens
+
+-- A value, and tokens that are written for it.
+abbrev pub Text : Type 0 → Type 0 → Type 1
+Text T O = O → List T → Type 0
+
+-- ---- tokens
+
+-- These tokens, for this value.
+unfoldable pub Spelled : {T O : Type 0} → List T → O → Text T O
+Spelled xs output o tokens = (o ≡ output) × (tokens ≡ xs)
+
+-- This token, for itself.
+abbrev pub Itself : {T : Type 0} → T → Text T T
+Itself t = Spelled (t ∷ []) t
+
+-- What a literal is spelled by, for what is made of it and of a slice that shows it.
+unfoldable pub Written : {S T L O : Type 0} → Reading T L → (S → List T → Type 0) → (S → L → O) → S
+    → Text T O
+Written {L = L} reading spelled output literal o tokens =
+    (slice : L) × spelled literal tokens × reading.shows slice tokens × (o ≡ output literal slice)
+
+-- One token of these, for what is seen so.
+unfoldable pub OneOf : {K T : Type 0} → (K → T) → (K → Type 0) → Text T K
+OneOf seen these k tokens = these k × (tokens ≡ seen k ∷ [])
+
+-- So many of these tokens or more, for a slice that shows them.
+unfoldable pub Members : {T L : Type 0} → Reading T L → (T → Type 0) → ℕ → Text T L
+Members reading these least slice tokens =
+    All these tokens × (least ≤ length tokens) × reading.shows slice tokens
+
+-- So many of these tokens, for a slice that shows them.
+unfoldable pub SoManyOf : {T L : Type 0} → Reading T L → (T → Type 0) → ℕ → Text T L
+SoManyOf reading these n slice tokens =
+    All these tokens × (length tokens ≡ n) × reading.shows slice tokens
+
+-- So many tokens, for a slice that shows them.
+unfoldable pub SoMany : {T L : Type 0} → Reading T L → ℕ → Text T L
+SoMany reading n slice tokens = (length tokens ≡ n) × reading.shows slice tokens
+
+-- No tokens, for a slice that shows none.
+unfoldable pub Empty : {T L : Type 0} → Reading T L → Text T L
+Empty reading slice tokens = (tokens ≡ []) × reading.shows slice []
+
+-- ---- texts made of texts
+
+-- A text of one, and one of another behind it.
+unfoldable pub Then : {T O1 O2 O : Type 0} → (O1 → O2 → O) → Text T O1 → Text T O2 → Text T O
+Then {T} {O1} {O2} output first second o tokens =
+    (o1 : O1) × (o2 : O2) × (xs : List T) × (ys : List T) × first o1 xs × second o2 ys
+    × (tokens ≡ xs ++ ys) × (o ≡ output o1 o2)
+
+-- A text of one or of the other.
+unfoldable pub Among : {T O : Type 0} → Text T O → Text T O → Text T O
+Among first second o tokens = first o tokens ⊎ second o tokens
+
+-- A text, or nothing.
+unfoldable pub Perhaps : {T O : Type 0} → Text T O → Text T (Option O)
+Perhaps text None tokens = tokens ≡ []
+Perhaps text (Some o) tokens = text o tokens
+
+-- Texts of these values, one behind the other.
+unfoldable pub Row : {T O : Type 0} → Text T O → Text T (List O)
+Row text [] tokens = tokens ≡ []
+Row {T} text (o ∷ os) tokens =
+    (xs : List T) × (ys : List T) × text o xs × Row text os ys × (tokens ≡ xs ++ ys)
+
+-- Texts of these values, with a text of the separator between each two of them.
+unfoldable pub Joined : {T O D : Type 0} → Text T D → Text T O → Text T (List O)
+Joined separator text [] tokens = tokens ≡ []
+Joined {T} separator text (o ∷ os) tokens =
+    (xs : List T) × (ys : List T) × text o xs × Row (Then (λ d o. o) separator text) os ys
+    × (tokens ≡ xs ++ ys)
+
+-- A text of so many values or more.
+abbrev pub AtLeast : {T O : Type 0} → ℕ → Text T (List O) → Text T (List O)
+AtLeast zero text os tokens = text os tokens
+AtLeast (suc n) text os tokens = text os tokens × (suc n ≤ length os)
+
+-- A text of values, for a list of them.
+unfoldable pub InList : {T O A : Type 0} → Text T (List O) → Text T (Vec O A)
+InList text list tokens = text list.items tokens
+
+-- A text of values, for what holds them.
+unfoldable pub Holding : {T O C : Type 0} → (C → List O → Type 0) → Text T (List O) → Text T C
+Holding {O = O} holds text all tokens = (os : List O) × holds all os × text os tokens
+
+-- A text of a value, for what is made of it, by some part.
+unfoldable pub Of : {F T O U : Type 0} → (F → O → U → Type 0) → F → Text T O → Text T U
+Of {O = O} makes part text u tokens = (o : O) × text o tokens × makes part o u
+
+-- A text of some value, for a slice that shows it.
+unfoldable pub Shown : {T L O : Type 0} → Reading T L → Text T O → Text T L
+Shown {O = O} reading text slice tokens = (o : O) × text o tokens × reading.shows slice tokens
+
+-- A text of a value, for the value and a slice that shows the text.
+unfoldable pub AndShown : {T L O : Type 0} → Reading T L → Text T O → Text T (O × L)
+AndShown reading text both tokens = text both.0 tokens × reading.shows both.1 tokens
+
+-- ---- what may stand behind a text, and at the beginning of one
+
+-- Any tokens.
+abbrev pub Anything : {T : Type 0} → List T → Type 0
+Anything tokens = ⊤
+
+-- None.
+abbrev pub AtEnd : {T : Type 0} → List T → Type 0
+AtEnd tokens = tokens ≡ []
+
+-- There is a first token, and it is one of these.
+abbrev pub Begins : {T : Type 0} → (T → Type 0) → List T → Type 0
+Begins these [] = ⊥
+Begins these (t ∷ ts) = these t
+
+-- There is no token, or the first is one of these.
+abbrev pub MayBegin : {T : Type 0} → (T → Type 0) → List T → Type 0
+MayBegin these [] = ⊤
+MayBegin these (t ∷ ts) = these t
+
+-- There is no token, or the first is none of these.
+abbrev pub NotFirst : {T : Type 0} → (T → Type 0) → List T → Type 0
+NotFirst these tokens = MayBegin (λ t. these t → ⊥) tokens
+
+-- A text in front of such tokens makes such tokens.
+pub record InFront {T O : Type 0} (text : Text T O) (behind whole : List T → Type 0) : Type 0 where
+  pub makes : (o : O) (xs rest : List T) → text o xs → behind rest → whole (xs ++ rest)
+
+-- Each text begins with one of these tokens.
+abbrev pub BeginsIn : {T O : Type 0} → (T → Type 0) → Text T O → Type 0
+BeginsIn these text = InFront text Anything (Begins these)
+
+-- Each text is empty, or begins with one of these tokens.
+abbrev pub MayBeginIn : {T O : Type 0} → (T → Type 0) → Text T O → Type 0
+MayBeginIn these text = InFront text (MayBegin these) (MayBegin these)
+
+-- What is told of tokens, in two sets: those that are members, and those that are none.
+pub record Divides {T : Type 0} (member : T → Bool → Type 0) (inside outside : T → Type 0)
+    : Type 0 where
+  pub has : (t : T) → member t true ↔ inside t
+  pub lacks : (t : T) → member t false ↔ outside t
+
+-- ---- grammars of texts
+
+-- What stands by the grammar is a text; and a text stands where what is behind it may follow it.
+pub record IsGrammarOf {T O : Type 0} (grammar : Grammar T O) (text : Text T O)
+    (follow : List T → Type 0) : Type 0 where
+  pub there : (tokens : List T) (o : O) (rest : List T) → grammar tokens o rest
+      → (front : List T) × (tokens ≡ front ++ rest) × text o front
+  pub back : (o : O) (front rest : List T) → text o front → follow rest
+      → grammar (front ++ rest) o rest

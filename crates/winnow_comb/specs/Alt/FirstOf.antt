@@ -1,0 +1,179 @@
+-- What a choice among the items of an array or a slice reads.
+use Rattle.std.specs.Prelude.{◌≡◌, List, [], ◌∷◌, ◌++◌, map, Ok, Err}
+use Rattle.std.specs.List.{All}
+use Rattle.std.proofs.Common.{refl, sym, ap, subst, inl, inr, ◌∙◌}
+use Rattle.std.proofs.lemmas.List.Elements.{All-head, All-tail}
+use Rattle.streams.specs.Equal.{same_first, same_others}
+use Rattle.streams.specs.Input.{Input}
+use Rattle.streams.specs.Kind.{Kind, backtrack}
+use Rattle.grammars.specs.Grammar.{Grammar, Never}
+use Rattle.grammars.specs.Grammar.FirstOf.{FirstFrom, FirstOf}
+use Rattle.stream_errors.specs.Form.{Answer}
+use Rattle.stream_errors.specs.Form.Known.{ok_is_err}
+use Rattle.winnow_core.specs.Exact.{IsExact, IsSoft}
+use Rattle.winnow_core.specs.Runs.{Runs}
+use Rattle.winnow_comb.specs.Alt.{OrElse}
+use Rattle.winnow_comb.specs.Alt.Laws.{or_else_exact, or_else_soft}
+use Rattle.winnow_comb.specs.Alt.Slice.{AltSliceRuns}
+
+-- a list with an item is not empty
+some_is_none : {S P : Type 0} {x : S} {rest : List S} → x ∷ rest ≡ [] → P
+some_is_none e = absurd (cc)
+
+no_item : {S P : Type 0} (before : List S) (x : S) (rest : List S) → [] ≡ before ++ x ∷ rest → P
+no_item [] x rest e = some_is_none (sym e)
+no_item (b ∷ bs) x rest e = some_is_none (sym e)
+
+module _ {S T O : Type 0} (run : Runs S T O) (assert_kind : Kind) where
+  -- a run of one branch is the branch's
+  one_branch : (a : S) (i : Input T) (answer : Answer O) (t : List S) (j : Input T)
+      → AltSliceRuns run assert_kind (a ∷ []) i answer t j
+      → (y : S) × (t ≡ y ∷ []) × run a i answer y j
+  one_branch a i answer t j (inl (none, kept, e, same)) = some_is_none none
+  one_branch a i answer t j (inr ([], x, rest, [], y, m, old, new, back, r, last)) =
+      let at_a : S → Type 0 = λ z. run z i answer y j in
+      let at_m : Input T → Type 0 = λ z. run x z answer y j in (
+        y,
+        new ∙ ap (λ l. y ∷ l) (sym (same_others old)),
+        subst at_a (sym (same_first old)) (subst at_m back r),
+      )
+  one_branch a i answer t j (inr ([], x, rest, z ∷ ran, y, m, old, new, back, r, last)) =
+      absurd back
+  one_branch a i answer t j (inr (b ∷ [], x, rest, ran, y, m, old, new, back, r, last)) =
+      some_is_none (sym (same_others old))
+  one_branch a i answer t j (inr (b ∷ c ∷ cs, x, rest, ran, y, m, old, new, back, r, last)) =
+      some_is_none (sym (same_others old))
+
+  -- one of more is that of the first, or else of the others
+  more_branches : (a b : S) (others : List S) (i : Input T) (answer : Answer O) (t : List S)
+      (j : Input T) → AltSliceRuns run assert_kind (a ∷ b ∷ others) i answer t j
+      → (y : S) × (ts : List S) × (t ≡ y ∷ ts)
+      × OrElse run (AltSliceRuns run assert_kind) (a, b ∷ others) i answer (y, ts) j
+  more_branches a b others i answer t j (inl (none, kept, e, same)) = some_is_none none
+  more_branches a b others i answer t j
+      (inr ([], x, rest, [], y, m, old, new, back, r, last)) =
+      let at_a : S → Type 0 = λ z. run z i answer y j in
+      let at_m : Input T → Type 0 = λ z. run x z answer y j in (
+        y,
+        rest,
+        new,
+        inl (
+          subst at_a (sym (same_first old)) (subst at_m back r),
+          (λ e. some_is_none (same_others old ∙ last e)),
+          sym (same_others old),
+        ),
+      )
+  more_branches a b others i answer t j
+      (inr ([], x, rest, z ∷ ran, y, m, old, new, back, r, last)) = absurd back
+  more_branches a b others i answer t j
+      (inr (c ∷ before, x, rest, [], y, m, old, new, back, r, last)) = absurd back
+  more_branches a b others i answer t j
+      (inr (c ∷ before, x, rest, z ∷ ran, y, m, old, new, (n, q, back), r, last)) =
+      let at_a : S → Type 0 = λ w. run w i (Err backtrack) z n in (
+        z,
+        ran ++ y ∷ rest,
+        new,
+        inr (
+          n,
+          subst at_a (sym (same_first old)) q,
+          inr (before, x, rest, ran, y, m, same_others old, refl, back, r, last),
+        ),
+      )
+
+  one_exact : {g : Grammar T O} {a : S} → IsExact a run g
+      → IsExact (a ∷ []) (AltSliceRuns run assert_kind) g
+  one_exact {a = a} c = record {
+    kept = λ i answer t j is ran.
+        let (y, e, r) = one_branch a i answer t j ran in
+        let (same, still) = c.kept i answer y j is r in
+        (e ∙ ap (λ z. z ∷ []) same, still);
+    stands = λ i o t j is ran.
+        let (y, e, r) = one_branch a i (Ok o) t j ran in c.stands i o y j is r;
+    none = λ i k t j is ran.
+        let (y, e, r) = one_branch a i (Err k) t j ran in c.none i k y j is r;
+    unique = c.unique;
+  }
+
+  more_exact : {g : Grammar T O} {a b : S} {others : List S}
+      → IsExact (a, b ∷ others) (OrElse run (AltSliceRuns run assert_kind)) g
+      → IsExact (a ∷ b ∷ others) (AltSliceRuns run assert_kind) g
+  more_exact {a = a} {b = b} {others = others} c = record {
+    kept = λ i answer t j is ran.
+        let (y, ts, e, r) = more_branches a b others i answer t j ran in
+        let (same, still) = c.kept i answer (y, ts) j is r in
+        (e ∙ ap (λ p. p.0 ∷ p.1) same, still);
+    stands = λ i o t j is ran.
+        let (y, ts, e, r) = more_branches a b others i (Ok o) t j ran in
+        c.stands i o (y, ts) j is r;
+    none = λ i k t j is ran.
+        let (y, ts, e, r) = more_branches a b others i (Err k) t j ran in
+        c.none i k (y, ts) j is r;
+    unique = c.unique;
+  }
+
+  one_soft : {a : S} → IsSoft a run → IsSoft (a ∷ []) (AltSliceRuns run assert_kind)
+  one_soft {a = a} f = record {
+    soft = λ i k t j is ran.
+        let (y, e, r) = one_branch a i (Err k) t j ran in f.soft i k y j is r;
+  }
+
+  more_soft : {a b : S} {others : List S}
+      → IsSoft (a, b ∷ others) (OrElse run (AltSliceRuns run assert_kind))
+      → IsSoft (a ∷ b ∷ others) (AltSliceRuns run assert_kind)
+  more_soft {a = a} {b = b} {others = others} f = record {
+    soft = λ i k t j is ran.
+        let (y, ts, e, r) = more_branches a b others i (Err k) t j ran in
+        f.soft i k (y, ts) j is r;
+  }
+
+  -- without a branch it fails by an assert error, and nothing stands
+  no_branch : {g : Grammar T O} → ((tokens : List T) (o : O) (rest : List T) → g tokens o rest → ⊥)
+      → IsExact [] (AltSliceRuns run assert_kind) g
+  no_branch nothing = record {
+    kept = λ i answer t j is ran. elim ran [
+      | inl (none, kept, e, same) ↦ (kept, ap (λ x. x.status.cut) same ∙ is)
+      | inr (before, x, rest, ran, y, m, old, new, back, r, last) ↦ no_item before x rest old
+    ];
+    stands = λ i o t j is ran. elim ran [
+      | inl (none, kept, e, same) ↦ ok_is_err refl e
+      | inr (before, x, rest, ran, y, m, old, new, back, r, last) ↦ no_item before x rest old
+    ];
+    none = λ i k t j is ran. inr (λ o rest it. nothing i.left.tokens o rest it);
+    unique = record {
+      ends = λ tokens o rest it. absurd (nothing tokens o rest it);
+      one = λ tokens o p rest other it. absurd (nothing tokens o rest it);
+    };
+  }
+
+-- Branches of which each is exact and lets the next be tried.
+module _ {P S T O : Type 0} (state : P → S) (run : Runs S T O) (assert_kind : Kind)
+    (grammar : P → Grammar T O) (known : P → Type 0)
+    (exact : (p : P) → known p → IsExact (state p) run (grammar p))
+    (soft : (p : P) → known p → IsSoft (state p) run) where
+  from_exact : (p : P) (rest : List P) → All known (p ∷ rest)
+      → IsExact (map state (p ∷ rest)) (AltSliceRuns run assert_kind) (FirstFrom grammar p rest)
+  from_exact p [] each = one_exact run assert_kind (exact p (All-head known p [] each))
+  from_exact p (q ∷ rest) each =
+      let is = All-head known p (q ∷ rest) each in
+      more_exact run assert_kind (or_else_exact (exact p is) (soft p is)
+      (from_exact q rest (All-tail known p (q ∷ rest) each)))
+
+  from_soft : (p : P) (rest : List P) → All known (p ∷ rest)
+      → IsSoft (map state (p ∷ rest)) (AltSliceRuns run assert_kind)
+  from_soft p [] each = one_soft run assert_kind (soft p (All-head known p [] each))
+  from_soft p (q ∷ rest) each =
+      let is = All-head known p (q ∷ rest) each in
+      more_soft run assert_kind (or_else_soft (exact p is) (soft p is)
+      (from_soft q rest (All-tail known p (q ∷ rest) each)))
+
+  pub first_of_exact : (branches : List P) → All known branches
+      → IsExact (map state branches) (AltSliceRuns run assert_kind) (FirstOf grammar branches)
+  unfolding Never
+  first_of_exact [] each = no_branch run assert_kind (λ tokens o rest never. never)
+  first_of_exact (p ∷ rest) each = from_exact p rest each
+
+  -- it lets others be tried where it has a branch
+  pub first_of_soft : (branches : List P) → All known branches → (branches ≡ [] → ⊥)
+      → IsSoft (map state branches) (AltSliceRuns run assert_kind)
+  first_of_soft [] each some = absurd (some refl)
+  first_of_soft (p ∷ rest) each some = from_soft p rest each

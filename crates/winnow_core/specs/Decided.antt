@@ -1,0 +1,30 @@
+-- Runs that one state and one input decide.
+use Rattle.std.specs.Prelude.{◌≡◌, Ok, Err}
+use Rattle.streams.specs.Input.{Input}
+use Rattle.streams.specs.Kind.{memory}
+use Rattle.stream_errors.specs.Form.{Answer}
+use Rattle.winnow_core.specs.Runs.{Runs}
+pub mod Adapters
+pub mod Inputs
+pub mod Made
+
+-- The answer is no want of memory.
+abbrev pub NotMemory : {O : Type 0} → Answer O → Type 0
+NotMemory answer = answer ≡ Err memory → ⊥
+
+-- Both are outputs that are alike, or errors of one kind.
+abbrev pub AlikeAnswers : {O : Type 0} → (O → O → Type 0) → Answer O → Answer O → Type 0
+AlikeAnswers alike (Ok o) (Ok p) = alike o p
+AlikeAnswers alike (Ok o) (Err l) = ⊥
+AlikeAnswers alike (Err k) (Ok p) = ⊥
+AlikeAnswers alike (Err k) (Err l) = k ≡ l
+
+-- Want of memory aside: from this state a run keeps the state, and changes nothing of the input
+-- but what is left of it; and two runs on one input are alike in their answers, and leave the same.
+-- Where one of them wants memory, nothing is said of either.
+pub record IsDecided {S T O : Type 0} (s : S) (run : Runs S T O) (alike : O → O → Type 0)
+    : Type 0 where
+  pub kept : (i : Input T) (answer : Answer O) (t : S) (j : Input T) → NotMemory answer
+      → run s i answer t j → (t ≡ s) × (j.status ≡ i.status)
+  pub decided : (i : Input T) (a b : Answer O) (t u : S) (j k : Input T) → NotMemory a
+      → NotMemory b → run s i a t j → run s i b u k → AlikeAnswers alike a b × (j ≡ k)

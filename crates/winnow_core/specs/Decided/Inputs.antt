@@ -1,0 +1,97 @@
+-- What decides where an input stands, and what answers are.
+use Rattle.std.specs.Prelude.{◌≡◌, Bool, List, [], ◌∷◌, ◌++◌, Ok, Err}
+use Rattle.std.proofs.Common.{refl, sym, ap, subst, ◌∙◌, arith}
+use Rattle.streams.specs.Equal.{same_first, same_others, same_rest}
+use Rattle.streams.specs.Input.{Input, Passes, Status}
+use Rattle.streams.specs.Kind.{Kind, memory, backtrack}
+use Rattle.streams.specs.Place.{Place}
+use Rattle.streams.specs.Reading.{Reading, units-nil}
+use Rattle.stream_errors.specs.Form.{Answer}
+use Rattle.winnow_core.specs.Decided.{AlikeAnswers, IsDecided, NotMemory}
+use Rattle.winnow_core.specs.Runs.{Runs}
+
+-- inputs that are the same in each part are the same
+same_parts : {T : Type 0} (a b : Input T) → a.left.tokens ≡ b.left.tokens
+    → a.left.place ≡ b.left.place → a.left.possible ≡ b.left.possible → a.status ≡ b.status
+    → a ≡ b
+same_parts {T} a b tokens place possible status =
+    let make : List T → Place → Bool → Status → Input T =
+    λ t p q s. record { left = record { tokens = t; place = p; possible = q }; status = s }
+    in
+    ap (λ t. make t a.left.place a.left.possible a.status) tokens
+    ∙ ap (λ p. make b.left.tokens p a.left.possible a.status) place
+    ∙ ap (λ q. make b.left.tokens b.left.place q a.status) possible
+    ∙ ap (λ s. make b.left.tokens b.left.place b.left.possible s) status
+
+-- what is left behind the same tokens is the same
+pub same_passed : {T L : Type 0} {reading : Reading T L} (front : List T) {i j k : Input T}
+    → Passes reading front i j → Passes reading front i k → j ≡ k
+same_passed front {j = j} {k = k} p q = same_parts j k
+    (same_rest front j.left.tokens k.left.tokens (sym p.tokens ∙ q.tokens))
+    (p.place ∙ sym q.place) (p.possible ∙ sym q.possible) (p.status ∙ sym q.status)
+
+-- two beginnings of as many units are the same
+pub same_front : {T L : Type 0} (reading : Reading T L) (front other rest more : List T)
+    → front ++ rest ≡ other ++ more → reading.units front ≡ reading.units other → front ≡ other
+same_front reading [] [] rest more e u = refl
+same_front reading [] (y ∷ ys) rest more e u =
+    absurd (omega (arith, u, units-nil reading, reading.units_positive y ys))
+same_front reading (x ∷ xs) [] rest more e u =
+    absurd (omega (arith, u, units-nil reading, reading.units_positive x xs))
+same_front {T} reading (x ∷ xs) (y ∷ ys) rest more e u =
+    let P : T → Type 0 = λ z. reading.units (z ∷ xs) ≡ reading.units (y ∷ ys) in
+    let first = same_first e in
+    let same = subst P first u in
+    let others = same_front reading xs ys rest more (same_others e)
+    (omega (arith, same, reading.units_add (y ∷ []) xs, reading.units_add (y ∷ []) ys)) in
+    ap (λ z. z ∷ xs) first ∙ ap (λ l. y ∷ l) others
+
+-- two outputs that are alike
+pub both_ok : {O : Type 0} (alike : O → O → Type 0) {a b : Answer O} {o p : O} → a ≡ Ok o
+    → b ≡ Ok p → alike o p → AlikeAnswers alike a b
+both_ok alike {b = b} {o = o} e f like =
+    subst (λ x. AlikeAnswers alike x b) (sym e)
+    (subst (λ x. AlikeAnswers alike (Ok o) x) (sym f) like)
+
+-- two errors of one kind
+pub both_err : {O : Type 0} (alike : O → O → Type 0) {a b : Answer O} {k l : Kind} → a ≡ Err k
+    → b ≡ Err l → k ≡ l → AlikeAnswers alike a b
+both_err alike {b = b} {k = k} e f like =
+    subst (λ x. AlikeAnswers alike x b) (sym e)
+    (subst (λ x. AlikeAnswers alike (Err k) x) (sym f) like)
+
+-- an output is no want of memory
+pub ok_not_memory : {O : Type 0} {o : O} → NotMemory {O = O} (Ok o)
+ok_not_memory e = cc
+
+-- another kind is none
+pub err_not_memory : {O U : Type 0} {answer : Answer U} {k : Kind} → answer ≡ Err k
+    → NotMemory answer → NotMemory {O = O} (Err k)
+err_not_memory {answer = answer} {k = k} e other f =
+    let same : k ≡ memory = cc in other (e ∙ ap Err same)
+
+-- answers that are alike are so where more is alike
+pub widened : {O : Type 0} (alike also : O → O → Type 0) → ((o p : O) → alike o p → also o p)
+    → (a b : Answer O) → AlikeAnswers alike a b → AlikeAnswers also a b
+widened alike also more (Ok o) (Ok p) like = more o p like
+widened alike also more (Ok o) (Err l) like = like
+widened alike also more (Err k) (Ok p) like = like
+widened alike also more (Err k) (Err l) like = like
+
+-- and runs are decided
+pub decided_as : {S T O : Type 0} {s : S} {run : Runs S T O} {alike also : O → O → Type 0}
+    → ((o p : O) → alike o p → also o p) → IsDecided s run alike → IsDecided s run also
+decided_as {alike = alike} {also = also} more c = record {
+  kept = c.kept;
+  decided = λ i a b t u j k na nb r q.
+      let (same, place) = c.decided i a b t u j k na nb r q in
+      (widened alike also more a b same, place);
+}
+
+-- a backtrack is no want of memory
+pub back_not_memory : {O : Type 0} → NotMemory {O = O} (Err backtrack)
+back_not_memory e = cc
+
+-- want of memory is no backtrack
+pub memory_backs : {P : Type 0} → memory ≡ backtrack → P
+memory_backs e = absurd (cc)

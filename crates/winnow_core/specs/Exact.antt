@@ -1,0 +1,63 @@
+-- Parsers that read exactly what a grammar says.
+use Rattle.std.specs.Prelude.{◌≡◌, ◌⊎◌, false, Result, Ok, Err, IfOk, IfErr}
+use Rattle.std.proofs.Common.{inl, inr}
+use Rattle.streams.specs.Input.{Input, IsEndOf}
+use Rattle.streams.specs.Kind.{Kind, backtrack, memory}
+use Rattle.streams.specs.Reading.{Reading}
+use Rattle.grammars.specs.Grammar.{Grammar, IsUnique, NoneStands}
+use Rattle.stream_errors.specs.Form.{Answer, answer_by}
+use Rattle.winnow_core.specs.Runs.{Runs}
+pub mod Adapters
+pub mod Along
+pub mod Errors
+pub mod Failed
+pub mod Made
+pub mod Nothing
+pub mod Same
+pub mod Settled
+pub mod Whole
+
+-- From this state a parser answers on a whole input what stands first by its grammar, and keeps the
+-- state; it fails only where none does, or for want of memory.
+pub record IsExact {S T O : Type 0} (s : S) (run : Runs S T O)
+    (grammar : Grammar T O) : Type 0 where
+  pub kept : (i : Input T) (answer : Answer O) (t : S) (j : Input T) → i.status.cut ≡ false
+      → run s i answer t j → (t ≡ s) × (j.status.cut ≡ false)
+  pub stands : (i : Input T) (o : O) (t : S) (j : Input T) → i.status.cut ≡ false
+      → run s i (Ok o) t j → grammar i.left.tokens o j.left.tokens
+  pub none : (i : Input T) (k : Kind) (t : S) (j : Input T) → i.status.cut ≡ false
+      → run s i (Err k) t j → (k ≡ memory) ⊎ NoneStands grammar i.left.tokens
+  pub unique : IsUnique grammar
+
+-- On a whole input it fails so that others are tried, or for want of memory.
+pub record IsSoft {S T O : Type 0} (s : S) (run : Runs S T O) : Type 0 where
+  pub soft : (i : Input T) (k : Kind) (t : S) (j : Input T) → i.status.cut ≡ false
+      → run s i (Err k) t j → (k ≡ memory) ⊎ (k ≡ backtrack)
+
+-- What a call tells by a grammar. It leaves an end of its input. On a whole one an output stands,
+-- with what is left; an error backtracks and says that none stands, or wants memory.
+pub record Reads {T L O E : Type 0} (reading : Reading T L) (kind : E → Kind)
+    (grammar : Grammar T O) (i : Input T) (result : Result O E) (j : Input T) : Type 0 where
+  pub ends : IsEndOf reading j i
+  pub stands : i.status.cut ≡ false → IfOk result (λ o. grammar i.left.tokens o j.left.tokens)
+  pub none : i.status.cut ≡ false → IfErr result (λ e. (kind e ≡ memory)
+      ⊎ ((kind e ≡ backtrack) × NoneStands grammar i.left.tokens))
+
+-- what a call tells
+pub exact_told : {S T L O E : Type 0} {s : S} {run : Runs S T O} {grammar : Grammar T O}
+    (reading : Reading T L) (kind : E → Kind) → IsExact s run grammar → IsSoft s run
+    → (i : Input T) (result : Result O E) (t : S) (j : Input T) → IsEndOf reading j i
+    → run s i (answer_by kind result) t j → Reads reading kind grammar i result j
+exact_told reading kind c f i (Ok o) t j ends ran =
+    record { ends = ends; stands = λ is. c.stands i o t j is ran; none = λ is. tt }
+exact_told reading kind c f i (Err e) t j ends ran = record {
+  ends = ends;
+  stands = λ is. tt;
+  none = λ is. elim (c.none i (kind e) t j is ran) [
+    | inl m ↦ inl m
+    | inr nothing ↦ elim (f.soft i (kind e) t j is ran) [
+      | inl m ↦ inl m
+      | inr b ↦ inr (b, nothing)
+    ]
+  ];
+}

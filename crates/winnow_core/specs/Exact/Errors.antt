@@ -1,0 +1,213 @@
+-- What is read where errors become others.
+use Rattle.std.specs.Prelude.{◌≡◌, ◌⊎◌, false, Ok, Err}
+use Rattle.std.proofs.Common.{refl, ap, inl, inr, ◌∙◌}
+use Rattle.streams.specs.Input.{Input}
+use Rattle.streams.specs.Kind.{Kind, backtrack, memory}
+use Rattle.grammars.specs.Grammar.{Grammar, NoneStands}
+use Rattle.stream_errors.specs.Form.{Answer}
+use Rattle.stream_errors.specs.Form.Known.{at_output, ok_is_err, same_kind}
+use Rattle.stream_errors.specs.Given.{Keeping}
+use Rattle.winnow_core.specs.CompleteErr.{CompleteErrRuns, complete_kind}
+use Rattle.winnow_core.specs.Context.{ContextBecomes}
+use Rattle.winnow_core.specs.ErrInto.{ErrIntoBecomes, ErrIntoRuns}
+use Rattle.winnow_core.specs.Exact.{IsExact, IsSoft}
+use Rattle.winnow_core.specs.Exact.Along.{exact_along, soft_along}
+use Rattle.winnow_core.specs.MakesError.{MakesError}
+use Rattle.winnow_core.specs.MapErr.{MapErrBecomes, MapErrRuns}
+use Rattle.winnow_core.specs.MapErrKept.{KeepsEachKind, MapErrKeptBecomes, MapErrKeptRuns}
+use Rattle.winnow_core.specs.Runs.{Runs}
+use Rattle.winnow_core.specs.States.{pair_is}
+
+-- What changes errors is after each as it was, and a kind stays or becomes a want of memory.
+pub record KeepsKinds {G : Type 0} (becomes : G → Kind → Kind → G → Type 0) (f : G) : Type 0 where
+  pub stays : (k l : Kind) (h : G) → becomes f k l h → h ≡ f
+  pub kind : (k l : Kind) (h : G) → becomes f k l h → (l ≡ k) ⊎ (l ≡ memory)
+
+module _ {S G T O : Type 0} {becomes : G → Kind → Kind → G → Type 0} {run : Runs S T O}
+    {s : S × G} where
+  pub errors_exact : {g : Grammar T O} → KeepsKinds becomes s.1 → IsExact s.0 run g
+      → IsExact s (MakesError becomes run) g
+  errors_exact {g} keeps c = record {
+    kept = kept;
+    stands = stands;
+    none = none;
+    unique = c.unique;
+  }
+    where
+      kept : (i : Input T) (answer : Answer O) (t : S × G) (j : Input T) → i.status.cut ≡ false
+          → MakesError becomes run s i answer t j → (t ≡ s) × (j.status.cut ≡ false)
+      kept i answer t j is (inl (o, r, same2, e)) =
+          let (same, still) = c.kept i (Ok o) t.0 j is r in (pair_is same same2, still)
+      kept i answer t j is (inr (k, l, r, made, e)) =
+          let (same, still) = c.kept i (Err k) t.0 j is r in
+          (pair_is same (keeps.stays k l t.1 made), still)
+
+      stands : (i : Input T) (o : O) (t : S × G) (j : Input T) → i.status.cut ≡ false
+          → MakesError becomes run s i (Ok o) t j → g i.left.tokens o j.left.tokens
+      stands i o t j is (inl (p, r, same, e)) =
+          let P : O → Type 0 = λ x. g i.left.tokens x j.left.tokens in
+          at_output P e (c.stands i p t.0 j is r)
+      stands i o t j is (inr (k, l, r, made, e)) = ok_is_err refl e
+
+      none : (i : Input T) (k : Kind) (t : S × G) (j : Input T) → i.status.cut ≡ false
+          → MakesError becomes run s i (Err k) t j
+          → (k ≡ memory) ⊎ NoneStands g i.left.tokens
+      none i k t j is (inl (p, r, same, e)) = ok_is_err e refl
+      none i k t j is (inr (m, l, r, made, e)) = elim (keeps.kind m l t.1 made) [
+        | inl same ↦ elim (c.none i m t.0 j is r) [
+          | inl wanted ↦ inl (same_kind e ∙ same ∙ wanted)
+          | inr nothing ↦ inr nothing
+        ]
+        | inr wanted ↦ inl (same_kind e ∙ wanted)
+      ]
+
+  pub errors_soft : KeepsKinds becomes s.1 → IsSoft s.0 run → IsSoft s (MakesError becomes run)
+  errors_soft keeps f = record { soft = soft }
+    where
+      soft : (i : Input T) (k : Kind) (t : S × G) (j : Input T) → i.status.cut ≡ false
+          → MakesError becomes run s i (Err k) t j → (k ≡ memory) ⊎ (k ≡ backtrack)
+      soft i k t j is (inl (p, r, same, e)) = ok_is_err e refl
+      soft i k t j is (inr (m, l, r, made, e)) = elim (keeps.kind m l t.1 made) [
+        | inl same ↦ elim (f.soft i m t.0 j is r) [
+          | inl wanted ↦ inl (same_kind e ∙ same ∙ wanted)
+          | inr back ↦ inr (same_kind e ∙ same ∙ back)
+        ]
+        | inr wanted ↦ inl (same_kind e ∙ wanted)
+      ]
+
+-- a context that is kept leaves a kind, or was refused memory
+pub context_keeps_kinds : {C : Type 0} {c : C × (C → Keeping)} (is_clone : C → C → Type 0)
+    (clones : C → Type 0) → KeepsKinds (ContextBecomes is_clone clones) c
+context_keeps_kinds is_clone clones = record {
+  stays = λ k l h (same, it). same;
+  kind = λ k l h (same, it). elim it [
+    | inl (need, is) ↦ inl is
+    | inr (inl (copy, whole, cloned, inl (kept, is))) ↦ inl is
+    | inr (inl (copy, whole, cloned, inr (refused, is))) ↦ inr is
+    | inr (inr (whole, refused, is)) ↦ inr is
+  ];
+}
+
+-- An error is converted to one of its kind, or to a want of memory.
+abbrev pub SameKinds : {E D : Type 0} → (E → Kind) → (D → Kind) → (E → D → Type 0) → Type 0
+SameKinds {E} {D} kind new_kind converts = (old : E) (new : D) → converts old new
+    → (new_kind new ≡ kind old) ⊎ (new_kind new ≡ memory)
+
+err_into_keeps : {E D : Type 0} (kind : E → Kind) (new_kind : D → Kind)
+    (converts : E → D → Type 0) → SameKinds kind new_kind converts
+    → KeepsKinds (ErrIntoBecomes kind new_kind converts) tt
+err_into_keeps kind new_kind converts same = record {
+  stays = λ k l h is. refl;
+  kind = λ k l h (old, new, was, made, is). elim (same old new made) [
+    | inl kept ↦ inl (is ∙ kept ∙ was)
+    | inr wanted ↦ inr (is ∙ wanted)
+  ];
+}
+
+pub err_into_exact : {S T O E D : Type 0} {run : Runs S T O} {s : S} {g : Grammar T O}
+    (kind : E → Kind) (new_kind : D → Kind) (converts : E → D → Type 0)
+    → SameKinds kind new_kind converts → IsExact s run g
+    → IsExact s (ErrIntoRuns kind new_kind converts run) g
+err_into_exact {S} kind new_kind converts same c = exact_along (λ (t : S). (t, tt))
+    (λ t e. ap (λ x. x.0) e) (λ i answer t j ran. ran)
+    (errors_exact (err_into_keeps kind new_kind converts same) c)
+
+pub err_into_soft : {S T O E D : Type 0} {run : Runs S T O} {s : S} (kind : E → Kind)
+    (new_kind : D → Kind) (converts : E → D → Type 0) → SameKinds kind new_kind converts
+    → IsSoft s run → IsSoft s (ErrIntoRuns kind new_kind converts run)
+err_into_soft {S} kind new_kind converts same f = soft_along (λ (t : S). (t, tt))
+    (λ i answer t j ran. ran) (errors_soft (err_into_keeps kind new_kind converts same) f)
+
+-- ---- errors that a closure makes of errors
+
+map_err_keeps : {G E D : Type 0} {f : G} (kind : E → Kind) (new_kind : D → Kind)
+    (step : G → E → D → G → Type 0) → KeepsEachKind kind new_kind step
+    → ((o : E) (u : D) (h : G) → step f o u h → h ≡ f)
+    → KeepsKinds (MapErrBecomes kind new_kind step) f
+map_err_keeps {f = f} kind new_kind step keeps stays = record {
+  stays = λ k l h (old, new, was, call, is). stays old new h call;
+  kind = λ k l h (old, new, was, call, is). inl (is ∙ keeps f old new h call ∙ was);
+}
+
+pub map_err_exact : {S G T O E D : Type 0} {run : Runs S T O} {s : S × G} {g : Grammar T O}
+    (kind : E → Kind) (new_kind : D → Kind) (step : G → E → D → G → Type 0)
+    → KeepsEachKind kind new_kind step → ((o : E) (u : D) (h : G) → step s.1 o u h → h ≡ s.1)
+    → IsExact s.0 run g → IsExact s (MapErrRuns kind new_kind step run) g
+map_err_exact kind new_kind step keeps stays c =
+    errors_exact (map_err_keeps kind new_kind step keeps stays) c
+
+pub map_err_soft : {S G T O E D : Type 0} {run : Runs S T O} {s : S × G} (kind : E → Kind)
+    (new_kind : D → Kind) (step : G → E → D → G → Type 0) → KeepsEachKind kind new_kind step
+    → ((o : E) (u : D) (h : G) → step s.1 o u h → h ≡ s.1) → IsSoft s.0 run
+    → IsSoft s (MapErrRuns kind new_kind step run)
+map_err_soft kind new_kind step keeps stays f =
+    errors_soft (map_err_keeps kind new_kind step keeps stays) f
+
+map_err_kept_keeps : {G E D : Type 0} {f : G} (kind : E → Kind) (new_kind : D → Kind)
+    (step : G → E → D → G → Type 0) → ((o : E) (u : D) (h : G) → step f o u h → h ≡ f)
+    → KeepsKinds (MapErrKeptBecomes kind new_kind step) f
+map_err_kept_keeps kind new_kind step stays = record {
+  stays = λ k l h ((old, new, was, call, is), same). stays old new h call;
+  kind = λ k l h (became, same). inl same;
+}
+
+pub map_err_kept_exact : {S G T O E D : Type 0} {run : Runs S T O} {s : S × G} {g : Grammar T O}
+    (kind : E → Kind) (new_kind : D → Kind) (step : G → E → D → G → Type 0)
+    → ((o : E) (u : D) (h : G) → step s.1 o u h → h ≡ s.1) → IsExact s.0 run g
+    → IsExact s (MapErrKeptRuns kind new_kind step run) g
+map_err_kept_exact kind new_kind step stays c =
+    errors_exact (map_err_kept_keeps kind new_kind step stays) c
+
+pub map_err_kept_soft : {S G T O E D : Type 0} {run : Runs S T O} {s : S × G} (kind : E → Kind)
+    (new_kind : D → Kind) (step : G → E → D → G → Type 0)
+    → ((o : E) (u : D) (h : G) → step s.1 o u h → h ≡ s.1) → IsSoft s.0 run
+    → IsSoft s (MapErrKeptRuns kind new_kind step run)
+map_err_kept_soft kind new_kind step stays f =
+    errors_soft (map_err_kept_keeps kind new_kind step stays) f
+
+-- ---- errors that ask for no more
+
+-- a kind that is wanted, or is a backtrack, stays
+completes : (k l : Kind) → l ≡ complete_kind k → (k ≡ memory) ⊎ (k ≡ backtrack)
+    → (l ≡ memory) ⊎ (l ≡ backtrack)
+completes k l e (inl wanted) = inl (e ∙ ap complete_kind wanted)
+completes k l e (inr back) = inr (e ∙ ap complete_kind back)
+
+module _ {S T O : Type 0} {run : Runs S T O} {s : S} where
+  pub complete_err_exact : {g : Grammar T O} → IsExact s run g
+      → IsExact s (CompleteErrRuns run) g
+  complete_err_exact {g} c = record {
+    kept = kept;
+    stands = stands;
+    none = none;
+    unique = c.unique;
+  }
+    where
+      kept : (i : Input T) (answer : Answer O) (t : S) (j : Input T) → i.status.cut ≡ false
+          → CompleteErrRuns run s i answer t j → (t ≡ s) × (j.status.cut ≡ false)
+      kept i answer t j is (inl (o, r, same, e)) = c.kept i (Ok o) t j is r
+      kept i answer t j is (inr (k, l, r, made, e)) = c.kept i (Err k) t j is r
+
+      stands : (i : Input T) (o : O) (t : S) (j : Input T) → i.status.cut ≡ false
+          → CompleteErrRuns run s i (Ok o) t j → g i.left.tokens o j.left.tokens
+      stands i o t j is (inl (p, r, same, e)) =
+          let P : O → Type 0 = λ x. g i.left.tokens x j.left.tokens in
+          at_output P e (c.stands i p t j is r)
+      stands i o t j is (inr (k, l, r, made, e)) = ok_is_err refl e
+
+      none : (i : Input T) (k : Kind) (t : S) (j : Input T) → i.status.cut ≡ false
+          → CompleteErrRuns run s i (Err k) t j → (k ≡ memory) ⊎ NoneStands g i.left.tokens
+      none i k t j is (inl (p, r, same, e)) = ok_is_err e refl
+      none i k t j is (inr (m, l, r, made, e)) = elim (c.none i m t j is r) [
+        | inl wanted ↦ inl (same_kind e ∙ made ∙ ap complete_kind wanted)
+        | inr nothing ↦ inr nothing
+      ]
+
+  pub complete_err_soft : IsSoft s run → IsSoft s (CompleteErrRuns run)
+  complete_err_soft f = record { soft = soft }
+    where
+      soft : (i : Input T) (k : Kind) (t : S) (j : Input T) → i.status.cut ≡ false
+          → CompleteErrRuns run s i (Err k) t j → (k ≡ memory) ⊎ (k ≡ backtrack)
+      soft i k t j is (inl (p, r, same, e)) = ok_is_err e refl
+      soft i k t j is (inr (m, l, r, made, e)) =
+          completes m k (same_kind e ∙ made) (f.soft i m t j is r)

@@ -1,0 +1,41 @@
+-- What is read by grammars by which the same stands.
+use Rattle.std.specs.Prelude.{Result, Ok, Err}
+use Rattle.std.proofs.Common.{inl, inr}
+use Rattle.streams.specs.Input.{Input}
+use Rattle.streams.specs.Kind.{Kind}
+use Rattle.streams.specs.Reading.{Reading}
+use Rattle.grammars.specs.Grammar.{Grammar}
+use Rattle.grammars.specs.Grammar.Same.{Same, none_as, unique_as}
+use Rattle.winnow_core.specs.Exact.{IsExact, Reads}
+use Rattle.winnow_core.specs.Runs.{Runs}
+
+-- what runs exactly by one runs exactly by the other
+pub exact_as : {S T O : Type 0} {s : S} {run : Runs S T O} {g h : Grammar T O} → Same g h
+    → IsExact s run g → IsExact s run h
+exact_as same c = record {
+  kept = c.kept;
+  stands = λ i o t j is ran. same.there i.left.tokens o j.left.tokens (c.stands i o t j is ran);
+  none = λ i k t j is ran. elim (c.none i k t j is ran) [
+    | inl m ↦ inl m
+    | inr nothing ↦ inr (none_as same i.left.tokens nothing)
+  ];
+  unique = unique_as same c.unique;
+}
+
+-- what is read by one is read by the other
+pub reads_as : {T L O E : Type 0} {reading : Reading T L} {kind : E → Kind} {g h : Grammar T O}
+    {i j : Input T} {result : Result O E} → Same g h → Reads reading kind g i result j
+    → Reads reading kind h i result j
+reads_as {i = i} {j} {result = Ok o} same r = record {
+  ends = r.ends;
+  stands = λ is. same.there i.left.tokens o j.left.tokens (r.stands is);
+  none = λ is. tt;
+}
+reads_as {i = i} {result = Err e} same r = record {
+  ends = r.ends;
+  stands = λ is. tt;
+  none = λ is. elim (r.none is) [
+    | inl m ↦ inl m
+    | inr (b, nothing) ↦ inr (b, none_as same i.left.tokens nothing)
+  ];
+}

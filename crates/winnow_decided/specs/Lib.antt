@@ -1,4 +1,0 @@
--- Written by scripts/registries.py: do not edit.
-pub mod Decided
-pub mod Held
-pub mod Pieces

@@ -1,0 +1,32 @@
+//! Parsers of input that comes in pieces: what is answered to a piece is answered for good.
+ghost use Rattle.std.specs.Prelude.{◌≡◌, true};
+ghost use Rattle.stream_errors.specs.Form.{answer_by, modal};
+ghost use Rattle.winnow_exact.specs.ForGood.{IsForGood};
+
+use crate::laws::a_decided_answer_stays_on_longer_inputs;
+use stream_errors::parser_error::ParserError;
+use streams::stream::Stream;
+use winnow_core::decided::Decided;
+use winnow_core::parser::Parser;
+use winnow_core::stable::Stable;
+
+/// As `parse_next` on a cut input, by a stable parser of which one state and one input decide what
+/// it answers: where it asks neither for more nor for memory, each longer input is answered alike,
+/// and leaves the rest with what was added. The caller owes errors with a mode, and a cut input.
+#[inline(always)]
+pub fn parse_for_good<P: Stable<I, O, E> + Decided<I, O, E>, I: Stream, O, E: ParserError<I>>(
+    parser: &mut P,
+    input: &mut I,
+) -> Result<O, E>
+    requires callable { P.Parser.can_parse parser.old }
+    requires premise { P.Decided.premise parser.old }
+    requires modal { E.form ≡ modal }
+    requires is_cut { (I.view input.old).status.cut ≡ true }
+    ensures again { P.Parser.can_parse parser.new }
+    ensures for_good { IsForGood I.following (P.Parser.state parser.old) (P.Parser.meaning E.form)
+        (P.Decided.alike parser.old) (I.view input.old) (answer_by E.kind result)
+        (I.view input.new) }
+{
+    a_decided_answer_stays_on_longer_inputs::<P, I, O, E>();
+    parser.parse_next(input)
+}

@@ -1,0 +1,23 @@
+//! Laws of parsers that one state and one input decide.
+ghost use Rattle.std.specs.Prelude.{◌≡◌};
+ghost use Rattle.stream_errors.specs.Form.{modal};
+ghost use Rattle.winnow_exact.specs.Longer.{NoOtherOnLonger};
+
+use stream_errors::parser_error::ParserError;
+use streams::stream::Stream;
+use winnow_core::decided::Decided;
+use winnow_core::stable::Stable;
+
+/// Where one state and one input decide how a stable parser ends, a longer input gets no other
+/// answer than the cut one, want of memory aside: an output that is alike or an error of the same
+/// kind, the same state, and the rest with what was added. So the answer does not depend on how the
+/// input is cut.
+pub fn a_decided_answer_stays_on_longer_inputs<
+    P: Stable<I, O, E> + Decided<I, O, E>,
+    I: Stream,
+    O,
+    E: ParserError<I>,
+>()
+    ensures { E.form ≡ modal → (p : P) → P.premise p
+        → NoOtherOnLonger I.following (P.state p) (P.meaning E.form) (P.alike p) }
+{}

@@ -1,0 +1,356 @@
+-- What parsers of numbers read.
+use Rattle.std.specs.Prelude.{◌≡◌, ◌⊎◌, ◌<◌, ℕ, ℤ, pos, neg_ℤ, true, false, List, [], ◌∷◌, ◌++◌}
+use Rattle.std.specs.Prelude.{length, Err, ⊤}
+use Rattle.std.proofs.Common.{refl, sym, ap, subst, inl, inr, ◌∙◌, arith, length-append}
+use Rattle.streams.specs.Equal.{same_rest, true_is_false}
+use Rattle.streams.specs.Input.{Input, Passes, at_start, no_status}
+use Rattle.streams.specs.Kind.{Kind, backtrack, memory}
+use Rattle.streams.specs.Reading.{Reading}
+use Rattle.stream_sets.specs.AsChar.{IsDecDigit}
+use Rattle.stream_sets.specs.Once.{SeesApart}
+use Rattle.grammars.specs.Grammar.{IsUnique, Takes}
+use Rattle.stream_errors.specs.Form.{Answer, ErrorForm, plain}
+use Rattle.stream_errors.specs.Form.Known.{ok_is_err, same_kind}
+use Rattle.winnow_core.specs.Exact.{IsExact, IsSoft}
+use Rattle.winnow_core.specs.Runs.{Keeps}
+use Rattle.winnow_numbers.specs.DecInt.{DecIntRuns}
+use Rattle.winnow_numbers.specs.DecInt.Known.{dec_int_ok, numeral_run}
+use Rattle.winnow_numbers.specs.DecUint.{DecUintRuns}
+use Rattle.winnow_numbers.specs.DecUint.Known.{dec_uint_ok}
+use Rattle.winnow_numbers.specs.Decimal.{IsDecimalOf, IsSignedDecimalOf}
+use Rattle.winnow_numbers.specs.DecimalText.{signed_value}
+use Rattle.winnow_numbers.specs.Digits.{AreCharacters, NoneFirst, SeenOnce, value_in}
+use Rattle.winnow_numbers.specs.Digits.Known.{characters_length}
+use Rattle.winnow_numbers.specs.Numeral.{DigitsRuns, IsSign, NumeralRuns}
+use Rattle.winnow_numbers.specs.Numeral.Grammar.{Decimal, SignedDecimal}
+use Rattle.winnow_numbers.specs.Numeral.Known.{behind, digits_run, leads_behind, numeral_front}
+use Rattle.winnow_numbers.specs.Numeral.Once.{numeral_or_none, one_numeral}
+
+-- tokens that are seen alike are one character
+pub seen_one : {K T : Type 0} (seen : K → T) (code : K → ℕ) → SeesApart seen → SeenOnce seen code
+seen_one seen code apart x y e = ap code (apart x y e)
+
+-- a whole input of these tokens
+abbrev whole : {T : Type 0} → List T → Input T
+whole tokens = record { left = at_start tokens; status = no_status }
+
+module _ {K T L : Type 0} (seen : K → T) (code : K → ℕ) (reading : Reading T L) where
+  -- a lone '0' is passed
+  lone_zero : (front rest : List T) (digits : List ℕ) (i : Input T) → digits ≡ 48 ∷ []
+      → AreCharacters seen code front digits → i.left.tokens ≡ front ++ rest
+      → DigitsRuns seen code reading true i digits (behind reading front rest i)
+  lone_zero front rest digits i e chars begins =
+      let P : List ℕ → Type 0 = λ l. AreCharacters seen code front l in
+      by front (subst P e chars) begins
+    where
+      by : (front : List T) → AreCharacters seen code front (48 ∷ [])
+          → i.left.tokens ≡ front ++ rest
+          → DigitsRuns seen code reading true i digits (behind reading front rest i)
+      by [] chars begins = absurd chars
+      by (t ∷ []) ((x, seen_as, same), chars) begins =
+          let Q : T → Type 0 =
+          λ y. Passes reading (y ∷ []) i (behind reading (t ∷ []) rest i) in
+          inl (
+            x,
+            refl,
+            same,
+            subst Q (sym seen_as) (leads_behind reading (t ∷ []) rest i begins),
+            e,
+          )
+      by (t ∷ u ∷ ts) (head, chars) begins = absurd chars
+
+  -- the decimal digits of a number are passed
+  digits_pass : (front rest : List T) (digits : List ℕ) (v : ℕ) (i : Input T)
+      → i.status.cut ≡ false → IsDecimalOf digits v → AreCharacters seen code front digits
+      → i.left.tokens ≡ front ++ rest
+      → (digits ≡ 48 ∷ []) ⊎ NoneFirst seen code IsDecDigit rest
+      → DigitsRuns seen code reading true i digits (behind reading front rest i)
+  digits_pass front rest digits v i is decimal chars begins (inl lone) =
+      lone_zero front rest digits i lone chars begins
+  digits_pass front rest digits v i is decimal chars begins (inr stops) =
+      digits_run seen code reading true i front digits (behind reading front rest i) v decimal
+      (λ _. refl) chars (leads_behind reading front rest i begins) stops (λ _. is)
+
+  -- ---- unsigned numbers
+
+  module _ {N : Type 0} (number : N → ℕ) (bound : ℕ) where
+    abbrev Numeral : Input T → N → List T → Type 0
+    Numeral i n rest =
+        (digits : List ℕ) × (b : Input T) × NumeralRuns seen code reading false i [] digits b
+        × (b.left.tokens ≡ rest) × (value_in 10 digits ≡ number n) × (number n < bound)
+
+    numeral : (i : Input T) (n : N) (rest : List T) → i.status.cut ≡ false
+        → Decimal number bound seen code i.left.tokens n rest → Numeral i n rest
+    unfolding Decimal
+    numeral i n rest is (front, digits, e, chars, decimal, stops, fits) = (
+      digits,
+      behind reading front rest i,
+      (
+        i,
+        inr (λ f. true_is_false (sym f), refl, refl),
+        digits_pass front rest digits (number n) i is decimal chars e stops,
+      ),
+      refl,
+      decimal.value,
+      fits,
+    )
+
+    pub decimal_unique : SeenOnce seen code → IsUnique (Decimal number bound seen code)
+    unfolding Decimal
+    decimal_unique once = record {
+      ends = λ tokens n rest (front, digits, e, chars, decimal, stops, fits). (front, e);
+      one = λ tokens n m rest other x y.
+          let (xs, a, p, left, value, fits) = numeral (whole tokens) n rest refl x in
+          let (ys, b, q, last, more, fit) = numeral (whole tokens) m other refl y in
+          let one =
+          one_numeral seen code reading once false (whole tokens) [] [] xs ys a b p q in
+          sym left ∙ ap (λ z. z.left.tokens) one.1.1 ∙ last;
+    }
+
+    pub decimal_takes : Takes (Decimal number bound seen code)
+    unfolding Decimal
+    decimal_takes = record {
+      fewer = λ tokens n rest (front, digits, e, chars, decimal, stops, fits). omega (
+        arith,
+        ap (λ l. length l) e,
+        length-append front rest,
+        characters_length seen code front digits chars,
+        decimal.are.0,
+      );
+    }
+
+    module _ (form : ErrorForm) where
+      pub dec_uint_exact : SeesApart seen
+          → IsExact tt (Keeps (λ (_ : ⊤). DecUintRuns number bound seen code reading form))
+          (Decimal number bound seen code)
+      unfolding Decimal
+      dec_uint_exact apart = record {
+        kept = λ i answer t j is (r, same). (same, still i answer j is r);
+        stands = λ i n t j is (r, kept).
+            let read = dec_uint_ok number bound seen code reading form i n j r in (
+              read.front,
+              read.digits,
+              read.passes.tokens,
+              read.chars,
+              read.decimal,
+              read.stops,
+              read.fits,
+            );
+        none = λ i k t j is (r, kept). inr (λ n rest x.
+            none i k j r n rest (numeral i n rest is x));
+        unique = decimal_unique (seen_one seen code apart);
+      }
+        where
+          still : (i : Input T) (answer : Answer N) (j : Input T) → i.status.cut ≡ false
+              → DecUintRuns number bound seen code reading form i answer j
+              → j.status.cut ≡ false
+          still i answer j is (inl (digits, n, runs, fit, value, e)) =
+              ap (λ z. z.cut)
+              (numeral_front seen code reading false i [] digits j runs).1.status ∙ is
+          still i answer j is (inr (inl (digits, a, runs, misfit, e, same))) =
+              ap (λ z. z.status.cut) same ∙ is
+          still i answer j is (inr (inr (k, (sign, a, first, inl (b, lacks, cut, kind, at)), e))) =
+              true_is_false (sym cut ∙ is)
+          still i answer j is (inr (inr (k, (sign, a, first, inr (never, kind, at)), e))) =
+              ap (λ z. z.status.cut) at ∙ is
+
+          none : (i : Input T) (k : Kind) (j : Input T)
+              → DecUintRuns number bound seen code reading form i (Err k) j → (n : N)
+              (rest : List T) → Numeral i n rest → ⊥
+          none i k j (inl (digits, m, runs, fit, value, e)) n rest x = ok_is_err e refl
+          none i k j (inr (inl (digits, a, runs, misfit, e, same))) n rest
+              (xs, b, p, left, value, fits) =
+              let one = one_numeral seen code reading (seen_one seen code apart) false i [] []
+              digits xs a b runs p in
+              omega (arith, ap (λ l. value_in 10 l) one.1.0, misfit, value, fits)
+          none i k j (inr (inr (l, never, e))) n rest (xs, b, p, left, value, fits) =
+              numeral_or_none seen code reading (seen_one seen code apart) form false i [] xs b l j
+              p never
+
+      pub dec_uint_soft : IsSoft tt
+          (Keeps (λ (_ : ⊤). DecUintRuns number bound seen code reading form))
+      dec_uint_soft = record { soft = λ i k t j is (r, kept). soft i k j is r }
+        where
+          soft : (i : Input T) (k : Kind) (j : Input T) → i.status.cut ≡ false
+              → DecUintRuns number bound seen code reading form i (Err k) j
+              → (k ≡ memory) ⊎ (k ≡ backtrack)
+          soft i k j is (inl (digits, n, runs, fit, value, e)) = ok_is_err e refl
+          soft i k j is (inr (inl (digits, a, runs, misfit, e, same))) = inr (same_kind e)
+          soft i k j is (inr (inr (l, (sign, a, first, inl (b, lacks, cut, kind, at)), e))) =
+              true_is_false (sym cut ∙ is)
+          soft i k j is (inr (inr (l, (sign, a, first, inr (never, kind, at)), e))) =
+              inr (same_kind e ∙ kind)
+
+  -- ---- signed numbers
+
+  -- digits with a sign stand for the number
+  signed_is : (sign digits : List ℕ) (z : ℤ) → IsSignedDecimalOf sign digits z
+      → signed_value sign digits ≡ z
+  signed_is sign digits z (n, is, inl (none, e)) =
+      ap (λ s. signed_value s digits) none ∙ ap (λ m. pos m) is.value ∙ sym e
+  signed_is sign digits z (n, is, inr (inl (plus, some, e))) =
+      ap (λ s. signed_value s digits) plus ∙ ap (λ m. pos m) is.value ∙ sym e
+  signed_is sign digits z (n, is, inr (inr (minus, some, e))) =
+      ap (λ s. signed_value s digits) minus ∙ ap (λ m. neg_ℤ (pos m)) is.value ∙ sym e
+
+  -- a lone '0' has no sign
+  no_sign : (sign digits : List ℕ) (z : ℤ) → IsSignedDecimalOf sign digits z
+      → digits ≡ 48 ∷ [] → (sign ≡ []) × ((n : ℕ) × IsDecimalOf digits n)
+  no_sign sign digits z (n, is, inl (none, e)) lone = (none, (n, is))
+  no_sign sign digits z (n, is, inr (inl (plus, some, e))) lone =
+      absurd (omega (arith, is.value, some, ap (λ l. value_in 10 l) lone))
+  no_sign sign digits z (n, is, inr (inr (minus, some, e))) lone =
+      absurd (omega (arith, is.value, some, ap (λ l. value_in 10 l) lone))
+
+  -- nor is it one
+  zero_first : (front rest tokens : List T) → AreCharacters seen code front (48 ∷ [])
+      → tokens ≡ front ++ rest → NoneFirst seen code IsSign tokens
+  zero_first [] rest tokens chars e = absurd chars
+  zero_first (t ∷ ts) rest tokens ((x, seen_as, same), chars) e =
+      inr (
+        t,
+        ts ++ rest,
+        e,
+        (
+          x,
+          seen_as,
+          λ sign. elim sign [
+            | inl plus ↦ omega (arith, same, plus)
+            | inr minus ↦ omega (arith, same, minus)
+          ],
+        ),
+      )
+
+  module _ {N : Type 0} (number : N → ℤ) (fits : ℤ → Type 0) where
+    abbrev SignedNumeral : Input T → N → List T → Type 0
+    SignedNumeral i n rest =
+        (sign : List ℕ) × (digits : List ℕ) × (b : Input T)
+        × NumeralRuns seen code reading true i sign digits b × (b.left.tokens ≡ rest)
+        × (signed_value sign digits ≡ number n) × fits (number n)
+
+    signed_numeral : (i : Input T) (n : N) (rest : List T) → i.status.cut ≡ false
+        → SignedDecimal number fits seen code i.left.tokens n rest → SignedNumeral i n rest
+    unfolding SignedDecimal
+    signed_numeral i n rest is (front, sign, digits, e, chars, decimal, inl lone, fit) =
+        let (none, (v, of)) = no_sign sign digits (number n) decimal lone in
+        let P : List ℕ → Type 0 = λ s. AreCharacters seen code front (s ++ digits) in
+        let Q : List ℕ → Type 0 = λ s. AreCharacters seen code front s in
+        let spelled = subst P none chars in (
+          [],
+          digits,
+          behind reading front rest i,
+          (
+            i,
+            inr (
+              (λ _. zero_first front rest i.left.tokens (subst Q lone spelled) e),
+              refl,
+              refl,
+            ),
+            lone_zero front rest digits i lone spelled e,
+          ),
+          refl,
+          ap (λ s. signed_value s digits) (sym none)
+              ∙ signed_is sign digits (number n) decimal,
+          fit,
+        )
+    signed_numeral i n rest is (front, sign, digits, e, chars, decimal, inr stops, fit) =
+        let (b, runs, passes) = numeral_run number fits seen code reading plain front sign digits
+        rest i (number n) decimal chars e stops (λ _. is) in (
+          sign,
+          digits,
+          b,
+          runs,
+          same_rest front b.left.tokens rest (sym passes.tokens ∙ e),
+          signed_is sign digits (number n) decimal,
+          fit,
+        )
+
+    pub signed_unique : SeenOnce seen code → IsUnique (SignedDecimal number fits seen code)
+    unfolding SignedDecimal
+    signed_unique once = record {
+      ends = λ tokens n rest (front, sign, digits, e, chars, decimal, stops, fit). (front, e);
+      one = λ tokens n m rest other x y.
+          let (s, xs, a, p, left, value, fit) = signed_numeral (whole tokens) n rest refl x in
+          let (t, ys, b, q, last, more, fit2) = signed_numeral (whole tokens) m other refl y in
+          let one =
+          one_numeral seen code reading once true (whole tokens) s t xs ys a b p q in
+          sym left ∙ ap (λ z. z.left.tokens) one.1.1 ∙ last;
+    }
+
+    pub signed_takes : Takes (SignedDecimal number fits seen code)
+    unfolding SignedDecimal
+    signed_takes = record {
+      fewer = λ tokens n rest
+          (front, sign, digits, e, chars, (v, decimal, signs), stops, fit). omega (
+            arith,
+            ap (λ l. length l) e,
+            length-append front rest,
+            characters_length seen code front (sign ++ digits) chars,
+            length-append sign digits,
+            decimal.are.0,
+          );
+    }
+
+    module _ (form : ErrorForm) where
+      pub dec_int_exact : SeesApart seen
+          → IsExact tt (Keeps (λ (_ : ⊤). DecIntRuns number fits seen code reading form))
+          (SignedDecimal number fits seen code)
+      unfolding SignedDecimal
+      dec_int_exact apart = record {
+        kept = λ i answer t j is (r, same). (same, still i answer j is r);
+        stands = λ i n t j is (r, kept).
+            let read = dec_int_ok number fits seen code reading form i n j r in (
+              read.front,
+              read.sign,
+              read.digits,
+              read.passes.tokens,
+              read.chars,
+              read.decimal,
+              read.stops,
+              read.fit,
+            );
+        none = λ i k t j is (r, kept). inr (λ n rest x.
+            none i k j r n rest (signed_numeral i n rest is x));
+        unique = signed_unique (seen_one seen code apart);
+      }
+        where
+          still : (i : Input T) (answer : Answer N) (j : Input T) → i.status.cut ≡ false
+              → DecIntRuns number fits seen code reading form i answer j
+              → j.status.cut ≡ false
+          still i answer j is (inl (sign, digits, n, runs, fit, value, e)) =
+              ap (λ z. z.cut)
+              (numeral_front seen code reading true i sign digits j runs).1.status ∙ is
+          still i answer j is (inr (inl (sign, digits, a, runs, misfit, e, same))) =
+              ap (λ z. z.status.cut) same ∙ is
+          still i answer j is (inr (inr (k, (sign, a, first, inl (b, lacks, cut, kind, at)), e))) =
+              true_is_false (sym cut ∙ is)
+          still i answer j is (inr (inr (k, (sign, a, first, inr (never, kind, at)), e))) =
+              ap (λ z. z.status.cut) at ∙ is
+
+          none : (i : Input T) (k : Kind) (j : Input T)
+              → DecIntRuns number fits seen code reading form i (Err k) j → (n : N)
+              (rest : List T) → SignedNumeral i n rest → ⊥
+          none i k j (inl (sign, digits, m, runs, fit, value, e)) n rest x = ok_is_err e refl
+          none i k j (inr (inl (sign, digits, a, runs, misfit, e, same))) n rest
+              (s, xs, b, p, left, value, fit) =
+              let one = one_numeral seen code reading (seen_one seen code apart) true i sign s
+              digits xs a b runs p in
+              misfit (subst fits (sym (ap (λ l. signed_value l digits) one.0
+              ∙ ap (λ l. signed_value s l) one.1.0 ∙ value)) fit)
+          none i k j (inr (inr (l, never, e))) n rest (s, xs, b, p, left, value, fit) =
+              numeral_or_none seen code reading (seen_one seen code apart) form true i s xs b l j
+              p never
+
+      pub dec_int_soft : IsSoft tt
+          (Keeps (λ (_ : ⊤). DecIntRuns number fits seen code reading form))
+      dec_int_soft = record { soft = λ i k t j is (r, kept). soft i k j is r }
+        where
+          soft : (i : Input T) (k : Kind) (j : Input T) → i.status.cut ≡ false
+              → DecIntRuns number fits seen code reading form i (Err k) j
+              → (k ≡ memory) ⊎ (k ≡ backtrack)
+          soft i k j is (inl (sign, digits, n, runs, fit, value, e)) = ok_is_err e refl
+          soft i k j is (inr (inl (sign, digits, a, runs, misfit, e, same))) = inr (same_kind e)
+          soft i k j is (inr (inr (l, (sign, a, first, inl (b, lacks, cut, kind, at)), e))) =
+              true_is_false (sym cut ∙ is)
+          soft i k j is (inr (inr (l, (sign, a, first, inr (never, kind, at)), e))) =
+              inr (same_kind e ∙ kind)
