@@ -7,15 +7,15 @@ use Rattle.std.specs.declared.vec.Vec.{Vec}
 use Rattle.std.proofs.Common.{refl, sym, ap, subst, inl, inr, ◌∙◌, arith, length-append}
 use Rattle.std.proofs.Common.{append_assoc, length-drop}
 use Rattle.std.proofs.lemmas.List.{length-take-le, take-append-drop, take_all}
-use Rattle.streams.specs.Counted.{counted_reading}
-use Rattle.streams.specs.Equal.{none_is_some, same_first, same_others, true_is_false}
-use Rattle.stream_sets.specs.Range.{from_to}
-use Rattle.grammars.specs.Grammar.Same.{Same}
-use Rattle.grammars.specs.Grammar.{Counted, Gathered, Grammar, IsUnique, Many, NoneStands}
-use Rattle.grammars.specs.Grammar.{TokenOf}
-use Rattle.grammars.specs.Grammar.Known.{slice_for}
-use Rattle.grammars.specs.Grammar.Lengths.{SaysOne, Sized, same_beginnings}
-use Rattle.grammars.specs.Grammar.Unique.{many_unique}
+use Rattle.winnow.specs.Counted.{counted_reading}
+use Rattle.winnow.specs.Equal.{none_is_some, same_first, same_others, true_is_false}
+use Rattle.winnow.specs.Range.{from_to}
+use Rattle.winnow.specs.Grammar.Same.{Same}
+use Rattle.winnow.specs.Grammar.{Counted, Gathered, Grammar, IsUnique, Many, NoneStands}
+use Rattle.winnow.specs.Grammar.{TokenOf}
+use Rattle.winnow.specs.Grammar.Known.{slice_for}
+use Rattle.winnow.specs.Grammar.Lengths.{SaysOne, Sized, same_beginnings}
+use Rattle.winnow.specs.Grammar.Unique.{many_unique}
 use Rattle.dns_names.specs.Names.{AreLabels, At, FaultBy, GoesNot, GoesOn, HasNoName, IsCut}
 use Rattle.dns_names.specs.Names.{IsLabel, IsName, IsPointer, IsRoot, Label, NameBy}
 use Rattle.dns_names.specs.Names.{EndingTold, NameTold, NoEnding}

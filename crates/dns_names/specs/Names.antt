@@ -2,8 +2,8 @@
 use Rattle.std.specs.Prelude.{◌≡◌, ◌⊎◌, ◌≤◌, ◌<◌, ◌+◌, ◌*◌, ◌++◌, ℕ, zero, suc, List, [], ◌∷◌}
 use Rattle.std.specs.Prelude.{length, None, Result, Ok, Err, ⊤}
 use Rattle.std.specs.Borrow.{Bor}
-use Rattle.stream_sets.specs.Range.{from_to}
-use Rattle.grammars.specs.Grammar.{Grammar, Many}
+use Rattle.winnow.specs.Range.{from_to}
+use Rattle.winnow.specs.Grammar.{Grammar, Many}
 use Rattle.dns_names.specs.declared.name.Name.{Name}
 use Rattle.dns_names.specs.declared.name.NameFault.{NameFault}
 use Rattle.dns_names.specs.declared.name.NameFault.TheVariants.{Ends, NoMemory, NotPrior}

@@ -1,24 +1,19 @@
 //! Labels, one behind the other.
 ghost use Rattle.dns_names.specs.Names.{IsLabel};
 ghost use Rattle.std.specs.Prelude.{◌≡◌, None};
-ghost use Rattle.stream_sets.specs.Range.{from_to};
-ghost use Rattle.streams.specs.Bytes.{bytes_input, bytes_reading};
-ghost use Rattle.winnow_core.specs.Exact.{Reads};
-ghost use Rattle.grammars.specs.Grammar.{Counted, Gathered, Many};
-ghost use Rattle.grammars.specs.Grammar.Lengths.{SaysOne, Sized};
+ghost use Rattle.winnow.specs.Range.{from_to};
+ghost use Rattle.winnow.specs.Bytes.{bytes_input, bytes_reading};
+ghost use Rattle.winnow.specs.Exact.{Reads};
+ghost use Rattle.winnow.specs.Grammar.{Counted, Gathered, Many};
+ghost use Rattle.winnow.specs.Grammar.Lengths.{SaysOne, Sized};
 
 use std::alloc::Allocator;
-use stream_errors::empty::EmptyError;
-use stream_errors::mode::ErrMode;
-use stream_errors::parser_error::ParserError;
-use stream_sets::numbers::ToUsize;
-use stream_sets::range::Range;
-use streams::has_kind::HasKind;
-use streams::stream::StreamIsPartial;
-use winnow_binary::binary::length_take;
-use winnow_core::exact::Exact;
-use winnow_repeat::combinator::repeat;
-use winnow_token::token::one_of;
+use winnow::binary::length_take;
+use winnow::combinator::repeat;
+use winnow::error::{EmptyError, ErrMode, HasKind, ParserError};
+use winnow::exact::Exact;
+use winnow::stream::{Range, StreamIsPartial, ToUsize};
+use winnow::token::one_of;
 
 /// Tokens behind their number, as often as they stand one behind the other.
 fn read_sized<I, E, N, P, A>(alloc: A, count: P, input: &mut I) -> Result<Vec<I::Slice, A>, E>

@@ -1,6 +1,6 @@
 //! Names.
 ghost use Rattle.dns_names.specs.Names.{EndingTold, IsLabel, NameTold};
-ghost use Rattle.grammars.specs.Grammar.{NoneStands};
+ghost use Rattle.winnow.specs.Grammar.{NoneStands};
 
 use crate::labels::read_labels;
 use std::alloc::Allocator;

@@ -2,11 +2,11 @@
 
 ghost use Rattle.std.specs.Prelude.{◌≡◌, take};
 ghost use Rattle.std.specs.Str.{IsCharBoundary, IsUtf8, chars};
-ghost use Rattle.text_positions.specs.Position.{IsPosition};
+ghost use Rattle.winnow.specs.Position.{IsPosition};
 ghost use Rattle.exported.specs.Code.{done};
 
 use crate::code::DONE;
-use text_positions::excerpt::position_in;
+use winnow::stream::position_in;
 
 /// A place in a text, as a reader of the text would say it.
 #[repr(C)]

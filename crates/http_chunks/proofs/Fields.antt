@@ -6,7 +6,7 @@ use Rattle.std.proofs.lemmas.List.Elements.{All-weaker, recursion_from_All}
 use Rattle.http_chunks.specs.Written.{token_least, token_no_mark, token_no_space}
 use Rattle.http_heads.specs.Bytes.{IsTokenByte, IsValueByte, IsWhite}
 use Rattle.http_heads.specs.FieldLine.{IsFieldLine}
-use Rattle.streams.specs.Equal.{same_first, same_others}
+use Rattle.winnow.specs.Equal.{same_first, same_others}
 
 abbrev NoColon : ℕ → Type 0
 NoColon b = b ≡ 58 → ⊥

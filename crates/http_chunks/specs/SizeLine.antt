@@ -8,11 +8,11 @@ use Rattle.http_chunks.specs.declared.size_line.Size.{Size}
 use Rattle.http_chunks.specs.declared.size_line.Size.TheVariants.{Bytes, TooLarge}
 use Rattle.http_chunks.specs.declared.size_line.SizeLine.{SizeLine}
 use Rattle.http_heads.specs.Bytes.{IsTokenByte, IsValueByte}
-use Rattle.stream_sets.specs.AsChar.{IsHexDigit, IsSpace}
-use Rattle.streams.specs.Counted.{counted_reading}
-use Rattle.grammars.specs.Texts.{Among, AtLeast, Holding, InList, Itself, Members, Of, OneOf}
-use Rattle.grammars.specs.Texts.{Perhaps, Row, Shown, Text, Then}
-use Rattle.winnow_numbers.specs.Digits.{value_in}
+use Rattle.winnow.specs.AsChar.{IsHexDigit, IsSpace}
+use Rattle.winnow.specs.Counted.{counted_reading}
+use Rattle.winnow.specs.Texts.{Among, AtLeast, Holding, InList, Itself, Members, Of, OneOf}
+use Rattle.winnow.specs.Texts.{Perhaps, Row, Shown, Text, Then}
+use Rattle.winnow.specs.Digits.{value_in}
 
 -- bytes of the input
 abbrev pub Slice : Type 0

@@ -10,24 +10,24 @@ use Rattle.http_chunks.specs.SizeLine.{QuotedByteText, SizeLineText, Slice, Spac
 use Rattle.http_chunks.specs.SizeLine.{TokenText, ValueText}
 use Rattle.http_chunks.specs.declared.size_line.SizeLine.{SizeLine}
 use Rattle.http_heads.specs.Bytes.{IsTokenByte, IsValueByte}
-use Rattle.stream_sets.specs.AsChar.{IsHexDigit, IsSpace}
-use Rattle.stream_sets.specs.Range.{from_to}
-use Rattle.streams.specs.Counted.{counted_reading}
-use Rattle.streams.specs.Equal.{same_first, same_others}
-use Rattle.grammars.specs.Grammar.{Both, Grammar, InClass, NoneStands}
-use Rattle.grammars.specs.Grammar.Known.{Byte}
-use Rattle.winnow_exact.specs.InTurn.{First}
-use Rattle.grammars.specs.Texts.{Anything, AtLeast, Begins, BeginsIn, Holding, InFront}
-use Rattle.grammars.specs.Texts.{IsGrammarOf, Itself, MayBegin, Members, NotFirst, Of, Perhaps}
-use Rattle.grammars.specs.Texts.{Row, Spelled, Text, Then}
-use Rattle.grammars.specs.Texts.Fronts.{among_front, begins_wider, front_any, front_begins}
-use Rattle.grammars.specs.Texts.Fronts.{front_whole, in_list_front, may_begin, members_begin}
-use Rattle.grammars.specs.Texts.Fronts.{none_begins, one_of_begins, row_front, shown_front}
-use Rattle.grammars.specs.Texts.Fronts.{spelled_begins, then_front}
-use Rattle.grammars.specs.Texts.Parts.{behind_less, both_of, either_apart, maybe_of, taken_of}
-use Rattle.grammars.specs.Texts.Parts.{three_of}
-use Rattle.grammars.specs.Texts.Rows.{gathered_of, list_of, many_of}
-use Rattle.grammars.specs.Texts.Tokens.{byte_of, class_of, divides_where, token_of}
+use Rattle.winnow.specs.AsChar.{IsHexDigit, IsSpace}
+use Rattle.winnow.specs.Range.{from_to}
+use Rattle.winnow.specs.Counted.{counted_reading}
+use Rattle.winnow.specs.Equal.{same_first, same_others}
+use Rattle.winnow.specs.Grammar.{Both, Grammar, InClass, NoneStands}
+use Rattle.winnow.specs.Grammar.Known.{Byte}
+use Rattle.winnow.specs.InTurn.{First}
+use Rattle.winnow.specs.Texts.{Anything, AtLeast, Begins, BeginsIn, Holding, InFront}
+use Rattle.winnow.specs.Texts.{IsGrammarOf, Itself, MayBegin, Members, NotFirst, Of, Perhaps}
+use Rattle.winnow.specs.Texts.{Row, Spelled, Text, Then}
+use Rattle.winnow.specs.Texts.Fronts.{among_front, begins_wider, front_any, front_begins}
+use Rattle.winnow.specs.Texts.Fronts.{front_whole, in_list_front, may_begin, members_begin}
+use Rattle.winnow.specs.Texts.Fronts.{none_begins, one_of_begins, row_front, shown_front}
+use Rattle.winnow.specs.Texts.Fronts.{spelled_begins, then_front}
+use Rattle.winnow.specs.Texts.Parts.{behind_less, both_of, either_apart, maybe_of, taken_of}
+use Rattle.winnow.specs.Texts.Parts.{three_of}
+use Rattle.winnow.specs.Texts.Rows.{gathered_of, list_of, many_of}
+use Rattle.winnow.specs.Texts.Tokens.{byte_of, class_of, divides_where, token_of}
 
 -- ---- bytes
 

@@ -4,27 +4,23 @@
 
 ghost use Rattle.http_chunks.specs.Lines.{Ended, Extensions, Line, TextOrToken};
 ghost use Rattle.std.specs.Prelude.{◌≡◌};
-ghost use Rattle.stream_errors.specs.Form.{modal};
-ghost use Rattle.winnow_exact.specs.Cut.{ReadsOrAsks};
-ghost use Rattle.stream_sets.specs.Once.{SeesApart};
-ghost use Rattle.grammars.specs.Grammar.{Literally};
+ghost use Rattle.winnow.specs.Form.{modal};
+ghost use Rattle.winnow.specs.Cut.{ReadsOrAsks};
+ghost use Rattle.winnow.specs.Once.{SeesApart};
+ghost use Rattle.winnow.specs.Grammar.{Literally};
 
 use crate::sets::QuotedBytes;
 use http_heads::sets::{TokenBytes, ValueBytes};
 use std::alloc::Allocator;
-use stream_errors::parser_error::ParserError;
-use stream_searches::compare::Compare;
-use stream_sets::range::Range;
-use streams::stream::StreamIsPartial;
-use winnow_ascii::ascii::impls::{HexDigit1, Space0};
-use winnow_comb::combinator::{alt, delimited, opt, preceded, terminated};
-use winnow_core::exact::Exact;
-use winnow_core::parser::Parser;
-use winnow_core::stable::Stable;
-use winnow_exact::pieces::ReadsPieces;
-use winnow_repeat::combinator::impls::Repeat;
-use winnow_repeat::combinator::repeat;
-use winnow_token::token::{one_of, take_while};
+use winnow::Parser;
+use winnow::ascii::impls::{HexDigit1, Space0};
+use winnow::combinator::impls::Repeat;
+use winnow::combinator::{alt, delimited, opt, preceded, repeat, terminated};
+use winnow::error::ParserError;
+use winnow::exact::{Exact, ReadsPieces};
+use winnow::stable::Stable;
+use winnow::stream::{Compare, Range, StreamIsPartial};
+use winnow::token::{one_of, take_while};
 
 /// Hexadecimal digits, what `behind` reads, and a line end.
 fn ended<I, E, O, P>(behind: P, input: &mut I) -> Result<(I::Slice, O), E>

@@ -3,10 +3,10 @@
 
 ghost use Rattle.http_chunks.specs.Lines.{IsQuotedByte};
 ghost use Rattle.std.specs.Prelude.{◌↔◌, IsTrue};
-ghost use Rattle.stream_sets.specs.Once.{holds_once};
+ghost use Rattle.winnow.specs.Once.{holds_once};
 
-use stream_sets::decides::Decides;
-use stream_sets::sets::ContainsToken;
+use winnow::exact::Decides;
+use winnow::stream::ContainsToken;
 
 /// The bytes that stand for themselves in a quoted string.
 #[derive(Clone, Copy, Drop)]

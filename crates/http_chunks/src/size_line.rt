@@ -2,19 +2,16 @@
 #![tactic(auto)]
 
 ghost use Rattle.http_chunks.specs.SizeLine.{SizeLineText};
-ghost use Rattle.streams.specs.Bytes.{bytes_follow, bytes_input, bytes_reading};
-ghost use Rattle.winnow_core.specs.Exact.{Reads};
-ghost use Rattle.winnow_exact.specs.Cut.{ReadsOrAsks};
-ghost use Rattle.winnow_exact.specs.InTurn.{First};
+ghost use Rattle.winnow.specs.Bytes.{bytes_follow, bytes_input, bytes_reading};
+ghost use Rattle.winnow.specs.Exact.{Reads};
+ghost use Rattle.winnow.specs.Cut.{ReadsOrAsks};
+ghost use Rattle.winnow.specs.InTurn.{First};
 
 use crate::lines::line;
 use crate::numbers::size_of;
 use std::alloc::Allocator;
-use stream_errors::empty::EmptyError;
-use stream_errors::mode::ErrMode;
-use streams::has_kind::HasKind;
-use streams::partial::Partial;
-use streams::stream::Stream;
+use winnow::error::{EmptyError, ErrMode, HasKind};
+use winnow::stream::{Partial, Stream};
 
 /// The size of a chunk: how many bytes its data has. That of the last chunk is 0.
 ///
@@ -85,8 +82,8 @@ pub fn read_size_line<'i, A: Allocator + Copy>(
 ///
 /// ```
 /// use http_chunks::size_line::{Size, read_size_line_in_pieces};
-/// use stream_errors::mode::ErrMode;
-/// use streams::partial::Partial;
+/// use winnow::error::ErrMode;
+/// use winnow::stream::Partial;
 ///
 /// let asks = read_size_line_in_pieces(alloc, &mut Partial::new(b"1f;na".as_slice()));
 /// assert!(rt; matches!(asks, Err(ErrMode::Incomplete(_))));

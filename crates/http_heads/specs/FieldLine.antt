@@ -3,7 +3,7 @@ use Rattle.std.specs.Prelude.{◌≡◌, ◌<◌, ℕ, List, [], ◌∷◌, ◌+
 use Rattle.std.specs.List.{All}
 use Rattle.http_heads.specs.Bytes.{IsTokenByte, IsValueByte, IsWhite, line_end}
 use Rattle.http_heads.specs.declared.field_line.Field.{Field}
-use Rattle.grammars.specs.Grammar.{Grammar}
+use Rattle.winnow.specs.Grammar.{Grammar}
 
 -- No white space stands at the end.
 abbrev pub EndsBare : List ℕ → Type 0

@@ -6,17 +6,17 @@ use Rattle.std.proofs.Common.{refl, sym, ap, subst, inl, inr, ◌∙◌, arith, 
 use Rattle.std.proofs.Common.{length-append}
 use Rattle.std.proofs.lemmas.List.Elements.{All-append, All-cons, All-head, All-nil, All-tail}
 use Rattle.std.proofs.lemmas.List.Elements.{All-weaker}
-use Rattle.streams.specs.Equal.{same_first, same_rest}
+use Rattle.winnow.specs.Equal.{same_first, same_rest}
 use Rattle.http_heads.specs.Bytes.{IsTokenByte, IsValueByte, IsWhite, line_end}
 use Rattle.http_heads.specs.FieldLine.{BeginsBare, EndsBare, FieldLineStands, IsFieldLine}
 use Rattle.http_heads.specs.FieldLine.{IsTrimmed}
 use Rattle.http_heads.specs.Parts.{EndStands, Run, run_back, run_there, run_unique}
 use Rattle.http_heads.specs.declared.field_line.Field.{Field}
-use Rattle.winnow_exact.specs.Steps.{Steps}
-use Rattle.grammars.specs.Grammar.{Both, Grammar, IsUnique, Takes}
-use Rattle.grammars.specs.Grammar.Known.{Byte, byte_stands, byte_unique, stands_byte}
-use Rattle.grammars.specs.Grammar.Unique.{both_unique, unique_by}
-use Rattle.grammars.specs.Texts.{NotFirst}
+use Rattle.winnow.specs.Steps.{Steps}
+use Rattle.winnow.specs.Grammar.{Both, Grammar, IsUnique, Takes}
+use Rattle.winnow.specs.Grammar.Known.{Byte, byte_stands, byte_unique, stands_byte}
+use Rattle.winnow.specs.Grammar.Unique.{both_unique, unique_by}
+use Rattle.winnow.specs.Texts.{NotFirst}
 
 -- ---- a value, with the white space around it
 

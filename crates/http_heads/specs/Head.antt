@@ -8,7 +8,7 @@ use Rattle.http_heads.specs.RequestLine.{IsRequestLine}
 use Rattle.http_heads.specs.declared.field_line.Field.{Field}
 use Rattle.http_heads.specs.declared.head.Head.{Head}
 use Rattle.http_heads.specs.declared.request_line.RequestLine.{RequestLine}
-use Rattle.grammars.specs.Grammar.{Grammar}
+use Rattle.winnow.specs.Grammar.{Grammar}
 
 -- What a request line says, without its place: the method, the target, and the two numbers of the
 -- version.

@@ -2,10 +2,10 @@
 use Rattle.std.specs.Prelude.{◌≡◌, ℕ, List, [], ◌∷◌, ◌++◌, None, map, Ok, Err}
 use Rattle.std.specs.declared.vec.Vec.{Vec}
 use Rattle.std.proofs.Common.{refl, sym, ap, subst, inl, inr, ◌∙◌, arith}
-use Rattle.streams.specs.Counted.{counted_input, counted_reading}
-use Rattle.streams.specs.Input.{IsEndOf}
-use Rattle.streams.specs.Kind.{Kind, memory}
-use Rattle.stream_sets.specs.Range.{from_to}
+use Rattle.winnow.specs.Counted.{counted_input, counted_reading}
+use Rattle.winnow.specs.Input.{IsEndOf}
+use Rattle.winnow.specs.Kind.{Kind, memory}
+use Rattle.winnow.specs.Range.{from_to}
 use Rattle.http_heads.specs.FieldLine.{FieldLineStands}
 use Rattle.http_heads.specs.FieldRead.{field_unique, none_returns}
 use Rattle.http_heads.specs.Head.{AreFieldLines, FieldsStand, HeadStands, IsHead, pair}
@@ -15,10 +15,10 @@ use Rattle.http_heads.specs.RequestLine.{RequestLineStands}
 use Rattle.http_heads.specs.declared.field_line.Field.{Field}
 use Rattle.http_heads.specs.declared.head.Head.{Head}
 use Rattle.http_heads.specs.declared.request_line.RequestLine.{RequestLine}
-use Rattle.winnow_core.specs.Exact.{Reads}
-use Rattle.winnow_exact.specs.Steps.{Steps}
-use Rattle.grammars.specs.Grammar.{Both, Each, Gathered, Grammar, IsUnique, Many}
-use Rattle.grammars.specs.Grammar.Unique.{gathered_unique, many_unique}
+use Rattle.winnow.specs.Exact.{Reads}
+use Rattle.winnow.specs.Steps.{Steps}
+use Rattle.winnow.specs.Grammar.{Both, Each, Gathered, Grammar, IsUnique, Many}
+use Rattle.winnow.specs.Grammar.Unique.{gathered_unique, many_unique}
 
 -- ---- field lines
 

@@ -2,20 +2,18 @@
 //! (a carriage return and a line feed). White space may stand before the value and behind it.
 #![tactic(auto)]
 
-ghost use Rattle.streams.specs.Bytes.{bytes_input, bytes_reading};
+ghost use Rattle.winnow.specs.Bytes.{bytes_input, bytes_reading};
 ghost use Rattle.http_heads.specs.FieldLine.{FieldLineStands, IsTrimmed};
 ghost use Rattle.http_heads.specs.FieldRead.{NameRead, NameValue, ValueStands};
 ghost use Rattle.http_heads.specs.Parts.{EndStands};
-ghost use Rattle.winnow_core.specs.Exact.{Reads};
+ghost use Rattle.winnow.specs.Exact.{Reads};
 
 use crate::sets::{TokenBytes, ValueBytes, White};
-use stream_errors::empty::EmptyError;
-use stream_errors::mode::ErrMode;
-use stream_sets::range::Range;
-use streams::has_kind::HasKind;
-use winnow_comb::combinator::{preceded, terminated};
-use winnow_core::exact::Exact;
-use winnow_token::token::take_while;
+use winnow::combinator::{preceded, terminated};
+use winnow::error::{EmptyError, ErrMode, HasKind};
+use winnow::exact::Exact;
+use winnow::stream::Range;
+use winnow::token::take_while;
 
 /// A field: its name and its value, as slices of the input.
 ///

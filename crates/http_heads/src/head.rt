@@ -7,18 +7,15 @@
 #![tactic(auto)]
 
 ghost use Rattle.std.specs.Prelude.{◌≡◌, IfErr};
-ghost use Rattle.streams.specs.Bytes.{bytes_input, bytes_reading};
+ghost use Rattle.winnow.specs.Bytes.{bytes_input, bytes_reading};
 ghost use Rattle.http_heads.specs.Head.{HeadStands, FieldsStand};
 ghost use Rattle.http_heads.specs.HeadRead.{LinesStand};
-ghost use Rattle.winnow_core.specs.Exact.{Reads};
+ghost use Rattle.winnow.specs.Exact.{Reads};
 
 use crate::field_line::{Field, read_field_line, read_line_end};
 use crate::request_line::{RequestLine, read_request_line};
 use std::alloc::Allocator;
-use stream_errors::empty::EmptyError;
-use stream_errors::mode::ErrMode;
-use stream_errors::parser_error::ParserError;
-use streams::has_kind::HasKind;
+use winnow::error::{EmptyError, ErrMode, HasKind, ParserError};
 
 /// A head: its request line, and its fields in order. `A` is the allocator of their list.
 ///

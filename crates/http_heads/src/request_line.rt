@@ -6,21 +6,18 @@
 //! The version is two digits; whether the server speaks it is the caller's to see.
 #![tactic(auto)]
 
-ghost use Rattle.streams.specs.Bytes.{bytes_input, bytes_reading};
+ghost use Rattle.winnow.specs.Bytes.{bytes_input, bytes_reading};
 ghost use Rattle.http_heads.specs.RequestLine.{RequestLineStands};
 ghost use Rattle.http_heads.specs.RequestRead.{DigitStands, MethodTarget, VersionStands};
 ghost use Rattle.http_heads.specs.RequestRead.{digit_unique};
-ghost use Rattle.winnow_core.specs.Exact.{Reads};
+ghost use Rattle.winnow.specs.Exact.{Reads};
 
 use crate::sets::{Digits, TokenBytes, Visible};
-use stream_errors::empty::EmptyError;
-use stream_errors::mode::ErrMode;
-use stream_sets::range::Range;
-use streams::has_kind::HasKind;
-use winnow_comb::combinator::{delimited, separated_pair};
-use winnow_core::exact::Exact;
-use winnow_exact::rule::Rule;
-use winnow_token::token::{one_of, take_while};
+use winnow::combinator::{delimited, separated_pair};
+use winnow::error::{EmptyError, ErrMode, HasKind};
+use winnow::exact::{Exact, Rule};
+use winnow::stream::Range;
+use winnow::token::{one_of, take_while};
 
 /// A request line: what it says, as slices of the input.
 ///

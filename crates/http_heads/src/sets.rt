@@ -3,10 +3,10 @@
 
 ghost use Rattle.std.specs.Prelude.{◌↔◌, IsTrue};
 ghost use Rattle.http_heads.specs.Bytes.{IsDigit, IsTokenByte, IsValueByte, IsVisible, IsWhite};
-ghost use Rattle.stream_sets.specs.Once.{holds_once};
+ghost use Rattle.winnow.specs.Once.{holds_once};
 
-use stream_sets::decides::Decides;
-use stream_sets::sets::ContainsToken;
+use winnow::exact::Decides;
+use winnow::stream::ContainsToken;
 
 /// The bytes of tokens, of which names and methods are made.
 #[derive(Clone, Copy, Drop)]

@@ -10,10 +10,10 @@ use Rattle.std.specs.Str.{IsAscii, chars, encode_utf8_all}
 use Rattle.std.proofs.lemmas.List.{append-nil}
 use Rattle.std.proofs.lemmas.Str.{encode_ascii, encodes-IsAscii, encodes-chars}
 use Rattle.std.proofs.lemmas.Str.Ascii.{IsAscii-from_all}
-use Rattle.stream_sets.specs.Accumulator.Holds.{HasCharacters}
-use Rattle.streams.specs.Utf8.{four_bytes, three_bytes, two_bytes}
+use Rattle.winnow.specs.Accumulator.Holds.{HasCharacters}
+use Rattle.winnow.specs.Utf8.{four_bytes, three_bytes, two_bytes}
 use Rattle.std.proofs.lemmas.List.Elements.{All-cons, All-nil, All-tail, All-weaker}
-use Rattle.stream_sets.specs.AsChar.{IsMultispace}
+use Rattle.winnow.specs.AsChar.{IsMultispace}
 use Rattle.json_texts.specs.Number.{NumberText}
 use Rattle.json_texts.specs.Number.{number_begins}
 use Rattle.json_texts.specs.Values.{HasText, IsArray, IsNumber, IsObject}
@@ -25,8 +25,8 @@ use Rattle.json_pieces.specs.Extent.{Closes, never_closes, start, started, step}
 use Rattle.json_pieces.specs.Value.{InUtf8, IsNumeral, IsNumeric}
 use Rattle.json_pieces.specs.declared.extent.Mode.{Mode}
 use Rattle.json_pieces.specs.declared.extent.Mode.TheVariants as modes
-use Rattle.grammars.specs.Texts.{Begins, InFront}
-use Rattle.grammars.specs.Texts.Fronts.{among_front, front_behind, front_whole}
+use Rattle.winnow.specs.Texts.{Begins, InFront}
+use Rattle.winnow.specs.Texts.Fronts.{among_front, front_behind, front_whole}
 use Rattle.json_pieces.specs.General.{Adds, each_adds}
 use Rattle.json_pieces.specs.General.{spelled_front}
 use Rattle.json_pieces.specs.Front.{IsCalm, IsPlain, array_front, calm_anywhere, calm_step}

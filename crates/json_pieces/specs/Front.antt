@@ -4,7 +4,7 @@ use Rattle.std.specs.Prelude.{List, [], ◌∷◌, ◌++◌, Some, None}
 use Rattle.std.specs.declared.string.String.{String}
 use Rattle.std.proofs.Common.{refl, sym, subst, inl, inr, arith}
 use Rattle.std.proofs.lemmas.Bool.{ne_eqb}
-use Rattle.stream_sets.specs.AsChar.{IsDecDigit, IsMultispace}
+use Rattle.winnow.specs.AsChar.{IsDecDigit, IsMultispace}
 use Rattle.json_texts.specs.Number.{ExponentText, FractionText, IntegerText, IsLeading, NumberText}
 use Rattle.json_texts.specs.Strings.{CharacterText, IsAlone, ArePair, IsHex, IsNumberOf}
 use Rattle.json_texts.specs.Strings.{IsUnescaped}
@@ -20,13 +20,13 @@ use Rattle.json_pieces.specs.Extent.{Closes, between, outside, quoted}
 use Rattle.json_pieces.specs.Value.{IsNumeral}
 use Rattle.json_pieces.specs.declared.extent.Mode.{Mode}
 use Rattle.json_pieces.specs.declared.extent.Mode.TheVariants as modes
-use Rattle.streams.specs.Text.{text_reading}
-use Rattle.grammars.specs.Texts.{InFront, InList, Joined}
-use Rattle.grammars.specs.Texts.{Of, Text, Then}
-use Rattle.grammars.specs.Texts.Fronts.{among_front}
-use Rattle.grammars.specs.Texts.Fronts.{holding_front}
-use Rattle.grammars.specs.Texts.Fronts.{in_list_front, perhaps_front, row_front, shown_front}
-use Rattle.grammars.specs.Texts.Fronts.{then_front}
+use Rattle.winnow.specs.Text.{text_reading}
+use Rattle.winnow.specs.Texts.{InFront, InList, Joined}
+use Rattle.winnow.specs.Texts.{Of, Text, Then}
+use Rattle.winnow.specs.Texts.Fronts.{among_front}
+use Rattle.winnow.specs.Texts.Fronts.{holding_front}
+use Rattle.winnow.specs.Texts.Fronts.{in_list_front, perhaps_front, row_front, shown_front}
+use Rattle.winnow.specs.Texts.Fronts.{then_front}
 use Rattle.json_pieces.specs.General.{Adds, in_front, joined_front, one_front, run_front}
 use Rattle.json_pieces.specs.General.{spelled_front}
 

@@ -6,10 +6,10 @@ use Rattle.std.proofs.Common.{sym, ap, subst, ◌∙◌, arith, append_assoc}
 use Rattle.std.proofs.lemmas.List.Elements.{All-tail, All-weaker}
 use Rattle.json_texts.specs.Words.{In, One, Run}
 use Rattle.json_pieces.specs.Extent.{between}
-use Rattle.grammars.specs.Texts.{InFront, Joined}
-use Rattle.grammars.specs.Texts.{Spelled, Text}
-use Rattle.grammars.specs.Texts.Fronts.{row_front}
-use Rattle.grammars.specs.Texts.Fronts.{then_front}
+use Rattle.winnow.specs.Texts.{InFront, Joined}
+use Rattle.winnow.specs.Texts.{Spelled, Text}
+use Rattle.winnow.specs.Texts.Fronts.{row_front}
+use Rattle.winnow.specs.Texts.Fronts.{then_front}
 
 pub spelled_front : {T O : Type 0} {behind whole : List T → Type 0} (xs : List T) (o : O)
     → ((rest : List T) → behind rest → whole (xs ++ rest)) → InFront (Spelled xs o) behind whole

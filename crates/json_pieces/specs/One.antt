@@ -15,10 +15,10 @@ use Rattle.json_texts.specs.Values.{AnyValue, ValueText}
 use Rattle.json_texts.specs.Values.Texts.{value_of}
 use Rattle.json_texts.specs.declared.value.Value.{Value}
 use Rattle.json_values.specs.Unique.{value_unique}
-use Rattle.streams.specs.Equal.{same_first, same_others, same_rest}
-use Rattle.grammars.specs.Grammar.{IsUnique}
-use Rattle.stream_sets.specs.Accumulator.Holds.{HasCharacters}
-use Rattle.grammars.specs.Texts.{NotFirst}
+use Rattle.winnow.specs.Equal.{same_first, same_others, same_rest}
+use Rattle.winnow.specs.Grammar.{IsUnique}
+use Rattle.winnow.specs.Accumulator.Holds.{HasCharacters}
+use Rattle.winnow.specs.Texts.{NotFirst}
 
 -- What is left of a text behind another that begins the same bytes.
 pub record Behind (t rest u other : List ℕ) : Type 0 where

@@ -22,14 +22,14 @@ use Rattle.json_pieces.specs.declared.extent.Lack.TheVariants as lacks
 use Rattle.json_texts.specs.Number.{GoesOn}
 use Rattle.json_texts.specs.Values.{ValueText}
 use Rattle.json_texts.specs.declared.value.Value.{Value}
-use Rattle.stream_sets.specs.AsChar.{IsMultispace}
-use Rattle.streams.specs.Kind.{Kind}
-use Rattle.streams.specs.Equal.{same_first, same_others, same_rest}
-use Rattle.streams.specs.Utf8.{chars_all}
-use Rattle.grammars.specs.Grammar.{Grammar, IsUnique, NoneStands}
-use Rattle.stream_sets.specs.Accumulator.Holds.{HasCharacters}
-use Rattle.grammars.specs.Texts.{Begins, IsGrammarOf, NotFirst}
-use Rattle.grammars.specs.Texts.Fronts.{begins_never, not_first}
+use Rattle.winnow.specs.AsChar.{IsMultispace}
+use Rattle.winnow.specs.Kind.{Kind}
+use Rattle.winnow.specs.Equal.{same_first, same_others, same_rest}
+use Rattle.winnow.specs.Utf8.{chars_all}
+use Rattle.winnow.specs.Grammar.{Grammar, IsUnique, NoneStands}
+use Rattle.winnow.specs.Accumulator.Holds.{HasCharacters}
+use Rattle.winnow.specs.Texts.{Begins, IsGrammarOf, NotFirst}
+use Rattle.winnow.specs.Texts.Fronts.{begins_never, not_first}
 
 -- A text that closes; or of numerals, and whatever comes no numeral is behind it.
 abbrev pub IsExtent : Bool → List ℕ → List ℕ → Type 0

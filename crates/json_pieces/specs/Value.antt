@@ -4,17 +4,17 @@ use Rattle.std.specs.List.{All}
 use Rattle.std.specs.Str.{IsUtf8, chars}
 use Rattle.std.proofs.Common.{refl, sym, ap, ◌∙◌, append_assoc}
 use Rattle.std.proofs.lemmas.List.{append-nil}
-use Rattle.stream_errors.specs.Fault.{refused_inner, refused_offset}
-use Rattle.stream_errors.specs.declared.fault.ParseFault.{ParseFault}
-use Rattle.stream_errors.specs.declared.fault.ParseFault.TheVariants.{Refused, Incomplete}
-use Rattle.stream_sets.specs.AsChar.{IsDecDigit, IsMultispace}
-use Rattle.streams.specs.declared.needed.Needed.{Needed}
+use Rattle.winnow.specs.Fault.{refused_inner, refused_offset}
+use Rattle.winnow.specs.{ParseFault}
+use Rattle.winnow.specs.ParseFaultCases.{Refused, Incomplete}
+use Rattle.winnow.specs.AsChar.{IsDecDigit, IsMultispace}
+use Rattle.winnow.specs.{Needed}
 use Rattle.json_texts.specs.Number.{GoesOn}
 use Rattle.json_texts.specs.Values.{ValueText}
 use Rattle.json_texts.specs.declared.value.Value.{Value}
-use Rattle.grammars.specs.Grammar.{Grammar}
-use Rattle.stream_sets.specs.Accumulator.Holds.{HasCharacters}
-use Rattle.grammars.specs.Texts.{Begins, IsGrammarOf, NotFirst, Text}
+use Rattle.winnow.specs.Grammar.{Grammar}
+use Rattle.winnow.specs.Accumulator.Holds.{HasCharacters}
+use Rattle.winnow.specs.Texts.{Begins, IsGrammarOf, NotFirst, Text}
 
 -- Bytes that are UTF-8, of characters that are a text of the value.
 unfoldable pub InUtf8 : {O : Type 0} → Text ℕ O → Text ℕ O

@@ -12,7 +12,7 @@ ghost use Rattle.json_pieces.specs.declared.extent.Lack.TheVariants as lacks;
 ghost use Rattle.std.specs.List.{All};
 ghost use Rattle.std.specs.Prelude.{◌≡◌, ◌⊎◌, ◌↔◌, ◌<◌, ◌≤◌, ◌+◌, ◌-◌, ◌^◌, ◌++◌, ℕ, List};
 ghost use Rattle.std.specs.Prelude.{IfErr, IfOk, IsTrue, true};
-ghost use Rattle.grammars.specs.Texts.{NotFirst};
+ghost use Rattle.winnow.specs.Texts.{NotFirst};
 
 /// Where a text is between two bytes.
 #[derive(Clone, Copy, Drop)]

@@ -9,28 +9,22 @@ ghost use Rattle.std.specs.Prelude.{◌≡◌, ◌≤◌, ◌↔◌, ◌++◌, �
 ghost use Rattle.std.specs.Prelude.{IsTrue, Some};
 ghost use Rattle.std.specs.Str.{IsUtf8, chars};
 ghost use Rattle.std.specs.Str.Lossy.{utf8_valid_len};
-ghost use Rattle.stream_sets.specs.AsChar.{IsMultispace};
-ghost use Rattle.streams.specs.Bytes.{bytes_follow, bytes_reading};
-ghost use Rattle.winnow_exact.specs.Cut.{Asks, ReadsOrAsks};
-ghost use Rattle.winnow_core.specs.Exact.Whole.{IsWant};
-ghost use Rattle.grammars.specs.Grammar.{IsUnique};
-ghost use Rattle.stream_sets.specs.Accumulator.Holds.{HasCharacters};
-ghost use Rattle.grammars.specs.Texts.{Begins, IsGrammarOf, NotFirst};
-ghost use Rattle.winnow_exact.specs.Told.{IsTextOf};
+ghost use Rattle.winnow.specs.AsChar.{IsMultispace};
+ghost use Rattle.winnow.specs.Bytes.{bytes_follow, bytes_reading};
+ghost use Rattle.winnow.specs.Cut.{Asks, ReadsOrAsks};
+ghost use Rattle.winnow.specs.Exact.Whole.{IsWant};
+ghost use Rattle.winnow.specs.Grammar.{IsUnique};
+ghost use Rattle.winnow.specs.Accumulator.Holds.{HasCharacters};
+ghost use Rattle.winnow.specs.Texts.{Begins, IsGrammarOf, NotFirst};
+ghost use Rattle.winnow.specs.Told.{IsTextOf};
 
 use crate::extent::{Lack, text_of};
 use json_texts::value::Value;
 use json_values::value::{parse_value, read_value};
 use std::alloc::Allocator;
 use std::str;
-use stream_errors::empty::EmptyError;
-use stream_errors::fault::{ParseError, ParseFault};
-use stream_errors::mode::ErrMode;
-use stream_errors::parser_error::ParserError;
-use streams::has_kind::HasKind;
-use streams::needed::Needed;
-use streams::partial::Partial;
-use streams::stream::{Stream, StreamIsPartial};
+use winnow::error::{EmptyError, ErrMode, HasKind, Needed, ParseError, ParseFault, ParserError};
+use winnow::stream::{Partial, Stream, StreamIsPartial};
 
 /// Whether a character is first with which a number may go on.
 fn goes_on(text: &str) -> bool
@@ -143,8 +137,8 @@ fn next_in<'i, A: Allocator + Copy>(
 /// ```
 /// use json_pieces::value::read_value_in_pieces;
 /// use json_texts::value::Value;
-/// use stream_errors::mode::ErrMode;
-/// use streams::partial::Partial;
+/// use winnow::error::ErrMode;
+/// use winnow::stream::Partial;
 ///
 /// let mut piece = Partial::new(b"[1, \"a]".as_slice());
 /// let asks = read_value_in_pieces(alloc, 1, &mut piece);
@@ -192,8 +186,7 @@ pub fn read_value_in_pieces<'i, A: Allocator + Copy>(
 /// ```
 /// use json_pieces::value::read_next_in_pieces;
 /// use json_texts::value::Value;
-/// use streams::partial::Partial;
-/// use streams::stream::StreamIsPartial;
+/// use winnow::stream::{Partial, StreamIsPartial};
 ///
 /// let mut input = Partial::new(b"true\n[] \n".as_slice());
 /// let first = read_next_in_pieces(alloc, 1, &mut input);
@@ -269,7 +262,7 @@ fn in_bytes<'i>(
 /// ```
 /// use json_pieces::value::parse_value_of_bytes;
 /// use json_texts::value::Value;
-/// use stream_errors::fault::ParseFault;
+/// use winnow::error::ParseFault;
 ///
 /// let value = parse_value_of_bytes(alloc, 1, b" [1, null] ".as_slice());
 /// assert!(rt; matches!(value, Ok(Value::Array(items)) if items.len() == 2));

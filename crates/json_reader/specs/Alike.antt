@@ -6,23 +6,23 @@ use Rattle.std.specs.Range.{range_inclusive_end, range_inclusive_start}
 use Rattle.std.specs.Str.{chars, encode_utf8_all}
 use Rattle.std.specs.declared.ops.RangeInclusive.{RangeInclusive}
 use Rattle.std.proofs.Common.{refl, sym, ap, ◌∙◌, arith}
-use Rattle.streams.specs.Equal.{none_is_some, same_some}
-use Rattle.streams.specs.Input.{Input, IsEndOf}
-use Rattle.streams.specs.Kind.{Kind, memory}
-use Rattle.streams.specs.Reading.{Reading}
-use Rattle.streams.specs.Text.{text_reading}
-use Rattle.stream_errors.specs.Growth.{grown}
-use Rattle.stream_sets.specs.AsChar.{IsDecDigit}
-use Rattle.stream_sets.specs.Sets.{EitherTells}
+use Rattle.winnow.specs.Equal.{none_is_some, same_some}
+use Rattle.winnow.specs.Input.{Input, IsEndOf}
+use Rattle.winnow.specs.Kind.{Kind, memory}
+use Rattle.winnow.specs.Reading.{Reading}
+use Rattle.winnow.specs.Text.{text_reading}
+use Rattle.winnow.specs.Growth.{grown}
+use Rattle.winnow.specs.AsChar.{IsDecDigit}
+use Rattle.winnow.specs.Sets.{EitherTells}
 use Rattle.json_texts.specs.Number.{Integer, IsLeading, Slice}
 use Rattle.json_texts.specs.Values.{HasText}
 use Rattle.json_texts.specs.Words.{Char, OneIn, RunOf, Word, pair}
-use Rattle.winnow_core.specs.Exact.{Reads}
-use Rattle.winnow_exact.specs.Read.{err_as, ok_as, reads_meaning, reads_wanting}
-use Rattle.grammars.specs.Grammar.Same.{Same, same_refl}
-use Rattle.grammars.specs.Grammar.{Both, Either, Grammar, Literally, Made, Taken, TokenOf}
-use Rattle.grammars.specs.Grammar.Alike.{both_same, either_same}
-use Rattle.grammars.specs.Grammar.Meaning.{Meaning}
+use Rattle.winnow.specs.Exact.{Reads}
+use Rattle.winnow.specs.Read.{err_as, ok_as, reads_meaning, reads_wanting}
+use Rattle.winnow.specs.Grammar.Same.{Same, same_refl}
+use Rattle.winnow.specs.Grammar.{Both, Either, Grammar, Literally, Made, Taken, TokenOf}
+use Rattle.winnow.specs.Grammar.Alike.{both_same, either_same}
+use Rattle.winnow.specs.Grammar.Meaning.{Meaning}
 
 -- a character of a set, where the set is a class
 pub class_same : {X : Type 0} (tells : X → ℕ → Bool → Type 0) (set : X) (class : ℕ → Type 0)

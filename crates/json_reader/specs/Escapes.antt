@@ -2,21 +2,21 @@
 use Rattle.std.specs.Prelude.{ℕ, None}
 use Rattle.std.proofs.Common.{inl}
 use Rattle.json_reader.specs.Unique.{char_takes, char_unique}
-use Rattle.stream_sets.specs.Range.{from_to}
+use Rattle.winnow.specs.Range.{from_to}
 use Rattle.json_texts.specs.Strings.{ArePair, Character, CodeUnit, Digit, Escape, IsAlone, IsHex}
 use Rattle.json_texts.specs.Strings.{IsNumberOf, IsUnescaped, Quoted, SaysOne, StandsFor, Unicode}
 use Rattle.json_texts.specs.Strings.{one_unit}
 use Rattle.json_texts.specs.Words.{Char, latter, pair}
-use Rattle.winnow_token.specs.Any.Laws.{token_takes}
-use Rattle.grammars.specs.Grammar.{Both, Gathered, Grammar, InClass, IsUnique, Many, Takes}
-use Rattle.grammars.specs.Grammar.{Token}
-use Rattle.grammars.specs.Grammar.Meaning.{Meaning, meaning_takes, meaning_unique}
-use Rattle.grammars.specs.Grammar.Outputs.{IsAlike, both_alike, second_alike, token_alike}
-use Rattle.grammars.specs.Grammar.Sequences.{four_take, four_unique, three_take, three_unique}
-use Rattle.grammars.specs.Grammar.Unique.{both_take, both_unique, either_takes, either_unique}
-use Rattle.grammars.specs.Grammar.Unique.{gathered_unique, many_unique, token_of_unique}
-use Rattle.grammars.specs.Grammar.Unique.{token_unique}
-use Rattle.stream_sets.specs.Accumulator.Holds.{HasCharacters}
+use Rattle.winnow.specs.Any.Laws.{token_takes}
+use Rattle.winnow.specs.Grammar.{Both, Gathered, Grammar, InClass, IsUnique, Many, Takes}
+use Rattle.winnow.specs.Grammar.{Token}
+use Rattle.winnow.specs.Grammar.Meaning.{Meaning, meaning_takes, meaning_unique}
+use Rattle.winnow.specs.Grammar.Outputs.{IsAlike, both_alike, second_alike, token_alike}
+use Rattle.winnow.specs.Grammar.Sequences.{four_take, four_unique, three_take, three_unique}
+use Rattle.winnow.specs.Grammar.Unique.{both_take, both_unique, either_takes, either_unique}
+use Rattle.winnow.specs.Grammar.Unique.{gathered_unique, many_unique, token_of_unique}
+use Rattle.winnow.specs.Grammar.Unique.{token_unique}
+use Rattle.winnow.specs.Accumulator.Holds.{HasCharacters}
 
 -- ---- units
 

@@ -3,10 +3,10 @@ use Rattle.std.specs.Prelude.{◌≡◌, ◌⊎◌, ◌<◌, ℕ, List, [], ◌�
 use Rattle.std.specs.Prelude.{Bool, true, false}
 use Rattle.std.proofs.Common.{refl, subst, inl, inr, arith}
 use Rattle.std.specs.Str.{chars}
-use Rattle.streams.specs.Input.{Input}
-use Rattle.streams.specs.Kind.{Kind}
-use Rattle.streams.specs.Text.{text_reading}
-use Rattle.stream_sets.specs.AsChar.{IsDecDigit}
+use Rattle.winnow.specs.Input.{Input}
+use Rattle.winnow.specs.Kind.{Kind}
+use Rattle.winnow.specs.Text.{text_reading}
+use Rattle.winnow.specs.AsChar.{IsDecDigit}
 use Rattle.json_texts.specs.Number.{GoesOn, Number, number_begins, number_of}
 use Rattle.json_texts.specs.Strings.{Quoted, string_begins, string_of}
 use Rattle.json_texts.specs.Values.{AnyValue, AnyWord, HasText, IsNumber, IsString, IsWord, Scalar}
@@ -14,13 +14,13 @@ use Rattle.json_texts.specs.Values.{ScalarText, ValueText}
 use Rattle.json_texts.specs.Values.Texts.{value_of}
 use Rattle.json_texts.specs.Words.{Word}
 use Rattle.json_texts.specs.declared.value.Value.{Value}
-use Rattle.winnow_core.specs.Exact.{Reads}
-use Rattle.winnow_exact.specs.Read.{neither_stands, reads_former, reads_other}
-use Rattle.grammars.specs.Grammar.{NoneStands}
-use Rattle.grammars.specs.Grammar.Meaning.{Meaning, none_means}
-use Rattle.stream_sets.specs.Accumulator.Holds.{HasCharacters}
-use Rattle.grammars.specs.Texts.{Begins, IsGrammarOf, NotFirst}
-use Rattle.grammars.specs.Texts.Fronts.{may_begin, none_begins}
+use Rattle.winnow.specs.Exact.{Reads}
+use Rattle.winnow.specs.Read.{neither_stands, reads_former, reads_other}
+use Rattle.winnow.specs.Grammar.{NoneStands}
+use Rattle.winnow.specs.Grammar.Meaning.{Meaning, none_means}
+use Rattle.winnow.specs.Accumulator.Holds.{HasCharacters}
+use Rattle.winnow.specs.Texts.{Begins, IsGrammarOf, NotFirst}
+use Rattle.winnow.specs.Texts.Fronts.{may_begin, none_begins}
 
 -- what a number begins with
 abbrev pub IsNumeric : ℕ → Type 0

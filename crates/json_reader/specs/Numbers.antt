@@ -1,17 +1,17 @@
 -- The parts of numbers: what they read, and that it is one, and takes characters.
 use Rattle.std.proofs.Common.{inl, inr}
-use Rattle.streams.specs.Text.{text_reading}
-use Rattle.stream_sets.specs.AsChar.{IsDecDigit}
+use Rattle.winnow.specs.Text.{text_reading}
+use Rattle.winnow.specs.AsChar.{IsDecDigit}
 use Rattle.json_reader.specs.Unique.{char_takes, char_unique, run_takes, run_unique}
 use Rattle.json_texts.specs.Number as texts
 use Rattle.json_texts.specs.Number.{IsLeading}
 use Rattle.json_texts.specs.Words.{latter, pair}
-use Rattle.winnow_core.specs.Exact.Adapters.{taken_takes}
-use Rattle.winnow_token.specs.OneOf.Laws.{token_of_takes}
-use Rattle.grammars.specs.Grammar.{InClass, IsUnique, Takes}
-use Rattle.grammars.specs.Grammar.Sequences.{four_take, four_unique}
-use Rattle.grammars.specs.Grammar.Unique.{both_take, both_unique, either_takes, either_unique}
-use Rattle.grammars.specs.Grammar.Unique.{maybe_unique, taken_unique, token_of_unique}
+use Rattle.winnow.specs.Exact.Adapters.{taken_takes}
+use Rattle.winnow.specs.OneOf.Laws.{token_of_takes}
+use Rattle.winnow.specs.Grammar.{InClass, IsUnique, Takes}
+use Rattle.winnow.specs.Grammar.Sequences.{four_take, four_unique}
+use Rattle.winnow.specs.Grammar.Unique.{both_take, both_unique, either_takes, either_unique}
+use Rattle.winnow.specs.Grammar.Unique.{maybe_unique, taken_unique, token_of_unique}
 
 pub integer_unique : IsUnique texts.Integer
 integer_unique =

@@ -11,26 +11,26 @@ use Rattle.std.proofs.Common.{refl, sym, ap, subst, inl, inr, ◌∙◌, arith}
 use Rattle.std.proofs.lemmas.Bool.{cases_lt}
 use Rattle.std.proofs.lemmas.List.{append-nil}
 use Rattle.std.proofs.lemmas.Str.{encodes-append}
-use Rattle.streams.specs.Equal.{true_is_false}
-use Rattle.streams.specs.Input.{IsEndOf}
-use Rattle.streams.specs.Kind.{Kind, memory}
-use Rattle.streams.specs.Text.{text_input, text_reading}
-use Rattle.stream_sets.specs.Range.{from_to}
-use Rattle.stream_sets.specs.Sets.{EitherTells}
+use Rattle.winnow.specs.Equal.{true_is_false}
+use Rattle.winnow.specs.Input.{IsEndOf}
+use Rattle.winnow.specs.Kind.{Kind, memory}
+use Rattle.winnow.specs.Text.{text_input, text_reading}
+use Rattle.winnow.specs.Range.{from_to}
+use Rattle.winnow.specs.Sets.{EitherTells}
 use Rattle.json_reader.specs.Alike.{RangeTells, RangesTell, range_told}
 use Rattle.json_reader.specs.Escapes.{escape_takes}
 use Rattle.json_texts.specs.Strings.{Character, Escape, IsUnescaped}
 use Rattle.json_texts.specs.Words.{OneIn}
-use Rattle.winnow_core.specs.Exact.{Reads}
-use Rattle.winnow_exact.specs.Read.{neither_stands}
-use Rattle.grammars.specs.Grammar.Same.{Same}
-use Rattle.grammars.specs.Grammar.{Each, Either, Gathered, Grammar, Longest, Many}
-use Rattle.grammars.specs.Grammar.{NoneStands, TokenOf}
-use Rattle.winnow_exact.specs.RunByRun as runs
-use Rattle.winnow_exact.specs.RunByRun.{RunOf, each_behind, each_one, run_takes}
-use Rattle.stream_sets.specs.Accumulator.Holds.{HasCharacters}
-use Rattle.grammars.specs.Texts.{Divides, NotFirst}
-use Rattle.grammars.specs.Texts.Tokens.{divides_as, divides_either, divides_seen}
+use Rattle.winnow.specs.Exact.{Reads}
+use Rattle.winnow.specs.Read.{neither_stands}
+use Rattle.winnow.specs.Grammar.Same.{Same}
+use Rattle.winnow.specs.Grammar.{Each, Either, Gathered, Grammar, Longest, Many}
+use Rattle.winnow.specs.Grammar.{NoneStands, TokenOf}
+use Rattle.winnow.specs.RunByRun as runs
+use Rattle.winnow.specs.RunByRun.{RunOf, each_behind, each_one, run_takes}
+use Rattle.winnow.specs.Accumulator.Holds.{HasCharacters}
+use Rattle.winnow.specs.Texts.{Divides, NotFirst}
+use Rattle.winnow.specs.Texts.Tokens.{divides_as, divides_either, divides_seen}
 
 -- characters, as many as stand, held by a string
 abbrev pub Characters : {A : Type 0} → Grammar ℕ (String A)

@@ -1,12 +1,12 @@
 -- What the words of JSON leave is one rest; and which of them take characters.
 use Rattle.std.specs.Prelude.{◌≡◌, ℕ, List, [], ◌∷◌, length}
 use Rattle.std.proofs.Common.{sym, ap, ◌∙◌, arith, length-append}
-use Rattle.streams.specs.Equal.{same_rest}
-use Rattle.streams.specs.Text.{text_reading}
+use Rattle.winnow.specs.Equal.{same_rest}
+use Rattle.winnow.specs.Text.{text_reading}
 use Rattle.json_texts.specs.Words.{Char, RunOf, Word}
-use Rattle.winnow_ascii.specs.Class.Laws.{class_takes, class_unique, one_is_some}
-use Rattle.grammars.specs.Grammar.{IsUnique, Takes}
-use Rattle.grammars.specs.Grammar.Unique.{literally_takes, literally_unique}
+use Rattle.winnow.specs.Class.Laws.{class_takes, class_unique, one_is_some}
+use Rattle.winnow.specs.Grammar.{IsUnique, Takes}
+use Rattle.winnow.specs.Grammar.Unique.{literally_takes, literally_unique}
 
 -- ---- characters
 

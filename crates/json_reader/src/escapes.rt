@@ -4,20 +4,17 @@ ghost use Rattle.json_reader.specs.Escapes.{escape_unique, pair_takes, pair_uniq
 ghost use Rattle.json_reader.specs.Escapes.{short_unique, unicode_takes, unicode_unique};
 ghost use Rattle.json_texts.specs.Strings.{ArePair, CodeUnit, Escape, IsAlone, StandsFor, Unicode};
 ghost use Rattle.std.specs.Prelude.{◌≡◌, ℕ, ⊤, MatchOption};
-ghost use Rattle.streams.specs.Text.{text_input, text_reading};
-ghost use Rattle.winnow_core.specs.Exact.{Reads};
-ghost use Rattle.grammars.specs.Grammar.{Token};
-ghost use Rattle.grammars.specs.Grammar.Meaning.{Meaning};
+ghost use Rattle.winnow.specs.Text.{text_input, text_reading};
+ghost use Rattle.winnow.specs.Exact.{Reads};
+ghost use Rattle.winnow.specs.Grammar.{Token};
+ghost use Rattle.winnow.specs.Grammar.Meaning.{Meaning};
 
 use crate::parts::{read_either, read_escape_of};
 use crate::units::{TwoUnits, Unit, read_unit, read_units};
-use stream_errors::empty::EmptyError;
-use stream_errors::mode::ErrMode;
-use streams::has_kind::HasKind;
-use winnow_core::exact::Exact;
-use winnow_core::parser::Parser;
-use winnow_exact::rule::Rule;
-use winnow_token::token::impls::Any;
+use winnow::Parser;
+use winnow::error::{EmptyError, ErrMode, HasKind};
+use winnow::exact::{Exact, Rule};
+use winnow::token::impls::Any;
 
 /// The character that a unit is by itself: none if it is a surrogate.
 fn alone(unit: u32) -> Option<char>

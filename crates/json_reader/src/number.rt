@@ -3,20 +3,17 @@ ghost use Rattle.json_reader.specs.Numbers.{exponent_takes, exponent_unique, fra
 ghost use Rattle.json_reader.specs.Numbers.{fraction_unique, integer_takes, integer_unique};
 ghost use Rattle.json_texts.specs.Number.{Exponent, Fraction, GoesOn, Integer, Number, NumberText};
 ghost use Rattle.std.specs.Prelude.{◌≡◌, ⊤};
-ghost use Rattle.streams.specs.Text.{text_input, text_reading};
-ghost use Rattle.winnow_core.specs.Exact.{Reads};
-ghost use Rattle.grammars.specs.Texts.{NotFirst};
-ghost use Rattle.winnow_exact.specs.Told.{ReadsText};
+ghost use Rattle.winnow.specs.Text.{text_input, text_reading};
+ghost use Rattle.winnow.specs.Exact.{Reads};
+ghost use Rattle.winnow.specs.Texts.{NotFirst};
+ghost use Rattle.winnow.specs.Told.{ReadsText};
 
 use crate::parts::{read_exponent_of, read_integer_of, read_latter, read_number_of};
-use stream_errors::empty::EmptyError;
-use stream_errors::mode::ErrMode;
-use streams::has_kind::HasKind;
-use winnow_ascii::ascii::impls::{Digit0, Digit1};
-use winnow_comb::combinator::alt;
-use winnow_core::exact::Exact;
-use winnow_exact::rule::Rule;
-use winnow_token::token::one_of;
+use winnow::ascii::impls::{Digit0, Digit1};
+use winnow::combinator::alt;
+use winnow::error::{EmptyError, ErrMode, HasKind};
+use winnow::exact::{Exact, Rule};
+use winnow::token::one_of;
 
 /// The name of the digits before the point.
 #[derive(Clone, Copy, Drop)]

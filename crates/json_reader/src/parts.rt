@@ -2,15 +2,15 @@
 //! are.
 ghost use Rattle.json_texts.specs.Words.{latter, pair};
 ghost use Rattle.std.specs.Prelude.{◌≡◌};
-ghost use Rattle.winnow_core.specs.Exact.{Reads};
-ghost use Rattle.grammars.specs.Grammar.{Both, Either, Maybe, Taken, Three};
-ghost use Rattle.grammars.specs.Grammar.Tuples.{Four};
+ghost use Rattle.winnow.specs.Exact.{Reads};
+ghost use Rattle.winnow.specs.Grammar.{Both, Either, Maybe, Taken, Three};
+ghost use Rattle.winnow.specs.Grammar.Tuples.{Four};
 
-use stream_errors::parser_error::ParserError;
-use streams::stream::Stream;
-use winnow_comb::combinator::{alt, delimited, opt, preceded};
-use winnow_core::exact::Exact;
-use winnow_core::parser::Parser;
+use winnow::Parser;
+use winnow::combinator::{alt, delimited, opt, preceded};
+use winnow::error::ParserError;
+use winnow::exact::Exact;
+use winnow::stream::Stream;
 
 /// Reads the second behind the first, and answers the second.
 pub fn read_latter<I, O1, O2, E, P, Q>(first: P, second: Q, input: &mut I) -> Result<O2, E>

@@ -3,23 +3,19 @@ ghost use Rattle.json_reader.specs.Escapes.{characters_unique};
 ghost use Rattle.json_reader.specs.Runs.{Characters, PlainRun};
 ghost use Rattle.json_texts.specs.Strings.{Quoted, StringText};
 ghost use Rattle.std.specs.Prelude.{◌≡◌};
-ghost use Rattle.streams.specs.Text.{text_input, text_reading};
-ghost use Rattle.winnow_core.specs.Exact.{Reads};
-ghost use Rattle.stream_sets.specs.Accumulator.Holds.{HasCharacters};
-ghost use Rattle.grammars.specs.Texts.{Anything};
-ghost use Rattle.winnow_exact.specs.Told.{ReadsText};
+ghost use Rattle.winnow.specs.Text.{text_input, text_reading};
+ghost use Rattle.winnow.specs.Exact.{Reads};
+ghost use Rattle.winnow.specs.Accumulator.Holds.{HasCharacters};
+ghost use Rattle.winnow.specs.Texts.{Anything};
+ghost use Rattle.winnow.specs.Told.{ReadsText};
 
 use crate::escapes::read_escape;
 use crate::parts::read_between;
 use std::alloc::Allocator;
-use stream_errors::empty::EmptyError;
-use stream_errors::mode::ErrMode;
-use stream_errors::parser_error::ParserError;
-use stream_sets::range::Range;
-use streams::has_kind::HasKind;
-use winnow_core::exact::Exact;
-use winnow_exact::rule::Rule;
-use winnow_token::token::take_while;
+use winnow::error::{EmptyError, ErrMode, HasKind, ParserError};
+use winnow::exact::{Exact, Rule};
+use winnow::stream::Range;
+use winnow::token::take_while;
 
 /// Characters that stand for themselves, as many as stand.
 fn read_plain<'i>(input: &mut &'i str) -> Result<&'i str, ErrMode<EmptyError>>

@@ -3,17 +3,14 @@ ghost use Rattle.json_reader.specs.Escapes.{Units, digit_takes, digit_unique, un
 ghost use Rattle.json_reader.specs.Escapes.{unit_unique, units_takes, units_unique};
 ghost use Rattle.json_texts.specs.Strings.{CodeUnit, Digit, IsHex, IsNumberOf};
 ghost use Rattle.std.specs.Prelude.{◌≡◌, ℕ, ⊤, MatchOption};
-ghost use Rattle.streams.specs.Text.{text_input, text_reading};
-ghost use Rattle.winnow_core.specs.Exact.{Reads};
+ghost use Rattle.winnow.specs.Text.{text_input, text_reading};
+ghost use Rattle.winnow.specs.Exact.{Reads};
 
 use crate::parts::{read_four_of, read_units_of};
-use stream_errors::empty::EmptyError;
-use stream_errors::mode::ErrMode;
-use streams::has_kind::HasKind;
-use winnow_core::exact::Exact;
-use winnow_core::parser::Parser;
-use winnow_exact::rule::Rule;
-use winnow_token::token::impls::Any;
+use winnow::Parser;
+use winnow::error::{EmptyError, ErrMode, HasKind};
+use winnow::exact::{Exact, Rule};
+use winnow::token::impls::Any;
 
 /// The value of a hexadecimal digit.
 fn hex_value(c: char) -> Option<u8>

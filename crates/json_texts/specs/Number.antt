@@ -2,20 +2,20 @@
 use Rattle.std.specs.Prelude.{◌≡◌, ◌⊎◌, ◌≤◌, ℕ, List, [], ◌++◌, Option, Some, None}
 use Rattle.std.specs.Borrow.{Bor}
 use Rattle.std.proofs.Common.{sym, subst, inl, inr, ◌∙◌, arith}
-use Rattle.streams.specs.Text.{text_reading}
-use Rattle.stream_sets.specs.AsChar.{IsDecDigit}
-use Rattle.grammars.specs.Grammar.{Both, Either, Grammar, Maybe, Taken}
-use Rattle.grammars.specs.Grammar.Tuples.{Four}
-use Rattle.grammars.specs.Texts.{Among, Anything, Begins, BeginsIn, InFront, IsGrammarOf}
-use Rattle.grammars.specs.Texts.{NotFirst, Perhaps}
-use Rattle.grammars.specs.Texts.{Shown, Text, Then}
-use Rattle.grammars.specs.Texts.Fronts.{among_front, begins_more, begins_wider, front_any}
-use Rattle.grammars.specs.Texts.Fronts.{front_begins}
-use Rattle.grammars.specs.Texts.Fronts.{front_behind, front_whole, none_begins, not_first}
-use Rattle.grammars.specs.Texts.Fronts.{perhaps_front, shown_front}
-use Rattle.grammars.specs.Texts.Fronts.{spelled_begins, then_front}
-use Rattle.grammars.specs.Texts.Parts.{behind_less, both_of, either_apart, maybe_of, same_of}
-use Rattle.grammars.specs.Texts.Parts.{taken_of}
+use Rattle.winnow.specs.Text.{text_reading}
+use Rattle.winnow.specs.AsChar.{IsDecDigit}
+use Rattle.winnow.specs.Grammar.{Both, Either, Grammar, Maybe, Taken}
+use Rattle.winnow.specs.Grammar.Tuples.{Four}
+use Rattle.winnow.specs.Texts.{Among, Anything, Begins, BeginsIn, InFront, IsGrammarOf}
+use Rattle.winnow.specs.Texts.{NotFirst, Perhaps}
+use Rattle.winnow.specs.Texts.{Shown, Text, Then}
+use Rattle.winnow.specs.Texts.Fronts.{among_front, begins_more, begins_wider, front_any}
+use Rattle.winnow.specs.Texts.Fronts.{front_begins}
+use Rattle.winnow.specs.Texts.Fronts.{front_behind, front_whole, none_begins, not_first}
+use Rattle.winnow.specs.Texts.Fronts.{perhaps_front, shown_front}
+use Rattle.winnow.specs.Texts.Fronts.{spelled_begins, then_front}
+use Rattle.winnow.specs.Texts.Parts.{behind_less, both_of, either_apart, maybe_of, same_of}
+use Rattle.winnow.specs.Texts.Parts.{taken_of}
 use Rattle.json_texts.specs.Words.{Char, FourTexts, In, One, OneIn, Run, RunOf}
 use Rattle.json_texts.specs.Words.{char_of, four_same, in_begins, in_of, latter, pair}
 use Rattle.json_texts.specs.Words.{run_begins, run_of, to_four}

@@ -2,21 +2,21 @@
 use Rattle.std.specs.Prelude.{◌≡◌, ◌⊎◌, ◌≤◌, ◌<◌, ◌+◌, ◌*◌, ◌-◌, ℕ, List, [], ◌++◌, None}
 use Rattle.std.specs.declared.string.String.{String}
 use Rattle.std.proofs.Common.{refl, sym, ap, subst, inl, inr, ◌∙◌, arith, append_assoc}
-use Rattle.streams.specs.Equal.{same_first, same_others}
-use Rattle.stream_sets.specs.Range.{from_to}
-use Rattle.grammars.specs.Grammar.{Both, Either, Gathered, Grammar, Made, Many, NoneStands}
-use Rattle.grammars.specs.Grammar.{Three, Token}
-use Rattle.grammars.specs.Grammar.Meaning.{Meaning}
-use Rattle.grammars.specs.Grammar.Tuples.{Four}
-use Rattle.grammars.specs.Texts.{Among, Anything, Begins, BeginsIn, Holding}
-use Rattle.grammars.specs.Texts.{IsGrammarOf}
-use Rattle.grammars.specs.Texts.{Of, Row, Text, Then}
-use Rattle.grammars.specs.Texts.Fronts.{among_front, begins_wider, front_any, front_begins}
-use Rattle.grammars.specs.Texts.Fronts.{front_whole}
-use Rattle.grammars.specs.Texts.Fronts.{may_begin, none_begins, spelled_begins, then_front}
-use Rattle.grammars.specs.Texts.Parts.{both_of, either_apart, either_of}
-use Rattle.grammars.specs.Texts.Parts.{same_of}
-use Rattle.grammars.specs.Texts.Rows.{gathered_of, many_of}
+use Rattle.winnow.specs.Equal.{same_first, same_others}
+use Rattle.winnow.specs.Range.{from_to}
+use Rattle.winnow.specs.Grammar.{Both, Either, Gathered, Grammar, Made, Many, NoneStands}
+use Rattle.winnow.specs.Grammar.{Three, Token}
+use Rattle.winnow.specs.Grammar.Meaning.{Meaning}
+use Rattle.winnow.specs.Grammar.Tuples.{Four}
+use Rattle.winnow.specs.Texts.{Among, Anything, Begins, BeginsIn, Holding}
+use Rattle.winnow.specs.Texts.{IsGrammarOf}
+use Rattle.winnow.specs.Texts.{Of, Row, Text, Then}
+use Rattle.winnow.specs.Texts.Fronts.{among_front, begins_wider, front_any, front_begins}
+use Rattle.winnow.specs.Texts.Fronts.{front_whole}
+use Rattle.winnow.specs.Texts.Fronts.{may_begin, none_begins, spelled_begins, then_front}
+use Rattle.winnow.specs.Texts.Parts.{both_of, either_apart, either_of}
+use Rattle.winnow.specs.Texts.Parts.{same_of}
+use Rattle.winnow.specs.Texts.Rows.{gathered_of, many_of}
 use Rattle.json_texts.specs.Words.{Between, Char, For, FourTexts, In, One, OneIn}
 use Rattle.json_texts.specs.Words.{Whichever, any_of, between_of, char_of, for_of, four_same}
 use Rattle.json_texts.specs.Words.{in_begins, in_of, latter, pair, to_four}

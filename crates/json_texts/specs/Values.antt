@@ -3,12 +3,12 @@ use Rattle.std.specs.Prelude.{◌≡◌, ℕ, zero, suc, Bool, true, false, List
 use Rattle.std.specs.Prelude.{Option, Some, None, string_bytes}
 use Rattle.std.specs.declared.string.String.{String}
 use Rattle.std.specs.declared.vec.Vec.{Vec}
-use Rattle.stream_sets.specs.AsChar.{IsMultispace}
-use Rattle.stream_sets.specs.Range.{from_to}
-use Rattle.grammars.specs.Grammar.{Both, Either, Gathered, Grammar, Parted, Three}
-use Rattle.grammars.specs.Grammar.Meaning.{Meaning}
-use Rattle.grammars.specs.Texts.{Among, InList}
-use Rattle.grammars.specs.Texts.{Joined, Spelled, Text, Then}
+use Rattle.winnow.specs.AsChar.{IsMultispace}
+use Rattle.winnow.specs.Range.{from_to}
+use Rattle.winnow.specs.Grammar.{Both, Either, Gathered, Grammar, Parted, Three}
+use Rattle.winnow.specs.Grammar.Meaning.{Meaning}
+use Rattle.winnow.specs.Texts.{Among, InList}
+use Rattle.winnow.specs.Texts.{Joined, Spelled, Text, Then}
 use Rattle.json_texts.specs.Number.{Number, NumberText, Slice}
 use Rattle.json_texts.specs.Strings.{Quoted, StringText}
 use Rattle.json_texts.specs.Words.{Between, Char, For, One, Run, RunOf, Word, former}

@@ -1,10 +1,10 @@
 -- What is not of JSON alone: where nothing stands, and grammars of equal parts.
 use Rattle.std.specs.Prelude.{◌≡◌, List, Result}
-use Rattle.streams.specs.Kind.{Kind}
-use Rattle.streams.specs.declared.needed.Needed.{Needed}
-use Rattle.stream_errors.specs.declared.fault.ParseFault.{ParseFault}
-use Rattle.winnow_core.specs.Exact.Whole.{ReadsAll}
-use Rattle.grammars.specs.Grammar.{Both, Grammar, NoneStands, Three}
+use Rattle.winnow.specs.Kind.{Kind}
+use Rattle.winnow.specs.{Needed}
+use Rattle.winnow.specs.{ParseFault}
+use Rattle.winnow.specs.Exact.Whole.{ReadsAll}
+use Rattle.winnow.specs.Grammar.{Both, Grammar, NoneStands, Three}
 
 -- ---- where nothing stands
 

@@ -1,13 +1,13 @@
 -- What stands between marks: items, and pairs of a name and a value.
 use Rattle.std.specs.Prelude.{◌≡◌, None, Result}
 use Rattle.std.specs.declared.vec.Vec.{Vec}
-use Rattle.stream_sets.specs.Range.{from_to}
-use Rattle.streams.specs.Input.{Input}
-use Rattle.streams.specs.Kind.{Kind}
-use Rattle.streams.specs.Reading.{Reading}
+use Rattle.winnow.specs.Range.{from_to}
+use Rattle.winnow.specs.Input.{Input}
+use Rattle.winnow.specs.Kind.{Kind}
+use Rattle.winnow.specs.Reading.{Reading}
 use Rattle.json_texts.specs.Words.{former, pair}
-use Rattle.winnow_core.specs.Exact.{Reads}
-use Rattle.grammars.specs.Grammar.{Both, Gathered, Grammar, Parted, Three}
+use Rattle.winnow.specs.Exact.{Reads}
+use Rattle.winnow.specs.Grammar.{Both, Gathered, Grammar, Parted, Three}
 
 module _ {T M W A : Type 0} where
   -- items with a mark between each two of them, between two others; white space is behind the first

@@ -1,8 +1,8 @@
 -- What arrays, objects and values of a level leave is one rest, and they take characters.
 use Rattle.std.specs.Prelude.{◌≡◌, ℕ, zero, suc, true, false, [], ◌∷◌, Some, None}
 use Rattle.std.proofs.Common.{inl}
-use Rattle.stream_sets.specs.AsChar.{IsMultispace}
-use Rattle.stream_sets.specs.Range.{from_to}
+use Rattle.winnow.specs.AsChar.{IsMultispace}
+use Rattle.winnow.specs.Range.{from_to}
 use Rattle.json_reader.specs.Escapes.{quoted_takes, quoted_unique}
 use Rattle.json_reader.specs.Numbers.{number_takes, number_unique}
 use Rattle.json_reader.specs.Unique.{char_takes, char_unique, run_unique, word_takes, word_unique}
@@ -11,12 +11,12 @@ use Rattle.json_texts.specs.Values.{IsNumber, IsObject, IsString, IsWord, Member
 use Rattle.json_texts.specs.Values.{Punctuation, Scalar, SpacedOut}
 use Rattle.json_texts.specs.Words.{former, pair}
 use Rattle.json_texts.specs.declared.value.Value.{Value}
-use Rattle.grammars.specs.Grammar.{Grammar, IsUnique, Takes}
-use Rattle.grammars.specs.Grammar.Meaning.{meaning_takes, meaning_unique}
-use Rattle.grammars.specs.Grammar.Sequences.{three_take, three_unique}
-use Rattle.grammars.specs.Grammar.Unique.{both_take, both_unique, either_takes, either_unique}
-use Rattle.grammars.specs.Grammar.Unique.{gathered_unique, parted_unique}
-use Rattle.stream_sets.specs.Accumulator.Holds.{HasCharacters}
+use Rattle.winnow.specs.Grammar.{Grammar, IsUnique, Takes}
+use Rattle.winnow.specs.Grammar.Meaning.{meaning_takes, meaning_unique}
+use Rattle.winnow.specs.Grammar.Sequences.{three_take, three_unique}
+use Rattle.winnow.specs.Grammar.Unique.{both_take, both_unique, either_takes, either_unique}
+use Rattle.winnow.specs.Grammar.Unique.{gathered_unique, parted_unique}
+use Rattle.winnow.specs.Accumulator.Holds.{HasCharacters}
 
 -- ---- white space and marks
 

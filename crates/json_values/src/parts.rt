@@ -4,21 +4,17 @@ ghost use Rattle.json_texts.specs.Words.{former, latter};
 ghost use Rattle.json_values.specs.Items.{Items, Pair};
 ghost use Rattle.std.specs.Fn.{CalledAtMut};
 ghost use Rattle.std.specs.Prelude.{◌≡◌, false};
-ghost use Rattle.winnow_core.specs.Exact.{Reads};
-ghost use Rattle.winnow_core.specs.Exact.Whole.{ReadsAll};
-ghost use Rattle.grammars.specs.Grammar.{Both};
-ghost use Rattle.winnow_exact.specs.Rule.{CallsRead};
+ghost use Rattle.winnow.specs.Exact.{Reads};
+ghost use Rattle.winnow.specs.Exact.Whole.{ReadsAll};
+ghost use Rattle.winnow.specs.Grammar.{Both};
+ghost use Rattle.winnow.specs.Rule.{CallsRead};
 
 use std::alloc::Allocator;
-use stream_errors::fault::ParseFault;
-use stream_errors::parser_error::ParserError;
-use stream_sets::range::Range;
-use streams::stream::{Stream, StreamIsPartial};
-use winnow_comb::combinator::{delimited, preceded, separated_pair, terminated};
-use winnow_core::exact::Exact;
-use winnow_exact::rule::Rule;
-use winnow_separated::combinator::impls::Separated;
-use winnow_separated::combinator::separated;
+use winnow::combinator::impls::Separated;
+use winnow::combinator::{delimited, preceded, separated, separated_pair, terminated};
+use winnow::error::{ParseFault, ParserError};
+use winnow::exact::{Exact, Rule};
+use winnow::stream::{Range, Stream, StreamIsPartial};
 
 /// The marks of an array or an object, and white space.
 #[derive(Clone, Copy, Drop)]

@@ -7,25 +7,21 @@ ghost use Rattle.json_values.specs.Unique.{value_takes, value_unique};
 ghost use Rattle.json_reader.specs.Escapes.{quoted_takes, quoted_unique};
 ghost use Rattle.std.specs.Prelude.{◌≡◌, ◌⊎◌, ◌<◌, false, IsTrue, ⊤};
 ghost use Rattle.std.specs.Str.{chars};
-ghost use Rattle.streams.specs.Text.{text_input, text_reading};
-ghost use Rattle.winnow_core.specs.Exact.{Reads};
-ghost use Rattle.winnow_core.specs.Exact.Whole.{ReadsAll};
-ghost use Rattle.stream_sets.specs.Accumulator.Holds.{HasCharacters};
-ghost use Rattle.grammars.specs.Texts.{Begins, NotFirst};
-ghost use Rattle.winnow_exact.specs.Told.{IsTextOf, ReadsText};
+ghost use Rattle.winnow.specs.Text.{text_input, text_reading};
+ghost use Rattle.winnow.specs.Exact.{Reads};
+ghost use Rattle.winnow.specs.Exact.Whole.{ReadsAll};
+ghost use Rattle.winnow.specs.Accumulator.Holds.{HasCharacters};
+ghost use Rattle.winnow.specs.Texts.{Begins, NotFirst};
+ghost use Rattle.winnow.specs.Told.{IsTextOf, ReadsText};
 
 use crate::parts::{Marks, parse_spaced, read_array_of, read_object_of};
 use json_reader::scalar::read_scalar;
 use json_reader::string::read_string;
 use json_texts::value::Value;
 use std::alloc::Allocator;
-use stream_errors::empty::EmptyError;
-use stream_errors::fault::ParseFault;
-use stream_errors::mode::ErrMode;
-use stream_errors::parser_error::ParserError;
-use streams::has_kind::HasKind;
-use winnow_ascii::ascii::impls::Multispace0;
-use winnow_exact::rule::Rule;
+use winnow::ascii::impls::Multispace0;
+use winnow::error::{EmptyError, ErrMode, HasKind, ParseFault, ParserError};
+use winnow::exact::Rule;
 
 /// Whether a bracket is first.
 fn begins_array(input: &str) -> bool

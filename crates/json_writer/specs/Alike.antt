@@ -5,7 +5,7 @@ use Rattle.std.specs.Prelude.{encode_utf8_all, string_bytes}
 use Rattle.std.specs.declared.string.String.{String}
 use Rattle.std.specs.declared.vec.Vec.{Vec}
 use Rattle.std.proofs.Common.{refl, sym, ap, subst, inl, inr, ◌∙◌}
-use Rattle.stream_sets.specs.AsChar.{IsMultispace}
+use Rattle.winnow.specs.AsChar.{IsMultispace}
 use Rattle.json_reader.specs.Escapes.{character_unique, quoted_unique, token_one, unit_one}
 use Rattle.json_reader.specs.Escapes.{units_one}
 use Rattle.json_reader.specs.Numbers.{number_unique}
@@ -24,13 +24,13 @@ use Rattle.json_values.specs.Unique.{value_unique}
 use Rattle.json_writer.specs.Agreed.{Agrees, ArePairwise, between_agrees, either_agrees}
 use Rattle.json_writer.specs.Agreed.{former_agrees, gathered_agree, latter_agrees, many_agree}
 use Rattle.json_writer.specs.Agreed.{means_agree, one_beginning, parted_agree}
-use Rattle.grammars.specs.Grammar.{Gathered, Grammar, InClass, IsUnique, Taken, Three, Token}
-use Rattle.grammars.specs.Grammar.Meaning.{Meaning}
-use Rattle.grammars.specs.Grammar.Outputs.{IsAlike, either_alike, made_alike, second_alike}
-use Rattle.grammars.specs.Grammar.Outputs.{token_of_alike}
-use Rattle.grammars.specs.Grammar.Sequences.{three_unique}
-use Rattle.grammars.specs.Grammar.Unique.{both_unique}
-use Rattle.stream_sets.specs.Accumulator.Holds.{HasCharacters}
+use Rattle.winnow.specs.Grammar.{Gathered, Grammar, InClass, IsUnique, Taken, Three, Token}
+use Rattle.winnow.specs.Grammar.Meaning.{Meaning}
+use Rattle.winnow.specs.Grammar.Outputs.{IsAlike, either_alike, made_alike, second_alike}
+use Rattle.winnow.specs.Grammar.Outputs.{token_of_alike}
+use Rattle.winnow.specs.Grammar.Sequences.{three_unique}
+use Rattle.winnow.specs.Grammar.Unique.{both_unique}
+use Rattle.winnow.specs.Accumulator.Holds.{HasCharacters}
 
 -- ---- values that are alike
 

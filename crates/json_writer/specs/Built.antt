@@ -21,8 +21,8 @@ use Rattle.json_writer.specs.Compact.{CompactMember, CompactScalar}
 use Rattle.json_writer.specs.Compact.{CompactString, CompactValue, scalar_is_value}
 use Rattle.json_writer.specs.Strings.{CanonicalString}
 use Rattle.json_writer.specs.Within.{IsWithin}
-use Rattle.grammars.specs.Texts.{Among, Holding, InList, Joined, Of, Row, Shown, Spelled, Text}
-use Rattle.grammars.specs.Texts.{Then}
+use Rattle.winnow.specs.Texts.{Among, Holding, InList, Joined, Of, Row, Shown, Spelled, Text}
+use Rattle.winnow.specs.Texts.{Then}
 
 -- ---- what is put is a text of more
 

@@ -14,8 +14,8 @@ use Rattle.json_writer.specs.Strings.{CanonicalString, string_canonical}
 use Rattle.json_writer.specs.Within.{IsWithin, within_among, within_first, within_for}
 use Rattle.json_writer.specs.Within.{within_joined, within_list, within_mark, within_refl}
 use Rattle.json_writer.specs.Within.{within_second, within_spaced, within_then}
-use Rattle.stream_sets.specs.Accumulator.Holds.{HasCharacters}
-use Rattle.grammars.specs.Texts.{Among, Holding, InList, Joined, Text, Then}
+use Rattle.winnow.specs.Accumulator.Holds.{HasCharacters}
+use Rattle.winnow.specs.Texts.{Among, Holding, InList, Joined, Text, Then}
 
 module _ {A : Type 0} where
   -- a string

@@ -6,12 +6,12 @@ use Rattle.std.proofs.Common.{sym, ap, subst, inl, inr, ◌∙◌, refl, arith}
 use Rattle.std.proofs.lemmas.Bool.{eqb-true}
 use Rattle.std.proofs.lemmas.List.{append-nil, nil_from_length}
 use Rattle.std.proofs.lemmas.Str.{chars-nil, encodes-chars}
-use Rattle.streams.specs.Equal.{true_is_false}
-use Rattle.streams.specs.Kind.{Kind, memory}
-use Rattle.streams.specs.Text.{text_input, text_reading}
+use Rattle.winnow.specs.Equal.{true_is_false}
+use Rattle.winnow.specs.Kind.{Kind, memory}
+use Rattle.winnow.specs.Text.{text_input, text_reading}
 use Rattle.json_reader.specs.Numbers.{number_unique}
 use Rattle.json_texts.specs.Number.{Number, NumberText, Slice, number_of}
-use Rattle.winnow_core.specs.Exact.{Reads}
+use Rattle.winnow.specs.Exact.{Reads}
 
 -- a text of no bytes has no characters
 pub all_read : (text : List ℕ) (is_empty : Bool) → is_empty ≡ (length text == 0)

@@ -8,7 +8,7 @@ use Rattle.std.specs.declared.vec.Vec.{Vec}
 use Rattle.std.proofs.Common.{sym, ap, subst, inl, inr, ◌∙◌, arith}
 use Rattle.std.proofs.lemmas.List.Elements.{All-cons, All-nil, All-weaker}
 use Rattle.std.proofs.lemmas.Str.{chars_from_encodes}
-use Rattle.streams.specs.Equal.{same_some}
+use Rattle.winnow.specs.Equal.{same_some}
 use Rattle.json_texts.specs.Number.{NumberText, Slice}
 use Rattle.json_texts.specs.Values.{ArrayText, HasText, IsWord, MemberText, ObjectText}
 use Rattle.json_texts.specs.Values.{ScalarText, Spaced, ValueText}
@@ -18,8 +18,8 @@ use Rattle.json_texts.specs.declared.value.Value as values
 use Rattle.json_texts.specs.declared.value.Value.TheOpen.{Value-F}
 use Rattle.json_texts.specs.declared.value.Value.TheVariants.{outs-Array, outs-Boolean, outs-Null}
 use Rattle.json_texts.specs.declared.value.Value.TheVariants.{outs-Number, outs-Object, outs-Text}
-use Rattle.stream_sets.specs.Accumulator.Holds.{HasCharacters}
-use Rattle.grammars.specs.Texts.{Among, InList, Joined, Of, Row, Shown, Text, Then}
+use Rattle.winnow.specs.Accumulator.Holds.{HasCharacters}
+use Rattle.winnow.specs.Texts.{Among, InList, Joined, Of, Row, Shown, Text, Then}
 
 -- ---- which value it is
 

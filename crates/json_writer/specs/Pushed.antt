@@ -13,8 +13,8 @@ use Rattle.json_texts.specs.Words.{In, Whichever, former, latter}
 use Rattle.json_writer.specs.Added.{Adds, adds_more, adds_none, adds_then, one_added}
 use Rattle.json_writer.specs.Strings.{CanonicalCharacter, CanonicalString, Escapes, IsSmallHex}
 use Rattle.json_writer.specs.Strings.{SmallUnit, string_canonical}
-use Rattle.stream_sets.specs.Accumulator.Holds.{HasCharacters}
-use Rattle.grammars.specs.Texts.{Among, Of, Row, Spelled, Then}
+use Rattle.winnow.specs.Accumulator.Holds.{HasCharacters}
+use Rattle.winnow.specs.Texts.{Among, Of, Row, Spelled, Then}
 
 -- ---- what is written
 

@@ -16,7 +16,7 @@ use Rattle.json_writer.specs.Inside.{HasOne, array_values, no_array, no_object, 
 use Rattle.json_writer.specs.Inside.{object_values}
 use Rattle.json_writer.specs.declared.error.WriteError.{WriteError}
 use Rattle.json_writer.specs.declared.error.WriteError.TheVariants as errors
-use Rattle.stream_sets.specs.Accumulator.Holds.{HasCharacters}
+use Rattle.winnow.specs.Accumulator.Holds.{HasCharacters}
 
 -- a text that is no number, or memory was refused
 abbrev pub IsNoNumber : List ℕ → WriteError → Type 0

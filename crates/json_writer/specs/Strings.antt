@@ -8,8 +8,8 @@ use Rattle.json_texts.specs.Words.{Between, For, FourTexts, In, One, Whichever, 
 use Rattle.json_texts.specs.Words.{to_four}
 use Rattle.json_writer.specs.Within.{IsWithin, within_among, within_first, within_for, within_refl}
 use Rattle.json_writer.specs.Within.{within_row, within_second, within_then}
-use Rattle.stream_sets.specs.Accumulator.Holds.{HasCharacters}
-use Rattle.grammars.specs.Texts.{Among, Holding, Row, Text, Then}
+use Rattle.winnow.specs.Accumulator.Holds.{HasCharacters}
+use Rattle.winnow.specs.Texts.{Among, Holding, Row, Text, Then}
 
 -- the character behind a backslash that escapes one: of those of RFC 8259 a slash is none, since it
 -- is written as it is

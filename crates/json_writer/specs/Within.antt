@@ -5,7 +5,7 @@ use Rattle.std.proofs.lemmas.List.{append-nil}
 use Rattle.json_texts.specs.Number.{Slice}
 use Rattle.json_texts.specs.Values.{GapText, Mark, Spaced}
 use Rattle.json_texts.specs.Words.{For, One, Run, latter}
-use Rattle.grammars.specs.Texts.{Among, InList, Joined, Of, Row, Text, Then}
+use Rattle.winnow.specs.Texts.{Among, InList, Joined, Of, Row, Text, Then}
 
 -- Each text of a value by the one is one by the other.
 pub record IsWithin {T O : Type 0} (inner outer : Text T O) : Type 0 where

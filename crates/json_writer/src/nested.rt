@@ -7,7 +7,7 @@ ghost use Rattle.json_writer.specs.Compact.{CompactMember, CompactValue};
 ghost use Rattle.json_writer.specs.Refused.{IsRefused, IsRefusedAmong};
 ghost use Rattle.json_writer.specs.declared.error.WriteError.TheVariants.{Memory};
 ghost use Rattle.std.specs.Prelude.{◌≡◌, ◌++◌, IfErr, OnOk, string_bytes};
-ghost use Rattle.grammars.specs.Texts.{Joined};
+ghost use Rattle.winnow.specs.Texts.{Joined};
 
 use crate::error::WriteError;
 use crate::number::write_number;

@@ -9,7 +9,7 @@ ghost use Rattle.std.specs.Str.{chars};
 use crate::error::WriteError;
 use json_reader::number::read_number;
 use std::alloc::Allocator;
-use stream_errors::parser_error::ParserError;
+use winnow::error::ParserError;
 
 /// Whether nothing is left of a text.
 fn is_read(rest: &str) -> bool

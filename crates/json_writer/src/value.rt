@@ -7,18 +7,15 @@ ghost use Rattle.json_writer.specs.Refused.{HasNoText, IsRefused};
 ghost use Rattle.json_writer.specs.declared.error.WriteError.TheVariants.{Memory};
 ghost use Rattle.std.specs.Prelude.{◌≡◌, ◌⊎◌, IfErr, IfOk, IsTrue, OnOk, string_bytes};
 ghost use Rattle.std.specs.Str.{chars};
-ghost use Rattle.winnow_core.specs.Exact.Whole.{IsWant};
-ghost use Rattle.stream_sets.specs.Accumulator.Holds.{HasCharacters};
+ghost use Rattle.winnow.specs.Exact.Whole.{IsWant};
+ghost use Rattle.winnow.specs.Accumulator.Holds.{HasCharacters};
 
 use crate::error::WriteError;
 use crate::nested::write_nested;
 use json_texts::value::Value;
 use json_values::value::parse_value;
 use std::alloc::Allocator;
-use stream_errors::empty::EmptyError;
-use stream_errors::fault::ParseFault;
-use stream_errors::mode::ErrMode;
-use stream_errors::parser_error::ParserError;
+use winnow::error::{EmptyError, ErrMode, ParseFault, ParserError};
 
 /// Puts a value behind what is there, in which no more than so many arrays and objects stand in one
 /// another: the level is 0 for a value with no others in it, and 1 for an array of such values.

@@ -6,11 +6,11 @@ use Rattle.std.specs.Prelude.{nat_eq, nat_le, if◌then◌else◌, FitsSigned, i
 use Rattle.std.proofs.Common.{suc, zero}
 use Rattle.std.specs.Prelude.{Ok, Err}
 use Rattle.std.specs.Int.{w64, CanDivide, int_pow}
-use Rattle.stream_errors.specs.Form.{Answer}
-use Rattle.streams.specs.Kind.{backtrack}
+use Rattle.winnow.specs.Form.{Answer}
+use Rattle.winnow.specs.Kind.{backtrack}
 use Rattle.std.specs.Str.{chars}
-use Rattle.streams.specs.Stream.{IsBoundary}
-use Rattle.streams.specs.Text.{width}
+use Rattle.winnow.specs.Stream.{IsBoundary}
+use Rattle.winnow.specs.Text.{width}
 use Rattle.readers_calc.specs.declared.fault.Fault.{Fault}
 use Rattle.readers_calc.specs.declared.fault.Fault.TheVariants.{NoMemory, Refused}
 use Rattle.readers_calc.specs.declared.calc.operators.Mark.{Mark}
@@ -20,13 +20,13 @@ use Rattle.readers_calc.specs.declared.calc.operators.Pair.TheVariants.{Plus, Mi
 use Rattle.readers_calc.specs.declared.calc.operators.Pair.TheVariants.{Rest, Power, Equals}
 use Rattle.readers_calc.specs.declared.calc.operators.Sign.{Sign}
 use Rattle.readers_calc.specs.declared.calc.operators.Sign.TheVariants.{Positive, Negative}
-use Rattle.winnow_expression.specs.declared.combinator.operators.Infix.{Infix}
-use Rattle.winnow_expression.specs.declared.combinator.operators.Infix.TheVariants.{Left, Neither}
-use Rattle.winnow_expression.specs.declared.combinator.operators.Infix.TheVariants.{Right}
-use Rattle.winnow_expression.specs.declared.combinator.operators.Postfix.{Postfix}
-use Rattle.winnow_expression.specs.declared.combinator.operators.Prefix.{Prefix}
-use Rattle.winnow_expression_trees.specs.Items.{HasValue, Items, ItemsTree, NoItem}
-use Rattle.winnow_expression_trees.specs.Tree.{Tree}
+use Rattle.winnow.specs.{Infix}
+use Rattle.winnow.specs.InfixCases.{Left, Neither}
+use Rattle.winnow.specs.InfixCases.{Right}
+use Rattle.winnow.specs.{Postfix}
+use Rattle.winnow.specs.{Prefix}
+use Rattle.winnow.specs.Items.{HasValue, Items, ItemsTree, NoItem}
+use Rattle.winnow.specs.Tree.{Tree}
 pub mod Laws
 
 -- ---- items

@@ -1,13 +1,13 @@
 -- Documents (TOML 1.0): lines that say no key and no table again.
 use Rattle.std.specs.Prelude.{◌⊎◌, ℕ, List, Option, None, Some, Result, IfOk, IfErr}
 use Rattle.std.specs.declared.vec.Vec.{Vec}
-use Rattle.stream_errors.specs.Form.{marked_kind}
+use Rattle.winnow.specs.Form.{marked_kind}
 use Rattle.toml_reader.specs.Repeats.{IsFirstRepeat}
 use Rattle.toml_reader.specs.Toml.{DocumentText}
 use Rattle.toml_reader.specs.declared.document.Fault.{Fault}
 use Rattle.toml_reader.specs.declared.document.Fault.TheVariants.{Lines, Repeat}
 use Rattle.toml_reader.specs.declared.value.Item.{Item}
-use Rattle.winnow_core.specs.Exact.Whole.{IsWant}
+use Rattle.winnow.specs.Exact.Whole.{IsWant}
 
 -- a document of some lines, of which this is the first that says something again, if one does
 abbrev pub HasFirst : {A : Type 0} → ℕ → List ℕ → Option ℕ → Vec (Option (Item A)) A → Type 0

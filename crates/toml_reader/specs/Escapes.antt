@@ -4,12 +4,12 @@ use Rattle.json_reader.specs.Unique.{char_takes, char_unique}
 use Rattle.json_texts.specs.Words.{latter}
 use Rattle.toml_reader.specs.Toml.{Character, Short, StandsFor, Tells}
 use Rattle.toml_reader.specs.declared.characters.Characters.TheVariants.{Basic}
-use Rattle.winnow_token.specs.OneOf.Laws.{token_of_takes}
-use Rattle.winnow_token.specs.Any.Laws.{token_takes}
-use Rattle.grammars.specs.Grammar.{IsUnique, Takes}
-use Rattle.grammars.specs.Grammar.Meaning.{meaning_takes, meaning_unique}
-use Rattle.grammars.specs.Grammar.Unique.{both_take, both_unique, either_takes, either_unique}
-use Rattle.grammars.specs.Grammar.Unique.{token_of_unique, token_unique}
+use Rattle.winnow.specs.OneOf.Laws.{token_of_takes}
+use Rattle.winnow.specs.Any.Laws.{token_takes}
+use Rattle.winnow.specs.Grammar.{IsUnique, Takes}
+use Rattle.winnow.specs.Grammar.Meaning.{meaning_takes, meaning_unique}
+use Rattle.winnow.specs.Grammar.Unique.{both_take, both_unique, either_takes, either_unique}
+use Rattle.winnow.specs.Grammar.Unique.{token_of_unique, token_unique}
 
 pub short_unique : IsUnique Short
 short_unique = meaning_unique StandsFor (token_unique (λ c. c))

@@ -3,8 +3,8 @@ use Rattle.std.specs.Prelude.{◌≡◌, ◌⊎◌, ◌<◌, ℕ, zero, suc, Lis
 use Rattle.std.specs.Prelude.{Some, None}
 use Rattle.std.specs.Borrow.{Bor}
 use Rattle.std.specs.Str.{chars}
-use Rattle.streams.specs.Text.{text_reading}
-use Rattle.stream_sets.specs.Range.{from_to}
+use Rattle.winnow.specs.Text.{text_reading}
+use Rattle.winnow.specs.Range.{from_to}
 use Rattle.std.proofs.Common.{ap, inl, arith, length-append}
 use Rattle.json_reader.specs.Unique.{char_takes, char_unique}
 use Rattle.json_texts.specs.Number.{Slice}
@@ -20,9 +20,9 @@ use Rattle.toml_reader.specs.declared.expected.Lack.{Lack}
 use Rattle.toml_reader.specs.declared.expected.Outcome as ways
 use Rattle.toml_reader.specs.declared.expected.Outcome.TheVariants.{Last, Before}
 use Rattle.toml_reader.specs.declared.expected.Outcome.TheVariants as lines
-use Rattle.grammars.specs.Grammar.{Grammar, Longest, NoneStands, Takes}
-use Rattle.grammars.specs.Grammar.Unique.{both_take, either_takes}
-use Rattle.grammars.specs.Texts.{NotFirst}
+use Rattle.winnow.specs.Grammar.{Grammar, Longest, NoneStands, Takes}
+use Rattle.winnow.specs.Grammar.Unique.{both_take, either_takes}
+use Rattle.winnow.specs.Texts.{NotFirst}
 
 -- unquoted-key, as it stands in the text
 abbrev pub BareKey : Grammar ℕ Slice

@@ -2,14 +2,14 @@
 use Rattle.std.specs.Prelude.{◌≡◌, ◌⊎◌, ℕ, zero, suc, true, false, List, Result}
 use Rattle.std.specs.Str.{chars}
 use Rattle.std.proofs.Common.{refl, sym, subst, inl, inr, arith}
-use Rattle.streams.specs.Input.{Input}
-use Rattle.streams.specs.Kind.{Kind}
-use Rattle.streams.specs.Text.{text_reading}
-use Rattle.streams.specs.declared.needed.Needed.{Needed}
-use Rattle.stream_errors.specs.Form.{marked_kind}
-use Rattle.stream_errors.specs.Mode.{mode_kind}
-use Rattle.stream_errors.specs.declared.empty.EmptyError.{EmptyError}
-use Rattle.stream_errors.specs.declared.mode.ErrMode.{ErrMode}
+use Rattle.winnow.specs.Input.{Input}
+use Rattle.winnow.specs.Kind.{Kind}
+use Rattle.winnow.specs.Text.{text_reading}
+use Rattle.winnow.specs.{Needed}
+use Rattle.winnow.specs.Form.{marked_kind}
+use Rattle.winnow.specs.Mode.{mode_kind}
+use Rattle.winnow.specs.{EmptyError}
+use Rattle.winnow.specs.{ErrMode}
 use Rattle.toml_reader.specs.Lines.{any_entry_begins, any_entry_of, any_table_begins, any_table_of}
 use Rattle.toml_reader.specs.Toml.{AnyBoolean, AnyItem, AnyValue, Array, BasicString, Entry}
 use Rattle.toml_reader.specs.Toml.{IsArray, IsBare, IsEntry, IsTable, IsText, LiteralString}
@@ -18,12 +18,12 @@ use Rattle.toml_reader.specs.Toml.{false_word, true_word}
 use Rattle.toml_reader.specs.Values as texts
 use Rattle.toml_reader.specs.declared.value.Item.{Item}
 use Rattle.toml_reader.specs.declared.value.Value.{Value}
-use Rattle.winnow_core.specs.Exact.{Reads}
-use Rattle.winnow_exact.specs.Read.{reads_former, reads_other}
-use Rattle.grammars.specs.Grammar.{Either, Grammar, NoneStands}
-use Rattle.grammars.specs.Grammar.Meaning.{Meaning}
-use Rattle.grammars.specs.Texts.{Begins, BeginsIn, IsGrammarOf, NotFirst, Text}
-use Rattle.grammars.specs.Texts.Fronts.{may_begin, none_begins}
+use Rattle.winnow.specs.Exact.{Reads}
+use Rattle.winnow.specs.Read.{reads_former, reads_other}
+use Rattle.winnow.specs.Grammar.{Either, Grammar, NoneStands}
+use Rattle.winnow.specs.Grammar.Meaning.{Meaning}
+use Rattle.winnow.specs.Texts.{Begins, BeginsIn, IsGrammarOf, NotFirst, Text}
+use Rattle.winnow.specs.Texts.Fronts.{may_begin, none_begins}
 
 -- the kind of an error
 abbrev pub no_memory_kind : ErrMode EmptyError Needed → Kind

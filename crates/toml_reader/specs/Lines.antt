@@ -1,9 +1,9 @@
 -- The grammars of lines and documents are those of what is written.
 use Rattle.std.specs.Prelude.{◌≡◌, ◌⊎◌, ◌<◌, ℕ, [], None}
 use Rattle.std.proofs.Common.{refl, inl, inr, arith}
-use Rattle.streams.specs.Text.{text_reading}
-use Rattle.stream_sets.specs.AsChar.{IsDecDigit, IsSpace}
-use Rattle.stream_sets.specs.Range.{from_to}
+use Rattle.winnow.specs.Text.{text_reading}
+use Rattle.winnow.specs.AsChar.{IsDecDigit, IsSpace}
+use Rattle.winnow.specs.Range.{from_to}
 use Rattle.json_texts.specs.Words.{For, between_of, char_of, for_front, for_of, latter}
 use Rattle.json_texts.specs.Words.{pair}
 use Rattle.toml_reader.specs.Toml.{AnyComment, AnyItem, CommentText, Document}
@@ -14,15 +14,15 @@ use Rattle.toml_reader.specs.Values.{characters_begin, characters_of, mark_begin
 use Rattle.toml_reader.specs.Values.{mark_of, no_space, past, space_digit, spaced_begins, spaced_of}
 use Rattle.toml_reader.specs.Values.{value_begins, value_of, ws_front, ws_of}
 use Rattle.toml_reader.specs.declared.characters.Characters.TheVariants.{Bare, Comment}
-use Rattle.grammars.specs.Grammar.Meaning.{Meaning}
-use Rattle.grammars.specs.Texts.{Anything, AtEnd, BeginsIn, InFront, IsGrammarOf, MayBegin}
-use Rattle.grammars.specs.Texts.{NotFirst}
-use Rattle.grammars.specs.Texts.Fronts.{among_front, begins_wider, front_any, front_begins}
-use Rattle.grammars.specs.Texts.Fronts.{front_behind, may_begin_more, may_begin_none}
-use Rattle.grammars.specs.Texts.Fronts.{none_begins, perhaps_front, spelled_begins, then_front}
-use Rattle.grammars.specs.Texts.Parts.{behind_less, both_of, either_apart, maybe_of, three_of}
-use Rattle.grammars.specs.Texts.Rows.{list_of, parted_of}
-use Rattle.grammars.specs.Texts.Tokens.{divides_seen, divides_where, longest_of}
+use Rattle.winnow.specs.Grammar.Meaning.{Meaning}
+use Rattle.winnow.specs.Texts.{Anything, AtEnd, BeginsIn, InFront, IsGrammarOf, MayBegin}
+use Rattle.winnow.specs.Texts.{NotFirst}
+use Rattle.winnow.specs.Texts.Fronts.{among_front, begins_wider, front_any, front_begins}
+use Rattle.winnow.specs.Texts.Fronts.{front_behind, may_begin_more, may_begin_none}
+use Rattle.winnow.specs.Texts.Fronts.{none_begins, perhaps_front, spelled_begins, then_front}
+use Rattle.winnow.specs.Texts.Parts.{behind_less, both_of, either_apart, maybe_of, three_of}
+use Rattle.winnow.specs.Texts.Rows.{list_of, parted_of}
+use Rattle.winnow.specs.Texts.Tokens.{divides_seen, divides_where, longest_of}
 
 -- ---- tables
 

@@ -1,8 +1,8 @@
 -- Messages for people.
 use Rattle.std.specs.Prelude.{◌≡◌, ◌+◌, ◌-◌, ℕ, List, length, take}
 use Rattle.std.specs.Str.{chars}
-use Rattle.text_positions.specs.Position.{IsPosition}
-use Rattle.text_positions.specs.declared.Position.{Position}
+use Rattle.winnow.specs.Position.{IsPosition}
+use Rattle.winnow.specs.{Position}
 use Rattle.toml_reader.specs.Expected.{Lacks, LinesBefore}
 use Rattle.toml_reader.specs.declared.document.Fault.{Fault}
 use Rattle.toml_reader.specs.declared.document.Fault.TheVariants.{Lines, Repeat}

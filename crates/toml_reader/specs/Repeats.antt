@@ -7,7 +7,7 @@ use Rattle.std.specs.Borrow.{Bor}
 use Rattle.std.specs.List.{slice_get}
 use Rattle.std.proofs.Common.{refl, sym, ap, subst, inl, inr, ◌∙◌, arith}
 use Rattle.std.proofs.lemmas.List.{drop_more, take_more}
-use Rattle.streams.specs.Equal.{same_first, same_others}
+use Rattle.winnow.specs.Equal.{same_first, same_others}
 use Rattle.toml_reader.specs.declared.repeats.Path.{Path}
 use Rattle.toml_reader.specs.declared.value.Item.{Item}
 use Rattle.toml_reader.specs.declared.value.Item.TheVariants.{Entry, Table}

@@ -4,9 +4,9 @@ use Rattle.std.specs.Prelude.{List, [], ◌∷◌, ◌++◌, Option, None, FitsS
 use Rattle.std.specs.Int.{w64}
 use Rattle.std.specs.declared.string.String.{String}
 use Rattle.std.specs.declared.vec.Vec.{Vec}
-use Rattle.streams.specs.Text.{text_reading}
-use Rattle.stream_sets.specs.AsChar.{IsSpace}
-use Rattle.stream_sets.specs.Range.{from_to}
+use Rattle.winnow.specs.Text.{text_reading}
+use Rattle.winnow.specs.AsChar.{IsSpace}
+use Rattle.winnow.specs.Range.{from_to}
 use Rattle.json_texts.specs.Number.{Slice}
 use Rattle.json_texts.specs.Words.{Between, Char, For, One, Run, RunOf, Whichever, Word, former}
 use Rattle.json_texts.specs.Words.{latter, pair}
@@ -17,14 +17,14 @@ use Rattle.toml_reader.specs.declared.value.Item.{Item}
 use Rattle.toml_reader.specs.declared.value.Item.TheVariants as items
 use Rattle.toml_reader.specs.declared.value.Value.{Value}
 use Rattle.toml_reader.specs.declared.value.Value as values
-use Rattle.grammars.specs.Grammar.{Both, Either, Gathered, Grammar, Longest, Many, Maybe}
-use Rattle.grammars.specs.Grammar.{Parted, Three, Token, TokenOf}
-use Rattle.grammars.specs.Grammar.Meaning.{Meaning}
-use Rattle.winnow_numbers.specs.Numeral.Grammar.{SignedDecimal}
-use Rattle.stream_sets.specs.Accumulator.Holds.{HasCharacters}
-use Rattle.grammars.specs.Texts.{Among, AtLeast, Holding, InList, Joined, Members, OneOf}
-use Rattle.grammars.specs.Texts.{Perhaps, Row, Spelled, Text, Then}
-use Rattle.winnow_numbers.specs.Decimal.{IsSignedDecimalOf}
+use Rattle.winnow.specs.Grammar.{Both, Either, Gathered, Grammar, Longest, Many, Maybe}
+use Rattle.winnow.specs.Grammar.{Parted, Three, Token, TokenOf}
+use Rattle.winnow.specs.Grammar.Meaning.{Meaning}
+use Rattle.winnow.specs.Numeral.Grammar.{SignedDecimal}
+use Rattle.winnow.specs.Accumulator.Holds.{HasCharacters}
+use Rattle.winnow.specs.Texts.{Among, AtLeast, Holding, InList, Joined, Members, OneOf}
+use Rattle.winnow.specs.Texts.{Perhaps, Row, Spelled, Text, Then}
+use Rattle.winnow.specs.Decimal.{IsSignedDecimalOf}
 
 -- ---- characters
 

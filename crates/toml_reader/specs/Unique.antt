@@ -1,10 +1,10 @@
 -- What stands by the grammars of values and lines leaves one rest.
 use Rattle.std.specs.Prelude.{◌≡◌, ℕ, zero, suc, true, false, FitsSigned, None}
 use Rattle.std.specs.Int.{w64}
-use Rattle.streams.specs.Text.{text_reading}
-use Rattle.stream_errors.specs.Form.{modal}
-use Rattle.stream_sets.specs.AsChar.{IsSpace}
-use Rattle.stream_sets.specs.Range.{from_to}
+use Rattle.winnow.specs.Text.{text_reading}
+use Rattle.winnow.specs.Form.{modal}
+use Rattle.winnow.specs.AsChar.{IsSpace}
+use Rattle.winnow.specs.Range.{from_to}
 use Rattle.json_reader.specs.Unique.{char_unique, run_unique, word_unique}
 use Rattle.json_texts.specs.Words.{former, latter, pair}
 use Rattle.toml_reader.specs.Toml.{AnyCharacters, AnyComment, AnyItem, AnyValue, Array}
@@ -15,16 +15,16 @@ use Rattle.toml_reader.specs.Toml.{Scalar, SpacedOut, Tells, Ws, false_word, tru
 use Rattle.toml_reader.specs.declared.characters.Characters.{Characters}
 use Rattle.toml_reader.specs.declared.characters.Characters.TheVariants.{Bare, Comment, Literal}
 use Rattle.toml_reader.specs.declared.value.Value.{Value}
-use Rattle.winnow_numbers.specs.Numeral.Exact.{dec_int_exact}
-use Rattle.winnow_token.specs.TakeWhile.Exact.{longest_unique}
-use Rattle.stream_sets.specs.Once.{holds_once, seen_once}
-use Rattle.grammars.specs.Grammar.{Grammar, IsUnique}
-use Rattle.grammars.specs.Grammar.Meaning.{meaning_unique}
-use Rattle.grammars.specs.Grammar.Sequences.{three_unique}
-use Rattle.grammars.specs.Grammar.Unique.{both_unique, either_unique, gathered_unique}
-use Rattle.grammars.specs.Grammar.Unique.{many_unique, maybe_unique, parted_unique}
-use Rattle.grammars.specs.Grammar.Unique.{token_of_unique}
-use Rattle.stream_sets.specs.Accumulator.Holds.{HasCharacters}
+use Rattle.winnow.specs.Numeral.Exact.{dec_int_exact}
+use Rattle.winnow.specs.TakeWhile.Exact.{longest_unique}
+use Rattle.winnow.specs.Once.{holds_once, seen_once}
+use Rattle.winnow.specs.Grammar.{Grammar, IsUnique}
+use Rattle.winnow.specs.Grammar.Meaning.{meaning_unique}
+use Rattle.winnow.specs.Grammar.Sequences.{three_unique}
+use Rattle.winnow.specs.Grammar.Unique.{both_unique, either_unique, gathered_unique}
+use Rattle.winnow.specs.Grammar.Unique.{many_unique, maybe_unique, parted_unique}
+use Rattle.winnow.specs.Grammar.Unique.{token_of_unique}
+use Rattle.winnow.specs.Accumulator.Holds.{HasCharacters}
 
 ws_unique : IsUnique Ws
 ws_unique = run_unique IsSpace 0

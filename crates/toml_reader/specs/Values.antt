@@ -4,8 +4,8 @@ use Rattle.std.specs.Prelude.{List, [], ◌∷◌, ◌++◌, length, None, FitsS
 use Rattle.std.specs.Int.{w64}
 use Rattle.std.specs.List.{All}
 use Rattle.std.proofs.Common.{refl, sym, ap, subst, inl, inr, ◌∙◌, arith, append_assoc}
-use Rattle.stream_sets.specs.AsChar.{IsDecDigit, IsSpace}
-use Rattle.stream_sets.specs.Range.{from_to}
+use Rattle.winnow.specs.AsChar.{IsDecDigit, IsSpace}
+use Rattle.winnow.specs.Range.{from_to}
 use Rattle.json_texts.specs.Words.{Char, For, One, Run, Whichever, Word, any_of, between_of}
 use Rattle.json_texts.specs.Words.{char_of, for_front, for_of, former, latter, pair, run_of}
 use Rattle.toml_reader.specs.Toml.{AnyBoolean, AnyCharacters, AnyValue, Array, ArrayText}
@@ -19,23 +19,23 @@ use Rattle.toml_reader.specs.Toml.{false_word, true_word}
 use Rattle.toml_reader.specs.declared.characters.Characters.{Characters}
 use Rattle.toml_reader.specs.declared.characters.Characters.TheVariants.{Basic, Literal}
 use Rattle.toml_reader.specs.declared.value.Value.{Value}
-use Rattle.grammars.specs.Grammar.{Both, Either, Grammar, NoneStands, TokenOf}
-use Rattle.grammars.specs.Grammar.Meaning.{Meaning}
-use Rattle.winnow_numbers.specs.Numeral.Grammar.{SignedDecimal}
-use Rattle.stream_sets.specs.Accumulator.Holds.{HasCharacters}
-use Rattle.grammars.specs.Texts.{Among, Anything, AtLeast, Begins, BeginsIn, InFront, InList}
-use Rattle.grammars.specs.Texts.{IsGrammarOf, Joined, NotFirst, OneOf, Row, Spelled, Text}
-use Rattle.grammars.specs.Texts.{Then}
-use Rattle.grammars.specs.Texts.Fronts.{among_front, begins_wider, front_any, front_begins}
-use Rattle.grammars.specs.Texts.Fronts.{holding_front, may_begin, none_begins, not_first}
-use Rattle.grammars.specs.Texts.Fronts.{one_of_begins, spelled_begins, then_front}
-use Rattle.grammars.specs.Texts.Parts.{behind_less, both_of, either_apart}
-use Rattle.grammars.specs.Texts.Rows.{gathered_of, list_of, many_of, parted_of}
-use Rattle.grammars.specs.Texts.Tokens.{divides_where, token_of}
-use Rattle.winnow_numbers.specs.Decimal.{IsSignedDecimalOf}
-use Rattle.winnow_numbers.specs.DecimalText.{AreDigits}
-use Rattle.winnow_numbers.specs.Digits.{NoneFirst}
-use Rattle.winnow_numbers.specs.Digits.Known.{own_characters, same_characters}
+use Rattle.winnow.specs.Grammar.{Both, Either, Grammar, NoneStands, TokenOf}
+use Rattle.winnow.specs.Grammar.Meaning.{Meaning}
+use Rattle.winnow.specs.Numeral.Grammar.{SignedDecimal}
+use Rattle.winnow.specs.Accumulator.Holds.{HasCharacters}
+use Rattle.winnow.specs.Texts.{Among, Anything, AtLeast, Begins, BeginsIn, InFront, InList}
+use Rattle.winnow.specs.Texts.{IsGrammarOf, Joined, NotFirst, OneOf, Row, Spelled, Text}
+use Rattle.winnow.specs.Texts.{Then}
+use Rattle.winnow.specs.Texts.Fronts.{among_front, begins_wider, front_any, front_begins}
+use Rattle.winnow.specs.Texts.Fronts.{holding_front, may_begin, none_begins, not_first}
+use Rattle.winnow.specs.Texts.Fronts.{one_of_begins, spelled_begins, then_front}
+use Rattle.winnow.specs.Texts.Parts.{behind_less, both_of, either_apart}
+use Rattle.winnow.specs.Texts.Rows.{gathered_of, list_of, many_of, parted_of}
+use Rattle.winnow.specs.Texts.Tokens.{divides_where, token_of}
+use Rattle.winnow.specs.Decimal.{IsSignedDecimalOf}
+use Rattle.winnow.specs.DecimalText.{AreDigits}
+use Rattle.winnow.specs.Digits.{NoneFirst}
+use Rattle.winnow.specs.Digits.Known.{own_characters, same_characters}
 
 -- ---- characters of a set
 

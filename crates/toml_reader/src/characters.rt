@@ -1,16 +1,16 @@
 //! Characters of keys, strings and comments (TOML 1.0: Comment, Keys, String).
 ghost use Rattle.std.specs.Prelude.{◌↔◌, IsTrue};
 ghost use Rattle.toml_reader.specs.Toml.{IsBare, IsOf, IsShown};
-ghost use Rattle.stream_sets.specs.Once.{holds_once};
+ghost use Rattle.winnow.specs.Once.{holds_once};
 
-use stream_sets::decides::Decides;
-use stream_sets::sets::ContainsToken;
+use winnow::exact::Decides;
+use winnow::stream::ContainsToken;
 
 /// A set of characters.
 ///
 /// ```
-/// use stream_sets::sets::ContainsToken;
 /// use toml_reader::characters::Characters;
+/// use winnow::stream::ContainsToken;
 ///
 /// assert!(rt; Characters::Bare.contains_token('_'));
 /// assert!(rt; !Characters::Bare.contains_token('.'));

@@ -6,8 +6,7 @@ use crate::lines::parse_lines;
 use crate::repeats::first_repeat;
 use crate::value::Document;
 use std::alloc::Allocator;
-use stream_errors::empty::EmptyError;
-use stream_errors::fault::ParseFault;
+use winnow::error::{EmptyError, ParseFault};
 
 /// Why a text is no document.
 #[derive(Debug, Drop)]

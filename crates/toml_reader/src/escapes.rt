@@ -1,21 +1,18 @@
 //! Characters of basic strings, and their escapes (TOML 1.0: String).
 ghost use Rattle.std.specs.Prelude.{◌≡◌, ℕ, ⊤, MatchOption};
-ghost use Rattle.streams.specs.Text.{text_input, text_reading};
+ghost use Rattle.winnow.specs.Text.{text_input, text_reading};
 ghost use Rattle.toml_reader.specs.Escapes.{character_takes, character_unique, short_takes};
 ghost use Rattle.toml_reader.specs.Escapes.{short_unique};
 ghost use Rattle.toml_reader.specs.Toml.{Character, Short, StandsFor};
-ghost use Rattle.winnow_core.specs.Exact.{Reads};
+ghost use Rattle.winnow.specs.Exact.{Reads};
 
 use crate::characters::Characters;
-use stream_errors::empty::EmptyError;
-use stream_errors::mode::ErrMode;
-use streams::has_kind::HasKind;
-use winnow_comb::combinator::{alt, preceded};
-use winnow_core::exact::Exact;
-use winnow_core::parser::Parser;
-use winnow_exact::rule::Rule;
-use winnow_token::token::impls::Any;
-use winnow_token::token::one_of;
+use winnow::Parser;
+use winnow::combinator::{alt, preceded};
+use winnow::error::{EmptyError, ErrMode, HasKind};
+use winnow::exact::{Exact, Rule};
+use winnow::token::impls::Any;
+use winnow::token::one_of;
 
 /// The character that a backslash and this one stand for.
 fn unescaped(c: char) -> Option<char>

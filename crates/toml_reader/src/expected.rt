@@ -5,8 +5,8 @@ ghost use Rattle.json_texts.specs.Words.{Char};
 ghost use Rattle.toml_reader.specs.Expected.{BareKey, EntryLacks, IsFirstLack, IsLine, IsPast};
 ghost use Rattle.toml_reader.specs.Expected.{ItemLacks, Lacks, Stands, TableLacks};
 ghost use Rattle.toml_reader.specs.Toml.{AnyValue, Line, Mark, Newline, Separator, Ws};
-ghost use Rattle.grammars.specs.Grammar.{NoneStands};
-ghost use Rattle.grammars.specs.Texts.{NotFirst};
+ghost use Rattle.winnow.specs.Grammar.{NoneStands};
+ghost use Rattle.winnow.specs.Texts.{NotFirst};
 
 use crate::characters::Characters;
 use crate::lines::{AnyLine, read_line, read_value};
@@ -14,15 +14,12 @@ use crate::scalars::begins_with;
 use std::alloc::Allocator;
 use std::fmt;
 use std::fmt::{Display, Formatter};
-use stream_errors::empty::EmptyError;
-use stream_errors::mode::ErrMode;
-use stream_errors::parser_error::ParserError;
-use stream_sets::range::Range;
-use winnow_ascii::ascii::impls::Space0;
-use winnow_comb::combinator::{alt, preceded};
-use winnow_core::exact::Exact;
-use winnow_exact::rule::Rule;
-use winnow_token::token::take_while;
+use winnow::ascii::impls::Space0;
+use winnow::combinator::{alt, preceded};
+use winnow::error::{EmptyError, ErrMode, ParserError};
+use winnow::exact::{Exact, Rule};
+use winnow::stream::Range;
+use winnow::token::take_while;
 
 /// What is expected at a place of a line, and does not stand there.
 ///

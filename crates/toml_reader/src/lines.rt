@@ -1,34 +1,28 @@
 //! Lines and their values (TOML 1.0: Key/Value Pair, Keys, Array, Table).
 ghost use Rattle.std.specs.Prelude.{◌≡◌, ◌⊎◌, ◌<◌, false, IsTrue};
 ghost use Rattle.std.specs.Str.{chars};
-ghost use Rattle.stream_sets.specs.AsChar.{IsDecDigit};
-ghost use Rattle.streams.specs.Text.{text_input, text_reading};
+ghost use Rattle.winnow.specs.AsChar.{IsDecDigit};
+ghost use Rattle.winnow.specs.Text.{text_input, text_reading};
 ghost use Rattle.toml_reader.specs.First.{no_memory_kind};
 ghost use Rattle.toml_reader.specs.Toml.{AnyItem, AnyValue, DocumentText, Entry, IsEntry};
 ghost use Rattle.toml_reader.specs.Toml.{IsTable, Line, Table, ValueText};
 ghost use Rattle.toml_reader.specs.Unique.{item_unique, line_unique, value_unique};
-ghost use Rattle.winnow_core.specs.Exact.{Reads};
-ghost use Rattle.grammars.specs.Grammar.Meaning.{Meaning};
-ghost use Rattle.grammars.specs.Texts.{Begins, NotFirst};
-ghost use Rattle.winnow_exact.specs.Told.{IsTextOf, ReadsText};
+ghost use Rattle.winnow.specs.Exact.{Reads};
+ghost use Rattle.winnow.specs.Grammar.Meaning.{Meaning};
+ghost use Rattle.winnow.specs.Texts.{Begins, NotFirst};
+ghost use Rattle.winnow.specs.Told.{IsTextOf, ReadsText};
 
 use crate::characters::Characters;
 use crate::parts::{Marks, parse_lines_of, read_array_of, read_between, read_line_of, read_pair};
 use crate::scalars::{begins_with, read_scalar};
 use crate::value::{Document, Item, Value};
 use std::alloc::Allocator;
-use stream_errors::empty::EmptyError;
-use stream_errors::fault::ParseFault;
-use stream_errors::mode::ErrMode;
-use stream_errors::parser_error::ParserError;
-use stream_sets::range::Range;
-use streams::has_kind::HasKind;
-use winnow_ascii::ascii::impls::Space0;
-use winnow_comb::combinator::{alt, preceded, terminated};
-use winnow_core::exact::Exact;
-use winnow_exact::rule::Rule;
-use winnow_repeat::combinator::repeat;
-use winnow_token::token::{one_of, take_while};
+use winnow::ascii::impls::Space0;
+use winnow::combinator::{alt, preceded, repeat, terminated};
+use winnow::error::{EmptyError, ErrMode, HasKind, ParseFault, ParserError};
+use winnow::exact::{Exact, Rule};
+use winnow::stream::Range;
+use winnow::token::{one_of, take_while};
 
 /// Whether arrays are read at the level, and a bracket is first.
 fn opens(level: usize, input: &str) -> bool

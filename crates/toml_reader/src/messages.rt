@@ -7,7 +7,7 @@ use crate::expected::{Expected, first_lack};
 use std::alloc::Allocator;
 use std::fmt;
 use std::fmt::{Display, Formatter};
-use text_positions::{Position, position_of};
+use winnow::stream::{Position, position_of};
 
 /// What is wrong at a place.
 #[derive(Clone, Copy, Debug, PartialEq, Eq, Drop)]

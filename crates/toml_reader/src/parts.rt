@@ -3,23 +3,19 @@
 ghost use Rattle.json_texts.specs.Words.{former};
 ghost use Rattle.std.specs.Fn.{CalledAtMut};
 ghost use Rattle.std.specs.Prelude.{◌≡◌, false, None};
-ghost use Rattle.stream_sets.specs.Range.{from_to};
+ghost use Rattle.winnow.specs.Range.{from_to};
 ghost use Rattle.toml_reader.specs.Parts.{Items};
-ghost use Rattle.winnow_core.specs.Exact.{Reads};
-ghost use Rattle.winnow_core.specs.Exact.Whole.{ReadsAll};
-ghost use Rattle.grammars.specs.Grammar.{Both, Gathered, Maybe, Parted, Three};
-ghost use Rattle.winnow_exact.specs.Rule.{CallsRead};
+ghost use Rattle.winnow.specs.Exact.{Reads};
+ghost use Rattle.winnow.specs.Exact.Whole.{ReadsAll};
+ghost use Rattle.winnow.specs.Grammar.{Both, Gathered, Maybe, Parted, Three};
+ghost use Rattle.winnow.specs.Rule.{CallsRead};
 
 use std::alloc::Allocator;
-use stream_errors::fault::ParseFault;
-use stream_errors::parser_error::ParserError;
-use stream_sets::range::Range;
-use streams::stream::{Stream, StreamIsPartial};
-use winnow_comb::combinator::{delimited, opt, separated_pair, terminated};
-use winnow_core::exact::Exact;
-use winnow_exact::rule::Rule;
-use winnow_separated::combinator::impls::Separated;
-use winnow_separated::combinator::separated;
+use winnow::combinator::impls::Separated;
+use winnow::combinator::{delimited, opt, separated, separated_pair, terminated};
+use winnow::error::{ParseFault, ParserError};
+use winnow::exact::{Exact, Rule};
+use winnow::stream::{Range, Stream, StreamIsPartial};
 
 /// The marks of an array, and white space.
 #[derive(Clone, Copy, Drop)]

@@ -1,27 +1,24 @@
 //! Values that have no others in them (TOML 1.0: String, Integer, Boolean).
 ghost use Rattle.std.specs.Prelude.{◌≡◌, false, IsTrue};
 ghost use Rattle.std.specs.Str.{chars};
-ghost use Rattle.streams.specs.Text.{text_input, text_reading};
+ghost use Rattle.winnow.specs.Text.{text_input, text_reading};
 ghost use Rattle.toml_reader.specs.Toml.{AnyBoolean, BasicString, Integer, IsText};
 ghost use Rattle.toml_reader.specs.Toml.{LiteralString, Scalar, Whole};
-ghost use Rattle.winnow_core.specs.Exact.{Reads};
-ghost use Rattle.grammars.specs.Grammar.Meaning.{Meaning};
-ghost use Rattle.grammars.specs.Texts.{Begins, NotFirst};
+ghost use Rattle.winnow.specs.Exact.{Reads};
+ghost use Rattle.winnow.specs.Grammar.Meaning.{Meaning};
+ghost use Rattle.winnow.specs.Texts.{Begins, NotFirst};
 
 use crate::characters::Characters;
 use crate::escapes::{AnyCharacter, read_character};
 use crate::parts::read_between;
 use crate::value::Value;
 use std::alloc::Allocator;
-use stream_errors::empty::EmptyError;
-use stream_errors::mode::ErrMode;
-use stream_sets::range::Range;
-use streams::has_kind::HasKind;
-use winnow_core::exact::Exact;
-use winnow_exact::rule::Rule;
-use winnow_numbers::ascii::impls::DecInt;
-use winnow_repeat::combinator::repeat;
-use winnow_token::token::{literal, one_of};
+use winnow::ascii::impls::DecInt;
+use winnow::combinator::repeat;
+use winnow::error::{EmptyError, ErrMode, HasKind};
+use winnow::exact::{Exact, Rule};
+use winnow::stream::Range;
+use winnow::token::{literal, one_of};
 
 /// Whether this character is first.
 pub fn begins_with(input: &str, first: char) -> bool

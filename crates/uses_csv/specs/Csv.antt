@@ -4,10 +4,10 @@ use Rattle.std.specs.Prelude.{◌≡◌, ◌⊎◌, ◌<◌, ℕ, List, [], ◌�
 use Rattle.std.specs.declared.vec.Vec.{Vec}
 use Rattle.uses_csv.specs.declared.LineEnd.{LineEnd}
 use Rattle.uses_csv.specs.declared.LineEnd.TheVariants.{CrLf, Lf}
-use Rattle.grammars.specs.Grammar.{Grammar}
-use Rattle.grammars.specs.Grammar.Known.{Listed}
-use Rattle.grammars.specs.Texts.{Among, AtLeast, InList, Itself, Joined, OneOf, Row, Text}
-use Rattle.grammars.specs.Texts.{Then}
+use Rattle.winnow.specs.Grammar.{Grammar}
+use Rattle.winnow.specs.Grammar.Known.{Listed}
+use Rattle.winnow.specs.Texts.{Among, AtLeast, InList, Itself, Joined, OneOf, Row, Text}
+use Rattle.winnow.specs.Texts.{Then}
 
 -- A byte of a field without quotes: no quote, comma, carriage return or line feed.
 abbrev pub IsPlain : ℕ → Type 0

@@ -6,23 +6,23 @@ use Rattle.std.specs.declared.vec.Vec.{Vec}
 use Rattle.std.proofs.Common.{sym, ap, subst, inl, inr, ◌∙◌, arith}
 use Rattle.std.proofs.lemmas.List.{append-nil}
 use Rattle.std.proofs.lemmas.List.Elements.{same_from_all_zip}
-use Rattle.streams.specs.Equal.{same_first}
+use Rattle.winnow.specs.Equal.{same_first}
 use Rattle.uses_csv.specs.Csv.{AreRecords, FieldText, InQuotes, IsPlain, IsRecord}
 use Rattle.uses_csv.specs.Csv.{QuotedText, RecordText, line_end}
 use Rattle.uses_csv.specs.Read.{IsBreak, IsClosed, breaks, comma_ends, field, field_unique}
 use Rattle.uses_csv.specs.Read.{fields, fields_unique, in_quotes, in_quotes_list, in_quotes_unique}
 use Rattle.uses_csv.specs.Read.{list_unique, plain_byte, plain_byte_unique, record_unique}
 use Rattle.uses_csv.specs.declared.LineEnd.{LineEnd}
-use Rattle.grammars.specs.Grammar.{Each}
-use Rattle.grammars.specs.Grammar.Known.{Listed, byte_unique}
-use Rattle.grammars.specs.Texts.{InList, Itself, MayBegin, OneOf, Row, Spelled, Text}
-use Rattle.winnow_exact.specs.Back.{IsUnambiguous, among_one, in_list_one, joined_one}
-use Rattle.winnow_exact.specs.Back.{never_both, one_weaker, row_one, split_one, spelled_one}
-use Rattle.winnow_exact.specs.Back.{then_one}
-use Rattle.grammars.specs.Texts.Fronts.{among_front, begins_wider, front_any, front_begins}
-use Rattle.grammars.specs.Texts.Fronts.{front_behind, in_list_front, may_begin_none}
-use Rattle.grammars.specs.Texts.Fronts.{one_of_begins, row_front, spelled_begins, then_front}
-use Rattle.grammars.specs.Texts.Tokens.{byte_of}
+use Rattle.winnow.specs.Grammar.{Each}
+use Rattle.winnow.specs.Grammar.Known.{Listed, byte_unique}
+use Rattle.winnow.specs.Texts.{InList, Itself, MayBegin, OneOf, Row, Spelled, Text}
+use Rattle.winnow.specs.Back.{IsUnambiguous, among_one, in_list_one, joined_one}
+use Rattle.winnow.specs.Back.{never_both, one_weaker, row_one, split_one, spelled_one}
+use Rattle.winnow.specs.Back.{then_one}
+use Rattle.winnow.specs.Texts.Fronts.{among_front, begins_wider, front_any, front_begins}
+use Rattle.winnow.specs.Texts.Fronts.{front_behind, in_list_front, may_begin_none}
+use Rattle.winnow.specs.Texts.Fronts.{one_of_begins, row_front, spelled_begins, then_front}
+use Rattle.winnow.specs.Texts.Tokens.{byte_of}
 
 own_one : (these : ℕ → Type 0) → IsUnambiguous (OneOf (λ b. b) these) (λ o p. o ≡ p)
 unfolding OneOf

@@ -4,18 +4,18 @@ use Rattle.std.specs.Borrow.{Bor}
 use Rattle.std.specs.declared.vec.Vec.{Vec}
 use Rattle.std.proofs.Common.{refl, sym, ap, subst, inl, ◌∙◌, arith, append_assoc}
 use Rattle.std.proofs.Common.{length-append}
-use Rattle.streams.specs.Bytes.{bytes_follow, bytes_input, bytes_reading}
-use Rattle.streams.specs.Counted.{counted_reading}
-use Rattle.streams.specs.Equal.{true_is_false}
-use Rattle.streams.specs.Input.{Input, IsEndOf}
-use Rattle.streams.specs.Kind.{Kind}
-use Rattle.streams.specs.Partial.{with_flag}
+use Rattle.winnow.specs.Bytes.{bytes_follow, bytes_input, bytes_reading}
+use Rattle.winnow.specs.Counted.{counted_reading}
+use Rattle.winnow.specs.Equal.{true_is_false}
+use Rattle.winnow.specs.Input.{Input, IsEndOf}
+use Rattle.winnow.specs.Kind.{Kind}
+use Rattle.winnow.specs.Partial.{with_flag}
 use Rattle.uses_csv.specs.Csv.{IsRecord, RecordText, line_end}
 use Rattle.uses_csv.specs.Read.{FieldsRead, fields, some_end}
 use Rattle.uses_csv.specs.declared.LineEnd.{LineEnd}
-use Rattle.winnow_core.specs.Exact.{Reads}
-use Rattle.winnow_exact.specs.Cut.{ReadsOrAsks}
-use Rattle.grammars.specs.Grammar.{Both, Grammar, Literally}
+use Rattle.winnow.specs.Exact.{Reads}
+use Rattle.winnow.specs.Cut.{ReadsOrAsks}
+use Rattle.winnow.specs.Grammar.{Both, Grammar, Literally}
 
 -- Bytes begin with a record and a line end.
 abbrev pub IsLine : {A : Type 0} → LineEnd → Grammar ℕ (Vec (Vec ℕ A) A)

@@ -5,41 +5,41 @@ use Rattle.std.specs.Borrow.{Bor}
 use Rattle.std.specs.declared.vec.Vec.{Vec}
 use Rattle.std.proofs.Common.{refl, sym, ap, subst, inl, inr, ◌∙◌, arith, length-append}
 use Rattle.std.proofs.lemmas.List.{append-nil}
-use Rattle.streams.specs.Counted.{counted_reading}
-use Rattle.streams.specs.Equal.{same_first, same_others, true_is_false}
-use Rattle.streams.specs.Kind.{Kind}
-use Rattle.streams.specs.declared.needed.Needed.{Needed}
-use Rattle.stream_errors.specs.declared.fault.ParseFault.{ParseFault}
-use Rattle.stream_sets.specs.Range.{from_to}
-use Rattle.stream_sets.specs.Sets.{EitherTells}
+use Rattle.winnow.specs.Counted.{counted_reading}
+use Rattle.winnow.specs.Equal.{same_first, same_others, true_is_false}
+use Rattle.winnow.specs.Kind.{Kind}
+use Rattle.winnow.specs.{Needed}
+use Rattle.winnow.specs.{ParseFault}
+use Rattle.winnow.specs.Range.{from_to}
+use Rattle.winnow.specs.Sets.{EitherTells}
 use Rattle.uses_csv.specs.Csv.{AreRecords, FieldText, InQuotes, IsPlain, IsRecord}
 use Rattle.uses_csv.specs.Csv.{QuotedText, RecordText, line_end}
 use Rattle.uses_csv.specs.declared.LineEnd.{LineEnd}
 use Rattle.uses_csv.specs.declared.LineEnd.TheVariants.{CrLf, Lf}
-use Rattle.grammars.specs.Grammar.Same.{Same, unique_as}
-use Rattle.winnow_token.specs.OneOf.Laws.{token_of_takes}
-use Rattle.winnow_core.specs.Exact.Whole.{ReadsAll, reads_all_as}
-use Rattle.grammars.specs.Grammar.{Ahead, Both, Either, Gathered, Grammar, IsUnique, Literally}
-use Rattle.grammars.specs.Grammar.{Made, Many, NoTokens, NoneStands, Parted}
-use Rattle.stream_sets.specs.Once.{Others}
-use Rattle.grammars.specs.Grammar.{Takes, Three, Token, TokenOf}
-use Rattle.grammars.specs.Grammar.Known.{Byte, byte_stands, byte_takes, byte_unique}
-use Rattle.grammars.specs.Grammar.Known.{repeated_list, slice_for}
-use Rattle.grammars.specs.Grammar.Sequences.{three_unique}
-use Rattle.grammars.specs.Grammar.Unique.{ahead_unique, both_take, both_unique, either_takes}
-use Rattle.grammars.specs.Grammar.Unique.{either_unique, gathered_unique, literally_unique}
-use Rattle.grammars.specs.Grammar.Unique.{made_unique, many_unique}
-use Rattle.grammars.specs.Grammar.Unique.{parted_unique, token_of_unique}
-use Rattle.grammars.specs.Texts.{Anything, AtLeast, InFront, InList, IsGrammarOf, Itself}
-use Rattle.grammars.specs.Texts.{MayBegin, NotFirst, OneOf, Row, Spelled}
-use Rattle.grammars.specs.Texts.Fronts.{begins_wider, front_any, front_begins, front_behind}
-use Rattle.grammars.specs.Texts.Fronts.{in_list_front, may_begin_more, none_begins}
-use Rattle.grammars.specs.Texts.Fronts.{one_of_begins}
-use Rattle.grammars.specs.Texts.Fronts.{row_front, spelled_begins, then_front}
-use Rattle.grammars.specs.Texts.Parts.{behind_less, both_of, either_apart, three_of}
-use Rattle.grammars.specs.Texts.Rows.{list_of, many_of, parted_of}
-use Rattle.grammars.specs.Texts.Tokens.{byte_of, divides_either, divides_others, divides_where}
-use Rattle.grammars.specs.Texts.Tokens.{token_of}
+use Rattle.winnow.specs.Grammar.Same.{Same, unique_as}
+use Rattle.winnow.specs.OneOf.Laws.{token_of_takes}
+use Rattle.winnow.specs.Exact.Whole.{ReadsAll, reads_all_as}
+use Rattle.winnow.specs.Grammar.{Ahead, Both, Either, Gathered, Grammar, IsUnique, Literally}
+use Rattle.winnow.specs.Grammar.{Made, Many, NoTokens, NoneStands, Parted}
+use Rattle.winnow.specs.Once.{Others}
+use Rattle.winnow.specs.Grammar.{Takes, Three, Token, TokenOf}
+use Rattle.winnow.specs.Grammar.Known.{Byte, byte_stands, byte_takes, byte_unique}
+use Rattle.winnow.specs.Grammar.Known.{repeated_list, slice_for}
+use Rattle.winnow.specs.Grammar.Sequences.{three_unique}
+use Rattle.winnow.specs.Grammar.Unique.{ahead_unique, both_take, both_unique, either_takes}
+use Rattle.winnow.specs.Grammar.Unique.{either_unique, gathered_unique, literally_unique}
+use Rattle.winnow.specs.Grammar.Unique.{made_unique, many_unique}
+use Rattle.winnow.specs.Grammar.Unique.{parted_unique, token_of_unique}
+use Rattle.winnow.specs.Texts.{Anything, AtLeast, InFront, InList, IsGrammarOf, Itself}
+use Rattle.winnow.specs.Texts.{MayBegin, NotFirst, OneOf, Row, Spelled}
+use Rattle.winnow.specs.Texts.Fronts.{begins_wider, front_any, front_begins, front_behind}
+use Rattle.winnow.specs.Texts.Fronts.{in_list_front, may_begin_more, none_begins}
+use Rattle.winnow.specs.Texts.Fronts.{one_of_begins}
+use Rattle.winnow.specs.Texts.Fronts.{row_front, spelled_begins, then_front}
+use Rattle.winnow.specs.Texts.Parts.{behind_less, both_of, either_apart, three_of}
+use Rattle.winnow.specs.Texts.Rows.{list_of, many_of, parted_of}
+use Rattle.winnow.specs.Texts.Tokens.{byte_of, divides_either, divides_others, divides_where}
+use Rattle.winnow.specs.Texts.Tokens.{token_of}
 
 -- what the set of one byte tells
 abbrev pub Tells : ℕ → ℕ → Bool → Type 0

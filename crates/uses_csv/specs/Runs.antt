@@ -6,30 +6,30 @@ use Rattle.std.specs.Borrow.{Bor}
 use Rattle.std.specs.declared.vec.Vec.{Vec}
 use Rattle.std.proofs.Common.{refl, sym, ap, subst, inl, inr, ◌∙◌, arith}
 use Rattle.std.proofs.lemmas.Bool.Decides.{eqb_tells}
-use Rattle.streams.specs.Counted.{counted_input, counted_reading}
-use Rattle.streams.specs.Equal.{none_is_some, same_some, true_is_false}
-use Rattle.streams.specs.Input.{IsEndOf}
-use Rattle.streams.specs.Kind.{Kind, memory}
-use Rattle.stream_sets.specs.Range.{from_to}
-use Rattle.stream_errors.specs.Growth.{grown}
+use Rattle.winnow.specs.Counted.{counted_input, counted_reading}
+use Rattle.winnow.specs.Equal.{none_is_some, same_some, true_is_false}
+use Rattle.winnow.specs.Input.{IsEndOf}
+use Rattle.winnow.specs.Kind.{Kind, memory}
+use Rattle.winnow.specs.Range.{from_to}
+use Rattle.winnow.specs.Growth.{grown}
 use Rattle.uses_csv.specs.Csv.{IsPlain}
 use Rattle.uses_csv.specs.Read.{InQuotesRead, IsBreak, PlainByte, PlainRead, Special, Tells}
 use Rattle.uses_csv.specs.Read.{in_quotes, plain_byte}
-use Rattle.winnow_core.specs.Exact.{Reads}
-use Rattle.winnow_exact.specs.Read.{reads_wanting}
-use Rattle.grammars.specs.Grammar.Same.{Same}
-use Rattle.grammars.specs.Grammar.{Both, Each, Either, Gathered, Grammar, Literally, Longest}
-use Rattle.grammars.specs.Grammar.{Many, NoneStands, TokenOf}
-use Rattle.stream_sets.specs.Once.{Others}
-use Rattle.grammars.specs.Grammar.Known.{byte_stands, slice_for}
-use Rattle.winnow_exact.specs.RunByRun as runs
-use Rattle.winnow_exact.specs.RunByRun.{RunOf, each_behind, each_one, each_run, run_same}
-use Rattle.winnow_exact.specs.RunByRun.{run_takes, run_wants}
-use Rattle.grammars.specs.Texts.{MayBegin, OneOf, Spelled, Then, Among}
-use Rattle.grammars.specs.Texts.Fronts.{begins_wider, may_begin_more, none_begins}
-use Rattle.grammars.specs.Texts.Fronts.{one_of_begins}
-use Rattle.grammars.specs.Texts.Tokens.{divides_either, divides_others, divides_seen}
-use Rattle.grammars.specs.Texts.Tokens.{divides_where}
+use Rattle.winnow.specs.Exact.{Reads}
+use Rattle.winnow.specs.Read.{reads_wanting}
+use Rattle.winnow.specs.Grammar.Same.{Same}
+use Rattle.winnow.specs.Grammar.{Both, Each, Either, Gathered, Grammar, Literally, Longest}
+use Rattle.winnow.specs.Grammar.{Many, NoneStands, TokenOf}
+use Rattle.winnow.specs.Once.{Others}
+use Rattle.winnow.specs.Grammar.Known.{byte_stands, slice_for}
+use Rattle.winnow.specs.RunByRun as runs
+use Rattle.winnow.specs.RunByRun.{RunOf, each_behind, each_one, each_run, run_same}
+use Rattle.winnow.specs.RunByRun.{run_takes, run_wants}
+use Rattle.winnow.specs.Texts.{MayBegin, OneOf, Spelled, Then, Among}
+use Rattle.winnow.specs.Texts.Fronts.{begins_wider, may_begin_more, none_begins}
+use Rattle.winnow.specs.Texts.Fronts.{one_of_begins}
+use Rattle.winnow.specs.Texts.Tokens.{divides_either, divides_others, divides_seen}
+use Rattle.winnow.specs.Texts.Tokens.{divides_where}
 
 -- Bytes that are no quotes.
 abbrev pub UnquotedRun : Grammar ℕ (Bor (List ℕ))

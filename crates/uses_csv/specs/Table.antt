@@ -10,18 +10,18 @@ use Rattle.std.proofs.Common.{sym, subst, ap, ◌∙◌, arith, append_assoc, ta
 use Rattle.std.proofs.Common.{length-take}
 use Rattle.std.proofs.lemmas.List.{take_more, take-append-drop, take_all}
 use Rattle.std.proofs.lemmas.List.Elements.{All-more}
-use Rattle.streams.specs.Kind.{Kind}
-use Rattle.streams.specs.declared.needed.Needed.{Needed}
-use Rattle.stream_errors.specs.declared.fault.ParseFault.{ParseFault}
+use Rattle.winnow.specs.Kind.{Kind}
+use Rattle.winnow.specs.{Needed}
+use Rattle.winnow.specs.{ParseFault}
 use Rattle.uses_csv.specs.Csv.{AreRecords, IsRecord}
 use Rattle.uses_csv.specs.declared.LineEnd.{LineEnd}
 use Rattle.uses_csv.specs.declared.table.Ragged.{Ragged}
 use Rattle.uses_csv.specs.declared.table.Table.{Table}
 use Rattle.uses_csv.specs.declared.table.TableFault.{TableFault}
 use Rattle.uses_csv.specs.declared.table.TableFault.TheVariants.{Document, Empty, Width}
-use Rattle.winnow_core.specs.Exact.Whole.{IsWant, ReadsAll}
-use Rattle.grammars.specs.Grammar.{Each}
-use Rattle.grammars.specs.Grammar.Known.{Listed}
+use Rattle.winnow.specs.Exact.Whole.{IsWant, ReadsAll}
+use Rattle.winnow.specs.Grammar.{Each}
+use Rattle.winnow.specs.Grammar.Known.{Listed}
 
 -- All before this place are such, and what stands there is one of those.
 pub record IsFirst {X : Type 0} (such those : X → Type 0) (xs : List X) (place : ℕ) : Type 0 where

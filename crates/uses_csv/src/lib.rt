@@ -9,36 +9,28 @@
 #![tactic(auto)]
 
 ghost use Rattle.std.specs.Prelude.{◌≡◌, ⊤};
-ghost use Rattle.streams.specs.Bytes.{bytes_input, bytes_reading};
+ghost use Rattle.winnow.specs.Bytes.{bytes_input, bytes_reading};
 ghost use Rattle.uses_csv.specs.Csv.{AreRecords, IsRecord, line_end};
 ghost use Rattle.uses_csv.specs.Read.{EndRead, FieldRead, FieldsRead, PlainRead};
 ghost use Rattle.uses_csv.specs.Read.{QuotedRead, end_unique, field_unique, fields_unique};
 ghost use Rattle.uses_csv.specs.Read.{list_unique, plain_unique};
 ghost use Rattle.uses_csv.specs.Read.{quoted_unique, record_takes, record_unique};
 ghost use Rattle.uses_csv.specs.Runs.{BytesRead, PlainRun, TwoQuotes, UnquotedRun};
-ghost use Rattle.winnow_core.specs.Exact.{Reads};
-ghost use Rattle.winnow_core.specs.Exact.Whole.{ReadsAll};
+ghost use Rattle.winnow.specs.Exact.{Reads};
+ghost use Rattle.winnow.specs.Exact.Whole.{ReadsAll};
 
 pub mod pieces;
 pub mod table;
 
 use std::alloc::Allocator;
-use stream_errors::empty::EmptyError;
-use stream_errors::fault::ParseFault;
-use stream_errors::growth::OrNoMemory;
-use stream_errors::mode::ErrMode;
-use stream_errors::parser_error::ParserError;
-use stream_sets::range::Range;
-use streams::has_kind::HasKind;
-use winnow_comb::combinator::{alt, delimited, peek, preceded, terminated};
-use winnow_core::combinator::impls::Eof;
-use winnow_core::exact::Exact;
-use winnow_core::parser::Parser;
-use winnow_exact::rule::Rule;
-use winnow_repeat::combinator::repeat;
-use winnow_separated::combinator::separated;
-use winnow_token::token::impls::Any;
-use winnow_token::token::{literal, take_till};
+use winnow::Parser;
+use winnow::combinator::impls::Eof;
+use winnow::combinator::{alt, delimited, peek, preceded, repeat, separated, terminated};
+use winnow::error::{EmptyError, ErrMode, HasKind, OrNoMemory, ParseFault, ParserError};
+use winnow::exact::{Exact, Rule};
+use winnow::stream::Range;
+use winnow::token::impls::Any;
+use winnow::token::{literal, take_till};
 
 /// What ends a line.
 #[derive(Clone, Copy, Debug, PartialEq, Eq)]

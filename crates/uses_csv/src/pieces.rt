@@ -1,25 +1,19 @@
 //! Records from pieces: one at a time, as their bytes come in.
 
 ghost use Rattle.std.specs.Prelude.{IfOk};
-ghost use Rattle.streams.specs.Bytes.{bytes_follow, bytes_input, bytes_reading};
-ghost use Rattle.streams.specs.Input.{IsEndOf};
+ghost use Rattle.winnow.specs.Bytes.{bytes_follow, bytes_input, bytes_reading};
+ghost use Rattle.winnow.specs.Input.{IsEndOf};
 ghost use Rattle.uses_csv.specs.Csv.{IsRecord};
 ghost use Rattle.uses_csv.specs.Pieces.{IsLine};
-ghost use Rattle.winnow_exact.specs.Cut.{ReadsOrAsks};
+ghost use Rattle.winnow.specs.Cut.{ReadsOrAsks};
 
 use crate::{Fields, LineEnd, Record, read_fields, read_record};
 use std::alloc::Allocator;
-use stream_errors::empty::EmptyError;
-use stream_errors::mode::ErrMode;
-use stream_errors::parser_error::ParserError;
-use streams::has_kind::HasKind;
-use streams::needed::Needed;
-use streams::partial::Partial;
-use streams::stream::{Stream, StreamIsPartial};
-use winnow_comb::combinator::terminated;
-use winnow_core::exact::Exact;
-use winnow_exact::rule::Rule;
-use winnow_token::token::literal;
+use winnow::combinator::terminated;
+use winnow::error::{EmptyError, ErrMode, HasKind, Needed, ParserError};
+use winnow::exact::{Exact, Rule};
+use winnow::stream::{Partial, Stream, StreamIsPartial};
+use winnow::token::literal;
 
 /// Fields with a line end behind them.
 fn read_line<'i, A: Allocator + Copy>(
@@ -40,10 +34,10 @@ fn read_line<'i, A: Allocator + Copy>(
 /// holds. A complete input is read as by `read_record`.
 ///
 /// ```
-/// use stream_errors::mode::ErrMode;
-/// use streams::partial::Partial;
 /// use uses_csv::LineEnd;
 /// use uses_csv::pieces::read_record_in_pieces;
+/// use winnow::error::ErrMode;
+/// use winnow::stream::Partial;
 ///
 /// let mut piece = Partial::new(b"a,\"b\n".as_slice());
 /// let asks = read_record_in_pieces(alloc, LineEnd::Lf, &mut piece);

@@ -5,10 +5,7 @@ ghost use Rattle.uses_csv.specs.Table.{FieldTold, FirstNamed, FirstOdd, HeadTold
 
 use crate::{LineEnd, Record, parse_document};
 use std::alloc::Allocator;
-use stream_errors::empty::EmptyError;
-use stream_errors::fault::ParseFault;
-use stream_errors::mode::ErrMode;
-use stream_errors::parser_error::ParserError;
+use winnow::error::{EmptyError, ErrMode, ParseFault, ParserError};
 
 /// A header, and the records behind it. As [`parse_table`] makes it, each of them has as many
 /// fields as the header.

@@ -1,16 +1,16 @@
 -- What runs of the parsers of a letter of a level and of a colon say of the bytes.
 use Rattle.std.specs.Prelude.{◌≡◌, ◌⊎◌, ℕ, List, [], ◌∷◌, false, IsSome, Some, None, Ok, Err}
 use Rattle.std.proofs.Common.{◌∙◌, ap, sym, inl, inr}
-use Rattle.streams.specs.Bytes.{bytes_reading}
-use Rattle.streams.specs.Equal.{same_first, true_is_false}
-use Rattle.streams.specs.Input.{Input}
-use Rattle.streams.specs.Kind.{Kind, backtrack, memory, modal}
-use Rattle.stream_errors.specs.Form.{need_of_kind}
-use Rattle.stream_errors.specs.Given.{Keeping, KindGiven, always_kept}
-use Rattle.winnow_core.specs.Literal.{LiteralRuns}
-use Rattle.winnow_core.specs.Literal.Known.{literal_taken, token_missing, token_taken}
-use Rattle.winnow_token.specs.Any.{AnyRuns}
-use Rattle.winnow_token.specs.Any.Known.{any_err, any_ok}
+use Rattle.winnow.specs.Bytes.{bytes_reading}
+use Rattle.winnow.specs.Equal.{same_first, true_is_false}
+use Rattle.winnow.specs.Input.{Input}
+use Rattle.winnow.specs.Kind.{Kind, backtrack, memory, modal}
+use Rattle.winnow.specs.Form.{need_of_kind}
+use Rattle.winnow.specs.Given.{Keeping, KindGiven, always_kept}
+use Rattle.winnow.specs.Literal.{LiteralRuns}
+use Rattle.winnow.specs.Literal.Known.{literal_taken, token_missing, token_taken}
+use Rattle.winnow.specs.Any.{AnyRuns}
+use Rattle.winnow.specs.Any.Known.{any_err, any_ok}
 use Rattle.uses_errors.specs.Lines.{NoColonStands, NoLevelStands, StartsLevel, level_at}
 use Rattle.uses_errors.specs.declared.Level.{Level}
 

@@ -1,8 +1,8 @@
 -- Why a line of a log is refused, and of which level it is.
 use Rattle.std.specs.Prelude.{◌≡◌, ◌⊎◌, ℕ, List, ◌∷◌, Option, None, Some, nat_eq, if◌then◌else◌}
 use Rattle.std.proofs.Common.{refl, inl, inr}
-use Rattle.streams.specs.Kind.{Kind, backtrack, memory}
-use Rattle.stream_errors.specs.Form.{inner_kind_of}
+use Rattle.winnow.specs.Kind.{Kind, backtrack, memory}
+use Rattle.winnow.specs.Form.{inner_kind_of}
 use Rattle.uses_errors.specs.declared.Level.{Level}
 use Rattle.uses_errors.specs.declared.Level.TheVariants.{Error, Info, Warning}
 use Rattle.uses_errors.specs.declared.error.LineError.{LineError}

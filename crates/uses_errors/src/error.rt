@@ -1,7 +1,7 @@
 //! Why a line is refused.
 ghost use Rattle.std.specs.Prelude.{◌≡◌, false};
-ghost use Rattle.stream_errors.specs.Form.{plain};
-ghost use Rattle.stream_errors.specs.Given.{always_kept};
+ghost use Rattle.winnow.specs.Form.{plain};
+ghost use Rattle.winnow.specs.Given.{always_kept};
 ghost use Rattle.uses_errors.specs.Lines.{chosen, inner_kind_of-line_kind, line_kind};
 ghost use Rattle.uses_errors.specs.Lines.{line_kind-cases, told};
 ghost use Rattle.uses_errors.specs.declared.error.LineError.TheVariants.{UnknownLevel};
@@ -10,12 +10,8 @@ use std::alloc::Allocator;
 use std::error::Error;
 use std::fmt;
 use std::fmt::Display;
-use stream_errors::context::AddContext;
-use stream_errors::external::FromExternalError;
-use stream_errors::has_kind::HasKind;
-use stream_errors::parser_error::ParserError;
-use streams::needed::Needed;
-use streams::stream::Stream;
+use winnow::error::{AddContext, FromExternalError, HasKind, Needed, ParserError};
+use winnow::stream::Stream;
 
 /// A part of a line, as an error names it.
 ///
@@ -137,7 +133,7 @@ impl<I: Stream> ParserError<I> for LineError {
     ghost plain_kinds = { λ _ e. line_kind-cases e };
 }
 
-#[tactic(auto, using(stream_errors::specs::Given::contexts_kept))]
+#[tactic(auto, using(winnow::specs::Rules::contexts_kept))]
 impl<I: Stream, A: Allocator> AddContext<I, Part, A> for LineError {
     ghost context_grows = { false };
 

@@ -5,24 +5,23 @@
 //! how parsers make and join it ([`ParserError`]). `context` wants [`AddContext`], and `try_map`
 //! [`FromExternalError`] for the errors of its closure.
 //!
-//! [`HasKind`]: stream_errors::has_kind::HasKind
-//! [`ParserError`]: stream_errors::parser_error::ParserError
-//! [`AddContext`]: stream_errors::context::AddContext
-//! [`FromExternalError`]: stream_errors::external::FromExternalError
+//! [`HasKind`]: winnow::error::HasKind
+//! [`ParserError`]: winnow::error::ParserError
+//! [`AddContext`]: winnow::error::AddContext
+//! [`FromExternalError`]: winnow::error::FromExternalError
 #![tactic(auto)]
 
 ghost use Rattle.std.specs.Prelude.{◌≡◌, ◌∷◌, ◌⊎◌, IfErr, IfOk, MatchResult, None, Some};
-ghost use Rattle.streams.specs.Kind.{backtrack};
+ghost use Rattle.winnow.specs.Kind.{backtrack};
 ghost use Rattle.uses_errors.specs.Lines.{NoColonStands, NoLevelStands, StartsLevel, level_at};
 
 pub mod error;
 
 use crate::error::{LineError, NoLevel, Part};
 use std::alloc::Allocator;
-use stream_errors::has_kind::HasKind;
-use stream_errors::mode::ErrMode;
-use winnow_core::parser::Parser;
-use winnow_token::token::impls::Any;
+use winnow::Parser;
+use winnow::error::{ErrMode, HasKind};
+use winnow::token::impls::Any;
 
 /// How much a line of a log matters.
 #[derive(Clone, Copy, Debug, PartialEq, Eq)]

@@ -1,20 +1,20 @@
 -- Parts of an expression that one state and one input decide are as the laws of trees ask.
 use Rattle.std.specs.Prelude.{◌≡◌, ◌<◌, ℕ, List, [], ◌∷◌, length, Option, Ok, Err}
 use Rattle.std.proofs.Common.{refl, ap, inl, inr, arith}
-use Rattle.streams.specs.Bytes.{bytes_reading}
-use Rattle.streams.specs.Input.{Input}
-use Rattle.stream_errors.specs.Form.{Answer, ErrorForm}
-use Rattle.stream_errors.specs.Form.Known.{ok_is_err, same_kind}
-use Rattle.winnow_comb.specs.Alt.{OrElse}
-use Rattle.winnow_core.specs.Literal.{LiteralRuns}
-use Rattle.winnow_core.specs.Literal.Known.{token_taken}
-use Rattle.winnow_core.specs.Runs.{Keeps, Runs}
-use Rattle.winnow_core.specs.Value.{ValueRuns}
-use Rattle.winnow_core.specs.VerifyMap.{VerifyMapRuns}
-use Rattle.winnow_core.specs.Decided.{AlikeAnswers, IsDecided}
-use Rattle.winnow_core.specs.Decided.{NotMemory as NotWantOfMemory}
-use Rattle.winnow_expression.specs.Units.{units_left}
-use Rattle.winnow_expression_trees.specs.Premises.{IsStateless, NotMemory, Same}
+use Rattle.winnow.specs.Bytes.{bytes_reading}
+use Rattle.winnow.specs.Input.{Input}
+use Rattle.winnow.specs.Form.{Answer, ErrorForm}
+use Rattle.winnow.specs.Form.Known.{ok_is_err, same_kind}
+use Rattle.winnow.specs.Alt.{OrElse}
+use Rattle.winnow.specs.Literal.{LiteralRuns}
+use Rattle.winnow.specs.Literal.Known.{token_taken}
+use Rattle.winnow.specs.Runs.{Keeps, Runs}
+use Rattle.winnow.specs.Value.{ValueRuns}
+use Rattle.winnow.specs.VerifyMap.{VerifyMapRuns}
+use Rattle.winnow.specs.Decided.{AlikeAnswers, IsDecided}
+use Rattle.winnow.specs.Decided.{NotMemory as NotWantOfMemory}
+use Rattle.winnow.specs.Units.{units_left}
+use Rattle.winnow.specs.Premises.{IsStateless, NotMemory, Same}
 
 -- an answer that is no want of memory, in the words of both crates
 no_memory : {O : Type 0} (a : Answer O) → NotMemory a → NotWantOfMemory a

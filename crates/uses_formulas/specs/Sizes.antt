@@ -1,22 +1,22 @@
 -- Sizes: what their units and signs compute, and the states of their parsers.
 use Rattle.std.specs.Prelude.{◌≡◌, ◌+◌, ◌*◌, ◌^◌, ◌<◌, ℕ, ℤ, pos, ⊤}
 use Rattle.std.proofs.Common.{refl, subst, sym, ◌∙◌}
-use Rattle.streams.specs.Input.{Input}
-use Rattle.stream_errors.specs.Form.{Answer}
-use Rattle.winnow_comb.specs.Alt.{alt_alternatives}
-use Rattle.winnow_comb.specs.declared.combinator.impls.alt.AltParser.{AltParser}
-use Rattle.winnow_core.specs.Value.{value_kept, value_parser}
-use Rattle.winnow_core.specs.declared.combinator.impls.value.Value.{Value}
-use Rattle.winnow_expression.specs.declared.combinator.operators.Infix.{Infix}
-use Rattle.winnow_expression.specs.declared.combinator.operators.Infix.TheVariants.{Left}
-use Rattle.winnow_expression.specs.declared.combinator.operators.Postfix.{Postfix}
-use Rattle.winnow_expression.specs.Grammar.{Grammar}
-use Rattle.winnow_expression.specs.Operators.{fold_of}
-use Rattle.winnow_expression_trees.specs.Alike.{AlikeInfix}
-use Rattle.winnow_expression_trees.specs.Items.{Gives, GivesOne}
-use Rattle.winnow_expression_trees.specs.Items.Premises.{gives_alike, gives_both_alike}
-use Rattle.winnow_expression_trees.specs.OneTree.{IsExact}
-use Rattle.winnow_expression_trees.specs.Premises.{AlikePostfix, FoldAlike, FoldsAlike}
+use Rattle.winnow.specs.Input.{Input}
+use Rattle.winnow.specs.Form.{Answer}
+use Rattle.winnow.specs.Alt.{alt_alternatives}
+use Rattle.winnow.specs.{AltParser}
+use Rattle.winnow.specs.Value.{value_kept, value_parser}
+use Rattle.winnow.specs.{Value}
+use Rattle.winnow.specs.{Infix}
+use Rattle.winnow.specs.InfixCases.{Left}
+use Rattle.winnow.specs.{Postfix}
+use Rattle.winnow.specs.OperatorGrammar.{Grammar}
+use Rattle.winnow.specs.Operators.{fold_of}
+use Rattle.winnow.specs.Alike.{AlikeInfix}
+use Rattle.winnow.specs.Items.{Gives, GivesOne}
+use Rattle.winnow.specs.Items.Premises.{gives_alike, gives_both_alike}
+use Rattle.winnow.specs.OneTree.{IsExact}
+use Rattle.winnow.specs.Premises.{AlikePostfix, FoldAlike, FoldsAlike}
 use Rattle.uses_formulas.specs.declared.sizes.Sign.{Sign}
 use Rattle.uses_formulas.specs.declared.sizes.Sign.TheVariants.{Plus, Times}
 use Rattle.uses_formulas.specs.declared.sizes.Scale.{Scale}

@@ -1,15 +1,14 @@
 //! Laws of parts of expressions.
 ghost use Rattle.std.specs.Prelude.{ℕ};
-ghost use Rattle.streams.specs.Bytes.{bytes_reading};
+ghost use Rattle.winnow.specs.Bytes.{bytes_reading};
 ghost use Rattle.uses_formulas.specs.Decided.{Moves};
-ghost use Rattle.winnow_expression_trees.specs.Premises.{IsStateless};
+ghost use Rattle.winnow.specs.Premises.{IsStateless};
 
-use stream_errors::parser_error::ParserError;
-use streams::stream::Stream;
-use winnow_comb::combinator::impls::AltParser;
-use winnow_core::combinator::impls::Value;
-use winnow_core::decided::Decided;
-use winnow_core::parser::Parser;
+use winnow::Parser;
+use winnow::combinator::impls::{AltParser, Value};
+use winnow::decided::Decided;
+use winnow::error::ParserError;
+use winnow::stream::Stream;
 
 /// The stream of bytes.
 type Bytes = &'static [u8];

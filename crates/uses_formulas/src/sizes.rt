@@ -1,35 +1,29 @@
 //! Sizes: numbers with units, sums and products.
-#![tactic(auto, using(streams::specs::Ends::ends_follow))]
+#![tactic(auto, using(winnow::specs::Rules::ends_follow))]
 
 ghost use Rattle.std.specs.Prelude.{◌≡◌, MatchOption, pos, ℕ};
-ghost use Rattle.stream_errors.specs.Form.{answer_by, plain};
-ghost use Rattle.streams.specs.Bytes.{bytes_input, bytes_reading};
-ghost use Rattle.streams.specs.Input.{IsEndOf};
-ghost use Rattle.streams.specs.Kind.{backtrack};
+ghost use Rattle.winnow.specs.Form.{answer_by, plain};
+ghost use Rattle.winnow.specs.Bytes.{bytes_input, bytes_reading};
+ghost use Rattle.winnow.specs.Input.{IsEndOf};
+ghost use Rattle.winnow.specs.Kind.{backtrack};
 ghost use Rattle.uses_formulas.specs.Sizes.{SizeStates, marks_of, sign_marks, sign_value};
 ghost use Rattle.uses_formulas.specs.Sizes.{size_states, unit_marks, unit_value};
-ghost use Rattle.winnow_expression.specs.Parts.{parts_grammar};
-ghost use Rattle.winnow_expression_trees.specs.Items.{Gives};
-ghost use Rattle.winnow_expression_trees.specs.Items.Premises.{gives_ends};
-ghost use Rattle.winnow_expression_trees.specs.OneTree.{IsExact};
+ghost use Rattle.winnow.specs.Parts.{parts_grammar};
+ghost use Rattle.winnow.specs.Items.{Gives};
+ghost use Rattle.winnow.specs.Items.Premises.{gives_ends};
+ghost use Rattle.winnow.specs.OneTree.{IsExact};
 
 use crate::laws::{
     a_byte_consumes, a_choice_consumes, a_decided_part_is_stateless, a_value_consumes,
 };
 use std::alloc::Allocator;
-use stream_errors::empty::EmptyError;
-use stream_errors::has_kind::HasKind;
-use stream_errors::parser_error::ParserError;
-use streams::stream::Stream;
-use winnow_comb::combinator::alt;
-use winnow_comb::combinator::impls::{AltParser, Fail};
-use winnow_core::combinator::impls::Value;
-use winnow_core::parser::Parser;
-use winnow_expression::combinator::{
-    FoldBinary, FoldUnary, Infix, NoFold, Postfix, Prefix, expression,
-};
-use winnow_expression_trees::laws::{Likeness, expression_reads_the_one_tree};
-use winnow_numbers::ascii::impls::DecUint;
+use winnow::Parser;
+use winnow::ascii::impls::DecUint;
+use winnow::combinator::impls::{AltParser, Fail, Value};
+use winnow::combinator::{FoldBinary, FoldUnary, Infix, NoFold, Postfix, Prefix, alt, expression};
+use winnow::error::{EmptyError, HasKind, ParserError};
+use winnow::laws::{Likeness, expression_reads_the_one_tree};
+use winnow::stream::Stream;
 
 /// A unit behind a size.
 #[derive(Clone, Copy, Debug, PartialEq, Eq)]

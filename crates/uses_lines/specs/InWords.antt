@@ -4,17 +4,17 @@ use Rattle.std.specs.declared.vec.Vec.{Vec}
 use Rattle.std.proofs.Common.{sym, inl, inr, arith}
 use Rattle.std.proofs.lemmas.List.Elements.{same_from_all_zip}
 use Rattle.uses_lines.specs.Lines.{AreLines, IsLine, letter_unique, same_line, unique_line}
-use Rattle.grammars.specs.Grammar.{Either}
-use Rattle.grammars.specs.Grammar.Known.{Byte}
-use Rattle.grammars.specs.Texts.{Among, Anything, BeginsIn, InList, IsGrammarOf, Itself}
-use Rattle.grammars.specs.Texts.{NotFirst, Row, Text, Then}
-use Rattle.winnow_exact.specs.Back.{IsUnambiguous, among_one, in_list_one, never_both}
-use Rattle.winnow_exact.specs.Back.{one_weaker, row_one, spelled_one, then_one}
-use Rattle.grammars.specs.Texts.Fronts.{among_front, begins_wider, front_any, front_begins}
-use Rattle.grammars.specs.Texts.Fronts.{none_begins, spelled_begins, then_front}
-use Rattle.grammars.specs.Texts.Parts.{both_of, either_apart, same_of}
-use Rattle.grammars.specs.Texts.Rows.{listed_of}
-use Rattle.grammars.specs.Texts.Tokens.{byte_of}
+use Rattle.winnow.specs.Grammar.{Either}
+use Rattle.winnow.specs.Grammar.Known.{Byte}
+use Rattle.winnow.specs.Texts.{Among, Anything, BeginsIn, InList, IsGrammarOf, Itself}
+use Rattle.winnow.specs.Texts.{NotFirst, Row, Text, Then}
+use Rattle.winnow.specs.Back.{IsUnambiguous, among_one, in_list_one, never_both}
+use Rattle.winnow.specs.Back.{one_weaker, row_one, spelled_one, then_one}
+use Rattle.winnow.specs.Texts.Fronts.{among_front, begins_wider, front_any, front_begins}
+use Rattle.winnow.specs.Texts.Fronts.{none_begins, spelled_begins, then_front}
+use Rattle.winnow.specs.Texts.Parts.{both_of, either_apart, same_of}
+use Rattle.winnow.specs.Texts.Rows.{listed_of}
+use Rattle.winnow.specs.Texts.Tokens.{byte_of}
 
 -- letter = "y" / "n"
 abbrev pub Letter : Text ℕ ℕ

@@ -2,19 +2,19 @@
 use Rattle.std.specs.Prelude.{◌≡◌, ◌⊎◌, ℕ, List, ◌∷◌, Result, None}
 use Rattle.std.specs.declared.vec.Vec.{Vec}
 use Rattle.std.proofs.Common.{refl, sym, ap, inl, inr, ◌∙◌, arith}
-use Rattle.streams.specs.Counted.{counted_reading}
-use Rattle.streams.specs.Equal.{same_first}
-use Rattle.streams.specs.Input.{Input}
-use Rattle.streams.specs.Kind.{Kind}
-use Rattle.stream_sets.specs.Range.{bounds_of, from_to}
-use Rattle.stream_sets.specs.declared.range.Range.{Range}
-use Rattle.winnow_core.specs.Exact.{Reads}
-use Rattle.grammars.specs.Grammar.Same.{Same, takes_as, unique_as}
-use Rattle.winnow_core.specs.Exact.Same.{reads_as}
-use Rattle.grammars.specs.Grammar.{Both, Either, Grammar, IsUnique, Repeated, Takes}
-use Rattle.grammars.specs.Grammar.Known.{Byte, Listed, byte_stands, byte_takes, byte_unique}
-use Rattle.grammars.specs.Grammar.Known.{repeated_list, stands_byte}
-use Rattle.grammars.specs.Grammar.Unique.{both_take, both_unique, either_unique}
+use Rattle.winnow.specs.Counted.{counted_reading}
+use Rattle.winnow.specs.Equal.{same_first}
+use Rattle.winnow.specs.Input.{Input}
+use Rattle.winnow.specs.Kind.{Kind}
+use Rattle.winnow.specs.Range.{bounds_of, from_to}
+use Rattle.winnow.specs.{Range}
+use Rattle.winnow.specs.Exact.{Reads}
+use Rattle.winnow.specs.Grammar.Same.{Same, takes_as, unique_as}
+use Rattle.winnow.specs.Exact.Same.{reads_as}
+use Rattle.winnow.specs.Grammar.{Both, Either, Grammar, IsUnique, Repeated, Takes}
+use Rattle.winnow.specs.Grammar.Known.{Byte, Listed, byte_stands, byte_takes, byte_unique}
+use Rattle.winnow.specs.Grammar.Known.{repeated_list, stands_byte}
+use Rattle.winnow.specs.Grammar.Unique.{both_take, both_unique, either_unique}
 
 -- a line: a `y` or an `n`, and a line feed
 unfoldable pub IsLine : Grammar ℕ ℕ

@@ -7,26 +7,20 @@
 
 ghost use Rattle.std.specs.Prelude.{⊤, ℕ};
 ghost use Rattle.std.specs.declared.vec.Vec.{Vec};
-ghost use Rattle.streams.specs.Bytes.{bytes_input, bytes_reading};
+ghost use Rattle.winnow.specs.Bytes.{bytes_input, bytes_reading};
 ghost use Rattle.uses_lines.specs.InWords.{IsLetter, LetterLines, SameLetters};
 ghost use Rattle.uses_lines.specs.Lines.{AreLines, IsLine, line_takes, unique_line};
-ghost use Rattle.winnow_core.specs.Exact.{Reads};
-ghost use Rattle.winnow_core.specs.Exact.Whole.{ReadsAll};
-ghost use Rattle.grammars.specs.Texts.{NotFirst};
-ghost use Rattle.winnow_exact.specs.Back.{ReadsBack};
-ghost use Rattle.winnow_exact.specs.Told.{IsTextOf, ReadsText};
+ghost use Rattle.winnow.specs.Exact.{Reads};
+ghost use Rattle.winnow.specs.Exact.Whole.{ReadsAll};
+ghost use Rattle.winnow.specs.Texts.{NotFirst};
+ghost use Rattle.winnow.specs.Back.{ReadsBack};
+ghost use Rattle.winnow.specs.Told.{IsTextOf, ReadsText};
 
 use std::alloc::Allocator;
-use stream_errors::empty::EmptyError;
-use stream_errors::fault::ParseFault;
-use stream_errors::mode::ErrMode;
-use stream_errors::parser_error::ParserError;
-use stream_sets::range::Range;
-use streams::has_kind::HasKind;
-use winnow_comb::combinator::{alt, terminated};
-use winnow_core::exact::Exact;
-use winnow_exact::rule::Rule;
-use winnow_repeat::combinator::repeat;
+use winnow::combinator::{alt, repeat, terminated};
+use winnow::error::{EmptyError, ErrMode, HasKind, ParseFault, ParserError};
+use winnow::exact::{Exact, Rule};
+use winnow::stream::Range;
 
 /// A line: a `y` or an `n`, and a line feed. It answers the letter.
 ///

@@ -3,30 +3,30 @@ use Rattle.std.specs.Prelude.{◌≡◌, ◌⊎◌, ◌^◌, ℕ, zero, suc, Lis
 use Rattle.std.specs.Prelude.{Result}
 use Rattle.std.specs.declared.vec.Vec.{Vec}
 use Rattle.std.proofs.Common.{refl, sym, subst, inl, inr, ◌∙◌, arith}
-use Rattle.streams.specs.Counted.{counted_reading}
-use Rattle.streams.specs.Equal.{same_first}
-use Rattle.streams.specs.Input.{Input}
-use Rattle.streams.specs.Kind.{Kind}
-use Rattle.streams.specs.declared.needed.Needed.{Needed}
-use Rattle.stream_errors.specs.Form.{marked_kind}
-use Rattle.stream_errors.specs.Mode.{mode_kind}
-use Rattle.stream_errors.specs.declared.empty.EmptyError.{EmptyError}
-use Rattle.stream_errors.specs.declared.mode.ErrMode.{ErrMode}
-use Rattle.stream_sets.specs.Range.{from_to}
-use Rattle.winnow_core.specs.Exact.{Reads}
-use Rattle.winnow_numbers.specs.Numeral.Exact.{decimal_takes, decimal_unique}
-use Rattle.winnow_exact.specs.Read.{reads_former, reads_other}
-use Rattle.grammars.specs.Grammar.{Either, Gathered, Grammar, IsUnique, Made, NoneStands}
-use Rattle.grammars.specs.Grammar.{Parted, Takes, Three}
-use Rattle.grammars.specs.Grammar.Known.{Byte, byte_stands, byte_takes, byte_unique}
-use Rattle.grammars.specs.Grammar.Meaning.{Meaning, meaning_takes, meaning_unique}
-use Rattle.winnow_numbers.specs.Numeral.Grammar.{Decimal}
-use Rattle.grammars.specs.Grammar.Sequences.{three_take, three_unique}
-use Rattle.grammars.specs.Grammar.Unique.{either_takes, either_unique, gathered_unique}
-use Rattle.grammars.specs.Grammar.Unique.{parted_unique}
-use Rattle.grammars.specs.Texts.{NotFirst}
-use Rattle.winnow_numbers.specs.Decimal.{IsDecimalOf}
-use Rattle.winnow_numbers.specs.Digits.Known.{same_characters}
+use Rattle.winnow.specs.Counted.{counted_reading}
+use Rattle.winnow.specs.Equal.{same_first}
+use Rattle.winnow.specs.Input.{Input}
+use Rattle.winnow.specs.Kind.{Kind}
+use Rattle.winnow.specs.{Needed}
+use Rattle.winnow.specs.Form.{marked_kind}
+use Rattle.winnow.specs.Mode.{mode_kind}
+use Rattle.winnow.specs.{EmptyError}
+use Rattle.winnow.specs.{ErrMode}
+use Rattle.winnow.specs.Range.{from_to}
+use Rattle.winnow.specs.Exact.{Reads}
+use Rattle.winnow.specs.Numeral.Exact.{decimal_takes, decimal_unique}
+use Rattle.winnow.specs.Read.{reads_former, reads_other}
+use Rattle.winnow.specs.Grammar.{Either, Gathered, Grammar, IsUnique, Made, NoneStands}
+use Rattle.winnow.specs.Grammar.{Parted, Takes, Three}
+use Rattle.winnow.specs.Grammar.Known.{Byte, byte_stands, byte_takes, byte_unique}
+use Rattle.winnow.specs.Grammar.Meaning.{Meaning, meaning_takes, meaning_unique}
+use Rattle.winnow.specs.Numeral.Grammar.{Decimal}
+use Rattle.winnow.specs.Grammar.Sequences.{three_take, three_unique}
+use Rattle.winnow.specs.Grammar.Unique.{either_takes, either_unique, gathered_unique}
+use Rattle.winnow.specs.Grammar.Unique.{parted_unique}
+use Rattle.winnow.specs.Texts.{NotFirst}
+use Rattle.winnow.specs.Decimal.{IsDecimalOf}
+use Rattle.winnow.specs.Digits.Known.{same_characters}
 use Rattle.uses_nested.specs.declared.Tree.{Tree}
 use Rattle.uses_nested.specs.declared.Tree as trees
 

@@ -5,27 +5,21 @@
 #![tactic(auto)]
 
 ghost use Rattle.std.specs.Prelude.{◌≡◌, ◌⊎◌, ◌<◌, false, IsTrue, ⊤};
-ghost use Rattle.streams.specs.Bytes.{bytes_input, bytes_reading};
+ghost use Rattle.winnow.specs.Bytes.{bytes_input, bytes_reading};
 ghost use Rattle.uses_nested.specs.Trees.{AreElements, IsLeaf, IsTree, Opens, no_memory_kind};
 ghost use Rattle.uses_nested.specs.Trees.{tree_takes, tree_unique};
-ghost use Rattle.winnow_core.specs.Exact.{Reads};
-ghost use Rattle.winnow_exact.specs.Rule.{CallsRead};
-ghost use Rattle.grammars.specs.Texts.{NotFirst};
+ghost use Rattle.winnow.specs.Exact.{Reads};
+ghost use Rattle.winnow.specs.Rule.{CallsRead};
+ghost use Rattle.winnow.specs.Texts.{NotFirst};
 ghost use Rattle.std.specs.Fn.{CalledAtMut};
 
 use std::alloc::Allocator;
-use stream_errors::empty::EmptyError;
-use stream_errors::mode::ErrMode;
-use stream_errors::parser_error::ParserError;
-use stream_sets::range::Range;
-use streams::has_kind::HasKind;
-use streams::stream::Stream;
-use winnow_comb::combinator::delimited;
-use winnow_core::exact::Exact;
-use winnow_exact::rule::{By, Rule};
-use winnow_numbers::ascii::impls::DecUint;
-use winnow_separated::combinator::impls::Separated;
-use winnow_separated::combinator::separated;
+use winnow::ascii::impls::DecUint;
+use winnow::combinator::impls::Separated;
+use winnow::combinator::{delimited, separated};
+use winnow::error::{EmptyError, ErrMode, HasKind, ParserError};
+use winnow::exact::{By, Exact, Rule};
+use winnow::stream::{Range, Stream};
 
 /// A number, or trees in brackets.
 #[derive(Drop)]

@@ -2,12 +2,12 @@
 use Rattle.std.specs.Prelude.{◌≡◌, ℕ, List, Option, None}
 use Rattle.std.specs.Borrow.{Bor}
 use Rattle.std.specs.declared.vec.Vec.{Vec}
-use Rattle.streams.specs.Counted.{counted_reading}
-use Rattle.streams.specs.Reading.{Reading}
-use Rattle.stream_sets.specs.AsChar.{IsAlpha, IsAlphanum}
-use Rattle.stream_sets.specs.Range.{from_to}
-use Rattle.grammars.specs.Grammar.{Both, Class, Gathered, Grammar, Maybe, Parted, Three}
-use Rattle.grammars.specs.Grammar.Known.{Byte}
+use Rattle.winnow.specs.Counted.{counted_reading}
+use Rattle.winnow.specs.Reading.{Reading}
+use Rattle.winnow.specs.AsChar.{IsAlpha, IsAlphanum}
+use Rattle.winnow.specs.Range.{from_to}
+use Rattle.winnow.specs.Grammar.{Both, Class, Gathered, Grammar, Maybe, Parted, Three}
+use Rattle.winnow.specs.Grammar.Known.{Byte}
 
 module _ {K T L : Type 0} (reading : Reading T L) (seen : K → T) (code : K → ℕ)
     (literal : ℕ → Grammar T ℕ) where

@@ -3,28 +3,20 @@
 #![tactic(auto)]
 
 ghost use Rattle.std.specs.Prelude.{◌≡◌, []};
-ghost use Rattle.stream_errors.specs.Form.{modal};
-ghost use Rattle.streams.specs.Bytes.{bytes_follow, bytes_input, bytes_reading};
+ghost use Rattle.winnow.specs.Form.{modal};
+ghost use Rattle.winnow.specs.Bytes.{bytes_follow, bytes_input, bytes_reading};
 ghost use Rattle.uses_options.specs.Options.{AreOptions, OptionsOf};
-ghost use Rattle.winnow_core.specs.Exact.{Reads};
-ghost use Rattle.winnow_exact.specs.Cut.{ReadsOrAsks};
-ghost use Rattle.stream_sets.specs.Once.{SeesApart};
-ghost use Rattle.grammars.specs.Grammar.{Literally};
+ghost use Rattle.winnow.specs.Exact.{Reads};
+ghost use Rattle.winnow.specs.Cut.{ReadsOrAsks};
+ghost use Rattle.winnow.specs.Once.{SeesApart};
+ghost use Rattle.winnow.specs.Grammar.{Literally};
 
 use std::alloc::Allocator;
-use stream_errors::empty::EmptyError;
-use stream_errors::mode::ErrMode;
-use stream_errors::parser_error::ParserError;
-use stream_searches::compare::Compare;
-use stream_sets::as_char::AsChar;
-use stream_sets::range::Range;
-use streams::has_kind::HasKind;
-use streams::partial::Partial;
-use streams::stream::{Stream, StreamIsPartial};
-use winnow_ascii::ascii::impls::{Alpha1, Alphanumeric1};
-use winnow_comb::combinator::{delimited, opt, preceded};
-use winnow_exact::pieces::ReadsPieces;
-use winnow_separated::combinator::separated;
+use winnow::ascii::impls::{Alpha1, Alphanumeric1};
+use winnow::combinator::{delimited, opt, preceded, separated};
+use winnow::error::{EmptyError, ErrMode, HasKind, ParserError};
+use winnow::exact::ReadsPieces;
+use winnow::stream::{AsChar, Compare, Partial, Range, Stream, StreamIsPartial};
 
 /// Options in brackets, from any stream of bytes.
 fn options<I, E, A>(alloc: A, input: &mut I) -> Result<Vec<(I::Slice, Option<I::Slice>), A>, E>
@@ -71,9 +63,9 @@ pub fn read_options<'i, A: Allocator + Copy>(
 /// whatever follows. Else it asks for more, by `Incomplete`.
 ///
 /// ```
-/// use stream_errors::mode::ErrMode;
-/// use streams::partial::Partial;
 /// use uses_options::read_options_in_pieces;
+/// use winnow::error::ErrMode;
+/// use winnow::stream::Partial;
 ///
 /// let mut piece = Partial::new(b"[mode=fast".as_slice());
 /// let asks = read_options_in_pieces(alloc, &mut piece);

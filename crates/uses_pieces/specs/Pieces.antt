@@ -2,8 +2,8 @@
 use Rattle.std.specs.Prelude.{◌≡◌, ℕ, List}
 use Rattle.std.specs.Borrow.{Bor}
 use Rattle.std.proofs.Common.{sym, ◌∙◌}
-use Rattle.streams.specs.Bytes.{bytes_reading}
-use Rattle.winnow_core.specs.Literal.Laws.{ShowSame}
+use Rattle.winnow.specs.Bytes.{bytes_reading}
+use Rattle.winnow.specs.Literal.Laws.{ShowSame}
 
 -- Settings of the same name and value.
 abbrev pub SameSettings : Bor (List ℕ) × ℕ × Bor (List ℕ) → Bor (List ℕ) × ℕ × Bor (List ℕ)

@@ -6,19 +6,15 @@
 #![tactic(auto)]
 
 ghost use Rattle.std.specs.Prelude.{◌≡◌, true};
-ghost use Rattle.stream_errors.specs.Form.{answer_by, modal};
+ghost use Rattle.winnow.specs.Form.{answer_by, modal};
 ghost use Rattle.uses_pieces.specs.Pieces.{SameSettings};
-ghost use Rattle.winnow_exact.specs.ForGood.{IsForGood};
+ghost use Rattle.winnow.specs.ForGood.{IsForGood};
 
-use stream_errors::empty::EmptyError;
-use stream_errors::mode::ErrMode;
-use stream_errors::parser_error::ParserError;
-use streams::has_kind::HasKind;
-use streams::partial::Partial;
-use streams::stream::Stream;
-use winnow_ascii::ascii::impls::{Alpha1, Digit1};
-use winnow_core::parser::Parser;
-use winnow_exact::for_good::parse_for_good;
+use winnow::Parser;
+use winnow::ascii::impls::{Alpha1, Digit1};
+use winnow::decided::parse_for_good;
+use winnow::error::{EmptyError, ErrMode, HasKind, ParserError};
+use winnow::stream::{Partial, Stream};
 
 /// A piece of bytes, as clauses name it.
 type Bytes = Partial<&'static [u8]>;
@@ -32,8 +28,8 @@ type Setting = (&'static [u8], u8, &'static [u8]);
 /// A name, an equals sign and digits, at the beginning of a cut input of bytes.
 ///
 /// ```
-/// use streams::partial::Partial;
 /// use uses_pieces::read_setting;
+/// use winnow::stream::Partial;
 ///
 /// let mut input = Partial::new(b"width=12;".as_slice());
 /// let answer = read_setting(&mut input);

@@ -7,30 +7,30 @@ use Rattle.std.proofs.Common.{refl, sym, ap, subst, inl, inr, ◌∙◌, arith, 
 use Rattle.std.proofs.lemmas.Bool.{eq-eqb, eqb-true}
 use Rattle.std.proofs.lemmas.List.{append-nil, nil_from_length}
 use Rattle.std.proofs.lemmas.List.Elements.{All-from_recursion, recursion_from_All}
-use Rattle.streams.specs.Bytes.{bytes_follow, bytes_reading}
-use Rattle.streams.specs.Equal.{same_first, true_is_false}
-use Rattle.streams.specs.Input.{Input}
-use Rattle.streams.specs.Kind.{Kind, backtrack, memory}
-use Rattle.stream_errors.specs.Form.{modal}
-use Rattle.stream_sets.specs.AsChar.{IsDecDigit}
-use Rattle.stream_sets.specs.Range.{from_to}
-use Rattle.stream_sets.specs.Sets.{EitherTells}
-use Rattle.winnow_numbers.specs.Digits.{NoneFirst}
-use Rattle.winnow_numbers.specs.Numeral.Exact.{dec_int_exact}
-use Rattle.winnow_numbers.specs.Digits.Known.{own_characters, same_characters}
-use Rattle.grammars.specs.Grammar.Same.{Same}
-use Rattle.grammars.specs.Grammar.{Both, Counted, Grammar, IsUnique, Literally, Longest}
-use Rattle.grammars.specs.Grammar.{NoneStands}
-use Rattle.stream_sets.specs.Once.{Others}
-use Rattle.grammars.specs.Grammar.{Token}
-use Rattle.grammars.specs.Grammar.Known.{slice_for}
-use Rattle.winnow_numbers.specs.Numeral.Grammar.{SignedDecimal}
-use Rattle.grammars.specs.Grammar.Searches as searches
-use Rattle.grammars.specs.Texts.{Anything, IsGrammarOf, Members, NotFirst, Text}
-use Rattle.grammars.specs.Texts.Tokens.{counted_of, divides_either, divides_others}
-use Rattle.grammars.specs.Texts.Tokens.{divides_seen}
-use Rattle.grammars.specs.Texts.Tokens.{divides_where, longest_of}
-use Rattle.winnow_exact.specs.InTurn.{Failed, First, Stood, failed_as, stood_as, wanting}
+use Rattle.winnow.specs.Bytes.{bytes_follow, bytes_reading}
+use Rattle.winnow.specs.Equal.{same_first, true_is_false}
+use Rattle.winnow.specs.Input.{Input}
+use Rattle.winnow.specs.Kind.{Kind, backtrack, memory}
+use Rattle.winnow.specs.Form.{modal}
+use Rattle.winnow.specs.AsChar.{IsDecDigit}
+use Rattle.winnow.specs.Range.{from_to}
+use Rattle.winnow.specs.Sets.{EitherTells}
+use Rattle.winnow.specs.Digits.{NoneFirst}
+use Rattle.winnow.specs.Numeral.Exact.{dec_int_exact}
+use Rattle.winnow.specs.Digits.Known.{own_characters, same_characters}
+use Rattle.winnow.specs.Grammar.Same.{Same}
+use Rattle.winnow.specs.Grammar.{Both, Counted, Grammar, IsUnique, Literally, Longest}
+use Rattle.winnow.specs.Grammar.{NoneStands}
+use Rattle.winnow.specs.Once.{Others}
+use Rattle.winnow.specs.Grammar.{Token}
+use Rattle.winnow.specs.Grammar.Known.{slice_for}
+use Rattle.winnow.specs.Numeral.Grammar.{SignedDecimal}
+use Rattle.winnow.specs.Grammar.Searches as searches
+use Rattle.winnow.specs.Texts.{Anything, IsGrammarOf, Members, NotFirst, Text}
+use Rattle.winnow.specs.Texts.Tokens.{counted_of, divides_either, divides_others}
+use Rattle.winnow.specs.Texts.Tokens.{divides_seen}
+use Rattle.winnow.specs.Texts.Tokens.{divides_where, longest_of}
+use Rattle.winnow.specs.InTurn.{Failed, First, Stood, failed_as, stood_as, wanting}
 use Rattle.uses_resp.specs.Read.{integer_splits, one_line, signed_plain}
 use Rattle.uses_resp.specs.declared.leaves.Mark.TheVariants.{Colon, Dollar, Minus, Plus, Star}
 use Rattle.uses_resp.specs.Resp.{DataText, Ended, IntegerText, LineText, MarkText, SignedText}

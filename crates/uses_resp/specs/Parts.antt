@@ -16,8 +16,8 @@ use Rattle.uses_resp.specs.declared.reply.Reply.TheViews.{out-roll-Reply, rolls-
 use Rattle.uses_resp.specs.declared.reply.Reply.TheViews.{rolls-Error, rolls-Integer}
 use Rattle.uses_resp.specs.declared.reply.Reply.TheViews.{rolls-NullArray}
 use Rattle.uses_resp.specs.declared.reply.Reply.TheViews.{rolls-NullBulk, rolls-Simple}
-use Rattle.winnow_exact.specs.InTurn.{First, Led}
-use Rattle.grammars.specs.Texts.{Members, Row, SoMany}
+use Rattle.winnow.specs.InTurn.{First, Led}
+use Rattle.winnow.specs.Texts.{Members, Row, SoMany}
 
 -- no line feed
 abbrev pub NoFeed : List ℕ → Type 0

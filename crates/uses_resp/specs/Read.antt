@@ -8,23 +8,23 @@ use Rattle.std.specs.List.{AllByRecursion}
 use Rattle.std.specs.declared.vec.Vec.{Vec}
 use Rattle.std.proofs.Common.{refl, sym, ap, subst, inl, inr, ◌∙◌, arith, append_assoc}
 use Rattle.std.proofs.lemmas.List.Elements.{recursion_from_All}
-use Rattle.streams.specs.Bytes.{bytes_follow, bytes_reading}
-use Rattle.streams.specs.Equal.{none_is_some, same_first, same_others}
-use Rattle.streams.specs.Following.{Following}
-use Rattle.streams.specs.Input.{Input, is_end_of_refl}
-use Rattle.streams.specs.Kind.{Kind, backtrack}
-use Rattle.streams.specs.Reading.{Reading}
-use Rattle.stream_errors.specs.Growth.{grown}
-use Rattle.grammars.specs.Grammar.{IsUnique}
-use Rattle.stream_sets.specs.AsChar.{IsDecDigit}
-use Rattle.winnow_numbers.specs.Decimal.{IsDecimalOf, IsSignedDecimalOf}
-use Rattle.winnow_numbers.specs.Digits.{value_in}
-use Rattle.grammars.specs.Grammar.Lengths.{same_beginnings}
-use Rattle.grammars.specs.Grammar.Unique.{unique_by}
-use Rattle.grammars.specs.Texts.{Members, SoMany, Text}
-use Rattle.winnow_exact.specs.InTurn.{Failed, First, Splits, Stood, failed_as, led_unique, refused}
-use Rattle.winnow_exact.specs.InTurn.{stood_as}
-use Rattle.winnow_exact.specs.InTurn.Rows.{RowOf, row_unique}
+use Rattle.winnow.specs.Bytes.{bytes_follow, bytes_reading}
+use Rattle.winnow.specs.Equal.{none_is_some, same_first, same_others}
+use Rattle.winnow.specs.Following.{Following}
+use Rattle.winnow.specs.Input.{Input, is_end_of_refl}
+use Rattle.winnow.specs.Kind.{Kind, backtrack}
+use Rattle.winnow.specs.Reading.{Reading}
+use Rattle.winnow.specs.Growth.{grown}
+use Rattle.winnow.specs.Grammar.{IsUnique}
+use Rattle.winnow.specs.AsChar.{IsDecDigit}
+use Rattle.winnow.specs.Decimal.{IsDecimalOf, IsSignedDecimalOf}
+use Rattle.winnow.specs.Digits.{value_in}
+use Rattle.winnow.specs.Grammar.Lengths.{same_beginnings}
+use Rattle.winnow.specs.Grammar.Unique.{unique_by}
+use Rattle.winnow.specs.Texts.{Members, SoMany, Text}
+use Rattle.winnow.specs.InTurn.{Failed, First, Splits, Stood, failed_as, led_unique, refused}
+use Rattle.winnow.specs.InTurn.{stood_as}
+use Rattle.winnow.specs.InTurn.Rows.{RowOf, row_unique}
 use Rattle.uses_resp.specs.Resp.{ArrayBehind, Body, BulkBehind, DataText, Elements, Ended, InLine}
 use Rattle.uses_resp.specs.Resp.{IsSize, SignedText, byte_of, line_end}
 use Rattle.uses_resp.specs.Resp.{IntegerText, LineText, MarkText, Replies, ReplyText, SizeText}

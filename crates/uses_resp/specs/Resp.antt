@@ -4,10 +4,10 @@ use Rattle.std.specs.Prelude.{zero, suc, pos, neg_ℤ, FitsSigned, unsigned_abs}
 use Rattle.std.specs.Int.{FitsUnsignedBits, w64}
 use Rattle.std.specs.Borrow.{Bor}
 use Rattle.std.specs.declared.vec.Vec.{Vec}
-use Rattle.streams.specs.Bytes.{bytes_reading}
-use Rattle.winnow_numbers.specs.Decimal.{IsSignedDecimalOf}
-use Rattle.grammars.specs.Texts.{Members, Row, SoMany, Text}
-use Rattle.winnow_exact.specs.InTurn.{Led}
+use Rattle.winnow.specs.Bytes.{bytes_reading}
+use Rattle.winnow.specs.Decimal.{IsSignedDecimalOf}
+use Rattle.winnow.specs.Texts.{Members, Row, SoMany, Text}
+use Rattle.winnow.specs.InTurn.{Led}
 use Rattle.uses_resp.specs.declared.leaves.Mark.{Mark}
 use Rattle.uses_resp.specs.declared.leaves.Mark.TheVariants.{Colon, Dollar, Minus, Plus, Star}
 use Rattle.uses_resp.specs.declared.reply.Reply.{Reply}

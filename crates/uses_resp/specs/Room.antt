@@ -2,8 +2,8 @@
 use Rattle.std.specs.Prelude.{◌≡◌, [], Some, Result, Ok, Err, IfOk}
 use Rattle.std.specs.declared.vec.Vec.{Vec}
 use Rattle.std.proofs.Common.{subst}
-use Rattle.streams.specs.Equal.{none_is_some, same_some}
-use Rattle.stream_errors.specs.Growth.{grown}
+use Rattle.winnow.specs.Equal.{none_is_some, same_some}
+use Rattle.winnow.specs.Growth.{grown}
 
 -- nothing yet
 pub roomy : {T A E : Type 0} (r : Result (Vec T A) E) {list : Vec T A}

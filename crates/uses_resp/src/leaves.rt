@@ -2,22 +2,18 @@
 
 ghost use Rattle.std.specs.Int.{w64};
 ghost use Rattle.std.specs.Prelude.{FitsSigned, IfOk};
-ghost use Rattle.streams.specs.Bytes.{bytes_follow, bytes_input, bytes_reading};
-ghost use Rattle.winnow_core.specs.Exact.{Reads};
-ghost use Rattle.winnow_exact.specs.Cut.{ReadsOrAsks};
-ghost use Rattle.winnow_exact.specs.InTurn.{First};
+ghost use Rattle.winnow.specs.Bytes.{bytes_follow, bytes_input, bytes_reading};
+ghost use Rattle.winnow.specs.Exact.{Reads};
+ghost use Rattle.winnow.specs.Cut.{ReadsOrAsks};
+ghost use Rattle.winnow.specs.InTurn.{First};
 ghost use Rattle.uses_resp.specs.Leaves.{SignedRead};
 ghost use Rattle.uses_resp.specs.Resp.{DataText, IntegerText, LineText, MarkText, SizeText};
 
 use crate::pieces::{line, token, tokens};
-use stream_errors::empty::EmptyError;
-use stream_errors::mode::ErrMode;
-use stream_errors::parser_error::ParserError;
-use streams::has_kind::HasKind;
-use streams::partial::Partial;
-use streams::stream::Stream;
-use winnow_core::exact::Exact;
-use winnow_numbers::ascii::impls::DecInt;
+use winnow::ascii::impls::DecInt;
+use winnow::error::{EmptyError, ErrMode, HasKind, ParserError};
+use winnow::exact::Exact;
+use winnow::stream::{Partial, Stream};
 
 type Bytes = Partial<&'static [u8]>;
 

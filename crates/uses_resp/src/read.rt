@@ -1,9 +1,9 @@
 //! The reader of replies.
 
 ghost use Rattle.std.specs.Prelude.{ℕ};
-ghost use Rattle.streams.specs.Bytes.{bytes_follow, bytes_reading};
-ghost use Rattle.winnow_exact.specs.Cut.{ReadsOrAsks};
-ghost use Rattle.winnow_exact.specs.InTurn.{First, Led};
+ghost use Rattle.winnow.specs.Bytes.{bytes_follow, bytes_reading};
+ghost use Rattle.winnow.specs.Cut.{ReadsOrAsks};
+ghost use Rattle.winnow.specs.InTurn.{First, Led};
 ghost use Rattle.uses_resp.specs.Resp.{ArrayBehind, BulkBehind, Elements, For, IntegerText};
 ghost use Rattle.uses_resp.specs.Resp.{ReplyText, SizeText};
 ghost use Rattle.uses_resp.specs.declared.reply.Reply as reply;
@@ -11,13 +11,8 @@ ghost use Rattle.uses_resp.specs.declared.reply.Reply as reply;
 use crate::leaves::{Mark, read_data, read_integer, read_line, read_mark, read_size};
 use crate::reply::Reply;
 use std::alloc::Allocator;
-use stream_errors::empty::EmptyError;
-use stream_errors::growth::OrNoMemory;
-use stream_errors::mode::ErrMode;
-use stream_errors::parser_error::ParserError;
-use streams::has_kind::HasKind;
-use streams::partial::Partial;
-use streams::stream::Stream;
+use winnow::error::{EmptyError, ErrMode, HasKind, OrNoMemory, ParserError};
+use winnow::stream::{Partial, Stream};
 
 type Bytes = Partial<&'static [u8]>;
 
@@ -94,9 +89,9 @@ fn read_array<'i, A: Allocator + Copy>(
 /// start, with more of it there.
 ///
 /// ```
-/// use streams::partial::Partial;
 /// use uses_resp::read::read_reply;
 /// use uses_resp::reply::Reply;
+/// use winnow::stream::Partial;
 ///
 /// let mut input = Partial::new(b"*2\r\n$3\r\nfoo\r\n:7\r\n+".as_slice());
 /// let reply = read_reply(alloc, 1, &mut input);

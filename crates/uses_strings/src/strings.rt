@@ -1,12 +1,11 @@
 //! Words with escapes, as they stand and as what they stand for.
 
 use std::alloc::Global;
-use stream_errors::empty::EmptyError;
-use stream_errors::mode::ErrMode;
-use winnow_ascii::ascii::impls::Alpha1;
-use winnow_core::parser::Parser;
-use winnow_escapes::ascii::{escaped, take_escaped};
-use winnow_token::token::one_of;
+use winnow::Parser;
+use winnow::ascii::impls::Alpha1;
+use winnow::ascii::{escaped, take_escaped};
+use winnow::error::{EmptyError, ErrMode};
+use winnow::token::one_of;
 
 /// Letters, and quotes and backslashes behind a backslash, as they stand.
 pub fn as_it_stands<'i>(input: &mut &'i str) -> Result<&'i str, ErrMode<EmptyError>> {

@@ -11,14 +11,22 @@ pub use Rattle.stream_sets.specs.declared.range.Range.{Range}
 pub use Rattle.stream_searches.specs.declared.compare.CompareResult.{CompareResult}
 pub use Rattle.stream_searches.specs.declared.compare.CompareResult.TheVariants as
     CompareResultCases
+pub use Rattle.stream_errors.specs.declared.empty.EmptyError.{EmptyError}
 pub use Rattle.stream_errors.specs.declared.fault.ParseError.{ParseError}
 pub use Rattle.stream_errors.specs.declared.fault.ParseFault.{ParseFault}
 pub use Rattle.stream_errors.specs.declared.fault.ParseFault.TheVariants as ParseFaultCases
 pub use Rattle.stream_errors.specs.declared.mode.ErrMode.{ErrMode}
 pub use Rattle.stream_errors.specs.declared.mode.ErrMode.TheVariants as ErrModeCases
+pub use Rattle.winnow_core.specs.declared.combinator.impls.value.Value.{Value}
+pub use Rattle.winnow_comb.specs.declared.combinator.impls.alt.AltParser.{AltParser}
+pub use Rattle.winnow_expression.specs.declared.combinator.operators.Infix.{Infix}
+pub use Rattle.winnow_expression.specs.declared.combinator.operators.Infix.TheVariants as InfixCases
+pub use Rattle.winnow_expression.specs.declared.combinator.operators.Postfix.{Postfix}
+pub use Rattle.winnow_expression.specs.declared.combinator.operators.Prefix.{Prefix}
 pub use Rattle.winnow_integers.specs.declared.binary.endianness.Endianness.{Endianness}
 pub use Rattle.winnow_integers.specs.declared.binary.endianness.Endianness.TheVariants as
     EndiannessCases
+pub use Rattle.text_positions.specs.declared.Position.{Position}
 -- Modules whose names here are others, since two crates have the same.
 pub use Rattle.winnow_core.specs.Ends as EndsOfRuns
 pub use Rattle.winnow_core.specs.Take as TakeAdapter

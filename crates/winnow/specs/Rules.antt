@@ -1,5 +1,6 @@
 -- Lemmas and rulesets that callers name in `using(..)`.
 pub use Rattle.streams.specs.Ends.{ends_follow}
+pub use Rattle.stream_errors.specs.Given.{contexts_kept}
 pub use Rattle.winnow_core.specs.Laws.{run_of_like}
 -- What stands below is written by scripts/registries.py: do not edit.
 pub use Rattle.stream_sets.specs.Accumulator.Known.{known_accumulators}

@@ -5,18 +5,18 @@ use Rattle.std.specs.Prelude.{Some, None}
 use Rattle.std.specs.declared.string.String.{String}
 use Rattle.std.specs.List.{All}
 use Rattle.std.proofs.Common.{refl, sym, ap, subst, inl, inr, ◌∙◌, arith, append_assoc}
-use Rattle.stream_sets.specs.AsChar.{IsDecDigit, IsMultispace}
-use Rattle.stream_sets.specs.Range.{from_to}
-use Rattle.grammars.specs.Grammar.Same.{Same}
-use Rattle.grammars.specs.Grammar.{Both, Grammar, Three}
-use Rattle.grammars.specs.Texts.{Anything, Begins, BeginsIn, InFront, InList}
-use Rattle.grammars.specs.Texts.{IsGrammarOf}
-use Rattle.grammars.specs.Texts.{Joined, NotFirst, Spelled, Text}
-use Rattle.grammars.specs.Texts.Fronts.{among_front, begins_wider, front_any, front_begins}
-use Rattle.grammars.specs.Texts.Fronts.{may_begin, none_begins, not_first}
-use Rattle.grammars.specs.Texts.Fronts.{spelled_begins, then_front}
-use Rattle.grammars.specs.Texts.Parts.{behind_less, both_of, either_apart, same_of}
-use Rattle.grammars.specs.Texts.Rows.{list_of, parted_of}
+use Rattle.winnow.specs.AsChar.{IsDecDigit, IsMultispace}
+use Rattle.winnow.specs.Range.{from_to}
+use Rattle.winnow.specs.Grammar.Same.{Same}
+use Rattle.winnow.specs.Grammar.{Both, Grammar, Three}
+use Rattle.winnow.specs.Texts.{Anything, Begins, BeginsIn, InFront, InList}
+use Rattle.winnow.specs.Texts.{IsGrammarOf}
+use Rattle.winnow.specs.Texts.{Joined, NotFirst, Spelled, Text}
+use Rattle.winnow.specs.Texts.Fronts.{among_front, begins_wider, front_any, front_begins}
+use Rattle.winnow.specs.Texts.Fronts.{may_begin, none_begins, not_first}
+use Rattle.winnow.specs.Texts.Fronts.{spelled_begins, then_front}
+use Rattle.winnow.specs.Texts.Parts.{behind_less, both_of, either_apart, same_of}
+use Rattle.winnow.specs.Texts.Rows.{list_of, parted_of}
 use Rattle.json_texts.specs.Number.{GoesOn, number_begins}
 use Rattle.json_texts.specs.Number.{number_of}
 use Rattle.json_texts.specs.Strings.{Quoted, string_begins, string_of}

@@ -6,8 +6,8 @@ ghost use Rattle.readers_calc.specs.Calculator.{StandsFor, StopsAt, TakesOne, be
 ghost use Rattle.readers_calc.specs.Calculator.{is_white, mark_at, number_from, pair_at, sign_at};
 
 use crate::calc::operators::{Mark, Pair, Sign, mark_of, pair_of, sign_of};
-use streams::stream::Stream;
-use winnow_expression::combinator::{Infix, Postfix, Prefix};
+use winnow::combinator::{Infix, Postfix, Prefix};
+use winnow::stream::Stream;
 
 /// Takes a digit, if one comes first.
 fn digit(input: &mut &str) -> Option<i64>

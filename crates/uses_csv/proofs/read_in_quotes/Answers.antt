@@ -1,8 +1,8 @@
 use Rattle.std.proofs.Common.{refl, sym, ◌∙◌}
-use Rattle.streams.specs.Equal.{true_is_false}
-use Rattle.streams.specs.Input.{is_end_of_trans, is_end_of_trans3}
+use Rattle.winnow.specs.Equal.{true_is_false}
+use Rattle.winnow.specs.Input.{is_end_of_trans, is_end_of_trans3}
 use Rattle.uses_csv.specs.Runs.{all_read, fewer_left, quote_read, run_read, unquoted_wants}
-use Rattle.winnow_exact.specs.Read.{reads_wanting}
+use Rattle.winnow.specs.Read.{reads_wanting}
 use Rattle.uses_csv.proofs.read_in_quotes.Goals as goal
 
 pub returns-in-Err-extend_from_slice : goal.returns-in-Err-extend_from_slice

@@ -1,9 +1,9 @@
 -- The list has the bytes up to here, and an end of the input is left.
 use Rattle.std.proofs.Common.{length}
-use Rattle.streams.specs.Bytes.{bytes_input, bytes_reading}
-use Rattle.streams.specs.Input.{IsEndOf}
+use Rattle.winnow.specs.Bytes.{bytes_input, bytes_reading}
+use Rattle.winnow.specs.Input.{IsEndOf}
 use Rattle.uses_csv.specs.Read.{InQuotesRead}
-use Rattle.grammars.specs.Grammar.{Each}
+use Rattle.winnow.specs.Grammar.{Each}
 use Rattle.uses_csv.proofs.read_in_quotes.Given as goal
 
 abbrev pub invariant-runs : goal.invariant-runs

@@ -1,5 +1,5 @@
 use Rattle.uses_csv.specs.Runs.{plain_kept, plain_wants}
-use Rattle.winnow_exact.specs.Read.{reads_wanting}
+use Rattle.winnow.specs.Read.{reads_wanting}
 use Rattle.uses_csv.proofs.read_plain.Goals as goal
 
 pub returns-in-Ok : goal.returns-in-Ok

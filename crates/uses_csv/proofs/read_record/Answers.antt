@@ -1,6 +1,6 @@
 use Rattle.uses_csv.specs.Read.{same_record}
-use Rattle.winnow_exact.specs.Read.{reads_by}
-use Rattle.winnow_core.specs.Exact.Same.{reads_as}
+use Rattle.winnow.specs.Read.{reads_by}
+use Rattle.winnow.specs.Exact.Same.{reads_as}
 use Rattle.uses_csv.proofs.read_record.Goals as goal
 
 pub returns : goal.returns

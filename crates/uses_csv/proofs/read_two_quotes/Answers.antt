@@ -1,5 +1,5 @@
 use Rattle.uses_csv.specs.Runs.{quotes_back, quotes_there}
-use Rattle.winnow_exact.specs.Read.{err_as, ok_as}
+use Rattle.winnow.specs.Read.{err_as, ok_as}
 use Rattle.uses_csv.proofs.read_two_quotes.Goals as goal
 
 pub returns-in-Ok : goal.returns-in-Ok

@@ -1,5 +1,5 @@
 use Rattle.std.proofs.Common.{refl, rules}
-use Rattle.winnow_core.specs.MakesError.Known.{makes_error_err, makes_error_ok}
+use Rattle.winnow.specs.MakesError.Known.{makes_error_err, makes_error_ok}
 use Rattle.uses_errors.proofs.LevelRuns.{colon_missing, colon_read, context_backtracks}
 use Rattle.uses_errors.proofs.read_colon.Goals as goal
 

@@ -1,7 +1,7 @@
 use Rattle.std.proofs.Common.{◌≡◌, None, Some, ap, inl, inr, of_calls, refl, rules}
-use Rattle.winnow_core.specs.MakesError.Known.{makes_error_err, makes_error_ok}
-use Rattle.winnow_core.specs.Settles.Known.{settles_err, settles_ok}
-use Rattle.winnow_core.specs.TryMap.Known.{try_map_failed, try_map_made}
+use Rattle.winnow.specs.MakesError.Known.{makes_error_err, makes_error_ok}
+use Rattle.winnow.specs.Settles.Known.{settles_err, settles_ok}
+use Rattle.winnow.specs.TryMap.Known.{try_map_failed, try_map_made}
 use Rattle.uses_errors.proofs.LevelRuns.{context_backtracks, given_backtracks, letter_missing}
 use Rattle.uses_errors.proofs.LevelRuns.{letter_read, letter_refused}
 use Rattle.uses_errors.specs.Lines.{level_at}

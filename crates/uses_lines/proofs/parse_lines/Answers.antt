@@ -1,10 +1,10 @@
 use Rattle.std.proofs.Common.{ap, ◌∙◌}
-use Rattle.stream_sets.specs.Range.{bounds_of}
+use Rattle.winnow.specs.Range.{bounds_of}
 use Rattle.uses_lines.specs.InWords.{lines_of, lines_one}
 use Rattle.uses_lines.specs.Lines.{same_lines}
-use Rattle.winnow_core.specs.Exact.Whole.{reads_all_as}
-use Rattle.winnow_exact.specs.Back.{reads_back}
-use Rattle.winnow_exact.specs.Told.{texts_told}
+use Rattle.winnow.specs.Exact.Whole.{reads_all_as}
+use Rattle.winnow.specs.Back.{reads_back}
+use Rattle.winnow.specs.Told.{texts_told}
 use Rattle.uses_lines.proofs.parse_lines.Goals as goal
 
 pub returns-clause-grammar : goal.returns-clause-grammar

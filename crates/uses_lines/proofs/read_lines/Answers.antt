@@ -1,9 +1,9 @@
 use Rattle.std.proofs.Common.{ap, ◌∙◌}
-use Rattle.stream_sets.specs.Range.{bounds_of}
+use Rattle.winnow.specs.Range.{bounds_of}
 use Rattle.uses_lines.specs.InWords.{lines_of}
 use Rattle.uses_lines.specs.Lines.{same_lines}
-use Rattle.winnow_core.specs.Exact.Same.{reads_as}
-use Rattle.winnow_exact.specs.Told.{text_told}
+use Rattle.winnow.specs.Exact.Same.{reads_as}
+use Rattle.winnow.specs.Told.{text_told}
 use Rattle.uses_lines.proofs.read_lines.Goals as goal
 
 pub returns-clause-grammar : goal.returns-clause-grammar

@@ -1,6 +1,6 @@
 use Rattle.std.proofs.Common.{refl, rules, arith}
 use Rattle.uses_nested.specs.Trees.{IsBranchOf, node_is_branch, node_is_leaf}
-use Rattle.winnow_exact.specs.Read.{reads_meaning, reads_no_meaning}
+use Rattle.winnow.specs.Read.{reads_meaning, reads_no_meaning}
 use Rattle.uses_nested.proofs.+fn-read_tree-element+read_tree.Goals as goal
 
 pub returns-then-not-opens : goal.returns-then-not-opens

@@ -1,7 +1,7 @@
 use Rattle.std.proofs.Common.{rules, ap, ◌∙◌}
-use Rattle.winnow_separated.specs.Separated.{separated_parser}
-use Rattle.winnow_exact.specs.Read.{reads_by}
-use Rattle.winnow_exact.specs.Rule.{reads_as_rule, run_as}
+use Rattle.winnow.specs.Separated.{separated_parser}
+use Rattle.winnow.specs.Read.{reads_by}
+use Rattle.winnow.specs.Rule.{reads_as_rule, run_as}
 use Rattle.uses_nested.proofs.read_elements.Given as given
 use Rattle.uses_nested.proofs.read_elements.Goals as goal
 

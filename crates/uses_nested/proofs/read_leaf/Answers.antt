@@ -1,6 +1,6 @@
 use Rattle.std.specs.Prelude.{◌≡◌}
 use Rattle.std.proofs.Common.{refl}
-use Rattle.winnow_exact.specs.Read.{reads_meaning, reads_no_meaning}
+use Rattle.winnow.specs.Read.{reads_meaning, reads_no_meaning}
 use Rattle.uses_nested.specs.declared.Tree as trees
 use Rattle.uses_nested.proofs.read_leaf.Goals as goal
 

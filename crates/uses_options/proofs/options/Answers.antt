@@ -1,4 +1,4 @@
-use Rattle.winnow_exact.specs.InTurn.{told_by}
+use Rattle.winnow.specs.InTurn.{told_by}
 use Rattle.uses_options.proofs.options.Goals as goal
 
 pub returns : goal.returns

@@ -1,5 +1,5 @@
 use Rattle.uses_pieces.specs.Pieces.{same_bytes}
-use Rattle.winnow_exact.specs.ForGood.{for_good_as}
+use Rattle.winnow.specs.ForGood.{for_good_as}
 use Rattle.uses_pieces.proofs.read_setting.Goals as goal
 
 pub parse_for_good-requires-clause-premise : goal.parse_for_good-requires-clause-premise

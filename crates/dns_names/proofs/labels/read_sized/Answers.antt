@@ -1,4 +1,4 @@
-use Rattle.winnow_exact.specs.Read.{reads_by}
+use Rattle.winnow.specs.Read.{reads_by}
 use Rattle.dns_names.proofs.labels.read_sized.Goals as goal
 
 pub returns : goal.returns

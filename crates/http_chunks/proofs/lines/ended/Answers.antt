@@ -1,4 +1,4 @@
-use Rattle.winnow_exact.specs.InTurn.{told_by}
+use Rattle.winnow.specs.InTurn.{told_by}
 use Rattle.http_chunks.proofs.lines.ended.Goals as goal
 
 pub returns : goal.returns

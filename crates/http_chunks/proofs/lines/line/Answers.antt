@@ -1,4 +1,4 @@
-use Rattle.winnow_exact.specs.InTurn.{told_by}
+use Rattle.winnow.specs.InTurn.{told_by}
 use Rattle.http_heads.specs.Bytes.{IsValueByte}
 use Rattle.http_chunks.specs.Lines.{IsQuotedByte}
 use Rattle.http_chunks.specs.Read.{one_is}

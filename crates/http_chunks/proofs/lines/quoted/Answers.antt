@@ -1,4 +1,4 @@
-use Rattle.winnow_exact.specs.InTurn.{told_by}
+use Rattle.winnow.specs.InTurn.{told_by}
 use Rattle.http_heads.specs.Bytes.{IsTokenByte}
 use Rattle.http_chunks.specs.Read.{run_is}
 use Rattle.http_chunks.proofs.lines.quoted.Goals as goal

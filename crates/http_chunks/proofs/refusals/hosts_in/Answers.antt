@@ -3,7 +3,7 @@ use Rattle.std.specs.Char.{to_ascii_lowercase}
 use Rattle.http_chunks.proofs.Hosts.{host_next, none_left, other_next}
 use Rattle.http_chunks.specs.Refusals.{AreHosts}
 use Rattle.http_heads.specs.Head.{pair}
-use Rattle.streams.specs.Equal.{true_is_false}
+use Rattle.winnow.specs.Equal.{true_is_false}
 use Rattle.http_chunks.proofs.refusals.hosts_in.Goals as goal
 use Rattle.http_chunks.proofs.refusals.hosts_in.Goals.{else-eq_ignore_ascii_case}
 use Rattle.http_chunks.proofs.refusals.hosts_in.Goals.{then-eq_ignore_ascii_case}

@@ -1,6 +1,6 @@
 use Rattle.std.proofs.Common.{refl}
-use Rattle.winnow_exact.specs.Read.{ok_as}
-use Rattle.winnow_exact.specs.InTurn.{failed, failed_as, passed}
+use Rattle.winnow.specs.Read.{ok_as}
+use Rattle.winnow.specs.InTurn.{failed, failed_as, passed}
 use Rattle.http_chunks.specs.Written.{line_stands, no_line}
 use Rattle.http_chunks.proofs.size_line.read_size_line.Goals as goal
 

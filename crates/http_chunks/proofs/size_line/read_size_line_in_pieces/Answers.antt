@@ -1,5 +1,5 @@
 use Rattle.std.proofs.Common.{refl}
-use Rattle.winnow_exact.specs.InTurn.{failed, failed_as, passed, stood, stood_as, told_ok}
+use Rattle.winnow.specs.InTurn.{failed, failed_as, passed, stood, stood_as, told_ok}
 use Rattle.http_chunks.specs.Written.{line_stands, no_line}
 use Rattle.http_chunks.proofs.size_line.read_size_line_in_pieces.Goals as goal
 

@@ -1,7 +1,7 @@
 use Rattle.http_heads.specs.FieldRead.{field_back, field_there, pair_unique}
 use Rattle.http_heads.specs.Parts.{EndStands}
-use Rattle.winnow_exact.specs.Read.{err_as, ok_as}
-use Rattle.winnow_exact.specs.Steps.{first_err, second_err, steps_ok}
+use Rattle.winnow.specs.Read.{err_as, ok_as}
+use Rattle.winnow.specs.Steps.{first_err, second_err, steps_ok}
 use Rattle.http_heads.proofs.field_line.read_field_line.Goals as goal
 
 pub returns-in-Ok-read_line_end : goal.returns-in-Ok-read_line_end

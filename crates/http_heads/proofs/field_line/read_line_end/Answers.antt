@@ -1,5 +1,5 @@
 use Rattle.http_heads.specs.Parts.{end_back, end_there}
-use Rattle.winnow_exact.specs.Read.{err_as, ok_as}
+use Rattle.winnow.specs.Read.{err_as, ok_as}
 use Rattle.http_heads.proofs.field_line.read_line_end.Goals as goal
 
 pub returns-in-Ok : goal.returns-in-Ok

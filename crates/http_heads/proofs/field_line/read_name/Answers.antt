@@ -1,7 +1,7 @@
 use Rattle.http_heads.specs.Bytes.{IsTokenByte}
 use Rattle.http_heads.specs.FieldRead.{NameRead}
 use Rattle.http_heads.specs.Parts.{run_is}
-use Rattle.winnow_exact.specs.Read.{reads_by}
+use Rattle.winnow.specs.Read.{reads_by}
 use Rattle.http_heads.proofs.field_line.read_name.Goals as goal
 
 pub returns : goal.returns

@@ -1,5 +1,5 @@
 use Rattle.http_heads.specs.FieldRead.{ValueStands, name_unique}
-use Rattle.winnow_exact.specs.Steps.{first_err, second_err, steps_ok}
+use Rattle.winnow.specs.Steps.{first_err, second_err, steps_ok}
 use Rattle.http_heads.proofs.field_line.read_name_and_value.Goals as goal
 
 pub returns-in-Ok-read_value : goal.returns-in-Ok-read_value

@@ -1,7 +1,7 @@
 use Rattle.http_heads.specs.Bytes.{IsValueByte, IsWhite}
 use Rattle.http_heads.specs.FieldRead.{ValueRead, value_back, value_there}
 use Rattle.http_heads.specs.Parts.{run_is}
-use Rattle.winnow_exact.specs.Read.{err_as, ok_as, reads_by}
+use Rattle.winnow.specs.Read.{err_as, ok_as, reads_by}
 use Rattle.http_heads.proofs.field_line.read_value.Goals as goal
 
 pub returns-in-Ok : goal.returns-in-Ok

@@ -1,9 +1,9 @@
 -- Field lines were read, one behind the other, and an end of the input is left.
 use Rattle.std.proofs.Common.{length}
-use Rattle.streams.specs.Bytes.{bytes_input, bytes_reading}
-use Rattle.streams.specs.Input.{IsEndOf}
+use Rattle.winnow.specs.Bytes.{bytes_input, bytes_reading}
+use Rattle.winnow.specs.Input.{IsEndOf}
 use Rattle.http_heads.specs.FieldLine.{FieldLineStands}
-use Rattle.grammars.specs.Grammar.{Each}
+use Rattle.winnow.specs.Grammar.{Each}
 use Rattle.http_heads.proofs.head.read_field_lines.Given as goal
 
 abbrev pub invariant-lines : goal.invariant-lines

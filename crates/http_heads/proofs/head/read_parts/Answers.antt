@@ -1,8 +1,8 @@
 use Rattle.http_heads.specs.Head.{FieldsStand}
 use Rattle.http_heads.specs.HeadRead.{head_back, head_there}
-use Rattle.winnow_exact.specs.Read.{err_as, ok_as}
+use Rattle.winnow.specs.Read.{err_as, ok_as}
 use Rattle.http_heads.specs.RequestRead.{request_unique}
-use Rattle.winnow_exact.specs.Steps.{first_err, second_err, steps_ok}
+use Rattle.winnow.specs.Steps.{first_err, second_err, steps_ok}
 use Rattle.http_heads.proofs.head.read_parts.Goals as goal
 
 pub returns-in-Ok-read_fields : goal.returns-in-Ok-read_fields

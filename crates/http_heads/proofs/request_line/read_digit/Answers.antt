@@ -1,5 +1,5 @@
 use Rattle.std.proofs.Common.{refl}
-use Rattle.winnow_exact.specs.Read.{err_as, ok_as}
+use Rattle.winnow.specs.Read.{err_as, ok_as}
 use Rattle.http_heads.specs.RequestRead.{digit_back, digit_least, digit_there}
 use Rattle.http_heads.proofs.request_line.read_digit.Goals as goal
 

@@ -1,6 +1,6 @@
 use Rattle.http_heads.specs.Bytes.{IsTokenByte, IsVisible}
 use Rattle.http_heads.specs.Parts.{run_is}
-use Rattle.winnow_exact.specs.Read.{reads_by}
+use Rattle.winnow.specs.Read.{reads_by}
 use Rattle.http_heads.specs.RequestRead.{MethodTarget}
 use Rattle.http_heads.proofs.request_line.read_method_and_target.Goals as goal
 

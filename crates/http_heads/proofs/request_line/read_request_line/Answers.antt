@@ -1,6 +1,6 @@
-use Rattle.winnow_exact.specs.Read.{err_as, ok_as}
+use Rattle.winnow.specs.Read.{err_as, ok_as}
 use Rattle.http_heads.specs.RequestRead.{VersionStands, method_unique, request_back, request_there}
-use Rattle.winnow_exact.specs.Steps.{first_err, second_err, steps_ok}
+use Rattle.winnow.specs.Steps.{first_err, second_err, steps_ok}
 use Rattle.http_heads.proofs.request_line.read_request_line.Goals as goal
 
 pub returns-in-Ok-read_version : goal.returns-in-Ok-read_version

@@ -1,6 +1,6 @@
-use Rattle.winnow_exact.specs.Read.{reads_by}
+use Rattle.winnow.specs.Read.{reads_by}
 use Rattle.http_heads.specs.RequestRead.{VersionRead, same_version}
-use Rattle.winnow_core.specs.Exact.Same.{reads_as}
+use Rattle.winnow.specs.Exact.Same.{reads_as}
 use Rattle.http_heads.proofs.request_line.read_version.Goals as goal
 
 pub returns : goal.returns

@@ -1,6 +1,6 @@
 use Rattle.json_pieces.specs.Told.{broken_told, fault_told, text_told}
 use Rattle.json_texts.specs.Values.{JsonText}
-use Rattle.stream_sets.specs.Accumulator.Holds.{HasCharacters}
+use Rattle.winnow.specs.Accumulator.Holds.{HasCharacters}
 use Rattle.json_pieces.proofs.value.parse_value_of_bytes.Goals as goal
 
 pub returns-in-Err-clause-text : goal.returns-in-Err-clause-text

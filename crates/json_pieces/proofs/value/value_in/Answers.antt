@@ -7,7 +7,7 @@ use Rattle.json_pieces.specs.Read.{no_longer, none_closed, none_in_bytes, none_i
 use Rattle.json_pieces.specs.Read.{some_stands, text_lacks}
 use Rattle.json_texts.specs.Values.Texts.{value_of}
 use Rattle.json_values.specs.Unique.{value_unique}
-use Rattle.stream_sets.specs.Accumulator.Holds.{HasCharacters}
+use Rattle.winnow.specs.Accumulator.Holds.{HasCharacters}
 use Rattle.json_pieces.proofs.value.value_in.Goals as goal
 
 pub returns-in-Err-Text-clause-none : goal.returns-in-Err-Text-clause-none

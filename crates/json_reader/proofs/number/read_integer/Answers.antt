@@ -1,7 +1,7 @@
 use Rattle.std.specs.Range.{range_inclusive_end, range_inclusive_start}
 use Rattle.std.proofs.Common.{ap, ◌∙◌}
 use Rattle.json_reader.specs.Alike.{integer_same}
-use Rattle.winnow_core.specs.Exact.Same.{reads_as}
+use Rattle.winnow.specs.Exact.Same.{reads_as}
 use Rattle.json_reader.proofs.number.read_integer.Goals as goal
 
 pub returns : goal.returns

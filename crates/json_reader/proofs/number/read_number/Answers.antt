@@ -1,5 +1,5 @@
 use Rattle.json_texts.specs.Number.{number_of}
-use Rattle.winnow_exact.specs.Told.{text_told}
+use Rattle.winnow.specs.Told.{text_told}
 use Rattle.json_reader.proofs.number.read_number.Goals as goal
 
 pub returns-clause-grammar : goal.returns-clause-grammar

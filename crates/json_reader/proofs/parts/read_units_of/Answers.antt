@@ -1,4 +1,4 @@
-use Rattle.winnow_exact.specs.Read.{reads_by}
+use Rattle.winnow.specs.Read.{reads_by}
 use Rattle.json_reader.proofs.parts.read_units_of.Goals as goal
 
 pub returns : goal.returns

@@ -1,6 +1,6 @@
 use Rattle.json_texts.specs.Values.{HasText}
 use Rattle.json_reader.specs.Alike.{kept_text}
-use Rattle.winnow_exact.specs.Read.{reads_no_meaning}
+use Rattle.winnow.specs.Read.{reads_no_meaning}
 use Rattle.json_reader.proofs.scalar.read_number_text.Goals as goal
 
 pub returns-in-Ok : goal.returns-in-Ok

@@ -1,5 +1,5 @@
 use Rattle.json_texts.specs.Values.{IsWord}
-use Rattle.winnow_exact.specs.Read.{reads_meaning, reads_no_meaning}
+use Rattle.winnow.specs.Read.{reads_meaning, reads_no_meaning}
 use Rattle.json_reader.proofs.scalar.read_word_value.Goals as goal
 
 pub returns-in-Ok : goal.returns-in-Ok

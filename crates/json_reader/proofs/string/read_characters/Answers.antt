@@ -1,8 +1,8 @@
 use Rattle.std.proofs.Common.{refl, sym, ◌∙◌}
-use Rattle.streams.specs.Equal.{true_is_false}
-use Rattle.streams.specs.Input.{is_end_of_trans, is_end_of_trans3}
+use Rattle.winnow.specs.Equal.{true_is_false}
+use Rattle.winnow.specs.Input.{is_end_of_trans, is_end_of_trans3}
 use Rattle.json_reader.specs.Runs.{all_read, escape_read, fewer_left, run_ends, run_read, run_wants}
-use Rattle.winnow_exact.specs.Read.{reads_wanting}
+use Rattle.winnow.specs.Read.{reads_wanting}
 use Rattle.json_reader.proofs.string.read_characters.Goals as goal
 
 pub returns-in-Err-push_str : goal.returns-in-Err-push_str

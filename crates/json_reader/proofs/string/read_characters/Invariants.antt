@@ -1,8 +1,8 @@
 -- Characters were read that the string holds, and an end of the input is left.
 use Rattle.std.proofs.Common.{length}
 use Rattle.std.specs.Str.{chars}
-use Rattle.streams.specs.Input.{IsEndOf}
-use Rattle.streams.specs.Text.{text_input, text_reading}
+use Rattle.winnow.specs.Input.{IsEndOf}
+use Rattle.winnow.specs.Text.{text_input, text_reading}
 use Rattle.json_reader.specs.Runs.{HasRead}
 use Rattle.json_reader.proofs.string.read_characters.Given as goal
 

@@ -1,9 +1,9 @@
 use Rattle.std.specs.Prelude.{ℕ}
 use Rattle.std.proofs.Common.{rules, subst, sym}
 use Rattle.json_texts.specs.Strings.{IsHex}
-use Rattle.grammars.specs.Grammar.Meaning.{meaning_same}
+use Rattle.winnow.specs.Grammar.Meaning.{meaning_same}
 use Rattle.json_reader.specs.Escapes.{token_one}
-use Rattle.winnow_core.specs.Exact.Same.{reads_as}
+use Rattle.winnow.specs.Exact.Same.{reads_as}
 use Rattle.json_reader.proofs.units.read_digit.Goals as goal
 
 pub read-requires-clause-premise : goal.read-requires-clause-premise

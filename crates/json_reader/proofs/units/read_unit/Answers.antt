@@ -1,5 +1,5 @@
 use Rattle.json_texts.specs.Strings.{IsNumberOf}
-use Rattle.winnow_exact.specs.Read.{reads_meaning, reads_no_meaning}
+use Rattle.winnow.specs.Read.{reads_meaning, reads_no_meaning}
 use Rattle.json_reader.proofs.units.read_unit.Goals as goal
 
 pub returns-in-Ok : goal.returns-in-Ok

@@ -1,4 +1,4 @@
-use Rattle.stream_sets.specs.Accumulator.Holds.{HasCharacters}
+use Rattle.winnow.specs.Accumulator.Holds.{HasCharacters}
 use Rattle.json_texts.specs.Values.Texts.{json_of}
 use Rattle.json_texts.proofs.laws.nested_values_are_those_of_the_standard.Goals as goal
 

@@ -1,6 +1,6 @@
 use Rattle.std.proofs.Common.{rules}
-use Rattle.winnow_exact.specs.Rule.{reads_as_rule, run_as}
-use Rattle.winnow_exact.specs.Read.{reads_by}
+use Rattle.winnow.specs.Rule.{reads_as_rule, run_as}
+use Rattle.winnow.specs.Read.{reads_by}
 use Rattle.json_values.proofs.parts.read_array_of.Given as given
 use Rattle.json_values.proofs.parts.read_array_of.Goals as goal
 

@@ -1,7 +1,7 @@
 use Rattle.std.proofs.Common.{ap, rules, ◌∙◌}
-use Rattle.winnow_comb.specs.Terminated.{terminated_parser}
+use Rattle.winnow.specs.Terminated.{terminated_parser}
 use Rattle.json_values.specs.General.{three_by}
-use Rattle.winnow_exact.specs.Rule.{reads_as_rule, run_as}
+use Rattle.winnow.specs.Rule.{reads_as_rule, run_as}
 use Rattle.json_values.specs.Items.{items_by}
 use Rattle.json_values.proofs.parts.read_object_of.Given as given
 use Rattle.json_values.proofs.parts.read_object_of.Goals as goal

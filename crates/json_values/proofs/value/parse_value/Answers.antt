@@ -1,6 +1,6 @@
 use Rattle.json_texts.specs.Values.Texts.{json_of}
-use Rattle.stream_sets.specs.Accumulator.Holds.{HasCharacters}
-use Rattle.winnow_exact.specs.Told.{texts_told}
+use Rattle.winnow.specs.Accumulator.Holds.{HasCharacters}
+use Rattle.winnow.specs.Told.{texts_told}
 use Rattle.json_values.proofs.value.parse_value.Goals as goal
 
 pub returns-clause-grammar : goal.returns-clause-grammar

@@ -1,6 +1,6 @@
 use Rattle.std.proofs.Common.{ℕ, List, IsUtf8, chars, string_bytes}
 use Rattle.std.specs.Str.Iter.{chars_rest}
-use Rattle.grammars.specs.Texts.{Row}
+use Rattle.winnow.specs.Texts.{Row}
 use Rattle.json_writer.specs.Added.{Adds, Keeps}
 use Rattle.json_writer.specs.Strings.{CanonicalCharacter}
 use Rattle.json_writer.proofs.string.write_string.Given as goal

@@ -1,6 +1,6 @@
 use Rattle.std.proofs.Common.{rules, arith, refl, Ok, Err}
-use Rattle.streams.specs.Text.{text_input}
-use Rattle.stream_errors.specs.Form.{marked_kind}
+use Rattle.winnow.specs.Text.{text_input}
+use Rattle.winnow.specs.Form.{marked_kind}
 use Rattle.readers_calc.specs.Calculator.Laws.{left_boundary, no_output, value_as, value_none}
 use Rattle.readers_calc.specs.Calculator.Laws.{value_ok}
 use Rattle.readers_calc.proofs.calc.value.Goals as goal

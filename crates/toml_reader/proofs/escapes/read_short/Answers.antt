@@ -1,9 +1,9 @@
 use Rattle.std.specs.Prelude.{ℕ}
 use Rattle.std.proofs.Common.{rules, subst, sym}
 use Rattle.toml_reader.specs.Toml.{StandsFor}
-use Rattle.grammars.specs.Grammar.Meaning.{meaning_same}
+use Rattle.winnow.specs.Grammar.Meaning.{meaning_same}
 use Rattle.json_reader.specs.Escapes.{token_one}
-use Rattle.winnow_core.specs.Exact.Same.{reads_as}
+use Rattle.winnow.specs.Exact.Same.{reads_as}
 use Rattle.toml_reader.proofs.escapes.read_short.Goals as goal
 
 pub read-requires-clause-premise : goal.read-requires-clause-premise

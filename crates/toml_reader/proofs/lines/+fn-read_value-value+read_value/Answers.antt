@@ -2,8 +2,8 @@ use Rattle.std.proofs.Common.{refl, rules, arith}
 use Rattle.toml_reader.specs.First.{value_array, value_scalar}
 use Rattle.toml_reader.specs.Toml.{IsArray}
 use Rattle.toml_reader.specs.Values.{value_of}
-use Rattle.winnow_exact.specs.Read.{reads_meaning, reads_no_meaning}
-use Rattle.winnow_exact.specs.Told.{text_told}
+use Rattle.winnow.specs.Read.{reads_meaning, reads_no_meaning}
+use Rattle.winnow.specs.Told.{text_told}
 use Rattle.toml_reader.proofs.lines.+fn-read_value-value+read_value.Goals as goal
 
 pub returns-then-not-opens-clause-grammar : goal.returns-then-not-opens-clause-grammar

@@ -1,7 +1,7 @@
 use Rattle.std.proofs.Common.{refl}
 use Rattle.toml_reader.specs.Lines.{document_of}
 use Rattle.toml_reader.specs.Parts.{reads_all_by}
-use Rattle.winnow_exact.specs.Told.{texts_told}
+use Rattle.winnow.specs.Told.{texts_told}
 use Rattle.toml_reader.proofs.lines.parse_lines.Goals as goal
 
 pub returns : goal.returns

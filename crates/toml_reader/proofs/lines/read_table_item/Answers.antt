@@ -1,6 +1,6 @@
 use Rattle.std.proofs.Common.{refl}
 use Rattle.toml_reader.specs.Toml.{IsTable}
-use Rattle.winnow_exact.specs.Read.{reads_meaning, reads_no_meaning}
+use Rattle.winnow.specs.Read.{reads_meaning, reads_no_meaning}
 use Rattle.toml_reader.proofs.lines.read_table_item.Goals as goal
 
 pub returns-in-Ok : goal.returns-in-Ok

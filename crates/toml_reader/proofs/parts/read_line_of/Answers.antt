@@ -1,5 +1,5 @@
 use Rattle.toml_reader.specs.Parts.{three_by}
-use Rattle.winnow_exact.specs.Read.{reads_by}
+use Rattle.winnow.specs.Read.{reads_by}
 use Rattle.toml_reader.proofs.parts.read_line_of.Goals as goal
 
 pub returns : goal.returns

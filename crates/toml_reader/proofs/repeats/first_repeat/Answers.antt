@@ -1,6 +1,6 @@
 use Rattle.std.proofs.Common.{[], ◌∷◌, ap, arith, inl, inr, rules, subst, sym, ◌∙◌}
 use Rattle.std.proofs.lemmas.Option.{slice_get_within}
-use Rattle.streams.specs.Equal.{true_is_false}
+use Rattle.winnow.specs.Equal.{true_is_false}
 use Rattle.toml_reader.specs.Repeats.{IsRepeat, behind_more, below_next, table_behind}
 use Rattle.toml_reader.proofs.repeats.first_repeat.Goals as goal
 

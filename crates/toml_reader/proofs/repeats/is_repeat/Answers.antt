@@ -1,6 +1,6 @@
 use Rattle.std.proofs.Common.{None, Some, ap, refl, subst, sym, take, ◌∙◌}
 use Rattle.std.proofs.lemmas.Option.{slice_get_read}
-use Rattle.streams.specs.Equal.{none_is_some, same_some, true_is_false}
+use Rattle.winnow.specs.Equal.{none_is_some, same_some, true_is_false}
 use Rattle.toml_reader.specs.Repeats.{Says, path_of, table_behind}
 use Rattle.toml_reader.proofs.repeats.is_repeat.Goals as goal
 

@@ -1,5 +1,5 @@
 use Rattle.std.proofs.Common.{arith, refl, rules, subst, sym, ◌∙◌}
-use Rattle.streams.specs.Equal.{true_is_false}
+use Rattle.winnow.specs.Equal.{true_is_false}
 use Rattle.toml_reader.specs.Repeats.{Says, first_says, goes_back, goes_on, path, says_nothing}
 use Rattle.toml_reader.specs.Repeats.{split_at, table_name}
 use Rattle.toml_reader.proofs.repeats.says.Goals as goal

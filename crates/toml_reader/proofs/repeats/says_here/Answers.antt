@@ -1,7 +1,7 @@
 use Rattle.std.proofs.Common.{◌≡◌, ap, rules, sym, ◌∙◌}
-use Rattle.streams.specs.Equal.{same_some}
+use Rattle.winnow.specs.Equal.{same_some}
 use Rattle.toml_reader.specs.Repeats.{path_of, table_name}
-use Rattle.winnow_core.specs.States.{pair_is}
+use Rattle.winnow.specs.States.{pair_is}
 use Rattle.toml_reader.proofs.repeats.says_here.Goals as goal
 
 pub returns-then-is_same_table : goal.returns-then-is_same_table

@@ -1,6 +1,6 @@
 use Rattle.std.proofs.Common.{refl}
 use Rattle.toml_reader.specs.Toml.{IsText}
-use Rattle.winnow_exact.specs.Read.{reads_meaning, reads_no_meaning}
+use Rattle.winnow.specs.Read.{reads_meaning, reads_no_meaning}
 use Rattle.toml_reader.proofs.scalars.read_basic_value.Goals as goal
 
 pub returns-in-Ok : goal.returns-in-Ok

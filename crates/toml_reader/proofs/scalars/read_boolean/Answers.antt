@@ -1,7 +1,7 @@
 use Rattle.std.proofs.Common.{refl}
 use Rattle.json_reader.specs.Alike.{spelled, spelled_none}
 use Rattle.toml_reader.specs.Toml.{IsBoolean}
-use Rattle.winnow_exact.specs.Read.{reads_meaning, reads_no_meaning}
+use Rattle.winnow.specs.Read.{reads_meaning, reads_no_meaning}
 use Rattle.toml_reader.proofs.scalars.read_boolean.Goals as goal
 
 pub returns-in-Ok : goal.returns-in-Ok

@@ -4,7 +4,7 @@ use Rattle.std.proofs.lemmas.Int.{to_z-of_z}
 use Rattle.toml_reader.specs.Toml.{IsInteger}
 use Rattle.toml_reader.specs.Values.{integer_fits}
 use Rattle.toml_reader.specs.declared.value.Value as values
-use Rattle.winnow_exact.specs.Read.{reads_meaning, reads_no_meaning}
+use Rattle.winnow.specs.Read.{reads_meaning, reads_no_meaning}
 use Rattle.toml_reader.proofs.scalars.read_whole.Goals as goal
 
 pub returns-in-Ok : goal.returns-in-Ok

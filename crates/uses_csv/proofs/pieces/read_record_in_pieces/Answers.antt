@@ -1,6 +1,6 @@
 use Rattle.std.proofs.Common.{◌≡◌, ap, rules, sym, true, ◌∙◌}
-use Rattle.streams.specs.Bytes.{bytes_input}
-use Rattle.streams.specs.Partial.{with_flag}
+use Rattle.winnow.specs.Bytes.{bytes_input}
+use Rattle.winnow.specs.Partial.{with_flag}
 use Rattle.uses_csv.specs.Pieces.{line_reads}
 use Rattle.uses_csv.proofs.pieces.read_record_in_pieces.Goals as goal
 

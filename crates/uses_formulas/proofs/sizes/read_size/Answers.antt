@@ -1,6 +1,6 @@
 use Rattle.std.proofs.Common.{◌≡◌, ◌∙◌, ap, inl, inr, pos, rules}
-use Rattle.winnow_expression.specs.Expression.{infix_of, postfix_of}
-use Rattle.winnow_expression_trees.specs.Premises.Laws.{fail_plain, keeps_stateless}
+use Rattle.winnow.specs.Expression.{infix_of, postfix_of}
+use Rattle.winnow.specs.Premises.Laws.{fail_plain, keeps_stateless}
 use Rattle.uses_formulas.specs.Decided.{stateless_wider}
 use Rattle.uses_formulas.specs.Sizes.{SizeStates, exact_at, marks_of, same_signs, same_units}
 use Rattle.uses_formulas.specs.Sizes.{sign_marks, unit_marks}

@@ -1,7 +1,7 @@
 use Rattle.std.specs.Int.{w64}
 use Rattle.std.proofs.Common.{refl}
 use Rattle.std.proofs.lemmas.Int.{to_z-of_z}
-use Rattle.winnow_exact.specs.InTurn.{failed, passed, stood, told_err, told_ok}
+use Rattle.winnow.specs.InTurn.{failed, passed, stood, told_err, told_ok}
 use Rattle.uses_resp.specs.Leaves.{integer_more, integer_none, integer_stood, is_none, is_some}
 use Rattle.uses_resp.specs.Leaves.{no_line, signed_fits}
 use Rattle.uses_resp.proofs.leaves.read_integer.Goals as goal

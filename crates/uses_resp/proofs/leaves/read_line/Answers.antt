@@ -1,5 +1,5 @@
 use Rattle.uses_resp.specs.Leaves.{same_line}
-use Rattle.winnow_exact.specs.Cut.{reads_or_asks_as}
+use Rattle.winnow.specs.Cut.{reads_or_asks_as}
 use Rattle.uses_resp.proofs.leaves.read_line.Goals as goal
 
 pub returns : goal.returns

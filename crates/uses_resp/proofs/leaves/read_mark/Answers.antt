@@ -1,5 +1,5 @@
 use Rattle.std.proofs.Common.{arith}
-use Rattle.winnow_exact.specs.InTurn.{failed, passed, stood, told_err, told_ok}
+use Rattle.winnow.specs.InTurn.{failed, passed, stood, told_err, told_ok}
 use Rattle.uses_resp.specs.Leaves.{each_mark, mark_failed, mark_stood, no_mark}
 use Rattle.uses_resp.specs.declared.leaves.Mark.TheVariants.{Colon, Dollar, Minus, Plus, Star}
 use Rattle.uses_resp.proofs.leaves.read_mark.Goals as goal

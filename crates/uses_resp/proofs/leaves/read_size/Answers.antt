@@ -3,7 +3,7 @@ use Rattle.std.specs.Prelude.{◌≡◌, ℤ, None, Some, unsigned_abs}
 use Rattle.std.proofs.Common.{sym, ap, subst, ◌∙◌}
 use Rattle.std.proofs.lemmas.Int.{to_z-of_z}
 use mir.Val.{of_z, to_z}
-use Rattle.winnow_exact.specs.InTurn.{failed, passed, stood, told_err, told_ok}
+use Rattle.winnow.specs.InTurn.{failed, passed, stood, told_err, told_ok}
 use Rattle.uses_resp.specs.Leaves.{no_integer, size_failed, size_stood}
 use Rattle.uses_resp.proofs.leaves.read_size.Goals as goal
 

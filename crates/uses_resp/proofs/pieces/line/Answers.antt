@@ -1,4 +1,4 @@
-use Rattle.winnow_exact.specs.InTurn.{told_by}
+use Rattle.winnow.specs.InTurn.{told_by}
 use Rattle.uses_resp.proofs.pieces.line.Goals as goal
 
 pub returns : goal.returns

@@ -1,8 +1,8 @@
 use Rattle.std.proofs.Common.{arith, ◌≡◌, ◌++◌, ◌∷◌, [], suc}
-use Rattle.streams.specs.Input.{is_end_of_trans3}
-use Rattle.winnow_exact.specs.InTurn.{failed, led_failed, led_none, led_stood, led_told}
-use Rattle.winnow_exact.specs.InTurn.{passed, stood, told_err, told_ok, wanting}
-use Rattle.winnow_exact.specs.InTurn.Rows.{more_failed, more_stood, none_stood}
+use Rattle.winnow.specs.Input.{is_end_of_trans3}
+use Rattle.winnow.specs.InTurn.{failed, led_failed, led_none, led_stood, led_told}
+use Rattle.winnow.specs.InTurn.{passed, stood, told_err, told_ok, wanting}
+use Rattle.winnow.specs.InTurn.Rows.{more_failed, more_stood, none_stood}
 use Rattle.uses_resp.specs.Read.{alone_stood, array_failed, array_stood, made_failed, made_stood}
 use Rattle.uses_resp.specs.Read.{mark_splits, pushed, reply_unique, size_splits, too_deep}
 use Rattle.uses_resp.specs.Room.{roomy}

@@ -1,8 +1,8 @@
 use Rattle.std.proofs.Common.{◌+◌}
-use Rattle.streams.specs.Bytes.{bytes_follow, bytes_input, bytes_reading}
-use Rattle.streams.specs.Partial.{with_flag}
-use Rattle.winnow_exact.specs.InTurn.{First, Stood}
-use Rattle.winnow_exact.specs.InTurn.Rows.{RowOf}
+use Rattle.winnow.specs.Bytes.{bytes_follow, bytes_input, bytes_reading}
+use Rattle.winnow.specs.Partial.{with_flag}
+use Rattle.winnow.specs.InTurn.{First, Stood}
+use Rattle.winnow.specs.InTurn.Rows.{RowOf}
 use Rattle.uses_resp.specs.Resp.{ReplyText}
 use Rattle.uses_resp.proofs.read.+read.Given as goal
 

@@ -1,5 +1,5 @@
-use Rattle.winnow_exact.specs.InTurn.{failed, led_failed, led_none, led_stood, passed}
-use Rattle.winnow_exact.specs.InTurn.{stood, told_ok}
+use Rattle.winnow.specs.InTurn.{failed, led_failed, led_none, led_stood, passed}
+use Rattle.winnow.specs.InTurn.{stood, told_ok}
 use Rattle.uses_resp.specs.Read.{alone_stood, made_failed, made_stood, size_splits}
 use Rattle.uses_resp.specs.Resp.{BulkBehind, DataText, SizeText}
 use Rattle.uses_resp.specs.declared.reply.Reply as made

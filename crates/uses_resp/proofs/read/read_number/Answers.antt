@@ -1,6 +1,6 @@
 use Rattle.std.specs.Int.{w64}
 use Rattle.std.proofs.lemmas.Int.{to_z-of_z}
-use Rattle.winnow_exact.specs.InTurn.{failed, passed, stood, told_ok}
+use Rattle.winnow.specs.InTurn.{failed, passed, stood, told_ok}
 use Rattle.uses_resp.specs.Read.{made_failed, made_stood}
 use Rattle.uses_resp.specs.Resp.{IntegerText}
 use Rattle.uses_resp.specs.declared.reply.Reply as made
