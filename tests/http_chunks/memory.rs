@@ -1,10 +1,8 @@
 //! Size lines where memory is refused.
 use http_chunks::size_line::read_size_line;
 use std::alloc::Global;
-use stream_errors::mode::ErrMode;
-use stream_errors::empty::EmptyError;
-use stream_errors::parser_error::ParserError;
 use test_support::refusing::Refusing;
+use winnow::error::{EmptyError, ErrMode, ParserError};
 
 fn wants_memory(error: &ErrMode<EmptyError>) -> bool {
     ParserError::<&[u8]>::is_memory(error)

@@ -4,9 +4,8 @@ use crate::size_lines::{ROWS, Row, same};
 use http_chunks::size_line::read_size_line_in_pieces;
 use std::alloc::Allocator;
 use std::process::Abort;
-use stream_errors::mode::ErrMode;
-use streams::partial::Partial;
-use streams::stream::StreamIsPartial;
+use winnow::error::ErrMode;
+use winnow::stream::{Partial, StreamIsPartial};
 
 fn at_cut<A: Allocator + Copy>(rt: &impl Abort, alloc: A, row: &Row, cut: usize) {
     let (text, want) = row;

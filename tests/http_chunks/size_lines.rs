@@ -2,7 +2,7 @@
 use http_chunks::size_line::{Size, SizeLine, read_size_line};
 use std::alloc::Allocator;
 use std::process::Abort;
-use stream_errors::mode::ErrMode;
+use winnow::error::ErrMode;
 
 /// A text; and the size of the size line that it begins with, the extensions, written again with a
 /// space behind each, and how many bytes are left; or none, where no size line stands first.

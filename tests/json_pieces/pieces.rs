@@ -4,9 +4,8 @@ use json_pieces::value::read_value_in_pieces;
 use json_texts::value::Value;
 use std::alloc::Global;
 use std::process::Abort;
-use stream_errors::mode::ErrMode;
-use streams::partial::Partial;
-use streams::stream::StreamIsPartial;
+use winnow::error::ErrMode;
+use winnow::stream::{Partial, StreamIsPartial};
 
 /// A level, bytes, of how many the value is the text that they begin with, and the value as Python's
 /// `json` reads these: `'` round each string, a comma behind each item. What is behind the text is

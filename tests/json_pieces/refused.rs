@@ -1,10 +1,9 @@
 //! Memory that is refused.
 use json_pieces::value::{parse_value_of_bytes, read_next_in_pieces, read_value_in_pieces};
 use std::alloc::Global;
-use stream_errors::fault::ParseFault;
-use stream_errors::parser_error::ParserError;
-use streams::partial::Partial;
 use test_support::refusing::Refusing;
+use winnow::error::{ParseFault, ParserError};
+use winnow::stream::Partial;
 
 const TEXT: &[u8] = b"[1, {\"a\": [\"b\"], \"c\": true}, {}]";
 

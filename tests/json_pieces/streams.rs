@@ -3,9 +3,8 @@ use crate::shown::show;
 use json_pieces::value::read_next_in_pieces;
 use std::alloc::Global;
 use std::process::Abort;
-use stream_errors::mode::ErrMode;
-use streams::partial::Partial;
-use streams::stream::StreamIsPartial;
+use winnow::error::ErrMode;
+use winnow::stream::{Partial, StreamIsPartial};
 
 /// Bytes, and the values that stand in them one behind the other, as `show` has them, a bar behind
 /// each.

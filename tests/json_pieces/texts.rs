@@ -2,7 +2,7 @@
 use crate::shown::show;
 use json_pieces::value::parse_value_of_bytes;
 use std::process::Abort;
-use stream_errors::fault::ParseFault;
+use winnow::error::ParseFault;
 
 /// A level, a text, and what Python's `json` reads: `'` round each string, a comma behind each item.
 const ROWS: &[(usize, &[u8], &str)] = &[

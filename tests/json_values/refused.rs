@@ -1,9 +1,8 @@
 //! Memory that is refused.
 use json_values::value::{parse_value, read_value};
 use std::alloc::Global;
-use stream_errors::fault::ParseFault;
-use stream_errors::parser_error::ParserError;
 use test_support::refusing::Refusing;
+use winnow::error::{ParseFault, ParserError};
 
 const TEXT: &str = "[1, {\"a\": [\"b\"], \"c\": true}, {}]";
 

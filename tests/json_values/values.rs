@@ -4,7 +4,7 @@ use json_texts::value::Value;
 use json_values::value::{parse_value, read_value};
 use std::alloc::Global;
 use std::process::Abort;
-use stream_errors::fault::ParseFault;
+use winnow::error::ParseFault;
 
 /// The texts of section 13 of RFC 8259.
 const IMAGE: &str = r#"{

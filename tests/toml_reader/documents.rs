@@ -2,9 +2,9 @@
 use crate::shown::show;
 use std::alloc::Global;
 use std::process::Abort;
-use stream_errors::fault::ParseFault;
 use toml_reader::lines::{parse_lines, read_value};
 use toml_reader::value::{Document, Value};
+use winnow::error::ParseFault;
 
 /// A level, a document of toml.io/en/v1.0.0 or one like it, and what it says of its lines, in order:
 /// `'` round each string, a comma behind each value of an array, a bar behind each line.

@@ -1,9 +1,8 @@
 //! Memory that is refused.
 use std::alloc::Global;
-use stream_errors::fault::ParseFault;
-use stream_errors::parser_error::ParserError;
 use test_support::refusing::Refusing;
 use toml_reader::lines::parse_lines;
+use winnow::error::{ParseFault, ParserError};
 
 const TEXT: &str = "[a]\nb = ['c', \"d\"] # e\n";
 

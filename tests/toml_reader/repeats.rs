@@ -1,8 +1,8 @@
 //! Documents that say a key or a table again.
-use stream_errors::fault::ParseFault;
 use toml_reader::document::{Fault, parse_document};
 use toml_reader::lines::parse_lines;
 use toml_reader::repeats::first_repeat;
+use winnow::error::ParseFault;
 
 /// Lines, and the first that says something again, if one does. The first two are of
 /// toml.io/en/v1.0.0 (Keys, Table).

@@ -2,8 +2,8 @@
 use std::alloc::Allocator;
 use std::fmt::Debug;
 use std::process::Abort;
-use stream_errors::fault::ParseFault;
 use uses_csv::{LineEnd, Record, parse_document};
+use winnow::error::ParseFault;
 
 /// A document and the bytes of its records' fields. The first eight are of RFC 4180, section 2. The
 /// others Python's strict `csv.reader` reads so too, but for a line with no bytes, of which it makes

@@ -1,11 +1,10 @@
 //! Records from pieces, at every cut.
 use std::alloc::Allocator;
 use std::process::Abort;
-use stream_errors::mode::ErrMode;
-use streams::partial::Partial;
-use streams::stream::StreamIsPartial;
 use uses_csv::LineEnd;
 use uses_csv::pieces::read_record_in_pieces;
+use winnow::error::ErrMode;
+use winnow::stream::{Partial, StreamIsPartial};
 
 /// Texts that begin with a record and its line end, and how many bytes that takes: the line end is
 /// a carriage return and a line feed. What is behind it is of no concern.

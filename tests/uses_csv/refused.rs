@@ -1,9 +1,8 @@
 //! Memory that is refused.
 use std::alloc::Global;
-use stream_errors::fault::ParseFault;
-use stream_errors::parser_error::ParserError;
 use test_support::refusing::Refusing;
 use uses_csv::{LineEnd, parse_document, read_record};
+use winnow::error::{ParseFault, ParserError};
 
 const TEXT: &[u8] = b"a,b\r\n\"c\"\"\",d\r\n";
 

@@ -2,11 +2,10 @@
 use std::alloc::{Allocator, Global};
 use std::fmt::Debug;
 use std::process::Abort;
-use stream_errors::fault::ParseFault;
-use stream_errors::parser_error::ParserError;
 use test_support::refusing::Refusing;
-use uses_csv::table::{Ragged, Table, TableFault, parse_table};
 use uses_csv::{LineEnd, Record};
+use uses_csv::table::{Ragged, Table, TableFault, parse_table};
+use winnow::error::{ParseFault, ParserError};
 
 /// A document with a header, the fields of the header, and those of the records behind it. The
 /// first two are of RFC 4180, section 2, items 3 and 4.

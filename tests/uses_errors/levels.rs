@@ -3,13 +3,10 @@
 
 use std::alloc::Global;
 use std::process::Abort;
-use stream_errors::context::AddContext;
-use stream_errors::external::FromExternalError;
-use stream_errors::mode::ErrMode;
-use stream_errors::parser_error::ParserError;
-use streams::stream::Stream;
-use uses_errors::error::{LineError, NoLevel, Part};
 use uses_errors::{Level, level_of, read_colon, read_letter, read_level};
+use uses_errors::error::{LineError, NoLevel, Part};
+use winnow::error::{AddContext, ErrMode, FromExternalError, ParserError};
+use winnow::stream::Stream;
 
 #[test]
 fn levels(rt: HostRuntime) {

@@ -1,8 +1,8 @@
 //! Sizes, their values and what they leave.
 use std::process::Abort;
-use stream_errors::parser_error::ParserError;
 use test_support::refusing::Refusing;
 use uses_formulas::sizes::read_size;
+use winnow::error::ParserError;
 
 /// A size has this value, and so much of the bytes is left. The values are those that Python
 /// computes with 1024 and 1048576 for the units.

@@ -1,8 +1,8 @@
 //! Memory that is refused.
 use std::alloc::Global;
-use stream_errors::parser_error::ParserError;
 use test_support::refusing::Refusing;
 use uses_nested::read_tree;
+use winnow::error::ParserError;
 
 #[test]
 fn read_tree_refused_memory(rt: HostRuntime) {

@@ -1,8 +1,8 @@
 //! Options on whole inputs.
 use std::alloc::Allocator;
 use std::process::Abort;
-use stream_errors::mode::ErrMode;
 use uses_options::read_options;
+use winnow::error::ErrMode;
 
 /// A text, how it is written again with a space behind each option, and how many bytes are left;
 /// or none, where no options stand first.

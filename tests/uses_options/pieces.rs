@@ -1,9 +1,9 @@
 //! Options at every cut: an answer is that of the whole text, and more is asked for where it is
 //! not yet known.
 use crate::options::ROWS;
-use stream_errors::mode::ErrMode;
-use streams::partial::Partial;
 use uses_options::read_options_in_pieces;
+use winnow::error::ErrMode;
+use winnow::stream::Partial;
 
 #[test]
 fn read_options_at_every_cut(rt: HostRuntime) {

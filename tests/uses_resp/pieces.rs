@@ -1,11 +1,9 @@
 //! Replies at every cut, and how much is asked for.
 use crate::replies::{NO_REPLIES, REPLIES, same};
 use std::alloc::Allocator;
-use stream_errors::mode::ErrMode;
-use streams::needed::Needed;
-use streams::partial::Partial;
-use streams::stream::StreamIsPartial;
 use uses_resp::read::read_reply;
+use winnow::error::{ErrMode, Needed};
+use winnow::stream::{Partial, StreamIsPartial};
 
 /// What a piece is told.
 #[derive(Clone, Copy, Debug, PartialEq)]

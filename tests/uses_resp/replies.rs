@@ -4,9 +4,8 @@ use crate::shown::show;
 use std::alloc::Allocator;
 use std::fmt::Debug;
 use std::process::Abort;
-use streams::partial::Partial;
-use streams::stream::StreamIsPartial;
 use uses_resp::read::read_reply;
+use winnow::stream::{Partial, StreamIsPartial};
 
 /// A text, the reply that it begins with, and how many bytes are behind it.
 pub const REPLIES: &[(&[u8], &[u8], usize)] = &[
