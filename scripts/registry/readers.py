@@ -25,7 +25,7 @@ READERS = [
         "where the bytes are a text of this value"),
     ("JSON: written", "json_writer", "no",
         "the text of a value, exactly where it has one, nested to a level; it reads back"),
-    ("JSON: extents, in pieces", "uses_json", "no", "where a value ends, whole and in pieces"),
+    ("JSON: extents", "uses_json", "no", "where a value ends, and whether bytes are a text"),
     ("TOML 1.0, a subset", "toml_reader", "yes",
         "`Ok` exactly where the text is lines of this document; the first line that says a key or "
         "a table again, and what the first one lacks that is no line"),
