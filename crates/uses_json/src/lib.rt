@@ -6,8 +6,8 @@
 //!   stand in one another (section 9).
 //! - Bytes of 128 and above are not looked at: that the bytes are UTF-8 is for the caller to know
 //!   (section 8.1).
-//! - Strings stay as they are written, and a surrogate alone may stand in one, as an escape (section
-//!   8.2). Members of an object may have one name (section 4).
+//! - Strings stay as they are written, and a surrogate alone may stand in one, as an escape
+//!   (section 8.2). Members of an object may have one name (section 4).
 #![tactic(auto)]
 
 pub mod number;
