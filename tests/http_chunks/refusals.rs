@@ -1,5 +1,5 @@
 //! Requests that a server must refuse, by their heads.
-use http_chunks::fields::read_safe_field_line;
+use http_chunks::field_line::read_safe_field_line;
 use http_chunks::refusals::{Refusal, refusal_of};
 use http_heads::head::read_head;
 

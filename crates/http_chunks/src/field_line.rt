@@ -20,7 +20,7 @@ use winnow::error::{EmptyError, ErrMode, HasKind};
 /// passed.
 ///
 /// ```
-/// use http_chunks::fields::read_safe_field_line;
+/// use http_chunks::field_line::read_safe_field_line;
 ///
 /// let field = read_safe_field_line(&mut b"Host: example.org\r\n".as_slice());
 /// assert!(rt; matches!(field, Ok(field) if field.value == b"example.org".as_slice()));
