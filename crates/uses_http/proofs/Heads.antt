@@ -4,14 +4,14 @@ use Rattle.std.proofs.Common.{◌⊎◌, Option, inl, inr, length}
 use Rattle.std.proofs.Common.{length-append, map, refl, subst, sym}
 use Rattle.std.proofs.lemmas.List.{map_push}
 use Rattle.winnow.specs.Kind.{Kind, incomplete}
-use Rattle.uses_http.specs.Bytes.{IsTokenByte, IsVisible, line_end}
-use Rattle.uses_http.specs.FieldLine.{BeginsFieldLine, IsFieldLine, NoFieldLine}
-use Rattle.uses_http.specs.Head.{AreFieldLines, AreFields, BeginsFields, BeginsHead}
-use Rattle.uses_http.specs.Head.{IsHead, NoFields, NoHead, Pair}
-use Rattle.uses_http.specs.Head.{Request, pair}
-use Rattle.uses_http.specs.RequestLine.{BeginsRequestLine, IsRequestLine, NoRequestLine}
-use Rattle.uses_http.specs.RequestLine.{digits}
-use Rattle.uses_http.specs.declared.field_line.Field.{Field}
+use Rattle.http_heads.specs.Bytes.{IsTokenByte, IsVisible, line_end}
+use Rattle.http_heads.specs.FieldLine.{IsFieldLine}
+use Rattle.http_heads.specs.Head.{AreFieldLines, AreFields, IsHead, Pair, Request, pair}
+use Rattle.http_heads.specs.RequestLine.{IsRequestLine, digits}
+use Rattle.http_heads.specs.declared.field_line.Field.{Field}
+use Rattle.uses_http.specs.FieldLine.{BeginsFieldLine, NoFieldLine}
+use Rattle.uses_http.specs.Head.{BeginsFields, BeginsHead, NoFields, NoHead}
+use Rattle.uses_http.specs.RequestLine.{BeginsRequestLine, NoRequestLine}
 use Rattle.uses_http.proofs.Texts.{one_text}
 use Rattle.uses_http.proofs.Values.{field_line_begins, field_line_one}
 

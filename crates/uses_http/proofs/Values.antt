@@ -1,13 +1,15 @@
 -- Values of fields: there is one without the white space that stands around it.
 use Rattle.std.proofs.Common.{◌≡◌, ◌∙◌, ◌++◌, ◌∷◌, ℕ, List, [], ap, append_assoc, arith, inl, inr}
 use Rattle.std.proofs.Common.{◌⊎◌, ◌<◌, length, length-append, refl, subst, sym}
+use Rattle.std.specs.Borrow.{Bor}
 use Rattle.std.specs.List.{All}
 use Rattle.std.proofs.lemmas.Bool.Decides.{eqb_tells}
 use Rattle.std.proofs.lemmas.List.Elements.{All-append, All-cons, All-head, All-nil, All-tail}
 use Rattle.std.proofs.lemmas.List.Elements.{All-weaker}
-use Rattle.std.proofs.lemmas.List.{append-nil, same_from_push}
-use Rattle.uses_http.specs.Bytes.{IsTokenByte, IsValueByte, IsWhite, line_end}
-use Rattle.uses_http.specs.FieldLine.{BeginsBare, EndsBare, IsFieldLine, IsTrimmed}
+use Rattle.std.proofs.lemmas.List.{same_from_push}
+use Rattle.http_heads.specs.Bytes.{IsTokenByte, IsValueByte, IsWhite, line_end}
+use Rattle.http_heads.specs.FieldLine.{BeginsBare, EndsBare, IsFieldLine, IsTrimmed}
+use Rattle.http_heads.specs.FieldRead.{none_returns}
 use Rattle.uses_http.proofs.Texts.{in_middle, one_stranger, one_text, same_first, same_others}
 
 pub white_is_value : (b : ℕ) → IsWhite b → IsValueByte b
@@ -104,12 +106,9 @@ field_line_one name other value text bytes one two f g =
 -- and none begins with a carriage return
 pub field_line_begins : (name value bytes rest more : List ℕ) → IsFieldLine name value bytes rest
     → bytes ≡ 13 ∷ more → ⊥
-field_line_begins [] value bytes rest more line e = omega (arith, line.some_name)
-field_line_begins (n ∷ name) value bytes rest more line e =
-    let P : ℕ → Type 0 = λ b. IsTokenByte b in
-    let never : IsTokenByte 13 → ⊥ = λ h. omega (arith, h) in
-    never (subst P (sym (same_first 13 n more _ (sym e ∙ line.splits)))
-    (All-head IsTokenByte n name line.is_name))
+field_line_begins name value bytes rest more line =
+    let slice : List ℕ → Bor (List ℕ) = λ text. record { ref_ptr = (0, 0); now = text } in
+    none_returns bytes (record { name = slice name; value = slice value }) rest more line
 
 -- ---- a field line as it is read: its text is the value, and white space behind that
 
@@ -183,49 +182,11 @@ read_some name (v ∷ value) bytes rest line = (
   },
 )
 
--- ---- the white space at the end of a text
-
--- So much was taken off so far.
-pub record IsCut (now text : List ℕ) : Type 0 where
-  pub behind : List ℕ
-  pub splits : text ≡ now ++ behind
-  pub white : All IsWhite behind
-
-pub cut_none : (text : List ℕ) → IsCut text text
-cut_none text = record {
-  behind = [];
-  splits = sym (append-nil text);
-  white = All-nil IsWhite;
-}
-
--- one byte more
-pub cut_more : (now front text : List ℕ) (b : ℕ) → IsCut now text → now ≡ front ++ b ∷ []
-    → IsWhite b → IsCut front text
-cut_more now front text b it last is = record {
-  behind = b ∷ it.behind;
-  splits = it.splits ∙ ap (λ l. l ++ it.behind) last ∙ append_assoc front (b ∷ []) it.behind;
-  white = All-cons IsWhite b it.behind is it.white;
-}
-
--- where the last byte is none, or nothing is left, that is all
-pub cut_all : (now text : List ℕ) → IsCut now text → EndsBare now → IsTrimmed now text
-cut_all now text it bare = record {
-  behind = it.behind;
-  splits = it.splits;
-  white_behind = it.white;
-  ends_bare = bare;
-}
-
-pub nothing_bare : (now : List ℕ) → length now ≡ 0 → EndsBare now
-nothing_bare now none = λ b front e white.
-    omega (arith, none, ap (λ l. length l) e, length-append front (b ∷ []))
-
-pub last_bare : (now front : List ℕ) (b : ℕ) → now ≡ front ++ b ∷ [] → (IsWhite b → ⊥)
-    → EndsBare now
-last_bare now front b last not = λ c others e white.
-    not (subst IsWhite (sym (same_from_push front others b c (sym last ∙ e)).1) white)
-
 -- ---- each text has a value
+
+nothing_bare : EndsBare []
+nothing_bare b front e white =
+    omega (arith, ap (λ l. length l) e, length-append front (b ∷ []))
 
 is_white : (b : ℕ) → IsWhite b ⊎ (IsWhite b → ⊥)
 is_white b = elim (eqb_tells b 32) [
@@ -254,7 +215,7 @@ trimmed_some [] = (
     behind = [];
     splits = refl;
     white_behind = All-nil IsWhite;
-    ends_bare = nothing_bare [] refl;
+    ends_bare = nothing_bare;
   },
 )
 trimmed_some (x ∷ xs) = by (trimmed_some xs) (is_white x)
@@ -276,7 +237,7 @@ trimmed_some (x ∷ xs) = by (trimmed_some xs) (is_white x)
         behind = x ∷ it.behind;
         splits = ap (λ l. x ∷ l) it.splits;
         white_behind = All-cons IsWhite x it.behind white it.white_behind;
-        ends_bare = nothing_bare [] refl;
+        ends_bare = nothing_bare;
       },
     )
     by ([], it) (inr not) = (
