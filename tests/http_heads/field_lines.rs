@@ -2,8 +2,7 @@
 use std::fmt::Debug;
 use std::process::Abort;
 use http_heads::field_line::{Field, read_field_line, trimmed};
-use uses_http::field_line;
-use uses_http::field_line::read_field_line_in_pieces;
+use uses_http::field_line::{self, read_field_line_in_pieces};
 use winnow::error::ErrMode;
 use winnow::stream::{Partial, StreamIsPartial};
 

@@ -2,8 +2,7 @@
 use std::fmt::Debug;
 use std::process::Abort;
 use http_heads::request_line::{RequestLine, read_request_line};
-use uses_http::request_line;
-use uses_http::request_line::read_request_line_in_pieces;
+use uses_http::request_line::{self, read_request_line_in_pieces};
 use winnow::error::ErrMode;
 use winnow::stream::{Partial, StreamIsPartial};
 
