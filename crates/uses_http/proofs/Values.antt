@@ -9,8 +9,10 @@ use Rattle.std.proofs.lemmas.List.Elements.{All-weaker}
 use Rattle.std.proofs.lemmas.List.{same_from_push}
 use Rattle.http_heads.specs.Bytes.{IsTokenByte, IsValueByte, IsWhite, line_end}
 use Rattle.http_heads.specs.FieldLine.{BeginsBare, EndsBare, IsFieldLine, IsTrimmed}
-use Rattle.http_heads.specs.FieldRead.{none_returns}
-use Rattle.uses_http.proofs.Texts.{in_middle, one_stranger, one_text, same_first, same_others}
+use Rattle.http_heads.specs.FieldRead.{field_takes, none_returns}
+use Rattle.http_heads.specs.declared.field_line.Field.{Field}
+use Rattle.winnow.specs.Equal.{same_first, same_others}
+use Rattle.uses_http.proofs.Texts.{in_middle, one_stranger, one_text}
 
 pub white_is_value : (b : ℕ) → IsWhite b → IsValueByte b
 white_is_value b (inl space) = inl (omega (arith, space), λ e. omega (arith, space, e))
@@ -40,9 +42,9 @@ ends_one (x ∷ xs) [] a b p q ends other e =
     let P : List ℕ → Type 0 = λ l. All IsWhite l in
     absurd (white_last x xs a (subst P (sym e) q) ends)
 ends_one (x ∷ xs) (y ∷ ys) a b p q ends other e =
-    ap (λ z. z ∷ xs) (same_first x y (xs ++ a) (ys ++ b) e)
+    ap (λ z. z ∷ xs) (same_first e)
     ∙ ap (λ l. y ∷ l) (ends_one xs ys a b p q (bare_tail x xs ends) (bare_tail y ys other)
-    (same_others x y (xs ++ a) (ys ++ b) e))
+    (same_others e))
 
 -- ---- both ends
 
@@ -100,15 +102,26 @@ field_line_one name other value text bytes one two f g =
       value_one f.before value f.behind g.before text g.behind f.white_before f.white_behind
           g.white_before g.white_behind f.begins_bare f.ends_bare g.begins_bare g.ends_bare
           texts.0,
-      same_others 10 10 one two texts.1,
+      same_others texts.1,
     )
+
+-- a field of this name and this value
+abbrev field_of : List ℕ → List ℕ → Field
+field_of name value =
+    let slice : List ℕ → Bor (List ℕ) = λ text. record { ref_ptr = (0, 0); now = text } in
+    record { name = slice name; value = slice value }
 
 -- and none begins with a carriage return
 pub field_line_begins : (name value bytes rest more : List ℕ) → IsFieldLine name value bytes rest
     → bytes ≡ 13 ∷ more → ⊥
 field_line_begins name value bytes rest more line =
-    let slice : List ℕ → Bor (List ℕ) = λ text. record { ref_ptr = (0, 0); now = text } in
-    none_returns bytes (record { name = slice name; value = slice value }) rest more line
+    none_returns bytes (field_of name value) rest more line
+
+-- each takes bytes
+pub field_line_takes : (name value bytes rest : List ℕ) → IsFieldLine name value bytes rest
+    → length rest < length bytes
+field_line_takes name value bytes rest line =
+    field_takes.fewer bytes (field_of name value) rest line
 
 -- ---- a field line as it is read: its text is the value, and white space behind that
 
@@ -178,7 +191,7 @@ read_some name (v ∷ value) bytes rest line = (
     is_value = All-append IsValueByte (v ∷ value) line.behind line.is_value
         (All-weaker IsWhite IsValueByte white_is_value line.behind line.white_behind);
     bare = λ b more e white. line.begins_bare v value refl
-        (subst IsWhite (sym (same_first v b (value ++ line.behind) more e)) white);
+        (subst IsWhite (sym (same_first e)) white);
   },
 )
 
@@ -202,7 +215,7 @@ is_white b = elim (eqb_tells b 32) [
 bare_more : (x y : ℕ) (ys : List ℕ) → EndsBare (y ∷ ys) → EndsBare (x ∷ y ∷ ys)
 bare_more x y ys bare b [] e white = omega (arith, ap (λ l. length l) e)
 bare_more x y ys bare b (f ∷ front) e white =
-    bare b front (same_others x f (y ∷ ys) (front ++ b ∷ []) e) white
+    bare b front (same_others e) white
 
 bare_one : (x : ℕ) → (IsWhite x → ⊥) → EndsBare (x ∷ [])
 bare_one x not b front e white =
@@ -289,7 +302,7 @@ shifted_some (x ∷ xs) = by (shifted_some xs) (is_white x)
       record {
         splits = refl;
         white = All-nil IsWhite;
-        bare = λ b more e white. not (subst IsWhite (sym (same_first x b xs more e)) white);
+        bare = λ b more e white. not (subst IsWhite (sym (same_first e)) white);
       },
     )
 
