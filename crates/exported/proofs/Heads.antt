@@ -9,7 +9,7 @@ use Rattle.winnow.specs.Grammar.{NoneStands}
 use Rattle.http_heads.specs.Bytes.{line_end}
 use Rattle.http_heads.specs.FieldLine.{IsFieldLine}
 use Rattle.http_heads.specs.Head.{AreFieldLines, HeadStands, IsHead, Pair, Request, pair}
-use Rattle.http_heads.specs.RequestLine.{IsRequestLine, digits, protocol}
+use Rattle.http_heads.specs.RequestLine.{IsRequestLine}
 use Rattle.http_heads.specs.declared.field_line.Field.{Field as Found}
 use Rattle.http_heads.specs.declared.head.Head.{Head}
 use Rattle.exported.specs.Http.{AreShown}

@@ -1,7 +1,7 @@
 -- The parts of a request line.
-use Rattle.std.proofs.Common.{◌≡◌, ◌∙◌, ◌+◌, ◌≤◌, ◌++◌, ◌∷◌, [], ℕ, List, ap, append_assoc, arith}
+use Rattle.std.proofs.Common.{◌≡◌, ◌∙◌, ◌+◌, ◌≤◌, ◌++◌, ◌∷◌, [], ℕ, List, ap, arith}
 use Rattle.std.proofs.Common.{drop}
-use Rattle.std.proofs.Common.{length, length-append, refl, subst, sym}
+use Rattle.std.proofs.Common.{length, length-append, refl}
 use Rattle.std.proofs.Math.Seq.{drop-append-add}
 use Rattle.http_heads.specs.Bytes.{line_end}
 use Rattle.http_heads.specs.RequestLine.{IsRequestLine, digits, protocol}

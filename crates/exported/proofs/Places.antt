@@ -1,7 +1,7 @@
 -- The places of fields, one after the other.
-use Rattle.std.proofs.Common.{◌≡◌, ◌≢◌, ◌+◌, ◌<◌, ◌⊎◌, ◌∷◌, ℕ, List, arith, drop, inl, inr, length}
+use Rattle.std.proofs.Common.{◌≡◌, ◌+◌, ◌<◌, ℕ, List, arith, drop, inl, inr, length}
 use Rattle.std.proofs.Common.{map}
-use Rattle.std.proofs.Common.{refl, slice_index_or, slice_set, subst, sym}
+use Rattle.std.proofs.Common.{slice_index_or, slice_set, subst, sym}
 use Rattle.std.proofs.lemmas.Bool.{cases_lt}
 use Rattle.std.proofs.lemmas.List.{drop_more, get_or-map, get_or-set_other, get_or-set_same}
 use Rattle.http_heads.specs.FieldLine.{IsFieldLine}

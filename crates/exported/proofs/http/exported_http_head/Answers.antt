@@ -1,4 +1,4 @@
-use Rattle.std.proofs.Common.{◌∙◌, refl, rules, sym}
+use Rattle.std.proofs.Common.{◌∙◌, inl, inr, refl, rules, sym}
 use Rattle.std.proofs.lemmas.Bool.{true≢false}
 use Rattle.exported.proofs.Heads.{none_of_lists}
 use Rattle.exported.proofs.http.exported_http_head.Goals as goal

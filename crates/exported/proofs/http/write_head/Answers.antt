@@ -1,5 +1,5 @@
-use Rattle.std.proofs.Common.{◌≡◌, ◌+◌, ◌-◌, List, ap, arith, drop, length, map}
-use Rattle.std.proofs.Common.{refl, subst, sym, ℕ}
+use Rattle.std.proofs.Common.{◌≡◌, List, ap, arith, drop, length, map}
+use Rattle.std.proofs.Common.{refl, subst, sym}
 use Rattle.std.proofs.lemmas.List.{length-map}
 use Rattle.http_heads.specs.Head.{pair}
 use Rattle.http_heads.specs.declared.field_line.Field.{Field as Found}
