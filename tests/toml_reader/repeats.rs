@@ -1,4 +1,5 @@
 //! Documents that say a key or a table again.
+use std::alloc::{AllocError, Global};
 use toml_reader::document::{Fault, parse_document};
 use toml_reader::lines::parse_lines;
 use toml_reader::repeats::first_repeat;
@@ -32,7 +33,9 @@ const ROWS: &[(&str, Option<usize>)] = &[
 fn first_repeat_by_line(rt: HostRuntime) {
     for (text, want) in ROWS {
         match parse_lines(rt.alloc(), 0, text) {
-            Ok(lines) => assert_eq!(rt; first_repeat(lines.as_slice()), *want, "{text:?}"),
+            Ok(lines) => {
+                assert_eq!(rt; first_repeat(rt.alloc(), lines.as_slice()), Ok(*want), "{text:?}");
+            }
             Err(_) => assert!(rt; false, "{text:?}"),
         }
     }
@@ -44,12 +47,45 @@ fn parse_document_refuses_repeats(rt: HostRuntime) {
         match parse_document(rt.alloc(), 0, text) {
             Ok(_) => assert_eq!(rt; *want, None, "{text:?}"),
             Err(Fault::Repeat(line)) => assert_eq!(rt; *want, Some(line), "{text:?}"),
-            Err(Fault::Lines(_)) => assert!(rt; false, "{text:?}"),
+            Err(Fault::Lines(_) | Fault::NoMemory) => assert!(rt; false, "{text:?}"),
         }
     }
     let text = "a = 1\na = 2\n?";
     match parse_document(rt.alloc(), 0, text) {
         Err(Fault::Lines(ParseFault::Refused(error))) => assert_eq!(rt; error.offset(), 12),
         _ => assert!(rt; false),
+    }
+}
+
+/// A document of the square of so many keys, no two the same: half of them before all tables, and
+/// the others in one.
+fn many_keys(alloc: Global, parts: u32) -> Result<String<Global>, AllocError> {
+    let mut ends = Vec::new(alloc);
+    for part in 0..parts {
+        ends.push(format!(in alloc; "-{part} = 1\n")?)?;
+    }
+    let mut text = String::new(alloc);
+    for part in 0..parts {
+        if part == parts / 2 {
+            text.push_str("[table]\n")?;
+        }
+        let key = format!(in alloc; "key-{part}")?;
+        for end in &ends {
+            text.push_str(key.as_str())?;
+            text.push_str(end.as_str())?;
+        }
+    }
+    Ok(text)
+}
+
+/// Comparing each line with all lines before it would take longer here than a test may.
+#[test]
+fn parse_document_of_many_keys(rt: HostRuntime) {
+    let Ok(text) = many_keys(rt.alloc(), 140) else {
+        unreachable!();
+    };
+    match parse_document(rt.alloc(), 0, text.as_str()) {
+        Ok(lines) => assert_eq!(rt; lines.len(), 140 * 140 + 2),
+        Err(_) => assert!(rt; false),
     }
 }

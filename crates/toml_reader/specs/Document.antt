@@ -5,7 +5,7 @@ use Rattle.winnow.specs.Form.{marked_kind}
 use Rattle.toml_reader.specs.Repeats.{IsFirstRepeat}
 use Rattle.toml_reader.specs.Toml.{DocumentText}
 use Rattle.toml_reader.specs.declared.document.Fault.{Fault}
-use Rattle.toml_reader.specs.declared.document.Fault.TheVariants.{Lines, Repeat}
+use Rattle.toml_reader.specs.declared.document.Fault.TheVariants.{Lines, NoMemory, Repeat}
 use Rattle.toml_reader.specs.declared.value.Item.{Item}
 use Rattle.winnow.specs.Exact.Whole.{IsWant}
 
@@ -15,13 +15,14 @@ HasFirst level text first lines =
     DocumentText level lines text × IsFirstRepeat lines.items first
 
 -- why it is none: no lines, or some of which this is the first that says something again; else
--- memory is wanting
+-- memory is wanting, to read lines or to know what they say again
 abbrev pub Refuses : (A : Type 0) → ℕ → List ℕ → Fault → Type 0
 Refuses A level text (Lines fault) =
     IsWant (λ e. marked_kind e.is_memory) fault
     ⊎ ((lines : Vec (Option (Item A)) A) → DocumentText level lines text → ⊥)
 Refuses A level text (Repeat line) =
     (lines : Vec (Option (Item A)) A) × HasFirst level text (Some line) lines
+Refuses A level text NoMemory = (lines : Vec (Option (Item A)) A) × DocumentText level lines text
 
 -- A text is a document of these lines, which say nothing again; or why it is none.
 pub record IsDocumentOf {A : Type 0} (level : ℕ) (text : List ℕ)

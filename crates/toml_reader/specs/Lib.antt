@@ -6,6 +6,7 @@ pub mod First
 pub mod Lines
 pub mod Messages
 pub mod Repeats
+pub mod Said
 pub mod Toml
 pub mod Unique
 pub mod Values

@@ -5,7 +5,7 @@ use Rattle.winnow.specs.Position.{IsPosition}
 use Rattle.winnow.specs.{Position}
 use Rattle.toml_reader.specs.Expected.{Lacks, LinesBefore}
 use Rattle.toml_reader.specs.declared.document.Fault.{Fault}
-use Rattle.toml_reader.specs.declared.document.Fault.TheVariants.{Lines, Repeat}
+use Rattle.toml_reader.specs.declared.document.Fault.TheVariants.{Lines, NoMemory, Repeat}
 use Rattle.toml_reader.specs.declared.expected.Expected.{Expected}
 use Rattle.toml_reader.specs.declared.messages.Message.{Message}
 use Rattle.toml_reader.specs.declared.messages.Reason.TheVariants as reasons
@@ -19,9 +19,11 @@ module _ (A : Type 0) (level : ℕ) (text : List ℕ) where
       × Lacks A level line what (chars rest)
       × IsPosition (chars (take (length text - length rest) text)) position.line position.column
 
-  -- A line that says something again, at its first column; or what a line lacks.
+  -- A line that says something again, at its first column; or what a line lacks. There is none for
+  -- want of memory.
   abbrev pub IsMessageOf : Fault → Message → Type 0
   IsMessageOf (Repeat line) m =
       (m.reason ≡ reasons.Repeated) × (m.position.line ≡ line + 1) × (m.position.column ≡ 1)
   IsMessageOf (Lines fault) m =
       (what : Expected) × (m.reason ≡ reasons.Expected what) × LacksAt m.position what
+  IsMessageOf NoMemory m = ⊥

@@ -2,23 +2,27 @@
 -- name, and the table that it is in: so a table again is the same as a key of its name, before all
 -- tables.
 use Rattle.std.specs.Prelude.{◌≡◌, ◌⊎◌, ◌<◌, ℕ, List, [], ◌∷◌, ◌++◌, Option, Some, None}
-use Rattle.std.specs.Prelude.{◌+◌, ◌≤◌, drop, get_or, length, string_bytes, suc, take, zero}
-use Rattle.std.specs.Borrow.{Bor}
+use Rattle.std.specs.Prelude.{string_bytes, take}
 use Rattle.std.specs.List.{slice_get}
-use Rattle.std.proofs.Common.{refl, sym, ap, subst, inl, inr, ◌∙◌, arith}
-use Rattle.std.proofs.lemmas.List.{drop_more, take_more}
-use Rattle.winnow.specs.Equal.{same_first, same_others}
-use Rattle.toml_reader.specs.declared.repeats.Path.{Path}
+use Rattle.std.proofs.Common.{refl, ap, inl, inr, ◌∙◌}
+use Rattle.std.proofs.lemmas.List.{append_assoc}
+use Rattle.winnow.specs.Equal.{none_is_some, same_first, same_others, same_some}
 use Rattle.toml_reader.specs.declared.value.Item.{Item}
 use Rattle.toml_reader.specs.declared.value.Item.TheVariants.{Entry, Table}
 
--- the name of a table, if there is one
-abbrev pub table_name : Option (Bor (List ℕ)) → Option (List ℕ)
-table_name None = None
-table_name (Some name) = Some name.now
-
-abbrev pub path : Path → Option (List ℕ) × List ℕ
-path p = (table_name p.table, p.name.now)
+-- where a list is split, its last one is behind the split, or at it
+last_split : {X : Type 0} (xs ys zs : List X) (x y : X) → xs ++ x ∷ [] ≡ ys ++ y ∷ zs
+    → ((ws : List X) × (xs ≡ ys ++ y ∷ ws)) ⊎ ((xs ≡ ys) × (x ≡ y))
+last_split [] [] zs x y e = inr (refl, same_first e)
+last_split [] (b ∷ []) zs x y e = absurd (cc)
+last_split [] (b ∷ c ∷ ys) zs x y e = absurd (cc)
+last_split (a ∷ xs) [] zs x y e = inl (xs, ap (λ h. h ∷ xs) (same_first e))
+last_split (a ∷ xs) (b ∷ ys) zs x y e =
+    let first : a ≡ b = same_first e in
+    elim (last_split xs ys zs x y (same_others e)) [
+      | inl (ws, others) ↦ inl (ws, cc)
+      | inr (others, last) ↦ inr (cc, last)
+    ]
 
 module _ {A : Type 0} where
   -- The table that what is behind some lines is in, where they are in one: that of their last
@@ -56,122 +60,74 @@ module _ {A : Type 0} where
   IsFirstRepeat lines None = (k : ℕ) → IsRepeat lines k → ⊥
   IsFirstRepeat lines (Some k) = IsRepeat lines k × ((i : ℕ) → i < k → IsRepeat lines i → ⊥)
 
-  -- ---- line by line
+  -- ---- one more line
 
-  behind_one : (table : Option (List ℕ)) (line : Option (Item A)) (lines : List (Option (Item A)))
-      → table_behind table (line ∷ lines) ≡ table_behind (table_behind table (line ∷ [])) lines
-  behind_one table None lines = refl
-  behind_one table (Some (Entry key value)) lines = refl
-  behind_one table (Some (Table name)) lines = refl
-
-  pub says_none : (table : Option (List ℕ)) (sought : Option (List ℕ) × List ℕ)
-      → Says table [] sought → ⊥
-  says_none table sought ([], line, behind, e, is) = absurd (cc)
-  says_none table sought (b ∷ bs, line, behind, e, is) = absurd (cc)
-
-  -- the first line says it, or one behind that does
-  pub says_first : (table : Option (List ℕ)) (line : Option (Item A))
-      (lines : List (Option (Item A))) (sought : Option (List ℕ) × List ℕ)
-      → Says table (line ∷ lines) sought
-      → SaysHere table line sought ⊎ Says (table_behind table (line ∷ [])) lines sought
-  says_first table line lines sought ([], other, behind, e, is) =
-      let P : Option (Item A) → Type 0 = λ l. SaysHere table l sought in
-      inl (subst P (sym (same_first e)) is)
-  says_first table line lines sought (b ∷ bs, other, behind, e, is) =
-      let P : Option (List ℕ) → Type 0 = λ t. SaysHere t other sought in
-      inr (
-        bs,
-        other,
-        behind,
-        same_others e,
-        subst P (behind_one table b bs
-            ∙ ap (λ l. table_behind (table_behind table (l ∷ [])) bs) (sym (same_first e))) is,
-      )
-
-  pub first_says : (table : Option (List ℕ)) (line : Option (Item A))
-      (lines : List (Option (Item A))) (sought : Option (List ℕ) × List ℕ)
-      → SaysHere table line sought → Says table (line ∷ lines) sought
-  first_says table line lines sought is = ([], line, lines, refl, is)
-
-  pub others_say : (table : Option (List ℕ)) (line : Option (Item A))
-      (lines : List (Option (Item A))) (sought : Option (List ℕ) × List ℕ)
-      → Says (table_behind table (line ∷ [])) lines sought → Says table (line ∷ lines) sought
-  others_say table line lines sought (before, other, behind, e, is) =
-      let P : Option (List ℕ) → Type 0 = λ t. SaysHere t other sought in (
-        line ∷ before,
-        other,
-        behind,
-        ap (λ l. line ∷ l) e,
-        subst P (sym (behind_one table line before)) is,
-      )
-
-  -- ---- by the number of a line
-
-  -- what is left begins with the line of this number
-  pub split_at : (lines : List (Option (Item A))) (k : ℕ) (line : Option (Item A))
-      → k < length lines → line ≡ get_or lines k line
-      → drop k lines ≡ line ∷ drop (k + 1) lines
-  split_at lines k line within is =
-      drop_more lines k line within ∙ ap (λ x. x ∷ drop (k + 1) lines) (sym is)
-
-  module _ (table next : Option (List ℕ)) (lines : List (Option (Item A))) (k : ℕ)
-      (line : Option (Item A)) (sought : Option (List ℕ) × List ℕ) (within : k < length lines)
-      (is : line ≡ get_or lines k line) (after : next ≡ table_behind table (line ∷ [])) where
-    -- where that line does not say it, one behind it does
-    pub goes_on : (SaysHere table line sought → ⊥) → Says table (drop k lines) sought
-        → Says next (drop (k + 1) lines) sought
-    goes_on not s =
-        let P : List (Option (Item A)) → Type 0 = λ l. Says table l sought in
-        let Q : Option (List ℕ) → Type 0 = λ t. Says t (drop (k + 1) lines) sought in
-        elim (says_first table line (drop (k + 1) lines) sought
-        (subst P (split_at lines k line within is) s)) [
-          | inl here ↦ absurd (not here)
-          | inr more ↦ subst Q (sym after) more
-        ]
-
-    -- and what one behind it says is said by these
-    pub goes_back : Says next (drop (k + 1) lines) sought → Says table (drop k lines) sought
-    goes_back s =
-        let P : List (Option (Item A)) → Type 0 = λ l. Says table l sought in
-        let Q : Option (List ℕ) → Type 0 = λ t. Says t (drop (k + 1) lines) sought in
-        subst P (sym (split_at lines k line within is))
-        (others_say table line (drop (k + 1) lines) sought (subst Q after s))
-
-  pub says_nothing : (table : Option (List ℕ)) (lines : List (Option (Item A))) (k : ℕ)
-      (sought : Option (List ℕ) × List ℕ) → length lines ≤ k → Says table (drop k lines) sought
-      → ⊥
-  says_nothing table lines zero sought past s = never lines past s
-    where
-      never : (lines : List (Option (Item A))) → length lines ≤ 0 → Says table lines sought → ⊥
-      never [] past s = says_none table sought s
-      never (l ∷ ls) past s = absurd (omega (arith, past))
-  says_nothing table [] (suc k) sought past s = says_none table sought s
-  says_nothing table (l ∷ ls) (suc k) sought past s =
-      says_nothing table ls k sought (omega (arith, past)) s
-
-  behind_last : (table : Option (List ℕ)) (lines : List (Option (Item A))) (line : Option (Item A))
-      → table_behind table (lines ++ (line ∷ [])) ≡ table_behind (table_behind table lines)
-      (line ∷ [])
+  -- the table behind some lines, and one more
+  pub behind_last : (table : Option (List ℕ)) (lines : List (Option (Item A)))
+      (line : Option (Item A))
+      → table_behind table (lines ++ line ∷ [])
+      ≡ table_behind (table_behind table lines) (line ∷ [])
   behind_last table [] line = refl
   behind_last table (None ∷ ls) line = behind_last table ls line
   behind_last table (Some (Entry key value) ∷ ls) line = behind_last table ls line
   behind_last table (Some (Table name) ∷ ls) line = behind_last (Some (string_bytes name)) ls line
 
-  -- the table behind so many lines, and one more
-  pub behind_more : (lines : List (Option (Item A))) (k : ℕ) (line : Option (Item A))
-      → k < length lines → line ≡ get_or lines k line
-      → table_behind None (take (k + 1) lines)
-      ≡ table_behind (table_behind None (take k lines)) (line ∷ [])
-  behind_more lines k line within is =
-      ap (λ l. table_behind None l) (take_more lines k line within
-      ∙ ap (λ x. take k lines ++ (x ∷ [])) (sym is)) ∙ behind_last None (take k lines) line
+  -- what lines say is said by these and more
+  pub more_say : (table : Option (List ℕ)) (lines more : List (Option (Item A)))
+      (sought : Option (List ℕ) × List ℕ) → Says table lines sought
+      → Says table (lines ++ more) sought
+  more_say table lines more sought (before, line, behind, e, is) = (
+    before,
+    line,
+    behind ++ more,
+    ap (λ l. l ++ more) e ∙ append_assoc before (line ∷ behind) more,
+    is,
+  )
 
--- a number below the next one is below this one, or it
-pub below_next : (i k : ℕ) → i < k + 1 → (i < k) ⊎ (i ≡ k)
-below_next zero zero below = inr refl
-below_next zero (suc k) below = inl (omega arith)
-below_next (suc i) zero below = absurd (omega (arith, below))
-below_next (suc i) (suc k) below = elim (below_next i k (omega (arith, below))) [
-  | inl less ↦ inl (omega (arith, less))
-  | inr e ↦ inr (ap (λ n. suc n) e)
-]
+  -- a line before the last one says it, or that one does
+  pub last_says : (lines : List (Option (Item A))) (line : Option (Item A))
+      (sought : Option (List ℕ) × List ℕ) → Says None (lines ++ line ∷ []) sought
+      → Says None lines sought ⊎ SaysHere (table_behind None lines) line sought
+  last_says lines line sought (before, other, behind, e, is) =
+      elim (last_split lines before behind line other e) [
+        | inl (ws, others) ↦ inl (before, other, ws, others, is)
+        | inr (others, last) ↦ inr (rw (others, last) is)
+      ]
+
+  -- ---- tables
+
+  -- the table that what is behind some lines is in is said by one of them
+  header_said : (table : Option (List ℕ)) (lines : List (Option (Item A))) (name : List ℕ)
+      → table_behind table lines ≡ Some name → (table ≡ Some name) ⊎ Says table lines (None, name)
+  header_said table [] name e = inl e
+  header_said table (None ∷ ls) name e = elim (header_said table ls name e) [
+    | inl same ↦ inl same
+    | inr (before, line, behind, f, is) ↦
+        inr (None ∷ before, line, behind, ap (λ l. None ∷ l) f, is)
+  ]
+  header_said table (Some (Entry key value) ∷ ls) name e = elim (header_said table ls name e) [
+    | inl same ↦ inl same
+    | inr (before, line, behind, f, is) ↦
+        let entry = Some (Entry key value) in
+        inr (entry ∷ before, line, behind, ap (λ l. entry ∷ l) f, is)
+  ]
+  header_said table (Some (Table other) ∷ ls) name e =
+      elim (header_said (Some (string_bytes other)) ls name e) [
+        | inl same ↦
+            let is = ap (λ n. (None, n)) (same_some same) in
+            inr ([], Some (Table other), ls, refl, (Table other, refl, is))
+        | inr (before, line, behind, f, is) ↦
+            let header = Some (Table other) in
+            inr (header ∷ before, line, behind, ap (λ l. header ∷ l) f, is)
+      ]
+
+  -- lines that say a name in a table say that table
+  pub table_said : (lines : List (Option (Item A))) (table name : List ℕ)
+      → Says None lines (Some table, name) → Says None lines (None, table)
+  table_said lines table name (before, line, behind, e, (Table other, f, is)) =
+      none_is_some (ap (λ p. p.0) is)
+  table_said lines table name (before, line, behind, e, (Entry key value, f, is)) =
+      elim (header_said None before table (ap (λ p. p.0) is)) [
+        | inl same ↦ none_is_some same
+        | inr s ↦ rw e (more_say None before (line ∷ behind) (None, table) s)
+      ]

@@ -15,6 +15,8 @@ pub enum Fault<'i> {
     Lines(ParseFault<&'i str, EmptyError>),
     /// This line, counted from 0, is the first that says a key or a table again.
     Repeat(usize),
+    /// It is lines of TOML, and memory was refused where one that says something again was sought.
+    NoMemory,
 }
 
 /// What the lines of a document of TOML say, in order, where all of the text is one: nothing where
@@ -43,9 +45,10 @@ pub fn parse_document<'i, A: Allocator + Copy>(
     ensures { IsDocumentOf level (chars text.now) result }
 {
     match parse_lines(alloc, level, text) {
-        Ok(lines) => match first_repeat(lines.as_slice()) {
-            Some(line) => Err(Fault::Repeat(line)),
-            None => Ok(lines),
+        Ok(lines) => match first_repeat(alloc, lines.as_slice()) {
+            Ok(Some(line)) => Err(Fault::Repeat(line)),
+            Ok(None) => Ok(lines),
+            Err(_) => Err(Fault::NoMemory),
         },
         Err(fault) => Err(Fault::Lines(fault)),
     }

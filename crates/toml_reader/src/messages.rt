@@ -96,5 +96,6 @@ pub fn explain<'i, A: Allocator + Copy>(
             },
             reason: Reason::Repeated,
         }),
+        Fault::NoMemory => None,
     }
 }

@@ -1,25 +1,26 @@
-use Rattle.std.proofs.Common.{[], ◌∷◌, ap, arith, inl, inr, rules, subst, sym, ◌∙◌}
+use Rattle.std.specs.Prelude.{take}
+use Rattle.std.proofs.Common.{arith, refl}
 use Rattle.std.proofs.lemmas.Option.{slice_get_within}
-use Rattle.winnow.specs.Equal.{true_is_false}
-use Rattle.toml_reader.specs.Repeats.{IsRepeat, behind_more, below_next, table_behind}
+use Rattle.toml_reader.specs.Said.{is_first, none_yet, nothing_kept}
 use Rattle.toml_reader.proofs.repeats.first_repeat.Goals as goal
 
-pub returns-then-is_repeat : goal.returns-then-is_repeat
-returns-then-is_repeat g c =
-    (c.is_repeat.ensures.0 c.if-is_repeat.true, c.loop-k.invariant.1)
+pub loop-k-init : goal.loop-k-init
+loop-k-init g c =
+    (nothing_kept _ c.new.ensures.empty refl, λ i below r. absurd (omega (arith, below)))
+
+pub returns-then-not-branch : goal.returns-then-not-branch
+returns-then-not-branch g c =
+    is_first c.args.lines.now c.loop-k.k c.index-lines-k.result c.loop-k-test.true
+    c.index-lines-k.is
+    (c.in_ok-add.ensures (take c.loop-k.k c.args.lines.now) c.loop-k.invariant.0)
+    c.loop-k.invariant.1 c.if-not-branch.true
 
 pub loop-k-preserved : goal.loop-k-preserved
-loop-k-preserved g c = (
-  c.table_after-table.ensures
-      ∙ ap (λ t. table_behind t (c.index-lines-k.result ∷ [])) c.loop-k.invariant.0
-      ∙ sym (behind_more c.args.lines.now c.loop-k.k c.index-lines-k.result (search rules)
-      c.index-lines-k.is),
-  λ i below r. elim (below_next i c.loop-k.k below) [
-    | inl less ↦ c.loop-k.invariant.1 i less r
-    | inr e ↦ true_is_false (sym (c.is_repeat.ensures.1
-        (subst (λ n. IsRepeat c.args.lines.now n) e r)) ∙ c.if-is_repeat.false)
-  ],
-)
+loop-k-preserved g c =
+    none_yet c.args.lines.now c.loop-k.k c.index-lines-k.result c.loop-k-test.true
+    c.index-lines-k.is
+    (c.in_ok-add.ensures (take c.loop-k.k c.args.lines.now) c.loop-k.invariant.0)
+    c.loop-k.invariant.1 c.if-not-branch.false
 
 pub returns : goal.returns
 returns g c k r =

@@ -1,9 +1,9 @@
-use Rattle.std.specs.Prelude.{◌≡◌, ◌<◌, ℕ, None, take}
-use Rattle.toml_reader.specs.Repeats.{IsRepeat, table_behind, table_name}
+use Rattle.std.specs.Prelude.{◌<◌, ℕ, take}
+use Rattle.toml_reader.specs.Repeats.{IsRepeat}
+use Rattle.toml_reader.specs.Said.{AreKept}
 use Rattle.toml_reader.proofs.repeats.first_repeat.Given as goal
 
--- no line so far says something again
+-- what the lines so far say is kept, and none of them says something again
 abbrev pub invariant-loop-k : goal.invariant-loop-k
 invariant-loop-k g l =
-    (table_name l.table ≡ table_behind None (take l.k l.lines))
-    × ((i : ℕ) → i < l.k → IsRepeat l.lines i → ⊥)
+    AreKept l.said (take l.k l.lines) × ((i : ℕ) → i < l.k → IsRepeat l.lines i → ⊥)
