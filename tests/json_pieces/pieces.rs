@@ -1,9 +1,9 @@
 //! Values from pieces, at every cut.
-use crate::shown::show;
 use json_pieces::value::read_value_in_pieces;
 use json_texts::value::Value;
 use std::alloc::Global;
 use std::process::Abort;
+use test_json_support::shown::show;
 use winnow::error::ErrMode;
 use winnow::stream::{Partial, StreamIsPartial};
 
