@@ -25,7 +25,7 @@ READERS = [
         "where the bytes are a text of this value"),
     ("JSON: written", "json_writer", "no",
         "the text of a value, exactly where it has one, nested to a level; it reads back"),
-    ("JSON: extents, in pieces", "uses_json", "no", "where a value ends, whole and in pieces"),
+    ("JSON: extents", "uses_json", "no", "where a value ends, and whether bytes are a text"),
     ("TOML 1.0, a subset", "toml_reader", "yes",
         "`Ok` exactly where the text is lines of this document; the first line that says a key or "
         "a table again, and what the first one lacks that is no line"),
@@ -33,7 +33,8 @@ READERS = [
         "the request line, field line and head that bytes begin with"),
     ("HTTP/1.1 size lines of chunks", "http_chunks", "yes",
         "the size line that bytes begin with, with its extensions, whole and in pieces"),
-    ("HTTP/1.1 heads, in pieces", "uses_http", "no", "the same, whole and in pieces"),
+    ("HTTP/1.1 heads, in pieces", "uses_http", "no",
+        "the same in pieces, and when more bytes are asked for"),
     ("DNS headers", "uses_dns", "no", "the header, and which part is missing"),
     ("DNS names, compressed", "dns_names", "yes", "the name at a place, or why and where none is"),
     ("INI", "readers", "no", "`Ok` exactly where the bytes are a document of these sections"),

@@ -1,4 +1,5 @@
 //! Requests that a server must refuse, by their heads.
+use http_chunks::field_line::read_safe_field_line;
 use http_chunks::refusals::{Refusal, refusal_of};
 use http_heads::head::read_head;
 
@@ -46,5 +47,31 @@ fn read_head_of_none(rt: HostRuntime) {
     for text in NO_HEADS {
         let mut input = *text;
         assert!(rt; read_head(rt.alloc(), &mut input).is_err(), "{text:?}");
+    }
+}
+
+/// Field lines, each with its value and how many bytes are left behind it; or none.
+const FIELD_LINES: &[(&[u8], Option<(&[u8], &[u8], usize)>)] = &[
+    (b"Host: a\r\n", Some((b"Host", b"a", 0))),
+    (b"Host:a:b \t\r\nX: y\r\n", Some((b"Host", b"a:b", 6))),
+    (b"X:\r\n\r\n", Some((b"X", b"", 2))),
+    (b"Host : a\r\n", None),
+    (b"Host\t: a\r\n", None),
+    (b" Host: a\r\n", None),
+    (b"Host: a\rb\r\n", None),
+    (b"Ho\rst: a\r\n", None),
+    (b"Host: a\r\r\n", None),
+    (b": a\r\n", None),
+];
+
+#[test]
+fn read_safe_field_line_of_lines(rt: HostRuntime) {
+    for (text, want) in FIELD_LINES {
+        let mut input = *text;
+        let found = match read_safe_field_line(&mut input) {
+            Ok(field) => Some((field.name, field.value, input.len())),
+            Err(_) => None,
+        };
+        assert!(rt; found == *want, "{text:?}");
     }
 }

@@ -2,6 +2,9 @@
 use std::fmt::Debug;
 use std::process::Abort;
 use http_heads::field_line::{Field, read_field_line, trimmed};
+use uses_http::field_line::{self, read_field_line_in_pieces};
+use winnow::error::ErrMode;
+use winnow::stream::{Partial, StreamIsPartial};
 
 /// A text, the name and the value of the field line that it begins with, and what is left. The
 /// fields are those of the examples of RFC 9110 and RFC 9112, and some at the edges of the grammar.
@@ -57,6 +60,12 @@ fn read_field_line_of_lines(rt: HostRuntime) {
         let mut input = *text;
         same(&rt, text, read_field_line(&mut input).ok(), want);
         same(&rt, text, input, *rest);
+        let mut other = *text;
+        same(&rt, text, field_line::read_field_line(&mut other).ok(), want);
+        same(&rt, text, other, *rest);
+        let mut pieces = Partial::new(*text);
+        same(&rt, text, read_field_line_in_pieces(&mut pieces).ok(), want);
+        same(&rt, text, pieces.into_inner(), *rest);
     }
 }
 
@@ -65,6 +74,11 @@ fn read_field_line_of_none(rt: HostRuntime) {
     for text in NO_LINES {
         let mut input = *text;
         same(&rt, text, read_field_line(&mut input).is_err(), true);
+        let mut other = *text;
+        same(&rt, text, field_line::read_field_line(&mut other).is_err(), true);
+        let mut pieces = Partial::new(*text);
+        let answer = read_field_line_in_pieces(&mut pieces);
+        same(&rt, text, matches!(answer, Err(ErrMode::Backtrack(_))), true);
     }
 }
 
@@ -72,8 +86,16 @@ fn read_field_line_of_none(rt: HostRuntime) {
 fn read_field_line_of_each_beginning(rt: HostRuntime) {
     let text = b"Host: www.example.org\r\n".as_slice();
     for count in 0..text.len() {
-        let mut input = &text[..count];
-        same(&rt, text, read_field_line(&mut input).is_err(), true);
+        let begun = &text[..count];
+        let mut input = begun;
+        same(&rt, begun, read_field_line(&mut input).is_err(), true);
+        let mut pieces = Partial::new(begun);
+        let answer = read_field_line_in_pieces(&mut pieces);
+        same(&rt, begun, matches!(answer, Err(ErrMode::Incomplete(_))), true);
+        let mut all = Partial::new(begun);
+        let _state = all.complete();
+        let ended = read_field_line_in_pieces(&mut all);
+        same(&rt, begun, matches!(ended, Err(ErrMode::Backtrack(_))), true);
     }
 }
 

@@ -4,8 +4,10 @@ use std::fmt::Debug;
 use std::process::Abort;
 use test_support::refusing::Refusing;
 use http_heads::field_line::Field;
-use http_heads::head::read_head;
+use http_heads::head::{Head, read_head};
+use uses_http::head::read_head_in_pieces;
 use winnow::error::{EmptyError, ErrMode, ParserError};
+use winnow::stream::{Partial, StreamIsPartial};
 
 /// A text, the method and the target of the head that it begins with, its fields, and what is left.
 type Row = (
@@ -69,28 +71,33 @@ fn same<T: PartialEq + Debug + Drop>(rt: &impl Abort, row: &[u8], got: T, want: 
     assert_eq!(rt; got, want, "{row:?}");
 }
 
-fn has_fields(rt: &impl Abort, row: &[u8], got: &[Field<'_>], want: &[(&[u8], &[u8])]) {
-    same(rt, row, got.len(), want.len());
-    for (field, (name, value)) in got.iter().zip(want.iter()) {
-        same(rt, row, field.name, *name);
-        same(rt, row, field.value, *value);
+/// A reader answered the head of the row.
+fn is_head(rt: &impl Abort, row: &Row, answer: Result<Head<'_, Global>, ErrMode<EmptyError>>) {
+    let (text, method, target, fields, _) = row;
+    match answer {
+        Ok(head) => {
+            same(rt, text, head.line.method, *method);
+            same(rt, text, head.line.target, *target);
+            same(rt, text, (head.line.major, head.line.minor), (1, 1));
+            same(rt, text, head.fields.len(), fields.len());
+            for (field, (name, value)) in head.fields.iter().zip(fields.iter()) {
+                same(rt, text, *field, Field { name: *name, value: *value });
+            }
+        }
+        Err(error) => same(rt, text, Err(error), Ok(())),
     }
 }
 
 #[test]
 fn read_head_of_heads(rt: HostRuntime) {
-    for (text, method, target, fields, rest) in HEADS {
+    for row in HEADS {
+        let (text, _, _, _, rest) = row;
         let mut input = *text;
-        match read_head(rt.alloc(), &mut input) {
-            Ok(head) => {
-                same(&rt, text, head.line.method, *method);
-                same(&rt, text, head.line.target, *target);
-                same(&rt, text, (head.line.major, head.line.minor), (1, 1));
-                has_fields(&rt, text, &head.fields, fields);
-            }
-            Err(error) => same(&rt, text, Err(error), Ok(())),
-        }
+        is_head(&rt, row, read_head(rt.alloc(), &mut input));
         same(&rt, text, input, *rest);
+        let mut pieces = Partial::new(*text);
+        is_head(&rt, row, read_head_in_pieces(rt.alloc(), &mut pieces));
+        same(&rt, text, pieces.into_inner(), *rest);
     }
 }
 
@@ -101,6 +108,10 @@ fn read_head_of_none(rt: HostRuntime) {
         let answer = read_head(rt.alloc(), &mut input);
         same(&rt, text, matches!(answer, Err(ErrMode::Backtrack(_))), true);
         same(&rt, text, input, *text);
+        let mut pieces = Partial::new(*text);
+        let cut = read_head_in_pieces(rt.alloc(), &mut pieces);
+        same(&rt, text, matches!(cut, Err(ErrMode::Backtrack(_))), true);
+        same(&rt, text, pieces.into_inner(), *text);
     }
 }
 
@@ -109,6 +120,14 @@ fn read_head_of_each_beginning(rt: HostRuntime) {
     for text in [HELLO, WHERE] {
         for count in 0..text.len() {
             let begun = &text[..count];
+            let mut pieces = Partial::new(begun);
+            let answer = read_head_in_pieces(rt.alloc(), &mut pieces);
+            same(&rt, begun, matches!(answer, Err(ErrMode::Incomplete(_))), true);
+            same(&rt, begun, pieces.into_inner(), begun);
+            let mut all = Partial::new(begun);
+            let _state = all.complete();
+            let ended = read_head_in_pieces(rt.alloc(), &mut all);
+            same(&rt, begun, matches!(ended, Err(ErrMode::Backtrack(_))), true);
             let mut input = begun;
             let whole = read_head(rt.alloc(), &mut input);
             same(&rt, begun, matches!(whole, Err(ErrMode::Backtrack(_))), true);
@@ -117,8 +136,9 @@ fn read_head_of_each_beginning(rt: HostRuntime) {
     }
 }
 
-fn wants_memory(error: &ErrMode<EmptyError>) -> bool {
-    ParserError::<&[u8]>::is_memory(error)
+/// Whether a reader was refused memory.
+fn was_refused<T>(answer: &Result<T, ErrMode<EmptyError>>) -> bool {
+    matches!(answer, Err(error) if ParserError::<&[u8]>::is_memory(error))
 }
 
 #[test]
@@ -130,9 +150,13 @@ fn read_head_refused_memory(rt: HostRuntime) {
         let mut input = HELLO;
         let answer = read_head(&heap, &mut input);
         met = heap.met();
-        let refused = matches!(&answer, Err(error) if wants_memory(error));
-        same(&rt, HELLO, refused, met);
+        same(&rt, HELLO, was_refused(&answer), met);
         same(&rt, HELLO, answer.is_ok(), !met);
+        let other: Refusing<Global> = Refusing::once(rt.alloc(), n);
+        let mut pieces = Partial::new(HELLO);
+        let cut = read_head_in_pieces(&other, &mut pieces);
+        same(&rt, HELLO, was_refused(&cut), other.met());
+        same(&rt, HELLO, cut.is_ok(), !other.met());
         n += 1;
     }
     assert!(rt; n > 1);

@@ -2,6 +2,9 @@
 use std::fmt::Debug;
 use std::process::Abort;
 use http_heads::request_line::{RequestLine, read_request_line};
+use uses_http::request_line::{self, read_request_line_in_pieces};
+use winnow::error::ErrMode;
+use winnow::stream::{Partial, StreamIsPartial};
 
 /// A text, the method, the target and the two numbers of the version of the request line that it
 /// begins with, and what is left.
@@ -70,6 +73,12 @@ fn read_request_line_of_lines(rt: HostRuntime) {
         let mut input = *text;
         same(&rt, text, read_request_line(&mut input).ok(), want);
         same(&rt, text, input, *rest);
+        let mut other = *text;
+        same(&rt, text, request_line::read_request_line(&mut other).ok(), want);
+        same(&rt, text, other, *rest);
+        let mut pieces = Partial::new(*text);
+        same(&rt, text, read_request_line_in_pieces(&mut pieces).ok(), want);
+        same(&rt, text, pieces.into_inner(), *rest);
     }
 }
 
@@ -78,6 +87,11 @@ fn read_request_line_of_none(rt: HostRuntime) {
     for text in NO_LINES {
         let mut input = *text;
         same(&rt, text, read_request_line(&mut input).is_err(), true);
+        let mut other = *text;
+        same(&rt, text, request_line::read_request_line(&mut other).is_err(), true);
+        let mut pieces = Partial::new(*text);
+        let answer = read_request_line_in_pieces(&mut pieces);
+        same(&rt, text, matches!(answer, Err(ErrMode::Backtrack(_))), true);
     }
 }
 
@@ -85,7 +99,15 @@ fn read_request_line_of_none(rt: HostRuntime) {
 fn read_request_line_of_each_beginning(rt: HostRuntime) {
     let text = b"GET /where?q=now HTTP/1.1\r\n".as_slice();
     for count in 0..text.len() {
-        let mut input = &text[..count];
-        same(&rt, text, read_request_line(&mut input).is_err(), true);
+        let begun = &text[..count];
+        let mut input = begun;
+        same(&rt, begun, read_request_line(&mut input).is_err(), true);
+        let mut pieces = Partial::new(begun);
+        let answer = read_request_line_in_pieces(&mut pieces);
+        same(&rt, begun, matches!(answer, Err(ErrMode::Incomplete(_))), true);
+        let mut all = Partial::new(begun);
+        let _state = all.complete();
+        let ended = read_request_line_in_pieces(&mut all);
+        same(&rt, begun, matches!(ended, Err(ErrMode::Backtrack(_))), true);
     }
 }

@@ -1,13 +1,13 @@
 -- White space round a value.
-use Rattle.std.proofs.Common.{◌≡◌, ◌∙◌, ◌++◌, ◌∷◌, ℕ, List, [], ap, append_assoc, arith, inl, inr}
-use Rattle.std.proofs.Common.{◌⊎◌, ◌+◌, ◌<◌, ◌≤◌, drop, length, take, length-append, refl, subst}
+use Rattle.std.proofs.Common.{◌≡◌, ◌∙◌, ◌++◌, ◌∷◌, ℕ, List, [], ap, append_assoc, arith}
+use Rattle.std.proofs.Common.{◌+◌, ◌≤◌, drop, length, take, length-append, refl, subst}
 use Rattle.std.proofs.Common.{sym}
 use Rattle.std.specs.List.{All}
 use Rattle.std.proofs.Math.Seq.{drop-append-add, drop-append_seam}
 use Rattle.std.proofs.lemmas.List.{take-append-drop}
 use Rattle.std.proofs.lemmas.List.Elements.{All-append, All-cons, All-head, All-nil, All-tail}
-use Rattle.uses_http.specs.Bytes.{IsWhite, line_end}
-use Rattle.uses_http.specs.FieldLine.{BeginsBare, IsFieldLine}
+use Rattle.http_heads.specs.Bytes.{IsWhite}
+use Rattle.http_heads.specs.FieldLine.{BeginsBare, IsFieldLine}
 use Rattle.exported.specs.Http.{IsBehindGap}
 use Rattle.exported.specs.Span.{EndsWith}
 

@@ -1,18 +1,23 @@
 -- What stands behind a head, and how long it is.
-use Rattle.std.proofs.Common.{◌≡◌, ◌∙◌, ◌+◌, ◌≤◌, ◌++◌, ◌∷◌, [], ℕ, List, ap, arith, length}
-use Rattle.std.proofs.Common.{length-append}
-use Rattle.std.proofs.Common.{subst, sym, take}
+use denote.RawPtr.{null_ptr}
+use Rattle.std.proofs.Common.{◌≡◌, ◌∙◌, ◌+◌, ◌<◌, ◌≤◌, ◌^◌, ◌++◌, ◌∷◌, [], ℕ, List, ap, arith}
+use Rattle.std.proofs.Common.{length, length-append, map, refl, subst, sym, take}
 use Rattle.std.proofs.Math.Seq.{take-append_seam}
-use Rattle.uses_http.specs.Bytes.{line_end}
-use Rattle.uses_http.specs.FieldLine.{IsFieldLine}
-use Rattle.uses_http.specs.Head.{AreFieldLines, IsHead, Pair, Request}
-use Rattle.uses_http.specs.RequestLine.{IsRequestLine, digits, protocol}
+use Rattle.std.proofs.lemmas.List.{length-map}
+use Rattle.std.specs.Borrow.{Bor}
+use Rattle.winnow.specs.Grammar.{NoneStands}
+use Rattle.http_heads.specs.Bytes.{line_end}
+use Rattle.http_heads.specs.FieldLine.{IsFieldLine}
+use Rattle.http_heads.specs.Head.{AreFieldLines, HeadStands, IsHead, Pair, Request, pair}
+use Rattle.http_heads.specs.RequestLine.{IsRequestLine}
+use Rattle.http_heads.specs.declared.field_line.Field.{Field as Found}
+use Rattle.http_heads.specs.declared.head.Head.{Head}
 use Rattle.exported.specs.Http.{AreShown}
 use Rattle.exported.specs.declared.http.Field.{Field}
 use Rattle.exported.proofs.Lines.{version_on}
 
 line_within : (name value bytes rest : List ℕ) → IsFieldLine name value bytes rest
-    → length rest ≤ length bytes
+    → length rest < length bytes
 line_within name value bytes rest is =
     let tail = is.behind ++ (line_end ++ rest) in
     omega (
@@ -25,7 +30,7 @@ line_within name value bytes rest is =
     )
 
 lines_within : (fields : List Pair) (bytes end : List ℕ) → AreFieldLines fields bytes end
-    → length end ≤ length bytes
+    → length fields + length end ≤ length bytes
 lines_within [] bytes end e = omega (arith, ap length e)
 lines_within (f ∷ fields) bytes end (behind, is, others) =
     omega (arith, line_within f.0 f.1 bytes behind is, lines_within fields behind end others)
@@ -40,9 +45,9 @@ request_within method target bytes rest major minor is =
       length-append target (version_on major minor rest),
     )
 
--- no more is behind a head than there is
+-- no more is behind a head than there is, and each of its fields takes a byte
 pub head_within : (line : Request) (fields : List Pair) (bytes rest : List ℕ)
-    → IsHead line fields bytes rest → length rest ≤ length bytes
+    → IsHead line fields bytes rest → length fields + length rest ≤ length bytes
 head_within line fields bytes rest is =
     omega (
       arith,
@@ -62,3 +67,42 @@ shown_first input places others all fields n are count e =
     let cut : take n all ≡ places = ap (take n) e
     ∙ sym (ap (λ k. take k (places ++ others)) long) ∙ take-append_seam places others in
     subst P (sym cut) are
+
+-- ---- heads as values
+
+abbrev slice : List ℕ → Bor (List ℕ)
+slice text = record { ref_ptr = (0, 0); now = text }
+
+abbrev found : Pair → Found
+found f = record { name = slice f.0; value = slice f.1 }
+
+same_fields : (fields : List Pair) → map pair (map found fields) ≡ fields
+same_fields [] = refl
+same_fields (f ∷ fields) = ap (λ l. f ∷ l) (same_fields fields)
+
+-- each request with its fields is that of some value: where no value stands, none of them does
+pub none_of_lists : {A : Type 0} (alloc : A) (bytes : List ℕ) → length bytes < 2 ^ 63
+    → NoneStands (HeadStands {A = A}) bytes → (line : Request) (fields : List Pair)
+    (rest : List ℕ) → IsHead line fields bytes rest → ⊥
+none_of_lists {A} alloc bytes short none line fields rest is =
+    let P : List Pair → Type 0 = λ l. IsHead line l bytes rest in
+    let items = map found fields in
+    let head : Head A = record {
+      line = record {
+        method = slice line.method;
+        target = slice line.target;
+        major = line.major;
+        minor = line.minor;
+      };
+      fields = record {
+        ptr = null_ptr;
+        len = length items;
+        cap = length items;
+        alloc = alloc;
+        items = items;
+        ok = (refl, omega arith);
+        small =
+            omega (arith, short, length-map fields found, head_within line fields bytes rest is);
+      };
+    } in
+    none head rest (subst P (sym (same_fields fields)) is)

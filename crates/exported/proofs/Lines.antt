@@ -1,10 +1,10 @@
 -- The parts of a request line.
-use Rattle.std.proofs.Common.{◌≡◌, ◌∙◌, ◌+◌, ◌≤◌, ◌++◌, ◌∷◌, [], ℕ, List, ap, append_assoc, arith}
+use Rattle.std.proofs.Common.{◌≡◌, ◌∙◌, ◌+◌, ◌≤◌, ◌++◌, ◌∷◌, [], ℕ, List, ap, arith}
 use Rattle.std.proofs.Common.{drop}
-use Rattle.std.proofs.Common.{length, length-append, refl, subst, sym}
+use Rattle.std.proofs.Common.{length, length-append, refl}
 use Rattle.std.proofs.Math.Seq.{drop-append-add}
-use Rattle.uses_http.specs.Bytes.{line_end}
-use Rattle.uses_http.specs.RequestLine.{IsRequestLine, digits, protocol}
+use Rattle.http_heads.specs.Bytes.{line_end}
+use Rattle.http_heads.specs.RequestLine.{IsRequestLine, digits, protocol}
 use Rattle.exported.specs.Span.{EndsWith}
 
 pub whole_ends : (input : List ℕ) → EndsWith input input

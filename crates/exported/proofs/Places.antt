@@ -1,12 +1,12 @@
 -- The places of fields, one after the other.
-use Rattle.std.proofs.Common.{◌≡◌, ◌≢◌, ◌+◌, ◌<◌, ◌⊎◌, ◌∷◌, ℕ, List, arith, drop, inl, inr, length}
+use Rattle.std.proofs.Common.{◌≡◌, ◌+◌, ◌<◌, ℕ, List, arith, drop, inl, inr, length}
 use Rattle.std.proofs.Common.{map}
-use Rattle.std.proofs.Common.{refl, slice_index_or, slice_set, subst, sym}
+use Rattle.std.proofs.Common.{slice_index_or, slice_set, subst, sym}
 use Rattle.std.proofs.lemmas.Bool.{cases_lt}
 use Rattle.std.proofs.lemmas.List.{drop_more, get_or-map, get_or-set_other, get_or-set_same}
-use Rattle.uses_http.specs.FieldLine.{IsFieldLine}
-use Rattle.uses_http.specs.Head.{AreFieldLines, Pair, pair}
-use Rattle.uses_http.specs.declared.field_line.Field.{Field as Found}
+use Rattle.http_heads.specs.FieldLine.{IsFieldLine}
+use Rattle.http_heads.specs.Head.{AreFieldLines, Pair, pair}
+use Rattle.http_heads.specs.declared.field_line.Field.{Field as Found}
 use Rattle.exported.specs.Http.{ShowsField}
 use Rattle.exported.specs.declared.http.Field.{Field}
 

@@ -1,9 +1,9 @@
 -- Where the parts of a head stand.
 use Rattle.std.specs.Prelude.{◌≡◌, ◌+◌, ◌<◌, ℕ, List, ◌++◌, length, slice_index_or}
 use Rattle.std.specs.List.{All}
-use Rattle.uses_http.specs.Bytes.{IsWhite}
-use Rattle.uses_http.specs.FieldLine.{BeginsBare}
-use Rattle.uses_http.specs.Head.{IsHead, Pair, Request}
+use Rattle.http_heads.specs.Bytes.{IsWhite}
+use Rattle.http_heads.specs.FieldLine.{BeginsBare}
+use Rattle.http_heads.specs.Head.{IsHead, Pair, Request}
 use Rattle.exported.specs.Span.{StandsAt}
 use Rattle.exported.specs.declared.http.Field.{Field}
 use Rattle.exported.specs.declared.http.Head.{Head}

@@ -8,6 +8,7 @@
 //! line end, are for the caller to take.
 #![tactic(auto)]
 
+pub mod field_line;
 pub mod laws;
 mod lines;
 mod numbers;

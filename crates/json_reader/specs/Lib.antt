@@ -2,6 +2,7 @@
 pub mod Alike
 pub mod Escapes
 pub mod First
+pub mod Marks
 pub mod Numbers
 pub mod Runs
 pub mod Unique

@@ -2,6 +2,7 @@
 #![tactic(auto)]
 
 mod escapes;
+pub mod marks;
 pub mod number;
 mod parts;
 pub mod scalar;

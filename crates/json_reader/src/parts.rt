@@ -3,11 +3,11 @@
 ghost use Rattle.json_texts.specs.Words.{latter, pair};
 ghost use Rattle.std.specs.Prelude.{◌≡◌};
 ghost use Rattle.winnow.specs.Exact.{Reads};
-ghost use Rattle.winnow.specs.Grammar.{Both, Either, Maybe, Taken, Three};
+ghost use Rattle.winnow.specs.Grammar.{Both, Either, Maybe, Taken};
 ghost use Rattle.winnow.specs.Grammar.Tuples.{Four};
 
 use winnow::Parser;
-use winnow::combinator::{alt, delimited, opt, preceded};
+use winnow::combinator::{alt, opt, preceded};
 use winnow::error::ParserError;
 use winnow::exact::Exact;
 use winnow::stream::Stream;
@@ -49,38 +49,6 @@ where
         (I.view input.old) result (I.view input.new) }
 {
     alt((first, second)).read(input)
-}
-
-/// Reads what stands between two others.
-pub fn read_between<I, O1, O2, O3, E, P, Q, R>(
-    first: P,
-    second: Q,
-    third: R,
-    input: &mut I,
-) -> Result<O2, E>
-where
-    I: Stream,
-    O1: Drop,
-    O2: Drop,
-    O3: Drop,
-    E: ParserError<I>,
-    P: Exact<I, O1, E> + Drop,
-    Q: Exact<I, O2, E> + Drop,
-    R: Exact<I, O3, E> + Drop,
-    requires first_callable { P.can_parse first }
-    requires first_premise { P.premise first }
-    requires first_backtracks { P.backtracks first }
-    requires second_callable { Q.can_parse second }
-    requires second_premise { Q.premise second }
-    requires second_backtracks { Q.backtracks second }
-    requires third_callable { R.can_parse third }
-    requires third_premise { R.premise third }
-    requires third_backtracks { R.backtracks third }
-    ensures { Reads I.reading E.kind
-        (Three (λ _ o _. o) (P.grammar first) (Q.grammar second) (R.grammar third))
-        (I.view input.old) result (I.view input.new) }
-{
-    delimited(first, second, third).read(input)
 }
 
 /// Reads four, one behind the other.

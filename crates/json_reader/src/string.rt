@@ -10,7 +10,7 @@ ghost use Rattle.winnow.specs.Texts.{Anything};
 ghost use Rattle.winnow.specs.Told.{ReadsText};
 
 use crate::escapes::read_escape;
-use crate::parts::read_between;
+use crate::marks::read_between;
 use std::alloc::Allocator;
 use winnow::error::{EmptyError, ErrMode, HasKind, ParserError};
 use winnow::exact::{Exact, Rule};

@@ -2,5 +2,5 @@
 pub mod First
 pub mod General
 pub mod Integer
-pub mod Items
+pub mod Pairs
 pub mod Unique

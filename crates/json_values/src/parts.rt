@@ -1,7 +1,8 @@
 //! Rules made of parts: what is read is said by the grammars of the parts, whichever parsers they
 //! are, and over any stream.
+ghost use Rattle.json_reader.specs.Marks.{Items};
 ghost use Rattle.json_texts.specs.Words.{former, latter};
-ghost use Rattle.json_values.specs.Items.{Items, Pair};
+ghost use Rattle.json_values.specs.Pairs.{Pair};
 ghost use Rattle.std.specs.Fn.{CalledAtMut};
 ghost use Rattle.std.specs.Prelude.{◌≡◌, false};
 ghost use Rattle.winnow.specs.Exact.{Reads};
@@ -9,101 +10,12 @@ ghost use Rattle.winnow.specs.Exact.Whole.{ReadsAll};
 ghost use Rattle.winnow.specs.Grammar.{Both};
 ghost use Rattle.winnow.specs.Rule.{CallsRead};
 
+use json_reader::marks::{Marks, read_items};
 use std::alloc::Allocator;
-use winnow::combinator::impls::Separated;
-use winnow::combinator::{delimited, preceded, separated, separated_pair, terminated};
+use winnow::combinator::{preceded, separated_pair, terminated};
 use winnow::error::{ParseFault, ParserError};
 use winnow::exact::{Exact, Rule};
-use winnow::stream::{Range, Stream, StreamIsPartial};
-
-/// The marks of an array or an object, and white space.
-#[derive(Clone, Copy, Drop)]
-pub struct Marks<B, G> {
-    /// What stands before the items.
-    pub opening: B,
-    /// What stands between two items.
-    pub comma: B,
-    /// What stands behind the items.
-    pub closing: B,
-    /// What stands behind the other two, and behind each name and value.
-    pub gap: G,
-}
-
-/// Reads items between two marks, with a third between each two items, and white space behind the
-/// first mark and behind each of those between items.
-pub fn read_items<I, E, O, M, W, A, P, B, G>(
-    alloc: A,
-    item: P,
-    marks: Marks<B, G>,
-    input: &mut I,
-) -> Result<Vec<O, A>, E>
-where
-    I: Stream,
-    E: ParserError<I>,
-    O: Drop,
-    M: Drop,
-    W: Drop,
-    A: Allocator + Copy,
-    P: Exact<I, O, E> + Drop,
-    B: Exact<I, M, E> + Copy + Drop,
-    G: Exact<I, W, E> + Copy + Drop,
-    requires item { P.can_parse item × P.premise item × P.backtracks item }
-    requires opening { B.can_parse marks.opening × B.premise marks.opening
-        × B.backtracks marks.opening }
-    requires comma { B.can_parse marks.comma × B.premise marks.comma × B.backtracks marks.comma
-        × B.consumes marks.comma }
-    requires closing { B.can_parse marks.closing × B.premise marks.closing
-        × B.backtracks marks.closing }
-    requires gap { G.can_parse marks.gap × G.premise marks.gap × G.backtracks marks.gap }
-    ensures { Reads I.reading E.kind (Items (P.grammar item) (B.grammar marks.opening)
-        (B.grammar marks.comma) (B.grammar marks.closing) (G.grammar marks.gap))
-        (I.view input.old) result (I.view input.new) }
-{
-    let items: Separated<P, (B, G), I, O, (M, W), Vec<O, A>, E, A> = separated(
-        alloc,
-        Range::from(0..),
-        item,
-        (marks.comma, marks.gap),
-    );
-    delimited((marks.opening, marks.gap), items, marks.closing).read(input)
-}
-
-/// Reads values between marks. A function reads a value by a rule, and white space is behind it.
-pub fn read_array_of<I, E, O, M, W, A, R, F, B, G>(
-    alloc: A,
-    rule: R,
-    value: F,
-    marks: Marks<B, G>,
-    input: &mut I,
-) -> Result<Vec<O, A>, E>
-where
-    I: Stream,
-    E: ParserError<I>,
-    O: Drop,
-    M: Drop,
-    W: Drop,
-    A: Allocator + Copy,
-    R: Rule<I, O> + Drop,
-    F: FnMut(&mut I) -> Result<O, E> + Drop,
-    B: Exact<I, M, E> + Copy + Drop,
-    G: Exact<I, W, E> + Copy + Drop,
-    requires callable { F.IsAlwaysCallable value }
-    requires reads { CallsRead I.reading I.view E.kind (CalledAtMut F.FnMut) (R.grammar rule)
-        value }
-    requires opening { B.can_parse marks.opening × B.premise marks.opening
-        × B.backtracks marks.opening }
-    requires comma { B.can_parse marks.comma × B.premise marks.comma × B.backtracks marks.comma
-        × B.consumes marks.comma }
-    requires closing { B.can_parse marks.closing × B.premise marks.closing
-        × B.backtracks marks.closing }
-    requires gap { G.can_parse marks.gap × G.premise marks.gap × G.backtracks marks.gap }
-    ensures { Reads I.reading E.kind (Items (Both former (R.grammar rule) (G.grammar marks.gap))
-        (B.grammar marks.opening) (B.grammar marks.comma) (B.grammar marks.closing)
-        (G.grammar marks.gap)) (I.view input.old) result (I.view input.new) }
-{
-    let item = terminated(rule.by(value), marks.gap);
-    read_items(alloc, item, marks, input)
-}
+use winnow::stream::{Stream, StreamIsPartial};
 
 /// Reads members between marks, each a name, a mark and a value, with white space behind each of
 /// them. A function reads a name by a rule, and another a value.

@@ -14,7 +14,8 @@ ghost use Rattle.winnow.specs.Accumulator.Holds.{HasCharacters};
 ghost use Rattle.winnow.specs.Texts.{Begins, NotFirst};
 ghost use Rattle.winnow.specs.Told.{IsTextOf, ReadsText};
 
-use crate::parts::{Marks, parse_spaced, read_array_of, read_object_of};
+use crate::parts::{parse_spaced, read_object_of};
+use json_reader::marks::{Marks, read_array_of};
 use json_reader::scalar::read_scalar;
 use json_reader::string::read_string;
 use json_texts::value::Value;

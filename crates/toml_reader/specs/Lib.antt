@@ -5,7 +5,6 @@ pub mod Expected
 pub mod First
 pub mod Lines
 pub mod Messages
-pub mod Parts
 pub mod Repeats
 pub mod Toml
 pub mod Unique

@@ -13,9 +13,10 @@ ghost use Rattle.winnow.specs.Texts.{Begins, NotFirst};
 ghost use Rattle.winnow.specs.Told.{IsTextOf, ReadsText};
 
 use crate::characters::Characters;
-use crate::parts::{Marks, parse_lines_of, read_array_of, read_between, read_line_of, read_pair};
+use crate::parts::{parse_lines_of, read_line_of, read_pair};
 use crate::scalars::{begins_with, read_scalar};
 use crate::value::{Document, Item, Value};
+use json_reader::marks::{Marks, read_array_of, read_between};
 use std::alloc::Allocator;
 use winnow::ascii::impls::Space0;
 use winnow::combinator::{alt, preceded, repeat, terminated};

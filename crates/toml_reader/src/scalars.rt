@@ -10,8 +10,8 @@ ghost use Rattle.winnow.specs.Texts.{Begins, NotFirst};
 
 use crate::characters::Characters;
 use crate::escapes::{AnyCharacter, read_character};
-use crate::parts::read_between;
 use crate::value::Value;
+use json_reader::marks::read_between;
 use std::alloc::Allocator;
 use winnow::ascii::impls::DecInt;
 use winnow::combinator::repeat;

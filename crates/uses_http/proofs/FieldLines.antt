@@ -20,9 +20,10 @@ use Rattle.winnow.specs.Stable.Grows.{Grows}
 use Rattle.winnow.specs.TakeWhile.Known.{TakesOf, take_leaves, take_reads, tells_of, took_by}
 use Rattle.winnow.specs.TakeWhile.Known.{took_stops}
 use Rattle.winnow.specs.{Range}
-use Rattle.uses_http.specs.Bytes.{IsTokenByte, IsValueByte, IsWhite, line_end}
+use Rattle.http_heads.specs.Bytes.{IsTokenByte, IsValueByte, IsWhite, line_end}
 use Rattle.uses_http.specs.Ranges.{any_bytes, some_bytes}
-use Rattle.uses_http.specs.FieldLine.{BeginsFieldLine, IsFieldLine, NoFieldLine}
+use Rattle.http_heads.specs.FieldLine.{IsFieldLine}
+use Rattle.uses_http.specs.FieldLine.{BeginsFieldLine, NoFieldLine}
 use Rattle.uses_http.proofs.Begun.{Begins, slice_begins, take_begins, token_begins}
 use Rattle.uses_http.proofs.BegunSequences.{Joined5, sequence5_begins}
 use Rattle.uses_http.proofs.Fails.{Fails, FailsSo, sequence5_fails, slice_fails, take_fails}

@@ -1,17 +1,16 @@
 -- Heads: bytes begin with one at most.
-use Rattle.std.proofs.Common.{◌≡◌, ◌∙◌, ◌++◌, ◌∷◌, ◌+◌, ◌<◌, ℕ, List, [], ap, append_assoc, arith}
-use Rattle.std.proofs.Common.{◌⊎◌, Option, inl, inr, length}
-use Rattle.std.proofs.Common.{length-append, map, refl, subst, sym}
+use Rattle.std.proofs.Common.{◌≡◌, ◌∙◌, ◌++◌, ◌∷◌, ◌+◌, ℕ, List, [], ap, append_assoc, arith}
+use Rattle.std.proofs.Common.{◌⊎◌, Option, inl, inr, map, refl, subst, sym}
 use Rattle.std.proofs.lemmas.List.{map_push}
 use Rattle.winnow.specs.Kind.{Kind, incomplete}
-use Rattle.uses_http.specs.Bytes.{IsTokenByte, IsVisible, line_end}
-use Rattle.uses_http.specs.FieldLine.{BeginsFieldLine, IsFieldLine, NoFieldLine}
-use Rattle.uses_http.specs.Head.{AreFieldLines, AreFields, BeginsFields, BeginsHead}
-use Rattle.uses_http.specs.Head.{IsHead, NoFields, NoHead, Pair}
-use Rattle.uses_http.specs.Head.{Request, pair}
-use Rattle.uses_http.specs.RequestLine.{BeginsRequestLine, IsRequestLine, NoRequestLine}
-use Rattle.uses_http.specs.RequestLine.{digits}
-use Rattle.uses_http.specs.declared.field_line.Field.{Field}
+use Rattle.http_heads.specs.Bytes.{IsTokenByte, IsVisible, line_end}
+use Rattle.http_heads.specs.FieldLine.{IsFieldLine}
+use Rattle.http_heads.specs.Head.{AreFieldLines, AreFields, IsHead, Pair, Request, pair}
+use Rattle.http_heads.specs.RequestLine.{IsRequestLine, digits}
+use Rattle.http_heads.specs.declared.field_line.Field.{Field}
+use Rattle.uses_http.specs.FieldLine.{BeginsFieldLine, NoFieldLine}
+use Rattle.uses_http.specs.Head.{BeginsFields, BeginsHead, NoFields, NoHead}
+use Rattle.uses_http.specs.RequestLine.{BeginsRequestLine, NoRequestLine}
 use Rattle.uses_http.proofs.Texts.{one_text}
 use Rattle.uses_http.proofs.Values.{field_line_begins, field_line_one}
 
@@ -156,19 +155,6 @@ read_more fields fields' f bytes now rest lines line grew =
     let P : List Pair → Type 0 = λ l. AreFieldLines l bytes rest in
     subst P (sym (ap (λ l. map pair l) grew ∙ map_push pair fields f))
     (lines_more (map pair fields) (pair f) bytes now rest lines line)
-
--- a field line has a colon and a line end at least
-pub read_less : (name value now rest : List ℕ) → IsFieldLine name value now rest
-    → length rest < length now
-read_less name value now rest line =
-    omega (
-      arith,
-      ap (λ l. length l) line.splits,
-      length-append name (58 ∷ (line.before ++ (value ++ (line.behind ++ (line_end ++ rest))))),
-      length-append line.before (value ++ (line.behind ++ (line_end ++ rest))),
-      length-append value (line.behind ++ (line_end ++ rest)),
-      length-append line.behind (line_end ++ rest),
-    )
 
 -- ---- what begins with none, whatever comes behind it
 

@@ -4,6 +4,7 @@ use Rattle.std.proofs.Common.{refl, subst, sym}
 use Rattle.std.specs.Prelude.{⊤}
 use Rattle.std.proofs.lemmas.Bool.{true≢false}
 use Rattle.winnow.specs.Counted.{counted_reading}
+use Rattle.winnow.specs.Equal.{same_first, same_others}
 use Rattle.winnow.specs.Form.{modal}
 use Rattle.winnow.specs.Form.Known.{ok_is_err}
 use Rattle.winnow.specs.Input.{Input}
@@ -12,7 +13,6 @@ use Rattle.winnow.specs.OneOf.{OneOfRuns}
 use Rattle.winnow.specs.OneOf.Known.{one_of_ok}
 use Rattle.winnow.specs.Reads.{MustLeave, Reads}
 use Rattle.winnow.specs.Runs.{Keeps, Runs}
-use Rattle.uses_http.proofs.Texts.{same_first, same_others}
 
 -- what a set tells of each byte, whether it is of P
 abbrev pub Tells : (ℕ → Type 0) → ℕ → Bool → Type 0
@@ -36,7 +36,7 @@ member_fails : (P : ℕ → Type 0) (b : ℕ) (rest : List ℕ) (i : Input ℕ) 
     → OneOfRuns (λ t. t) counted_reading modal (Tells P) i (Err k) j → ⊥
 member_fails P b rest i k j is begins (inl (x, passes, told, e)) = ok_is_err e refl
 member_fails P b rest i k j is begins (inr (inl (x, more, splits, told, e, same))) =
-    let first = same_first b x rest more (sym begins ∙ splits) in
+    let first = same_first (sym begins ∙ splits) in
     true≢false (sym (told.1 (subst P first is)))
 member_fails P b rest i k j is begins (inr (inr (l, nothing, short, e, same))) =
     never (sym begins ∙ nothing)
@@ -57,6 +57,6 @@ pub member_leaves : {A : Type 0} (P : ℕ → Type 0) (s : A) (b : ℕ) (rest : 
     → MustLeave (MemberOf P) s (b ∷ rest) rest
 member_leaves P s b rest is = record {
   leaves = λ i o t j begins ran.
-      sym (same_others b o rest j.left.tokens (sym begins ∙ (member_taken P i o j ran.0).0));
+      sym (same_others (sym begins ∙ (member_taken P i o j ran.0).0));
   answers = λ i k t j begins ran. member_fails P b rest i k j is begins ran.0;
 }

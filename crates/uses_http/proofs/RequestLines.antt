@@ -20,10 +20,10 @@ use Rattle.winnow.specs.Stable.{IsFinalKind}
 use Rattle.winnow.specs.Stable.Grows.{Grows}
 use Rattle.winnow.specs.TakeWhile.Known.{TakesOf, take_leaves, take_reads}
 use Rattle.winnow.specs.{Range}
-use Rattle.uses_http.specs.Bytes.{IsDigit, IsTokenByte, IsVisible, line_end}
+use Rattle.http_heads.specs.Bytes.{IsDigit, IsTokenByte, IsVisible, line_end}
 use Rattle.uses_http.specs.Ranges.{some_bytes}
-use Rattle.uses_http.specs.RequestLine.{BeginsRequestLine, IsRequestLine, NoRequestLine}
-use Rattle.uses_http.specs.RequestLine.{digits, protocol}
+use Rattle.http_heads.specs.RequestLine.{IsRequestLine, digits, protocol}
+use Rattle.uses_http.specs.RequestLine.{BeginsRequestLine, NoRequestLine}
 use Rattle.uses_http.proofs.Begun.{Begins, OneOf, member_begins, slice_begins, take_begins}
 use Rattle.uses_http.proofs.Begun.{token_begins}
 use Rattle.uses_http.proofs.BegunSequences.{Joined4, Joined5, sequence4_begins, sequence5_begins}

@@ -2,29 +2,24 @@
 use Rattle.std.proofs.Common.{◌≡◌, ◌∙◌, ◌++◌, ◌∷◌, ℕ, List, [], ap, refl, subst, sym}
 use Rattle.std.specs.List.{All}
 use Rattle.std.proofs.lemmas.List.Elements.{All-head, All-tail}
-
-pub same_first : (b c : ℕ) (bs cs : List ℕ) → b ∷ bs ≡ c ∷ cs → b ≡ c
-same_first b c bs cs e = cc
-
-pub same_others : (b c : ℕ) (bs cs : List ℕ) → b ∷ bs ≡ c ∷ cs → bs ≡ cs
-same_others b c bs cs e = cc
+use Rattle.winnow.specs.Equal.{same_first, same_others}
 
 -- where a stranger to P stands first, no text of P does
 stranger : (P : ℕ → Type 0) (x y : ℕ) (xs ys : List ℕ) → (P x → ⊥) → P y → x ∷ xs ≡ y ∷ ys → ⊥
-stranger P x y xs ys not is e = not (subst P (sym (same_first x y xs ys e)) is)
+stranger P x y xs ys not is e = not (subst P (sym (same_first e)) is)
 
 -- there is one text of P before a stranger to it, and one rest behind that
 pub one_text : (P : ℕ → Type 0) (x : ℕ) (xs ys a b : List ℕ) → (P x → ⊥) → All P xs → All P ys
     → xs ++ x ∷ a ≡ ys ++ x ∷ b → (xs ≡ ys) × (a ≡ b)
-one_text P x [] [] a b not p q e = (refl, same_others x x a b e)
+one_text P x [] [] a b not p q e = (refl, same_others e)
 one_text P x [] (y ∷ ys) a b not p q e =
     absurd (stranger P x y a (ys ++ x ∷ b) not (All-head P y ys q) e)
 one_text P x (z ∷ xs) [] a b not p q e =
     absurd (stranger P x z b (xs ++ x ∷ a) not (All-head P z xs p) (sym e))
 one_text P x (z ∷ xs) (y ∷ ys) a b not p q e =
     let again = one_text P x xs ys a b not (All-tail P z xs p) (All-tail P y ys q)
-    (same_others z y (xs ++ x ∷ a) (ys ++ x ∷ b) e) in (
-      ap (λ w. w ∷ xs) (same_first z y (xs ++ x ∷ a) (ys ++ x ∷ b) e) ∙ ap (λ l. y ∷ l) again.0,
+    (same_others e) in (
+      ap (λ w. w ∷ xs) (same_first e) ∙ ap (λ l. y ∷ l) again.0,
       again.1,
     )
 
@@ -38,7 +33,7 @@ one_stranger P x y (z ∷ xs) [] a b not other p q e =
     absurd (stranger P y z b (xs ++ x ∷ a) other (All-head P z xs p) (sym e))
 one_stranger P x y (z ∷ xs) (w ∷ ys) a b not other p q e =
     one_stranger P x y xs ys a b not other (All-tail P z xs p) (All-tail P w ys q)
-    (same_others z w (xs ++ x ∷ a) (ys ++ y ∷ b) e)
+    (same_others e)
 
 -- one byte of a text of P
 pub in_middle : (P : ℕ → Type 0) (xs : List ℕ) (y : ℕ) (ys : List ℕ) → All P (xs ++ y ∷ ys) → P y

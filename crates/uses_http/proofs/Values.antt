@@ -1,14 +1,18 @@
 -- Values of fields: there is one without the white space that stands around it.
 use Rattle.std.proofs.Common.{◌≡◌, ◌∙◌, ◌++◌, ◌∷◌, ℕ, List, [], ap, append_assoc, arith, inl, inr}
 use Rattle.std.proofs.Common.{◌⊎◌, ◌<◌, length, length-append, refl, subst, sym}
+use Rattle.std.specs.Borrow.{Bor}
 use Rattle.std.specs.List.{All}
 use Rattle.std.proofs.lemmas.Bool.Decides.{eqb_tells}
 use Rattle.std.proofs.lemmas.List.Elements.{All-append, All-cons, All-head, All-nil, All-tail}
 use Rattle.std.proofs.lemmas.List.Elements.{All-weaker}
-use Rattle.std.proofs.lemmas.List.{append-nil, same_from_push}
-use Rattle.uses_http.specs.Bytes.{IsTokenByte, IsValueByte, IsWhite, line_end}
-use Rattle.uses_http.specs.FieldLine.{BeginsBare, EndsBare, IsFieldLine, IsTrimmed}
-use Rattle.uses_http.proofs.Texts.{in_middle, one_stranger, one_text, same_first, same_others}
+use Rattle.std.proofs.lemmas.List.{same_from_push}
+use Rattle.http_heads.specs.Bytes.{IsTokenByte, IsValueByte, IsWhite, line_end}
+use Rattle.http_heads.specs.FieldLine.{BeginsBare, EndsBare, IsFieldLine, IsTrimmed}
+use Rattle.http_heads.specs.FieldRead.{field_takes, none_returns}
+use Rattle.http_heads.specs.declared.field_line.Field.{Field}
+use Rattle.winnow.specs.Equal.{same_first, same_others}
+use Rattle.uses_http.proofs.Texts.{in_middle, one_stranger, one_text}
 
 pub white_is_value : (b : ℕ) → IsWhite b → IsValueByte b
 white_is_value b (inl space) = inl (omega (arith, space), λ e. omega (arith, space, e))
@@ -38,9 +42,9 @@ ends_one (x ∷ xs) [] a b p q ends other e =
     let P : List ℕ → Type 0 = λ l. All IsWhite l in
     absurd (white_last x xs a (subst P (sym e) q) ends)
 ends_one (x ∷ xs) (y ∷ ys) a b p q ends other e =
-    ap (λ z. z ∷ xs) (same_first x y (xs ++ a) (ys ++ b) e)
+    ap (λ z. z ∷ xs) (same_first e)
     ∙ ap (λ l. y ∷ l) (ends_one xs ys a b p q (bare_tail x xs ends) (bare_tail y ys other)
-    (same_others x y (xs ++ a) (ys ++ b) e))
+    (same_others e))
 
 -- ---- both ends
 
@@ -98,18 +102,26 @@ field_line_one name other value text bytes one two f g =
       value_one f.before value f.behind g.before text g.behind f.white_before f.white_behind
           g.white_before g.white_behind f.begins_bare f.ends_bare g.begins_bare g.ends_bare
           texts.0,
-      same_others 10 10 one two texts.1,
+      same_others texts.1,
     )
+
+-- a field of this name and this value
+abbrev field_of : List ℕ → List ℕ → Field
+field_of name value =
+    let slice : List ℕ → Bor (List ℕ) = λ text. record { ref_ptr = (0, 0); now = text } in
+    record { name = slice name; value = slice value }
 
 -- and none begins with a carriage return
 pub field_line_begins : (name value bytes rest more : List ℕ) → IsFieldLine name value bytes rest
     → bytes ≡ 13 ∷ more → ⊥
-field_line_begins [] value bytes rest more line e = omega (arith, line.some_name)
-field_line_begins (n ∷ name) value bytes rest more line e =
-    let P : ℕ → Type 0 = λ b. IsTokenByte b in
-    let never : IsTokenByte 13 → ⊥ = λ h. omega (arith, h) in
-    never (subst P (sym (same_first 13 n more _ (sym e ∙ line.splits)))
-    (All-head IsTokenByte n name line.is_name))
+field_line_begins name value bytes rest more line =
+    none_returns bytes (field_of name value) rest more line
+
+-- each takes bytes
+pub field_line_takes : (name value bytes rest : List ℕ) → IsFieldLine name value bytes rest
+    → length rest < length bytes
+field_line_takes name value bytes rest line =
+    field_takes.fewer bytes (field_of name value) rest line
 
 -- ---- a field line as it is read: its text is the value, and white space behind that
 
@@ -179,53 +191,15 @@ read_some name (v ∷ value) bytes rest line = (
     is_value = All-append IsValueByte (v ∷ value) line.behind line.is_value
         (All-weaker IsWhite IsValueByte white_is_value line.behind line.white_behind);
     bare = λ b more e white. line.begins_bare v value refl
-        (subst IsWhite (sym (same_first v b (value ++ line.behind) more e)) white);
+        (subst IsWhite (sym (same_first e)) white);
   },
 )
 
--- ---- the white space at the end of a text
-
--- So much was taken off so far.
-pub record IsCut (now text : List ℕ) : Type 0 where
-  pub behind : List ℕ
-  pub splits : text ≡ now ++ behind
-  pub white : All IsWhite behind
-
-pub cut_none : (text : List ℕ) → IsCut text text
-cut_none text = record {
-  behind = [];
-  splits = sym (append-nil text);
-  white = All-nil IsWhite;
-}
-
--- one byte more
-pub cut_more : (now front text : List ℕ) (b : ℕ) → IsCut now text → now ≡ front ++ b ∷ []
-    → IsWhite b → IsCut front text
-cut_more now front text b it last is = record {
-  behind = b ∷ it.behind;
-  splits = it.splits ∙ ap (λ l. l ++ it.behind) last ∙ append_assoc front (b ∷ []) it.behind;
-  white = All-cons IsWhite b it.behind is it.white;
-}
-
--- where the last byte is none, or nothing is left, that is all
-pub cut_all : (now text : List ℕ) → IsCut now text → EndsBare now → IsTrimmed now text
-cut_all now text it bare = record {
-  behind = it.behind;
-  splits = it.splits;
-  white_behind = it.white;
-  ends_bare = bare;
-}
-
-pub nothing_bare : (now : List ℕ) → length now ≡ 0 → EndsBare now
-nothing_bare now none = λ b front e white.
-    omega (arith, none, ap (λ l. length l) e, length-append front (b ∷ []))
-
-pub last_bare : (now front : List ℕ) (b : ℕ) → now ≡ front ++ b ∷ [] → (IsWhite b → ⊥)
-    → EndsBare now
-last_bare now front b last not = λ c others e white.
-    not (subst IsWhite (sym (same_from_push front others b c (sym last ∙ e)).1) white)
-
 -- ---- each text has a value
+
+nothing_bare : EndsBare []
+nothing_bare b front e white =
+    omega (arith, ap (λ l. length l) e, length-append front (b ∷ []))
 
 is_white : (b : ℕ) → IsWhite b ⊎ (IsWhite b → ⊥)
 is_white b = elim (eqb_tells b 32) [
@@ -241,7 +215,7 @@ is_white b = elim (eqb_tells b 32) [
 bare_more : (x y : ℕ) (ys : List ℕ) → EndsBare (y ∷ ys) → EndsBare (x ∷ y ∷ ys)
 bare_more x y ys bare b [] e white = omega (arith, ap (λ l. length l) e)
 bare_more x y ys bare b (f ∷ front) e white =
-    bare b front (same_others x f (y ∷ ys) (front ++ b ∷ []) e) white
+    bare b front (same_others e) white
 
 bare_one : (x : ℕ) → (IsWhite x → ⊥) → EndsBare (x ∷ [])
 bare_one x not b front e white =
@@ -254,7 +228,7 @@ trimmed_some [] = (
     behind = [];
     splits = refl;
     white_behind = All-nil IsWhite;
-    ends_bare = nothing_bare [] refl;
+    ends_bare = nothing_bare;
   },
 )
 trimmed_some (x ∷ xs) = by (trimmed_some xs) (is_white x)
@@ -276,7 +250,7 @@ trimmed_some (x ∷ xs) = by (trimmed_some xs) (is_white x)
         behind = x ∷ it.behind;
         splits = ap (λ l. x ∷ l) it.splits;
         white_behind = All-cons IsWhite x it.behind white it.white_behind;
-        ends_bare = nothing_bare [] refl;
+        ends_bare = nothing_bare;
       },
     )
     by ([], it) (inr not) = (
@@ -328,7 +302,7 @@ shifted_some (x ∷ xs) = by (shifted_some xs) (is_white x)
       record {
         splits = refl;
         white = All-nil IsWhite;
-        bare = λ b more e white. not (subst IsWhite (sym (same_first x b xs more e)) white);
+        bare = λ b more e white. not (subst IsWhite (sym (same_first e)) white);
       },
     )
 

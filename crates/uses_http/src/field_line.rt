@@ -1,5 +1,4 @@
-//! A header field line of HTTP/1.1 (RFC 9112, section 5): a name, a colon, a value, and a line end
-//! (a carriage return and a line feed). White space may stand before the value and behind it.
+//! A header field line of HTTP/1.1 (RFC 9112, section 5) over bytes that come in pieces.
 #![tactic(auto)]
 
 ghost use Rattle.std.specs.Prelude.{◌≡◌, IfErr, IfOk, IsOk, List, Option, ℕ, true};
@@ -8,32 +7,18 @@ ghost use Rattle.winnow.specs.Input.{IsEndOf};
 ghost use Rattle.winnow.specs.Kind.{backtrack, incomplete, memory};
 ghost use Rattle.winnow.specs.Stable.{IsFinalKind};
 ghost use Rattle.winnow.specs.TakeWhile.{take_while_occurrences};
-ghost use Rattle.uses_http.specs.Bytes.{line_end};
-ghost use Rattle.uses_http.specs.FieldLine.{BeginsFieldLine, IsFieldLine, IsTrimmed, NoFieldLine};
+ghost use Rattle.http_heads.specs.Bytes.{line_end};
+ghost use Rattle.http_heads.specs.FieldLine.{IsFieldLine};
+ghost use Rattle.uses_http.specs.FieldLine.{BeginsFieldLine, NoFieldLine};
 ghost use Rattle.uses_http.specs.Ranges.{any_bytes, some_bytes};
 
-use crate::sets::{TokenBytes, ValueBytes, White};
+use http_heads::field_line::{Field, trimmed};
+use http_heads::sets::{TokenBytes, ValueBytes, White};
 use winnow::error::{EmptyError, ErrMode, HasKind};
 use winnow::prelude::*;
 use winnow::stream::{Partial, Range};
 use winnow::token::impls::TakeWhile;
 use winnow::token::take_while;
-
-/// A field: its name and its value, as slices of the input.
-///
-/// ```
-/// use uses_http::field_line::Field;
-///
-/// let field = Field { name: b"Host".as_slice(), value: b"example.org".as_slice() };
-/// assert_eq!(rt; field.name.len(), 4);
-/// ```
-#[derive(Clone, Copy, Debug, PartialEq, Drop)]
-pub struct Field<'i> {
-    /// The name, a token of one byte or more.
-    pub name: &'i [u8],
-    /// The value, without the white space around it. It may have no bytes.
-    pub value: &'i [u8],
-}
 
 /// The parsers of the name, the colon, the white space, the value with the white space behind it,
 /// and the line end.
@@ -62,36 +47,19 @@ fn line<I: StreamIsPartial<Token = u8>, E: ParserError<I>>() -> Line<I, E>
     )
 }
 
-/// A text without the white space at its end.
-fn trimmed<'i>(text: &'i [u8]) -> &'i [u8]
-    ensures { IsTrimmed result.now text.now }
-{
-    let mut value = text;
-    'bytes: while let Some((last, front)) = value.split_last() {
-        if *last != b' ' && *last != b'\t' {
-            return value;
-        }
-        value = front;
-    }
-    value
-}
-
-/// The field of the field line with which the bytes begin.
+/// The field of the field line with which whole bytes begin, as
+/// [the reader by a grammar](http_heads::field_line::read_field_line) reads it.
 ///
-/// The name is a token of one byte or more. The value is of visible bytes, spaces, tabs and bytes
-/// of 128 and above; it may have no bytes. Spaces and tabs may stand before it and behind it, and
-/// are no part of it. An error says that no field line stands there; some bytes may then have been
-/// passed.
+/// It stands beside that one since it never wants memory, which no grammar says: an error says that
+/// no field line stands there. Some bytes may then have been passed.
 ///
 /// ```
 /// use uses_http::field_line::read_field_line;
 ///
 /// let mut input = b"Host: example.org \r\n\r\n".as_slice();
 /// let field = read_field_line(&mut input);
-/// assert!(rt; matches!(field, Ok(field) if field.name == b"Host".as_slice()));
 /// assert!(rt; matches!(field, Ok(field) if field.value == b"example.org".as_slice()));
 /// assert_eq!(rt; input, b"\r\n".as_slice());
-/// assert!(rt; read_field_line(&mut b"Host : example.org\r\n".as_slice()).is_err());
 /// ```
 pub fn read_field_line<'i>(input: &mut &'i [u8]) -> Result<Field<'i>, ErrMode<EmptyError>>
     ensures line { IfOk result (λ field.

@@ -6,10 +6,12 @@ ghost use Rattle.winnow.specs.Bytes.{bytes_reading};
 ghost use Rattle.winnow.specs.Input.{IsEndOf};
 ghost use Rattle.winnow.specs.Kind.{incomplete, memory};
 ghost use Rattle.winnow.specs.Stable.{IsFinalKind};
-ghost use Rattle.uses_http.specs.Bytes.{line_end};
-ghost use Rattle.uses_http.specs.Head.{AreFields, BeginsFields, NoFields, Pair, pair};
+ghost use Rattle.http_heads.specs.Bytes.{line_end};
+ghost use Rattle.http_heads.specs.Head.{AreFields, Pair, pair};
+ghost use Rattle.uses_http.specs.Head.{BeginsFields, NoFields};
 
-use crate::field_line::{Field, read_field_line_in_pieces};
+use crate::field_line::read_field_line_in_pieces;
+use http_heads::field_line::Field;
 use std::alloc::Allocator;
 use winnow::error::{EmptyError, ErrMode, HasKind};
 use winnow::prelude::*;

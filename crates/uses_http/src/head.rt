@@ -1,41 +1,22 @@
-//! The head of a request of HTTP/1.1 (RFC 9112, section 2.1): a request line, field lines one
-//! behind the other, and an empty line.
-//!
-//! An empty line before the request line, which a server should pass over (section 2.2), is no part
-//! of it, and a line that goes on behind white space, which senders must not write, is no field
-//! line.
+//! The head of a request of HTTP/1.1 (RFC 9112, section 2.1) over bytes that come in pieces. One of
+//! whole bytes is read by [`read_head`](http_heads::head::read_head).
 #![tactic(auto)]
 
-ghost use Rattle.std.specs.Prelude.{◌≡◌, ◌⊎◌, IfErr, IfOk, List, Option, ℕ, map, true};
+ghost use Rattle.std.specs.Prelude.{◌≡◌, IfErr, IfOk, List, Option, ℕ, map, true};
 ghost use Rattle.winnow.specs.Bytes.{bytes_reading};
 ghost use Rattle.winnow.specs.Input.{IsEndOf};
-ghost use Rattle.winnow.specs.Kind.{backtrack, incomplete, memory};
+ghost use Rattle.winnow.specs.Kind.{incomplete, memory};
 ghost use Rattle.winnow.specs.Stable.{IsFinalKind};
-ghost use Rattle.uses_http.specs.Head.{BeginsHead, IsHead, NoHead, Pair, Request, pair, request};
+ghost use Rattle.http_heads.specs.Head.{IsHead, Pair, Request, pair, request};
+ghost use Rattle.uses_http.specs.Head.{BeginsHead, NoHead};
 
-use crate::field_line::Field;
 use crate::fields::read_fields;
-use crate::request_line::{RequestLine, read_request_line_in_pieces};
+use crate::request_line::read_request_line_in_pieces;
+use http_heads::head::Head;
 use std::alloc::Allocator;
 use winnow::error::{EmptyError, ErrMode, HasKind};
 use winnow::prelude::*;
 use winnow::stream::Partial;
-
-/// A head: its request line, and its fields in order. `A` is the allocator of their list.
-///
-/// ```
-/// use uses_http::head::read_head;
-///
-/// let head = read_head(alloc, &mut b"GET / HTTP/1.1\r\nA: b\r\n\r\n".as_slice());
-/// assert!(rt; matches!(head, Ok(head) if head.fields[0].value == b"b".as_slice()));
-/// ```
-#[derive(Debug, Drop)]
-pub struct Head<'i, A: Allocator> {
-    /// The request line.
-    pub line: RequestLine<'i>,
-    /// The fields, those of one name too, as they stand.
-    pub fields: Vec<Field<'i>, A>,
-}
 
 /// The head with which bytes begin that come in pieces. It answers as soon as the empty line is
 /// there.
@@ -89,48 +70,6 @@ pub fn read_head_in_pieces<'i, A: Allocator + Copy>(
         Err(error) => {
             *input = start;
             Err(error)
-        }
-    }
-}
-
-/// The head with which the bytes begin.
-///
-/// An error leaves the input as it was: it wants memory, or says that no head stands there.
-///
-/// ```
-/// use uses_http::head::read_head;
-///
-/// let mut input = b"GET / HTTP/1.1\r\nHost: example.org\r\n\r\nrest".as_slice();
-/// assert!(rt; matches!(read_head(alloc, &mut input), Ok(head) if head.fields.len() == 1));
-/// assert_eq!(rt; input, b"rest".as_slice());
-/// assert!(rt; read_head(alloc, &mut b"GET / HTTP/1.1\r\n".as_slice()).is_err());
-/// ```
-pub fn read_head<'i, A: Allocator + Copy>(
-    alloc: A,
-    input: &mut &'i [u8],
-) -> Result<Head<'i, A>, ErrMode<EmptyError>>
-    ensures head { IfOk result (λ head. IsHead (request head.line) (map pair head.fields.items)
-        input.old.now input.new.now) }
-    ensures accepts { (line : Request) (fields : List Pair) (rest : List ℕ)
-        → IsHead line fields input.old.now rest
-        → IfErr result (λ error. ⟦<ErrMode<EmptyError> as HasKind>⟧.kind error ≡ memory) }
-    ensures fails { IfErr result (λ error.
-        (⟦<ErrMode<EmptyError> as HasKind>⟧.kind error ≡ backtrack)
-        ⊎ (⟦<ErrMode<EmptyError> as HasKind>⟧.kind error ≡ memory)) }
-    ensures stays { IfErr result (λ _. input.new ≡ input.old) }
-{
-    let mut pieces = Partial::new(*input);
-    match read_head_in_pieces(alloc, &mut pieces) {
-        Ok(head) => {
-            *input = pieces.into_inner();
-            Ok(head)
-        }
-        Err(error) => {
-            if ParserError::<&'i [u8]>::is_memory(&error) {
-                Err(error)
-            } else {
-                Err(ParserError::from_input(input))
-            }
         }
     }
 }

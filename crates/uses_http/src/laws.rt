@@ -2,7 +2,7 @@
 #![tactic(auto)]
 
 ghost use Rattle.std.specs.Prelude.{◌≡◌, List, ℕ};
-ghost use Rattle.uses_http.specs.Head.{IsHead, Pair, Request};
+ghost use Rattle.http_heads.specs.Head.{IsHead, Pair, Request};
 
 /// Bytes begin with one head at most: with one request line, one list of fields, and one rest
 /// behind them.

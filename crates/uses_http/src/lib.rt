@@ -1,5 +1,6 @@
-//! Heads of requests of HTTP/1.1 (RFC 9112), over bytes that are whole or come in pieces: their
-//! request lines, their field lines, and all of a head.
+//! Heads of requests of HTTP/1.1 (RFC 9112) over bytes that come in pieces: their request lines,
+//! their field lines, and all of a head, and when more bytes are asked for. What they are, and the
+//! readers of whole bytes by grammars, stand in `http_heads`.
 #![tactic(auto)]
 
 pub mod field_line;
@@ -8,4 +9,3 @@ pub mod head;
 pub mod laws;
 pub mod request_line;
 mod request_parts;
-mod sets;

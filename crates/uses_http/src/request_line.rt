@@ -1,9 +1,4 @@
-//! The request line of HTTP/1.1 (RFC 9112, section 3): a method, a request target and a version,
-//! with one space between them, and a line end (a carriage return and a line feed).
-//!
-//! Section 3.2 makes four forms of a target of the grammar of URIs. Here a target is one visible
-//! byte of ASCII or more, so that each target of that grammar is one, and no space stands in it.
-//! The version is two digits; whether the server speaks it is the caller's to see.
+//! The request line of HTTP/1.1 (RFC 9112, section 3) over bytes that come in pieces.
 #![tactic(auto)]
 
 ghost use Rattle.std.specs.Prelude.{◌≡◌, IfErr, IfOk, IsOk, List, Option, ℕ, true};
@@ -11,36 +6,20 @@ ghost use Rattle.winnow.specs.Bytes.{bytes_input, bytes_reading};
 ghost use Rattle.winnow.specs.Input.{IsEndOf};
 ghost use Rattle.winnow.specs.Kind.{backtrack, incomplete, memory};
 ghost use Rattle.winnow.specs.Stable.{IsFinalKind};
-ghost use Rattle.uses_http.specs.RequestLine.{BeginsRequestLine, IsRequestLine, NoRequestLine};
+ghost use Rattle.http_heads.specs.RequestLine.{IsRequestLine};
+ghost use Rattle.uses_http.specs.RequestLine.{BeginsRequestLine, NoRequestLine};
 
 use crate::request_parts::line;
+use http_heads::request_line::RequestLine;
 use winnow::error::{EmptyError, ErrMode, HasKind};
 use winnow::prelude::*;
 use winnow::stream::Partial;
 
-/// A request line: what it says, as slices of the input.
+/// The request line with which whole bytes begin, as
+/// [the reader by a grammar](http_heads::request_line::read_request_line) reads it.
 ///
-/// ```
-/// use uses_http::request_line::RequestLine;
-///
-/// let line = RequestLine { method: b"GET", target: b"/", major: 1, minor: 1 };
-/// assert!(rt; line.major == 1 && line.target.len() == 1);
-/// ```
-#[derive(Clone, Copy, Debug, PartialEq, Drop)]
-pub struct RequestLine<'i> {
-    /// The method, a token of one byte or more.
-    pub method: &'i [u8],
-    /// The request target, one visible byte or more.
-    pub target: &'i [u8],
-    /// The number before the point of the version, below 10.
-    pub major: u8,
-    /// The number behind the point of the version, below 10.
-    pub minor: u8,
-}
-
-/// The request line with which the bytes begin.
-///
-/// An error says that none stands there; some bytes may then have been passed.
+/// It stands beside that one since it never wants memory, which no grammar says: an error says that
+/// no request line stands there. Some bytes may then have been passed.
 ///
 /// ```
 /// use uses_http::request_line::read_request_line;
@@ -49,7 +28,6 @@ pub struct RequestLine<'i> {
 /// let line = read_request_line(&mut input);
 /// assert!(rt; matches!(line, Ok(line) if line.method == b"GET".as_slice() && line.minor == 1));
 /// assert_eq!(rt; input, b"Host: example.org\r\n\r\n".as_slice());
-/// assert!(rt; read_request_line(&mut b"GET  / HTTP/1.1\r\n".as_slice()).is_err());
 /// ```
 pub fn read_request_line<'i>(input: &mut &'i [u8]) -> Result<RequestLine<'i>, ErrMode<EmptyError>>
     ensures line { IfOk result (λ line. IsRequestLine line.method.now line.target.now line.major

@@ -3,11 +3,11 @@
 
 ghost use Rattle.std.specs.Prelude.{◌≡◌};
 ghost use Rattle.winnow.specs.TakeWhile.{take_while_occurrences};
-ghost use Rattle.uses_http.specs.Bytes.{line_end};
+ghost use Rattle.http_heads.specs.Bytes.{line_end};
+ghost use Rattle.http_heads.specs.RequestLine.{protocol};
 ghost use Rattle.uses_http.specs.Ranges.{some_bytes};
-ghost use Rattle.uses_http.specs.RequestLine.{protocol};
 
-use crate::sets::{Digits, TokenBytes, Visible};
+use http_heads::sets::{Digits, TokenBytes, Visible};
 use winnow::prelude::*;
 use winnow::stream::Range;
 use winnow::token::impls::{OneOf, TakeWhile};

@@ -1,16 +1,16 @@
 //! Where the parts of a head stand.
 
 ghost use Rattle.std.specs.Prelude.{◌≡◌, ◌≤◌, List, drop, length, map, ℕ};
-ghost use Rattle.uses_http.specs.FieldLine.{IsFieldLine};
-ghost use Rattle.uses_http.specs.Head.{AreFieldLines, pair};
+ghost use Rattle.http_heads.specs.FieldLine.{IsFieldLine};
+ghost use Rattle.http_heads.specs.Head.{AreFieldLines, pair};
 ghost use Rattle.exported.specs.Http.{AreShown, IsBehindGap, ShowsField};
-ghost use Rattle.uses_http.specs.RequestLine.{IsRequestLine};
+ghost use Rattle.http_heads.specs.RequestLine.{IsRequestLine};
 ghost use Rattle.exported.specs.Span.{EndsWith, StandsAt};
 
 use crate::http::Field;
 use crate::span::{Span, first_of};
-use uses_http::field_line::Field as Found;
-use uses_http::request_line::RequestLine;
+use http_heads::field_line::Field as Found;
+use http_heads::request_line::RequestLine;
 
 /// What stands behind the first bytes.
 fn behind<'i>(count: usize, bytes: &'i [u8]) -> &'i [u8]

@@ -1,7 +1,8 @@
 use Rattle.std.proofs.Common.{◌∙◌, List, ap, subst, sym, ℕ}
 use Rattle.std.proofs.lemmas.Bool.{true≢false}
 use Rattle.winnow.specs.Input.{Input}
-use Rattle.uses_http.specs.Head.{BeginsHead, IsHead, NoHead}
+use Rattle.http_heads.specs.Head.{IsHead}
+use Rattle.uses_http.specs.Head.{BeginsHead, NoHead}
 use Rattle.exported.proofs.ErrorKinds.{asked, final}
 use Rattle.exported.proofs.http.exported_http_head_in_pieces.Goals as goal
 

@@ -1,8 +1,8 @@
-use Rattle.std.proofs.Common.{◌≡◌, ◌+◌, ◌-◌, List, ap, arith, drop, length, map}
-use Rattle.std.proofs.Common.{refl, subst, sym, ℕ}
+use Rattle.std.proofs.Common.{◌≡◌, List, ap, arith, drop, length, map}
+use Rattle.std.proofs.Common.{refl, subst, sym}
 use Rattle.std.proofs.lemmas.List.{length-map}
-use Rattle.uses_http.specs.Head.{pair}
-use Rattle.uses_http.specs.declared.field_line.Field.{Field as Found}
+use Rattle.http_heads.specs.Head.{pair}
+use Rattle.http_heads.specs.declared.field_line.Field.{Field as Found}
 use Rattle.exported.specs.Http.{AreShown}
 use Rattle.exported.proofs.Heads.{head_within, shown_first}
 use Rattle.exported.proofs.http.write_head.Goals as goal

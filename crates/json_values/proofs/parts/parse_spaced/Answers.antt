@@ -1,6 +1,6 @@
 use Rattle.std.proofs.Common.{ap, rules, ◌∙◌}
 use Rattle.winnow.specs.Terminated.{terminated_parser}
-use Rattle.json_values.specs.General.{reads_all_by}
+use Rattle.json_reader.specs.Marks.{reads_all_by}
 use Rattle.winnow.specs.Rule.{reads_as_rule, run_as}
 use Rattle.json_values.proofs.parts.parse_spaced.Given as given
 use Rattle.json_values.proofs.parts.parse_spaced.Goals as goal

@@ -1,8 +1,8 @@
 use Rattle.std.proofs.Common.{ap, rules, ◌∙◌}
 use Rattle.winnow.specs.Terminated.{terminated_parser}
-use Rattle.json_values.specs.General.{three_by}
 use Rattle.winnow.specs.Rule.{reads_as_rule, run_as}
-use Rattle.json_values.specs.Items.{items_by}
+use Rattle.json_reader.specs.Marks.{three_by}
+use Rattle.json_values.specs.Pairs.{items_by}
 use Rattle.json_values.proofs.parts.read_object_of.Given as given
 use Rattle.json_values.proofs.parts.read_object_of.Goals as goal
 

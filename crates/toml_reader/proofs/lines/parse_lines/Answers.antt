@@ -1,6 +1,6 @@
 use Rattle.std.proofs.Common.{refl}
 use Rattle.toml_reader.specs.Lines.{document_of}
-use Rattle.toml_reader.specs.Parts.{reads_all_by}
+use Rattle.json_reader.specs.Marks.{reads_all_by}
 use Rattle.winnow.specs.Told.{texts_told}
 use Rattle.toml_reader.proofs.lines.parse_lines.Goals as goal
 

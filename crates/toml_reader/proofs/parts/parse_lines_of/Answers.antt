@@ -1,4 +1,4 @@
-use Rattle.toml_reader.specs.Parts.{reads_all_by}
+use Rattle.json_reader.specs.Marks.{reads_all_by}
 use Rattle.toml_reader.proofs.parts.parse_lines_of.Goals as goal
 
 pub returns : goal.returns

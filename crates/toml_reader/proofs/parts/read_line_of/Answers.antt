@@ -1,4 +1,4 @@
-use Rattle.toml_reader.specs.Parts.{three_by}
+use Rattle.json_reader.specs.Marks.{three_by}
 use Rattle.winnow.specs.Read.{reads_by}
 use Rattle.toml_reader.proofs.parts.read_line_of.Goals as goal
 

@@ -3,7 +3,7 @@ use Rattle.std.proofs.Common.{length, map}
 use Rattle.winnow.specs.Bytes.{bytes_input, bytes_reading}
 use Rattle.winnow.specs.Input.{IsEndOf}
 use Rattle.winnow.specs.Partial.{with_flag}
-use Rattle.uses_http.specs.Head.{AreFieldLines, pair}
+use Rattle.http_heads.specs.Head.{AreFieldLines, pair}
 use Rattle.uses_http.proofs.fields.read_fields.Given as goal
 
 abbrev pub invariant-fields : goal.invariant-fields

@@ -1,5 +1,5 @@
 use Rattle.std.proofs.Common.{refl, rules}
-use Rattle.uses_http.specs.Bytes.{line_end}
+use Rattle.http_heads.specs.Bytes.{line_end}
 use Rattle.uses_http.proofs.Fails.{fails_cut}
 use Rattle.uses_http.proofs.LineEnds.{end_asks, end_fails, end_must, end_never, end_read}
 use Rattle.uses_http.proofs.fields.read_line_end.Goals as goal

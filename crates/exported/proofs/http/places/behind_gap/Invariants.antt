@@ -1,7 +1,5 @@
 -- White space was passed.
-use Rattle.std.proofs.Common.{◌≡◌, ◌++◌, ℕ, List, length}
-use Rattle.std.specs.List.{All}
-use Rattle.uses_http.specs.Bytes.{IsWhite}
+use Rattle.std.proofs.Common.{length}
 use Rattle.exported.proofs.Gaps.{IsPassed}
 use Rattle.exported.proofs.http.places.behind_gap.Given as goal
 

@@ -1,4 +1,4 @@
-use Rattle.std.proofs.Common.{◌+◌, ◌∷◌, length, refl}
+use Rattle.std.proofs.Common.{refl}
 use Rattle.exported.proofs.Gaps.{begins_long, behind_two, end_at, ends_at, ends_left, line_long}
 use Rattle.exported.proofs.Gaps.{two_long, value_at}
 use Rattle.exported.proofs.http.places.field_at.Goals as goal

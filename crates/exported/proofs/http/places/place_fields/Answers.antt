@@ -1,5 +1,5 @@
-use Rattle.std.proofs.Common.{◌∙◌, List, arith, length, map, sym, subst, ℕ, drop, ◌+◌}
-use Rattle.uses_http.specs.Head.{AreFieldLines, pair}
+use Rattle.std.proofs.Common.{List, arith, map, sym, subst, ℕ, drop, ◌+◌}
+use Rattle.http_heads.specs.Head.{AreFieldLines, pair}
 use Rattle.exported.proofs.Places.{next_line, shown_more}
 use Rattle.exported.proofs.http.places.place_fields.Goals as goal
 

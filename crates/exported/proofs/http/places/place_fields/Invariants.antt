@@ -1,7 +1,7 @@
 -- The lines of the fields that are left, and the places of the others.
 use Rattle.std.proofs.Common.{◌<◌, ℕ, List, drop, map}
 use Rattle.std.proofs.Common.{slice_index_or}
-use Rattle.uses_http.specs.Head.{AreFieldLines, Pair, pair}
+use Rattle.http_heads.specs.Head.{AreFieldLines, Pair, pair}
 use Rattle.exported.specs.Http.{ShowsField}
 use Rattle.exported.specs.Span.{EndsWith}
 use Rattle.exported.specs.declared.http.Field.{Field}

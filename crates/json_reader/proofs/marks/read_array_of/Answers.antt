@@ -1,8 +1,8 @@
 use Rattle.std.proofs.Common.{rules}
 use Rattle.winnow.specs.Rule.{reads_as_rule, run_as}
 use Rattle.winnow.specs.Read.{reads_by}
-use Rattle.toml_reader.proofs.parts.read_array_of.Given as given
-use Rattle.toml_reader.proofs.parts.read_array_of.Goals as goal
+use Rattle.json_reader.proofs.marks.read_array_of.Given as given
+use Rattle.json_reader.proofs.marks.read_array_of.Goals as goal
 
 pub read_items-requires-clause-item : goal.read_items-requires-clause-item
 read_items-requires-clause-item g c =

@@ -1,5 +1,5 @@
 use Rattle.winnow.specs.Read.{reads_by}
-use Rattle.toml_reader.proofs.parts.read_between.Goals as goal
+use Rattle.json_reader.proofs.marks.read_between.Goals as goal
 
 pub returns : goal.returns
 returns g c = reads_by c.read.ensures (rw (

@@ -1,23 +1,13 @@
--- What stands between marks: items, and pairs of a name and a value.
-use Rattle.std.specs.Prelude.{◌≡◌, None, Result}
+-- What stands between the marks of an object: pairs of a name and a value.
+use Rattle.std.specs.Prelude.{◌≡◌, Result}
 use Rattle.std.specs.declared.vec.Vec.{Vec}
-use Rattle.winnow.specs.Range.{from_to}
 use Rattle.winnow.specs.Input.{Input}
 use Rattle.winnow.specs.Kind.{Kind}
 use Rattle.winnow.specs.Reading.{Reading}
+use Rattle.json_reader.specs.Marks.{Items}
 use Rattle.json_texts.specs.Words.{former, pair}
 use Rattle.winnow.specs.Exact.{Reads}
-use Rattle.winnow.specs.Grammar.{Both, Gathered, Grammar, Parted, Three}
-
-module _ {T M W A : Type 0} where
-  -- items with a mark between each two of them, between two others; white space is behind the first
-  -- mark, and behind those between items
-  abbrev pub Items : {O : Type 0} → Grammar T O → Grammar T M → Grammar T M → Grammar T M
-      → Grammar T W → Grammar T (Vec O A)
-  Items {O} item opening comma closing gap =
-      Three (λ _ o _. o) (Both pair opening gap)
-      (Gathered (λ (list : Vec O A) os. list.items ≡ os)
-      (Parted item (Both pair comma gap) (from_to 0 None))) closing
+use Rattle.winnow.specs.Grammar.{Both, Grammar, Three}
 
 -- a name, a mark and a value, and white space behind each
 abbrev pub Pair : {T K O M W : Type 0} → Grammar T K → Grammar T M → Grammar T O → Grammar T W

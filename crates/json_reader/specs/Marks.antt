@@ -1,13 +1,13 @@
 -- What stands between marks, by the grammars of its parts, and what is told by equal ones.
 use Rattle.std.specs.Prelude.{◌≡◌, List, None, Result}
 use Rattle.std.specs.declared.vec.Vec.{Vec}
-use Rattle.winnow.specs.Range.{from_to}
-use Rattle.winnow.specs.Kind.{Kind}
+use Rattle.json_texts.specs.Words.{pair}
 use Rattle.winnow.specs.{Needed}
 use Rattle.winnow.specs.{ParseFault}
-use Rattle.json_texts.specs.Words.{pair}
 use Rattle.winnow.specs.Exact.Whole.{ReadsAll}
 use Rattle.winnow.specs.Grammar.{Both, Gathered, Grammar, Parted, Three}
+use Rattle.winnow.specs.Kind.{Kind}
+use Rattle.winnow.specs.Range.{from_to}
 
 module _ {T M W A : Type 0} where
   -- items with a mark between each two of them, between two others; white space is behind the first

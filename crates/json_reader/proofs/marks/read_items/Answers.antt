@@ -1,9 +1,13 @@
 use Rattle.winnow.specs.Read.{reads_by}
-use Rattle.json_reader.proofs.parts.read_between.Goals as goal
+use Rattle.json_reader.proofs.marks.read_items.Goals as goal
 
 pub returns : goal.returns
 returns g c = reads_by c.read.ensures (rw (
   c.delimited.ensures.ignored1,
   c.delimited.ensures.parser,
   c.delimited.ensures.ignored2,
+  c.separated-items.ensures.occurrences,
+  c.separated-items.ensures.parser,
+  c.separated-items.ensures.separator,
+  c.from.ensures,
 ))

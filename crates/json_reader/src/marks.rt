@@ -1,0 +1,136 @@
+//! What stands between marks, as the values of an array do: what is read is said by the grammars of
+//! the parts, whichever parsers they are, and over any stream.
+ghost use Rattle.json_reader.specs.Marks.{Items};
+ghost use Rattle.json_texts.specs.Words.{former};
+ghost use Rattle.std.specs.Fn.{CalledAtMut};
+ghost use Rattle.winnow.specs.Exact.{Reads};
+ghost use Rattle.winnow.specs.Grammar.{Both, Three};
+ghost use Rattle.winnow.specs.Rule.{CallsRead};
+
+use std::alloc::Allocator;
+use winnow::combinator::impls::Separated;
+use winnow::combinator::{delimited, separated, terminated};
+use winnow::error::ParserError;
+use winnow::exact::{Exact, Rule};
+use winnow::stream::{Range, Stream};
+
+/// Reads what stands between two others.
+pub fn read_between<I, O1, O2, O3, E, P, Q, R>(
+    first: P,
+    second: Q,
+    third: R,
+    input: &mut I,
+) -> Result<O2, E>
+where
+    I: Stream,
+    O1: Drop,
+    O2: Drop,
+    O3: Drop,
+    E: ParserError<I>,
+    P: Exact<I, O1, E> + Drop,
+    Q: Exact<I, O2, E> + Drop,
+    R: Exact<I, O3, E> + Drop,
+    requires first_callable { P.can_parse first }
+    requires first_premise { P.premise first }
+    requires first_backtracks { P.backtracks first }
+    requires second_callable { Q.can_parse second }
+    requires second_premise { Q.premise second }
+    requires second_backtracks { Q.backtracks second }
+    requires third_callable { R.can_parse third }
+    requires third_premise { R.premise third }
+    requires third_backtracks { R.backtracks third }
+    ensures { Reads I.reading E.kind
+        (Three (λ _ o _. o) (P.grammar first) (Q.grammar second) (R.grammar third))
+        (I.view input.old) result (I.view input.new) }
+{
+    delimited(first, second, third).read(input)
+}
+
+/// The marks of an array or an object, and white space.
+#[derive(Clone, Copy, Drop)]
+pub struct Marks<B, G> {
+    /// What stands before the items.
+    pub opening: B,
+    /// What stands between two items.
+    pub comma: B,
+    /// What stands behind the items.
+    pub closing: B,
+    /// What stands behind the other two, and behind each name and value.
+    pub gap: G,
+}
+
+/// Reads items between two marks, with a third between each two items, and white space behind the
+/// first mark and behind each of those between items.
+pub fn read_items<I, E, O, M, W, A, P, B, G>(
+    alloc: A,
+    item: P,
+    marks: Marks<B, G>,
+    input: &mut I,
+) -> Result<Vec<O, A>, E>
+where
+    I: Stream,
+    E: ParserError<I>,
+    O: Drop,
+    M: Drop,
+    W: Drop,
+    A: Allocator + Copy,
+    P: Exact<I, O, E> + Drop,
+    B: Exact<I, M, E> + Copy + Drop,
+    G: Exact<I, W, E> + Copy + Drop,
+    requires item { P.can_parse item × P.premise item × P.backtracks item }
+    requires opening { B.can_parse marks.opening × B.premise marks.opening
+        × B.backtracks marks.opening }
+    requires comma { B.can_parse marks.comma × B.premise marks.comma × B.backtracks marks.comma
+        × B.consumes marks.comma }
+    requires closing { B.can_parse marks.closing × B.premise marks.closing
+        × B.backtracks marks.closing }
+    requires gap { G.can_parse marks.gap × G.premise marks.gap × G.backtracks marks.gap }
+    ensures { Reads I.reading E.kind (Items (P.grammar item) (B.grammar marks.opening)
+        (B.grammar marks.comma) (B.grammar marks.closing) (G.grammar marks.gap))
+        (I.view input.old) result (I.view input.new) }
+{
+    let items: Separated<P, (B, G), I, O, (M, W), Vec<O, A>, E, A> = separated(
+        alloc,
+        Range::from(0..),
+        item,
+        (marks.comma, marks.gap),
+    );
+    delimited((marks.opening, marks.gap), items, marks.closing).read(input)
+}
+
+/// Reads values between marks. A function reads a value by a rule, and white space is behind it.
+pub fn read_array_of<I, E, O, M, W, A, R, F, B, G>(
+    alloc: A,
+    rule: R,
+    value: F,
+    marks: Marks<B, G>,
+    input: &mut I,
+) -> Result<Vec<O, A>, E>
+where
+    I: Stream,
+    E: ParserError<I>,
+    O: Drop,
+    M: Drop,
+    W: Drop,
+    A: Allocator + Copy,
+    R: Rule<I, O> + Drop,
+    F: FnMut(&mut I) -> Result<O, E> + Drop,
+    B: Exact<I, M, E> + Copy + Drop,
+    G: Exact<I, W, E> + Copy + Drop,
+    requires callable { F.IsAlwaysCallable value }
+    requires reads { CallsRead I.reading I.view E.kind (CalledAtMut F.FnMut) (R.grammar rule)
+        value }
+    requires opening { B.can_parse marks.opening × B.premise marks.opening
+        × B.backtracks marks.opening }
+    requires comma { B.can_parse marks.comma × B.premise marks.comma × B.backtracks marks.comma
+        × B.consumes marks.comma }
+    requires closing { B.can_parse marks.closing × B.premise marks.closing
+        × B.backtracks marks.closing }
+    requires gap { G.can_parse marks.gap × G.premise marks.gap × G.backtracks marks.gap }
+    ensures { Reads I.reading E.kind (Items (Both former (R.grammar rule) (G.grammar marks.gap))
+        (B.grammar marks.opening) (B.grammar marks.comma) (B.grammar marks.closing)
+        (G.grammar marks.gap)) (I.view input.old) result (I.view input.new) }
+{
+    let item = terminated(rule.by(value), marks.gap);
+    read_items(alloc, item, marks, input)
+}
