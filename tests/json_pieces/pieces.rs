@@ -53,6 +53,8 @@ const NONE: &[(usize, &[u8], usize)] = &[
     (0, b"Null", 1),
     (0, b"\xef\xbb\xbf1", 1),
     (0, b"nulk", 4),
+    (0, b"nall", 2),
+    (0, b"falsy", 5),
     (0, b"tru ", 4),
     (0, b"f\xc3\xa9", 2),
     (0, b"01 ", 3),
