@@ -6,8 +6,6 @@ mod pieces;
 #[cfg(test)]
 mod refused;
 #[cfg(test)]
-mod shown;
-#[cfg(test)]
 mod streams;
 #[cfg(test)]
 mod texts;

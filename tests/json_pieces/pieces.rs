@@ -1,9 +1,9 @@
 //! Values from pieces, at every cut.
-use crate::shown::show;
 use json_pieces::value::read_value_in_pieces;
 use json_texts::value::Value;
 use std::alloc::Global;
 use std::process::Abort;
+use test_json_support::shown::show;
 use winnow::error::ErrMode;
 use winnow::stream::{Partial, StreamIsPartial};
 
@@ -53,6 +53,8 @@ const NONE: &[(usize, &[u8], usize)] = &[
     (0, b"Null", 1),
     (0, b"\xef\xbb\xbf1", 1),
     (0, b"nulk", 4),
+    (0, b"nall", 2),
+    (0, b"falsy", 5),
     (0, b"tru ", 4),
     (0, b"f\xc3\xa9", 2),
     (0, b"01 ", 3),

@@ -1,8 +1,8 @@
 //! Values one by one, with white space between them, at every cut.
-use crate::shown::show;
 use json_pieces::value::read_next_in_pieces;
 use std::alloc::Global;
 use std::process::Abort;
+use test_json_support::shown::show;
 use winnow::error::ErrMode;
 use winnow::stream::{Partial, StreamIsPartial};
 

@@ -1,7 +1,7 @@
 //! Texts of JSON in bytes, and the values that they are.
-use crate::shown::show;
 use json_pieces::value::parse_value_of_bytes;
 use std::process::Abort;
+use test_json_support::shown::show;
 use winnow::error::ParseFault;
 
 /// A level, a text, and what Python's `json` reads: `'` round each string, a comma behind each item.

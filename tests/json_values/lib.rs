@@ -6,6 +6,4 @@ mod integers;
 #[cfg(test)]
 mod refused;
 #[cfg(test)]
-mod shown;
-#[cfg(test)]
 mod values;

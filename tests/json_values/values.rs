@@ -1,9 +1,9 @@
 //! Texts, and the values that they are.
-use crate::shown::show;
 use json_texts::value::Value;
 use json_values::value::{parse_value, read_value};
 use std::alloc::Global;
 use std::process::Abort;
+use test_json_support::shown::show;
 use winnow::error::ParseFault;
 
 /// The texts of section 13 of RFC 8259.

@@ -1,169 +1,195 @@
--- Where the text of a value ends, by the bytes that quotes, brackets and words have.
-use Rattle.std.specs.Prelude.{◌≡◌, ◌⊎◌, ◌==◌, ◌||◌, if◌then◌else◌, nat_lt, ℕ, zero, suc, Bool}
-use Rattle.std.specs.Prelude.{List, [], ◌∷◌, ◌++◌, ◌+◌, ◌-◌, ◌≤◌, length, take, drop}
+-- Where the text of a value ends: by its quotes, its brackets and its letters, or as bytes of a
+-- number. Whether it is JSON is not asked.
+use Rattle.std.specs.Prelude.{◌≡◌, ◌⊎◌, ◌==◌, ◌||◌, ◌++◌, if◌then◌else◌, ℕ, zero, suc, pred, Bool}
+use Rattle.std.specs.Prelude.{List, [], ◌∷◌, ◌≤◌, length, true}
+use Rattle.std.specs.List.{All}
 use Rattle.std.proofs.Common.{refl, sym, ap, subst, inl, inr, ◌∙◌, arith, append_assoc}
 use Rattle.std.proofs.Common.{length-append}
-use Rattle.std.proofs.Common.{take_at, drop_at}
-use Rattle.winnow.specs.Equal.{same_first, same_others}
-use Rattle.json_pieces.specs.declared.extent.Mode.{Mode}
-use Rattle.json_pieces.specs.declared.extent.Mode.TheVariants as modes
+use Rattle.json_pieces.specs.Told.{Allows}
+use Rattle.json_pieces.specs.Value.{IsNumeral, IsNumeric}
+use Rattle.winnow.specs.Equal.{same_rest}
+use Rattle.json_pieces.specs.declared.extent.Lack.{Lack}
+use Rattle.json_pieces.specs.declared.extent.Lack.TheVariants as lacks
+use Rattle.winnow.specs.Grammar.{Grammar, NoneStands}
+use Rattle.winnow.specs.Texts.{Begins, NotFirst}
 
--- ---- values that no bytes behind them change: what is read of them, and how deep it is in
--- brackets
+-- ---- what ends where
 
--- in a string, at its end, or between brackets
-abbrev pub outside : ℕ → Mode × ℕ
-outside zero = (modes.Done, 0)
-outside (suc n) = (modes.Between, suc n)
+-- neither a quote nor a backslash
+abbrev pub IsPlain : ℕ → Type 0
+IsPlain b = (b ≡ 34 → ⊥) × (b ≡ 92 → ⊥)
 
-abbrev pub opens : ℕ → Bool
-opens b = b == 91 || b == 123
+-- Behind the first quote of a string the bytes go on to its last, and the rest is behind that. A
+-- backslash takes along the byte behind it.
+pub data EndsString : List ℕ → List ℕ → Type 0 where
+  quote : {rest : List ℕ} → EndsString (34 ∷ rest) rest
+  escaped : {b : ℕ} {more rest : List ℕ} → EndsString more rest → EndsString (92 ∷ b ∷ more) rest
+  plain : {b : ℕ} {more rest : List ℕ} → IsPlain b → EndsString more rest
+      → EndsString (b ∷ more) rest
 
-abbrev pub closes : ℕ → Bool
-closes b = b == 93 || b == 125
+-- how many brackets are open behind a byte that is in no string, of so many before it
+abbrev pub open_behind : ℕ → ℕ → ℕ
+open_behind b n =
+    if b == 91 || b == 123 then suc n else if b == 93 || b == 125 then pred n else n
 
-abbrev pub started : ℕ → Mode × ℕ
-started b =
-    if b == 34 then (modes.Quoted, 0) else
-    if opens b then (modes.Between, 1) else
-    if b == 102 then (modes.Word, 4) else
-    if b == 110 || b == 116 then (modes.Word, 3) else (modes.Dead, 0)
+-- So many brackets are open, the bytes close all of them, and the rest is behind the last.
+pub data Closes : ℕ → List ℕ → List ℕ → Type 0 where
+  closed : {rest : List ℕ} → Closes zero rest rest
+  string : {n : ℕ} {more behind rest : List ℕ} → EndsString more behind
+      → Closes (suc n) behind rest → Closes (suc n) (34 ∷ more) rest
+  byte : {n b : ℕ} {more rest : List ℕ} → (b ≡ 34 → ⊥)
+      → Closes (open_behind b (suc n)) more rest → Closes (suc n) (b ∷ more) rest
 
-abbrev pub spelled : ℕ → Mode × ℕ
-spelled zero = (modes.Dead, 0)
-spelled (suc zero) = (modes.Done, 0)
-spelled (suc (suc n)) = (modes.Word, suc n)
+abbrev pub IsOpening : ℕ → Type 0
+IsOpening b = (b ≡ 91) ⊎ (b ≡ 123)
 
-abbrev pub lettered : ℕ → ℕ → Mode × ℕ
-lettered n b = if nat_lt b 128 then spelled n else (modes.Dead, 0)
+-- a letter that begins a word
+abbrev pub IsLetter : ℕ → Type 0
+IsLetter b = (b ≡ 102) ⊎ ((b ≡ 110) ⊎ (b ≡ 116))
 
-abbrev pub closed : ℕ → Mode × ℕ
-closed zero = (modes.Dead, 0)
-closed (suc n) = outside n
+-- the word that it begins: `false`, `null` or `true`
+abbrev pub word_of : ℕ → List ℕ
+word_of b =
+    if b == 102 then 102 ∷ 97 ∷ 108 ∷ 115 ∷ 101 ∷ [] else
+    if b == 110 then 110 ∷ 117 ∷ 108 ∷ 108 ∷ [] else 116 ∷ 114 ∷ 117 ∷ 101 ∷ []
 
-abbrev pub between : ℕ → ℕ → Mode × ℕ
-between n b =
-    if b == 34 then (modes.Quoted, n) else
-    if opens b then (modes.Between, suc n) else
-    if closes b then closed n else (modes.Between, n)
+-- The bytes begin with a string, with brackets and what they enclose, or with a word, and the rest
+-- is behind it.
+abbrev pub IsClosed : List ℕ → List ℕ → Type 0
+IsClosed [] rest = ⊥
+IsClosed (b ∷ more) rest =
+    ((b ≡ 34) × EndsString more rest) ⊎ ((IsOpening b × Closes 1 more rest)
+    ⊎ (IsLetter b × (b ∷ more ≡ word_of b ++ rest)))
 
-abbrev pub quoted : ℕ → ℕ → Mode × ℕ
-quoted n b =
-    if b == 34 then outside n else
-    if b == 92 then (modes.Escaped, n) else (modes.Quoted, n)
+-- A value may end there, whose text this is: the text closes, or has bytes of numbers alone and
+-- begins as a number does.
+abbrev pub MayEnd : Grammar ℕ (List ℕ)
+MayEnd bytes text rest =
+    (bytes ≡ text ++ rest) × (IsClosed bytes rest ⊎ (Begins IsNumeric text × All IsNumeral text))
 
--- behind one more byte
-abbrev pub step : Mode → ℕ → ℕ → Mode × ℕ
-step modes.Start n b = started b
-step modes.Word n b = lettered n b
-step modes.Between n b = between n b
-step modes.Quoted n b = quoted n b
-step modes.Escaped n b = (modes.Quoted, n)
-step modes.Done n b = (modes.Dead, 0)
-step modes.Dead n b = (modes.Dead, 0)
+-- And if it is a number, no byte of numbers is behind it, whatever comes.
+abbrev pub Ends : Bool → List ℕ → List ℕ → List ℕ → Type 0
+Ends cut bytes text left =
+    MayEnd bytes text left × (Begins IsNumeric text → (more : List ℕ) → Allows cut more
+    → NotFirst IsNumeral (left ++ more))
 
-abbrev pub run : Mode × ℕ → List ℕ → Mode × ℕ
-run s [] = s
-run s (b ∷ bytes) = run (step s.0 s.1 b) bytes
+-- Why none is answered: the bytes are cut, and it may end in them only if all are numerals; or none
+-- ends, whatever comes.
+abbrev pub Lacks : Bool → List ℕ → Lack → Type 0
+Lacks cut bytes lack =
+    (lack ≡ lacks.Bytes → (cut ≡ true) × ((text rest : List ℕ) → MayEnd bytes text rest
+    → All IsNumeral bytes))
+    × (lack ≡ lacks.Text → (more : List ℕ) → Allows cut more → NoneStands MayEnd (bytes ++ more))
 
-abbrev pub start : Mode × ℕ
-start = (modes.Start, 0)
+-- ---- each ends at one place
 
--- the bytes are read to their end from here
-abbrev pub Closes : Mode × ℕ → List ℕ → Type 0
-Closes s bytes = (run s bytes).0 ≡ modes.Done
+behind_quote : {more rest : List ℕ} → EndsString (34 ∷ more) rest → more ≡ rest
+behind_quote quote = refl
+behind_quote (plain p x) = absurd (p.0 refl)
 
-run_append : (s : Mode × ℕ) (xs ys : List ℕ) → run s (xs ++ ys) ≡ run (run s xs) ys
-run_append s [] ys = refl
-run_append s (x ∷ xs) ys = run_append (step s.0 s.1 x) xs ys
+pub behind_escape : {b : ℕ} {more rest : List ℕ} → EndsString (92 ∷ b ∷ more) rest
+    → EndsString more rest
+behind_escape (escaped x) = x
+behind_escape (plain p x) = absurd (p.1 refl)
 
-pub never_closes : {P : Type 0} (n : ℕ) (bytes : List ℕ) → Closes (modes.Dead, n) bytes → P
-never_closes n [] c = let e : modes.Dead ≡ modes.Done = c in absurd (cc)
-never_closes n (b ∷ bytes) c = never_closes 0 bytes c
+pub behind_plain : {b : ℕ} {more rest : List ℕ} → IsPlain b → EndsString (b ∷ more) rest
+    → EndsString more rest
+behind_plain p quote = absurd (p.0 refl)
+behind_plain p (escaped x) = absurd (p.1 refl)
+behind_plain p (plain q x) = x
 
--- nor do bytes behind the end
-ended : {P : Type 0} (mode : Mode) (n : ℕ) (b : ℕ) (bytes : List ℕ) → mode ≡ modes.Done
-    → Closes (mode, n) (b ∷ bytes) → P
-ended mode n b bytes is c =
-    let Q : Mode → Type 0 = λ m. Closes (m, n) (b ∷ bytes) in
-    never_closes 0 bytes (subst Q is c)
+string_one : {bytes rest other : List ℕ} → EndsString bytes rest → EndsString bytes other
+    → rest ≡ other
+string_one quote y = behind_quote y
+string_one (escaped x) y = string_one x (behind_escape y)
+string_one (plain p x) y = string_one x (behind_plain p y)
 
--- one text closes
-pub closes_one : (s : Mode × ℕ) (xs ys more rest : List ℕ) → Closes s xs → Closes s ys
-    → xs ++ more ≡ ys ++ rest → xs ≡ ys
-closes_one s [] [] more rest c d e = refl
-closes_one s [] (y ∷ ys) more rest c d e = ended s.0 s.1 y ys c d
-closes_one s (x ∷ xs) [] more rest c d e = ended s.0 s.1 x xs d c
-closes_one s (x ∷ xs) (y ∷ ys) more rest c d e =
-    let P : ℕ → Type 0 = λ b. Closes (step s.0 s.1 b) xs in
-    let same = closes_one (step s.0 s.1 y) xs ys more rest (subst P (same_first e) c) d
-    (same_others e) in
-    ap (λ b. b ∷ xs) (same_first e) ∙ ap (λ l. y ∷ l) same
+-- behind a string the same brackets are open
+pub behind_string : {n : ℕ} {more behind rest : List ℕ} → EndsString more behind
+    → Closes (suc n) (34 ∷ more) rest → Closes (suc n) behind rest
+behind_string {n} {rest = rest} x (string y z) =
+    let P : List ℕ → Type 0 = λ l. Closes (suc n) l rest in subst P (string_one y x) z
+behind_string x (byte not y) = absurd (not refl)
 
--- From here each text that begins the bytes closes as from the first of them, whatever follows.
-pub record Reaches (bytes left : List ℕ) (s : Mode × ℕ) : Type 0 where
-  pub front : List ℕ
-  pub splits : bytes ≡ front ++ left
-  pub ran : run start front ≡ s
-  pub goes_on : (text rest more : List ℕ) → bytes ++ more ≡ text ++ rest → Closes start text
-      → (tail : List ℕ) × (left ++ more ≡ tail ++ rest) × Closes s tail
+pub behind_byte : {n b : ℕ} {more rest : List ℕ} → (b ≡ 34 → ⊥) → Closes (suc n) (b ∷ more) rest
+    → Closes (open_behind b (suc n)) more rest
+behind_byte not (string x y) = absurd (not refl)
+behind_byte not (byte also x) = x
 
--- and so it does behind one more, before the end
-pub reaches_next : (bytes left more : List ℕ) (b : ℕ) (mode : Mode) (n : ℕ) (s : Mode × ℕ)
-    → Reaches bytes left (mode, n) → (mode ≡ modes.Done → ⊥) → left ≡ b ∷ more
-    → s ≡ step mode n b → Reaches bytes more s
-reaches_next bytes left more b mode n s r unfinished is stepped = record {
-  front = r.front ++ (b ∷ []);
-  splits = r.splits ∙ ap (λ l. r.front ++ l) is ∙ sym (append_assoc r.front (b ∷ []) more);
-  ran = run_append start r.front (b ∷ []) ∙ ap (λ t. run t (b ∷ [])) r.ran ∙ sym stepped;
-  goes_on = λ text rest behind e c.
-      let (tail, d, closes) = r.goes_on text rest behind e c in
-      let (less, f, ends) = next tail rest behind (ap (λ l. l ++ behind) (sym is) ∙ d) closes in
-      let P : Mode × ℕ → Type 0 = λ t. Closes t less in (less, f, subst P (sym stepped) ends);
-}
+closes_one : {n : ℕ} {bytes rest other : List ℕ} → Closes n bytes rest → Closes n bytes other
+    → rest ≡ other
+closes_one closed y = by y
   where
-    next : (tail rest behind : List ℕ) → b ∷ (more ++ behind) ≡ tail ++ rest
-        → Closes (mode, n) tail
-        → (less : List ℕ) × (more ++ behind ≡ less ++ rest) × Closes (step mode n b) less
-    next [] rest behind e c = absurd (unfinished c)
-    next (x ∷ less) rest behind e c =
-        let P : ℕ → Type 0 = λ y. Closes (step mode n y) less in
-        (less, same_others e, subst P (sym (same_first e)) c)
+    by : {rest other : List ℕ} → Closes zero rest other → rest ≡ other
+    by closed = refl
+closes_one (string x y) z = closes_one y (behind_string x z)
+closes_one (byte not x) y = closes_one x (behind_byte not y)
 
--- and the depth is no more than bytes were passed, but for those of a word
-pub reaches_bound : (bytes left : List ℕ) (s t : Mode × ℕ) (b : ℕ) (more : List ℕ)
-    → Reaches bytes left s → left ≡ b ∷ more → (t.1 ≤ s.1 + 1) ⊎ (t.1 ≤ 4)
-    → s.1 + length left ≤ length bytes + 4 → t.1 + length more ≤ length bytes + 4
-reaches_bound bytes left s t b more r is bound most =
-    let size = ap (λ l. length l) r.splits in
-    let passed = length-append r.front left in
-    let one = ap (λ l. length l) is in
-    elim bound [
-      | inl near ↦ omega (arith, near, most, one)
-      | inr few ↦ omega (arith, few, size, passed, one)
-    ]
+pub closed_one : (bytes rest other : List ℕ) → IsClosed bytes rest → IsClosed bytes other
+    → rest ≡ other
+closed_one [] rest other x y = absurd x
+closed_one (b ∷ more) rest other (inl (is, x)) (inl (_, y)) = string_one x y
+closed_one (b ∷ more) rest other (inl (is, x)) (inr y) = absurd (grind (arith, is, y))
+closed_one (b ∷ more) rest other (inr x) (inl (is, y)) = absurd (grind (arith, is, x))
+closed_one (b ∷ more) rest other (inr (inl (_, x))) (inr (inl (_, y))) = closes_one x y
+closed_one (b ∷ more) rest other (inr (inl (is, x))) (inr (inr (it, y))) =
+    absurd (grind (arith, is, it))
+closed_one (b ∷ more) rest other (inr (inr (is, x))) (inr (inl (it, y))) =
+    absurd (grind (arith, is, it))
+closed_one (b ∷ more) rest other (inr (inr (_, x))) (inr (inr (_, y))) =
+    same_rest (word_of b) rest other (sym x ∙ y)
 
--- the text that ends there
-pub reaches_end : (bytes left : List ℕ) (s : Mode × ℕ) → Reaches bytes left s → s.0 ≡ modes.Done
-    → (front : List ℕ) × (bytes ≡ front ++ left) × Closes start front
-reaches_end bytes left s r is = (r.front, r.splits, ap (λ t. t.0) r.ran ∙ is)
+-- ---- and there too where more is behind
 
--- no text, where none goes on
-pub reaches_dead : (bytes left : List ℕ) (s : Mode × ℕ) → Reaches bytes left s → s.0 ≡ modes.Dead
-    → (text rest more : List ℕ) → bytes ++ more ≡ text ++ rest → Closes start text → ⊥
-reaches_dead bytes left s r is text rest more e c =
-    let (tail, d, closes) = r.goes_on text rest more e c in
-    let P : Mode → Type 0 = λ m. Closes (m, s.1) tail in never_closes s.1 tail (subst P is closes)
+string_stays : {bytes rest : List ℕ} (more : List ℕ) → EndsString bytes rest
+    → EndsString (bytes ++ more) (rest ++ more)
+string_stays more quote = quote
+string_stays more (escaped x) = escaped (string_stays more x)
+string_stays more (plain p x) = plain p (string_stays more x)
 
--- where a slice is split behind the text
-pub split_behind : (bytes front left : List ℕ) → bytes ≡ front ++ left
-    → (take (length bytes - length left) bytes ≡ front)
-    × (drop (length bytes - length left) bytes ≡ left)
-split_behind bytes front left e =
-    let size : length front ≡ length bytes - length left =
-    omega (arith, ap (λ l. length l) e, length-append front left) in (
-      ap (λ l. take (length bytes - length left) l) e
-          ∙ take_at front left (length bytes - length left) size,
-      ap (λ l. drop (length bytes - length left) l) e
-          ∙ drop_at front left (length bytes - length left) size,
-    )
+closes_stays : {n : ℕ} {bytes rest : List ℕ} (more : List ℕ) → Closes n bytes rest
+    → Closes n (bytes ++ more) (rest ++ more)
+closes_stays more closed = closed
+closes_stays more (string x y) = string (string_stays more x) (closes_stays more y)
+closes_stays more (byte not x) = byte not (closes_stays more x)
+
+pub closed_stays : (bytes rest more : List ℕ) → IsClosed bytes rest
+    → IsClosed (bytes ++ more) (rest ++ more)
+closed_stays [] rest more x = absurd x
+closed_stays (b ∷ bytes) rest more (inl (is, x)) = inl (is, string_stays more x)
+closed_stays (b ∷ bytes) rest more (inr (inl (is, x))) = inr (inl (is, closes_stays more x))
+closed_stays (b ∷ bytes) rest more (inr (inr (is, x))) =
+    inr (inr (is, ap (λ l. l ++ more) x ∙ append_assoc (word_of b) rest more))
+
+-- ---- the rest is an end of the bytes
+
+string_ends : {bytes rest : List ℕ} → EndsString bytes rest
+    → (front : List ℕ) × (bytes ≡ front ++ rest)
+string_ends quote = (34 ∷ [], refl)
+string_ends (escaped {b = b} x) =
+    let (front, e) = string_ends x in (92 ∷ b ∷ front, ap (λ l. 92 ∷ b ∷ l) e)
+string_ends (plain {b = b} p x) = let (front, e) = string_ends x in (b ∷ front, ap (λ l. b ∷ l) e)
+
+pub string_less : {bytes rest : List ℕ} → EndsString bytes rest → length rest ≤ length bytes
+string_less {rest = rest} x =
+    let (front, e) = string_ends x in
+    omega (arith, ap (λ l. length l) e, length-append front rest)
+
+closes_ends : {n : ℕ} {bytes rest : List ℕ} → Closes n bytes rest
+    → (front : List ℕ) × (bytes ≡ front ++ rest)
+closes_ends closed = ([], refl)
+closes_ends (string x y) =
+    let (s, e) = string_ends x in
+    let (t, f) = closes_ends y in
+    (34 ∷ (s ++ t), ap (λ l. 34 ∷ l) (e ∙ ap (λ l. s ++ l) f ∙ sym (append_assoc s t _)))
+closes_ends (byte {b = b} not x) =
+    let (front, e) = closes_ends x in (b ∷ front, ap (λ l. b ∷ l) e)
+
+pub closed_ends : (bytes rest : List ℕ) → IsClosed bytes rest
+    → (text : List ℕ) × (bytes ≡ text ++ rest)
+closed_ends [] rest x = absurd x
+closed_ends (b ∷ more) rest (inl (is, x)) =
+    let (front, e) = string_ends x in (b ∷ front, ap (λ l. b ∷ l) e)
+closed_ends (b ∷ more) rest (inr (inl (is, x))) =
+    let (front, e) = closes_ends x in (b ∷ front, ap (λ l. b ∷ l) e)
+closed_ends (b ∷ more) rest (inr (inr (is, x))) = (word_of b, x)

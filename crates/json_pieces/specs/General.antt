@@ -1,15 +1,53 @@
 -- Texts in front of tokens, by what one more token does: what is not of JSON alone.
-use Rattle.std.specs.Prelude.{ℕ}
-use Rattle.std.specs.Prelude.{List, [], ◌∷◌, ◌++◌}
-use Rattle.std.specs.List.{All}
-use Rattle.std.proofs.Common.{sym, ap, subst, ◌∙◌, arith, append_assoc}
-use Rattle.std.proofs.lemmas.List.Elements.{All-tail, All-weaker}
+use Rattle.std.specs.Prelude.{◌≡◌, ◌⊎◌, ◌<◌, ◌≤◌, ℕ, List, [], ◌∷◌, ◌++◌}
+use Rattle.std.specs.List.{All, AllByRecursion}
+use Rattle.std.specs.Char.{encode_utf8}
+use Rattle.std.specs.Str.{encode_utf8_all}
+use Rattle.std.proofs.Common.{refl, sym, ap, subst, inl, inr, ◌∙◌, arith, append_assoc}
+use Rattle.std.proofs.lemmas.Bool.{cases_lt}
+use Rattle.std.proofs.lemmas.List.{append-nil}
+use Rattle.std.proofs.lemmas.List.Elements.{All-from_recursion, All-tail, All-weaker}
+use Rattle.std.proofs.lemmas.Str.{encode_ascii}
 use Rattle.json_texts.specs.Words.{In, One, Run}
-use Rattle.json_pieces.specs.Extent.{between}
-use Rattle.winnow.specs.Texts.{InFront, Joined}
-use Rattle.winnow.specs.Texts.{Spelled, Text}
-use Rattle.winnow.specs.Texts.Fronts.{row_front}
-use Rattle.winnow.specs.Texts.Fronts.{then_front}
+use Rattle.winnow.specs.Equal.{same_first, same_others}
+use Rattle.winnow.specs.Texts.{NotFirst, InFront, Joined, Spelled, Text}
+use Rattle.winnow.specs.Texts.Fronts.{row_front, then_front}
+use Rattle.winnow.specs.Utf8.{four_bytes, three_bytes, two_bytes}
+
+-- ---- lists
+
+-- what is left of a text behind another that begins the same bytes
+abbrev pub Behind : List ℕ → List ℕ → List ℕ → List ℕ → Type 0
+Behind t rest u other = (more : List ℕ) × (u ≡ t ++ more) × (rest ≡ more ++ other)
+
+-- one of two texts begins the other
+pub split_two : (t rest u other : List ℕ) → t ++ rest ≡ u ++ other
+    → Behind t rest u other ⊎ Behind u other t rest
+split_two [] rest u other e = inl (u, refl, e)
+split_two (x ∷ t) rest [] other e = inr (x ∷ t, refl, sym e)
+split_two (x ∷ t) rest (y ∷ u) other e = elim (split_two t rest u other (same_others e)) [
+  | inl (more, f, g) ↦
+      inl (more, ap (λ c. c ∷ u) (sym (same_first e)) ∙ ap (λ l. x ∷ l) f, g)
+  | inr (more, f, g) ↦ inr (more, ap (λ c. c ∷ t) (same_first e) ∙ ap (λ l. y ∷ l) f, g)
+]
+
+-- what holds of all holds of those behind
+pub all_behind : (P : ℕ → Type 0) (front rest : List ℕ) → All P (front ++ rest) → All P rest
+all_behind P [] rest all = all
+all_behind P (x ∷ front) rest all = all_behind P front rest (All-tail P x (front ++ rest) all)
+
+-- a text of a class is not longer than one behind which none of the class is first
+pub none_left : (P : ℕ → Type 0) (t rest u other : List ℕ) → Behind t rest u other → All P u
+    → NotFirst P rest → (t ≡ u) × (rest ≡ other)
+none_left P t rest u other (more, splits, rests) all not = by more splits rests
+  where
+    by : (more : List ℕ) → u ≡ t ++ more → rest ≡ more ++ other → (t ≡ u) × (rest ≡ other)
+    by [] e f = (sym (e ∙ append-nil t), f)
+    by (x ∷ more) e f =
+        absurd (subst (λ l. NotFirst P l) f not
+        (all_behind P t (x ∷ more) (subst (λ l. All P l) e all) 0 x (omega arith)))
+
+-- ---- texts
 
 pub spelled_front : {T O : Type 0} {behind whole : List T → Type 0} (xs : List T) (o : O)
     → ((rest : List T) → behind rest → whole (xs ++ rest)) → InFront (Spelled xs o) behind whole
@@ -65,3 +103,56 @@ module _ {these : ℕ → Type 0} {tokens : List ℕ → Type 0} (adds : Adds th
     makes = λ slice xs rest (all, enough, shown) b.
         each_adds xs rest (All-weaker class these more xs all) b;
   }
+
+-- ---- characters, by their bytes
+
+-- Characters whose bytes, in front of the rest, are such bytes.
+abbrev pub Coded : List ℕ → (List ℕ → Type 0) → List ℕ → Type 0
+Coded rest bytes cs = bytes (encode_utf8_all cs ++ rest)
+
+-- the bytes of a character above ASCII are above it
+high_bytes : (c : ℕ) → 128 ≤ c → All (λ b. 128 ≤ b) (encode_utf8 c)
+high_bytes c high = by (cases_lt c 2048) (cases_lt c 65536)
+  where
+    of : (bytes : List ℕ) → encode_utf8 c ≡ bytes → AllByRecursion (λ b. 128 ≤ b) bytes
+        → All (λ b. 128 ≤ b) (encode_utf8 c)
+    of bytes e all =
+        subst (All (λ b. 128 ≤ b)) (sym e) (All-from_recursion (λ b. 128 ≤ b) bytes all)
+
+    by : (c < 2048) ⊎ (2048 ≤ c) → (c < 65536) ⊎ (65536 ≤ c) → All (λ b. 128 ≤ b) (encode_utf8 c)
+    by (inl low) _ = of _ (two_bytes c high low) (omega arith)
+    by (inr more) (inl low) = of _ (three_bytes c more low) (omega arith)
+    by (inr _) (inr more) = of _ (four_bytes c more) (omega arith)
+
+module _ (rest : List ℕ) where
+  -- one of ASCII is one byte
+  pub ascii_adds : (whole : List ℕ → Type 0) (c : ℕ) (cs : List ℕ) → c < 128
+      → whole (c ∷ (encode_utf8_all cs ++ rest)) → Coded rest whole (c ∷ cs)
+  ascii_adds whole c cs low x =
+      let P : List ℕ → Type 0 = λ l. whole ((l ++ encode_utf8_all cs) ++ rest) in
+      subst P (sym (encode_ascii c low)) x
+
+  pub ascii_front : (behind whole : List ℕ → Type 0) (c : ℕ) → c < 128
+      → ((l : List ℕ) → behind l → whole (c ∷ l))
+      → InFront (One c) (Coded rest behind) (Coded rest whole)
+  ascii_front behind whole c low makes =
+      spelled_front (c ∷ []) c
+      (λ cs x. ascii_adds whole c cs low (makes (encode_utf8_all cs ++ rest) x))
+
+  -- those of which each byte is of these add what these add
+  pub coded_adds : {these : ℕ → Type 0} (bytes : List ℕ → Type 0)
+      → ((c b : ℕ) → these c → 128 ≤ c → 128 ≤ b → these b) → Adds these bytes
+      → Adds these (Coded rest bytes)
+  coded_adds {these} bytes more adds = record {
+    adds = λ c cs is x. by c cs is x (cases_lt c 128);
+  }
+    where
+      by : (c : ℕ) (cs : List ℕ) → these c → Coded rest bytes cs → (c < 128) ⊎ (128 ≤ c)
+          → Coded rest bytes (c ∷ cs)
+      by c cs is x (inl low) =
+          ascii_adds bytes c cs low (adds.adds c (encode_utf8_all cs ++ rest) is x)
+      by c cs is x (inr high) =
+          subst bytes (sym (append_assoc (encode_utf8 c) (encode_utf8_all cs) rest))
+          (each_adds adds (encode_utf8 c) (encode_utf8_all cs ++ rest)
+          (All-weaker (λ b. 128 ≤ b) these (λ b above. more c b is high above) (encode_utf8 c)
+          (high_bytes c high)) x)

@@ -1,103 +1,86 @@
 -- What is read of bytes, by the text of the value that they begin with.
 use Rattle.std.specs.Prelude.{◌≡◌, ◌⊎◌, ◌<◌, ◌≤◌, ◌-◌, ◌&&◌, ℕ, false, true, Bool, List, [], ◌∷◌}
-use Rattle.std.specs.Prelude.{◌++◌}
-use Rattle.std.specs.Prelude.{Some, None, drop, length}
+use Rattle.std.specs.Prelude.{◌++◌, Some, None, drop, length}
 use Rattle.std.specs.List.{All}
 use Rattle.std.specs.Str.{IsUtf8, all_scalars, chars, encode_utf8_all}
 use Rattle.std.proofs.Common.{refl, sym, ap, subst, inl, inr, ◌∙◌, arith, append_assoc}
 use Rattle.std.proofs.Common.{length-append}
-use Rattle.std.proofs.lemmas.List.{append-nil, drop_at, nil_from_length}
-use Rattle.std.proofs.lemmas.List.Elements.{All-nil, All-tail}
+use Rattle.std.proofs.lemmas.List.{append-nil, append_cancel_right, drop_at, nil_from_length}
+use Rattle.std.proofs.lemmas.List.Elements.{All-nil}
 use Rattle.std.proofs.lemmas.Str.{IsUtf8-append, IsUtf8-from_ascii, chars-IsAscii, chars-append}
 use Rattle.std.proofs.lemmas.Str.{encodes-append, encodes-chars, scalars-chars}
-use Rattle.json_pieces.specs.Extent.{Closes, closes_one, start}
-use Rattle.json_pieces.specs.Closed.{IsClosed, closes_other, closes_some, closes_spaced}
-use Rattle.json_pieces.specs.Closed.{numerals_ascii}
-use Rattle.json_pieces.specs.Closed.{numeric_space, utf8_closed}
+use Rattle.json_pieces.specs.Closed.{closed_other, numerals_ascii, text_first, value_may_end}
+use Rattle.json_pieces.specs.Extent.{Ends, IsClosed, MayEnd, closed_one, closed_stays}
+use Rattle.json_pieces.specs.General.{all_behind, none_left, split_two}
 use Rattle.json_pieces.specs.Told.{Allows, Fails, Stands}
 use Rattle.json_pieces.specs.Value.{AreNumerals, InUtf8, IsEnded, IsNext, IsNumeral, IsNumeric}
 use Rattle.json_pieces.specs.Value.{IsValueIn}
-use Rattle.json_pieces.specs.declared.extent.Lack.{Lack}
-use Rattle.json_pieces.specs.declared.extent.Lack.TheVariants as lacks
 use Rattle.json_texts.specs.Number.{GoesOn}
-use Rattle.json_texts.specs.Values.{ValueText}
+use Rattle.json_texts.specs.Values.{AnyValue, ValueText}
+use Rattle.json_texts.specs.Values.Texts.{value_of}
+use Rattle.json_values.specs.Unique.{value_unique}
 use Rattle.json_texts.specs.declared.value.Value.{Value}
 use Rattle.winnow.specs.AsChar.{IsMultispace}
 use Rattle.winnow.specs.Kind.{Kind}
-use Rattle.winnow.specs.Equal.{same_first, same_others, same_rest}
 use Rattle.winnow.specs.Utf8.{chars_all}
-use Rattle.winnow.specs.Grammar.{Grammar, IsUnique, NoneStands}
+use Rattle.winnow.specs.Grammar.{Grammar, NoneStands}
 use Rattle.winnow.specs.Accumulator.Holds.{HasCharacters}
-use Rattle.winnow.specs.Texts.{Begins, IsGrammarOf, NotFirst}
+use Rattle.winnow.specs.Texts.{Begins, NotFirst}
 use Rattle.winnow.specs.Texts.Fronts.{begins_never, not_first}
 
--- A text that closes; or of numerals, and whatever comes no numeral is behind it.
-abbrev pub IsExtent : Bool → List ℕ → List ℕ → Type 0
-IsExtent cut text left =
-    Closes start text ⊎ (Begins IsNumeric text × All IsNumeral text
-    × ((more : List ℕ) → Allows cut more → NotFirst IsNumeral (left ++ more)))
-
 -- ---- what stands in the bytes stands in the text
-
--- What is left of the text behind one that stands, and behind both.
-pub record Within (text left t rest : List ℕ) : Type 0 where
-  pub behind : List ℕ
-  pub splits : text ≡ t ++ behind
-  pub rests : rest ≡ behind ++ left
-  pub numerals : All IsNumeral behind
-
-pub begins_as : (t rest text left : List ℕ) → 0 < length text → t ++ rest ≡ text ++ left
-    → Begins IsNumeric t → Begins IsNumeric text
-begins_as [] rest text left some e b = absurd b
-begins_as (x ∷ t) rest [] left some e b = absurd (omega (arith, some))
-begins_as (x ∷ t) rest (y ∷ text) left some e b =
-    let P : ℕ → Type 0 = λ c. IsNumeric c in subst P (same_first e) b
-
-numerals_within : (t rest text left : List ℕ) → All IsNumeral t → All IsNumeral text
-    → NotFirst IsNumeral left → t ++ rest ≡ text ++ left → Within text left t rest
-numerals_within [] rest text left all each not e =
-    record { behind = text; splits = refl; rests = e; numerals = each }
-numerals_within (x ∷ t) rest [] left all each not e =
-    let P : List ℕ → Type 0 = λ l. NotFirst IsNumeral l in
-    absurd (subst P (sym e) not (all 0 x (omega arith)))
-numerals_within (x ∷ t) rest (y ∷ text) left all each not e =
-    let less = numerals_within t rest text left (All-tail IsNumeral x t all)
-    (All-tail IsNumeral y text each) not (same_others e) in
-    record {
-      behind = less.behind;
-      splits = ap (λ c. c ∷ text) (sym (same_first e)) ∙ ap (λ l. x ∷ l) less.splits;
-      rests = less.rests;
-      numerals = less.numerals;
-    }
 
 -- what does not go on with more behind it does not
 pub not_on : (behind left : List ℕ) → NotFirst GoesOn (behind ++ left) → NotFirst GoesOn behind
 not_on [] left not = tt
 not_on (x ∷ behind) left not = not
 
-pub stands_within : (cut : Bool) (text left more t rest : List ℕ) → IsExtent cut text left
-    → Allows cut more → IsClosed t → t ++ rest ≡ text ++ (left ++ more)
-    → (inside : Within text (left ++ more) t rest)
-    × (IsEnded t rest → NotFirst GoesOn inside.behind)
-stands_within cut text left more t rest (inl c) allowed (inl d) e =
-    let same = closes_one start t text rest (left ++ more) d c e in
-    let P : List ℕ → Type 0 = λ l. l ++ rest ≡ text ++ (left ++ more) in (
-      record {
-        behind = [];
-        splits = sym same ∙ sym (append-nil t);
-        rests = same_rest text rest (left ++ more) (subst P same e);
-        numerals = All-nil IsNumeral;
-      },
-      λ ended. tt,
-    )
-stands_within cut text left more t rest (inl c) allowed (inr (b, all)) e =
-    closes_other text c (begins_as t rest text (left ++ more) (closes_some text c) e b)
-stands_within cut text left more t rest (inr (b, all, not)) allowed (inl d) e =
-    closes_other t d (begins_as text (left ++ more) t rest (closes_some t d) (sym e) b)
-stands_within cut text left more t rest (inr (b, all, not)) allowed (inr (c, each)) e =
-    let inside = numerals_within t rest text (left ++ more) each all (not more allowed) e in
-    let P : List ℕ → Type 0 = λ l. NotFirst GoesOn l in
-    (inside, λ ended. not_on inside.behind (left ++ more) (subst P inside.rests (ended c)))
+-- What is left of the text behind one that stands.
+record Within (text t rest : List ℕ) : Type 0 where
+  pub behind : List ℕ
+  pub splits : text ≡ t ++ behind
+  pub numerals : All IsNumeral behind
+  pub stops : IsEnded t rest → NotFirst GoesOn behind
+
+all_of_it : (text t rest : List ℕ) → text ≡ t → Within text t rest
+all_of_it text t rest e = record {
+  behind = [];
+  splits = e ∙ sym (append-nil t);
+  numerals = All-nil IsNumeral;
+  stops = λ ended. tt;
+}
+
+ends_within : (cut : Bool) (bytes text left more t rest : List ℕ) → Ends cut bytes text left
+    → Allows cut more → MayEnd (bytes ++ more) t rest → Within text t rest
+ends_within cut bytes text left more t rest ((e, it), ends) allowed (f, other) = by it other
+  where
+    whole : bytes ++ more ≡ text ++ (left ++ more)
+    whole = ap (λ l. l ++ more) e ∙ append_assoc text left more
+
+    by : IsClosed bytes left ⊎ (Begins IsNumeric text × All IsNumeral text)
+        → IsClosed (bytes ++ more) rest ⊎ (Begins IsNumeric t × All IsNumeral t)
+        → Within text t rest
+    by (inl c) (inl d) =
+        let same = closed_one (bytes ++ more) rest (left ++ more) d
+        (closed_stays bytes left more c) in
+        all_of_it text t rest (append_cancel_right text t rest
+        (ap (λ l. text ++ l) same ∙ sym whole ∙ f))
+    by (inl c) (inr (b, all)) =
+        closed_other (bytes ++ more) (left ++ more) t rest (closed_stays bytes left more c) f b
+    by (inr (b, all)) (inl d) = closed_other (bytes ++ more) rest text (left ++ more) d whole b
+    by (inr (b, all)) (inr (c, each)) =
+        let P : List ℕ → Type 0 = λ l. All IsNumeral l in
+        let Q : List ℕ → Type 0 = λ l. NotFirst GoesOn l in
+        elim (split_two t rest text (left ++ more) (sym f ∙ whole)) [
+          | inl (behind, splits, rests) ↦ record {
+            behind = behind;
+            splits = splits;
+            numerals = all_behind IsNumeral t behind (subst P splits all);
+            stops = λ ended. not_on behind (left ++ more) (subst Q rests (ended c));
+          }
+          | inr p ↦ all_of_it text t rest
+              (none_left IsNumeral text (left ++ more) t rest p each (ends b more allowed)).0
+        ]
 
 -- ---- what is read of the text is what stands in the bytes
 
@@ -112,41 +95,21 @@ scalars_in_front (c ∷ front) rest h =
     let (one, more) = both_true _ (all_scalars (front ++ rest)) h in
     ap (λ b. b && all_scalars front) one ∙ scalars_in_front front rest more
 
-pub numeral_behind : (front rest : List ℕ) → All IsNumeral (front ++ rest) → All IsNumeral rest
-numeral_behind [] rest all = all
-numeral_behind (c ∷ front) rest all =
-    numeral_behind front rest (All-tail IsNumeral c (front ++ rest) all)
-
-spaces_behind : (front rest : List ℕ) → All IsMultispace (front ++ rest) → All IsMultispace rest
-spaces_behind [] rest all = all
-spaces_behind (c ∷ front) rest all =
-    spaces_behind front rest (All-tail IsMultispace c (front ++ rest) all)
-
-goes_on_numeral : (c : ℕ) → GoesOn c → IsNumeral c
-goes_on_numeral c (inl d) = inl d
-goes_on_numeral c (inr (inl e)) = inr (inr (inr (inl e)))
-goes_on_numeral c (inr (inr (inl e))) = inr (inr (inr (inr (inr e))))
-goes_on_numeral c (inr (inr (inr e))) = inr (inr (inr (inr (inl e))))
-
-begins_more_of : (t rest : List ℕ) → Begins IsNumeric t → Begins IsNumeric (t ++ rest)
-begins_more_of [] rest b = absurd b
-begins_more_of (x ∷ t) rest b = b
-
 -- a text ends where what is left of it does not go on
-ended_there : (cut : Bool) (text left more t rest : List ℕ) → IsExtent cut text left
+ended_there : (cut : Bool) (bytes text left more t rest : List ℕ) → Ends cut bytes text left
     → Allows cut more → text ≡ t ++ rest → NotFirst GoesOn (chars rest)
     → IsEnded t ((rest ++ left) ++ more)
-ended_there cut text left more t rest (inl c) allowed whole not begins =
-    let P : List ℕ → Type 0 = λ l. Begins IsNumeric l in
-    closes_other text c (subst P (sym whole) (begins_more_of t rest begins))
-ended_there cut text left more t rest (inr (b, all, ends)) allowed whole not begins =
+ended_there cut bytes text left more t rest ((e, inl c), ends) allowed whole not begins =
+    closed_other bytes left t (rest ++ left) c
+    (e ∙ ap (λ l. l ++ left) whole ∙ append_assoc t rest left) begins
+ended_there cut bytes text left more t rest ((e, inr (b, all)), ends) allowed whole not begins =
     let P : List ℕ → Type 0 = λ l. All IsNumeral l in
-    by rest (numeral_behind t rest (subst P whole all)) not
+    by rest (all_behind IsNumeral t rest (subst P whole all)) not
   where
     by : (rest : List ℕ) → All IsNumeral rest → NotFirst GoesOn (chars rest)
         → NotFirst GoesOn ((rest ++ left) ++ more)
     by [] each stops =
-        not_first GoesOn IsNumeral goes_on_numeral (left ++ more) (ends more allowed)
+        not_first GoesOn IsNumeral (λ c is. grind (arith, is)) (left ++ more) (ends b more allowed)
     by (x ∷ rest) each stops =
         let P : List ℕ → Type 0 = λ l. NotFirst GoesOn l in
         let same = chars-IsAscii (x ∷ rest) (numerals_ascii (x ∷ rest) each) in
@@ -168,51 +131,36 @@ no_longer text rest front utf8 ends e =
       length-append (encode_utf8_all front) rest,
     )
 
--- which of two is missing
-pub text_lacks : {P R Q : Type 0} (lack : Lack) → lack ≡ lacks.Text
-    → ((lack ≡ lacks.Bytes) × P × R) ⊎ ((lack ≡ lacks.Text) × Q) → Q
-text_lacks lack is (inl (other, x, y)) =
-    let e : lacks.Text ≡ lacks.Bytes = sym is ∙ other in absurd (cc)
-text_lacks lack is (inr (same, x)) = x
-
-pub bytes_lack : {P R Q : Type 0} (lack : Lack) → lack ≡ lacks.Bytes
-    → ((lack ≡ lacks.Bytes) × P × R) ⊎ ((lack ≡ lacks.Text) × Q) → R
-bytes_lack lack is (inl (same, x, y)) = y
-bytes_lack lack is (inr (other, x)) =
-    let e : lacks.Text ≡ lacks.Bytes = sym other ∙ is in absurd (cc)
-
 -- no value stands where no text of one begins the bytes
-pub none_closed : {A : Type 0} (level : ℕ) (cut : Bool) (bytes : List ℕ)
-    → ((text rest more : List ℕ) → Allows cut more → bytes ++ more ≡ text ++ rest
-    → IsClosed text → ⊥) → (more : List ℕ) → Allows cut more
-    → NoneStands (IsValueIn {A = A} level) (bytes ++ more)
-unfolding IsValueIn InUtf8
-none_closed level cut bytes none more allowed v rest (t, (utf8, written), e, ended) =
-    none t rest more allowed e (utf8_closed level v t (utf8, written))
+pub none_ends : {A : Type 0} (level : ℕ) (bytes : List ℕ) → NoneStands MayEnd bytes
+    → NoneStands (IsValueIn {A = A} level) bytes
+unfolding IsValueIn
+none_ends level bytes none v rest (t, written, e, ended) =
+    none t rest (value_may_end rest level v bytes t written e)
 
 -- and where bytes lack, a value stands only in those of numbers
 pub numerals_lack : {A : Type 0} (level : ℕ) (bytes : List ℕ)
-    → ((text rest : List ℕ) → bytes ≡ text ++ rest → IsClosed text → All IsNumeral bytes)
+    → ((text rest : List ℕ) → MayEnd bytes text rest → All IsNumeral bytes)
     → (v : Value A) (rest : List ℕ) → IsValueIn level bytes v rest → All IsNumeral bytes
-unfolding IsValueIn InUtf8
+unfolding IsValueIn
 numerals_lack level bytes all v rest (t, written, e, ended) =
-    all t rest e (utf8_closed level v t written)
+    all t rest (value_may_end rest level v bytes t written e)
 
-module _ {A : Type 0} (level : ℕ) {g : Grammar ℕ (Value A)}
-    (of : IsGrammarOf g (ValueText HasCharacters level) (NotFirst GoesOn)) (unique : IsUnique g)
-    (cut : Bool) (bytes text left : List ℕ)
-    (found : (bytes ≡ text ++ left) × IsExtent cut text left) where
+module _ {A : Type 0} (level : ℕ) (cut : Bool) (bytes text left : List ℕ)
+    (found : Ends cut bytes text left) where
+  abbrev g : Grammar ℕ (Value A)
+  g = AnyValue HasCharacters level
+
   -- what stands in the bytes stands in the text, by the grammar of values
   stands_there : (more : List ℕ) → Allows cut more → (v : Value A) (rest : List ℕ)
       → IsValueIn level (bytes ++ more) v rest
       → IsUtf8 text × (behind : List ℕ) × g (chars text) v behind × NotFirst GoesOn behind
   unfolding IsValueIn InUtf8
   stands_there more allowed v rest (t, (utf8, written), e, ended) =
-      let joined = sym e ∙ ap (λ l. l ++ more) found.0 ∙ append_assoc text left more in
-      let closed = utf8_closed level v t (utf8, written) in
-      let (inside, stops) = stands_within cut text left more t rest found.1 allowed closed joined in
+      let inside = ends_within cut bytes text left more t rest found allowed
+      (value_may_end rest level v (bytes ++ more) t (utf8, written) e) in
       let ascii = numerals_ascii inside.behind inside.numerals in
-      let not = stops ended in
+      let not = inside.stops ended in
       let P : List ℕ → Type 0 = λ l. IsUtf8 l in
       let Q : List ℕ → Type 0 = λ l. g l v inside.behind in (
         subst P (sym inside.splits)
@@ -220,7 +168,7 @@ module _ {A : Type 0} (level : ℕ) {g : Grammar ℕ (Value A)}
         inside.behind,
         subst Q (sym (ap chars inside.splits ∙ chars-append t inside.behind utf8
             ∙ ap (λ l. chars t ++ l) (chars-IsAscii inside.behind ascii)))
-            (of.back v (chars t) inside.behind written not),
+            ((value_of HasCharacters level).back v (chars t) inside.behind written not),
         not,
       )
 
@@ -244,7 +192,8 @@ module _ {A : Type 0} (level : ℕ) {g : Grammar ℕ (Value A)}
         let P : List ℕ → Type 0 = λ l. g (chars l) v rest in
         let Q : List ℕ → Type 0 = λ l. NotFirst GoesOn l in
         begins_never GoesOn rest goes
-        (subst Q (unique.one (chars text) w v behind rest stands (subst P same it)) not)
+        (subst Q ((value_unique level).one (chars text) w v behind rest stands (subst P same it))
+        not)
 
     pub some_stands : (v : Value A) (rest last : List ℕ) → IsUtf8 text → IsUtf8 rest
         → g (chars seen) v (chars rest) → NotFirst GoesOn (chars rest)
@@ -253,10 +202,11 @@ module _ {A : Type 0} (level : ℕ) {g : Grammar ℕ (Value A)}
     unfolding IsValueIn InUtf8
     some_stands v rest last utf8 ends it not is more allowed =
         let G : List ℕ → Type 0 = λ l. g (chars l) v (chars rest) in
-        let (front, e, written) = of.there (chars text) v (chars rest) (subst G same it) in
+        let (front, e, written) =
+        (value_of HasCharacters level).there (chars text) v (chars rest) (subst G same it) in
         let t = encode_utf8_all front in
         let whole = splits_there text rest front utf8 ends e in
-        let all : bytes ≡ t ++ (rest ++ left) = found.0 ∙ ap (λ l. l ++ left) whole
+        let all : bytes ≡ t ++ (rest ++ left) = found.0.0 ∙ ap (λ l. l ++ left) whole
         ∙ append_assoc t rest left in
         let size : length t ≡ length text - length rest =
         omega (arith, ap (λ l. length l) whole, length-append t rest) in
@@ -271,41 +221,25 @@ module _ {A : Type 0} (level : ℕ) {g : Grammar ℕ (Value A)}
           ((front, (scalars, refl)), subst P (sym (chars_all front)) written),
           ap (λ l. l ++ more) all ∙ append_assoc t (rest ++ left) more
               ∙ ap (λ l. t ++ (l ++ more)) (sym behind),
-          subst Q (sym behind) (ended_there cut text left more t rest found.1 allowed whole not),
+          subst Q (sym behind)
+              (ended_there cut bytes text left more t rest found allowed whole not),
         )
 
 -- ---- the next value, behind white space
 
 -- a value begins with none
-not_space : (text : List ℕ) → IsClosed text → Begins IsMultispace text → ⊥
-not_space text (inl c) begins = closes_spaced text c begins
-not_space [] (inr (b, all)) begins = absurd b
-not_space (x ∷ text) (inr (b, all)) begins = numeric_space x b begins
-
 value_first : {A : Type 0} (level : ℕ) (bytes : List ℕ) (v : Value A) (rest : List ℕ)
     → IsValueIn level bytes v rest → NotFirst IsMultispace bytes
-unfolding IsValueIn InUtf8
+unfolding IsValueIn
 value_first level bytes v rest (t, written, e, ended) =
-    let P : List ℕ → Type 0 = λ l. NotFirst IsMultispace l in
-    subst P (sym e) (by t (utf8_closed level v t written))
-  where
-    by : (t : List ℕ) → IsClosed t → NotFirst IsMultispace (t ++ rest)
-    by [] (inl c) = absurd (omega (arith, closes_some [] c))
-    by [] (inr (b, all)) = absurd b
-    by (x ∷ t) c = not_space (x ∷ t) c
+    text_first bytes t rest (value_may_end rest level v bytes t written e)
 
 one_gap : (g h s t : List ℕ) → All IsMultispace g → All IsMultispace h → NotFirst IsMultispace s
     → NotFirst IsMultispace t → g ++ s ≡ h ++ t → s ≡ t
-one_gap [] [] s t all each a b e = e
-one_gap [] (y ∷ h) s t all each a b e =
-    let P : List ℕ → Type 0 = λ l. NotFirst IsMultispace l in
-    absurd (subst P e a (each 0 y (omega arith)))
-one_gap (x ∷ g) [] s t all each a b e =
-    let P : List ℕ → Type 0 = λ l. NotFirst IsMultispace l in
-    absurd (subst P (sym e) b (all 0 x (omega arith)))
-one_gap (x ∷ g) (y ∷ h) s t all each a b e =
-    one_gap g h s t (All-tail IsMultispace x g all) (All-tail IsMultispace y h each) a b
-    (same_others e)
+one_gap g h s t all each a b e = elim (split_two g s h t e) [
+  | inl p ↦ (none_left IsMultispace g s h t p each a).1
+  | inr p ↦ sym (none_left IsMultispace h t g s p all b).1
+]
 
 module _ {A : Type 0} (level : ℕ) (cut : Bool) (bytes gap start : List ℕ)
     (passed : (bytes ≡ gap ++ start) × All IsMultispace gap × NotFirst IsMultispace start) where
@@ -325,7 +259,7 @@ module _ {A : Type 0} (level : ℕ) (cut : Bool) (bytes gap start : List ℕ)
       → NoneStands (IsNext {A = A} level) (bytes ++ more)
   unfolding IsNext
   next_none some more none None rest (all, is) =
-      by start some passed.2 (spaces_behind gap (start ++ more) (subst P whole all))
+      by start some passed.2 (all_behind IsMultispace gap (start ++ more) (subst P whole all))
     where
       P : List ℕ → Type 0
       P l = All IsMultispace l

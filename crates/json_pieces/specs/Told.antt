@@ -4,13 +4,12 @@ use Rattle.std.specs.Str.{IsUtf8, chars}
 use Rattle.std.proofs.Common.{refl, sym, subst, inl, inr, ◌∙◌}
 use Rattle.std.proofs.lemmas.List.{append-nil}
 use Rattle.json_pieces.specs.Value.{InUtf8}
-use Rattle.winnow.specs.{ParseFault}
+use Rattle.winnow.specs.{ParseFault, Needed}
 use Rattle.winnow.specs.Bytes.{bytes_follow, bytes_input, bytes_reading}
 use Rattle.winnow.specs.Equal.{true_is_false}
 use Rattle.winnow.specs.Input.{Input, is_end_of_refl}
 use Rattle.winnow.specs.Kind.{Kind, backtrack, memory}
 use Rattle.winnow.specs.Partial.{with_flag}
-use Rattle.winnow.specs.{Needed}
 use Rattle.winnow.specs.Cut.{Asks, ReadsOrAsks}
 use Rattle.winnow.specs.Exact.Whole.{IsWant}
 use Rattle.winnow.specs.Grammar.{Grammar, NoneStands}

@@ -5,10 +5,9 @@ use Rattle.std.specs.Str.{IsUtf8, chars}
 use Rattle.std.proofs.Common.{refl, sym, ap, ◌∙◌, append_assoc}
 use Rattle.std.proofs.lemmas.List.{append-nil}
 use Rattle.winnow.specs.Fault.{refused_inner, refused_offset}
-use Rattle.winnow.specs.{ParseFault}
+use Rattle.winnow.specs.{ParseFault, Needed}
 use Rattle.winnow.specs.ParseFaultCases.{Refused, Incomplete}
 use Rattle.winnow.specs.AsChar.{IsDecDigit, IsMultispace}
-use Rattle.winnow.specs.{Needed}
 use Rattle.json_texts.specs.Number.{GoesOn}
 use Rattle.json_texts.specs.Values.{ValueText}
 use Rattle.json_texts.specs.declared.value.Value.{Value}

@@ -2,28 +2,23 @@ use Rattle.std.proofs.Common.{◌∙◌, ◌-◌, List, ℕ, ap, arith, drop, in
 use Rattle.std.proofs.Common.{sym}
 use Rattle.std.proofs.lemmas.List.{take_rest}
 use Rattle.std.specs.Str.{IsUtf8, chars}
-use Rattle.json_pieces.specs.Read.{bytes_lack, numerals_lack}
-use Rattle.json_pieces.specs.Read.{no_longer, none_closed, none_in_bytes, none_in_text, none_on}
-use Rattle.json_pieces.specs.Read.{some_stands, text_lacks}
-use Rattle.json_texts.specs.Values.Texts.{value_of}
-use Rattle.json_values.specs.Unique.{value_unique}
-use Rattle.winnow.specs.Accumulator.Holds.{HasCharacters}
+use Rattle.json_pieces.specs.Read.{no_longer, none_ends, none_in_bytes, none_in_text, none_on}
+use Rattle.json_pieces.specs.Read.{numerals_lack, some_stands}
 use Rattle.json_pieces.proofs.value.value_in.Goals as goal
 
 pub returns-in-Err-Text-clause-none : goal.returns-in-Err-Text-clause-none
 returns-in-Err-Text-clause-none g c =
     inr (inr (
       c.from_input.ensures,
-      none_closed c.args.level c.args.cut c.args.bytes.now
-          (text_lacks _ c.in-Err-Text.field-0-is c.in-Err-Text.ensures.lack),
+      λ more allowed. none_ends c.args.level _
+          (c.in-Err-Text.ensures.lack.1 c.in-Err-Text.field-0-is more allowed),
     ))
 
 pub returns-in-Err-clause-none : goal.returns-in-Err-clause-none
 returns-in-Err-clause-none g c =
     inr (inr (
       c.from_input-in-Err.ensures,
-      none_in_bytes c.args.level (value_of HasCharacters c.args.level) (value_unique c.args.level)
-          c.args.cut _ _ _ c.in-Ok.ensures.found c.in-Err.ensures.cases.0,
+      none_in_bytes c.args.level c.args.cut _ _ _ c.in-Ok.ensures.found c.in-Err.ensures.cases.0,
     ))
 
 pub returns-in-Err-read_value-clause-none : goal.returns-in-Err-read_value-clause-none
@@ -32,8 +27,7 @@ returns-in-Err-read_value-clause-none g c =
       | inl wants ↦ inl wants
       | inr (backtracks, none) ↦ inr (inr (
         backtracks,
-        none_in_text c.args.level (value_of HasCharacters c.args.level)
-            (value_unique c.args.level) c.args.cut _ _ _ c.in-Ok.ensures.found _
+        none_in_text c.args.level c.args.cut _ _ _ c.in-Ok.ensures.found _
             c.in-Ok-from_utf8.ensures.cases.0 none,
       ))
     ]
@@ -42,9 +36,8 @@ pub returns-then-goes_on-clause-none : goal.returns-then-goes_on-clause-none
 returns-then-goes_on-clause-none g c =
     inr (inr (
       c.from_input-then-goes_on.ensures,
-      none_on c.args.level (value_of HasCharacters c.args.level) (value_unique c.args.level)
-          c.args.cut _ _ _ c.in-Ok.ensures.found _ c.in-Ok-from_utf8.ensures.cases.0
-          c.in-Ok-read_value.value _ (c.in-Ok-read_value.ensures.grammar.stands refl)
+      none_on c.args.level c.args.cut _ _ _ c.in-Ok.ensures.found _
+          c.in-Ok-from_utf8.ensures.cases.0 c.in-Ok-read_value.value _ (c.in-Ok-read_value.ensures.grammar.stands refl)
           (c.if-goes_on.ensures.yes refl),
     ))
 
@@ -60,9 +53,8 @@ pub returns-clause-value : goal.returns-clause-value
 returns-clause-value g c =
     let (same, utf8) = c.in-Ok-from_utf8.ensures.cases in
     let P : List ℕ → Type 0 = λ l. IsUtf8 l in
-    some_stands c.args.level (value_of HasCharacters c.args.level) (value_unique c.args.level)
-    c.args.cut _ _ _ c.in-Ok.ensures.found _ same c.in-Ok-read_value.value _ _ utf8
-    (subst P c.as_bytes.ensures.value c.as_bytes.ensures.utf8)
+    some_stands c.args.level c.args.cut _ _ _ c.in-Ok.ensures.found _ same
+    c.in-Ok-read_value.value _ _ utf8 (subst P c.as_bytes.ensures.value c.as_bytes.ensures.utf8)
     (c.in-Ok-read_value.ensures.grammar.stands refl) (c.if-goes_on.ensures.no refl)
     (take_rest c.args.bytes.now _
     ∙ ap (λ l. drop (length c.in-Ok.text.now - length l) c.args.bytes.now)
@@ -71,4 +63,4 @@ returns-clause-value g c =
 pub returns-in-Err-Bytes-clause-asks : goal.returns-in-Err-Bytes-clause-asks
 returns-in-Err-Bytes-clause-asks g c asks =
     numerals_lack c.args.level _
-    (bytes_lack _ c.in-Err-Bytes.field-0-is c.in-Err-Bytes.ensures.lack)
+    (c.in-Err-Bytes.ensures.lack.0 c.in-Err-Bytes.field-0-is).1

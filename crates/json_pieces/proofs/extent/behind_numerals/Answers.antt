@@ -1,7 +1,7 @@
 use Rattle.std.proofs.Common.{◌∙◌, ◌++◌, ◌∷◌, ap, append_assoc, [], refl, sym}
 use Rattle.std.proofs.lemmas.List.Elements.{All-push}
 use Rattle.json_pieces.specs.Value.{IsNumeral}
-use Rattle.json_pieces.proofs.extent.numerals.Goals as goal
+use Rattle.json_pieces.proofs.extent.behind_numerals.Goals as goal
 
 pub bytes-preserved : goal.bytes-preserved
 bytes-preserved c =

@@ -1,7 +1,7 @@
 use Rattle.std.proofs.Common.{◌≡◌, ◌++◌, ℕ, List, length}
 use Rattle.std.specs.List.{All}
 use Rattle.json_pieces.specs.Value.{IsNumeral}
-use Rattle.json_pieces.proofs.extent.numerals.Given as goal
+use Rattle.json_pieces.proofs.extent.behind_numerals.Given as goal
 
 abbrev pub invariant-bytes : goal.invariant-bytes
 invariant-bytes l =
