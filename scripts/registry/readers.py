@@ -34,7 +34,7 @@ READERS = [
     ("HTTP/1.1 size lines of chunks", "http_chunks", "yes",
         "the size line that bytes begin with, with its extensions, whole and in pieces"),
     ("HTTP/1.1 heads, in pieces", "uses_http", "no",
-        "the same in pieces, and when more bytes are asked for"),
+        "request lines, field lines and heads in pieces, and when more bytes are asked for"),
     ("DNS headers", "uses_dns", "no", "the header, and which part is missing"),
     ("DNS names, compressed", "dns_names", "yes", "the name at a place, or why and where none is"),
     ("INI", "readers", "no", "`Ok` exactly where the bytes are a document of these sections"),
