@@ -38,8 +38,7 @@ returns-then-goes_on-clause-none g c =
       c.from_input-then-goes_on.ensures,
       none_on c.args.level c.args.cut _ _ _ c.in-Ok.ensures.found _
           c.in-Ok-from_utf8.ensures.cases.0 c.in-Ok-read_value.value _
-          (c.in-Ok-read_value.ensures.grammar.stands refl)
-          (c.if-goes_on.ensures.yes refl),
+          (c.in-Ok-read_value.ensures.grammar.stands refl) (c.if-goes_on.ensures.yes refl),
     ))
 
 pub overflow_sub-result : goal.overflow_sub-result
