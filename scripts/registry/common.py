@@ -42,13 +42,18 @@ def camel(name):
     return "".join(part.capitalize() for part in name.split("_"))
 
 
+def in_order(name):
+    """A name by which others are sorted, with its numbers by their size."""
+    return re.sub(r"\d+", lambda found: found[0].zfill(3), name)
+
+
 def items_of(path, kinds="fn|struct|trait|enum|const|type"):
     """The names of the public items of a Rust file, and those that it makes public of others."""
     text = read(path)
     names = re.findall(rf"^pub (?:{kinds}) (\w+)", text, re.MULTILINE)
     for one, several in re.findall(r"^pub use [\w:]+::(?:(\w+)|\{([^}]*)\});", text, re.MULTILINE):
         names += [one] if one else re.findall(r"\w+", several)
-    return sorted(set(names))
+    return sorted(set(names), key=in_order)
 
 
 def imports(module, names):

@@ -1,7 +1,7 @@
 """The files of a crate that name its other files: `impls.rt`, and `Lib.antt` of its specs."""
 import re
 
-from registry.common import CRATES, HEAD, imports, items_of, read, write
+from registry.common import CRATES, HEAD, imports, in_order, items_of, read, write
 
 
 def named_elsewhere(impls, name):
@@ -23,7 +23,8 @@ def write_impls(path):
         about.pop()
     mods = [("pub(crate) " if named_elsewhere(path, it) else "") + f"mod {it};\n" for it in names]
     items = {it: items_of(path.with_suffix("") / f"{it}.rt") for it in names}
-    uses = [imports(f"crate::{module}::{it}", items[it]) for it in names if items[it]]
+    shown = sorted((it for it in names if items[it]), key=in_order)
+    uses = [imports(f"crate::{module}::{it}", items[it]) for it in shown]
     head = "".join(about) + f"//!\n//! {HEAD}\n"
     write(path, head + "".join(mods) + "\n" + "".join(uses))
 

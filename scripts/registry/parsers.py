@@ -3,7 +3,8 @@ comes out, its struct, its names in nom, its definition and its first sentence; 
 nom's names."""
 import re
 
-from registry.common import CRATES, TOP, below_winnow, by_hand, camel, items_of, read, write
+from registry.common import CRATES, TOP, below_winnow, by_hand, camel, in_order, items_of
+from registry.common import read, write
 from registry.facade import title
 from registry.purposes import PURPOSES, SAME, in_nom, others
 
@@ -144,11 +145,6 @@ def parsers():
         for path in sorted((CRATES / crate / "src").glob("*/impls/*.rt")):
             if items_of(path):
                 yield crate, path
-
-
-def in_order(name):
-    """A name by which others are sorted, with its numbers by their size."""
-    return re.sub(r"\d+", lambda found: found[0].zfill(3), name)
 
 
 def table(head, rows):
