@@ -1,8 +1,8 @@
 """Tries edits of one crate, many in one check, and says of each whether the prover refuses it.
 
-`Trial` checks the functions that the edits change as they stand, and then puts edits of different
-functions into one check, over a copy of what the first one proved. An edit is refused where the
-prover does not prove a goal of a function that it changes. That a function waits for another one,
+`Trial` checks the functions that the edits change as they stand, unless they are known to be
+proved, and then puts edits of different functions into one check, over a copy of what the first
+one proved. An edit is refused where the prover does not prove a goal of a function that it changes. That a function waits for another one,
 or that its proof names what the edit took away, says nothing. What a group does not settle is
 tried alone, and so is an edit outside the bodies of functions, over a check of the whole crate.
 """
@@ -170,9 +170,10 @@ class Trial:
             link_all(self.seed, over)
             return self.checked(texts, only, over)
 
-    def run(self, start):
-        """Tries all edits; `start` is a folder of work that an earlier check kept, or None. Returns
-        the names of those that were not refused."""
+    def run(self, start, names):
+        """Tries all edits. `start` is a folder of work that an earlier check kept, or None; `names`
+        are the crate's functions where it is known that they are proved as they stand, or None.
+        Returns the names of the edits that were not refused."""
         ready = []
         for edit in self.edits:
             if edit.find(self.folder):
@@ -182,19 +183,27 @@ class Trial:
         with tempfile.TemporaryDirectory(prefix="seed-") as self.seed:
             if start:
                 link_all(start, self.seed)
-            modules = {"::".join(it.modules) for edit in ready for it in edit.functions if it}
-            self.is_whole = not modules or "" in modules
-            status, said = self.checked({}, [] if self.is_whole else sorted(modules), self.seed)
-            if status:
-                print(*said[-20:], sep="\n")
+            self.is_whole = False
+            names = self.as_they_stand(ready) if names is None else names
+            if names is None:
                 for edit in ready:
                     self.miss(edit, "the crate is not proved as it stands")
                 return self.missed
-            names = [line.split(": ")[0][len("fn ") :] for line in said if line.startswith("fn ")]
             for edit in ready:
                 edit.take_names(names)
             self.in_groups(ready)
         return self.missed
+
+    def as_they_stand(self, edits):
+        """Checks the modules that edits change as they stand, and returns the names of their
+        functions, or None where they are not proved."""
+        modules = {"::".join(it.modules) for edit in edits for it in edit.functions if it}
+        self.is_whole = not modules or "" in modules
+        status, said = self.checked({}, [] if self.is_whole else sorted(modules), self.seed)
+        if status:
+            print(*said[-20:], sep="\n")
+            return None
+        return [line.split(": ")[0][len("fn ") :] for line in said if line.startswith("fn ")]
 
     def miss(self, edit, why):
         self.missed.append(edit.name)

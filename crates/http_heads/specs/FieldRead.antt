@@ -36,15 +36,15 @@ pub record ValueStands (bytes : List ℕ) (value : Bor (List ℕ)) (rest : List 
 abbrev pub ValueRead : Grammar ℕ (Bor (List ℕ))
 ValueRead = Both (λ _ text. text) (Run IsWhite 0) (Run IsValueByte 0)
 
-white_is_value : (b : ℕ) → IsWhite b → IsValueByte b
+pub white_is_value : (b : ℕ) → IsWhite b → IsValueByte b
 white_is_value b (inl space) = inl (omega (arith, space), λ e. omega (arith, space, e))
 white_is_value b (inr tab) = inr tab
 
-all_front : (xs ys : List ℕ) → All IsValueByte (xs ++ ys) → All IsValueByte xs
-all_front [] ys all = All-nil IsValueByte
-all_front (x ∷ xs) ys all =
-    All-cons IsValueByte x xs (All-head IsValueByte x (xs ++ ys) all)
-    (all_front xs ys (All-tail IsValueByte x (xs ++ ys) all))
+pub all_front : (Q : ℕ → Type 0) (xs ys : List ℕ) → All Q (xs ++ ys) → All Q xs
+all_front Q [] ys all = All-nil Q
+all_front Q (x ∷ xs) ys all =
+    All-cons Q x xs (All-head Q x (xs ++ ys) all)
+    (all_front Q xs ys (All-tail Q x (xs ++ ys) all))
 
 pub value_there : (text value : Bor (List ℕ)) → IsTrimmed value.now text.now
     → (bytes rest : List ℕ) → ValueRead bytes text rest → ValueStands bytes value rest
@@ -62,7 +62,7 @@ value_there text value is bytes rest (white, t, mid, x, y, out) =
           ∙ ap (λ l. white.now ++ l) (parts ∙ append_assoc value.now is.behind rest);
       white_before = a.members;
       white_behind = is.white_behind;
-      is_value = all_front value.now is.behind (subst Q is.splits b.members);
+      is_value = all_front IsValueByte value.now is.behind (subst Q is.splits b.members);
       begins_bare = λ c more e. subst N (parts ∙ ap (λ l. (l ++ is.behind) ++ rest) e) a.stops;
       ends_bare = is.ends_bare;
       stops = b.stops;

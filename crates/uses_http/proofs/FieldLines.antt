@@ -23,13 +23,14 @@ use Rattle.winnow.specs.{Range}
 use Rattle.http_heads.specs.Bytes.{IsTokenByte, IsValueByte, IsWhite, line_end}
 use Rattle.uses_http.specs.Ranges.{any_bytes, some_bytes}
 use Rattle.http_heads.specs.FieldLine.{IsFieldLine}
+use Rattle.http_heads.specs.FieldRead.{white_is_value}
 use Rattle.uses_http.specs.FieldLine.{BeginsFieldLine, NoFieldLine}
 use Rattle.uses_http.proofs.Begun.{Begins, slice_begins, take_begins, token_begins}
 use Rattle.uses_http.proofs.BegunSequences.{Joined5, sequence5_begins}
 use Rattle.uses_http.proofs.Fails.{Fails, FailsSo, sequence5_fails, slice_fails, take_fails}
 use Rattle.uses_http.proofs.Fails.{token_fails}
 use Rattle.uses_http.proofs.Longer.{anything, fails_longer, slice_grows, take_grows, token_grows}
-use Rattle.uses_http.proofs.Values.{IsRead, field_line_some, read_some, white_is_value}
+use Rattle.uses_http.proofs.Values.{IsRead, field_line_some, read_some}
 
 -- what the five parsers mean, and the states in which `line` makes them
 abbrev pub States : Type 0 → Type 0 → Type 0 → Type 0

@@ -9,14 +9,10 @@ use Rattle.std.proofs.lemmas.List.Elements.{All-weaker}
 use Rattle.std.proofs.lemmas.List.{same_from_push}
 use Rattle.http_heads.specs.Bytes.{IsTokenByte, IsValueByte, IsWhite, line_end}
 use Rattle.http_heads.specs.FieldLine.{BeginsBare, EndsBare, IsFieldLine, IsTrimmed}
-use Rattle.http_heads.specs.FieldRead.{field_takes, none_returns}
+use Rattle.http_heads.specs.FieldRead.{all_front, field_takes, none_returns, white_is_value}
 use Rattle.http_heads.specs.declared.field_line.Field.{Field}
 use Rattle.winnow.specs.Equal.{same_first, same_others}
 use Rattle.uses_http.proofs.Texts.{in_middle, one_stranger, one_text}
-
-pub white_is_value : (b : ℕ) → IsWhite b → IsValueByte b
-white_is_value b (inl space) = inl (omega (arith, space), λ e. omega (arith, space, e))
-white_is_value b (inr tab) = inr tab
 
 -- ---- the end of a text
 
@@ -133,12 +129,6 @@ pub record IsRead (name text bytes rest : List ℕ) : Type 0 where
   pub is_white : All IsWhite white
   pub is_value : All IsValueByte text
   pub bare : BeginsBare text
-
-all_front : (Q : ℕ → Type 0) (xs ys : List ℕ) → All Q (xs ++ ys) → All Q xs
-all_front Q [] ys all = All-nil Q
-all_front Q (x ∷ xs) ys all =
-    All-cons Q x xs (All-head Q x (xs ++ ys) all)
-    (all_front Q xs ys (All-tail Q x (xs ++ ys) all))
 
 -- the text without the white space behind it is the value
 pub read_trimmed : (name text value bytes rest : List ℕ) → IsRead name text bytes rest
