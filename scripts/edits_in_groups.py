@@ -2,9 +2,10 @@
 
 `Trial` checks the functions that the edits change as they stand, unless they are known to be
 proved, and then puts edits of different functions into one check, over a copy of what the first
-one proved. An edit is refused where the prover does not prove a goal of a function that it changes. That a function waits for another one,
-or that its proof names what the edit took away, says nothing. What a group does not settle is
-tried alone, and so is an edit outside the bodies of functions, over a check of the whole crate.
+one proved. An edit is refused where the prover does not prove a goal of a function that it
+changes. That a function waits for another one, or that its proof names what the edit took away,
+says nothing. What a group does not settle is tried alone, and so is an edit outside the bodies of
+functions, over a check of the whole crate.
 """
 import os
 import re
@@ -12,6 +13,7 @@ import shutil
 import subprocess
 import tempfile
 import time
+from collections import Counter
 
 # How many edits stand in one check.
 SIZE = 12
@@ -221,9 +223,11 @@ class Trial:
             self.alone(edit)
 
     def next_group(self, waiting):
-        """The next edits that change different functions, and the texts with all of them."""
+        """The next edits that change different functions, and the texts with all of them. Those of
+        functions with the most edits go first, since each group takes one of them at most."""
+        counts = Counter(name for edit in waiting for name in edit.names)
         group, texts, used = [], {}, set()
-        for edit in waiting:
+        for edit in sorted(waiting, key=lambda it: -max(counts[name] for name in it.names)):
             with_it = None if used & {*edit.names} else edit.applied(texts, self.folder)
             if with_it and len(group) < SIZE:
                 group, texts, used = [*group, edit], with_it, used | {*edit.names}
