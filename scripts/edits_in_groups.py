@@ -1,11 +1,11 @@
 """Tries edits of one crate, many in one check, and says of each whether the prover refuses it.
 
 `Trial` checks the functions that the edits change as they stand, unless they are known to be
-proved, and then puts edits of different functions into one check, over a copy of what the first
-one proved. An edit is refused where the prover does not prove a goal of a function that it
-changes. That a function waits for another one, or that its proof names what the edit took away,
-says nothing. What a group does not settle is tried alone, and so is an edit outside the bodies of
-functions, over a check of the whole crate.
+proved and call little, and then puts edits of different functions into one check, over a copy of
+what the first one proved. An edit is refused where the prover does not prove a goal of a function
+that it changes. That a function waits for another one, or that its proof names what the edit took
+away, says nothing. What a group does not settle is tried alone, and so is an edit outside the
+bodies of functions, over a check of the whole crate.
 """
 import os
 import re
@@ -172,10 +172,10 @@ class Trial:
             link_all(self.seed, over)
             return self.checked(texts, only, over)
 
-    def run(self, start, names):
-        """Tries all edits. `start` is a folder of work that an earlier check kept, or None; `names`
-        are the crate's functions where it is known that they are proved as they stand, or None.
-        Returns the names of the edits that were not refused."""
+    def run(self, start, calls):
+        """Tries all edits. `start` is a folder of work that an earlier check kept, or None. `calls`
+        has, of each of the crate's functions, those that it calls, where it is known that they are
+        proved as they stand; or it is None. Returns the names of the edits that were not refused."""
         ready = []
         for edit in self.edits:
             if edit.find(self.folder):
@@ -185,8 +185,8 @@ class Trial:
         with tempfile.TemporaryDirectory(prefix="seed-") as self.seed:
             if start:
                 link_all(start, self.seed)
-            self.is_whole = False
-            names = self.as_they_stand(ready) if names is None else names
+            self.is_whole, self.calls = False, calls
+            names = self.as_they_stand(ready) if calls is None else [*calls]
             if names is None:
                 for edit in ready:
                     self.miss(edit, "the crate is not proved as it stands")
@@ -213,14 +213,34 @@ class Trial:
 
     def in_groups(self, edits):
         """Tries edits in groups, and alone what no group settles."""
-        waiting = [it for it in edits if it.is_clear]
+        waiting, groups = [it for it in edits if it.is_clear], []
         alone = [it for it in edits if not it.is_clear]
         while waiting:
-            group, texts = self.next_group(waiting)
-            waiting = [it for it in waiting if it not in group]
+            groups.append(self.next_group(waiting))
+            waiting = [it for it in waiting if it not in groups[-1][0]]
+        if self.calls is not None:
+            self.prove_what_is_called(groups)
+        for group, texts in groups:
             alone += self.unsettled(group, texts) if len(group) > 1 else group
         for edit in alone:
             self.alone(edit)
+
+    def prove_what_is_called(self, groups):
+        """A check of functions is one of those that they call too. So it proves those of all groups
+        as they stand, once, where that is less than what each group would prove by itself."""
+        changed = [{name for edit in group for name in edit.names} for group, _ in groups]
+        all_changed = set().union(*changed)
+        once = len(self.reached(all_changed)) + sum(map(len, changed))
+        if once < sum(len(self.reached(names)) for names in changed):
+            self.checked({}, sorted(all_changed), self.seed)
+
+    def reached(self, names):
+        """Some functions, and those that they call, and those that these call."""
+        found, waiting = set(), {*names}
+        while waiting:
+            found |= waiting
+            waiting = {it for name in waiting for it in self.calls.get(name, ())} - found
+        return found
 
     def next_group(self, waiting):
         """The next edits that change different functions, and the texts with all of them. Those of
