@@ -1,21 +1,22 @@
 -- Records of which the line end is there: they are those of every longer input.
-use Rattle.std.specs.Prelude.{◌≡◌, false, true, ℕ, List, ◌++◌, length, Result, Ok, Err, IfOk}
+use Rattle.std.specs.Prelude.{◌≡◌, ◌⊎◌, false, true, ℕ, List, ◌++◌, length, Result, Ok, Err}
+use Rattle.std.specs.Prelude.{IfErr, IfOk}
 use Rattle.std.specs.Borrow.{Bor}
 use Rattle.std.specs.declared.vec.Vec.{Vec}
-use Rattle.std.proofs.Common.{refl, sym, ap, subst, inl, ◌∙◌, arith, append_assoc}
+use Rattle.std.proofs.Common.{refl, sym, ap, subst, inl, inr, ◌∙◌, arith, append_assoc}
 use Rattle.std.proofs.Common.{length-append}
 use Rattle.winnow.specs.Bytes.{bytes_follow, bytes_input, bytes_reading}
 use Rattle.winnow.specs.Counted.{counted_reading}
 use Rattle.winnow.specs.Equal.{true_is_false}
 use Rattle.winnow.specs.Input.{Input, IsEndOf}
-use Rattle.winnow.specs.Kind.{Kind}
+use Rattle.winnow.specs.Kind.{Kind, memory}
 use Rattle.winnow.specs.Partial.{with_flag}
 use Rattle.uses_csv.specs.Csv.{IsRecord, RecordText, line_end}
-use Rattle.uses_csv.specs.Read.{FieldsRead, fields, some_end}
+use Rattle.uses_csv.specs.Read.{FieldsRead, breaks, fields, some_end}
 use Rattle.uses_csv.specs.declared.LineEnd.{LineEnd}
 use Rattle.winnow.specs.Exact.{Reads}
 use Rattle.winnow.specs.Cut.{ReadsOrAsks}
-use Rattle.winnow.specs.Grammar.{Both, Grammar, Literally}
+use Rattle.winnow.specs.Grammar.{Both, Grammar, Literally, NoneStands}
 
 -- Bytes begin with a record and a line end.
 abbrev pub IsLine : {A : Type 0} → LineEnd → Grammar ℕ (Vec (Vec ℕ A) A)
@@ -50,6 +51,38 @@ module _ {A : Type 0} (ends : LineEnd) where
       λ h. h i.left.tokens list j.left.tokens in
       line_stands end is i.left.tokens list j.left.tokens (subst P e (r.stands whole))
   line_told {result = Err error} end is whole r e = tt
+
+  line_back : (end : Bor (List ℕ)) → end.now ≡ line_end ends → (bytes : List ℕ)
+      (list : Vec (Vec ℕ A) A) (rest : List ℕ) → IsLine ends bytes list rest
+      → LineRead end bytes list rest
+  unfolding Both Literally
+  line_back end is bytes list rest (text, t, e) =
+      let P : List ℕ → Type 0 = λ l. LineRead end l list rest in
+      let slice : Bor (List ℕ) = record { ref_ptr = (0, 0); now = line_end ends } in
+      let x = fields.back list text (line_end ends ++ rest) t (breaks ends rest) in
+      subst P (sym e) (
+        list,
+        slice,
+        line_end ends ++ rest,
+        x,
+        (line_end ends, slice, sym is, refl, refl, refl),
+        refl,
+      )
+
+  -- where none is read, none stands
+  pub line_fails : {E : Type 0} {kind : E → Kind} {g : Grammar ℕ (Vec (Vec ℕ A) A)}
+      {i j : Input ℕ} {result : Result (Vec (Vec ℕ A) A) E} (end : Bor (List ℕ))
+      → end.now ≡ line_end ends → i.status.cut ≡ false
+      → Reads counted_reading kind g i result j → g ≡ LineRead end
+      → IfErr result (λ e. (kind e ≡ memory) ⊎ NoneStands (IsLine {A = A} ends) i.left.tokens)
+  line_fails {result = Ok list} end is whole r e = tt
+  line_fails {g = g} {i = i} {result = Err error} end is whole r e =
+      let P : Grammar ℕ (Vec (Vec ℕ A) A) → Type 0 = λ h. NoneStands h i.left.tokens in
+      elim (r.none whole) [
+        | inl wants ↦ inl wants
+        | inr (backs, none) ↦ inr (λ list rest line.
+            subst P e none list rest (line_back end is i.left.tokens list rest line))
+      ]
 
   -- whatever follows
   pub line_grown : (bytes : List ℕ) (list : Vec (Vec ℕ A) A) (rest more : List ℕ)

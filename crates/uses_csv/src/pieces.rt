@@ -1,11 +1,13 @@
 //! Records from pieces: one at a time, as their bytes come in.
 
-ghost use Rattle.std.specs.Prelude.{IfOk};
+ghost use Rattle.std.specs.Prelude.{◌≡◌, ◌⊎◌, IfErr, IfOk};
 ghost use Rattle.winnow.specs.Bytes.{bytes_follow, bytes_input, bytes_reading};
+ghost use Rattle.winnow.specs.Grammar.{NoneStands};
 ghost use Rattle.winnow.specs.Input.{IsEndOf};
+ghost use Rattle.winnow.specs.Kind.{memory};
 ghost use Rattle.uses_csv.specs.Csv.{IsRecord};
 ghost use Rattle.uses_csv.specs.Pieces.{IsLine};
-ghost use Rattle.winnow.specs.Cut.{ReadsOrAsks};
+ghost use Rattle.winnow.specs.Cut.{Asks, ReadsOrAsks};
 
 use crate::{Fields, LineEnd, Record, read_fields, read_record};
 use std::alloc::Allocator;
@@ -23,17 +25,18 @@ fn read_line<'i, A: Allocator + Copy>(
 ) -> Result<Record<A>, ErrMode<EmptyError>>
     ensures ends { IsEndOf bytes_reading (bytes_input input.new.now) (bytes_input input.old.now) }
     ensures line { IfOk result (λ fields. IsLine end input.old.now fields input.new.now) }
+    ensures none { IfErr result (λ e. (⟦<ErrMode<EmptyError> as HasKind>⟧.kind e ≡ memory)
+        ⊎ NoneStands (IsLine {A = A} end) input.old.now) }
 {
     let fields = Fields(alloc).by(|input: &mut &[u8]| read_fields(alloc, input));
     terminated(fields, literal(end.bytes())).read(input)
 }
 
-/// As [`read_record`](crate::read_record), from an input to which more may come. What it answers
-/// there is the record of every longer input, and where it backtracks none of them begins with a
-/// record. Else more is asked for, by `Incomplete`; in bytes that no longer input makes a record
-/// too, so a caller bounds how many it holds. When more is asked for no clause says: that a record
-/// is read as soon as its line end is there is tested. A complete input is read as by
-/// `read_record`.
+/// As [`read_record`](crate::read_record), from an input to which more may come. A record is read
+/// there once its line end is: it is that of every longer input, and where this backtracks none of
+/// them begins with one. Else more is asked for, by `Incomplete`, where no record with its line end
+/// stands first; in bytes that no longer input makes a record too, so a caller bounds how many it
+/// holds. A complete input is read as by `read_record`.
 ///
 /// ```
 /// use uses_csv::LineEnd;
@@ -54,9 +57,12 @@ pub fn read_record_in_pieces<'i, A: Allocator + Copy>(
     end: LineEnd,
     input: &mut Partial<&'i [u8]>,
 ) -> Result<Record<A>, ErrMode<EmptyError>>
-    ensures { ReadsOrAsks bytes_reading bytes_follow ⟦<ErrMode<EmptyError> as HasKind>⟧.kind
+    ensures record { ReadsOrAsks bytes_reading bytes_follow ⟦<ErrMode<EmptyError> as HasKind>⟧.kind
         (IsRecord end) (⟦<Partial<&'static [u8]> as Stream>⟧.view input.old) result
         (⟦<Partial<&'static [u8]> as Stream>⟧.view input.new) }
+    ensures asks { IfErr result (λ e. Asks (⟦<ErrMode<EmptyError> as HasKind>⟧.kind e)
+        → NoneStands (IsLine {A = A} end)
+        (⟦<Partial<&'static [u8]> as Stream>⟧.view input.old).left.tokens) }
 {
     let mut left = *input.as_inner();
     if !input.is_partial() {
