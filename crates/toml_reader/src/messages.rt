@@ -1,6 +1,6 @@
 //! Messages for people: where a text is no document of TOML, and why.
 ghost use Rattle.std.specs.Prelude.{IfSome};
-ghost use Rattle.toml_reader.specs.Messages.{IsMessageOf, LacksAt};
+ghost use Rattle.toml_reader.specs.Messages.{Explains, LacksAt};
 
 use crate::document::Fault;
 use crate::expected::{Expected, first_lack};
@@ -53,7 +53,8 @@ impl Display for Message {
     }
 }
 
-/// What the first line lacks that is none of TOML, and its place.
+/// What the first line lacks that is none of TOML, and the line and the column of the text before
+/// the place.
 fn first_place<'i, A: Allocator + Copy>(
     alloc: A,
     level: usize,
@@ -72,14 +73,20 @@ fn first_place<'i, A: Allocator + Copy>(
 
 /// The message for a fault of a text that was read as a document of this level.
 ///
-/// `None` where a request for memory was refused, or the fault is that of another text.
+/// Where the text is not lines of TOML, it is what the first line lacks that is none, at the line
+/// and the column of the text before the place. Where a line says a key or a table again, it is
+/// that line, at its first column.
+///
+/// `None` for a request for memory that was refused, then or now; for the number of a line that
+/// says something again, where none is behind it; and for lines that lack nothing, since then the
+/// fault is that of another text.
 pub fn explain<'i, A: Allocator + Copy>(
     alloc: A,
     level: usize,
     text: &'i str,
     fault: &Fault<'i>,
 ) -> Option<Message>
-    ensures { IfSome result (λ m. IsMessageOf A level text.now fault.now m) }
+    ensures { Explains A level text.now fault.now result }
 {
     match fault {
         Fault::Lines(_) => {
