@@ -336,10 +336,12 @@ fn line_of<'i, A: Allocator + Copy>(
 /// What the first line of a text lacks that is none of TOML, and the text from that place on. In
 /// values no more than so many arrays stand in one another.
 ///
-/// It is what its table or its entry lacks, behind all that stands of these; or, where these lack
-/// nothing, the end of the line, behind all that stands of a line.
+/// Behind what stands of this line is neither the end of the text nor a line end. It lacks what its
+/// table or its entry does, behind the parts of these that stand; or, where these lack nothing, the
+/// end of the line, behind what stands of it.
 ///
-/// `None` where all are lines of TOML. An error says that a request for memory was refused.
+/// `None` where all are lines of TOML. An error is for a request for memory that was refused, which
+/// no clause says.
 ///
 /// ```
 /// use toml_reader::expected::{Expected, Lack, first_lack};

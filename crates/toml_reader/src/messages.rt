@@ -73,13 +73,14 @@ fn first_place<'i, A: Allocator + Copy>(
 
 /// The message for a fault of a text that was read as a document of this level.
 ///
-/// Where the text is not lines of TOML, it is what the first line lacks that is none, at the line
-/// and the column of the text before the place. Where a line says a key or a table again, it is
-/// that line, at its first column.
+/// Of a text that is not lines of TOML it says what the first line lacks that is none, with the
+/// line and the column behind the text before the place. Of a line that says a key or a table again
+/// it says the line, with the first column; there is no such message only where the number of the
+/// line, counted from 1, is none of 64 bits.
 ///
-/// `None` for a request for memory that was refused, then or now; for the number of a line that
-/// says something again, where none is behind it; and for lines that lack nothing, since then the
-/// fault is that of another text.
+/// `None` where memory was refused when the text was read. Of a text that is not lines there is none
+/// where memory is refused now, or where all of it is lines, as the fault is that of another text:
+/// that there is one else no clause says.
 pub fn explain<'i, A: Allocator + Copy>(
     alloc: A,
     level: usize,
