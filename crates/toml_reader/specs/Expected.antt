@@ -38,6 +38,15 @@ IsPast grammar tokens (Some rest) =
     Stands grammar tokens (chars rest.now)
 IsPast grammar tokens None = NoneStands grammar tokens
 
+-- nothing is lacking
+abbrev pub LacksNothing : (Expected → List ℕ → Type 0) → Type 0
+LacksNothing lacks = (what : Expected) (rest : List ℕ) → lacks what rest → ⊥
+
+-- what is lacking, or nothing where nothing is
+abbrev pub IsLack : (Expected → List ℕ → Type 0) → Option Lack → Type 0
+IsLack lacks (Some lack) = lacks lack.expected (chars lack.rest.now)
+IsLack lacks None = LacksNothing lacks
+
 -- What stands of a table before what it lacks, one behind the other, and what does not stand there.
 abbrev pub TableLacks : List ℕ → Expected → List ℕ → Type 0
 TableLacks text TableName rest = Stands (Mark 91) text rest × NoneStands BareKey rest
@@ -64,12 +73,15 @@ module _ (A : Type 0) (level : ℕ) where
       (text : List ℕ) × Stands Ws line text
       × (TableLacks text what rest ⊎ EntryLacks text what rest)
 
-  -- What a line lacks: its table or its entry lacks it; or what stands of a line has no end.
+  -- What a line lacks that is none of TOML: what stands of a line is followed neither by the end
+  -- of the text nor by a line end. Its table or its entry lacks it; or these lack nothing, and then
+  -- it is the end of the line, behind what stands of it.
   abbrev pub Lacks : List ℕ → Expected → List ℕ → Type 0
   Lacks line what rest =
-      ItemLacks line what rest
-      ⊎ ((what ≡ LineEnd) × Stands (Line {A = A} level) line rest × (rest ≡ [] → ⊥)
-      × NoneStands Newline rest)
+      (end : List ℕ) × Stands (Line {A = A} level) line end × (end ≡ [] → ⊥)
+      × NoneStands Newline end
+      × (ItemLacks line what rest
+      ⊎ ((what ≡ LineEnd) × (rest ≡ end) × LacksNothing (ItemLacks line)))
 
   -- A line with its line end, and what is left behind it.
   abbrev pub LineStands : List ℕ → List ℕ → Type 0

@@ -27,7 +27,7 @@ use Rattle.winnow.specs.Texts.Tokens.{divides_seen, divides_where, longest_of}
 -- ---- tables
 
 -- what a bare key is not
-bare_is : (c : ℕ) → IsBare c
+pub bare_is : (c : ℕ) → IsBare c
     → (44 < c) × (c < 123) × (c ≡ 61 → ⊥) × (c ≡ 91 → ⊥) × (c ≡ 93 → ⊥)
 bare_is c (inl e) = omega (arith, e)
 bare_is c (inr (inl e)) = omega (arith, e)

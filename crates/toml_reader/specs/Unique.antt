@@ -9,7 +9,7 @@ use Rattle.json_reader.specs.Unique.{char_unique, run_unique, word_unique}
 use Rattle.json_texts.specs.Words.{former, latter, pair}
 use Rattle.toml_reader.specs.Toml.{AnyCharacters, AnyComment, AnyItem, AnyValue, Array}
 use Rattle.toml_reader.specs.Toml.{Integer, IsArray, IsBoolean, IsEntry, IsInteger, IsOf}
-use Rattle.toml_reader.specs.Toml.{IsTable, IsText, Line, Mark}
+use Rattle.toml_reader.specs.Toml.{IsTable, IsText, Line, Mark, Newline, Separator}
 use Rattle.toml_reader.specs.Escapes.{character_unique}
 use Rattle.toml_reader.specs.Toml.{Scalar, SpacedOut, Tells, Ws, false_word, true_word}
 use Rattle.toml_reader.specs.declared.characters.Characters.{Characters}
@@ -18,7 +18,7 @@ use Rattle.toml_reader.specs.declared.value.Value.{Value}
 use Rattle.winnow.specs.Numeral.Exact.{dec_int_exact}
 use Rattle.winnow.specs.TakeWhile.Exact.{longest_unique}
 use Rattle.winnow.specs.Once.{holds_once, seen_once}
-use Rattle.winnow.specs.Grammar.{Grammar, IsUnique}
+use Rattle.winnow.specs.Grammar.{Grammar, IsUnique, Longest}
 use Rattle.winnow.specs.Grammar.Meaning.{meaning_unique}
 use Rattle.winnow.specs.Grammar.Sequences.{three_unique}
 use Rattle.winnow.specs.Grammar.Unique.{both_unique, either_unique, gathered_unique}
@@ -26,10 +26,10 @@ use Rattle.winnow.specs.Grammar.Unique.{many_unique, maybe_unique, parted_unique
 use Rattle.winnow.specs.Grammar.Unique.{token_of_unique}
 use Rattle.winnow.specs.Accumulator.Holds.{HasCharacters}
 
-ws_unique : IsUnique Ws
+pub ws_unique : IsUnique Ws
 ws_unique = run_unique IsSpace 0
 
-mark_unique : (c : ℕ) → IsUnique (Mark c)
+pub mark_unique : (c : ℕ) → IsUnique (Mark c)
 mark_unique c = both_unique pair (char_unique c) ws_unique
 
 spaced_unique : {O : Type 0} {g : Grammar ℕ O} → IsUnique g → IsUnique (SpacedOut g)
@@ -39,10 +39,22 @@ integer_unique : IsUnique Integer
 integer_unique = (dec_int_exact (λ c. c) (λ c. c) text_reading (λ n. n) (FitsSigned w64) modal
     (λ t u e. e)).unique
 
+pub separator_unique : IsUnique Separator
+separator_unique = three_unique (λ a b c. (a, b, c)) ws_unique (char_unique 61) ws_unique
+
+pub newline_unique : IsUnique Newline
+newline_unique =
+    either_unique (char_unique 10) (both_unique latter (char_unique 13) (char_unique 10))
+
+-- characters of a set, as they stand in the text
+pub members_unique : (set : Characters) (least : ℕ)
+    → IsUnique (Longest text_reading (λ c. c) Tells set (from_to least None))
+members_unique set least =
+    longest_unique text_reading (λ c. c) Tells set (from_to least None)
+    (seen_once (λ c. c) (Tells set) (λ c d e. e) (holds_once (IsOf set)))
+
 comment_unique : IsUnique AnyComment
-comment_unique =
-    both_unique latter (char_unique 35) (longest_unique text_reading (λ c. c) Tells Comment
-    (from_to 0 None) (seen_once (λ c. c) (Tells Comment) (λ c d e. e) (holds_once (IsOf Comment))))
+comment_unique = both_unique latter (char_unique 35) (members_unique Comment 0)
 
 module _ {A : Type 0} where
   characters_unique : (set : Characters) (least : ℕ) → IsUnique (AnyCharacters {A = A} set least)
@@ -78,8 +90,7 @@ module _ {A : Type 0} where
       either_unique (meaning_unique IsTable (three_unique (λ o1 o2 o3. o2) (mark_unique 91)
       (spaced_unique (characters_unique Bare 1)) (char_unique 93)))
       (meaning_unique IsEntry (three_unique (λ k s v. (k, v)) (characters_unique Bare 1)
-      (three_unique (λ a b c. (a, b, c)) ws_unique (char_unique 61) ws_unique)
-      (value_unique level)))
+      separator_unique (value_unique level)))
 
   pub line_unique : (level : ℕ) → IsUnique (Line {A = A} level)
   line_unique level =

@@ -1,9 +1,9 @@
 //! What a line lacks that is none of TOML, for messages to people.
-ghost use Rattle.std.specs.Prelude.{◌≡◌, [], false, IfOk, IfSome, IsTrue};
+ghost use Rattle.std.specs.Prelude.{◌≡◌, ℕ, [], false, IfOk, IsTrue, List};
 ghost use Rattle.std.specs.Str.{chars};
 ghost use Rattle.json_texts.specs.Words.{Char};
-ghost use Rattle.toml_reader.specs.Expected.{BareKey, EntryLacks, IsFirstLack, IsLine, IsPast};
-ghost use Rattle.toml_reader.specs.Expected.{ItemLacks, Lacks, Stands, TableLacks};
+ghost use Rattle.toml_reader.specs.Expected.{BareKey, EntryLacks, IsFirstLack, IsLack, IsLine};
+ghost use Rattle.toml_reader.specs.Expected.{IsPast, ItemLacks, Lacks, Stands, TableLacks};
 ghost use Rattle.toml_reader.specs.Toml.{AnyValue, Line, Mark, Newline, Separator, Ws};
 ghost use Rattle.winnow.specs.Grammar.{NoneStands};
 ghost use Rattle.winnow.specs.Texts.{NotFirst};
@@ -155,7 +155,10 @@ fn lacks_value<'i, A: Allocator + Copy>(
     level: usize,
     text: &'i str,
 ) -> Result<bool, ErrMode<EmptyError>>
-    ensures { IfOk result (λ o. IsTrue o → NoneStands (AnyValue {A = A} level) (chars text.now)) }
+    ensures none { IfOk result (λ o. IsTrue o
+        → NoneStands (AnyValue {A = A} level) (chars text.now)) }
+    ensures some { IfOk result (λ o. o ≡ false
+        → (rest : List ℕ) × Stands (AnyValue {A = A} level) (chars text.now) rest) }
 {
     let mut rest = text;
     match read_value(alloc, level, &mut rest) {
@@ -170,10 +173,9 @@ fn lacks_value<'i, A: Allocator + Copy>(
     }
 }
 
-/// What a table lacks whose bracket is first.
+/// What a table lacks with whose bracket a text begins; nothing where it lacks nothing.
 fn lack_of_table<'i>(text: &'i str) -> Result<Option<Lack<'i>>, ErrMode<EmptyError>>
-    ensures { IfOk result (λ o. IfSome o (λ l. TableLacks (chars text.now) l.expected
-        (chars l.rest.now))) }
+    ensures { IfOk result (λ o. IsLack (TableLacks (chars text.now)) o) }
 {
     let Some(name) = past_bracket(text)? else {
         return Ok(None);
@@ -196,7 +198,7 @@ fn lack_of_table<'i>(text: &'i str) -> Result<Option<Lack<'i>>, ErrMode<EmptyErr
     }
 }
 
-/// What an entry lacks with which a text begins.
+/// What an entry lacks with which a text begins; nothing where it lacks nothing.
 fn lack_of_entry<'i, A: Allocator + Copy>(
     alloc: A,
     level: usize,
@@ -204,8 +206,7 @@ fn lack_of_entry<'i, A: Allocator + Copy>(
 ) -> Result<Option<Lack<'i>>, ErrMode<EmptyError>>
     requires table { NotFirst (λ c. c ≡ 91) (chars text.now) }
     requires comment { NotFirst (λ c. c ≡ 35) (chars text.now) }
-    ensures { IfOk result (λ o. IfSome o (λ l. EntryLacks A level (chars text.now) l.expected
-        (chars l.rest.now))) }
+    ensures { IfOk result (λ o. IsLack (EntryLacks A level (chars text.now)) o) }
 {
     let Some(behind) = past_key(text)? else {
         return Ok(Some(Lack {
@@ -228,14 +229,14 @@ fn lack_of_entry<'i, A: Allocator + Copy>(
     Ok(None)
 }
 
-/// What the table or the entry of a line lacks, where it has no comment alone.
+/// What the table or the entry of a line lacks; nothing where these lack nothing, or a comment is
+/// there alone.
 fn lack_of_item<'i, A: Allocator + Copy>(
     alloc: A,
     level: usize,
     line: &'i str,
 ) -> Result<Option<Lack<'i>>, ErrMode<EmptyError>>
-    ensures { IfOk result (λ o. IfSome o (λ l. ItemLacks A level (chars line.now) l.expected
-        (chars l.rest.now))) }
+    ensures { IfOk result (λ o. IsLack (ItemLacks A level (chars line.now)) o) }
 {
     let Some(text) = past_white(line)? else {
         return Ok(None);
@@ -289,7 +290,8 @@ fn is_end(text: &str) -> bool
     text.chars().next().is_none()
 }
 
-/// What a line lacks that has no end.
+/// What a line lacks that has no end behind what stands of it: what its table or its entry lacks;
+/// or, where these lack nothing, its end.
 fn lack_of_line<'i, A: Allocator + Copy>(
     alloc: A,
     level: usize,
@@ -331,10 +333,15 @@ fn line_of<'i, A: Allocator + Copy>(
     }
 }
 
-/// What the first line of a text lacks that is none of TOML: what was expected, and the text from
-/// that place on. In values no more than so many arrays stand in one another.
+/// What the first line of a text lacks that is none of TOML, and the text from that place on. In
+/// values no more than so many arrays stand in one another.
 ///
-/// `None` where all are lines of TOML. An error says that a request for memory was refused.
+/// Behind what stands of this line is neither the end of the text nor a line end. It lacks what its
+/// table or its entry does, behind the parts of these that stand; or, where these lack nothing, the
+/// end of the line, behind what stands of it.
+///
+/// `None` where all are lines of TOML. An error is for a request for memory that was refused, which
+/// no clause says.
 ///
 /// ```
 /// use toml_reader::expected::{Expected, Lack, first_lack};

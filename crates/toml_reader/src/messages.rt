@@ -1,6 +1,6 @@
 //! Messages for people: where a text is no document of TOML, and why.
 ghost use Rattle.std.specs.Prelude.{IfSome};
-ghost use Rattle.toml_reader.specs.Messages.{IsMessageOf, LacksAt};
+ghost use Rattle.toml_reader.specs.Messages.{Explains, LacksAt};
 
 use crate::document::Fault;
 use crate::expected::{Expected, first_lack};
@@ -53,7 +53,8 @@ impl Display for Message {
     }
 }
 
-/// What the first line lacks that is none of TOML, and its place.
+/// What the first line lacks that is none of TOML, and the line and the column of the text before
+/// the place.
 fn first_place<'i, A: Allocator + Copy>(
     alloc: A,
     level: usize,
@@ -72,14 +73,21 @@ fn first_place<'i, A: Allocator + Copy>(
 
 /// The message for a fault of a text that was read as a document of this level.
 ///
-/// `None` where a request for memory was refused, or the fault is that of another text.
+/// Of a text that is not lines of TOML it says what the first line lacks that is none, with the
+/// line and the column behind the text before the place. Of a line that says a key or a table again
+/// it says the line, with the first column; there is no such message only where the number of the
+/// line, counted from 1, is none of 64 bits.
+///
+/// `None` where memory was refused when the text was read. Of a text that is not lines there is none
+/// where memory is refused now, or where all of it is lines, as the fault is that of another text:
+/// that there is one else no clause says.
 pub fn explain<'i, A: Allocator + Copy>(
     alloc: A,
     level: usize,
     text: &'i str,
     fault: &Fault<'i>,
 ) -> Option<Message>
-    ensures { IfSome result (λ m. IsMessageOf A level text.now fault.now m) }
+    ensures { Explains A level text.now fault.now result }
 {
     match fault {
         Fault::Lines(_) => {
