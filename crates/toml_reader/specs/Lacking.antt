@@ -1,25 +1,22 @@
 -- What a table, an entry or a line does not lack, by what stands of it.
-use Rattle.std.specs.Prelude.{◌≡◌, ◌⊎◌, ℕ, List, None, Option, Some, Result, Ok, Err, IfOk}
+use Rattle.std.specs.Prelude.{◌≡◌, ℕ, List, None, Option, Some, Result, Ok, Err, IfOk}
 use Rattle.std.proofs.Common.{refl, subst, inl, inr, arith}
 use Rattle.winnow.specs.Text.{text_reading}
 use Rattle.winnow.specs.Range.{from_to}
-use Rattle.json_reader.specs.Unique.{char_unique}
 use Rattle.json_texts.specs.Words.{Char}
 use Rattle.toml_reader.specs.Expected.{BareKey, EntryLacks, IsLack, ItemLacks, LacksNothing}
 use Rattle.toml_reader.specs.Expected.{Stands, TableLacks}
 use Rattle.toml_reader.specs.Lines.{bare_is}
 use Rattle.toml_reader.specs.Toml.{AnyValue, IsBare, IsOf, Mark, Separator, Tells, Ws}
-use Rattle.toml_reader.specs.Unique.{mark_unique, members_unique, separator_unique, value_unique}
-use Rattle.toml_reader.specs.Unique.{ws_unique}
+use Rattle.toml_reader.specs.Unique.{mark_unique, members_unique, separator_unique, ws_unique}
 use Rattle.toml_reader.specs.Values.{mark_begins, mark_of}
 use Rattle.toml_reader.specs.declared.characters.Characters.TheVariants.{Bare}
-use Rattle.toml_reader.specs.declared.expected.Expected.{Expected}
 use Rattle.toml_reader.specs.declared.expected.Expected.TheVariants.{ClosingBracket, EqualsSign}
 use Rattle.toml_reader.specs.declared.expected.Expected.TheVariants.{Key, TableName}
 use Rattle.toml_reader.specs.declared.expected.Expected.TheVariants as expected
 use Rattle.toml_reader.specs.declared.expected.Lack.{Lack}
 use Rattle.winnow.specs.Grammar.{Grammar, IsUnique, NoneStands}
-use Rattle.winnow.specs.Texts.{Begins, IsGrammarOf, MayBegin, Members, NotFirst}
+use Rattle.winnow.specs.Texts.{Begins, IsGrammarOf, Members, NotFirst}
 use Rattle.winnow.specs.Texts.Fronts.{begins_never, may_begin, members_begin, none_begins}
 use Rattle.winnow.specs.Texts.Tokens.{divides_seen, divides_where, longest_of}
 
