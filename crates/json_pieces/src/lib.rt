@@ -6,9 +6,9 @@
 //! `json_texts`, and what else is chosen there holds here: the level, numbers as they are written,
 //! members in order.
 //!
-//! A number ends where no byte stands with which it may go on: a digit, a point or an `e`. So no
-//! value stands in `01`, `1.` or `1e`, though `json_values::value::read_value` takes the `0` or
-//! the `1`.
+//! A number ends where no byte stands with which it may go on: a digit, a point, an `e` or an `E`.
+//! So no value stands in `01`, `1.` or `1e`, though `json_values::value::read_value` takes the `0`
+//! or the `1`.
 #![tactic(auto)]
 
 mod extent;

@@ -128,11 +128,12 @@ fn next_in<'i, A: Allocator + Copy>(
 /// where neither a digit, a point nor an `e` or `E` is behind it, else no value stands there.
 ///
 /// `Incomplete` where the text of the value may go on behind the bytes, or there are none, and more
-/// may come: then none of the level stands in them, or they are the bytes of a number. So a caller
-/// bounds how many it holds: of text that never closes more is asked for again and again, and what
-/// is there is read anew each time. Another error backtracks: no value of the level stands first,
-/// whatever comes behind the bytes; or it wants memory, where a request was refused. All of them
-/// leave the input as it was.
+/// may come: then none of the level stands in them, or they are the bytes of a number. (That it is
+/// asked where no value stands whatever comes, as of a bracket that closes, the clauses allow; that
+/// it is not is tested.) So a caller bounds how many it holds: of text that never closes more is
+/// asked for again and again, and what is there is read anew each time. Another error backtracks:
+/// no value of the level stands first, whatever comes behind the bytes; or it wants memory, where a
+/// request was refused. All of them leave the input as it was.
 ///
 /// ```
 /// use json_pieces::value::read_value_in_pieces;
@@ -178,7 +179,8 @@ pub fn read_value_in_pieces<'i, A: Allocator + Copy>(
 /// [`read_value_in_pieces`], behind white space. `None` where an input to which no more comes has
 /// white space at most; then nothing is left of it.
 ///
-/// A value may stand right behind another, as in `[1][2]`, but for a number behind a number.
+/// A value may stand right behind another, as in `[1][2]`; a number behind a number only where it
+/// has a minus, as in `1-2`.
 ///
 /// Errors are those of [`read_value_in_pieces`], and leave the input as it was, the white space
 /// too. Of white space alone more is asked for, where more may come.

@@ -4,6 +4,9 @@
 //! of the grammar of RFC 8259. Beside them stand grammars as parsers have them, which read from the
 //! left, the first choice that stands and the longest run. The laws say that the one is the other.
 //! Each is a function that does nothing, and its clause is the law.
+//!
+//! Where this differs from the standard: what has a surrogate alone, as an escape, is no string,
+//! since no character is meant by it, though the grammar of the standard has it (section 8.2).
 #![tactic(auto)]
 
 pub mod laws;

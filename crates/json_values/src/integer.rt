@@ -4,9 +4,9 @@ ghost use Rattle.json_values.specs.Integer.{HasInteger};
 use json_texts::value::Value;
 use std::alloc::Allocator;
 
-/// The integer that a number is written as, in digits with a minus before them or without. None
-/// where the value is no number, where its text has a point or an exponent, and where the integer
-/// does not fit 64 bits.
+/// The integer that a number is written as, in digits with a sign before them or without: of a
+/// number of JSON the sign is a minus. None where the value is no number, where its text has a
+/// point or an exponent, and where the integer does not fit 64 bits.
 ///
 /// ```
 /// use json_values::integer::as_i64;

@@ -147,8 +147,9 @@ pub fn read_value<'i, A: Allocator + Copy>(
 /// The value of a text of JSON, where all of the text is one: a value, in which no more than so
 /// many arrays and objects stand in one another, with white space before it and behind it.
 ///
-/// Else a fault: it says at which byte reading stopped, or that a request for memory was refused.
-/// In an array or an object reading stops behind the last item that is whole.
+/// Else a fault: it says that the text is none, and at which byte reading stopped; or that a
+/// request for memory was refused. In an array or an object reading stops behind the last item that
+/// is whole. Where it stopped is tested, and not proved.
 ///
 /// ```
 /// use json_texts::value::Value;

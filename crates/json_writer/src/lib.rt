@@ -11,6 +11,7 @@
 #![tactic(auto)]
 
 pub mod error;
+pub mod laws;
 mod nested;
 mod number;
 pub mod string;

@@ -76,7 +76,7 @@ fn write_character<A: Allocator>(c: char, into: &mut String<A>) -> Result<(), Al
 /// hexadecimal digits, small letters among them. All else stands as it is.
 ///
 /// An error says that a request for memory was refused. What was there then stands there still, and
-/// a beginning of the string may be behind it.
+/// something may be behind it.
 ///
 /// ```
 /// use json_writer::string::write_string;

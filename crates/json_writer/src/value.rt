@@ -27,8 +27,8 @@ use winnow::error::{EmptyError, ErrMode, ParseFault, ParserError};
 ///
 /// An error says why the value is not written: a number in it has a text that is none by RFC 8259
 /// (section 6), as `01` or `NaN`; it is nested deeper than the level; or a request for memory was
-/// refused. Of the first two it is the one that is met first. What was there then stands there
-/// still, and a beginning of the value may be behind it.
+/// refused. Where several are so it may be any of them. What was there then stands there still, and
+/// something may be behind it.
 ///
 /// ```
 /// use json_values::value::parse_value;

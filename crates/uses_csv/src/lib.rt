@@ -312,8 +312,8 @@ pub fn read_record<'i, A: Allocator + Copy>(
     terminated(preceded(peek(Any), fields), end).read(input)
 }
 
-/// The records of a document, where all of the bytes are one. Else a fault, which says where the
-/// records ended; or want of memory.
+/// The records of a document, where all of the bytes are one. Else a fault: it says that they are
+/// none, and where the records ended, which is tested and not proved; or it wants memory.
 ///
 /// ```
 /// use uses_csv::{LineEnd, parse_document};

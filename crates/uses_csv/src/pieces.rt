@@ -28,10 +28,12 @@ fn read_line<'i, A: Allocator + Copy>(
     terminated(fields, literal(end.bytes())).read(input)
 }
 
-/// As [`read_record`](crate::read_record), from an input to which more may come. A record is read
-/// there once its line end is: it is that of every longer input. Else more is asked for, by
-/// `Incomplete`; in bytes that no longer input makes a record too, so a caller bounds how many it
-/// holds. A complete input is read as by `read_record`.
+/// As [`read_record`](crate::read_record), from an input to which more may come. What it answers
+/// there is the record of every longer input, and where it backtracks none of them begins with a
+/// record. Else more is asked for, by `Incomplete`; in bytes that no longer input makes a record
+/// too, so a caller bounds how many it holds. When more is asked for no clause says: that a record
+/// is read as soon as its line end is there is tested. A complete input is read as by
+/// `read_record`.
 ///
 /// ```
 /// use uses_csv::LineEnd;

@@ -63,7 +63,8 @@ pub struct Ragged {
 /// ```
 #[derive(Debug, PartialEq, Drop)]
 pub enum TableFault<F> {
-    /// They are no document, and where its records ended; or a request for memory was refused.
+    /// They are no document, and where its records ended (which is tested and not proved); or a
+    /// request for memory was refused.
     Document(F),
     /// There are none, so there is no header.
     Empty,

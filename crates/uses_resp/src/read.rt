@@ -84,9 +84,10 @@ fn read_array<'i, A: Allocator + Copy>(
 ///
 /// On a whole input (a stream that is marked complete) it answers exactly where such a reply stands
 /// first: an error backtracks and says that none does, or wants memory. On a cut one an answer
-/// holds whatever follows, and so does an error that backtracks; else more is asked for, and where
-/// the bytes of a bulk string are wanting, how many. Then the input is to be read again from its
-/// start, with more of it there.
+/// holds whatever follows, and so does an error that backtracks; else more is asked for. Then the
+/// input is to be read again from its start, with more of it there. Of when more is asked for no
+/// clause says more: that it is asked only where a reply may go on, and for how many bytes where
+/// those of a bulk string are wanting, is tested.
 ///
 /// ```
 /// use uses_resp::read::read_reply;
