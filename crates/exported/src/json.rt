@@ -104,8 +104,8 @@ pub extern "C" fn exported_json_check(text: &[u8], levels: usize) -> u32
 /// arrays and objects stand in one another: how many bytes it has is written. White space before
 /// it is not passed. Bytes of 128 and above are not looked at: the value is JSON where it is UTF-8.
 ///
-/// `DONE`: it is found; else 0 is written. `REFUSED`: the bytes begin with none. `TOO_DEEP`: more
-/// than 512 levels are asked for.
+/// `DONE`: it is found. `REFUSED`: the bytes begin with none, and 0 is written. `TOO_DEEP`: more
+/// than 512 levels are asked for, and 0 is written.
 ///
 /// The caller owes `bytes_length` bytes at `bytes` that can be read and that nothing changes while
 /// the call runs, room for one length at `out`, apart from them, and 512 KiB of stack.
@@ -143,9 +143,9 @@ pub extern "C" fn exported_json_value(bytes: &[u8], levels: usize, out: &mut usi
 /// that it stands in. Of bytes that were not checked as a text, more than JSON allows is passed, as
 /// a comma before the first value.
 ///
-/// `DONE`: what it is and its place are written; else all that is written is 0. `END`: behind white
-/// space stands a closing bracket, or nothing. `REFUSED`: neither stands there. `TOO_DEEP`: more
-/// than 512 levels are asked for.
+/// `DONE`: what it is and its place are written. `END`: behind white space stands a closing
+/// bracket, or nothing. `REFUSED`: neither stands there. `TOO_DEEP`: more than 512 levels are asked
+/// for. With these three all that is written is 0.
 ///
 /// The caller owes `bytes_length` bytes at `bytes` that can be read and that nothing changes while
 /// the call runs, room for one item at `out`, apart from them, and 512 KiB of stack.

@@ -71,8 +71,8 @@ pub(crate) const NONE: Reply = Reply {
 ///
 /// A number has no leading zero, and 0 has no sign; a size may have a plus sign before it.
 ///
-/// `DONE`: the reply is written; else all that is written is 0. `REFUSED`: the bytes begin with
-/// none. `TOO_DEEP`: more than 512 levels are asked for. `NO_MEMORY`.
+/// `DONE`: the reply is written. `REFUSED`: the bytes begin with none. `TOO_DEEP`: more than 512
+/// levels are asked for. `NO_MEMORY`. With these three all that is written is 0.
 ///
 /// The caller owes `bytes_length` bytes at `bytes` that can be read and that nothing changes while
 /// the call runs, room for one reply at `out`, apart from them, and 512 KiB of stack.
@@ -115,7 +115,8 @@ pub extern "C" fn exported_resp_reply(
 ///
 /// `DONE`, `TOO_DEEP`, `NO_MEMORY`: as for a reply that is whole. `INCOMPLETE`: more bytes may be
 /// needed; that no more are asked for once the reply is there is tested, not proved. `REFUSED`:
-/// whatever comes behind the bytes, they begin with no reply.
+/// whatever comes behind the bytes, they begin with no reply. With these two all that is written is
+/// 0 too.
 ///
 /// The caller owes `bytes_length` bytes at `bytes` that can be read and that nothing changes while
 /// the call runs, room for one reply at `out`, apart from them, and 512 KiB of stack.

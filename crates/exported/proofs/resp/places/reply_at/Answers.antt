@@ -1,4 +1,4 @@
-use Rattle.std.proofs.Common.{arith, refl, sym, ◌∙◌}
+use Rattle.std.proofs.Common.{arith, refl, rules}
 use Rattle.exported.proofs.Replies.{array_shown, array_stands, bulk_shown, bulk_stands}
 use Rattle.exported.proofs.Replies.{elements_count, elements_long, error_shown, error_stands}
 use Rattle.exported.proofs.Replies.{feed_ends, integer_shown, line_shown, null_array_shown}
@@ -46,7 +46,7 @@ returns-in-Error-clause-shown c rest is left =
 pub returns-in-Integer-clause-shown : goal.returns-in-Integer-clause-shown
 returns-in-Integer-clause-shown c rest is left =
     integer_shown _ _ _ _ _ c.in-Integer.number c.in-Integer.is
-    (record { is_kind = refl; is_number = refl; count = refl }) refl
+    (record { is_kind = refl; is_number = search rules; count = refl }) refl
 
 pub returns-in-Bulk-clause-shown : goal.returns-in-Bulk-clause-shown
 returns-in-Bulk-clause-shown c rest is left =
