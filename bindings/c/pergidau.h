@@ -27,7 +27,7 @@ enum pergidau_code {
     PERGIDAU_DONE = 0,
     /* The bytes are not what is read. Where the function says so, the place is written. */
     PERGIDAU_REFUSED = 1,
-    /* The bytes are not yet what is read, and with more behind them they can be. */
+    /* The bytes are not yet what is read, and with more behind them they may be. */
     PERGIDAU_INCOMPLETE = 2,
     /* A request for memory was refused. */
     PERGIDAU_NO_MEMORY = 3,
@@ -126,7 +126,10 @@ struct pergidau_record {
 struct pergidau_field {
     /* The name. */
     struct pergidau_span name;
-    /* The value, without the white space round it. It may have no bytes. */
+    /*
+     * The value, without the white space round it. One without bytes stands at the end of its
+     * line.
+     */
     struct pergidau_span value;
 };
 
@@ -263,14 +266,15 @@ enum pergidau_code pergidau_csv_record(
     struct pergidau_record *out);
 
 /*
- * The same record where the bytes come in pieces: it answers as soon as a line end is there
- * that ends it, and then the record is that of all longer bytes too.
+ * The same record where the bytes come in pieces: what it answers is that of all longer bytes
+ * too.
  *
  * PERGIDAU_DONE, PERGIDAU_TOO_SMALL, PERGIDAU_NO_MEMORY: as for a record that is whole.
- * PERGIDAU_INCOMPLETE: no record with its line end is there yet; also where none can come, so
- * the caller bounds how many bytes are held. PERGIDAU_REFUSED: whatever comes behind the
- * bytes, they begin with no record. The last record may have no line end: where no more bytes
- * come, the call for whole ones reads it.
+ * PERGIDAU_INCOMPLETE: more bytes may be needed; also where no record can come, so the caller
+ * bounds how many bytes are held. That no more are asked for once the line end is there that
+ * ends the record is tested, not proved. PERGIDAU_REFUSED: whatever comes behind the bytes,
+ * they begin with no record. The last record may have no line end: where no more bytes come,
+ * the call for whole ones reads it.
  *
  * The caller owes bytes_length bytes at bytes that can be read and that nothing changes while
  * the call runs, text_length bytes at text and fields_length entries at fields that can be
@@ -368,7 +372,8 @@ enum pergidau_code pergidau_ini_document(
 
 /*
  * Whether a text is one of JSON (RFC 8259): a value with white space round it, in which no
- * more than levels arrays and objects stand in one another.
+ * more than levels arrays and objects stand in one another. A string may have a surrogate that
+ * is escaped alone, as \ud800, as in the grammar of the standard.
  *
  * PERGIDAU_DONE: it is. PERGIDAU_REFUSED: it is not. PERGIDAU_NO_TEXT: it is no UTF-8.
  * PERGIDAU_TOO_DEEP: more than 512 levels are asked for.
@@ -388,7 +393,7 @@ enum pergidau_code pergidau_json_check(
  * where it is UTF-8.
  *
  * PERGIDAU_DONE: it is found. PERGIDAU_REFUSED: the bytes begin with none, and 0 is written.
- * PERGIDAU_TOO_DEEP: more than 512 levels are asked for.
+ * PERGIDAU_TOO_DEEP: more than 512 levels are asked for, and 0 is written.
  *
  * The caller owes bytes_length bytes at bytes that can be read and that nothing changes while
  * the call runs, room for one length at out, apart from them, and 512 KiB of stack.
@@ -413,7 +418,7 @@ enum pergidau_code pergidau_json_value(
  *
  * PERGIDAU_DONE: what it is and its place are written. PERGIDAU_END: behind white space stands
  * a closing bracket, or nothing. PERGIDAU_REFUSED: neither stands there. PERGIDAU_TOO_DEEP:
- * more than 512 levels are asked for.
+ * more than 512 levels are asked for. With these three all that is written is 0.
  *
  * The caller owes bytes_length bytes at bytes that can be read and that nothing changes while
  * the call runs, room for one item at out, apart from them, and 512 KiB of stack.
@@ -432,7 +437,8 @@ enum pergidau_code pergidau_json_next(
  * A number has no leading zero, and 0 has no sign; a size may have a plus sign before it.
  *
  * PERGIDAU_DONE: the reply is written. PERGIDAU_REFUSED: the bytes begin with none.
- * PERGIDAU_TOO_DEEP: more than 512 levels are asked for. PERGIDAU_NO_MEMORY.
+ * PERGIDAU_TOO_DEEP: more than 512 levels are asked for. PERGIDAU_NO_MEMORY. With these three
+ * all that is written is 0.
  *
  * The caller owes bytes_length bytes at bytes that can be read and that nothing changes while
  * the call runs, room for one reply at out, apart from them, and 512 KiB of stack.
@@ -448,8 +454,9 @@ enum pergidau_code pergidau_resp_reply(
  * too.
  *
  * PERGIDAU_DONE, PERGIDAU_TOO_DEEP, PERGIDAU_NO_MEMORY: as for a reply that is whole.
- * PERGIDAU_INCOMPLETE: more bytes are needed. PERGIDAU_REFUSED: whatever comes behind the
- * bytes, they begin with no reply.
+ * PERGIDAU_INCOMPLETE: more bytes may be needed; that no more are asked for once the reply is
+ * there is tested, not proved. PERGIDAU_REFUSED: whatever comes behind the bytes, they begin
+ * with no reply. With these two all that is written is 0 too.
  *
  * The caller owes bytes_length bytes at bytes that can be read and that nothing changes while
  * the call runs, room for one reply at out, apart from them, and 512 KiB of stack.
@@ -461,9 +468,10 @@ enum pergidau_code pergidau_resp_reply_in_pieces(
     struct pergidau_reply *out);
 
 /*
- * The line and the column of the place behind the first offset bytes. Bytes that are no text
- * count as the characters do that stand for them where they are printed, and a place behind
- * the end is the end.
+ * The line and the column of the place behind the first offset bytes. That they are is proved
+ * of UTF-8 and a place at an end of it or between two of its characters, and elsewhere tested
+ * alone: bytes that are no text count as the characters do that stand for them where they are
+ * printed, and a place behind the end is the end.
  *
  * The caller owes bytes_length bytes at bytes that can be read and that nothing changes while
  * the call runs, and room for one position at out, apart from them.

@@ -8,7 +8,7 @@ pub const DONE: u32 = 0;
 /// The bytes are not what is read. Where the function says so, the place is written.
 pub const REFUSED: u32 = 1;
 
-/// The bytes are not yet what is read, and with more behind them they can be.
+/// The bytes are not yet what is read, and with more behind them they may be.
 pub const INCOMPLETE: u32 = 2;
 
 /// A request for memory was refused.
@@ -111,7 +111,8 @@ pub struct Record {
 pub struct Field {
     /// The name.
     pub name: Span,
-    /// The value, without the white space round it. It may have no bytes.
+    /// The value, without the white space round it. One without bytes stands at the end of its
+    /// line.
     pub value: Span,
 }
 
@@ -251,12 +252,12 @@ extern "C" {
         out: *mut Record,
     ) -> u32;
 
-    /// The same record where the bytes come in pieces: it answers as soon as a line end is there that
-    /// ends it, and then the record is that of all longer bytes too.
+    /// The same record where the bytes come in pieces: what it answers is that of all longer bytes too.
     ///
-    /// `DONE`, `TOO_SMALL`, `NO_MEMORY`: as for a record that is whole. `INCOMPLETE`: no record with
-    /// its line end is there yet; also where none can come, so the caller bounds how many bytes are
-    /// held. `REFUSED`: whatever comes behind the bytes, they begin with no record. The last record may
+    /// `DONE`, `TOO_SMALL`, `NO_MEMORY`: as for a record that is whole. `INCOMPLETE`: more bytes may be
+    /// needed; also where no record can come, so the caller bounds how many bytes are held. That no
+    /// more are asked for once the line end is there that ends the record is tested, not proved.
+    /// `REFUSED`: whatever comes behind the bytes, they begin with no record. The last record may
     /// have no line end: where no more bytes come, the call for whole ones reads it.
     ///
     /// The caller owes `bytes_length` bytes at `bytes` that can be read and that nothing changes while
@@ -349,7 +350,8 @@ extern "C" {
     ) -> u32;
 
     /// Whether a text is one of JSON (RFC 8259): a value with white space round it, in which no more
-    /// than `levels` arrays and objects stand in one another.
+    /// than `levels` arrays and objects stand in one another. A string may have a surrogate that is
+    /// escaped alone, as `\ud800`, as in the grammar of the standard.
     ///
     /// `DONE`: it is. `REFUSED`: it is not. `NO_TEXT`: it is no UTF-8. `TOO_DEEP`: more than 512
     /// levels are asked for.
@@ -367,7 +369,7 @@ extern "C" {
     /// it is not passed. Bytes of 128 and above are not looked at: the value is JSON where it is UTF-8.
     ///
     /// `DONE`: it is found. `REFUSED`: the bytes begin with none, and 0 is written. `TOO_DEEP`: more
-    /// than 512 levels are asked for.
+    /// than 512 levels are asked for, and 0 is written.
     ///
     /// The caller owes `bytes_length` bytes at `bytes` that can be read and that nothing changes while
     /// the call runs, room for one length at `out`, apart from them, and 512 KiB of stack.
@@ -391,7 +393,7 @@ extern "C" {
     ///
     /// `DONE`: what it is and its place are written. `END`: behind white space stands a closing
     /// bracket, or nothing. `REFUSED`: neither stands there. `TOO_DEEP`: more than 512 levels are asked
-    /// for.
+    /// for. With these three all that is written is 0.
     ///
     /// The caller owes `bytes_length` bytes at `bytes` that can be read and that nothing changes while
     /// the call runs, room for one item at `out`, apart from them, and 512 KiB of stack.
@@ -409,7 +411,7 @@ extern "C" {
     /// A number has no leading zero, and 0 has no sign; a size may have a plus sign before it.
     ///
     /// `DONE`: the reply is written. `REFUSED`: the bytes begin with none. `TOO_DEEP`: more than 512
-    /// levels are asked for. `NO_MEMORY`.
+    /// levels are asked for. `NO_MEMORY`. With these three all that is written is 0.
     ///
     /// The caller owes `bytes_length` bytes at `bytes` that can be read and that nothing changes while
     /// the call runs, room for one reply at `out`, apart from them, and 512 KiB of stack.
@@ -422,8 +424,10 @@ extern "C" {
 
     /// The same reply where the bytes come in pieces: what it answers is that of all longer bytes too.
     ///
-    /// `DONE`, `TOO_DEEP`, `NO_MEMORY`: as for a reply that is whole. `INCOMPLETE`: more bytes are
-    /// needed. `REFUSED`: whatever comes behind the bytes, they begin with no reply.
+    /// `DONE`, `TOO_DEEP`, `NO_MEMORY`: as for a reply that is whole. `INCOMPLETE`: more bytes may be
+    /// needed; that no more are asked for once the reply is there is tested, not proved. `REFUSED`:
+    /// whatever comes behind the bytes, they begin with no reply. With these two all that is written is
+    /// 0 too.
     ///
     /// The caller owes `bytes_length` bytes at `bytes` that can be read and that nothing changes while
     /// the call runs, room for one reply at `out`, apart from them, and 512 KiB of stack.
@@ -434,9 +438,10 @@ extern "C" {
         out: *mut Reply,
     ) -> u32;
 
-    /// The line and the column of the place behind the first `offset` bytes. Bytes that are no text
-    /// count as the characters do that stand for them where they are printed, and a place behind the
-    /// end is the end.
+    /// The line and the column of the place behind the first `offset` bytes. That they are is proved of
+    /// UTF-8 and a place at an end of it or between two of its characters, and elsewhere tested alone:
+    /// bytes that are no text count as the characters do that stand for them where they are printed,
+    /// and a place behind the end is the end.
     ///
     /// The caller owes `bytes_length` bytes at `bytes` that can be read and that nothing changes while
     /// the call runs, and room for one position at `out`, apart from them.

@@ -93,8 +93,8 @@ pub fn resp_reply(bytes: &[u8], levels: usize) -> Result<(Reply<'_>, &[u8]), Err
     read(exports::exported_resp_reply, bytes, levels)
 }
 
-/// The same reply where the bytes come in pieces: [`Error::Incomplete`] says that more of them are
-/// needed, and [`Error::Refused`] that they begin with none, whatever comes behind them.
+/// The same reply where the bytes come in pieces: [`Error::Incomplete`] says that more of them may
+/// be needed, and [`Error::Refused`] that they begin with none, whatever comes behind them.
 ///
 /// ```
 /// use pergidau::{resp_reply_in_pieces, Error};

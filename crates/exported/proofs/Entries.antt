@@ -13,8 +13,7 @@ use borrow.Rule.Slice.PartMut.{put_mid}
 use Rattle.readers.specs.Document.{BeginsWith, HasSections, Part, PairBytes, SectionText}
 use Rattle.readers.specs.Document.{comment, pair, pairs_of, section, sections_of, white}
 use Rattle.readers.specs.Sections.{pair_text}
-use Rattle.exported.specs.Ini.{EntryText, entries_of, text_of}
-use Rattle.exported.specs.Span.{StandsAt}
+use Rattle.exported.specs.Ini.{EntryText, ShowsEntry, entries_of, text_of}
 use Rattle.exported.specs.declared.ini.Entry.{Entry}
 
 -- A key and a value as they are found.
@@ -162,17 +161,14 @@ front_long found i x within is =
 
 -- ---- where an entry stands
 
--- The key and the value of an entry stand at these places.
-abbrev pub Stand : List ℕ → Entry → EntryText → Type 0
-Stand text place e = StandsAt text place.key e.0 × StandsAt text place.value e.1
-
 entry_stands : (found : List Found) (i : ℕ) (x : Found) (place : Entry) → i < length found
     → x ≡ slice_index_or found i nothing
     → place.key.offset ≡ length (text_of (take i (map pair_text found)))
     → place.key.length ≡ length x.0.now
     → place.value.offset ≡ place.key.offset + place.key.length
     → place.value.length ≡ length x.1.now
-    → Stand (text_of (map pair_text found)) place (pair_text x)
+    → ShowsEntry (text_of (map pair_text found)) place (pair_text x)
+    (drop (i + 1) (map pair_text found))
 entry_stands found i x place within is begins long value_begins value_long =
     let front = text_of (take i (map pair_text found)) in
     let behind = text_of (drop (i + 1) (map pair_text found)) in
@@ -180,14 +176,12 @@ entry_stands found i x place within is begins long value_begins value_long =
     let whole = splits ∙ ap (λ l. front ++ l) (append_assoc x.0.now x.1.now behind) in (
       record {
         before = front;
-        behind = x.1.now ++ behind;
         splits = whole;
         begins = begins;
         ends = long;
       },
       record {
         before = front ++ x.0.now;
-        behind = behind;
         splits = whole ∙ sym (append_assoc front x.0.now (x.1.now ++ behind));
         begins = omega (arith, value_begins, begins, long, length-append front x.0.now);
         ends = value_long;
@@ -202,30 +196,29 @@ pub shown_more : (found : List Found) (places : List Entry) (i : ℕ) (x : Found
     → place.value.offset ≡ place.key.offset + place.key.length
     → place.value.length ≡ length x.1.now
     → ((k : ℕ) (p : Entry) (e : EntryText) → k < i
-    → Stand (text_of (map pair_text found)) (slice_index_or places k p)
-    (slice_index_or (map pair_text found) k e))
+    → ShowsEntry (text_of (map pair_text found)) (slice_index_or places k p)
+    (slice_index_or (map pair_text found) k e) (drop (k + 1) (map pair_text found)))
     → (k : ℕ) (p : Entry) (e : EntryText) → k < i + 1
-    → Stand (text_of (map pair_text found)) (slice_index_or (slice_set places i place) k p)
-    (slice_index_or (map pair_text found) k e)
+    → ShowsEntry (text_of (map pair_text found)) (slice_index_or (slice_set places i place) k p)
+    (slice_index_or (map pair_text found) k e) (drop (k + 1) (map pair_text found))
 shown_more found places i x place room within is begins long value_begins value_long before k p e
     now =
     let entries = map pair_text found in
-    let At : Entry → EntryText → Type 0 = λ a b. Stand (text_of entries) a b in
+    let At : ℕ → Entry → EntryText → Type 0 = λ n a b.
+    ShowsEntry (text_of entries) a b (drop (n + 1) entries) in
     elim (cases_lt k i) [
-      | inl earlier ↦ subst (λ (a : Entry). At a (slice_index_or entries k e))
+      | inl earlier ↦ subst (λ (a : Entry). At k a (slice_index_or entries k e))
           (sym (get_or-set_other places i k place p (λ same. omega (arith, same, earlier))))
           (before k p e earlier)
       | inr later ↦
           let same : k ≡ i = omega (arith, later, now) in
-          let Q : ℕ → Type 0 = λ n. At (slice_index_or (slice_set places i place) n p)
+          let Q : ℕ → Type 0 = λ n. At n (slice_index_or (slice_set places i place) n p)
           (slice_index_or entries n e) in
           let stands = entry_stands found i x place within is begins long value_begins
           value_long in
-          let at_entry : At place (slice_index_or entries i e) =
-          subst (λ (b : EntryText). At place b) (sym (entry_at found i x e within is)) stands in
-          let here : At (slice_index_or (slice_set places i place) i p)
-          (slice_index_or entries i e) =
-          subst (λ (a : Entry). At a (slice_index_or entries i e))
+          let at_entry : At i place (slice_index_or entries i e) =
+          subst (λ (b : EntryText). At i place b) (sym (entry_at found i x e within is)) stands in
+          let here : Q i = subst (λ (a : Entry). At i a (slice_index_or entries i e))
           (sym (get_or-set_same places i place p room)) at_entry in
           subst Q (sym same) here
     ]

@@ -8,8 +8,9 @@ use Rattle.std.proofs.lemmas.List.{take-append-drop}
 use Rattle.std.proofs.lemmas.List.Elements.{All-append, All-cons, All-head, All-nil, All-tail}
 use Rattle.http_heads.specs.Bytes.{IsWhite}
 use Rattle.http_heads.specs.FieldLine.{BeginsBare, IsFieldLine}
-use Rattle.exported.specs.Http.{IsBehindGap}
-use Rattle.exported.specs.Span.{EndsWith}
+use Rattle.exported.specs.Http.{IsBehindGap, ShowsField}
+use Rattle.exported.specs.Span.{EndsWith, StandsAt}
+use Rattle.exported.specs.declared.http.Field.{Field}
 
 -- White space was passed, and the rest is left.
 pub record IsPassed (rest bytes : List ℕ) : Type 0 where
@@ -95,14 +96,21 @@ pub record IsFound (name value line behind rest end : List ℕ) : Type 0 where
   pub begins : BeginsValue value rest (10 ∷ behind)
   pub ends : end ≡ 13 ∷ (10 ∷ behind)
 
+-- what stands behind the name and the colon
+behind_name : (name value line behind : List ℕ) → (is : IsFieldLine name value line behind)
+    → drop (length name + 1) line
+    ≡ is.before ++ (value ++ (is.behind ++ 13 ∷ (10 ∷ behind)))
+behind_name name value line behind is =
+    ap (drop (length name + 1)) is.splits
+    ∙ drop-append-add name
+    (58 ∷ (is.before ++ (value ++ (is.behind ++ 13 ∷ (10 ∷ behind))))) 1
+
 pub value_begins : (name value line behind rest : List ℕ) → IsFieldLine name value line behind
     → IsBehindGap rest (drop (length name + 1) line) → BeginsValue value rest (10 ∷ behind)
 value_begins name value line behind rest is gap =
-    let colon = is.before ++ (value ++ (is.behind ++ 13 ∷ (10 ∷ behind))) in
-    let cut : drop (length name + 1) line ≡ colon = ap (drop (length name + 1)) is.splits
-    ∙ drop-append-add name (58 ∷ colon) 1 in
     gap_value gap.white rest is.before value is.behind (10 ∷ behind) gap.is_white is.white_before
-    is.white_behind gap.bare is.begins_bare (sym gap.splits ∙ cut)
+    is.white_behind gap.bare is.begins_bare
+    (sym gap.splits ∙ behind_name name value line behind is)
 
 pub line_ends : (value rest tail end : List ℕ) → BeginsValue value rest tail
     → IsBehindGap end (drop (length value) rest) → end ≡ 13 ∷ tail
@@ -123,6 +131,52 @@ pub line_long : (name value line behind : List ℕ) → IsFieldLine name value l
 line_long name value line behind is =
     let colon = is.before ++ (value ++ (is.behind ++ 13 ∷ (10 ∷ behind))) in
     omega (arith, ap length is.splits, length-append name (58 ∷ colon))
+
+-- ---- where they stand
+
+-- no white space is behind a place at which all of it was passed
+none_behind : (rest white tail : List ℕ) → BeginsBare rest → All IsWhite white
+    → rest ≡ white ++ tail → white ≡ []
+none_behind rest [] tail bare all e = refl
+none_behind rest (w ∷ white) tail bare all e =
+    absurd (bare w (white ++ tail) e (All-head IsWhite w white all))
+
+-- a line whose name stands first, and whose value stands behind all white space
+pub field_shown : (input name value line behind left rest : List ℕ) (place : Field)
+    → IsFieldLine name value line behind → left ≡ drop (length name + 1) line
+    → IsBehindGap rest left
+    → ((text more : List ℕ) → line ≡ text ++ more → length text ≡ length name
+    → StandsAt input place.name text more)
+    → ((text more : List ℕ) → rest ≡ text ++ more → length text ≡ length value
+    → StandsAt input place.value text more)
+    → ShowsField input place (name, value) line behind
+field_shown input name value line behind left rest place is e gap name_at value_at =
+    let P : List ℕ → Type 0 = λ l. IsBehindGap rest l in
+    let found = subst P e gap in
+    let begins = value_begins name value line behind rest is found in
+    let end = 13 ∷ (10 ∷ behind) in
+    let splits : line ≡ name ++ 58 ∷ (found.white ++ (value ++ (begins.behind ++ end))) =
+    is.splits
+    ∙ ap (λ l. name ++ 58 ∷ l) (sym (behind_name name value line behind is)
+    ∙ found.splits ∙ ap (λ l. found.white ++ l) begins.splits) in
+    record {
+      is_line = record {
+        before = found.white;
+        behind = begins.behind;
+        splits = splits;
+        some_name = is.some_name;
+        is_name = is.is_name;
+        white_before = found.is_white;
+        white_behind = begins.is_white;
+        is_value = is.is_value;
+        begins_bare = is.begins_bare;
+        ends_bare = is.ends_bare;
+      };
+      name = name_at name _ splits refl;
+      value = value_at value _ begins.splits refl;
+      at_end = λ none. none_behind rest begins.behind end found.bare begins.is_white
+          (begins.splits ∙ ap (λ l. l ++ (begins.behind ++ end)) none);
+    }
 
 -- ---- what the input ends with
 

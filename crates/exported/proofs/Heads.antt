@@ -1,7 +1,7 @@
 -- What stands behind a head, and how long it is.
 use denote.RawPtr.{null_ptr}
 use Rattle.std.proofs.Common.{◌≡◌, ◌∙◌, ◌+◌, ◌<◌, ◌≤◌, ◌^◌, ◌++◌, ◌∷◌, [], ℕ, List, ap, arith}
-use Rattle.std.proofs.Common.{length, length-append, map, refl, subst, sym, take}
+use Rattle.std.proofs.Common.{length, length-append, map, refl, suc, subst, sym, take}
 use Rattle.std.proofs.Math.Seq.{take-append_seam}
 use Rattle.std.proofs.lemmas.List.{length-map}
 use Rattle.std.specs.Borrow.{Bor}
@@ -12,9 +12,8 @@ use Rattle.http_heads.specs.Head.{AreFieldLines, HeadStands, IsHead, Pair, Reque
 use Rattle.http_heads.specs.RequestLine.{IsRequestLine}
 use Rattle.http_heads.specs.declared.field_line.Field.{Field as Found}
 use Rattle.http_heads.specs.declared.head.Head.{Head}
-use Rattle.exported.specs.Http.{AreShown}
+use Rattle.exported.specs.Http.{AreShown, version_on}
 use Rattle.exported.specs.declared.http.Field.{Field}
-use Rattle.exported.proofs.Lines.{version_on}
 
 line_within : (name value bytes rest : List ℕ) → IsFieldLine name value bytes rest
     → length rest < length bytes
@@ -57,16 +56,41 @@ head_within line fields bytes rest is =
       ap length is.are_fields.ended,
     )
 
+-- as many places are shown as there are fields
+shown_count : (input lines : List ℕ) (places : List Field) (fields : List Pair) (rest : List ℕ)
+    → AreShown input lines places fields rest → length places ≡ length fields
+shown_count input lines [] [] rest are = refl
+shown_count input lines [] (f ∷ fields) rest never = absurd never
+shown_count input lines (p ∷ places) [] rest never = absurd never
+shown_count input lines (p ∷ places) (f ∷ fields) rest (behind, shows, others) =
+    ap (λ n. suc n) (shown_count input behind places fields rest others)
+
 -- what is shown in the first entries, and what stands behind these
-pub shown_first : (input : List ℕ) (places others all : List Field) (fields : List Pair) (n : ℕ)
-    → AreShown input places fields → length fields ≡ n → all ≡ places ++ others
-    → AreShown input (take n all) fields
-shown_first input places others all fields n are count e =
-    let P : List Field → Type 0 = λ l. AreShown input l fields in
-    let long : length places ≡ n = are.count ∙ count in
+shown_first : (input lines : List ℕ) (places others all : List Field) (fields : List Pair)
+    (rest : List ℕ) (n : ℕ) → AreShown input lines places fields rest → length fields ≡ n
+    → all ≡ places ++ others → AreShown input lines (take n all) fields rest
+shown_first input lines places others all fields rest n are count e =
+    let P : List Field → Type 0 = λ l. AreShown input lines l fields rest in
+    let long : length places ≡ n = shown_count input lines places fields rest are ∙ count in
     let cut : take n all ≡ places = ap (take n) e
     ∙ sym (ap (λ k. take k (places ++ others)) long) ∙ take-append_seam places others in
     subst P (sym cut) are
+
+-- the fields of a head, from behind its request line on
+pub head_shown : (input lines : List ℕ) (places others all : List Field)
+    (shown items : List Found) (n : ℕ) (line : Request) (rest : List ℕ)
+    → (is : IsHead line (map pair items) input rest) → lines ≡ is.behind → shown ≡ items
+    → length (map pair items) ≡ n → all ≡ places ++ others
+    → ((end : List ℕ) → AreFieldLines (map pair shown) lines end
+    → AreShown input lines places (map pair shown) end)
+    → AreShown input is.behind (take n all) (map pair items) (line_end ++ rest)
+head_shown input lines places others all shown items n line rest is at same count e are =
+    let P : List ℕ → List Found → Type 0 = λ l s. (end : List ℕ)
+    → AreFieldLines (map pair s) l end → AreShown input l places (map pair s) end in
+    let Q : List ℕ → Type 0 = λ l. AreFieldLines (map pair items) is.behind l in
+    let told = subst (P is.behind) same (subst (λ l. P l shown) at are) in
+    shown_first input is.behind places others all (map pair items) (line_end ++ rest) n
+    (told (line_end ++ rest) (subst Q is.are_fields.ended is.are_fields.lines)) count e
 
 -- ---- heads as values
 

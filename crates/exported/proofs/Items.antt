@@ -22,10 +22,9 @@ next_within level text bytes rest it = omega (arith, next_lengths level text byt
 
 pub next_stands : (level : ℕ) (text bytes rest : List ℕ) (place : Span)
     → IsNext level text bytes rest → place.offset ≡ length bytes - length rest - length text
-    → place.length ≡ length text → StandsAt bytes place text
+    → place.length ≡ length text → StandsAt bytes place text rest
 next_stands level text bytes rest place it begins ends = record {
   before = it.lead;
-  behind = rest;
   splits = it.splits ∙ ap (λ l. it.lead ++ l) it.longest.splits;
   begins = omega (arith, begins, next_lengths level text bytes rest it);
   ends = ends;

@@ -3,16 +3,12 @@ use Rattle.std.proofs.Common.{◌≡◌, ◌∙◌, ◌+◌, ◌≤◌, ◌++◌
 use Rattle.std.proofs.Common.{drop}
 use Rattle.std.proofs.Common.{length, length-append, refl}
 use Rattle.std.proofs.Math.Seq.{drop-append-add}
-use Rattle.http_heads.specs.Bytes.{line_end}
-use Rattle.http_heads.specs.RequestLine.{IsRequestLine, digits, protocol}
+use Rattle.http_heads.specs.RequestLine.{IsRequestLine}
+use Rattle.exported.specs.Http.{version_on}
 use Rattle.exported.specs.Span.{EndsWith}
 
 pub whole_ends : (input : List ℕ) → EndsWith input input
 whole_ends input = record { before = []; splits = refl }
-
--- what stands behind the target
-abbrev pub version_on : ℕ → ℕ → List ℕ → List ℕ
-version_on major minor rest = protocol ++ (digits major minor ++ (line_end ++ rest))
 
 pub target_begins : (method target bytes rest others : List ℕ) (major minor : ℕ)
     → IsRequestLine method target major minor bytes rest

@@ -1,13 +1,11 @@
 -- The places of fields, one after the other.
-use Rattle.std.proofs.Common.{◌≡◌, ◌+◌, ◌<◌, ℕ, List, arith, drop, inl, inr, length}
-use Rattle.std.proofs.Common.{map}
-use Rattle.std.proofs.Common.{slice_index_or, slice_set, subst, sym}
-use Rattle.std.proofs.lemmas.Bool.{cases_lt}
-use Rattle.std.proofs.lemmas.List.{drop_more, get_or-map, get_or-set_other, get_or-set_same}
+use Rattle.std.proofs.Common.{◌≡◌, ◌∙◌, ◌+◌, ◌<◌, ◌++◌, ◌∷◌, [], ℕ, List, ap, arith, drop}
+use Rattle.std.proofs.Common.{length, map, refl, slice_index_or, slice_set, subst, sym, take}
+use Rattle.std.proofs.lemmas.List.{drop_more, get_or-map, length-map, take_more, take_more_set}
 use Rattle.http_heads.specs.FieldLine.{IsFieldLine}
 use Rattle.http_heads.specs.Head.{AreFieldLines, Pair, pair}
 use Rattle.http_heads.specs.declared.field_line.Field.{Field as Found}
-use Rattle.exported.specs.Http.{ShowsField}
+use Rattle.exported.specs.Http.{AreShown, ShowsField}
 use Rattle.exported.specs.declared.http.Field.{Field}
 
 -- the next line is that of the next field
@@ -21,29 +19,36 @@ next_line found i d line end within are =
     let P : List Found → Type 0 = λ l. AreFieldLines (map pair l) line end in
     subst P (drop_more found i d within) are
 
+-- one field more is shown behind the others
+shown_behind : (input lines : List ℕ) (places : List Field) (fields : List Pair)
+    (line rest : List ℕ) (p : Field) (f : Pair) → AreShown input lines places fields line
+    → ShowsField input p f line rest
+    → AreShown input lines (places ++ p ∷ []) (fields ++ f ∷ []) rest
+shown_behind input lines [] [] line rest p f e is =
+    let P : List ℕ → Type 0 = λ l. ShowsField input p f l rest in
+    (rest, subst P (sym e) is, refl)
+shown_behind input lines [] (g ∷ fields) line rest p f never is = absurd never
+shown_behind input lines (q ∷ places) [] line rest p f never is = absurd never
+shown_behind input lines (q ∷ places) (g ∷ fields) line rest p f (behind, shows, others) is =
+    (behind, shows, shown_behind input behind places fields line rest p f others is)
+
 -- one place more is written
-pub shown_more : (input : List ℕ) (places : List Field) (found : List Found) (i : ℕ) (x : Field)
-    (d : Found) → i < length places → i < length found
-    → ShowsField input x (pair (slice_index_or found i d))
-    → ((k : ℕ) (p : Field) (f : Pair) → k < i
-    → ShowsField input (slice_index_or places k p) (slice_index_or (map pair found) k f))
-    → (k : ℕ) (p : Field) (f : Pair) → k < i + 1
-    → ShowsField input (slice_index_or (slice_set places i x) k p)
-    (slice_index_or (map pair found) k f)
-shown_more input places found i x d room within shows before k p f now =
-    let At : Field → Pair → Type 0 = λ a b. ShowsField input a b in
-    elim (cases_lt k i) [
-      | inl earlier ↦ subst (λ (a : Field). At a (slice_index_or (map pair found) k f))
-          (sym (get_or-set_other places i k x p (λ e. omega (arith, e, earlier))))
-          (before k p f earlier)
-      | inr later ↦
-          let same : k ≡ i = omega (arith, later, now) in
-          let Q : ℕ → Type 0 = λ n. ShowsField input (slice_index_or (slice_set places i x) n p)
-          (slice_index_or (map pair found) n f) in
-          let here : ShowsField input (slice_index_or (slice_set places i x) i p)
-          (slice_index_or (map pair found) i f) =
-          subst (λ (a : Field). At a (slice_index_or (map pair found) i f))
-          (sym (get_or-set_same places i x p room))
-          (subst (λ (b : Pair). At x b) (sym (get_or-map pair found i d f within)) shows) in
-          subst Q (sym same) here
-    ]
+pub shown_more : (input lines line rest left : List ℕ) (places : List Field) (found : List Found)
+    (i : ℕ) (x : Field) (d : Found) → i < length places → i < length found
+    → AreShown input lines (take i places) (take i (map pair found)) line
+    → ShowsField input x (pair (slice_index_or found i d)) line rest → left ≡ rest
+    → AreShown input lines (take (i + 1) (slice_set places i x)) (take (i + 1) (map pair found))
+    left
+shown_more input lines line rest left places found i x d room within before shows is =
+    let fields = map pair found in
+    let f = pair (slice_index_or found i d) in
+    let one_more : take (i + 1) fields ≡ take i fields ++ f ∷ [] =
+    take_more fields i f (omega (arith, within, length-map found pair))
+    ∙ ap (λ g. take i fields ++ g ∷ []) (get_or-map pair found i d f within) in
+    let P : List Field → Type 0 = λ l. AreShown input lines l (take (i + 1) fields) left in
+    let Q : List Pair → Type 0 = λ l. AreShown input lines (take i places ++ x ∷ []) l left in
+    let R : List ℕ → Type 0 = λ l. ShowsField input x f line l in
+    subst P (sym (take_more_set places i x room))
+    (subst Q (sym one_more)
+    (shown_behind input lines (take i places) (take i fields) line left x f before
+    (subst R (sym is) shows)))

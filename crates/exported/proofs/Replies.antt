@@ -1,11 +1,13 @@
 -- What stands in replies, and where.
 use Rattle.std.proofs.Common.{◌≡◌, ◌∙◌, ◌+◌, ◌-◌, ◌≤◌, ◌++◌, ◌∷◌, [], ℕ, List, Global, ap}
-use Rattle.std.proofs.Common.{append-nil, append_assoc, arith, length, length-append, subst, sym}
+use Rattle.std.proofs.Common.{append-nil, append_assoc, arith, length, length-append, pos, subst}
+use Rattle.std.proofs.Common.{sym, ℤ}
 use Rattle.std.specs.Borrow.{Bor}
 use Rattle.std.specs.declared.vec.Vec.{Vec}
 use Rattle.winnow.specs.Equal.{same_first, same_others}
 use Rattle.uses_resp.specs.Parts.{IsBehindFeed, IsLine, NoFeed, Opened, StandsBy, array_is}
-use Rattle.uses_resp.specs.Parts.{bulk_is, error_is, simple_is, stands_as}
+use Rattle.uses_resp.specs.Parts.{bulk_is, error_is, integer_is, null_array_is, null_bulk_is}
+use Rattle.uses_resp.specs.Parts.{simple_is, stands_as}
 use Rattle.uses_resp.specs.Resp.{line_end}
 use Rattle.uses_resp.specs.declared.reply.Reply as made
 use Rattle.uses_resp.specs.declared.reply.Reply.{out-Reply}
@@ -13,8 +15,8 @@ use Rattle.uses_resp.specs.declared.reply.Reply.TheOpen.{Reply-F}
 use Rattle.winnow.specs.InTurn.{First}
 use Rattle.exported.specs.Pieces.{MayFollow}
 use Rattle.exported.specs.Resp.{AreElements, Found, IsReply, IsReplyForGood, IsShown}
-use Rattle.exported.specs.Resp.{IsShownBy, ShowsReply}
-use Rattle.exported.specs.Span.{EndsWith, StandsAt}
+use Rattle.exported.specs.Resp.{IsShownBy, ShowsReply, Tells, TellsText}
+use Rattle.exported.specs.Span.{EndsWith, StandsAt, nowhere}
 use Rattle.exported.specs.declared.resp.Reply.{Reply}
 use Rattle.exported.specs.declared.span.Span.{Span}
 
@@ -59,10 +61,10 @@ feed_ends input behind left (line, none, e) is = record {
 
 -- a line behind its first byte
 pub line_shown : (input text rest : List ℕ) (place : Span) → IsLine input text rest
-    → place.offset ≡ 1 → place.length ≡ length text → StandsAt input place text
+    → place.offset ≡ 1 → place.length ≡ length text
+    → StandsAt input place text (line_end ++ rest)
 line_shown input text rest place (mark, e) begins ends = record {
   before = mark ∷ [];
-  behind = line_end ++ rest;
   splits = e;
   begins = begins;
   ends = ends;
@@ -80,7 +82,8 @@ elements_count bytes rest left n e is =
 
 pub reply_told : (begins : List ℕ → Found → List ℕ → Type 0) (level : ℕ) (input : List ℕ)
     (it : Reply) (reply : Found) (rest : List ℕ) (left : ℕ) → begins input reply rest
-    → length rest ≡ left → IsShown level input reply it → it.length + left ≡ length input
+    → length rest ≡ left → IsShown level input rest reply it
+    → it.length + left ≡ length input
     → ShowsReply begins level input it
 reply_told begins level input it reply rest left is behind shown ends = record {
   reply = reply;
@@ -116,31 +119,47 @@ module _ (level : ℕ) (input : List ℕ) (reply : Found) (rest : List ℕ)
 
 -- ---- what is told of a reply that is made so
 
-module _ (level : ℕ) (input : List ℕ) (reply : Found) (it : Reply) where
+module _ (level : ℕ) (input rest : List ℕ) (reply : Found) (it : Reply) where
   shown_made : (kind : Opened Global) (form : Found) → reply ≡ form
-      → out-Reply (Bor (List ℕ)) Global form ≡ kind → IsShownBy level input kind it
-      → IsShown level input reply it
+      → out-Reply (Bor (List ℕ)) Global form ≡ kind → IsShownBy level input rest kind it
+      → IsShown level input rest reply it
   shown_made kind form same form_is =
-      let P : Opened Global → Type 0 = λ k. IsShownBy level input k it in
+      let P : Opened Global → Type 0 = λ k. IsShownBy level input rest k it in
       subst P (sym (ap (out-Reply (Bor (List ℕ)) Global) same ∙ form_is))
 
-  pub simple_shown : (text : Bor (List ℕ)) → reply ≡ made.Simple text → it.kind ≡ 0
-      → StandsAt input it.place text.now → IsShown level input reply it
-  simple_shown text same kind at =
-      shown_made (Reply-F.Simple text) (made.Simple text) same (simple_is text) (kind, at)
+  pub simple_shown : (text : Bor (List ℕ)) → reply ≡ made.Simple text
+      → TellsText 0 input rest text.now it → IsShown level input rest reply it
+  simple_shown text same =
+      shown_made (Reply-F.Simple text) (made.Simple text) same (simple_is text)
 
-  pub error_shown : (text : Bor (List ℕ)) → reply ≡ made.Error text → it.kind ≡ 1
-      → StandsAt input it.place text.now → IsShown level input reply it
-  error_shown text same kind at =
-      shown_made (Reply-F.Error text) (made.Error text) same (error_is text) (kind, at)
+  pub error_shown : (text : Bor (List ℕ)) → reply ≡ made.Error text
+      → TellsText 1 input rest text.now it → IsShown level input rest reply it
+  error_shown text same =
+      shown_made (Reply-F.Error text) (made.Error text) same (error_is text)
 
-  pub bulk_shown : (text : Bor (List ℕ)) → reply ≡ made.Bulk text → it.kind ≡ 3
-      → StandsAt input it.place text.now → IsShown level input reply it
-  bulk_shown text same kind at =
-      shown_made (Reply-F.Bulk text) (made.Bulk text) same (bulk_is text) (kind, at)
+  pub integer_shown : (number : ℤ) → reply ≡ made.Integer number → Tells it 2 number 0
+      → it.place ≡ nowhere → IsShown level input rest reply it
+  integer_shown number same told none =
+      shown_made (Reply-F.Integer number) (made.Integer number) same (integer_is number)
+      (told, none)
 
-  pub array_shown : (list : Vec Found Global) → reply ≡ made.Array list → it.kind ≡ 5
-      → it.elements ≡ length list.items → AreElements level input list.items it
-      → IsShown level input reply it
-  array_shown list same kind count are =
-      shown_made (Reply-F.Array list) (made.Array list) same (array_is list) (kind, count, are)
+  pub bulk_shown : (text : Bor (List ℕ)) → reply ≡ made.Bulk text
+      → TellsText 3 input rest text.now it → IsShown level input rest reply it
+  bulk_shown text same =
+      shown_made (Reply-F.Bulk text) (made.Bulk text) same (bulk_is text)
+
+  pub null_bulk_shown : reply ≡ made.NullBulk → Tells it 4 (pos 0) 0 → it.place ≡ nowhere
+      → IsShown level input rest reply it
+  null_bulk_shown same told none =
+      shown_made Reply-F.NullBulk made.NullBulk same null_bulk_is (told, none)
+
+  pub array_shown : (list : Vec Found Global) → reply ≡ made.Array list
+      → Tells it 5 (pos 0) (length list.items) → AreElements level input rest list.items it
+      → IsShown level input rest reply it
+  array_shown list same told are =
+      shown_made (Reply-F.Array list) (made.Array list) same (array_is list) (told, are)
+
+  pub null_array_shown : reply ≡ made.NullArray → Tells it 6 (pos 0) 0 → it.place ≡ nowhere
+      → IsShown level input rest reply it
+  null_array_shown same told none =
+      shown_made Reply-F.NullArray made.NullArray same null_array_is (told, none)

@@ -59,9 +59,9 @@ field_at : (fields : List (Vec ℕ Global)) (i : ℕ) (d : Vec ℕ Global) (plac
     → i < length fields → place.offset ≡ length (text_of (take i fields))
     → place.length ≡ length (slice_index_or fields i d).items
     → StandsAt (text_of fields) place (slice_index_or fields i d).items
+    (text_of (drop (i + 1) fields))
 field_at fields i d place within begins ends = record {
   before = text_of (take i fields);
-  behind = text_of (drop (i + 1) fields);
   splits = text_splits fields i d within;
   begins = begins;
   ends = ends;
@@ -73,23 +73,23 @@ pub shown_more : (fields : List (Vec ℕ Global)) (places : List Span) (i : ℕ)
     → x.offset ≡ length (text_of (take i fields))
     → x.length ≡ length (slice_index_or fields i d).items
     → ((k : ℕ) (p : Span) (f : Vec ℕ Global) → k < i
-    → StandsAt (text_of fields) (slice_index_or places k p) (slice_index_or fields k f).items)
+    → StandsAt (text_of fields) (slice_index_or places k p) (slice_index_or fields k f).items
+    (text_of (drop (k + 1) fields)))
     → (k : ℕ) (p : Span) (f : Vec ℕ Global) → k < i + 1
     → StandsAt (text_of fields) (slice_index_or (slice_set places i x) k p)
-    (slice_index_or fields k f).items
+    (slice_index_or fields k f).items (text_of (drop (k + 1) fields))
 shown_more fields places i d x room within begins ends before k p f now =
-    let At : Span → List ℕ → Type 0 = λ a b. StandsAt (text_of fields) a b in
+    let At : ℕ → Span → Type 0 = λ n a.
+    StandsAt (text_of fields) a (slice_index_or fields n f).items
+    (text_of (drop (n + 1) fields)) in
     elim (cases_lt k i) [
-      | inl earlier ↦ subst (λ (a : Span). At a (slice_index_or fields k f).items)
+      | inl earlier ↦ subst (At k)
           (sym (get_or-set_other places i k x p (λ e. omega (arith, e, earlier))))
           (before k p f earlier)
       | inr later ↦
           let same : k ≡ i = omega (arith, later, now) in
-          let Q : ℕ → Type 0 = λ n. StandsAt (text_of fields)
-          (slice_index_or (slice_set places i x) n p) (slice_index_or fields n f).items in
-          let here : StandsAt (text_of fields) (slice_index_or (slice_set places i x) i p)
-          (slice_index_or fields i f).items =
-          subst (λ (a : Span). At a (slice_index_or fields i f).items)
+          let Q : ℕ → Type 0 = λ n. At n (slice_index_or (slice_set places i x) n p) in
+          let here : Q i = subst (At i)
           (sym (get_or-set_same places i x p room))
           (field_at fields i f x within begins
           (ends ∙ ap (λ v. length v.items) (get_or_default fields i d f within))) in

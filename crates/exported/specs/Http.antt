@@ -1,9 +1,10 @@
 -- Where the parts of a head stand.
-use Rattle.std.specs.Prelude.{◌≡◌, ◌+◌, ◌<◌, ℕ, List, ◌++◌, length, slice_index_or}
+use Rattle.std.specs.Prelude.{◌≡◌, ◌+◌, ◌<◌, ℕ, List, [], ◌∷◌, ◌++◌, length}
 use Rattle.std.specs.List.{All}
-use Rattle.http_heads.specs.Bytes.{IsWhite}
-use Rattle.http_heads.specs.FieldLine.{BeginsBare}
+use Rattle.http_heads.specs.Bytes.{IsWhite, line_end}
+use Rattle.http_heads.specs.FieldLine.{BeginsBare, IsFieldLine}
 use Rattle.http_heads.specs.Head.{IsHead, Pair, Request}
+use Rattle.http_heads.specs.RequestLine.{digits, protocol}
 use Rattle.exported.specs.Span.{StandsAt}
 use Rattle.exported.specs.declared.http.Field.{Field}
 use Rattle.exported.specs.declared.http.Head.{Head}
@@ -15,29 +16,45 @@ pub record IsBehindGap (rest bytes : List ℕ) : Type 0 where
   pub is_white : All IsWhite white
   pub bare : BeginsBare rest
 
--- The name and the value of a field stand at these places of the input.
-abbrev pub ShowsField : List ℕ → Field → Pair → Type 0
-ShowsField input place field =
-    StandsAt input place.name field.0 × StandsAt input place.value field.1
+-- what stands in a request line behind the target, and then comes the rest
+abbrev pub version_on : ℕ → ℕ → List ℕ → List ℕ
+version_on major minor rest = protocol ++ (digits major minor ++ (line_end ++ rest))
 
--- These fields stand at these places, each at the place of its number.
-pub record AreShown (input : List ℕ) (places : List Field) (fields : List Pair) : Type 0 where
-  pub count : length places ≡ length fields
-  pub each : (k : ℕ) (p : Field) (f : Pair) → k < length fields
-      → ShowsField input (slice_index_or places k p) (slice_index_or fields k f)
+-- The line of a field is first there, and then comes the rest. Its name and its value stand in that
+-- line at these places of the input, a value that has no bytes at the end of the line.
+pub record ShowsField (input : List ℕ) (place : Field) (field : Pair) (line rest : List ℕ)
+    : Type 0 where
+  pub is_line : IsFieldLine field.0 field.1 line rest
+  pub name : StandsAt input place.name field.0
+      (58 ∷ (is_line.before ++ (field.1 ++ (is_line.behind ++ (line_end ++ rest)))))
+  pub value : StandsAt input place.value field.1 (is_line.behind ++ (line_end ++ rest))
+  pub at_end : field.1 ≡ [] → is_line.behind ≡ []
 
--- The input begins with a head, whose parts stand at these places.
+-- The lines are those of these fields, one behind the other, and then comes the rest. Each field
+-- stands in its own line, at the places of its number.
+abbrev pub AreShown : List ℕ → List ℕ → List Field → List Pair → List ℕ → Type 0
+AreShown input lines [] [] rest = lines ≡ rest
+AreShown input lines [] (f ∷ fields) rest = ⊥
+AreShown input lines (p ∷ places) [] rest = ⊥
+AreShown input lines (p ∷ places) (f ∷ fields) rest =
+    (behind : List ℕ) × ShowsField input p f lines behind
+    × AreShown input behind places fields rest
+
+-- The input begins with a head, whose parts stand at these places: the method before a space and
+-- the target, the target before the version, and each field in its own line, behind these.
 pub record ShowsHead (input : List ℕ) (head : Head) (places : List Field) : Type 0 where
   pub line : Request
   pub fields : List Pair
   pub rest : List ℕ
   pub is_head : IsHead line fields input rest
   pub method : StandsAt input head.method line.method
+      (32 ∷ (line.target ++ version_on line.major line.minor is_head.behind))
   pub target : StandsAt input head.target line.target
+      (version_on line.major line.minor is_head.behind)
   pub major : head.major ≡ line.major
   pub minor : head.minor ≡ line.minor
   pub count : head.fields ≡ length fields
-  pub are_shown : AreShown input places fields
+  pub are_shown : AreShown input is_head.behind places fields (line_end ++ rest)
   pub ends : head.length + length rest ≡ length input
 
 -- The input begins with a head of so many fields.

@@ -1,10 +1,22 @@
 -- Documents of sections and pairs, and where their texts are written.
-use Rattle.std.specs.Prelude.{◌≡◌, ◌<◌, ℕ, List, [], ◌∷◌, ◌++◌, length, slice_index_or}
+use Rattle.std.specs.Prelude.{◌≡◌, ◌+◌, ◌<◌, ℕ, List, [], ◌∷◌, ◌++◌, drop, length}
+use Rattle.std.specs.Prelude.{slice_index_or}
 use Rattle.std.specs.List.{flat_map}
 use Rattle.readers.specs.Document.{HasSections, SectionText}
+use Rattle.readers.specs.Pair.{IsPairLine}
 use Rattle.exported.specs.Span.{StandsAt}
 use Rattle.exported.specs.declared.ini.Document.{Document}
 use Rattle.exported.specs.declared.ini.Entry.{Entry}
+use Rattle.exported.specs.declared.ini.Pair.{Pair}
+
+-- The line is a key and a value, which stand at these places: the key before `=`, and the value
+-- before the end of the line, which is the first part of `is_line`.
+pub record ShowsPair (line : List ℕ) (places : Pair) : Type 0 where
+  pub key : List ℕ
+  pub value : List ℕ
+  pub is_line : IsPairLine line key value
+  pub key_stands : StandsAt line places.key key (61 ∷ (value ++ is_line.0))
+  pub value_stands : StandsAt line places.value value is_line.0
 
 -- The key and the value of an entry. The head of a section has no key, and its name as the value.
 abbrev pub EntryText : Type 0
@@ -18,6 +30,13 @@ entries_of sections = flat_map (λ s. ([], s.0) ∷ s.1) sections
 abbrev pub text_of : List EntryText → List ℕ
 text_of entries = flat_map (λ e. e.0 ++ e.1) entries
 
+-- An entry stands at these places of the text: its key before its value, and the value before the
+-- bytes of the others.
+abbrev pub ShowsEntry : List ℕ → Entry → EntryText → List EntryText → Type 0
+ShowsEntry text places entry others =
+    StandsAt text places.key entry.0 (entry.1 ++ text_of others)
+    × StandsAt text places.value entry.1 (text_of others)
+
 -- The text is the bytes of these entries, which stand there at these places, each at the places of
 -- its number.
 pub record AreEntries (text : List ℕ) (places : List Entry) (entries : List EntryText) : Type 0
@@ -25,8 +44,8 @@ pub record AreEntries (text : List ℕ) (places : List Entry) (entries : List En
     pub whole : text ≡ text_of entries
     pub count : length places ≡ length entries
     pub each : (k : ℕ) (p : Entry) (e : EntryText) → k < length entries
-        → StandsAt text (slice_index_or places k p).key (slice_index_or entries k e).0
-        × StandsAt text (slice_index_or places k p).value (slice_index_or entries k e).1
+        → ShowsEntry text (slice_index_or places k p) (slice_index_or entries k e)
+        (drop (k + 1) entries)
 
 -- The input is a document with these sections, which has so many entries and bytes of these.
 pub record CountsDocument (input : List ℕ) (found : Document) (sections : List SectionText) : Type 0

@@ -3,7 +3,7 @@ use Rattle.std.specs.Prelude.{◌≡◌, ℕ, List}
 use Rattle.uses_json.specs.Walk.{IsNext, IsOfKind}
 use Rattle.uses_json.specs.declared.walk.Kind.{Kind}
 use Rattle.uses_json.specs.declared.walk.Kind.TheVariants as kinds
-use Rattle.exported.specs.Span.{StandsAt}
+use Rattle.exported.specs.Span.{StandsAt, nowhere}
 use Rattle.exported.specs.declared.json.JsonItem.{JsonItem}
 
 -- the number of what a value is
@@ -16,8 +16,12 @@ number_of kinds.String = 4
 number_of kinds.Array = 5
 number_of kinds.Object = 6
 
+-- nothing
+abbrev pub no_item : JsonItem
+no_item = record { kind = number_of kinds.Null; place = nowhere }
+
 -- Behind what may stand before it the input has a value, the longest there, of this kind and at
--- this place.
+-- this place, and then comes the rest.
 pub record ShowsItem (level : ℕ) (input : List ℕ) (it : JsonItem) : Type 0 where
   pub text : List ℕ
   pub rest : List ℕ
@@ -25,4 +29,4 @@ pub record ShowsItem (level : ℕ) (input : List ℕ) (it : JsonItem) : Type 0 w
   pub is_next : IsNext level text input rest
   pub is_kind : IsOfKind level kind text
   pub is_number : it.kind ≡ number_of kind
-  pub place : StandsAt input it.place text
+  pub place : StandsAt input it.place text rest

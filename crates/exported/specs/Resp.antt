@@ -1,15 +1,15 @@
 -- What is told of replies.
-use Rattle.std.specs.Prelude.{◌≡◌, ◌+◌, ℕ, List, ◌++◌, length, suc}
+use Rattle.std.specs.Prelude.{◌≡◌, ◌+◌, ℕ, ℤ, pos, List, ◌++◌, length, suc}
 use Rattle.std.specs.Borrow.{Bor}
 use Rattle.std.specs.declared.alloc.Global.{Global}
-use Rattle.uses_resp.specs.Parts.{Opened}
-use Rattle.uses_resp.specs.Resp.{Replies, ReplyText}
+use Rattle.uses_resp.specs.Parts.{IsBehindFeed, Opened}
+use Rattle.uses_resp.specs.Resp.{Replies, ReplyText, line_end}
 use Rattle.uses_resp.specs.declared.reply.Reply.{out-Reply}
 use Rattle.uses_resp.specs.declared.reply.Reply.TheOpen.{Reply-F}
 use Rattle.winnow.specs.InTurn.{First}
 use Rattle.winnow.specs.Texts.{Row}
 use Rattle.exported.specs.Pieces.{MayFollow}
-use Rattle.exported.specs.Span.{StandsAt}
+use Rattle.exported.specs.Span.{StandsAt, nowhere}
 use Rattle.exported.specs.declared.resp.Reply.{Reply}
 
 -- A reply whose bytes are slices.
@@ -34,28 +34,47 @@ abbrev pub NoReplyForGood : ℕ → List ℕ → Type 0
 NoReplyForGood level input =
     (more : List ℕ) → MayFollow input more → NoReply level (input ++ more)
 
--- The place of an array is that of the texts of its elements.
-pub record AreElements (level : ℕ) (input : List ℕ) (elements : List Found) (it : Reply) : Type 0
-  where
-    pub inner : ℕ
-    pub deeper : level ≡ suc inner
-    pub bytes : List ℕ
-    pub are : Row (ReplyText inner) elements bytes
-    pub stand : StandsAt input it.place bytes
+-- the reply of nothing
+abbrev pub no_reply : Reply
+no_reply = record { kind = 0; number = pos 0; elements = 0; place = nowhere; length = 0 }
 
--- What is told of a reply of the input, by what it is.
-abbrev pub IsShownBy : ℕ → List ℕ → Opened Global → Reply → Type 0
-IsShownBy level input (Reply-F.Simple text) it = (it.kind ≡ 0) × StandsAt input it.place text.now
-IsShownBy level input (Reply-F.Error text) it = (it.kind ≡ 1) × StandsAt input it.place text.now
-IsShownBy level input (Reply-F.Integer number) it = (it.kind ≡ 2) × (it.number ≡ number)
-IsShownBy level input (Reply-F.Bulk text) it = (it.kind ≡ 3) × StandsAt input it.place text.now
-IsShownBy level input Reply-F.NullBulk it = it.kind ≡ 4
-IsShownBy level input (Reply-F.Array list) it =
-    (it.kind ≡ 5) × (it.elements ≡ length list.items) × AreElements level input list.items it
-IsShownBy level input Reply-F.NullArray it = it.kind ≡ 6
+-- The place of an array is that of the texts of its elements: they stand behind its first line, and
+-- then comes the rest.
+pub record AreElements (level : ℕ) (input rest : List ℕ) (elements : List Found) (it : Reply)
+    : Type 0 where
+  pub inner : ℕ
+  pub deeper : level ≡ suc inner
+  pub bytes : List ℕ
+  pub are : Row (ReplyText inner) elements bytes
+  pub behind_line : IsBehindFeed input (bytes ++ rest)
+  pub stand : StandsAt input it.place bytes rest
 
-abbrev pub IsShown : ℕ → List ℕ → Found → Reply → Type 0
-IsShown level input reply it = IsShownBy level input (out-Reply (Bor (List ℕ)) Global reply) it
+-- What it is, its number, and how many elements it has are these.
+pub record Tells (it : Reply) (kind : ℕ) (number : ℤ) (elements : ℕ) : Type 0 where
+  pub is_kind : it.kind ≡ kind
+  pub is_number : it.number ≡ number
+  pub count : it.elements ≡ elements
+
+-- It has this text, which stands before the line end and the rest, and neither number nor elements.
+abbrev pub TellsText : ℕ → List ℕ → List ℕ → List ℕ → Reply → Type 0
+TellsText kind input rest text it =
+    Tells it kind (pos 0) 0 × StandsAt input it.place text (line_end ++ rest)
+
+-- What is told of a reply of the input, behind which the rest comes, by what it is.
+abbrev pub IsShownBy : ℕ → List ℕ → List ℕ → Opened Global → Reply → Type 0
+IsShownBy level input rest (Reply-F.Simple text) it = TellsText 0 input rest text.now it
+IsShownBy level input rest (Reply-F.Error text) it = TellsText 1 input rest text.now it
+IsShownBy level input rest (Reply-F.Integer number) it =
+    Tells it 2 number 0 × (it.place ≡ nowhere)
+IsShownBy level input rest (Reply-F.Bulk text) it = TellsText 3 input rest text.now it
+IsShownBy level input rest Reply-F.NullBulk it = Tells it 4 (pos 0) 0 × (it.place ≡ nowhere)
+IsShownBy level input rest (Reply-F.Array list) it =
+    Tells it 5 (pos 0) (length list.items) × AreElements level input rest list.items it
+IsShownBy level input rest Reply-F.NullArray it = Tells it 6 (pos 0) 0 × (it.place ≡ nowhere)
+
+abbrev pub IsShown : ℕ → List ℕ → List ℕ → Found → Reply → Type 0
+IsShown level input rest reply it =
+    IsShownBy level input rest (out-Reply (Bor (List ℕ)) Global reply) it
 
 -- The input begins with a reply, of which this is told.
 pub record ShowsReply (begins : List ℕ → Found → List ℕ → Type 0) (level : ℕ) (input : List ℕ)
@@ -63,5 +82,5 @@ pub record ShowsReply (begins : List ℕ → Found → List ℕ → Type 0) (lev
   pub reply : Found
   pub rest : List ℕ
   pub is_reply : begins input reply rest
-  pub is_shown : IsShown level input reply it
+  pub is_shown : IsShown level input rest reply it
   pub ends : it.length + length rest ≡ length input

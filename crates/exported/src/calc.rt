@@ -1,6 +1,6 @@
 //! Formulas of whole numbers.
 
-ghost use Rattle.std.specs.Prelude.{◌≡◌, ◌⊎◌};
+ghost use Rattle.std.specs.Prelude.{◌≡◌, ◌⊎◌, pos};
 ghost use Rattle.std.specs.Str.{IsUtf8};
 ghost use Rattle.readers_calc.specs.Calculator.{IsFormulaFault, IsValue};
 ghost use Rattle.readers_calc.specs.declared.fault.Fault.TheVariants.{Refused};
@@ -28,6 +28,8 @@ const NONE: Number = Number { value: 0, place: 0 };
 fn read(alloc: Global, text: &str, out: &mut Number) -> u32
     ensures value { result ≡ done → IsValue text.now out.new.value }
     ensures refused { result ≡ refused → IsFormulaFault text.now (Refused out.new.place) }
+    ensures none { (result ≡ done → ⊥) → out.new.value ≡ pos 0 }
+    ensures nowhere { (result ≡ refused → ⊥) → out.new.place ≡ 0 }
     ensures codes { (result ≡ done) ⊎ ((result ≡ refused) ⊎ (result ≡ no_memory)) }
 {
     match calc::value(alloc, text) {
@@ -65,6 +67,8 @@ pub extern "C" fn exported_calc_value(alloc: Global, text: &[u8], out: &mut Numb
     ensures value { result ≡ done → IsUtf8 text.now × IsValue text.now out.new.value }
     ensures refused { result ≡ refused
         → IsUtf8 text.now × IsFormulaFault text.now (Refused out.new.place) }
+    ensures none { (result ≡ done → ⊥) → out.new.value ≡ pos 0 }
+    ensures nowhere { (result ≡ refused → ⊥) → out.new.place ≡ 0 }
     ensures text { result ≡ no_text → IsUtf8 text.now → ⊥ }
     ensures codes { (result ≡ done) ⊎ ((result ≡ refused) ⊎ ((result ≡ no_text)
         ⊎ (result ≡ no_memory))) }

@@ -24,7 +24,8 @@ use winnow::stream::Partial;
 pub struct Field {
     /// The name.
     pub name: Span,
-    /// The value, without the white space round it. It may have no bytes.
+    /// The value, without the white space round it. One without bytes stands at the end of its
+    /// line.
     pub value: Span,
 }
 

@@ -1,12 +1,11 @@
 //! Lines of a key and a value, and documents of them in sections.
 
-ghost use Rattle.std.specs.Prelude.{◌≡◌, ◌⊎◌, ◌<◌, ◌^◌, List, ℕ, length, map, take};
+ghost use Rattle.std.specs.Prelude.{◌≡◌, ◌⊎◌, ◌<◌, ◌^◌, length, map, take};
 ghost use Rattle.readers.specs.Document.{IsRefusedDocument};
-ghost use Rattle.readers.specs.Pair.{IsPairLine, IsRefusedPair};
+ghost use Rattle.readers.specs.Pair.{IsRefusedPair};
 ghost use Rattle.readers.specs.Sections.{pair_text};
 ghost use Rattle.exported.specs.Code.{done, no_memory, refused, too_small};
-ghost use Rattle.exported.specs.Ini.{AreEntries, ShowsDocument, WantsDocument, text_of};
-ghost use Rattle.exported.specs.Span.{StandsAt};
+ghost use Rattle.exported.specs.Ini.{AreEntries, ShowsDocument, ShowsPair, WantsDocument, text_of};
 
 pub mod entries;
 
@@ -39,10 +38,9 @@ pub struct Pair {
 /// the call runs, and room for one pair at `out`, apart from them.
 #[unsafe(no_mangle)]
 pub extern "C" fn exported_ini_pair(bytes: &[u8], out: &mut Pair) -> u32
-    ensures pair { result ≡ done → (key : List ℕ) × (value : List ℕ)
-        × IsPairLine bytes.now key value × StandsAt bytes.now out.new.key key
-        × StandsAt bytes.now out.new.value value }
+    ensures pair { result ≡ done → ShowsPair bytes.now out.new }
     ensures refused { result ≡ refused → IsRefusedPair bytes.now out.new.place }
+    ensures nowhere { (result ≡ refused → ⊥) → out.new.place ≡ 0 }
     ensures codes { (result ≡ done) ⊎ (result ≡ refused) }
 {
     match ini::pair(bytes) {
@@ -111,6 +109,7 @@ fn write_entries(
     requires { length (text_of (map pair_text found.now)) < 2 ^ 63 }
     ensures count { out.new.entries ≡ length found.now }
     ensures bytes { out.new.text ≡ length (text_of (map pair_text found.now)) }
+    ensures nowhere { out.new.place ≡ 0 }
     ensures entries { result ≡ done
         → AreEntries (take out.new.text text.new) (take out.new.entries entries.new)
         (map pair_text found.now) }
@@ -163,6 +162,7 @@ pub extern "C" fn exported_ini_document(
         × ((length entries.old < out.new.entries) ⊎ (length text.old < out.new.text)) }
     ensures kept { result ≡ too_small → (entries.new ≡ entries.old) × (text.new ≡ text.old) }
     ensures refused { result ≡ refused → IsRefusedDocument bytes.now out.new.place }
+    ensures nowhere { (result ≡ refused → ⊥) → out.new.place ≡ 0 }
     ensures codes { (result ≡ done) ⊎ ((result ≡ too_small) ⊎ ((result ≡ refused)
         ⊎ (result ≡ no_memory))) }
 {

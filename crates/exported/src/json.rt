@@ -1,12 +1,12 @@
 //! Texts of JSON.
 
-ghost use Rattle.std.specs.Prelude.{◌≡◌, ◌≤◌, ◌<◌, ◌⊎◌, drop, length, take};
+ghost use Rattle.std.specs.Prelude.{◌≡◌, ◌≤◌, ◌<◌, ◌⊎◌, ◌↔◌, drop, length, take};
 ghost use Rattle.std.specs.Str.{IsUtf8};
 ghost use Rattle.uses_json.specs.Texts.{IsLongest, NoneStands, Then};
 ghost use Rattle.uses_json.specs.Value.{IsText, IsValue};
 ghost use Rattle.uses_json.specs.Walk.{EndsItems, IsLead};
 ghost use Rattle.exported.specs.Code.{done, end, most_levels, no_text, refused, too_deep};
-ghost use Rattle.exported.specs.Json.{ShowsItem, number_of};
+ghost use Rattle.exported.specs.Json.{ShowsItem, no_item, number_of};
 
 use crate::code::{DONE, END, NO_TEXT, REFUSED, TOO_DEEP};
 use crate::span::{NOWHERE, Span};
@@ -70,7 +70,8 @@ fn number_of(kind: Kind) -> usize
 }
 
 /// Whether a text is one of JSON (RFC 8259): a value with white space round it, in which no more
-/// than `levels` arrays and objects stand in one another.
+/// than `levels` arrays and objects stand in one another. A string may have a surrogate that is
+/// escaped alone, as `\ud800`, as in the grammar of the standard.
 ///
 /// `DONE`: it is. `REFUSED`: it is not. `NO_TEXT`: it is no UTF-8. `TOO_DEEP`: more than 512
 /// levels are asked for.
@@ -82,7 +83,7 @@ pub extern "C" fn exported_json_check(text: &[u8], levels: usize) -> u32
     ensures is { result ≡ done → IsUtf8 text.now × IsText levels text.now }
     ensures refused { result ≡ refused → IsUtf8 text.now × (IsText levels text.now → ⊥) }
     ensures text { result ≡ no_text → IsUtf8 text.now → ⊥ }
-    ensures deep { result ≡ too_deep → most_levels < levels }
+    ensures deep { (result ≡ too_deep) ↔ (most_levels < levels) }
     ensures codes { (result ≡ done) ⊎ ((result ≡ refused) ⊎ ((result ≡ no_text)
         ⊎ (result ≡ too_deep))) }
 {
@@ -104,7 +105,7 @@ pub extern "C" fn exported_json_check(text: &[u8], levels: usize) -> u32
 /// it is not passed. Bytes of 128 and above are not looked at: the value is JSON where it is UTF-8.
 ///
 /// `DONE`: it is found. `REFUSED`: the bytes begin with none, and 0 is written. `TOO_DEEP`: more
-/// than 512 levels are asked for.
+/// than 512 levels are asked for, and 0 is written.
 ///
 /// The caller owes `bytes_length` bytes at `bytes` that can be read and that nothing changes while
 /// the call runs, room for one length at `out`, apart from them, and 512 KiB of stack.
@@ -113,7 +114,8 @@ pub extern "C" fn exported_json_value(bytes: &[u8], levels: usize, out: &mut usi
     ensures found { result ≡ done → IsLongest (IsValue levels) (take out.new bytes.now) bytes.now
         (drop out.new bytes.now) × (out.new ≤ length bytes.now) }
     ensures refused { result ≡ refused → NoneStands (IsValue levels) bytes.now }
-    ensures deep { result ≡ too_deep → most_levels < levels }
+    ensures none { (result ≡ done → ⊥) → out.new ≡ 0 }
+    ensures deep { (result ≡ too_deep) ↔ (most_levels < levels) }
     ensures codes { (result ≡ done) ⊎ ((result ≡ refused) ⊎ (result ≡ too_deep)) }
 {
     *out = 0;
@@ -143,7 +145,7 @@ pub extern "C" fn exported_json_value(bytes: &[u8], levels: usize, out: &mut usi
 ///
 /// `DONE`: what it is and its place are written. `END`: behind white space stands a closing
 /// bracket, or nothing. `REFUSED`: neither stands there. `TOO_DEEP`: more than 512 levels are asked
-/// for.
+/// for. With these three all that is written is 0.
 ///
 /// The caller owes `bytes_length` bytes at `bytes` that can be read and that nothing changes while
 /// the call runs, room for one item at `out`, apart from them, and 512 KiB of stack.
@@ -153,7 +155,8 @@ pub extern "C" fn exported_json_next(bytes: &[u8], levels: usize, out: &mut Json
     ensures end { result ≡ end → EndsItems bytes.now }
     ensures refused { result ≡ refused → NoneStands (Then IsLead (IsValue levels)) bytes.now
         × (EndsItems bytes.now → ⊥) }
-    ensures deep { result ≡ too_deep → most_levels < levels }
+    ensures none { (result ≡ done → ⊥) → out.new ≡ no_item }
+    ensures deep { (result ≡ too_deep) ↔ (most_levels < levels) }
     ensures codes { (result ≡ done) ⊎ ((result ≡ end) ⊎ ((result ≡ refused)
         ⊎ (result ≡ too_deep))) }
 {

@@ -3,6 +3,9 @@
 //! A function takes the caller's bytes as a pointer and their number, and says by a code how it
 //! ended; what it found it writes where the caller says. It answers places in the caller's own
 //! bytes, so nothing that it takes memory for outlives the call.
+//!
+//! Values of JSON are those of the grammar of its standard: `exported_json_check` and its like take
+//! a surrogate that is escaped alone, as `\ud800`, which the crate `json_values` refuses.
 #![tactic(auto)]
 
 pub mod calc;

@@ -1,10 +1,11 @@
 //! Replies of Redis.
 
-ghost use Rattle.std.specs.Prelude.{◌≡◌, ◌<◌, ◌⊎◌, List, length, ℕ};
+ghost use Rattle.std.specs.Prelude.{◌≡◌, ◌<◌, ◌⊎◌, ◌↔◌, List, length, ℕ};
 ghost use Rattle.winnow.specs.InTurn.{First};
 ghost use Rattle.uses_resp.specs.Resp.{ReplyText};
 ghost use Rattle.exported.specs.Code.{done, incomplete, most_levels, no_memory, refused, too_deep};
 ghost use Rattle.exported.specs.Resp.{IsReply, IsReplyForGood, NoReply, NoReplyForGood, ShowsReply};
+ghost use Rattle.exported.specs.Resp.{no_reply};
 
 pub mod places;
 
@@ -71,7 +72,7 @@ pub(crate) const NONE: Reply = Reply {
 /// A number has no leading zero, and 0 has no sign; a size may have a plus sign before it.
 ///
 /// `DONE`: the reply is written. `REFUSED`: the bytes begin with none. `TOO_DEEP`: more than 512
-/// levels are asked for. `NO_MEMORY`.
+/// levels are asked for. `NO_MEMORY`. With these three all that is written is 0.
 ///
 /// The caller owes `bytes_length` bytes at `bytes` that can be read and that nothing changes while
 /// the call runs, room for one reply at `out`, apart from them, and 512 KiB of stack.
@@ -84,7 +85,8 @@ pub extern "C" fn exported_resp_reply(
 ) -> u32
     ensures reply { result ≡ done → ShowsReply (IsReply levels) levels bytes.now out.new }
     ensures refused { result ≡ refused → NoReply levels bytes.now }
-    ensures deep { result ≡ too_deep → most_levels < levels }
+    ensures deep { (result ≡ too_deep) ↔ (most_levels < levels) }
+    ensures none { (result ≡ done → ⊥) → out.new ≡ no_reply }
     ensures codes { (result ≡ done) ⊎ ((result ≡ refused) ⊎ ((result ≡ too_deep)
         ⊎ (result ≡ no_memory))) }
 {
@@ -111,8 +113,10 @@ pub extern "C" fn exported_resp_reply(
 
 /// The same reply where the bytes come in pieces: what it answers is that of all longer bytes too.
 ///
-/// `DONE`, `TOO_DEEP`, `NO_MEMORY`: as for a reply that is whole. `INCOMPLETE`: more bytes are
-/// needed. `REFUSED`: whatever comes behind the bytes, they begin with no reply.
+/// `DONE`, `TOO_DEEP`, `NO_MEMORY`: as for a reply that is whole. `INCOMPLETE`: more bytes may be
+/// needed; that no more are asked for once the reply is there is tested, not proved. `REFUSED`:
+/// whatever comes behind the bytes, they begin with no reply. With these two all that is written is
+/// 0 too.
 ///
 /// The caller owes `bytes_length` bytes at `bytes` that can be read and that nothing changes while
 /// the call runs, room for one reply at `out`, apart from them, and 512 KiB of stack.
@@ -125,7 +129,8 @@ pub extern "C" fn exported_resp_reply_in_pieces(
 ) -> u32
     ensures reply { result ≡ done → ShowsReply (IsReplyForGood levels) levels bytes.now out.new }
     ensures refused { result ≡ refused → NoReplyForGood levels bytes.now }
-    ensures deep { result ≡ too_deep → most_levels < levels }
+    ensures deep { (result ≡ too_deep) ↔ (most_levels < levels) }
+    ensures none { (result ≡ done → ⊥) → out.new ≡ no_reply }
     ensures codes { (result ≡ done) ⊎ ((result ≡ refused) ⊎ ((result ≡ too_deep)
         ⊎ ((result ≡ incomplete) ⊎ (result ≡ no_memory)))) }
 {

@@ -23,7 +23,7 @@ pub(crate) const NOWHERE: Span = Span {
 pub fn first_of(input: &[u8], rest: &[u8], count: usize) -> Span
     requires ends { EndsWith input.now rest.now }
     ensures { (text behind : List ℕ) → rest.now ≡ text ++ behind → length text ≡ count
-        → StandsAt input.now result text }
+        → StandsAt input.now result text behind }
 {
     Span {
         offset: input.len() - rest.len(),

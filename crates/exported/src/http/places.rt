@@ -1,9 +1,9 @@
 //! Where the parts of a head stand.
 
-ghost use Rattle.std.specs.Prelude.{◌≡◌, ◌≤◌, List, drop, length, map, ℕ};
+ghost use Rattle.std.specs.Prelude.{◌≡◌, ◌≤◌, ◌∷◌, ◌++◌, List, drop, length, map, ℕ};
 ghost use Rattle.http_heads.specs.FieldLine.{IsFieldLine};
 ghost use Rattle.http_heads.specs.Head.{AreFieldLines, pair};
-ghost use Rattle.exported.specs.Http.{AreShown, IsBehindGap, ShowsField};
+ghost use Rattle.exported.specs.Http.{AreShown, IsBehindGap, ShowsField, version_on};
 ghost use Rattle.http_heads.specs.RequestLine.{IsRequestLine};
 ghost use Rattle.exported.specs.Span.{EndsWith, StandsAt};
 
@@ -39,7 +39,9 @@ fn field_at<'i>(input: &'i [u8], line: &'i [u8], found: &Found<'_>) -> (Field, &
     requires line { (behind : List ℕ)
         × IsFieldLine found.now.name.now found.now.value.now line.now behind }
     requires ends { EndsWith input.now line.now }
-    ensures field { ShowsField input.now result.0 (found.now.name.now, found.now.value.now) }
+    ensures field { (behind : List ℕ)
+        → IsFieldLine found.now.name.now found.now.value.now line.now behind
+        → ShowsField input.now result.0 (found.now.name.now, found.now.value.now) line.now behind }
     ensures behind { (behind : List ℕ)
         → IsFieldLine found.now.name.now found.now.value.now line.now behind
         → result.1.now ≡ behind }
@@ -59,7 +61,8 @@ pub fn place_fields<'i>(input: &'i [u8], lines: &'i [u8], found: &[Found<'_>], f
     requires room { length fields.old ≡ length found.now }
     requires lines { (end : List ℕ) × AreFieldLines (map pair found.now) lines.now end }
     requires ends { EndsWith input.now lines.now }
-    ensures { AreShown input.now fields.new (map pair found.now) }
+    ensures { (end : List ℕ) → AreFieldLines (map pair found.now) lines.now end
+        → AreShown input.now lines.now fields.new (map pair found.now) end }
 {
     let mut line = lines;
     for number in 0..found.len() {
@@ -73,8 +76,14 @@ pub fn place_fields<'i>(input: &'i [u8], lines: &'i [u8], found: &[Found<'_>], f
 pub fn request_at<'i>(input: &'i [u8], line: &RequestLine<'_>) -> (Span, Span, &'i [u8])
     requires { (rest : List ℕ) × IsRequestLine line.now.method.now line.now.target.now
         line.now.major line.now.minor input.now rest }
-    ensures method { StandsAt input.now result.0 line.now.method.now }
-    ensures target { StandsAt input.now result.1 line.now.target.now }
+    ensures method { (rest : List ℕ) → IsRequestLine line.now.method.now line.now.target.now
+        line.now.major line.now.minor input.now rest
+        → StandsAt input.now result.0 line.now.method.now
+        (32 ∷ (line.now.target.now ++ version_on line.now.major line.now.minor rest)) }
+    ensures target { (rest : List ℕ) → IsRequestLine line.now.method.now line.now.target.now
+        line.now.major line.now.minor input.now rest
+        → StandsAt input.now result.1 line.now.target.now
+        (version_on line.now.major line.now.minor rest) }
     ensures behind { (rest : List ℕ) → IsRequestLine line.now.method.now line.now.target.now
         line.now.major line.now.minor input.now rest → result.2.now ≡ rest }
     ensures ends { EndsWith input.now result.2.now }

@@ -35,7 +35,8 @@ pub fn reply_at(
     left: usize,
 ) -> Reply
     requires { (rest : List ℕ) × IsReply level bytes.now found.now rest × (length rest ≡ left) }
-    ensures shown { IsShown level bytes.now found.now result }
+    ensures shown { (rest : List ℕ) → IsReply level bytes.now found.now rest → length rest ≡ left
+        → IsShown level bytes.now rest found.now result }
     ensures ends { result.length + left ≡ length bytes.now }
 {
     let length = bytes.len() - left;

@@ -1,10 +1,7 @@
-use Rattle.std.proofs.Common.{◌≡◌, List, ap, arith, drop, length, map}
-use Rattle.std.proofs.Common.{refl, subst, sym}
+use Rattle.std.proofs.Common.{◌≡◌, ap, arith, drop, length, map, refl, sym}
 use Rattle.std.proofs.lemmas.List.{length-map}
 use Rattle.http_heads.specs.Head.{pair}
-use Rattle.http_heads.specs.declared.field_line.Field.{Field as Found}
-use Rattle.exported.specs.Http.{AreShown}
-use Rattle.exported.proofs.Heads.{head_within, shown_first}
+use Rattle.exported.proofs.Heads.{head_shown, head_within}
 use Rattle.exported.proofs.http.write_head.Goals as goal
 
 pub overflow_sub-out : goal.overflow_sub-out
@@ -23,21 +20,21 @@ returns-clause-head c _ =
       c.deref.ensures.len,
       c.len-count.ensures,
     ) in
-    let P : List Found → Type 0 = λ l. AreShown c.args.bytes.now c.place_fields.new.fields
-    (map pair l) in
     let left = head_within _ _ _ _ c.requires.1 in
     record {
       line = _;
       fields = _;
       rest = c.requires.0;
       is_head = c.requires.1;
-      method = c.request_at.ensures.method;
-      target = c.request_at.ensures.target;
+      method = c.request_at.ensures.method c.requires.1.behind c.requires.1.is_line;
+      target = c.request_at.ensures.target c.requires.1.behind c.requires.1.is_line;
       major = refl;
       minor = refl;
       count = sym count;
-      are_shown = shown_first _ c.place_fields.new.fields
-          (drop c.len-count.result c.args.fields.now) _ _ c.len-count.result
-          (subst P c.deref.ensures.value c.place_fields.ensures) count refl;
+      are_shown = head_shown c.args.bytes.now c.request_at.result.2.now c.place_fields.new.fields
+          (drop c.len-count.result c.args.fields.now) _ _ found c.len-count.result _ _
+          c.requires.1
+          (c.request_at.ensures.behind c.requires.1.behind c.requires.1.is_line)
+          c.deref.ensures.value count refl c.place_fields.ensures;
       ends = omega (arith, left, c.requires.2);
     }

@@ -20,12 +20,12 @@ reply_at-requires c = (
 
 pub returns-in-Ok-clause-reply : goal.returns-in-Ok-clause-reply
 returns-in-Ok-clause-reply c _ =
-    reply_told (IsReply c.args.levels) c.args.levels c.args.bytes.now _ c.in-Ok.found _ _
-    (stands_whole (First (ReplyText c.args.levels)) c.args.bytes.now _ _ c.in-Ok.found
+    let is = stands_whole (First (ReplyText c.args.levels)) c.args.bytes.now _ _ c.in-Ok.found
     (c.complete.ensures.complete ∙ ap (λ (i : Input ℕ). with_flag i false) c.new-whole.ensures)
-    c.in-Ok.ensures)
-    (sym (ap (λ (i : Input ℕ). length i.left.tokens) c.into_inner.ensures))
-    c.reply_at.ensures.shown c.reply_at.ensures.ends
+    c.in-Ok.ensures in
+    let left = sym (ap (λ (i : Input ℕ). length i.left.tokens) c.into_inner.ensures) in
+    reply_told (IsReply c.args.levels) c.args.levels c.args.bytes.now _ c.in-Ok.found _ _ is left
+    (c.reply_at.ensures.shown _ is left) c.reply_at.ensures.ends
 
 pub returns-else-is_memory-clause-refused : goal.returns-else-is_memory-clause-refused
 returns-else-is_memory-clause-refused c _ =

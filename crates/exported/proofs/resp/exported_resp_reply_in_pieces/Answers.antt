@@ -20,11 +20,14 @@ reply_at-requires c = (
 
 pub returns-in-Ok-clause-reply : goal.returns-in-Ok-clause-reply
 returns-in-Ok-clause-reply c _ =
+    let good = stands_for_good (First (ReplyText c.args.levels)) c.args.bytes.now _ _
+    c.in-Ok.found c.new-pieces.ensures c.in-Ok.ensures in
+    let is = reply_stands c.args.levels c.args.bytes.now c.in-Ok.found _
+    (nothing_follows c.args.bytes.now (omega (arith, c.if-bytes-gt-MOST_IN_PIECES.false)))
+    good in
+    let left = sym (ap (λ (i : Input ℕ). length i.left.tokens) c.into_inner.ensures) in
     reply_told (IsReplyForGood c.args.levels) c.args.levels c.args.bytes.now _ c.in-Ok.found _ _
-    (stands_for_good (First (ReplyText c.args.levels)) c.args.bytes.now _ _ c.in-Ok.found
-    c.new-pieces.ensures c.in-Ok.ensures)
-    (sym (ap (λ (i : Input ℕ). length i.left.tokens) c.into_inner.ensures))
-    c.reply_at.ensures.shown c.reply_at.ensures.ends
+    good left (c.reply_at.ensures.shown _ is left) c.reply_at.ensures.ends
 
 pub returns-else-is_incomplete-clause-refused : goal.returns-else-is_incomplete-clause-refused
 returns-else-is_incomplete-clause-refused c _ =

@@ -1,6 +1,5 @@
-use Rattle.std.proofs.Common.{refl}
-use Rattle.exported.proofs.Gaps.{begins_long, behind_two, end_at, ends_at, ends_left, line_long}
-use Rattle.exported.proofs.Gaps.{two_long, value_at}
+use Rattle.exported.proofs.Gaps.{begins_long, behind_two, end_at, ends_at, ends_left, field_shown}
+use Rattle.exported.proofs.Gaps.{line_long, two_long, value_at}
 use Rattle.exported.proofs.http.places.field_at.Goals as goal
 
 pub behind-requires : goal.behind-requires
@@ -23,12 +22,9 @@ behind-requires-3 c =
     two_long _ _ (end_at _ _ _ _ _ value c.behind-2.ensures c.behind_gap-end.ensures)
 
 pub returns-clause-field : goal.returns-clause-field
-returns-clause-field c =
-    let value = value_at _ _ _ _ _ _ c.requires.line.1 c.behind.ensures
-    c.behind_gap-value.ensures in (
-      c.first_of.ensures _ _ c.requires.line.1.splits refl,
-      c.first_of-2.ensures _ _ value.splits refl,
-    )
+returns-clause-field c behind line =
+    field_shown c.args.input.now _ _ _ behind _ _ _ line c.behind.ensures
+    c.behind_gap-value.ensures c.first_of.ensures c.first_of-2.ensures
 
 pub returns-clause-behind : goal.returns-clause-behind
 returns-clause-behind c behind line =

@@ -6,28 +6,31 @@ use Rattle.exported.proofs.http.places.place_fields.Goals as goal
 pub field_at-requires-clause-line : goal.field_at-requires-clause-line
 field_at-requires-clause-line c =
     let next = next_line c.args.found.now c.loop-number.number _ c.loop-number.line.now _
-    c.loop-number-test.true c.loop-number.invariant.lines.1 in
+    c.loop-number-test.true
+    (c.loop-number.invariant.lines c.requires.lines.0 c.requires.lines.1) in
     (next.0, next.1)
 
 pub loop-number-preserved : goal.loop-number-preserved
 loop-number-preserved c =
-    let next = next_line c.args.found.now c.loop-number.number _ c.loop-number.line.now _
-    c.loop-number-test.true c.loop-number.invariant.lines.1 in
-    let P : List ℕ → Type 0 = λ l. AreFieldLines
-    (map pair (drop (c.loop-number.number + 1) c.args.found.now)) l
-    c.loop-number.invariant.lines.0 in
+    let found = c.args.found.now in
+    let number = c.loop-number.number in
+    let next = next_line found number _ c.loop-number.line.now _ c.loop-number-test.true
+    (c.loop-number.invariant.lines c.requires.lines.0 c.requires.lines.1) in
+    let P : List ℕ → List ℕ → Type 0 = λ end l.
+    AreFieldLines (map pair (drop (number + 1) found)) l end in
     record {
-      lines = (
-        c.loop-number.invariant.lines.0,
-        subst P (sym (c.field_at.ensures.behind next.0 next.1)) next.2,
-      );
+      lines = λ end lines.
+          let line = next_line found number _ c.loop-number.line.now _ c.loop-number-test.true
+          (c.loop-number.invariant.lines end lines) in
+          subst (P end) (sym (c.field_at.ensures.behind line.0 line.1)) line.2;
       ends = c.field_at.ensures.ends;
-      shown = shown_more c.args.input.now c.loop-number.fields c.args.found.now
-          c.loop-number.number c.field_at.result.0 _ (omega (
+      shown = shown_more c.args.input.now c.args.lines.now c.loop-number.line.now next.0
+          c.field_at.result.1.now c.loop-number.fields found number c.field_at.result.0 _
+          (omega (
             arith,
             c.loop-number-test.true,
             c.loop-number.auto.fields,
             c.requires.room,
-          )) c.loop-number-test.true
-          c.field_at.ensures.field c.loop-number.invariant.shown;
+          )) c.loop-number-test.true c.loop-number.invariant.shown
+          (c.field_at.ensures.field next.0 next.1) (c.field_at.ensures.behind next.0 next.1);
     }

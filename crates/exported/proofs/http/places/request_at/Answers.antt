@@ -21,12 +21,12 @@ behind-requires c =
     target_long _ _ _ _ _ (target_begins _ _ _ _ _ _ _ c.requires.1 c.behind-others.ensures)
 
 pub returns-clause-method : goal.returns-clause-method
-returns-clause-method c = c.first_of-method.ensures _ _ c.requires.1.splits refl
+returns-clause-method c rest is = c.first_of-method.ensures _ _ is.splits refl
 
 pub returns-clause-target : goal.returns-clause-target
-returns-clause-target c =
+returns-clause-target c rest is =
     c.first_of-target.ensures _ _
-    (target_begins _ _ _ _ _ _ _ c.requires.1 c.behind-others.ensures) refl
+    (target_begins _ _ _ _ _ _ _ is c.behind-others.ensures) refl
 
 pub returns-clause-behind : goal.returns-clause-behind
 returns-clause-behind c rest is =

@@ -1,7 +1,8 @@
-use Rattle.std.proofs.Common.{arith, refl}
+use Rattle.std.proofs.Common.{arith, refl, rules}
 use Rattle.exported.proofs.Replies.{array_shown, array_stands, bulk_shown, bulk_stands}
 use Rattle.exported.proofs.Replies.{elements_count, elements_long, error_shown, error_stands}
-use Rattle.exported.proofs.Replies.{feed_ends, line_shown, reply_long, simple_shown, simple_stands}
+use Rattle.exported.proofs.Replies.{feed_ends, integer_shown, line_shown, null_array_shown}
+use Rattle.exported.proofs.Replies.{null_bulk_shown, reply_long, simple_shown, simple_stands}
 use Rattle.exported.proofs.resp.places.reply_at.Goals as goal
 
 pub overflow_sub-length : goal.overflow_sub-length
@@ -29,35 +30,59 @@ first_of-requires c =
     record { ends = feed_ends _ _ _ (line, none, e) (c.behind_feed-behind.ensures line _ none e) }
 
 pub returns-in-Simple-clause-shown : goal.returns-in-Simple-clause-shown
-returns-in-Simple-clause-shown c =
-    simple_shown _ _ _ _ c.in-Simple.text c.in-Simple.is refl
-    (line_shown _ _ _ _ (simple_stands _ _ _ _ c.requires.1 _ c.in-Simple.is) refl refl)
+returns-in-Simple-clause-shown c rest is left =
+    simple_shown _ _ _ _ _ c.in-Simple.text c.in-Simple.is (
+      record { is_kind = refl; is_number = refl; count = refl },
+      line_shown _ _ _ _ (simple_stands _ _ _ _ is _ c.in-Simple.is) refl refl,
+    )
 
 pub returns-in-Error-clause-shown : goal.returns-in-Error-clause-shown
-returns-in-Error-clause-shown c =
-    error_shown _ _ _ _ c.in-Error.text c.in-Error.is refl
-    (line_shown _ _ _ _ (error_stands _ _ _ _ c.requires.1 _ c.in-Error.is) refl refl)
+returns-in-Error-clause-shown c rest is left =
+    error_shown _ _ _ _ _ c.in-Error.text c.in-Error.is (
+      record { is_kind = refl; is_number = refl; count = refl },
+      line_shown _ _ _ _ (error_stands _ _ _ _ is _ c.in-Error.is) refl refl,
+    )
+
+pub returns-in-Integer-clause-shown : goal.returns-in-Integer-clause-shown
+returns-in-Integer-clause-shown c rest is left =
+    integer_shown _ _ _ _ _ c.in-Integer.number c.in-Integer.is
+    (record { is_kind = refl; is_number = search rules; count = refl }) refl
 
 pub returns-in-Bulk-clause-shown : goal.returns-in-Bulk-clause-shown
-returns-in-Bulk-clause-shown c =
-    let (line, none, e) = bulk_stands _ _ _ _ c.requires.1 _ c.in-Bulk.is in
-    bulk_shown _ _ _ _ c.in-Bulk.text c.in-Bulk.is refl
-    (c.first_of-place.ensures _ _ (c.behind_feed.ensures line _ none e) refl)
+returns-in-Bulk-clause-shown c rest is left =
+    let (line, none, e) = bulk_stands _ _ _ _ is _ c.in-Bulk.is in
+    bulk_shown _ _ _ _ _ c.in-Bulk.text c.in-Bulk.is (
+      record { is_kind = refl; is_number = refl; count = refl },
+      c.first_of-place.ensures _ _ (c.behind_feed.ensures line _ none e) refl,
+    )
+
+pub returns-in-NullBulk-clause-shown : goal.returns-in-NullBulk-clause-shown
+returns-in-NullBulk-clause-shown c rest is left =
+    null_bulk_shown _ _ _ _ _ c.in-NullBulk.is
+    (record { is_kind = refl; is_number = refl; count = refl }) refl
 
 pub returns-in-Array-clause-shown : goal.returns-in-Array-clause-shown
-returns-in-Array-clause-shown c =
+returns-in-Array-clause-shown c rest is left =
     let (inner, deeper, bytes, row, (line, none, e)) =
-    array_stands _ _ _ _ c.requires.1 _ c.in-Array.is in
+    array_stands _ _ _ _ is _ c.in-Array.is in
     let behind = c.behind_feed-behind.ensures line _ none e in
-    array_shown _ _ _ _ c.in-Array.elements c.in-Array.is refl
-    (omega (arith, c.len.ensures, c.in-Array.elements.ok)) (record {
+    array_shown _ _ _ _ _ c.in-Array.elements c.in-Array.is (record {
+      is_kind = refl;
+      is_number = refl;
+      count = omega (arith, c.len.ensures, c.in-Array.elements.ok);
+    }) (record {
       inner = inner;
       deeper = deeper;
       bytes = bytes;
       are = row;
-      stand = c.first_of.ensures bytes _ behind
-          (elements_count bytes _ _ _ behind c.requires.2);
+      behind_line = (line, none, e);
+      stand = c.first_of.ensures bytes _ behind (elements_count bytes _ _ _ behind left);
     })
+
+pub returns-in-NullArray-clause-shown : goal.returns-in-NullArray-clause-shown
+returns-in-NullArray-clause-shown c rest is left =
+    null_array_shown _ _ _ _ _ c.in-NullArray.is
+    (record { is_kind = refl; is_number = refl; count = refl }) refl
 
 pub returns-in-Simple-clause-ends : goal.returns-in-Simple-clause-ends
 returns-in-Simple-clause-ends c = omega (arith, reply_long _ _ _ _ c.requires.1, c.requires.2)
