@@ -270,11 +270,10 @@ enum pergidau_code pergidau_csv_record(
  * too.
  *
  * PERGIDAU_DONE, PERGIDAU_TOO_SMALL, PERGIDAU_NO_MEMORY: as for a record that is whole.
- * PERGIDAU_INCOMPLETE: more bytes may be needed; also where no record can come, so the caller
- * bounds how many bytes are held. That no more are asked for once the line end is there that
- * ends the record is tested, not proved. PERGIDAU_REFUSED: whatever comes behind the bytes,
- * they begin with no record. The last record may have no line end: where no more bytes come,
- * the call for whole ones reads it.
+ * PERGIDAU_INCOMPLETE: no record with its line end is there yet; also where none can come, so
+ * the caller bounds how many bytes are held. PERGIDAU_REFUSED: whatever comes behind the
+ * bytes, they begin with no record. The last record may have no line end: where no more bytes
+ * come, the call for whole ones reads it.
  *
  * The caller owes bytes_length bytes at bytes that can be read and that nothing changes while
  * the call runs, text_length bytes at text and fields_length entries at fields that can be

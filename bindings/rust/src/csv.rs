@@ -99,9 +99,9 @@ pub fn csv_record<'i, 'b>(
     read(exports::exported_csv_record, bytes, end, text, fields)
 }
 
-/// The same record where the bytes come in pieces: [`Error::Incomplete`] says that more of them may
-/// be needed, also where no record can come. Where no more bytes come, [`csv_record`] reads a last
-/// record that has no line end.
+/// The same record where the bytes come in pieces: [`Error::Incomplete`] says that no record with
+/// its line end is there yet, also where none can come. Where no more bytes come, [`csv_record`]
+/// reads a last record that has no line end.
 ///
 /// ```
 /// use pergidau::{csv_record_in_pieces, Error, LineEnd};

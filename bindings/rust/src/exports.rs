@@ -254,10 +254,9 @@ extern "C" {
 
     /// The same record where the bytes come in pieces: what it answers is that of all longer bytes too.
     ///
-    /// `DONE`, `TOO_SMALL`, `NO_MEMORY`: as for a record that is whole. `INCOMPLETE`: more bytes may be
-    /// needed; also where no record can come, so the caller bounds how many bytes are held. That no
-    /// more are asked for once the line end is there that ends the record is tested, not proved.
-    /// `REFUSED`: whatever comes behind the bytes, they begin with no record. The last record may
+    /// `DONE`, `TOO_SMALL`, `NO_MEMORY`: as for a record that is whole. `INCOMPLETE`: no record with
+    /// its line end is there yet; also where none can come, so the caller bounds how many bytes are
+    /// held. `REFUSED`: whatever comes behind the bytes, they begin with no record. The last record may
     /// have no line end: where no more bytes come, the call for whole ones reads it.
     ///
     /// The caller owes `bytes_length` bytes at `bytes` that can be read and that nothing changes while

@@ -3,6 +3,7 @@ use Rattle.std.specs.Prelude.{◌≡◌, ◌+◌, ℕ, List, ◌++◌, length, z
 use Rattle.std.specs.declared.alloc.Global.{Global}
 use Rattle.std.specs.declared.vec.Vec.{Vec}
 use Rattle.uses_csv.specs.Csv.{IsRecord}
+use Rattle.uses_csv.specs.Pieces.{IsLine}
 use Rattle.uses_csv.specs.declared.LineEnd.{LineEnd}
 use Rattle.uses_csv.specs.declared.LineEnd.TheVariants.{CrLf, Lf}
 use Rattle.exported.specs.Pieces.{MayFollow}
@@ -31,6 +32,10 @@ NoRecord ends input = (fields : Fields) (rest : List ℕ) → IsRecord ends inpu
 -- Whatever comes behind them, they begin with none.
 abbrev pub NoRecordForGood : LineEnd → List ℕ → Type 0
 NoRecordForGood ends input = (more : List ℕ) → MayFollow input more → NoRecord ends (input ++ more)
+
+-- The bytes begin with no record that has its line end.
+abbrev pub NoLine : LineEnd → List ℕ → Type 0
+NoLine ends input = (fields : Fields) (rest : List ℕ) → IsLine ends input fields rest → ⊥
 
 -- The input begins with a record, which has so many fields, bytes of these, and bytes.
 pub record CountsRecord (begins : List ℕ → Fields → List ℕ → Type 0) (input : List ℕ)

@@ -1,5 +1,5 @@
 -- Where the parts of a head stand.
-use Rattle.std.specs.Prelude.{◌≡◌, ◌+◌, ◌<◌, ℕ, List, [], ◌∷◌, ◌++◌, length}
+use Rattle.std.specs.Prelude.{◌≡◌, ◌+◌, ℕ, List, [], ◌∷◌, ◌++◌, length}
 use Rattle.std.specs.List.{All}
 use Rattle.http_heads.specs.Bytes.{IsWhite, line_end}
 use Rattle.http_heads.specs.FieldLine.{BeginsBare, IsFieldLine}

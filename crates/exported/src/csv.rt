@@ -3,8 +3,8 @@
 ghost use Rattle.std.specs.Prelude.{◌≡◌, ◌≤◌, ◌+◌, ◌<◌, ◌⊎◌, length, take};
 ghost use Rattle.uses_csv.specs.Csv.{IsRecord};
 ghost use Rattle.exported.specs.Code.{done, incomplete, no_memory, refused, too_small};
-ghost use Rattle.exported.specs.Csv.{IsRecordForGood, NoRecord, NoRecordForGood, ShowsRecord};
-ghost use Rattle.exported.specs.Csv.{WantsRecord, ends_of};
+ghost use Rattle.exported.specs.Csv.{IsRecordForGood, NoLine, NoRecord, NoRecordForGood};
+ghost use Rattle.exported.specs.Csv.{ShowsRecord, WantsRecord, ends_of};
 ghost use Rattle.exported.specs.Texts.{AreFields, text_of};
 
 pub mod texts;
@@ -131,10 +131,9 @@ pub extern "C" fn exported_csv_record(
 
 /// The same record where the bytes come in pieces: what it answers is that of all longer bytes too.
 ///
-/// `DONE`, `TOO_SMALL`, `NO_MEMORY`: as for a record that is whole. `INCOMPLETE`: more bytes may be
-/// needed; also where no record can come, so the caller bounds how many bytes are held. That no
-/// more are asked for once the line end is there that ends the record is tested, not proved.
-/// `REFUSED`: whatever comes behind the bytes, they begin with no record. The last record may
+/// `DONE`, `TOO_SMALL`, `NO_MEMORY`: as for a record that is whole. `INCOMPLETE`: no record with
+/// its line end is there yet; also where none can come, so the caller bounds how many bytes are
+/// held. `REFUSED`: whatever comes behind the bytes, they begin with no record. The last record may
 /// have no line end: where no more bytes come, the call for whole ones reads it.
 ///
 /// The caller owes `bytes_length` bytes at `bytes` that can be read and that nothing changes while
@@ -157,6 +156,7 @@ pub extern "C" fn exported_csv_record_in_pieces(
         × ((length fields.old < out.new.fields) ⊎ (length text.old < out.new.text)) }
     ensures kept { result ≡ too_small → (fields.new ≡ fields.old) × (text.new ≡ text.old) }
     ensures refused { result ≡ refused → NoRecordForGood (ends_of line_feeds) bytes.now }
+    ensures incomplete { result ≡ incomplete → NoLine (ends_of line_feeds) bytes.now }
     ensures codes { (result ≡ done) ⊎ ((result ≡ too_small) ⊎ ((result ≡ refused)
         ⊎ ((result ≡ incomplete) ⊎ (result ≡ no_memory)))) }
 {
