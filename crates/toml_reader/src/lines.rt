@@ -225,8 +225,9 @@ pub(crate) fn read_line<'i, A: Allocator + Copy>(
 /// between each two, or a carriage return and a line feed; nothing where one is blank. In values no
 /// more than so many arrays stand in one another. Lines may say a key or a table again.
 ///
-/// Else a fault: it says at which byte reading stopped, at the first line that is none, or that a
-/// request for memory was refused.
+/// Else a fault: it says that the text is no such lines, and at which byte reading stopped, at the
+/// first line that is none, which is tested and not proved; or that a request for memory was
+/// refused.
 ///
 /// ```
 /// use toml_reader::lines::parse_lines;

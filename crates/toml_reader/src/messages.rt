@@ -78,9 +78,9 @@ fn first_place<'i, A: Allocator + Copy>(
 /// it says the line, with the first column; there is no such message only where the number of the
 /// line, counted from 1, is none of 64 bits.
 ///
-/// `None` where memory was refused when the text was read. Of a text that is not lines there is none
-/// where memory is refused now, or where all of it is lines, as the fault is that of another text:
-/// that there is one else no clause says.
+/// `None` where memory was refused when the text was read. Of a text that is not lines there is
+/// none where memory is refused now, or where all of it is lines, as the fault is that of another
+/// text: that there is one else no clause says.
 pub fn explain<'i, A: Allocator + Copy>(
     alloc: A,
     level: usize,
