@@ -4,7 +4,6 @@ ghost use Rattle.std.specs.Int.{bit_at};
 ghost use Rattle.byte_sets.specs.ByteSet.{has_byte, members_below};
 ghost use Rattle.stream_sets.specs.Once.{value_once};
 
-use stream_sets::decides::Decides;
 use stream_sets::sets::ContainsToken;
 
 /// A set of bytes: four words of 64 bits, a bit for each byte. It takes no memory, and asking it
@@ -118,12 +117,10 @@ fn flipped(word: u64) -> u64
 impl ContainsToken<u8> for ByteSet {
     ghost tells = { λ s t b. b ≡ has_byte s t };
 
+    ghost once = { λ s is. value_once (has_byte s) };
+
     #[inline(always)]
     fn contains_token(&self, token: u8) -> bool {
         self.contains(token)
     }
-}
-
-impl Decides<u8> for ByteSet {
-    ghost once = { λ s is. value_once (has_byte s) };
 }

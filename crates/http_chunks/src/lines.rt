@@ -17,7 +17,7 @@ use winnow::ascii::impls::{HexDigit1, Space0};
 use winnow::combinator::impls::Repeat;
 use winnow::combinator::{alt, delimited, opt, preceded, repeat, terminated};
 use winnow::error::ParserError;
-use winnow::exact::{Exact, ReadsPieces};
+use winnow::exact::ReadsPieces;
 use winnow::stable::Stable;
 use winnow::stream::{Compare, Range, StreamIsPartial};
 use winnow::token::{one_of, take_while};
@@ -28,12 +28,12 @@ where
     I: StreamIsPartial<Token = u8> + Compare<u8>,
     E: ParserError<I>,
     O: Drop,
-    P: Exact<I, O, E> + Stable<I, O, E> + Drop,
+    P: Stable<I, O, E> + Drop,
     requires modal { E.form ≡ modal }
     requires seen { SeesApart I.seen_as }
-    requires behind { P.can_parse behind × P.premise behind × P.backtracks behind }
+    requires behind { P.can_parse behind × (P.claim (P.state behind)).premise × (P.claim (P.state behind)).backtracks }
     ensures { ReadsOrAsks I.reading I.following E.kind (Ended I.reading I.seen_as
-        (Literally I.reading I.spells (λ s _. s)) (P.grammar behind)) (I.view input.old) result
+        (Literally I.reading I.spells (λ s _. s)) (P.claim (P.state behind)).grammar) (I.view input.old) result
         (I.view input.new) }
 {
     (HexDigit1, terminated(behind, (b'\r', b'\n'))).read_cut(input)
@@ -49,13 +49,13 @@ where
     I: StreamIsPartial<Token = u8> + Compare<u8>,
     E: ParserError<I>,
     A: Allocator + Copy,
-    P: Exact<I, I::Slice, E> + Stable<I, I::Slice, E> + Drop,
+    P: Stable<I, I::Slice, E> + Drop,
     requires modal { E.form ≡ modal }
     requires seen { SeesApart I.seen_as }
-    requires value { P.can_parse value × P.premise value × P.backtracks value }
+    requires value { P.can_parse value × (P.claim (P.state value)).premise × (P.claim (P.state value)).backtracks }
     ensures { ReadsOrAsks I.reading I.following E.kind (Ended I.reading I.seen_as
         (Literally I.reading I.spells (λ s _. s)) (Extensions I.reading I.seen_as
-        (Literally I.reading I.spells (λ s _. s)) (P.grammar value))) (I.view input.old) result
+        (Literally I.reading I.spells (λ s _. s)) (P.claim (P.state value)).grammar)) (I.view input.old) result
         (I.view input.new) }
 {
     let token = take_while(Range::from(1..), TokenBytes);
@@ -74,14 +74,14 @@ where
     I: StreamIsPartial<Token = u8> + Compare<u8>,
     E: ParserError<I>,
     A: Allocator + Copy,
-    P: Exact<I, (), E> + Stable<I, (), E> + Drop,
+    P: Stable<I, (), E> + Drop,
     requires modal { E.form ≡ modal }
     requires seen { SeesApart I.seen_as }
-    requires text { P.can_parse text × P.premise text × P.backtracks text }
+    requires text { P.can_parse text × (P.claim (P.state text)).premise × (P.claim (P.state text)).backtracks }
     ensures { ReadsOrAsks I.reading I.following E.kind (Ended I.reading I.seen_as
         (Literally I.reading I.spells (λ s _. s)) (Extensions I.reading I.seen_as
         (Literally I.reading I.spells (λ s _. s)) (TextOrToken I.reading I.seen_as
-        (Literally I.reading I.spells (λ s _. s)) (P.grammar text)))) (I.view input.old) result
+        (Literally I.reading I.spells (λ s _. s)) (P.claim (P.state text)).grammar))) (I.view input.old) result
         (I.view input.new) }
 {
     let token = take_while(Range::from(1..), TokenBytes);

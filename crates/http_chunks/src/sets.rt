@@ -15,6 +15,8 @@ pub(crate) struct QuotedBytes;
 impl ContainsToken<u8> for QuotedBytes {
     ghost tells = { λ s b answer. IsTrue answer ↔ IsQuotedByte b };
 
+    ghost once = { λ s is. holds_once IsQuotedByte };
+
     #[inline]
     fn contains_token(&self, b: u8) -> bool {
         b == b'\t'
@@ -24,8 +26,4 @@ impl ContainsToken<u8> for QuotedBytes {
             || (b']' <= b && b <= b'~')
             || b >= 128
     }
-}
-
-impl Decides<u8> for QuotedBytes {
-    ghost once = { λ s is. holds_once IsQuotedByte };
 }

@@ -8,10 +8,10 @@ ghost use Rattle.http_heads.specs.FieldRead.{NameRead, NameValue, ValueStands};
 ghost use Rattle.http_heads.specs.Parts.{EndStands};
 ghost use Rattle.winnow.specs.Exact.{Reads};
 
+use winnow::Parser;
 use crate::sets::{TokenBytes, ValueBytes, White};
 use winnow::combinator::{preceded, terminated};
 use winnow::error::{EmptyError, ErrMode, HasKind};
-use winnow::exact::Exact;
 use winnow::stream::Range;
 use winnow::token::take_while;
 

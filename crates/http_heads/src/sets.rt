@@ -15,6 +15,8 @@ pub struct TokenBytes;
 impl ContainsToken<u8> for TokenBytes {
     ghost tells = { λ s b answer. IsTrue answer ↔ IsTokenByte b };
 
+    ghost once = { λ s is. holds_once IsTokenByte };
+
     #[inline]
     fn contains_token(&self, b: u8) -> bool {
         b.is_ascii_digit()
@@ -29,10 +31,6 @@ impl ContainsToken<u8> for TokenBytes {
     }
 }
 
-impl Decides<u8> for TokenBytes {
-    ghost once = { λ s is. holds_once IsTokenByte };
-}
-
 /// The white space that may stand before a value and behind it.
 #[derive(Clone, Copy, Drop)]
 pub struct White;
@@ -40,14 +38,12 @@ pub struct White;
 impl ContainsToken<u8> for White {
     ghost tells = { λ s b answer. IsTrue answer ↔ IsWhite b };
 
+    ghost once = { λ s is. holds_once IsWhite };
+
     #[inline]
     fn contains_token(&self, b: u8) -> bool {
         b == b' ' || b == b'\t'
     }
-}
-
-impl Decides<u8> for White {
-    ghost once = { λ s is. holds_once IsWhite };
 }
 
 /// The bytes of values.
@@ -57,14 +53,12 @@ pub struct ValueBytes;
 impl ContainsToken<u8> for ValueBytes {
     ghost tells = { λ s b answer. IsTrue answer ↔ IsValueByte b };
 
+    ghost once = { λ s is. holds_once IsValueByte };
+
     #[inline]
     fn contains_token(&self, b: u8) -> bool {
         (b >= 32 && b != 127) || b == b'\t'
     }
-}
-
-impl Decides<u8> for ValueBytes {
-    ghost once = { λ s is. holds_once IsValueByte };
 }
 
 /// The visible bytes, of which targets are made.
@@ -74,14 +68,12 @@ pub struct Visible;
 impl ContainsToken<u8> for Visible {
     ghost tells = { λ s b answer. IsTrue answer ↔ IsVisible b };
 
+    ghost once = { λ s is. holds_once IsVisible };
+
     #[inline]
     fn contains_token(&self, b: u8) -> bool {
         b'!' <= b && b <= b'~'
     }
-}
-
-impl Decides<u8> for Visible {
-    ghost once = { λ s is. holds_once IsVisible };
 }
 
 /// The decimal digits.
@@ -91,12 +83,10 @@ pub struct Digits;
 impl ContainsToken<u8> for Digits {
     ghost tells = { λ s b answer. IsTrue answer ↔ IsDigit b };
 
+    ghost once = { λ s is. holds_once IsDigit };
+
     #[inline]
     fn contains_token(&self, b: u8) -> bool {
         b.is_ascii_digit()
     }
-}
-
-impl Decides<u8> for Digits {
-    ghost once = { λ s is. holds_once IsDigit };
 }

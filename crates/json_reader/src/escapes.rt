@@ -13,7 +13,7 @@ use crate::parts::{read_either, read_escape_of};
 use crate::units::{TwoUnits, Unit, read_unit, read_units};
 use winnow::Parser;
 use winnow::error::{EmptyError, ErrMode, HasKind};
-use winnow::exact::{Exact, Rule};
+use winnow::exact::Rule;
 use winnow::token::impls::Any;
 
 /// The character that a unit is by itself: none if it is a surrogate.

@@ -7,11 +7,12 @@ ghost use Rattle.winnow.specs.Exact.{Reads};
 ghost use Rattle.winnow.specs.Grammar.{Both, Three};
 ghost use Rattle.winnow.specs.Rule.{CallsRead};
 
+use winnow::Parser;
 use std::alloc::Allocator;
 use winnow::combinator::impls::Separated;
 use winnow::combinator::{delimited, separated, terminated};
 use winnow::error::ParserError;
-use winnow::exact::{Exact, Rule};
+use winnow::exact::Rule;
 use winnow::stream::{Range, Stream};
 
 /// Reads what stands between two others.
@@ -27,20 +28,20 @@ where
     O2: Drop,
     O3: Drop,
     E: ParserError<I>,
-    P: Exact<I, O1, E> + Drop,
-    Q: Exact<I, O2, E> + Drop,
-    R: Exact<I, O3, E> + Drop,
+    P: Parser<I, O1, E> + Drop,
+    Q: Parser<I, O2, E> + Drop,
+    R: Parser<I, O3, E> + Drop,
     requires first_callable { P.can_parse first }
-    requires first_premise { P.premise first }
-    requires first_backtracks { P.backtracks first }
+    requires first_premise { (P.claim (P.state first)).premise }
+    requires first_backtracks { (P.claim (P.state first)).backtracks }
     requires second_callable { Q.can_parse second }
-    requires second_premise { Q.premise second }
-    requires second_backtracks { Q.backtracks second }
+    requires second_premise { (Q.claim (Q.state second)).premise }
+    requires second_backtracks { (Q.claim (Q.state second)).backtracks }
     requires third_callable { R.can_parse third }
-    requires third_premise { R.premise third }
-    requires third_backtracks { R.backtracks third }
+    requires third_premise { (R.claim (R.state third)).premise }
+    requires third_backtracks { (R.claim (R.state third)).backtracks }
     ensures { Reads I.reading E.kind
-        (Three (λ _ o _. o) (P.grammar first) (Q.grammar second) (R.grammar third))
+        (Three (λ _ o _. o) (P.claim (P.state first)).grammar (Q.claim (Q.state second)).grammar (R.claim (R.state third)).grammar)
         (I.view input.old) result (I.view input.new) }
 {
     delimited(first, second, third).read(input)
@@ -74,19 +75,19 @@ where
     M: Drop,
     W: Drop,
     A: Allocator + Copy,
-    P: Exact<I, O, E> + Drop,
-    B: Exact<I, M, E> + Copy + Drop,
-    G: Exact<I, W, E> + Copy + Drop,
-    requires item { P.can_parse item × P.premise item × P.backtracks item }
-    requires opening { B.can_parse marks.opening × B.premise marks.opening
-        × B.backtracks marks.opening }
-    requires comma { B.can_parse marks.comma × B.premise marks.comma × B.backtracks marks.comma
-        × B.consumes marks.comma }
-    requires closing { B.can_parse marks.closing × B.premise marks.closing
-        × B.backtracks marks.closing }
-    requires gap { G.can_parse marks.gap × G.premise marks.gap × G.backtracks marks.gap }
-    ensures { Reads I.reading E.kind (Items (P.grammar item) (B.grammar marks.opening)
-        (B.grammar marks.comma) (B.grammar marks.closing) (G.grammar marks.gap))
+    P: Parser<I, O, E> + Drop,
+    B: Parser<I, M, E> + Copy + Drop,
+    G: Parser<I, W, E> + Copy + Drop,
+    requires item { P.can_parse item × (P.claim (P.state item)).premise × (P.claim (P.state item)).backtracks }
+    requires opening { B.can_parse marks.opening × (B.claim (B.state marks.opening)).premise
+        × (B.claim (B.state marks.opening)).backtracks }
+    requires comma { B.can_parse marks.comma × (B.claim (B.state marks.comma)).premise × (B.claim (B.state marks.comma)).backtracks
+        × (B.claim (B.state marks.comma)).consumes }
+    requires closing { B.can_parse marks.closing × (B.claim (B.state marks.closing)).premise
+        × (B.claim (B.state marks.closing)).backtracks }
+    requires gap { G.can_parse marks.gap × (G.claim (G.state marks.gap)).premise × (G.claim (G.state marks.gap)).backtracks }
+    ensures { Reads I.reading E.kind (Items (P.claim (P.state item)).grammar (B.claim (B.state marks.opening)).grammar
+        (B.claim (B.state marks.comma)).grammar (B.claim (B.state marks.closing)).grammar (G.claim (G.state marks.gap)).grammar)
         (I.view input.old) result (I.view input.new) }
 {
     let items: Separated<P, (B, G), I, O, (M, W), Vec<O, A>, E, A> = separated(
@@ -115,21 +116,21 @@ where
     A: Allocator + Copy,
     R: Rule<I, O> + Drop,
     F: FnMut(&mut I) -> Result<O, E> + Drop,
-    B: Exact<I, M, E> + Copy + Drop,
-    G: Exact<I, W, E> + Copy + Drop,
+    B: Parser<I, M, E> + Copy + Drop,
+    G: Parser<I, W, E> + Copy + Drop,
     requires callable { F.IsAlwaysCallable value }
     requires reads { CallsRead I.reading I.view E.kind (CalledAtMut F.FnMut) (R.grammar rule)
         value }
-    requires opening { B.can_parse marks.opening × B.premise marks.opening
-        × B.backtracks marks.opening }
-    requires comma { B.can_parse marks.comma × B.premise marks.comma × B.backtracks marks.comma
-        × B.consumes marks.comma }
-    requires closing { B.can_parse marks.closing × B.premise marks.closing
-        × B.backtracks marks.closing }
-    requires gap { G.can_parse marks.gap × G.premise marks.gap × G.backtracks marks.gap }
-    ensures { Reads I.reading E.kind (Items (Both former (R.grammar rule) (G.grammar marks.gap))
-        (B.grammar marks.opening) (B.grammar marks.comma) (B.grammar marks.closing)
-        (G.grammar marks.gap)) (I.view input.old) result (I.view input.new) }
+    requires opening { B.can_parse marks.opening × (B.claim (B.state marks.opening)).premise
+        × (B.claim (B.state marks.opening)).backtracks }
+    requires comma { B.can_parse marks.comma × (B.claim (B.state marks.comma)).premise × (B.claim (B.state marks.comma)).backtracks
+        × (B.claim (B.state marks.comma)).consumes }
+    requires closing { B.can_parse marks.closing × (B.claim (B.state marks.closing)).premise
+        × (B.claim (B.state marks.closing)).backtracks }
+    requires gap { G.can_parse marks.gap × (G.claim (G.state marks.gap)).premise × (G.claim (G.state marks.gap)).backtracks }
+    ensures { Reads I.reading E.kind (Items (Both former (R.grammar rule) (G.claim (G.state marks.gap)).grammar)
+        (B.claim (B.state marks.opening)).grammar (B.claim (B.state marks.comma)).grammar (B.claim (B.state marks.closing)).grammar
+        (G.claim (G.state marks.gap)).grammar) (I.view input.old) result (I.view input.new) }
 {
     let item = terminated(rule.by(value), marks.gap);
     read_items(alloc, item, marks, input)

@@ -12,7 +12,7 @@ use crate::parts::{read_exponent_of, read_integer_of, read_latter, read_number_o
 use winnow::ascii::impls::{Digit0, Digit1};
 use winnow::combinator::alt;
 use winnow::error::{EmptyError, ErrMode, HasKind};
-use winnow::exact::{Exact, Rule};
+use winnow::exact::Rule;
 use winnow::token::one_of;
 
 /// The name of the digits before the point.

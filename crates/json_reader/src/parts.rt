@@ -9,7 +9,6 @@ ghost use Rattle.winnow.specs.Grammar.Tuples.{Four};
 use winnow::Parser;
 use winnow::combinator::{alt, opt, preceded};
 use winnow::error::ParserError;
-use winnow::exact::Exact;
 use winnow::stream::Stream;
 
 /// Reads the second behind the first, and answers the second.
@@ -18,15 +17,15 @@ where
     I: Stream,
     O1: Drop,
     E: ParserError<I>,
-    P: Exact<I, O1, E> + Drop,
-    Q: Exact<I, O2, E> + Drop,
+    P: Parser<I, O1, E> + Drop,
+    Q: Parser<I, O2, E> + Drop,
     requires first_callable { P.can_parse first }
-    requires first_premise { P.premise first }
-    requires first_backtracks { P.backtracks first }
+    requires first_premise { (P.claim (P.state first)).premise }
+    requires first_backtracks { (P.claim (P.state first)).backtracks }
     requires second_callable { Q.can_parse second }
-    requires second_premise { Q.premise second }
-    requires second_backtracks { Q.backtracks second }
-    ensures { Reads I.reading E.kind (Both latter (P.grammar first) (Q.grammar second))
+    requires second_premise { (Q.claim (Q.state second)).premise }
+    requires second_backtracks { (Q.claim (Q.state second)).backtracks }
+    ensures { Reads I.reading E.kind (Both latter (P.claim (P.state first)).grammar (Q.claim (Q.state second)).grammar)
         (I.view input.old) result (I.view input.new) }
 {
     preceded(first, second).read(input)
@@ -37,15 +36,15 @@ pub fn read_either<I, O, E, P, Q>(first: P, second: Q, input: &mut I) -> Result<
 where
     I: Stream,
     E: ParserError<I>,
-    P: Exact<I, O, E> + Drop,
-    Q: Exact<I, O, E> + Drop,
+    P: Parser<I, O, E> + Drop,
+    Q: Parser<I, O, E> + Drop,
     requires first_callable { P.can_parse first }
-    requires first_premise { P.premise first }
-    requires first_backtracks { P.backtracks first }
+    requires first_premise { (P.claim (P.state first)).premise }
+    requires first_backtracks { (P.claim (P.state first)).backtracks }
     requires second_callable { Q.can_parse second }
-    requires second_premise { Q.premise second }
-    requires second_backtracks { Q.backtracks second }
-    ensures { Reads I.reading E.kind (Either (P.grammar first) (Q.grammar second))
+    requires second_premise { (Q.claim (Q.state second)).premise }
+    requires second_backtracks { (Q.claim (Q.state second)).backtracks }
+    ensures { Reads I.reading E.kind (Either (P.claim (P.state first)).grammar (Q.claim (Q.state second)).grammar)
         (I.view input.old) result (I.view input.new) }
 {
     alt((first, second)).read(input)
@@ -65,24 +64,24 @@ where
     O2: Drop,
     O3: Drop,
     E: ParserError<I>,
-    P: Exact<I, O1, E> + Drop,
-    Q: Exact<I, O2, E> + Drop,
-    R: Exact<I, O3, E> + Drop,
-    S: Exact<I, O4, E> + Drop,
+    P: Parser<I, O1, E> + Drop,
+    Q: Parser<I, O2, E> + Drop,
+    R: Parser<I, O3, E> + Drop,
+    S: Parser<I, O4, E> + Drop,
     requires first_callable { P.can_parse first }
-    requires first_premise { P.premise first }
-    requires first_backtracks { P.backtracks first }
+    requires first_premise { (P.claim (P.state first)).premise }
+    requires first_backtracks { (P.claim (P.state first)).backtracks }
     requires second_callable { Q.can_parse second }
-    requires second_premise { Q.premise second }
-    requires second_backtracks { Q.backtracks second }
+    requires second_premise { (Q.claim (Q.state second)).premise }
+    requires second_backtracks { (Q.claim (Q.state second)).backtracks }
     requires third_callable { R.can_parse third }
-    requires third_premise { R.premise third }
-    requires third_backtracks { R.backtracks third }
+    requires third_premise { (R.claim (R.state third)).premise }
+    requires third_backtracks { (R.claim (R.state third)).backtracks }
     requires fourth_callable { S.can_parse fourth }
-    requires fourth_premise { S.premise fourth }
-    requires fourth_backtracks { S.backtracks fourth }
-    ensures { Reads I.reading E.kind (Four (P.grammar first) (Q.grammar second)
-        (R.grammar third) (S.grammar fourth)) (I.view input.old) result (I.view input.new) }
+    requires fourth_premise { (S.claim (S.state fourth)).premise }
+    requires fourth_backtracks { (S.claim (S.state fourth)).backtracks }
+    ensures { Reads I.reading E.kind (Four (P.claim (P.state first)).grammar (Q.claim (Q.state second)).grammar
+        (R.claim (R.state third)).grammar (S.claim (S.state fourth)).grammar) (I.view input.old) result (I.view input.new) }
 {
     (first, second, third, fourth).read(input)
 }
@@ -100,20 +99,20 @@ where
     O2: Drop,
     O3: Drop,
     E: ParserError<I>,
-    P: Exact<I, O1, E> + Drop,
-    Q: Exact<I, O2, E> + Drop,
-    R: Exact<I, O3, E> + Drop,
+    P: Parser<I, O1, E> + Drop,
+    Q: Parser<I, O2, E> + Drop,
+    R: Parser<I, O3, E> + Drop,
     requires zero_callable { P.can_parse zero }
-    requires zero_premise { P.premise zero }
-    requires zero_backtracks { P.backtracks zero }
+    requires zero_premise { (P.claim (P.state zero)).premise }
+    requires zero_backtracks { (P.claim (P.state zero)).backtracks }
     requires leading_callable { Q.can_parse leading }
-    requires leading_premise { Q.premise leading }
-    requires leading_backtracks { Q.backtracks leading }
+    requires leading_premise { (Q.claim (Q.state leading)).premise }
+    requires leading_backtracks { (Q.claim (Q.state leading)).backtracks }
     requires more_callable { R.can_parse more }
-    requires more_premise { R.premise more }
-    requires more_backtracks { R.backtracks more }
-    ensures { Reads I.reading E.kind (Either (Taken I.reading (P.grammar zero))
-        (Taken I.reading (Both pair (Q.grammar leading) (R.grammar more))))
+    requires more_premise { (R.claim (R.state more)).premise }
+    requires more_backtracks { (R.claim (R.state more)).backtracks }
+    ensures { Reads I.reading E.kind (Either (Taken I.reading (P.claim (P.state zero)).grammar)
+        (Taken I.reading (Both pair (Q.claim (Q.state leading)).grammar (R.claim (R.state more)).grammar)))
         (I.view input.old) result (I.view input.new) }
 {
     alt((zero.take(), (leading, more).take())).read(input)
@@ -132,20 +131,20 @@ where
     O2: Drop,
     O3: Drop,
     E: ParserError<I>,
-    P: Exact<I, O1, E> + Drop,
-    Q: Exact<I, O2, E> + Drop,
-    R: Exact<I, O3, E> + Drop,
+    P: Parser<I, O1, E> + Drop,
+    Q: Parser<I, O2, E> + Drop,
+    R: Parser<I, O3, E> + Drop,
     requires letter_callable { P.can_parse letter }
-    requires letter_premise { P.premise letter }
-    requires letter_backtracks { P.backtracks letter }
+    requires letter_premise { (P.claim (P.state letter)).premise }
+    requires letter_backtracks { (P.claim (P.state letter)).backtracks }
     requires sign_callable { Q.can_parse sign }
-    requires sign_premise { Q.premise sign }
-    requires sign_backtracks { Q.backtracks sign }
+    requires sign_premise { (Q.claim (Q.state sign)).premise }
+    requires sign_backtracks { (Q.claim (Q.state sign)).backtracks }
     requires digits_callable { R.can_parse digits }
-    requires digits_premise { R.premise digits }
-    requires digits_backtracks { R.backtracks digits }
+    requires digits_premise { (R.claim (R.state digits)).premise }
+    requires digits_backtracks { (R.claim (R.state digits)).backtracks }
     ensures { Reads I.reading E.kind (Both latter
-        (Both pair (P.grammar letter) (Maybe (Q.grammar sign))) (R.grammar digits))
+        (Both pair (P.claim (P.state letter)).grammar (Maybe (Q.claim (Q.state sign)).grammar)) (R.claim (R.state digits)).grammar)
         (I.view input.old) result (I.view input.new) }
 {
     preceded((letter, opt(sign)), digits).read(input)
@@ -166,24 +165,24 @@ where
     O3: Drop,
     O4: Drop,
     E: ParserError<I>,
-    P: Exact<I, O1, E> + Drop,
-    Q: Exact<I, O2, E> + Drop,
-    R: Exact<I, O3, E> + Drop,
-    S: Exact<I, O4, E> + Drop,
+    P: Parser<I, O1, E> + Drop,
+    Q: Parser<I, O2, E> + Drop,
+    R: Parser<I, O3, E> + Drop,
+    S: Parser<I, O4, E> + Drop,
     requires sign_callable { P.can_parse sign }
-    requires sign_premise { P.premise sign }
-    requires sign_backtracks { P.backtracks sign }
+    requires sign_premise { (P.claim (P.state sign)).premise }
+    requires sign_backtracks { (P.claim (P.state sign)).backtracks }
     requires whole_callable { Q.can_parse whole }
-    requires whole_premise { Q.premise whole }
-    requires whole_backtracks { Q.backtracks whole }
+    requires whole_premise { (Q.claim (Q.state whole)).premise }
+    requires whole_backtracks { (Q.claim (Q.state whole)).backtracks }
     requires fraction_callable { R.can_parse fraction }
-    requires fraction_premise { R.premise fraction }
-    requires fraction_backtracks { R.backtracks fraction }
+    requires fraction_premise { (R.claim (R.state fraction)).premise }
+    requires fraction_backtracks { (R.claim (R.state fraction)).backtracks }
     requires exponent_callable { S.can_parse exponent }
-    requires exponent_premise { S.premise exponent }
-    requires exponent_backtracks { S.backtracks exponent }
-    ensures { Reads I.reading E.kind (Taken I.reading (Four (Maybe (P.grammar sign))
-        (Q.grammar whole) (Maybe (R.grammar fraction)) (Maybe (S.grammar exponent))))
+    requires exponent_premise { (S.claim (S.state exponent)).premise }
+    requires exponent_backtracks { (S.claim (S.state exponent)).backtracks }
+    ensures { Reads I.reading E.kind (Taken I.reading (Four (Maybe (P.claim (P.state sign)).grammar)
+        (Q.claim (Q.state whole)).grammar (Maybe (R.claim (R.state fraction)).grammar) (Maybe (S.claim (S.state exponent)).grammar)))
         (I.view input.old) result (I.view input.new) }
 {
     (opt(sign), whole, opt(fraction), opt(exponent))
@@ -204,24 +203,24 @@ where
     O1: Drop,
     O3: Drop,
     E: ParserError<I>,
-    P: Exact<I, O1, E> + Drop,
-    Q: Exact<I, O2, E> + Drop,
-    R: Exact<I, O3, E> + Drop,
-    S: Exact<I, O2, E> + Drop,
+    P: Parser<I, O1, E> + Drop,
+    Q: Parser<I, O2, E> + Drop,
+    R: Parser<I, O3, E> + Drop,
+    S: Parser<I, O2, E> + Drop,
     requires backslash_callable { P.can_parse backslash }
-    requires backslash_premise { P.premise backslash }
-    requires backslash_backtracks { P.backtracks backslash }
+    requires backslash_premise { (P.claim (P.state backslash)).premise }
+    requires backslash_backtracks { (P.claim (P.state backslash)).backtracks }
     requires short_callable { Q.can_parse short }
-    requires short_premise { Q.premise short }
-    requires short_backtracks { Q.backtracks short }
+    requires short_premise { (Q.claim (Q.state short)).premise }
+    requires short_backtracks { (Q.claim (Q.state short)).backtracks }
     requires letter_callable { R.can_parse letter }
-    requires letter_premise { R.premise letter }
-    requires letter_backtracks { R.backtracks letter }
+    requires letter_premise { (R.claim (R.state letter)).premise }
+    requires letter_backtracks { (R.claim (R.state letter)).backtracks }
     requires unicode_callable { S.can_parse unicode }
-    requires unicode_premise { S.premise unicode }
-    requires unicode_backtracks { S.backtracks unicode }
-    ensures { Reads I.reading E.kind (Both latter (P.grammar backslash)
-        (Either (Q.grammar short) (Both latter (R.grammar letter) (S.grammar unicode))))
+    requires unicode_premise { (S.claim (S.state unicode)).premise }
+    requires unicode_backtracks { (S.claim (S.state unicode)).backtracks }
+    ensures { Reads I.reading E.kind (Both latter (P.claim (P.state backslash)).grammar
+        (Either (Q.claim (Q.state short)).grammar (Both latter (R.claim (R.state letter)).grammar (S.claim (S.state unicode)).grammar)))
         (I.view input.old) result (I.view input.new) }
 {
     preceded(backslash, alt((short, preceded(letter, unicode)))).read(input)
@@ -241,25 +240,25 @@ where
     O2: Drop,
     O3: Drop,
     E: ParserError<I>,
-    P: Exact<I, O1, E> + Drop,
-    Q: Exact<I, O2, E> + Drop,
-    R: Exact<I, O3, E> + Drop,
-    S: Exact<I, O4, E> + Drop,
+    P: Parser<I, O1, E> + Drop,
+    Q: Parser<I, O2, E> + Drop,
+    R: Parser<I, O3, E> + Drop,
+    S: Parser<I, O4, E> + Drop,
     requires first_callable { P.can_parse first }
-    requires first_premise { P.premise first }
-    requires first_backtracks { P.backtracks first }
+    requires first_premise { (P.claim (P.state first)).premise }
+    requires first_backtracks { (P.claim (P.state first)).backtracks }
     requires backslash_callable { Q.can_parse backslash }
-    requires backslash_premise { Q.premise backslash }
-    requires backslash_backtracks { Q.backtracks backslash }
+    requires backslash_premise { (Q.claim (Q.state backslash)).premise }
+    requires backslash_backtracks { (Q.claim (Q.state backslash)).backtracks }
     requires letter_callable { R.can_parse letter }
-    requires letter_premise { R.premise letter }
-    requires letter_backtracks { R.backtracks letter }
+    requires letter_premise { (R.claim (R.state letter)).premise }
+    requires letter_backtracks { (R.claim (R.state letter)).backtracks }
     requires second_callable { S.can_parse second }
-    requires second_premise { S.premise second }
-    requires second_backtracks { S.backtracks second }
-    ensures { Reads I.reading E.kind (Both pair (P.grammar first)
-        (Both latter (Both pair (Q.grammar backslash) (R.grammar letter))
-        (S.grammar second)))
+    requires second_premise { (S.claim (S.state second)).premise }
+    requires second_backtracks { (S.claim (S.state second)).backtracks }
+    ensures { Reads I.reading E.kind (Both pair (P.claim (P.state first)).grammar
+        (Both latter (Both pair (Q.claim (Q.state backslash)).grammar (R.claim (R.state letter)).grammar)
+        (S.claim (S.state second)).grammar))
         (I.view input.old) result (I.view input.new) }
 {
     (first, preceded((backslash, letter), second)).read(input)

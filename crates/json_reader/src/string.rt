@@ -9,11 +9,12 @@ ghost use Rattle.winnow.specs.Accumulator.Holds.{HasCharacters};
 ghost use Rattle.winnow.specs.Texts.{Anything};
 ghost use Rattle.winnow.specs.Told.{ReadsText};
 
+use winnow::Parser;
 use crate::escapes::read_escape;
 use crate::marks::read_between;
 use std::alloc::Allocator;
 use winnow::error::{EmptyError, ErrMode, HasKind, ParserError};
-use winnow::exact::{Exact, Rule};
+use winnow::exact::Rule;
 use winnow::stream::Range;
 use winnow::token::take_while;
 

@@ -9,7 +9,7 @@ ghost use Rattle.winnow.specs.Exact.{Reads};
 use crate::parts::{read_four_of, read_units_of};
 use winnow::Parser;
 use winnow::error::{EmptyError, ErrMode, HasKind};
-use winnow::exact::{Exact, Rule};
+use winnow::exact::Rule;
 use winnow::token::impls::Any;
 
 /// The value of a hexadecimal digit.

@@ -10,11 +10,12 @@ ghost use Rattle.winnow.specs.Exact.Whole.{ReadsAll};
 ghost use Rattle.winnow.specs.Grammar.{Both};
 ghost use Rattle.winnow.specs.Rule.{CallsRead};
 
+use winnow::Parser;
 use json_reader::marks::{Marks, read_items};
 use std::alloc::Allocator;
 use winnow::combinator::{preceded, separated_pair, terminated};
 use winnow::error::{ParseFault, ParserError};
-use winnow::exact::{Exact, Rule};
+use winnow::exact::Rule;
 use winnow::stream::{Stream, StreamIsPartial};
 
 /// Reads members between marks, each a name, a mark and a value, with white space behind each of
@@ -41,25 +42,25 @@ where
     H: FnMut(&mut I) -> Result<K, E> + Drop,
     R: Rule<I, O> + Drop,
     F: FnMut(&mut I) -> Result<O, E> + Drop,
-    B: Exact<I, M, E> + Copy + Drop,
-    G: Exact<I, W, E> + Copy + Drop,
+    B: Parser<I, M, E> + Copy + Drop,
+    G: Parser<I, W, E> + Copy + Drop,
     requires name_callable { H.IsAlwaysCallable name }
     requires name_reads { CallsRead I.reading I.view E.kind (CalledAtMut H.FnMut)
         (S.grammar names) name }
     requires callable { F.IsAlwaysCallable value }
     requires reads { CallsRead I.reading I.view E.kind (CalledAtMut F.FnMut) (R.grammar rule)
         value }
-    requires colon { B.can_parse colon × B.premise colon × B.backtracks colon }
-    requires opening { B.can_parse marks.opening × B.premise marks.opening
-        × B.backtracks marks.opening }
-    requires comma { B.can_parse marks.comma × B.premise marks.comma × B.backtracks marks.comma
-        × B.consumes marks.comma }
-    requires closing { B.can_parse marks.closing × B.premise marks.closing
-        × B.backtracks marks.closing }
-    requires gap { G.can_parse marks.gap × G.premise marks.gap × G.backtracks marks.gap }
-    ensures { Reads I.reading E.kind (Items (Pair (S.grammar names) (B.grammar colon)
-        (R.grammar rule) (G.grammar marks.gap)) (B.grammar marks.opening) (B.grammar marks.comma)
-        (B.grammar marks.closing) (G.grammar marks.gap)) (I.view input.old) result
+    requires colon { B.can_parse colon × (B.claim (B.state colon)).premise × (B.claim (B.state colon)).backtracks }
+    requires opening { B.can_parse marks.opening × (B.claim (B.state marks.opening)).premise
+        × (B.claim (B.state marks.opening)).backtracks }
+    requires comma { B.can_parse marks.comma × (B.claim (B.state marks.comma)).premise × (B.claim (B.state marks.comma)).backtracks
+        × (B.claim (B.state marks.comma)).consumes }
+    requires closing { B.can_parse marks.closing × (B.claim (B.state marks.closing)).premise
+        × (B.claim (B.state marks.closing)).backtracks }
+    requires gap { G.can_parse marks.gap × (G.claim (G.state marks.gap)).premise × (G.claim (G.state marks.gap)).backtracks }
+    ensures { Reads I.reading E.kind (Items (Pair (S.grammar names) (B.claim (B.state colon)).grammar
+        (R.grammar rule) (G.claim (G.state marks.gap)).grammar) (B.claim (B.state marks.opening)).grammar (B.claim (B.state marks.comma)).grammar
+        (B.claim (B.state marks.closing)).grammar (G.claim (G.state marks.gap)).grammar) (I.view input.old) result
         (I.view input.new) }
 {
     let name = terminated(names.by(name), marks.gap);
@@ -86,14 +87,14 @@ where
     W: Drop,
     R: Rule<I, O> + Drop,
     F: FnMut(&mut I) -> Result<O, E> + Drop,
-    G: Exact<I, W, E> + Copy + Drop,
+    G: Parser<I, W, E> + Copy + Drop,
     requires callable { F.IsAlwaysCallable value }
     requires reads { CallsRead I.reading I.view E.kind (CalledAtMut F.FnMut) (R.grammar rule)
         value }
-    requires gap { G.can_parse gap × G.premise gap }
+    requires gap { G.can_parse gap × (G.claim (G.state gap)).premise }
     requires whole { I.supports_partial ≡ false }
-    ensures { ReadsAll E.inner_kind (Both latter (G.grammar gap)
-        (Both former (R.grammar rule) (G.grammar gap))) (I.view input).left.tokens result }
+    ensures { ReadsAll E.inner_kind (Both latter (G.claim (G.state gap)).grammar
+        (Both former (R.grammar rule) (G.claim (G.state gap)).grammar)) (I.view input).left.tokens result }
 {
     preceded(gap, terminated(rule.by(value), gap)).read_all(input)
 }

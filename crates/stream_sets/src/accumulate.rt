@@ -1,8 +1,12 @@
 //! What repetition puts its outputs into.
 ghost use Rattle.std.specs.BTreeMap.{IsEmpty};
-ghost use Rattle.std.specs.Prelude.{◌≡◌, [], MatchResult, string_bytes, ⊤};
+ghost use Rattle.std.specs.Prelude.{List, ◌≡◌, [], MatchResult, string_bytes, ⊤};
 ghost use Rattle.stream_sets.specs.Accumulator.{Accumulator, characters_kept, entries_kept};
 ghost use Rattle.stream_sets.specs.Accumulator.{list_kept, nothing_kept, number_kept, texts_kept};
+ghost use Rattle.stream_sets.specs.Accumulator.Holds.{Holds, HasCharacters, HasEntries, HasNumber};
+ghost use Rattle.stream_sets.specs.Accumulator.Holds.{HasTexts, characters_hold, entries_hold};
+ghost use Rattle.stream_sets.specs.Accumulator.Holds.{list_holds, nothing_holds, number_holds};
+ghost use Rattle.stream_sets.specs.Accumulator.Holds.{texts_hold};
 
 use std::alloc::{AllocError, Allocator};
 use std::collections::BTreeMap;
@@ -20,6 +24,9 @@ pub trait Accumulate<O, A>: Drop {
     // The empty ones, how one takes an output, and when a request for memory may be refused.
     ghost accumulator: { Accumulator Self O };
 
+    // The outputs that it took since it was empty.
+    ghost holds: { Self → List O → Type 0 };
+
     /// An empty one, for `capacity` outputs if that is known. It fails only where a request for
     /// memory was refused.
     fn initial(alloc: A, capacity: Option<usize>) -> Result<Self, AllocError>
@@ -32,11 +39,18 @@ pub trait Accumulate<O, A>: Drop {
     fn accumulate(&mut self, output: O) -> Result<(), AllocError>
         ensures { MatchResult result (λ _. accumulator.takes self.old output self.new)
             (λ _. accumulator.grows self.old output) };
+
+    // It took these.
+    ghost gathers: { Holds accumulator holds };
 }
 
 /// Nothing is kept, and no memory is taken.
 impl<O: Drop, A: Drop> Accumulate<O, A> for () {
     ghost accumulator = { nothing_kept };
+
+    ghost holds = { λ _ _. ⊤ };
+
+    ghost gathers = { nothing_holds };
 
     #[inline(always)]
     fn initial(_alloc: A, _capacity: Option<usize>) -> Result<(), AllocError>
@@ -54,6 +68,10 @@ impl<O: Drop, A: Drop> Accumulate<O, A> for () {
 /// A list to whose end the outputs are put. An empty one takes no memory.
 impl<O: Drop, A: Allocator> Accumulate<O, A> for Vec<O, A> {
     ghost accumulator = { list_kept };
+
+    ghost holds = { λ list os. list.items ≡ os };
+
+    ghost gathers = { list_holds };
 
     #[inline(always)]
     fn initial(alloc: A, _capacity: Option<usize>) -> Result<Vec<O, A>, AllocError>
@@ -78,6 +96,10 @@ impl<O: Drop, A: Allocator> Accumulate<O, A> for Vec<O, A> {
 /// ```
 impl<O: Drop, A: Drop> Accumulate<O, A> for usize {
     ghost accumulator = { number_kept };
+
+    ghost holds = { HasNumber };
+
+    ghost gathers = { number_holds };
 
     #[inline(always)]
     fn initial(_alloc: A, _capacity: Option<usize>) -> Result<usize, AllocError>
@@ -104,6 +126,10 @@ impl<O: Drop, A: Drop> Accumulate<O, A> for usize {
 impl<A: Allocator> Accumulate<char, A> for String<A> {
     ghost accumulator = { characters_kept };
 
+    ghost holds = { HasCharacters };
+
+    ghost gathers = { characters_hold };
+
     #[inline(always)]
     fn initial(alloc: A, _capacity: Option<usize>) -> Result<String<A>, AllocError>
         ensures { MatchResult result (λ text. string_bytes text ≡ []) (λ _. ⊥) }
@@ -127,6 +153,10 @@ impl<A: Allocator> Accumulate<char, A> for String<A> {
 /// ```
 impl<'i, A: Allocator> Accumulate<&'i str, A> for String<A> {
     ghost accumulator = { texts_kept };
+
+    ghost holds = { HasTexts };
+
+    ghost gathers = { texts_hold };
 
     #[inline(always)]
     fn initial(alloc: A, _capacity: Option<usize>) -> Result<String<A>, AllocError>
@@ -153,6 +183,10 @@ impl<'i, A: Allocator> Accumulate<&'i str, A> for String<A> {
 /// ```
 impl<K: Ord + Drop, V: Drop, A: Allocator + Clone> Accumulate<(K, V), A> for BTreeMap<K, V, A> {
     ghost accumulator = { entries_kept K.cmp };
+
+    ghost holds = { HasEntries K.cmp };
+
+    ghost gathers = { entries_hold K.total };
 
     #[inline(always)]
     fn initial(alloc: A, _capacity: Option<usize>) -> Result<BTreeMap<K, V, A>, AllocError>

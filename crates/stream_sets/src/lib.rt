@@ -6,8 +6,6 @@ pub mod accumulate;
 pub mod as_bstr;
 pub mod as_char;
 pub mod classes;
-pub mod decides;
-pub mod gathers;
 pub mod numbers;
 pub mod parse_slice;
 pub mod range;

@@ -51,6 +51,8 @@ fn is_shown(c: char) -> bool
 impl ContainsToken<char> for Characters {
     ghost tells = { λ s c b. IsTrue b ↔ IsOf s c };
 
+    ghost once = { λ s is. holds_once (IsOf s) };
+
     fn contains_token(&self, token: char) -> bool {
         match *self {
             Characters::Bare => is_bare(token),
@@ -59,8 +61,4 @@ impl ContainsToken<char> for Characters {
             Characters::Basic => is_shown(token) && token != '"' && token != '\\',
         }
     }
-}
-
-impl Decides<char> for Characters {
-    ghost once = { λ s is. holds_once (IsOf s) };
 }

@@ -10,7 +10,7 @@ use crate::characters::Characters;
 use winnow::Parser;
 use winnow::combinator::{alt, preceded};
 use winnow::error::{EmptyError, ErrMode, HasKind};
-use winnow::exact::{Exact, Rule};
+use winnow::exact::Rule;
 use winnow::token::impls::Any;
 use winnow::token::one_of;
 

@@ -8,6 +8,7 @@ ghost use Rattle.toml_reader.specs.Toml.{AnyValue, Line, Mark, Newline, Separato
 ghost use Rattle.winnow.specs.Grammar.{NoneStands};
 ghost use Rattle.winnow.specs.Texts.{NotFirst};
 
+use winnow::Parser;
 use crate::characters::Characters;
 use crate::lines::{AnyLine, read_line, read_value};
 use crate::scalars::begins_with;
@@ -17,7 +18,7 @@ use std::fmt::{Display, Formatter};
 use winnow::ascii::impls::Space0;
 use winnow::combinator::{alt, preceded};
 use winnow::error::{EmptyError, ErrMode, ParserError};
-use winnow::exact::{Exact, Rule};
+use winnow::exact::Rule;
 use winnow::stream::Range;
 use winnow::token::take_while;
 
@@ -75,12 +76,12 @@ pub struct Lack<'i> {
 
 /// What a parser leaves of a text, where it reads; nothing where it does not. An error says that a
 /// request for memory was refused.
-fn past<'i, O: Drop, P: Exact<&'i str, O, ErrMode<EmptyError>> + Drop>(
+fn past<'i, O: Drop, P: Parser<&'i str, O, ErrMode<EmptyError>> + Drop>(
     parser: P,
     text: &'i str,
 ) -> Result<Option<&'i str>, ErrMode<EmptyError>>
-    requires { P.can_parse parser × P.premise parser × P.backtracks parser }
-    ensures { IfOk result (λ o. IsPast (P.grammar parser) (chars text.now) o) }
+    requires { P.can_parse parser × (P.claim (P.state parser)).premise × (P.claim (P.state parser)).backtracks }
+    ensures { IfOk result (λ o. IsPast (P.claim (P.state parser)).grammar (chars text.now) o) }
 {
     let mut parser = parser;
     let mut rest = text;
@@ -98,12 +99,12 @@ fn past<'i, O: Drop, P: Exact<&'i str, O, ErrMode<EmptyError>> + Drop>(
 
 /// What a parser leaves of a text. An error says that it does not read, or that a request for
 /// memory was refused.
-fn behind<'i, O: Drop, P: Exact<&'i str, O, ErrMode<EmptyError>> + Drop>(
+fn behind<'i, O: Drop, P: Parser<&'i str, O, ErrMode<EmptyError>> + Drop>(
     parser: P,
     text: &'i str,
 ) -> Result<&'i str, ErrMode<EmptyError>>
-    requires { P.can_parse parser × P.premise parser × P.backtracks parser }
-    ensures { IfOk result (λ rest. Stands (P.grammar parser) (chars text.now)
+    requires { P.can_parse parser × (P.claim (P.state parser)).premise × (P.claim (P.state parser)).backtracks }
+    ensures { IfOk result (λ rest. Stands (P.claim (P.state parser)).grammar (chars text.now)
         (chars rest.now)) }
 {
     let mut parser = parser;

@@ -21,7 +21,7 @@ use std::alloc::Allocator;
 use winnow::ascii::impls::Space0;
 use winnow::combinator::{alt, preceded, repeat, terminated};
 use winnow::error::{EmptyError, ErrMode, HasKind, ParseFault, ParserError};
-use winnow::exact::{Exact, Rule};
+use winnow::exact::Rule;
 use winnow::stream::Range;
 use winnow::token::{one_of, take_while};
 

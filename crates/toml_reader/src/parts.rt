@@ -7,10 +7,10 @@ ghost use Rattle.winnow.specs.Exact.{Reads};
 ghost use Rattle.winnow.specs.Exact.Whole.{ReadsAll};
 ghost use Rattle.winnow.specs.Grammar.{Both, Gathered, Maybe, Parted, Three};
 
+use winnow::Parser;
 use std::alloc::Allocator;
 use winnow::combinator::{delimited, opt, separated, separated_pair, terminated};
 use winnow::error::{ParseFault, ParserError};
-use winnow::exact::Exact;
 use winnow::stream::{Range, Stream, StreamIsPartial};
 
 /// Reads two with a third between them.
@@ -26,14 +26,14 @@ where
     O2: Drop,
     O3: Drop,
     E: ParserError<I>,
-    P: Exact<I, O1, E> + Drop,
-    Q: Exact<I, O2, E> + Drop,
-    R: Exact<I, O3, E> + Drop,
-    requires first { P.can_parse first × P.premise first × P.backtracks first }
-    requires second { Q.can_parse second × Q.premise second × Q.backtracks second }
-    requires third { R.can_parse third × R.premise third × R.backtracks third }
+    P: Parser<I, O1, E> + Drop,
+    Q: Parser<I, O2, E> + Drop,
+    R: Parser<I, O3, E> + Drop,
+    requires first { P.can_parse first × (P.claim (P.state first)).premise × (P.claim (P.state first)).backtracks }
+    requires second { Q.can_parse second × (Q.claim (Q.state second)).premise × (Q.claim (Q.state second)).backtracks }
+    requires third { R.can_parse third × (R.claim (R.state third)).premise × (R.claim (R.state third)).backtracks }
     ensures { Reads I.reading E.kind
-        (Three (λ k s v. (k, v)) (P.grammar first) (Q.grammar second) (R.grammar third))
+        (Three (λ k s v. (k, v)) (P.claim (P.state first)).grammar (Q.claim (Q.state second)).grammar (R.claim (R.state third)).grammar)
         (I.view input.old) result (I.view input.new) }
 {
     separated_pair(first, second, third).read(input)
@@ -52,14 +52,14 @@ where
     O: Drop,
     C: Drop,
     W: Drop,
-    P: Exact<I, O, E> + Drop,
-    Q: Exact<I, C, E> + Drop,
-    G: Exact<I, W, E> + Copy + Drop,
-    requires item { P.can_parse item × P.premise item × P.backtracks item }
-    requires comment { Q.can_parse comment × Q.premise comment × Q.backtracks comment }
-    requires gap { G.can_parse gap × G.premise gap × G.backtracks gap }
-    ensures { Reads I.reading E.kind (Three (λ o1 o2 o3. o2) (G.grammar gap)
-        (Maybe (Both former (P.grammar item) (G.grammar gap))) (Maybe (Q.grammar comment)))
+    P: Parser<I, O, E> + Drop,
+    Q: Parser<I, C, E> + Drop,
+    G: Parser<I, W, E> + Copy + Drop,
+    requires item { P.can_parse item × (P.claim (P.state item)).premise × (P.claim (P.state item)).backtracks }
+    requires comment { Q.can_parse comment × (Q.claim (Q.state comment)).premise × (Q.claim (Q.state comment)).backtracks }
+    requires gap { G.can_parse gap × (G.claim (G.state gap)).premise × (G.claim (G.state gap)).backtracks }
+    ensures { Reads I.reading E.kind (Three (λ o1 o2 o3. o2) (G.claim (G.state gap)).grammar
+        (Maybe (Both former (P.claim (P.state item)).grammar (G.claim (G.state gap)).grammar)) (Maybe (Q.claim (Q.state comment)).grammar))
         (I.view input.old) result (I.view input.new) }
 {
     delimited(gap, opt(terminated(item, gap)), opt(comment)).read(input)
@@ -78,14 +78,14 @@ where
     O: Drop,
     N: Drop,
     A: Allocator + Copy,
-    P: Exact<I, O, E> + Drop,
-    R: Exact<I, N, E> + Drop,
-    requires line { P.can_parse line × P.premise line × P.backtracks line }
-    requires newline { R.can_parse newline × R.premise newline × R.backtracks newline
-        × R.consumes newline }
+    P: Parser<I, O, E> + Drop,
+    R: Parser<I, N, E> + Drop,
+    requires line { P.can_parse line × (P.claim (P.state line)).premise × (P.claim (P.state line)).backtracks }
+    requires newline { R.can_parse newline × (R.claim (R.state newline)).premise × (R.claim (R.state newline)).backtracks
+        × (R.claim (R.state newline)).consumes }
     requires whole { I.supports_partial ≡ false }
     ensures { ReadsAll E.inner_kind (Gathered (λ list os. list.items ≡ os)
-        (Parted (P.grammar line) (R.grammar newline) (from_to 1 None)))
+        (Parted (P.claim (P.state line)).grammar (R.claim (R.state newline)).grammar (from_to 1 None)))
         (I.view input).left.tokens result }
 {
     separated(alloc, Range::from(1..), line, newline).read_all(input)

@@ -8,6 +8,7 @@ ghost use Rattle.winnow.specs.Exact.{Reads};
 ghost use Rattle.winnow.specs.Grammar.Meaning.{Meaning};
 ghost use Rattle.winnow.specs.Texts.{Begins, NotFirst};
 
+use winnow::Parser;
 use crate::characters::Characters;
 use crate::escapes::{AnyCharacter, read_character};
 use crate::value::Value;
@@ -16,7 +17,7 @@ use std::alloc::Allocator;
 use winnow::ascii::impls::DecInt;
 use winnow::combinator::repeat;
 use winnow::error::{EmptyError, ErrMode, HasKind};
-use winnow::exact::{Exact, Rule};
+use winnow::exact::Rule;
 use winnow::stream::Range;
 use winnow::token::{literal, one_of};
 

@@ -13,7 +13,6 @@ ghost use Rattle.winnow.specs.Grammar.FirstOf.{FirstOf};
 use winnow::Parser;
 use winnow::combinator::alt;
 use winnow::error::{EmptyError, HasKind, ParserError};
-use winnow::exact::Exact;
 use winnow::stream::Stream;
 
 /// Chooses among branches that stay with their owner, who learns the new state of each.
@@ -31,14 +30,14 @@ pub fn choose_among<P: Parser<I, O, E>, I: Stream, O, E: ParserError<I>>(
 
 /// What the first of some branches reads by which something stands first. It fails where nothing
 /// does by any, by a backtrack, or for want of memory.
-pub fn read_among<P: Exact<I, O, E>, I: Stream, O, E: ParserError<I>>(
+pub fn read_among<P: Parser<I, O, E>, I: Stream, O, E: ParserError<I>>(
     branches: &mut [P],
     input: &mut I,
 ) -> Result<O, E>
     requires callable { All P.can_parse branches.old }
-    requires known { All (λ p. P.premise p × P.backtracks p) branches.old }
+    requires known { All (λ p. (P.claim (P.state p)).premise × (P.claim (P.state p)).backtracks) branches.old }
     requires some { branches.old ≡ [] → ⊥ }
-    ensures { Reads I.reading E.kind (FirstOf P.grammar branches.old) (I.view input.old) result
+    ensures { Reads I.reading E.kind (FirstOf (P.claim (P.state branches.old)).grammar) (I.view input.old) result
         (I.view input.new) }
 {
     alt(&mut *branches).read(input)

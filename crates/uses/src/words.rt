@@ -5,10 +5,10 @@ ghost use Rattle.uses.specs.Words.{Assignment, Mark, MarkedWord, Word};
 ghost use Rattle.winnow.specs.Bytes.{bytes_input, bytes_reading};
 ghost use Rattle.winnow.specs.Exact.{Reads};
 
+use winnow::Parser;
 use winnow::ascii::impls::Alpha1;
 use winnow::combinator::preceded;
 use winnow::error::{EmptyError, HasKind};
-use winnow::exact::Exact;
 
 /// A word at the front of bytes: as many letters as stand first, at least one. It fails, by a
 /// backtrack, where no letter stands first.

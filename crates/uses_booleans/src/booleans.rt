@@ -2,6 +2,7 @@
 //! contract.
 #![tactic(auto, using(streams::specs::Ends::ends_follow))]
 
+ghost use Rattle.winnow_core.specs.Claim.{no_claim, nothing_claimed};
 ghost use Rattle.std.specs.Prelude.{⊤, ◌≡◌, ◌⊎◌, IfErr, pos};
 ghost use Rattle.streams.specs.Bytes.{bytes_input, bytes_reading};
 ghost use Rattle.streams.specs.Input.{IsEndOf};
@@ -126,7 +127,11 @@ impl<'i> Parser<&'i [u8], bool, EmptyError> for Part {
 
     ghost meaning = { λ _. Keeps (λ _. ItemRuns (ByteItem operand_at)) };
 
+    ghost claim = { λ _. no_claim };
+
     ghost leaves_ends = { λ form s i a t j r. byte_ends operand_at i j a r.0 };
+
+    ghost claimed = { λ _. nothing_claimed };
 
     fn parse_next(&mut self, input: &mut &'i [u8]) -> Result<bool, EmptyError> {
         let start = *input;
@@ -150,7 +155,11 @@ impl<'i> Parser<&'i [u8], Prefix<Not>, EmptyError> for Part {
 
     ghost meaning = { λ _. Keeps (λ _. ItemRuns (ByteItem prefix_at)) };
 
+    ghost claim = { λ _. no_claim };
+
     ghost leaves_ends = { λ form s i a t j r. byte_ends prefix_at i j a r.0 };
+
+    ghost claimed = { λ _. nothing_claimed };
 
     fn parse_next(&mut self, input: &mut &'i [u8]) -> Result<Prefix<Not>, EmptyError> {
         let start = *input;
@@ -174,7 +183,11 @@ impl<'i> Parser<&'i [u8], Postfix<Not>, EmptyError> for Part {
 
     ghost meaning = { λ _. Keeps (λ _. ItemRuns (ByteItem postfix_at)) };
 
+    ghost claim = { λ _. no_claim };
+
     ghost leaves_ends = { λ form s i a t j r. byte_ends postfix_at i j a r.0 };
+
+    ghost claimed = { λ _. nothing_claimed };
 
     fn parse_next(&mut self, input: &mut &'i [u8]) -> Result<Postfix<Not>, EmptyError> {
         let start = *input;
@@ -198,7 +211,11 @@ impl<'i> Parser<&'i [u8], Infix<Logic>, EmptyError> for Part {
 
     ghost meaning = { λ _. Keeps (λ _. ItemRuns (ByteItem infix_at)) };
 
+    ghost claim = { λ _. no_claim };
+
     ghost leaves_ends = { λ form s i a t j r. byte_ends infix_at i j a r.0 };
+
+    ghost claimed = { λ _. nothing_claimed };
 
     fn parse_next(&mut self, input: &mut &'i [u8]) -> Result<Infix<Logic>, EmptyError> {
         let start = *input;

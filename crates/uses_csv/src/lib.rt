@@ -27,7 +27,7 @@ use winnow::Parser;
 use winnow::combinator::impls::Eof;
 use winnow::combinator::{alt, delimited, peek, preceded, repeat, separated, terminated};
 use winnow::error::{EmptyError, ErrMode, HasKind, OrNoMemory, ParseFault, ParserError};
-use winnow::exact::{Exact, Rule};
+use winnow::exact::Rule;
 use winnow::stream::Range;
 use winnow::token::impls::Any;
 use winnow::token::{literal, take_till};

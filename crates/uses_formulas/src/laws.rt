@@ -6,7 +6,6 @@ ghost use Rattle.winnow.specs.Premises.{IsStateless};
 
 use winnow::Parser;
 use winnow::combinator::impls::{AltParser, Value};
-use winnow::decided::Decided;
 use winnow::error::ParserError;
 use winnow::stream::Stream;
 

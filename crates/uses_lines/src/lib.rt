@@ -16,10 +16,11 @@ ghost use Rattle.winnow.specs.Texts.{NotFirst};
 ghost use Rattle.winnow.specs.Back.{ReadsBack};
 ghost use Rattle.winnow.specs.Told.{IsTextOf, ReadsText};
 
+use winnow::Parser;
 use std::alloc::Allocator;
 use winnow::combinator::{alt, repeat, terminated};
 use winnow::error::{EmptyError, ErrMode, HasKind, ParseFault, ParserError};
-use winnow::exact::{Exact, Rule};
+use winnow::exact::Rule;
 use winnow::stream::Range;
 
 /// A line: a `y` or an `n`, and a line feed. It answers the letter.

@@ -13,12 +13,13 @@ ghost use Rattle.winnow.specs.Rule.{CallsRead};
 ghost use Rattle.winnow.specs.Texts.{NotFirst};
 ghost use Rattle.std.specs.Fn.{CalledAtMut};
 
+use winnow::Parser;
 use std::alloc::Allocator;
 use winnow::ascii::impls::DecUint;
 use winnow::combinator::impls::Separated;
 use winnow::combinator::{delimited, separated};
 use winnow::error::{EmptyError, ErrMode, HasKind, ParserError};
-use winnow::exact::{By, Exact, Rule};
+use winnow::exact::{By, Rule};
 use winnow::stream::{Range, Stream};
 
 /// A number, or trees in brackets.
@@ -59,15 +60,15 @@ where
     A: Allocator + Copy,
     R: Rule<I, O> + Drop,
     F: FnMut(&mut I) -> Result<O, E> + Drop,
-    B: Exact<I, u8, E> + Drop,
+    B: Parser<I, u8, E> + Drop,
     requires callable { F.IsAlwaysCallable element }
     requires reads { CallsRead I.reading I.view E.kind (CalledAtMut F.FnMut) (R.grammar rule)
         element }
-    requires opening { B.can_parse opening × B.premise opening × B.backtracks opening }
-    requires comma { B.can_parse comma × B.premise comma × B.backtracks comma × B.consumes comma }
-    requires closing { B.can_parse closing × B.premise closing × B.backtracks closing }
-    ensures { Reads I.reading E.kind (AreElements (R.grammar rule) (B.grammar opening)
-        (B.grammar comma) (B.grammar closing)) (I.view input.old) result (I.view input.new) }
+    requires opening { B.can_parse opening × (B.claim (B.state opening)).premise × (B.claim (B.state opening)).backtracks }
+    requires comma { B.can_parse comma × (B.claim (B.state comma)).premise × (B.claim (B.state comma)).backtracks × (B.claim (B.state comma)).consumes }
+    requires closing { B.can_parse closing × (B.claim (B.state closing)).premise × (B.claim (B.state closing)).backtracks }
+    ensures { Reads I.reading E.kind (AreElements (R.grammar rule) (B.claim (B.state opening)).grammar
+        (B.claim (B.state comma)).grammar (B.claim (B.state closing)).grammar) (I.view input.old) result (I.view input.new) }
 {
     let elements: Separated<By<R, F>, B, I, O, u8, Vec<O, A>, E, A> = separated(
         alloc,

@@ -11,6 +11,7 @@ ghost use Rattle.winnow.specs.Cut.{ReadsOrAsks};
 ghost use Rattle.winnow.specs.Once.{SeesApart};
 ghost use Rattle.winnow.specs.Grammar.{Literally};
 
+use winnow::Parser;
 use std::alloc::Allocator;
 use winnow::ascii::impls::{Alpha1, Alphanumeric1};
 use winnow::combinator::{delimited, opt, preceded, separated};

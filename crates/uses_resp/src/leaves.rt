@@ -9,10 +9,10 @@ ghost use Rattle.winnow.specs.InTurn.{First};
 ghost use Rattle.uses_resp.specs.Leaves.{SignedRead};
 ghost use Rattle.uses_resp.specs.Resp.{DataText, IntegerText, LineText, MarkText, SizeText};
 
+use winnow::Parser;
 use crate::pieces::{line, token, tokens};
 use winnow::ascii::impls::DecInt;
 use winnow::error::{EmptyError, ErrMode, HasKind, ParserError};
-use winnow::exact::Exact;
 use winnow::stream::{Partial, Stream};
 
 type Bytes = Partial<&'static [u8]>;

@@ -1,5 +1,2 @@
-//! Parsers that one state and one input decide, and what is answered for good. winnow has no such
-//! trait.
+//! What parsers that one state and one input decide answer for good. winnow has no such function.
 pub use winnow_exact::for_good::parse_for_good;
-// What stands below is written by scripts/registries.py: do not edit.
-pub use winnow_core::decided::Decided;

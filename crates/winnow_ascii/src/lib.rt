@@ -5,5 +5,6 @@
 //! the definition of its name in `specs/`.
 #![tactic(auto)]
 
+
 pub mod ascii;
 pub mod stable;

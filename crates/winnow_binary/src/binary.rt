@@ -2,6 +2,7 @@
 //! chosen, and data behind its length.
 #![tactic(auto, using(streams::specs::Ends::ends_follow))]
 
+
 mod chosen;
 pub mod impls;
 mod lengths;

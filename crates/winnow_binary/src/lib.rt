@@ -3,4 +3,5 @@
 //! Each is the definition of its name in `specs/`.
 #![tactic(auto)]
 
+
 pub mod binary;

@@ -20,7 +20,6 @@ use crate::bits::impls::{BitsParser, Bytes, Pattern, Take};
 pub use crate::bits::output::BitOutput;
 use std::marker::PhantomData;
 use stream_bits::bits::Bits;
-use stream_errors::convert::ErrorConvert;
 use stream_errors::parser_error::ParserError;
 use stream_sets::numbers::ToUsize;
 use streams::byte_stream::ByteStream;
@@ -147,11 +146,6 @@ pub fn bool<Input: ByteStream + StreamIsPartial, Error: ParserError<Bits<Input>>
 pub fn bits<Input, Output, BitError, ByteError, ParseNext>(
     parser: ParseNext,
 ) -> BitsParser<ParseNext, Input, Output, BitError, ByteError>
-where
-    Input: ByteStream + Copy,
-    ParseNext: Parser<Bits<Input>, Output, BitError>,
-    BitError: ParserError<Bits<Input>> + ErrorConvert<ByteError>,
-    ByteError: ParserError<Input>,
     ensures { bits_parser result ≡ parser }
 {
     BitsParser {
@@ -179,11 +173,6 @@ where
 pub fn bytes<Input, Output, ByteError, BitError, ParseNext>(
     parser: ParseNext,
 ) -> Bytes<ParseNext, Input, Output, ByteError, BitError>
-where
-    Input: ByteStream + Copy,
-    ParseNext: Parser<Input, Output, ByteError>,
-    ByteError: ParserError<Input> + ErrorConvert<BitError>,
-    BitError: ParserError<Bits<Input>>,
     ensures { bytes_parser result ≡ parser }
 {
     Bytes {

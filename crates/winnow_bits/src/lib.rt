@@ -3,5 +3,6 @@
 //! Each is proved to be its definition, a file of `specs/`.
 #![tactic(auto)]
 
+
 pub mod bits;
 pub mod laws;

@@ -4,5 +4,7 @@
 //! combinator, over the runs of its children.
 #![tactic(auto)]
 
+
+
 pub mod combinator;
 pub mod laws;

@@ -3,6 +3,7 @@ pub mod Agrees
 pub mod AndThen
 pub mod ByRef
 pub mod Chain
+pub mod Claim
 pub mod Closures
 pub mod CompleteErr
 pub mod Context

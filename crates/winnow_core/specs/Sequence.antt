@@ -6,6 +6,7 @@ use Rattle.streams.specs.Input.{Input}
 use Rattle.streams.specs.Kind.{Kind}
 use Rattle.winnow_core.specs.Runs.{Runs}
 pub mod Cases
+pub mod Claim
 pub mod Decided
 pub mod Exact
 pub mod Grows

@@ -5,10 +5,11 @@
 //! definition of `specs/` with the parser's name, over the meanings of its children.
 #![tactic(auto)]
 
+
+
+
 pub mod agrees_with;
 pub mod combinator;
-pub mod decided;
-pub mod exact;
 pub mod laws;
 pub mod literal;
 pub mod parser;

@@ -6,11 +6,14 @@ ghost use Rattle.stream_errors.specs.Form.{ErrorForm, answer_by};
 ghost use Rattle.streams.specs.Input.{IsEndOf};
 ghost use Rattle.winnow_core.specs.AndThen.{and_then_inner, and_then_outer};
 ghost use Rattle.winnow_core.specs.ByRef.{by_ref_name, by_ref_parser};
+ghost use Rattle.winnow_core.specs.Claim.{Claim, Claimed};
 ghost use Rattle.winnow_core.specs.CompleteErr.{complete_err_parser};
 ghost use Rattle.winnow_core.specs.Context.{context_parser, context_told};
 ghost use Rattle.winnow_core.specs.ContextWith.{context_with_closure, context_with_parser};
 ghost use Rattle.winnow_core.specs.DefaultValue.{default_value_parser};
 ghost use Rattle.winnow_core.specs.ErrInto.{err_into_parser};
+ghost use Rattle.winnow_core.specs.Exact.{Reads};
+ghost use Rattle.winnow_core.specs.Exact.Whole.{ReadsAll};
 ghost use Rattle.winnow_core.specs.FlatMap.{flat_map_closure, flat_map_parser};
 ghost use Rattle.winnow_core.specs.Map.{map_closure, map_parser};
 ghost use Rattle.winnow_core.specs.MapErr.{map_err_closure, map_err_parser};
@@ -77,6 +80,10 @@ pub trait Parser<I: Stream, O, E: ParserError<I>>: Sized {
     // answer, a new state and a new input.
     ghost meaning: { Meaning State I.Seen O };
 
+    // What it claims of its runs from a state: what they read by a grammar, and what one input
+    // decides of them. A parser that claims nothing says `no_claim`.
+    ghost claim: { State → Claim I.Seen O };
+
     /// Takes tokens from the beginning of `input`. Whatever it answers, the input is left at an
     /// end of what it was, and where it stands after an error is said by each parser.
     fn parse_next(&mut self, input: &mut I) -> Result<O, E>
@@ -119,6 +126,46 @@ pub trait Parser<I: Stream, O, E: ParserError<I>>: Sized {
             }
             Err(error) => Err(fault_at(input, start, error)),
         }
+    }
+
+    /// As [`parse_next`](Parser::parse_next), and the parser's grammar says what it answers: on a
+    /// whole input an output stands first, and an error backtracks and says that none does, or
+    /// wants memory. The caller owes what the parser asks for (`premise`), and that its failures
+    /// let others be tried (`backtracks`).
+    #[inline(always)]
+    final fn read(&mut self, input: &mut I) -> Result<O, E>
+        requires callable { can_parse self.old }
+        requires premise { (claim (state self.old)).premise }
+        requires backtracks { (claim (state self.old)).backtracks }
+        ensures again { can_parse self.new }
+        ensures ran { meaning E.form (state self.old) (I.view input.old)
+            (answer_by E.kind result) (state self.new) (I.view input.new) }
+        ensures kept { (I.view input.old).status.cut ≡ false → state self.new ≡ state self.old }
+        ensures reads { Reads I.reading E.kind (claim (state self.old)).grammar
+            (I.view input.old) result (I.view input.new) }
+    {
+        self.parse_next(input)
+    }
+
+    /// As [`parse`](Parser::parse), and the parser's grammar says what it answers: an output stands
+    /// first in the tokens and leaves nothing, and a fault says that none does, or wants memory.
+    /// The caller owes what the parser asks for (`premise`), and a stream type that is not partial.
+    #[inline(always)]
+    final fn read_all(&mut self, input: I) -> Result<O, ParseFault<I, E::Inner>>
+    where
+        I: StreamIsPartial,
+        O: Drop,
+        requires callable { can_parse self.old }
+        requires premise { (claim (state self.old)).premise }
+        requires whole { I.supports_partial ≡ false }
+        ensures again { can_parse self.new }
+        ensures ran { ParsesWhole I.view I.reading.units E.inner_kind (I.view input).left
+            (λ answer j. meaning E.form (state self.old) (I.view input) answer
+            (state self.new) j) result }
+        ensures reads { ReadsAll E.inner_kind (claim (state self.old)).grammar
+            (I.view input).left.tokens result }
+    {
+        self.parse(input)
     }
 
     /// Parses all of `input`, an item a run: an iterator over the outputs.
@@ -396,4 +443,7 @@ pub trait Parser<I: Stream, O, E: ParserError<I>>: Sized {
 
     // Each run leaves an end of its input.
     ghost leaves_ends: { (form : ErrorForm) → LeaveEnds I.reading (meaning form) };
+
+    // Its runs keep what is claimed.
+    ghost claimed: { (s : State) → Claimed (claim s) s meaning };
 }

@@ -6,7 +6,6 @@ ghost use Rattle.winnow_exact.specs.ForGood.{IsForGood};
 use crate::laws::a_decided_answer_stays_on_longer_inputs;
 use stream_errors::parser_error::ParserError;
 use streams::stream::Stream;
-use winnow_core::decided::Decided;
 use winnow_core::parser::Parser;
 use winnow_core::stable::Stable;
 
@@ -14,17 +13,19 @@ use winnow_core::stable::Stable;
 /// it answers: where it asks neither for more nor for memory, each longer input is answered alike,
 /// and leaves the rest with what was added. The caller owes errors with a mode, and a cut input.
 #[inline(always)]
-pub fn parse_for_good<P: Stable<I, O, E> + Decided<I, O, E>, I: Stream, O, E: ParserError<I>>(
+pub fn parse_for_good<P: Stable<I, O, E>, I: Stream, O, E: ParserError<I>>(
     parser: &mut P,
     input: &mut I,
 ) -> Result<O, E>
-    requires callable { P.Parser.can_parse parser.old }
-    requires premise { P.Decided.premise parser.old }
+    requires callable { P.can_parse parser.old }
+    requires premise { (P.claim (P.state parser.old)).decides }
     requires modal { E.form ≡ modal }
     requires is_cut { (I.view input.old).status.cut ≡ true }
-    ensures again { P.Parser.can_parse parser.new }
-    ensures for_good { IsForGood I.following (P.Parser.state parser.old) (P.Parser.meaning E.form)
-        (P.Decided.alike parser.old) (I.view input.old) (answer_by E.kind result)
+    ensures again { P.can_parse parser.new }
+    ensures ran { P.meaning E.form (P.state parser.old) (I.view input.old)
+        (answer_by E.kind result) (P.state parser.new) (I.view input.new) }
+    ensures for_good { IsForGood I.following (P.state parser.old) (P.meaning E.form)
+        (P.claim (P.state parser.old)).alike (I.view input.old) (answer_by E.kind result)
         (I.view input.new) }
 {
     a_decided_answer_stays_on_longer_inputs::<P, I, O, E>();

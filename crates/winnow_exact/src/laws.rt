@@ -5,7 +5,6 @@ ghost use Rattle.winnow_exact.specs.Longer.{NoOtherOnLonger};
 
 use stream_errors::parser_error::ParserError;
 use streams::stream::Stream;
-use winnow_core::decided::Decided;
 use winnow_core::stable::Stable;
 
 /// Where one state and one input decide how a stable parser ends, a longer input gets no other
@@ -13,11 +12,11 @@ use winnow_core::stable::Stable;
 /// kind, the same state, and the rest with what was added. So the answer does not depend on how the
 /// input is cut.
 pub fn a_decided_answer_stays_on_longer_inputs<
-    P: Stable<I, O, E> + Decided<I, O, E>,
+    P: Stable<I, O, E>,
     I: Stream,
     O,
     E: ParserError<I>,
 >()
-    ensures { E.form ≡ modal → (p : P) → P.premise p
-        → NoOtherOnLonger I.following (P.state p) (P.meaning E.form) (P.alike p) }
+    ensures { E.form ≡ modal → (s : P.State) → (P.claim s).decides
+        → NoOtherOnLonger I.following s (P.meaning E.form) (P.claim s).alike }
 {}

@@ -1,11 +1,10 @@
 //! The trait of parsers that read an input in pieces by a grammar.
 ghost use Rattle.std.specs.Prelude.{◌≡◌};
-ghost use Rattle.stream_errors.specs.Form.{modal};
+ghost use Rattle.stream_errors.specs.Form.{answer_by, modal};
 ghost use Rattle.winnow_exact.specs.Cut.{ReadsOrAsks};
 
 use stream_errors::parser_error::ParserError;
 use streams::stream::Stream;
-use winnow_core::exact::Exact;
 use winnow_core::stable::Stable;
 
 /// A parser that reads by a grammar, and is stable: what it answers on a cut input it answers on
@@ -26,23 +25,27 @@ use winnow_core::stable::Stable;
 /// let answer: Result<&[u8], ErrMode<EmptyError>> = Alpha1.read_cut(&mut more);
 /// assert_eq!(rt; answer, Ok(b"ab".as_slice()));
 /// ```
-pub trait ReadsPieces<I: Stream, O, E: ParserError<I>>: Exact<I, O, E> + Stable<I, O, E> {
-    /// As [`read`](winnow_core::exact::Exact::read), and its grammar says what it answers on a cut
+pub trait ReadsPieces<I: Stream, O, E: ParserError<I>>: Stable<I, O, E> {
+    /// As [`read`](winnow_core::parser::Parser::read), and its grammar says what it answers on a cut
     /// input too: whatever follows until the input is complete, an output stands first in all of
     /// it, with what is left and what followed; an error that backtracks says that none does. Else
     /// it asks for more, or wants memory. The caller owes errors with a mode.
     #[inline(always)]
     final fn read_cut(&mut self, input: &mut I) -> Result<O, E>
         requires callable { Self.can_parse self.old }
-        requires premise { Self.premise self.old }
-        requires backtracks { Self.backtracks self.old }
+        requires premise { (Self.claim (Self.state self.old)).premise }
+        requires backtracks { (Self.claim (Self.state self.old)).backtracks }
         requires modal { E.form ≡ modal }
-        ensures { ReadsOrAsks I.reading I.following E.kind (Self.grammar self.old)
-            (I.view input.old) result (I.view input.new) }
+        ensures again { Self.can_parse self.new }
+        ensures ran { Self.meaning E.form (Self.state self.old) (I.view input.old)
+            (answer_by E.kind result) (Self.state self.new) (I.view input.new) }
+        ensures reads { ReadsOrAsks I.reading I.following E.kind
+            (Self.claim (Self.state self.old)).grammar (I.view input.old) result
+            (I.view input.new) }
     {
         self.parse_next(input)
     }
 }
 
-impl<P: Exact<I, O, E> + Stable<I, O, E>, I: Stream, O, E: ParserError<I>> ReadsPieces<I, O, E>
+impl<P: Stable<I, O, E>, I: Stream, O, E: ParserError<I>> ReadsPieces<I, O, E>
     for P {}

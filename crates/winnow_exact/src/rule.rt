@@ -1,13 +1,11 @@
 //! Rules: functions as parsers, by what they read.
 ghost use Rattle.std.specs.Fn.{CalledAtMut};
 ghost use Rattle.std.specs.Prelude.{◌≡◌, ⊤};
-ghost use Rattle.winnow_core.specs.Func.{LeavesEndsFrom};
 ghost use Rattle.grammars.specs.Grammar.{Grammar, IsUnique, Takes};
 ghost use Rattle.winnow_exact.specs.Rule.{ByRuns, CallsRead, by_exact, by_rule, by_run, by_soft};
 
 use stream_errors::parser_error::ParserError;
 use streams::stream::Stream;
-use winnow_core::exact::Exact;
 use winnow_core::parser::Parser;
 
 /// The name of what is read: a value that has a grammar.
@@ -59,31 +57,26 @@ impl<N: Rule<I, O>, F: FnMut(&mut I) -> Result<O, E>, I: Stream, O, E: ParserErr
 
     ghost meaning = { λ _. ByRuns I.reading I.view E.kind (CalledAtMut F.FnMut) };
 
+    ghost claim = { λ s. record {
+        premise = CallsRead I.reading I.view E.kind (CalledAtMut F.FnMut) (N.grammar s.0) s.1;
+        backtracks = ⊤;
+        consumes = N.consumes s.0;
+        grammar = N.grammar s.0;
+        decides = ⊥;
+        alike = λ o p. o ≡ p;
+    } };
+
     ghost leaves_ends = { λ form s i answer t j r. r.0.1 };
+
+    ghost claimed = { λ s. record {
+        exact = λ form is. by_exact s is (N.unique s.0);
+        soft = λ form is soft. by_soft s is;
+        takes = λ is some. N.takes s.0 some;
+        decided = λ form never. absurd never;
+    } };
 
     #[inline(always)]
     fn parse_next(&mut self, input: &mut I) -> Result<O, E> {
         (self.run)(input)
     }
-}
-
-impl<N: Rule<I, O>, F: FnMut(&mut I) -> Result<O, E>, I: Stream, O, E: ParserError<I>> Exact<
-    I,
-    O,
-    E,
-> for By<N, F> {
-    ghost premise = { λ s. CallsRead I.reading I.view E.kind (CalledAtMut F.FnMut)
-        (N.grammar (by_rule s)) (by_run s) };
-
-    ghost consumes = { λ s. N.consumes (by_rule s) };
-
-    ghost grammar = { λ s. N.grammar (by_rule s) };
-
-    ghost exact = { λ p form is. by_exact (by_rule p, by_run p) is (N.unique (by_rule p)) };
-
-    ghost soft = { λ p form is soft. by_soft (by_rule p, by_run p) is };
-
-    ghost takes = { λ p is some. N.takes (by_rule p) some };
-
-    fn stay() {}
 }

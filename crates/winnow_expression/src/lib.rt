@@ -6,4 +6,5 @@
 //! powers is proved in the crate above.
 #![tactic(auto)]
 
+
 pub mod combinator;

@@ -4,5 +4,6 @@
 //! bytes.
 #![tactic(auto)]
 
+
 pub mod binary;
 pub mod laws;

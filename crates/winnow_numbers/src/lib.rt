@@ -4,5 +4,6 @@
 //! whose slices show them as bytes.
 #![tactic(auto)]
 
+
 pub mod ascii;
 pub mod laws;

@@ -1,7 +1,7 @@
 //! What both adapters run.
 #![tactic(auto, using(streams::specs::Ends::ends_follow))]
 
-ghost use Rattle.std.specs.Prelude.{◌≡◌, IsTrue, MatchBool, MatchResult, true};
+ghost use Rattle.std.specs.Prelude.{◌≡◌, MatchBool, MatchResult, true};
 ghost use Rattle.streams.specs.Input.{IsEndOf};
 ghost use Rattle.winnow_recovery.specs.Recovery.{CanRecover, IsNotRecovered, IsRecovered};
 

@@ -5,6 +5,7 @@
 //! tries and what ended them.
 #![tactic(auto)]
 
+
 pub mod combinator;
 pub mod laws;
 pub mod parser;

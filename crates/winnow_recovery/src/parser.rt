@@ -2,7 +2,7 @@
 #![tactic(auto, using(streams::specs::Ends::ends_follow))]
 
 ghost use Rattle.std.specs.Prelude.{◌≡◌, MatchResult, false};
-ghost use Rattle.streams.specs.Input.{Input, back_at};
+ghost use Rattle.streams.specs.Input.{back_at};
 ghost use Rattle.streams.specs.Kind.{memory};
 ghost use Rattle.winnow_recovery.specs.RecoverableParse.{ComesBack, ComesBackWith, IsBack};
 ghost use Rattle.winnow_recovery.specs.RecoverableParse.{RecoverableParses, no_memory_input};

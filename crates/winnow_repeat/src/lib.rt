@@ -5,5 +5,6 @@
 //! the parser that is repeated, and what ended it.
 #![tactic(auto)]
 
+
 pub mod combinator;
 pub mod laws;

@@ -3,5 +3,6 @@
 //! Each is proved to be its definition, a file of `specs/` with the parser's name.
 #![tactic(auto)]
 
+
 pub mod laws;
 pub mod token;

@@ -1,4 +1,5 @@
 //! The parsers of a document's parts, as structs.
+ghost use Rattle.winnow.specs.Claim.{no_claim, nothing_claimed};
 ghost use Rattle.std.specs.Prelude.{⊤, ◌≡◌};
 ghost use Rattle.readers.specs.DocumentRuns.{BracketsRuns, CategoryRuns, CommentRuns, GapRuns};
 ghost use Rattle.readers.specs.DocumentRuns.{KeyRuns, KeyValueRuns, MarkRuns, ValueRuns};
@@ -28,7 +29,11 @@ impl<'i> Parser<&'i [u8], &'i str, ErrMode<InputError<&'i [u8]>>> for Category {
 
     ghost meaning = { λ _ _ i answer _ j. CategoryRuns i answer j };
 
+    ghost claim = { λ _. no_claim };
+
     ghost leaves_ends = { λ form s i answer t j r. r.0 };
+
+    ghost claimed = { λ _. nothing_claimed };
 
     fn parse_next(
         &mut self,
@@ -55,7 +60,11 @@ impl<'i> Parser<&'i [u8], (&'i str, &'i str), ErrMode<InputError<&'i [u8]>>> for
 
     ghost meaning = { λ _ _ i answer _ j. KeyValueRuns i answer j };
 
+    ghost claim = { λ _. no_claim };
+
     ghost leaves_ends = { λ form s i answer t j r. r.0 };
+
+    ghost claimed = { λ _. nothing_claimed };
 
     fn parse_next(
         &mut self,
@@ -78,7 +87,11 @@ impl<'i> Parser<&'i [u8], &'i str, ErrMode<InputError<&'i [u8]>>> for SectionNam
 
     ghost meaning = { λ _ _ i answer _ j. CategoryRuns i answer j };
 
+    ghost claim = { λ _. no_claim };
+
     ghost leaves_ends = { λ form s i answer t j r. r.0 };
+
+    ghost claimed = { λ _. nothing_claimed };
 
     fn parse_next(
         &mut self,
@@ -101,7 +114,11 @@ impl<'i> Parser<&'i [u8], &'i [u8], ErrMode<InputError<&'i [u8]>>> for Brackets 
 
     ghost meaning = { λ _ _ i answer _ j. BracketsRuns i answer j };
 
+    ghost claim = { λ _. no_claim };
+
     ghost leaves_ends = { λ form s i answer t j r. r.0 };
+
+    ghost claimed = { λ _. nothing_claimed };
 
     #[inline(always)]
     fn parse_next(
@@ -125,7 +142,11 @@ impl<'i, A: Allocator + Copy> Parser<&'i [u8], (), ErrMode<InputError<&'i [u8]>>
 
     ghost meaning = { λ _ _ i answer _ j. GapRuns i answer j };
 
+    ghost claim = { λ _. no_claim };
+
     ghost leaves_ends = { λ form s i answer t j r. r.0 };
+
+    ghost claimed = { λ _. nothing_claimed };
 
     fn parse_next(&mut self, input: &mut &'i [u8]) -> Result<(), ErrMode<InputError<&'i [u8]>>> {
         gap(self.alloc, input)
@@ -143,7 +164,11 @@ impl<'i> Parser<&'i [u8], (), ErrMode<InputError<&'i [u8]>>> for Comment {
 
     ghost meaning = { λ _ _ i answer _ j. CommentRuns i answer j };
 
+    ghost claim = { λ _. no_claim };
+
     ghost leaves_ends = { λ form s i answer t j r. r.0 };
+
+    ghost claimed = { λ _. nothing_claimed };
 
     fn parse_next(&mut self, input: &mut &'i [u8]) -> Result<(), ErrMode<InputError<&'i [u8]>>> {
         comment(input)
@@ -161,7 +186,11 @@ impl<'i> Parser<&'i [u8], &'i str, ErrMode<InputError<&'i [u8]>>> for Key {
 
     ghost meaning = { λ _ _ i answer _ j. KeyRuns i answer j };
 
+    ghost claim = { λ _. no_claim };
+
     ghost leaves_ends = { λ form s i answer t j r. r.0 };
+
+    ghost claimed = { λ _. nothing_claimed };
 
     fn parse_next(
         &mut self,
@@ -182,7 +211,11 @@ impl<'i> Parser<&'i [u8], (), ErrMode<InputError<&'i [u8]>>> for Mark {
 
     ghost meaning = { λ _ _ i answer _ j. MarkRuns i answer j };
 
+    ghost claim = { λ _. no_claim };
+
     ghost leaves_ends = { λ form s i answer t j r. r.0 };
+
+    ghost claimed = { λ _. nothing_claimed };
 
     fn parse_next(&mut self, input: &mut &'i [u8]) -> Result<(), ErrMode<InputError<&'i [u8]>>> {
         mark(input)
@@ -200,7 +233,11 @@ impl<'i> Parser<&'i [u8], &'i str, ErrMode<InputError<&'i [u8]>>> for Value {
 
     ghost meaning = { λ _ _ i answer _ j. ValueRuns i answer j };
 
+    ghost claim = { λ _. no_claim };
+
     ghost leaves_ends = { λ form s i answer t j r. r.0 };
+
+    ghost claimed = { λ _. nothing_claimed };
 
     fn parse_next(
         &mut self,

@@ -1,4 +1,5 @@
 //! Documents, section by section.
+ghost use Rattle.winnow.specs.Claim.{no_claim, nothing_claimed};
 ghost use Rattle.std.specs.Prelude.{⊤, ◌≡◌, map, MatchResult};
 ghost use Rattle.readers.specs.Document.{HasSections, IsDocumentFault};
 ghost use Rattle.readers.specs.DocumentRuns.{DocumentRuns, PairsRuns, SectionRuns, SectionsRuns};
@@ -50,7 +51,11 @@ impl<'i, A: Allocator + Copy> Parser<
 
     ghost meaning = { λ _ _ i answer _ j. PairsRuns (λ all. map pair_text all.items) i answer j };
 
+    ghost claim = { λ _. no_claim };
+
     ghost leaves_ends = { λ form s i answer t j r. r.0 };
+
+    ghost claimed = { λ _. nothing_claimed };
 
     fn parse_next(
         &mut self,
@@ -76,7 +81,11 @@ impl<'i, A: Allocator + Copy> Parser<&'i [u8], Section<'i, A>, ErrMode<InputErro
 
     ghost meaning = { λ _ _ i answer _ j. SectionRuns section_text i answer j };
 
+    ghost claim = { λ _. no_claim };
+
     ghost leaves_ends = { λ form s i answer t j r. r.0 };
+
+    ghost claimed = { λ _. nothing_claimed };
 
     fn parse_next(
         &mut self,
@@ -109,7 +118,11 @@ impl<'i, A: Allocator + Copy> Parser<
     ghost meaning = { λ _ _ i answer _ j. SectionsRuns (λ all. map section_text all.items) i
         answer j };
 
+    ghost claim = { λ _. no_claim };
+
     ghost leaves_ends = { λ form s i answer t j r. r.0 };
+
+    ghost claimed = { λ _. nothing_claimed };
 
     fn parse_next(
         &mut self,
@@ -140,7 +153,11 @@ impl<'i, A: Allocator + Copy> Parser<
     ghost meaning = { λ _ _ i answer _ j. DocumentRuns (λ all. map section_text all.items) i
         answer j };
 
+    ghost claim = { λ _. no_claim };
+
     ghost leaves_ends = { λ form s i answer t j r. r.0 };
+
+    ghost claimed = { λ _. nothing_claimed };
 
     fn parse_next(
         &mut self,

@@ -1,4 +1,5 @@
 //! The parsers of numbers and operators.
+ghost use Rattle.winnow.specs.Claim.{no_claim, nothing_claimed};
 ghost use Rattle.std.specs.Prelude.{⊤};
 ghost use Rattle.winnow.specs.Runs.{Keeps};
 ghost use Rattle.winnow.specs.Items.{ItemRuns};
@@ -22,7 +23,11 @@ impl<'i> Parser<&'i str, i64, EmptyError> for Number {
 
     ghost meaning = { λ _. Keeps (λ _. ItemRuns NumberItem) };
 
+    ghost claim = { λ _. no_claim };
+
     ghost leaves_ends = { λ form s i a t j r. number_ends i j a r.0 };
+
+    ghost claimed = { λ _. nothing_claimed };
 
     fn parse_next(&mut self, input: &mut &'i str) -> Result<i64, EmptyError> {
         match read_number(input) {
@@ -43,7 +48,11 @@ impl<'i> Parser<&'i str, Prefix<Sign>, EmptyError> for BeforeIt {
 
     ghost meaning = { λ _. Keeps (λ _. ItemRuns (CharItem sign_at)) };
 
+    ghost claim = { λ _. no_claim };
+
     ghost leaves_ends = { λ form s i a t j r. char_ends sign_at i j a r.0 };
+
+    ghost claimed = { λ _. nothing_claimed };
 
     fn parse_next(&mut self, input: &mut &'i str) -> Result<Prefix<Sign>, EmptyError> {
         match read_sign(input) {
@@ -64,7 +73,11 @@ impl<'i> Parser<&'i str, Postfix<Mark>, EmptyError> for BehindIt {
 
     ghost meaning = { λ _. Keeps (λ _. ItemRuns (CharItem mark_at)) };
 
+    ghost claim = { λ _. no_claim };
+
     ghost leaves_ends = { λ form s i a t j r. char_ends mark_at i j a r.0 };
+
+    ghost claimed = { λ _. nothing_claimed };
 
     fn parse_next(&mut self, input: &mut &'i str) -> Result<Postfix<Mark>, EmptyError> {
         match read_mark(input) {
@@ -85,7 +98,11 @@ impl<'i> Parser<&'i str, Infix<Pair>, EmptyError> for BetweenThem {
 
     ghost meaning = { λ _. Keeps (λ _. ItemRuns (CharItem pair_at)) };
 
+    ghost claim = { λ _. no_claim };
+
     ghost leaves_ends = { λ form s i a t j r. char_ends pair_at i j a r.0 };
+
+    ghost claimed = { λ _. nothing_claimed };
 
     fn parse_next(&mut self, input: &mut &'i str) -> Result<Infix<Pair>, EmptyError> {
         match read_pair(input) {

@@ -2,6 +2,7 @@
 //!
 //! Written by scripts/families.py: do not edit.
 ghost use Rattle.stream_sets.specs.Sets.{EitherTells};
+ghost use Rattle.stream_sets.specs.Once.{either_once};
 
 use crate::sets::ContainsToken;
 
@@ -9,6 +10,10 @@ impl<T: Copy, S1: ContainsToken<T>> ContainsToken<T> for (S1,) {
     ghost can_test = { λ s. S1.can_test s.0 };
 
     ghost tells = { λ s t b. S1.tells s.0 t b };
+
+    ghost decides = { λ s. S1.decides s.0 };
+
+    ghost once = { λ s is. S1.once s.0 is };
 
     #[inline(always)]
     fn contains_token(&self, token: T) -> bool {
@@ -20,6 +25,11 @@ impl<T: Copy, S1: ContainsToken<T>, S2: ContainsToken<T>> ContainsToken<T> for (
     ghost can_test = { λ s. S1.can_test s.0 × S2.can_test s.1 };
 
     ghost tells = { λ s t b. EitherTells (S1.tells s.0) (S2.tells s.1) t b };
+
+    ghost decides = { λ s. S1.decides s.0 × S2.decides s.1 };
+
+    ghost once = { λ s is. either_once (S1.tells s.0) (S2.tells s.1) (S1.once s.0 is.0)
+        (S2.once s.1 is.1) };
 
     #[inline(always)]
     fn contains_token(&self, token: T) -> bool {
@@ -33,6 +43,12 @@ impl<T: Copy, S1: ContainsToken<T>, S2: ContainsToken<T>, S3: ContainsToken<T>> 
 
     ghost tells = { λ s t b. EitherTells (S1.tells s.0)
         (EitherTells (S2.tells s.1) (S3.tells s.2)) t b };
+
+    ghost decides = { λ s. S1.decides s.0 × S2.decides s.1 × S3.decides s.2 };
+
+    ghost once = { λ s is. either_once (S1.tells s.0)
+        (EitherTells (S2.tells s.1) (S3.tells s.2)) (S1.once s.0 is.0)
+        (either_once (S2.tells s.1) (S3.tells s.2) (S2.once s.1 is.1) (S3.once s.2 is.2)) };
 
     #[inline(always)]
     fn contains_token(&self, token: T) -> bool {
@@ -51,6 +67,14 @@ impl<
 
     ghost tells = { λ s t b. EitherTells (S1.tells s.0)
         (EitherTells (S2.tells s.1) (EitherTells (S3.tells s.2) (S4.tells s.3))) t b };
+
+    ghost decides = { λ s. S1.decides s.0 × S2.decides s.1 × S3.decides s.2 × S4.decides s.3 };
+
+    ghost once = { λ s is. either_once (S1.tells s.0) (EitherTells (S2.tells s.1)
+        (EitherTells (S3.tells s.2) (S4.tells s.3))) (S1.once s.0 is.0)
+        (either_once (S2.tells s.1)
+        (EitherTells (S3.tells s.2) (S4.tells s.3)) (S2.once s.1 is.1)
+        (either_once (S3.tells s.2) (S4.tells s.3) (S3.once s.2 is.2) (S4.once s.3 is.3))) };
 
     #[inline(always)]
     fn contains_token(&self, token: T) -> bool {
@@ -75,6 +99,17 @@ impl<
     ghost tells = { λ s t b. EitherTells (S1.tells s.0)
         (EitherTells (S2.tells s.1)
         (EitherTells (S3.tells s.2) (EitherTells (S4.tells s.3) (S5.tells s.4)))) t b };
+
+    ghost decides = { λ s. S1.decides s.0 × S2.decides s.1 × S3.decides s.2 × S4.decides s.3
+        × S5.decides s.4 };
+
+    ghost once = { λ s is. either_once (S1.tells s.0) (EitherTells (S2.tells s.1)
+        (EitherTells (S3.tells s.2) (EitherTells (S4.tells s.3) (S5.tells s.4)))) (S1.once s.0 is.0)
+        (either_once (S2.tells s.1) (EitherTells (S3.tells s.2)
+        (EitherTells (S4.tells s.3) (S5.tells s.4))) (S2.once s.1 is.1)
+        (either_once (S3.tells s.2)
+        (EitherTells (S4.tells s.3) (S5.tells s.4)) (S3.once s.2 is.2)
+        (either_once (S4.tells s.3) (S5.tells s.4) (S4.once s.3 is.3) (S5.once s.4 is.4)))) };
 
     #[inline(always)]
     fn contains_token(&self, token: T) -> bool {
@@ -102,6 +137,20 @@ impl<
         (EitherTells (S2.tells s.1)
         (EitherTells (S3.tells s.2)
         (EitherTells (S4.tells s.3) (EitherTells (S5.tells s.4) (S6.tells s.5))))) t b };
+
+    ghost decides = { λ s. S1.decides s.0 × S2.decides s.1 × S3.decides s.2 × S4.decides s.3
+        × S5.decides s.4 × S6.decides s.5 };
+
+    ghost once = { λ s is. either_once (S1.tells s.0) (EitherTells (S2.tells s.1)
+        (EitherTells (S3.tells s.2) (EitherTells (S4.tells s.3)
+        (EitherTells (S5.tells s.4) (S6.tells s.5))))) (S1.once s.0 is.0)
+        (either_once (S2.tells s.1) (EitherTells (S3.tells s.2)
+        (EitherTells (S4.tells s.3) (EitherTells (S5.tells s.4) (S6.tells s.5)))) (S2.once s.1 is.1)
+        (either_once (S3.tells s.2) (EitherTells (S4.tells s.3)
+        (EitherTells (S5.tells s.4) (S6.tells s.5))) (S3.once s.2 is.2)
+        (either_once (S4.tells s.3)
+        (EitherTells (S5.tells s.4) (S6.tells s.5)) (S4.once s.3 is.3)
+        (either_once (S5.tells s.4) (S6.tells s.5) (S5.once s.4 is.4) (S6.once s.5 is.5))))) };
 
     #[inline(always)]
     fn contains_token(&self, token: T) -> bool {

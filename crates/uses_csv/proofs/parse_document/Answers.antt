@@ -2,7 +2,7 @@ use Rattle.uses_csv.specs.Read.{reads_document}
 use Rattle.uses_csv.proofs.parse_document.Goals as goal
 
 pub returns : goal.returns
-returns g c = reads_document c.args.end c.read_all.ensures (rw (
+returns g c = reads_document c.args.end c.read_all.ensures.reads (rw (
   c.repeat.ensures.occurrences,
   c.repeat.ensures.parser,
   c.from.ensures,

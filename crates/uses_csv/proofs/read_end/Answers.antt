@@ -5,4 +5,4 @@ use Rattle.uses_csv.proofs.read_end.Goals as goal
 
 pub returns : goal.returns
 returns c = reads_as (same_end c.args.end c.bytes.result c.bytes.ensures)
-    (reads_by c.read.ensures (rw (c.alt.ensures, c.void.ensures, c.literal.ensures)))
+    (reads_by c.read.ensures.reads (rw (c.alt.ensures, c.void.ensures, c.literal.ensures)))

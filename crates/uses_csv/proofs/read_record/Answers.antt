@@ -5,4 +5,4 @@ use Rattle.uses_csv.proofs.read_record.Goals as goal
 
 pub returns : goal.returns
 returns g c = reads_as (same_record c.args.end)
-    (reads_by c.read.ensures (rw (c.terminated.ensures.ignored, c.by-end.ensures.rule)))
+    (reads_by c.read.ensures.reads (rw (c.terminated.ensures.ignored, c.by-end.ensures.rule)))

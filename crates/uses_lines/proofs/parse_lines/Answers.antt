@@ -10,14 +10,14 @@ use Rattle.uses_lines.proofs.parse_lines.Goals as goal
 pub returns-clause-grammar : goal.returns-clause-grammar
 returns-clause-grammar g c =
     reads_all_as (same_lines _ (ap bounds_of (c.repeat.ensures.occurrences ∙ c.from.ensures)))
-    c.read_all.ensures
+    c.read_all.ensures.reads
 
 pub returns-clause-text : goal.returns-clause-text
 returns-clause-text g c = texts_told lines_of tt (reads_all_as
     (same_lines _ (ap bounds_of (c.repeat.ensures.occurrences ∙ c.from.ensures)))
-    c.read_all.ensures)
+    c.read_all.ensures.reads)
 
 pub returns-clause-back : goal.returns-clause-back
 returns-clause-back g c = reads_back lines_one (texts_told lines_of tt (reads_all_as
     (same_lines _ (ap bounds_of (c.repeat.ensures.occurrences ∙ c.from.ensures)))
-    c.read_all.ensures))
+    c.read_all.ensures.reads))

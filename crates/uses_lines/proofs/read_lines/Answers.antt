@@ -9,8 +9,8 @@ use Rattle.uses_lines.proofs.read_lines.Goals as goal
 pub returns-clause-grammar : goal.returns-clause-grammar
 returns-clause-grammar g c =
     reads_as (same_lines _ (ap bounds_of (c.repeat.ensures.occurrences ∙ c.from.ensures)))
-    c.read.ensures
+    c.read.ensures.reads
 
 pub returns-clause-text : goal.returns-clause-text
 returns-clause-text g c = text_told lines_of (reads_as
-    (same_lines _ (ap bounds_of (c.repeat.ensures.occurrences ∙ c.from.ensures))) c.read.ensures)
+    (same_lines _ (ap bounds_of (c.repeat.ensures.occurrences ∙ c.from.ensures))) c.read.ensures.reads)

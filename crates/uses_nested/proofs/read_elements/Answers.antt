@@ -29,7 +29,7 @@ read-requires-clause-premise g c =
     search (rules, reads)
 
 pub returns : goal.returns
-returns g c = reads_by c.read.ensures (rw (
+returns g c = reads_by c.read.ensures.reads (rw (
   c.delimited.ensures.ignored1,
   c.delimited.ensures.parser,
   c.delimited.ensures.ignored2,

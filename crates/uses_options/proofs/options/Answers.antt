@@ -2,7 +2,7 @@ use Rattle.winnow.specs.InTurn.{told_by}
 use Rattle.uses_options.proofs.options.Goals as goal
 
 pub returns : goal.returns
-returns g c = told_by c.read_cut.ensures (rw (
+returns g c = told_by c.read_cut.ensures.reads (rw (
   c.delimited.ensures.ignored1,
   c.delimited.ensures.parser,
   c.delimited.ensures.ignored2,

@@ -5,13 +5,7 @@ ghost use Rattle.winnow_binary.specs.LengthRepeat.{length_repeat_count, length_r
 ghost use Rattle.winnow_binary.specs.LengthTake.{length_take_count};
 
 use crate::binary::impls::{LengthAndThen, LengthRepeat, LengthTake};
-use std::alloc::Allocator;
 use std::marker::PhantomData;
-use stream_errors::parser_error::ParserError;
-use stream_sets::accumulate::Accumulate;
-use stream_sets::numbers::ToUsize;
-use streams::stream::{Stream, StreamIsPartial, UpdateSlice};
-use winnow_core::parser::Parser;
 
 /// A parser of a length, by `count`, and of so many tokens behind it; the output is their slice.
 ///
@@ -30,11 +24,6 @@ use winnow_core::parser::Parser;
 pub fn length_take<Input, Count, Error, CountParser>(
     count: CountParser,
 ) -> LengthTake<CountParser, Input, Count, Error>
-where
-    Input: StreamIsPartial,
-    Count: ToUsize + Drop,
-    CountParser: Parser<Input, Count, Error>,
-    Error: ParserError<Input>,
     ensures { length_take_count result ≡ count }
 {
     LengthTake {
@@ -64,12 +53,6 @@ pub fn length_and_then<Input, Output, Count, Error, CountParser, ParseNext>(
     count: CountParser,
     parser: ParseNext,
 ) -> LengthAndThen<CountParser, ParseNext, Input, Count, Output, Error>
-where
-    Input: StreamIsPartial + UpdateSlice + Copy,
-    Count: ToUsize + Drop,
-    CountParser: Parser<Input, Count, Error>,
-    ParseNext: Parser<Input, Output, Error>,
-    Error: ParserError<Input>,
     ensures count { length_and_then_count result ≡ count }
     ensures parser { length_and_then_parser result ≡ parser }
 {
@@ -102,14 +85,6 @@ pub fn length_repeat<Input, Output, Accumulator, Count, Error, CountParser, Pars
     count: CountParser,
     parser: ParseNext,
 ) -> LengthRepeat<CountParser, ParseNext, Input, Count, Output, Accumulator, Error, A>
-where
-    Input: Stream,
-    Count: ToUsize + Drop,
-    Accumulator: Accumulate<Output, A>,
-    CountParser: Parser<Input, Count, Error>,
-    ParseNext: Parser<Input, Output, Error>,
-    Error: ParserError<Input>,
-    A: Allocator + Copy,
     ensures count { length_repeat_count result ≡ count }
     ensures parser { length_repeat_parser result ≡ parser }
 {

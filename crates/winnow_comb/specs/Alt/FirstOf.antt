@@ -1,5 +1,5 @@
 -- What a choice among the items of an array or a slice reads.
-use Rattle.std.specs.Prelude.{◌≡◌, List, [], ◌∷◌, ◌++◌, map, Ok, Err}
+use Rattle.std.specs.Prelude.{◌≡◌, List, [], ◌∷◌, ◌++◌, Ok, Err}
 use Rattle.std.specs.List.{All}
 use Rattle.std.proofs.Common.{refl, sym, ap, subst, inl, inr, ◌∙◌}
 use Rattle.std.proofs.lemmas.List.Elements.{All-head, All-tail}
@@ -146,34 +146,34 @@ module _ {S T O : Type 0} (run : Runs S T O) (assert_kind : Kind) where
   }
 
 -- Branches of which each is exact and lets the next be tried.
-module _ {P S T O : Type 0} (state : P → S) (run : Runs S T O) (assert_kind : Kind)
-    (grammar : P → Grammar T O) (known : P → Type 0)
-    (exact : (p : P) → known p → IsExact (state p) run (grammar p))
-    (soft : (p : P) → known p → IsSoft (state p) run) where
-  from_exact : (p : P) (rest : List P) → All known (p ∷ rest)
-      → IsExact (map state (p ∷ rest)) (AltSliceRuns run assert_kind) (FirstFrom grammar p rest)
+module _ {S T O : Type 0} (run : Runs S T O) (assert_kind : Kind)
+    (grammar : S → Grammar T O) (known : S → Type 0)
+    (exact : (p : S) → known p → IsExact p run (grammar p))
+    (soft : (p : S) → known p → IsSoft p run) where
+  from_exact : (p : S) (rest : List S) → All known (p ∷ rest)
+      → IsExact (p ∷ rest) (AltSliceRuns run assert_kind) (FirstFrom grammar p rest)
   from_exact p [] each = one_exact run assert_kind (exact p (All-head known p [] each))
   from_exact p (q ∷ rest) each =
       let is = All-head known p (q ∷ rest) each in
       more_exact run assert_kind (or_else_exact (exact p is) (soft p is)
       (from_exact q rest (All-tail known p (q ∷ rest) each)))
 
-  from_soft : (p : P) (rest : List P) → All known (p ∷ rest)
-      → IsSoft (map state (p ∷ rest)) (AltSliceRuns run assert_kind)
+  from_soft : (p : S) (rest : List S) → All known (p ∷ rest)
+      → IsSoft (p ∷ rest) (AltSliceRuns run assert_kind)
   from_soft p [] each = one_soft run assert_kind (soft p (All-head known p [] each))
   from_soft p (q ∷ rest) each =
       let is = All-head known p (q ∷ rest) each in
       more_soft run assert_kind (or_else_soft (exact p is) (soft p is)
       (from_soft q rest (All-tail known p (q ∷ rest) each)))
 
-  pub first_of_exact : (branches : List P) → All known branches
-      → IsExact (map state branches) (AltSliceRuns run assert_kind) (FirstOf grammar branches)
+  pub first_of_exact : (branches : List S) → All known branches
+      → IsExact branches (AltSliceRuns run assert_kind) (FirstOf grammar branches)
   unfolding Never
   first_of_exact [] each = no_branch run assert_kind (λ tokens o rest never. never)
   first_of_exact (p ∷ rest) each = from_exact p rest each
 
   -- it lets others be tried where it has a branch
-  pub first_of_soft : (branches : List P) → All known branches → (branches ≡ [] → ⊥)
-      → IsSoft (map state branches) (AltSliceRuns run assert_kind)
+  pub first_of_soft : (branches : List S) → All known branches → (branches ≡ [] → ⊥)
+      → IsSoft branches (AltSliceRuns run assert_kind)
   first_of_soft [] each some = absurd (some refl)
   first_of_soft (p ∷ rest) each some = from_soft p rest each

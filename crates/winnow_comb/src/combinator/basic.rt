@@ -31,10 +31,6 @@ use winnow_core::parser::Parser;
 pub fn opt<Input, Output, Error, ParseNext>(
     parser: ParseNext,
 ) -> Opt<ParseNext, Input, Output, Error>
-where
-    Input: Stream,
-    ParseNext: Parser<Input, Output, Error>,
-    Error: ParserError<Input>,
     ensures { opt_parser result ≡ parser }
 {
     Opt {
@@ -59,10 +55,6 @@ pub fn cond<Input, Output, Error, ParseNext>(
     condition: bool,
     parser: ParseNext,
 ) -> Cond<ParseNext, Input, Output, Error>
-where
-    Input: Stream,
-    ParseNext: Parser<Input, Output, Error>,
-    Error: ParserError<Input>,
     ensures condition { cond_condition result ≡ condition }
     ensures parser { cond_parser result ≡ parser }
 {
@@ -87,10 +79,6 @@ where
 pub fn peek<Input, Output, Error, ParseNext>(
     parser: ParseNext,
 ) -> Peek<ParseNext, Input, Output, Error>
-where
-    Input: Stream,
-    ParseNext: Parser<Input, Output, Error>,
-    Error: ParserError<Input>,
     ensures { peek_parser result ≡ parser }
 {
     Peek {
@@ -118,10 +106,6 @@ where
 pub fn not<Input, Output, Error, ParseNext>(
     parser: ParseNext,
 ) -> Not<ParseNext, Input, Output, Error>
-where
-    Input: Stream,
-    ParseNext: Parser<Input, Output, Error>,
-    Error: ParserError<Input>,
     ensures { not_parser result ≡ parser }
 {
     Not {
@@ -149,10 +133,6 @@ where
 pub fn cut_err<Input, Output, Error, ParseNext>(
     parser: ParseNext,
 ) -> CutErr<ParseNext, Input, Output, Error>
-where
-    Input: Stream,
-    Error: ParserError<Input> + ModalError,
-    ParseNext: Parser<Input, Output, Error>,
     ensures { cut_err_parser result ≡ parser }
 {
     CutErr {
@@ -178,10 +158,6 @@ where
 pub fn backtrack_err<Input, Output, Error, ParseNext>(
     parser: ParseNext,
 ) -> BacktrackErr<ParseNext, Input, Output, Error>
-where
-    Input: Stream,
-    Error: ParserError<Input> + ModalError,
-    ParseNext: Parser<Input, Output, Error>,
     ensures { backtrack_err_parser result ≡ parser }
 {
     BacktrackErr {

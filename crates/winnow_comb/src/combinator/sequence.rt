@@ -9,9 +9,6 @@ ghost use Rattle.winnow_comb.specs.Terminated.{terminated_ignored, terminated_pa
 
 use crate::combinator::impls::{Delimited, Preceded, SeparatedPair, Terminated};
 use std::marker::PhantomData;
-use stream_errors::parser_error::ParserError;
-use streams::stream::Stream;
-use winnow_core::parser::Parser;
 
 /// A parser of `ignored` and then `parser`, with the output of `parser`.
 ///
@@ -29,11 +26,6 @@ pub fn preceded<Input, Ignored, Output, Error, IgnoredParser, ParseNext>(
     ignored: IgnoredParser,
     parser: ParseNext,
 ) -> Preceded<IgnoredParser, ParseNext, Input, Ignored, Output, Error>
-where
-    Input: Stream,
-    Error: ParserError<Input>,
-    IgnoredParser: Parser<Input, Ignored, Error>,
-    ParseNext: Parser<Input, Output, Error>,
     ensures ignored { preceded_ignored result ≡ ignored }
     ensures parser { preceded_parser result ≡ parser }
 {
@@ -63,11 +55,6 @@ pub fn terminated<Input, Output, Ignored, Error, ParseNext, IgnoredParser>(
     parser: ParseNext,
     ignored: IgnoredParser,
 ) -> Terminated<ParseNext, IgnoredParser, Input, Output, Ignored, Error>
-where
-    Input: Stream,
-    Error: ParserError<Input>,
-    ParseNext: Parser<Input, Output, Error>,
-    IgnoredParser: Parser<Input, Ignored, Error>,
     ensures parser { terminated_parser result ≡ parser }
     ensures ignored { terminated_ignored result ≡ ignored }
 {
@@ -97,12 +84,6 @@ pub fn separated_pair<Input, Output1, Sep, Output2, Error, Parser1, SepParser, P
     separator: SepParser,
     second: Parser2,
 ) -> SeparatedPair<Parser1, SepParser, Parser2, Input, Output1, Sep, Output2, Error>
-where
-    Input: Stream,
-    Error: ParserError<Input>,
-    Parser1: Parser<Input, Output1, Error>,
-    SepParser: Parser<Input, Sep, Error>,
-    Parser2: Parser<Input, Output2, Error>,
     ensures first { separated_pair_first result ≡ first }
     ensures separator { separated_pair_separator result ≡ separator }
     ensures second { separated_pair_second result ≡ second }
@@ -147,12 +128,6 @@ pub fn delimited<
     parser: ParseNext,
     ignored2: IgnoredParser2,
 ) -> Delimited<IgnoredParser1, ParseNext, IgnoredParser2, Input, Ignored1, Output, Ignored2, Error>
-where
-    Input: Stream,
-    Error: ParserError<Input>,
-    IgnoredParser1: Parser<Input, Ignored1, Error>,
-    ParseNext: Parser<Input, Output, Error>,
-    IgnoredParser2: Parser<Input, Ignored2, Error>,
     ensures ignored1 { delimited_ignored1 result ≡ ignored1 }
     ensures parser { delimited_parser result ≡ parser }
     ensures ignored2 { delimited_ignored2 result ≡ ignored2 }

@@ -1,7 +1,7 @@
 //! Closures as parsers.
-ghost use Rattle.std.specs.Prelude.{◌≡◌};
 ghost use Rattle.std.specs.Fn.{CalledAtMut};
 ghost use Rattle.winnow_core.specs.Func.{FuncRuns, LeavesEndsFrom};
+ghost use Rattle.winnow_core.specs.Claim.{no_claim, nothing_claimed};
 
 use crate::parser::Parser;
 use stream_errors::parser_error::ParserError;
@@ -51,7 +51,11 @@ impl<F: FnMut(&mut I) -> Result<O, E>, I: Stream, O, E: ParserError<I>> Parser<I
 
     ghost meaning = { λ _. FuncRuns I.reading I.view E.kind (CalledAtMut F.FnMut) };
 
+    ghost claim = { λ _. no_claim };
+
     ghost leaves_ends = { λ form s i answer t j r. r.1 };
+
+    ghost claimed = { λ _. nothing_claimed };
 
     #[inline(always)]
     fn parse_next(&mut self, input: &mut I) -> Result<O, E> {

@@ -1,13 +1,13 @@
 //! Values that are parsers of themselves.
 ghost use Rattle.std.specs.Prelude.{◌≡◌};
 ghost use Rattle.winnow_core.specs.Agrees.{agrees_by};
+ghost use Rattle.std.proofs.Common.{refl};
 ghost use Rattle.winnow_core.specs.Literal.{LiteralRuns};
-ghost use Rattle.winnow_core.specs.Literal.Laws.{literal_alike, literal_ends, literal_stays};
+ghost use Rattle.winnow_core.specs.Literal.Claim.{literal_claim, literal_claimed};
+ghost use Rattle.winnow_core.specs.Literal.Laws.{ShowSame, literal_alike, literal_ends};
+ghost use Rattle.winnow_core.specs.Literal.Laws.{literal_stays};
 ghost use Rattle.winnow_core.specs.Runs.{Keeps};
 ghost use Rattle.winnow_core.specs.Stable.Grows.{leaf_stays};
-
-mod decided;
-mod exact;
 
 use crate::agrees_with::AgreesWith;
 use crate::literal::take_literal;
@@ -30,8 +30,13 @@ impl<I: StreamIsPartial + Compare<u8>, E: ParserError<I>> Parser<I, u8, E> for u
 
     ghost meaning = { λ form. Keeps (λ s. LiteralRuns I.reading form (I.spells s) (λ _. s)) };
 
+    ghost claim = { literal_claim I.reading I.spells (λ s _. s) (λ o q. o ≡ q) };
+
     ghost leaves_ends = { λ form s i answer t j r. literal_ends I.reading form (I.spells s)
         (λ _. s) i answer j r.0 };
+
+    ghost claimed = { λ s. literal_claimed I.reading I.spells (λ s _. s) (λ o q. o ≡ q) s
+        (I.same_units s) (λ slice other shown. refl) };
 
     #[inline(always)]
     fn parse_next(&mut self, input: &mut I) -> Result<u8, E> {
@@ -67,8 +72,13 @@ impl<'t, I: StreamIsPartial + Compare<&'t [u8]>, E: ParserError<I>> Parser<I, I:
     ghost meaning = { λ form. Keeps
         (λ s. LiteralRuns I.reading form (I.spells s) (λ slice. slice)) };
 
+    ghost claim = { literal_claim I.reading I.spells (λ _ slice. slice) (ShowSame I.reading) };
+
     ghost leaves_ends = { λ form s i answer t j r. literal_ends I.reading form (I.spells s)
         (λ slice. slice) i answer j r.0 };
+
+    ghost claimed = { λ s. literal_claimed I.reading I.spells (λ _ slice. slice)
+        (ShowSame I.reading) s (I.same_units s) (λ slice other shown. shown) };
 
     #[inline(always)]
     fn parse_next(&mut self, input: &mut I) -> Result<I::Slice, E> {
@@ -110,8 +120,13 @@ impl<'t, const N: usize, I: StreamIsPartial + Compare<&'t [u8; N]>, E: ParserErr
     ghost meaning = { λ form. Keeps
         (λ s. LiteralRuns I.reading form (I.spells s) (λ slice. slice)) };
 
+    ghost claim = { literal_claim I.reading I.spells (λ _ slice. slice) (ShowSame I.reading) };
+
     ghost leaves_ends = { λ form s i answer t j r. literal_ends I.reading form (I.spells s)
         (λ slice. slice) i answer j r.0 };
+
+    ghost claimed = { λ s. literal_claimed I.reading I.spells (λ _ slice. slice)
+        (ShowSame I.reading) s (I.same_units s) (λ slice other shown. shown) };
 
     #[inline(always)]
     fn parse_next(&mut self, input: &mut I) -> Result<I::Slice, E> {
@@ -159,8 +174,13 @@ impl<I: StreamIsPartial + Compare<char>, E: ParserError<I>> Parser<I, char, E> f
 
     ghost meaning = { λ form. Keeps (λ s. LiteralRuns I.reading form (I.spells s) (λ _. s)) };
 
+    ghost claim = { literal_claim I.reading I.spells (λ s _. s) (λ o q. o ≡ q) };
+
     ghost leaves_ends = { λ form s i answer t j r. literal_ends I.reading form (I.spells s)
         (λ _. s) i answer j r.0 };
+
+    ghost claimed = { λ s. literal_claimed I.reading I.spells (λ s _. s) (λ o q. o ≡ q) s
+        (I.same_units s) (λ slice other shown. refl) };
 
     #[inline(always)]
     fn parse_next(&mut self, input: &mut I) -> Result<char, E> {
@@ -196,8 +216,13 @@ impl<'t, I: StreamIsPartial + Compare<&'t str>, E: ParserError<I>> Parser<I, I::
     ghost meaning = { λ form. Keeps
         (λ s. LiteralRuns I.reading form (I.spells s) (λ slice. slice)) };
 
+    ghost claim = { literal_claim I.reading I.spells (λ _ slice. slice) (ShowSame I.reading) };
+
     ghost leaves_ends = { λ form s i answer t j r. literal_ends I.reading form (I.spells s)
         (λ slice. slice) i answer j r.0 };
+
+    ghost claimed = { λ s. literal_claimed I.reading I.spells (λ _ slice. slice)
+        (ShowSame I.reading) s (I.same_units s) (λ slice other shown. shown) };
 
     #[inline(always)]
     fn parse_next(&mut self, input: &mut I) -> Result<I::Slice, E> {
@@ -236,8 +261,13 @@ impl<'t, I: StreamIsPartial + Compare<Caseless<&'t [u8]>>, E: ParserError<I>> Pa
     ghost meaning = { λ form. Keeps
         (λ s. LiteralRuns I.reading form (I.spells s) (λ slice. slice)) };
 
+    ghost claim = { literal_claim I.reading I.spells (λ _ slice. slice) (ShowSame I.reading) };
+
     ghost leaves_ends = { λ form s i answer t j r. literal_ends I.reading form (I.spells s)
         (λ slice. slice) i answer j r.0 };
+
+    ghost claimed = { λ s. literal_claimed I.reading I.spells (λ _ slice. slice)
+        (ShowSame I.reading) s (I.same_units s) (λ slice other shown. shown) };
 
     #[inline(always)]
     fn parse_next(&mut self, input: &mut I) -> Result<I::Slice, E> {
@@ -280,8 +310,13 @@ impl<
     ghost meaning = { λ form. Keeps
         (λ s. LiteralRuns I.reading form (I.spells s) (λ slice. slice)) };
 
+    ghost claim = { literal_claim I.reading I.spells (λ _ slice. slice) (ShowSame I.reading) };
+
     ghost leaves_ends = { λ form s i answer t j r. literal_ends I.reading form (I.spells s)
         (λ slice. slice) i answer j r.0 };
+
+    ghost claimed = { λ s. literal_claimed I.reading I.spells (λ _ slice. slice)
+        (ShowSame I.reading) s (I.same_units s) (λ slice other shown. shown) };
 
     #[inline(always)]
     fn parse_next(&mut self, input: &mut I) -> Result<I::Slice, E> {
@@ -329,8 +364,13 @@ impl<'t, I: StreamIsPartial + Compare<Caseless<&'t str>>, E: ParserError<I>> Par
     ghost meaning = { λ form. Keeps
         (λ s. LiteralRuns I.reading form (I.spells s) (λ slice. slice)) };
 
+    ghost claim = { literal_claim I.reading I.spells (λ _ slice. slice) (ShowSame I.reading) };
+
     ghost leaves_ends = { λ form s i answer t j r. literal_ends I.reading form (I.spells s)
         (λ slice. slice) i answer j r.0 };
+
+    ghost claimed = { λ s. literal_claimed I.reading I.spells (λ _ slice. slice)
+        (ShowSame I.reading) s (I.same_units s) (λ slice other shown. shown) };
 
     #[inline(always)]
     fn parse_next(&mut self, input: &mut I) -> Result<I::Slice, E> {

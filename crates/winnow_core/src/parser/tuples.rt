@@ -1,7 +1,7 @@
 //! Tuples: their members run in order, and the first failure is handed on.
 //!
 //! Written by scripts/families.py: do not edit.
-ghost use Rattle.std.specs.Prelude.{⊤};
+ghost use Rattle.std.specs.Prelude.{⊤, ◌≡◌};
 ghost use Rattle.winnow_core.specs.Agrees.{agrees_plain};
 ghost use Rattle.winnow_core.specs.Agrees.Sizes.{agrees2, agrees3, agrees4, agrees5, agrees6};
 ghost use Rattle.winnow_core.specs.Agrees.Sizes.{agrees_one};
@@ -12,10 +12,16 @@ ghost use Rattle.winnow_core.specs.Sequence.{SequenceRuns3, SequenceRuns4, Seque
 ghost use Rattle.winnow_core.specs.Sequence.{SequenceRuns6};
 ghost use Rattle.winnow_core.specs.Sequence.Laws.{sequence1_ends, sequence2_ends, sequence3_ends};
 ghost use Rattle.winnow_core.specs.Sequence.Laws.{sequence4_ends, sequence5_ends, sequence6_ends};
+ghost use Rattle.grammars.specs.Grammar.{Nothing, Made};
+ghost use Rattle.grammars.specs.Grammar.Unique.{made_of_takes};
+ghost use Rattle.winnow_core.specs.Exact.Nothing.{unit_exact, unit_soft};
+ghost use Rattle.winnow_core.specs.InOrder.Exact.{OneTuple, tuple1_exact, tuple1_soft};
+ghost use Rattle.winnow_core.specs.Sequence.Claim.{sequence2_claim, sequence2_claimed};
+ghost use Rattle.winnow_core.specs.Sequence.Claim.{sequence3_claim, sequence3_claimed};
+ghost use Rattle.winnow_core.specs.Sequence.Claim.{sequence4_claim, sequence4_claimed};
+ghost use Rattle.winnow_core.specs.Sequence.Claim.{sequence5_claim, sequence5_claimed};
+ghost use Rattle.winnow_core.specs.Sequence.Claim.{sequence6_claim, sequence6_claimed};
 
-mod decided;
-mod exact;
-mod small;
 mod stable;
 
 use crate::agrees_with::AgreesWith;
@@ -31,7 +37,23 @@ impl<I: Stream, E: ParserError<I>> Parser<I, (), E> for () {
 
     ghost meaning = { λ _. SequenceRuns0 };
 
+    ghost claim = { λ s. record {
+        premise = ⊤;
+        backtracks = ⊤;
+        consumes = ⊥;
+        grammar = Nothing tt;
+        decides = ⊥;
+        alike = λ o p. o ≡ p;
+    } };
+
     ghost leaves_ends = { λ form s i answer t j r. same_ends I.reading i j r.1 };
+
+    ghost claimed = { λ s. record {
+        exact = λ form is. unit_exact;
+        soft = λ form is soft. unit_soft;
+        takes = λ is never. absurd never;
+        decided = λ form never. absurd never;
+    } };
 
     #[inline(always)]
     fn parse_next(&mut self, _input: &mut I) -> Result<(), E> {
@@ -59,8 +81,24 @@ impl<I: Stream, O1, E: ParserError<I>, P1: Parser<I, O1, E>> Parser<I, (O1,), E>
 
     ghost meaning = { λ form. SequenceRuns1 (P1.meaning form) };
 
+    ghost claim = { λ s. record {
+        premise = (P1.claim s.0).premise;
+        backtracks = (P1.claim s.0).backtracks;
+        consumes = (P1.claim s.0).consumes;
+        grammar = Made OneTuple tt (P1.claim s.0).grammar;
+        decides = ⊥;
+        alike = λ o p. o ≡ p;
+    } };
+
     ghost leaves_ends = { λ form. sequence1_ends I.reading (P1.meaning form)
         (P1.leaves_ends form) };
+
+    ghost claimed = { λ s. record {
+        exact = λ form is. tuple1_exact (P1.meaning form) (record { 0 = s.0 }) ((P1.claimed s.0).exact form is);
+        soft = λ form is soft. tuple1_soft (P1.meaning form) (record { 0 = s.0 }) ((P1.claimed s.0).soft form is soft);
+        takes = λ is some. made_of_takes OneTuple tt ((P1.claimed s.0).takes is some);
+        decided = λ form never. absurd never;
+    } };
 
     #[inline(always)]
     fn parse_next(&mut self, input: &mut I) -> Result<(O1,), E> {
@@ -97,8 +135,12 @@ impl<I: Stream, O1: Drop, O2, E: ParserError<I>, P1: Parser<I, O1, E>, P2: Parse
 
     ghost meaning = { λ form. SequenceRuns2 (P1.meaning form) (P2.meaning form) };
 
+    ghost claim = { λ s. sequence2_claim (P1.claim s.0) (P2.claim s.1) };
+
     ghost leaves_ends = { λ form. sequence2_ends I.reading (P1.meaning form) (P2.meaning form)
         (P1.leaves_ends form) (P2.leaves_ends form) };
+
+    ghost claimed = { λ s. sequence2_claimed (P1.claimed s.0) (P2.claimed s.1) };
 
     #[inline(always)]
     fn parse_next(&mut self, input: &mut I) -> Result<(O1, O2), E> {
@@ -144,8 +186,12 @@ impl<
 
     ghost meaning = { λ form. SequenceRuns3 (P1.meaning form) (P2.meaning form) (P3.meaning form) };
 
+    ghost claim = { λ s. sequence3_claim (P1.claim s.0) (P2.claim s.1) (P3.claim s.2) };
+
     ghost leaves_ends = { λ form. sequence3_ends I.reading (P1.meaning form) (P2.meaning form)
         (P3.meaning form) (P1.leaves_ends form) (P2.leaves_ends form) (P3.leaves_ends form) };
+
+    ghost claimed = { λ s. sequence3_claimed (P1.claimed s.0) (P2.claimed s.1) (P3.claimed s.2) };
 
     #[inline(always)]
     fn parse_next(&mut self, input: &mut I) -> Result<(O1, O2, O3), E> {
@@ -200,9 +246,13 @@ impl<
     ghost meaning = { λ form. SequenceRuns4 (P1.meaning form) (P2.meaning form)
         (P3.meaning form) (P4.meaning form) };
 
+    ghost claim = { λ s. sequence4_claim (P1.claim s.0) (P2.claim s.1) (P3.claim s.2) (P4.claim s.3) };
+
     ghost leaves_ends = { λ form. sequence4_ends I.reading (P1.meaning form) (P2.meaning form)
         (P3.meaning form) (P4.meaning form) (P1.leaves_ends form) (P2.leaves_ends form)
         (P3.leaves_ends form) (P4.leaves_ends form) };
+
+    ghost claimed = { λ s. sequence4_claimed (P1.claimed s.0) (P2.claimed s.1) (P3.claimed s.2) (P4.claimed s.3) };
 
     #[inline(always)]
     fn parse_next(&mut self, input: &mut I) -> Result<(O1, O2, O3, O4), E> {
@@ -264,10 +314,14 @@ impl<
     ghost meaning = { λ form. SequenceRuns5 (P1.meaning form) (P2.meaning form)
         (P3.meaning form) (P4.meaning form) (P5.meaning form) };
 
+    ghost claim = { λ s. sequence5_claim (P1.claim s.0) (P2.claim s.1) (P3.claim s.2) (P4.claim s.3) (P5.claim s.4) };
+
     ghost leaves_ends = { λ form. sequence5_ends I.reading (P1.meaning form) (P2.meaning form)
         (P3.meaning form) (P4.meaning form) (P5.meaning form) (P1.leaves_ends form)
         (P2.leaves_ends form) (P3.leaves_ends form) (P4.leaves_ends form)
         (P5.leaves_ends form) };
+
+    ghost claimed = { λ s. sequence5_claimed (P1.claimed s.0) (P2.claimed s.1) (P3.claimed s.2) (P4.claimed s.3) (P5.claimed s.4) };
 
     #[inline(always)]
     fn parse_next(&mut self, input: &mut I) -> Result<(O1, O2, O3, O4, O5), E> {
@@ -343,10 +397,14 @@ impl<
     ghost meaning = { λ form. SequenceRuns6 (P1.meaning form) (P2.meaning form)
         (P3.meaning form) (P4.meaning form) (P5.meaning form) (P6.meaning form) };
 
+    ghost claim = { λ s. sequence6_claim (P1.claim s.0) (P2.claim s.1) (P3.claim s.2) (P4.claim s.3) (P5.claim s.4) (P6.claim s.5) };
+
     ghost leaves_ends = { λ form. sequence6_ends I.reading (P1.meaning form) (P2.meaning form)
         (P3.meaning form) (P4.meaning form) (P5.meaning form) (P6.meaning form)
         (P1.leaves_ends form) (P2.leaves_ends form) (P3.leaves_ends form)
         (P4.leaves_ends form) (P5.leaves_ends form) (P6.leaves_ends form) };
+
+    ghost claimed = { λ s. sequence6_claimed (P1.claimed s.0) (P2.claimed s.1) (P3.claimed s.2) (P4.claimed s.3) (P5.claimed s.4) (P6.claimed s.5) };
 
     #[inline(always)]
     fn parse_next(&mut self, input: &mut I) -> Result<(O1, O2, O3, O4, O5, O6), E> {

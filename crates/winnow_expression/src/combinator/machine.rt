@@ -1,5 +1,5 @@
 //! The machine: one loop over the open operators.
-ghost use Rattle.std.specs.Prelude.{◌≡◌, reverse};
+ghost use Rattle.std.specs.Prelude.{reverse};
 ghost use Rattle.stream_errors.specs.Form.{answer_by, assert_kind};
 ghost use Rattle.streams.specs.Input.{IsEndOf};
 ghost use Rattle.winnow_expression.specs.Calls.{call_of, calls_of, opens_of};

@@ -1,6 +1,7 @@
 //! The places of operands and of operators.
 ghost use Rattle.winnow_expression.specs.Places.{FirstRuns, NextRuns};
 ghost use Rattle.winnow_expression.specs.Places.Laws.{first_ends, next_ends};
+ghost use Rattle.winnow_core.specs.Claim.{no_claim, nothing_claimed};
 
 use crate::combinator::operators::{Infix, Postfix, Prefix};
 use stream_errors::parser_error::ParserError;
@@ -49,8 +50,12 @@ impl<I: Stream, O, E: ParserError<I>, F, P: Parser<I, O, E>, R: Parser<I, Prefix
 
     ghost meaning = { λ form. FirstRuns (P.meaning form) (R.meaning form) };
 
+    ghost claim = { λ _. no_claim };
+
     ghost leaves_ends = { λ form. first_ends I.reading (P.meaning form) (R.meaning form)
         (P.leaves_ends form) (R.leaves_ends form) };
+
+    ghost claimed = { λ _. nothing_claimed };
 
     #[inline(always)]
     fn parse_next(&mut self, input: &mut I) -> Result<First<O, F>, E> {
@@ -85,8 +90,12 @@ impl<
 
     ghost meaning = { λ form. NextRuns I.reading.units (P.meaning form) (R.meaning form) };
 
+    ghost claim = { λ _. no_claim };
+
     ghost leaves_ends = { λ form. next_ends I.reading (P.meaning form) (R.meaning form)
         (P.leaves_ends form) (R.leaves_ends form) };
+
+    ghost claimed = { λ _. nothing_claimed };
 
     #[inline(always)]
     fn parse_next(&mut self, input: &mut I) -> Result<Next<G, H>, E> {

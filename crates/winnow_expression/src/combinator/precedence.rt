@@ -4,11 +4,7 @@ ghost use Rattle.winnow_expression.specs.Expression.{level_of, operand_of};
 
 use crate::combinator::folds::NoFold;
 use crate::combinator::impls::Expression;
-use std::alloc::Allocator;
-use stream_errors::parser_error::ParserError;
-use streams::stream::Stream;
 use winnow_comb::combinator::impls::Fail;
-use winnow_core::parser::Parser;
 
 /// A parser of operands with prefix, postfix and infix operators between them, joined by the
 /// powers of the operators.
@@ -67,11 +63,6 @@ pub fn expression<Input, Operand, Output, Error, A>(
     alloc: A,
     operand: Operand,
 ) -> Expression<Input, Output, Operand, Fail, Fail, Fail, NoFold, NoFold, NoFold, Error, A>
-where
-    Input: Stream,
-    Operand: Parser<Input, Output, Error>,
-    Error: ParserError<Input>,
-    A: Allocator + Copy,
     ensures operand { operand_of result ≡ operand }
     ensures level { level_of result ≡ pos 0 }
 {

@@ -1,9 +1,8 @@
 //! Hexadecimal numbers.
-ghost use Rattle.std.specs.Prelude.{◌≡◌, ◌+◌, ◌*◌, ◌^◌, ◌<◌, ◌≤◌, ℕ, [], length, true, false};
+ghost use Rattle.std.specs.Prelude.{◌≡◌, ◌+◌, ◌*◌, ◌<◌, ◌≤◌, [], length, true, false};
 ghost use Rattle.std.specs.Bool.{MatchBool};
 ghost use Rattle.std.specs.Char.{digit_value};
 ghost use Rattle.std.specs.List.{AllByRecursion};
-ghost use Rattle.std.proofs.Common.{arith};
 ghost use Rattle.stream_errors.specs.Form.{answer_by};
 ghost use Rattle.stream_sets.specs.AsChar.{IsHexDigit};
 ghost use Rattle.streams.specs.Input.{IsEndOf};

@@ -5,8 +5,8 @@
 ghost use Rattle.std.specs.Prelude.{◌≡◌, ◌≤◌, ◌<◌, ◌+◌, ◌-◌, ◌*◌, ◌++◌, ℕ, List, IfSome, length};
 ghost use Rattle.std.specs.Prelude.{replicate, take};
 ghost use Rattle.winnow_numbers.specs.Digits.{value_in};
-ghost use Rattle.winnow_numbers.specs.Lanes.{AreAtMost, BeginsNumeral, EndsDigits};
-ghost use Rattle.winnow_numbers.specs.Lanes.{as_words, in_base, joined};
+ghost use Rattle.winnow_numbers.specs.Lanes.{AreAtMost, BeginsNumeral, EndsDigits, as_words};
+ghost use Rattle.winnow_numbers.specs.Lanes.{in_base, joined};
 
 use std::simd::prelude::*;
 

@@ -1,6 +1,6 @@
 //! Decimal numerals, as slices of the input.
 ghost use Rattle.std.specs.Prelude.{◌≡◌, ◌++◌, ℕ, List, MatchResult, Some, true, ◌⊎◌};
-ghost use Rattle.streams.specs.Input.{Input, IsEndOf, Takes};
+ghost use Rattle.streams.specs.Input.{IsEndOf, Takes};
 ghost use Rattle.streams.specs.Kind.{backtrack};
 ghost use Rattle.stream_errors.specs.Form.{incomplete_kind};
 ghost use Rattle.winnow_numbers.specs.Digits.{AreCharacters};

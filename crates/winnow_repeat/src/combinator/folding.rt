@@ -1,5 +1,5 @@
 //! How repetition folds its outputs into a value.
-ghost use Rattle.std.specs.Prelude.{◌≡◌, MatchResult, Ok, Err};
+ghost use Rattle.std.specs.Prelude.{MatchResult, Ok, Err};
 ghost use Rattle.stream_errors.specs.Form.{Answer, answer_by, assert_kind};
 ghost use Rattle.stream_sets.specs.Range.{IsWithin, bounds_of, from_to};
 ghost use Rattle.streams.specs.Input.{IsEndOf};

@@ -9,10 +9,8 @@ ghost use Rattle.winnow_repeat.specs.RepeatTill.{repeat_till_terminator};
 
 use crate::combinator::impls::iterator::Progress;
 use crate::combinator::impls::{Fill, ParserIterator, Repeat, RepeatTill};
-use std::alloc::Allocator;
 use std::marker::PhantomData;
 use stream_errors::parser_error::ParserError;
-use stream_sets::accumulate::Accumulate;
 use stream_sets::range::Range;
 use streams::stream::Stream;
 use winnow_core::parser::Parser;
@@ -74,12 +72,6 @@ where
 /// ```
 #[inline(always)]
 pub fn repeat<P, I, O, C, E, A>(alloc: A, occurrences: Range, parser: P) -> Repeat<P, I, O, C, E, A>
-where
-    I: Stream,
-    C: Accumulate<O, A>,
-    E: ParserError<I>,
-    P: Parser<I, O, E>,
-    A: Allocator + Copy,
     ensures occurrences { repeat_occurrences result ≡ occurrences }
     ensures parser { repeat_parser result ≡ parser }
 {
@@ -124,13 +116,6 @@ pub fn repeat_till<P, G, I, O, D, C, E, A>(
     parser: P,
     terminator: G,
 ) -> RepeatTill<P, G, I, O, D, C, E, A>
-where
-    I: Stream,
-    C: Accumulate<O, A>,
-    E: ParserError<I>,
-    P: Parser<I, O, E>,
-    G: Parser<I, D, E>,
-    A: Allocator + Copy,
     ensures occurrences { repeat_till_occurrences result ≡ occurrences }
     ensures parser { repeat_till_parser result ≡ parser }
     ensures terminator { repeat_till_terminator result ≡ terminator }
@@ -161,10 +146,6 @@ where
 /// ```
 #[inline(always)]
 pub fn fill<P, I, O, E>(parser: P, buffer: &mut [O]) -> Fill<'_, P, I, O, E>
-where
-    I: Stream,
-    E: ParserError<I>,
-    P: Parser<I, O, E>,
     ensures parser { fill_parser result ≡ parser }
     ensures buffer { (fill_buffer result).elements ≡ buffer.old }
     ensures same_buffer { (fill_buffer result).name ≡ buffer.entry.ghost_name }

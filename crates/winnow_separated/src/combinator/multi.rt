@@ -9,13 +9,8 @@ ghost use Rattle.winnow_separated.specs.SeparatedFoldr1.{foldr1_separator};
 
 use crate::combinator::impls::link::Link;
 use crate::combinator::impls::{Separated, SeparatedFoldl1, SeparatedFoldr1};
-use std::alloc::Allocator;
 use std::marker::PhantomData;
-use stream_errors::parser_error::ParserError;
-use stream_sets::accumulate::Accumulate;
 use stream_sets::range::Range;
-use streams::stream::Stream;
-use winnow_core::parser::Parser;
 
 /// Runs `parser` and `separator` in turns, as many elements as `occurrences` says, and puts the
 /// outputs of `parser` into an accumulator, as [`repeat`](winnow_repeat::combinator::repeat) does.
@@ -43,13 +38,6 @@ pub fn separated<P, S, I, O, D, C, E, A>(
     parser: P,
     separator: S,
 ) -> Separated<P, S, I, O, D, C, E, A>
-where
-    I: Stream,
-    C: Accumulate<O, A>,
-    E: ParserError<I>,
-    P: Parser<I, O, E>,
-    S: Parser<I, D, E>,
-    A: Allocator + Copy,
     ensures occurrences { separated_occurrences result ≡ occurrences }
     ensures parser { separated_parser result ≡ parser }
     ensures separator { separated_separator result ≡ separator }
@@ -84,10 +72,6 @@ pub fn separated_foldl1<P, S, H, I, O, D, E>(
     op: H,
 ) -> SeparatedFoldl1<P, S, H, I, O, D, E>
 where
-    I: Stream,
-    E: ParserError<I>,
-    P: Parser<I, O, E>,
-    S: Parser<I, D, E>,
     H: FnMut(O, D, O) -> O,
     ensures parser { foldl1_parser result ≡ parser }
     ensures separator { foldl1_separator result ≡ separator }
@@ -120,12 +104,7 @@ pub fn separated_foldr1<P, S, H, I, O, D, E, A>(
     op: H,
 ) -> SeparatedFoldr1<P, S, H, I, O, D, E, A>
 where
-    I: Stream,
-    E: ParserError<I>,
-    P: Parser<I, O, E>,
-    S: Parser<I, D, E>,
     H: FnMut(O, D, O) -> O,
-    A: Allocator + Copy,
     ensures parser { foldr1_parser result ≡ parser }
     ensures separator { foldr1_separator result ≡ separator }
     ensures op { foldr1_closure result ≡ op }

@@ -2,7 +2,7 @@ use Rattle.winnow.specs.Read.{reads_by}
 use Rattle.dns_names.proofs.labels.read_sized.Goals as goal
 
 pub returns : goal.returns
-returns g c = reads_by c.read.ensures (rw (
+returns g c = reads_by c.read.ensures.reads (rw (
   c.repeat.ensures.occurrences,
   c.repeat.ensures.parser,
   c.from.ensures,

@@ -5,7 +5,7 @@ use Rattle.winnow.specs.Read.{reads_by}
 use Rattle.http_heads.proofs.field_line.read_name.Goals as goal
 
 pub returns : goal.returns
-returns c = reads_by {h = NameRead} c.read.ensures (rw (
+returns c = reads_by {h = NameRead} c.read.ensures.reads (rw (
   c.terminated.ensures.parser,
   c.terminated.ensures.ignored,
   c.take_while-name.ensures.occurrences,

@@ -5,7 +5,7 @@ use Rattle.http_heads.specs.RequestRead.{MethodTarget}
 use Rattle.http_heads.proofs.request_line.read_method_and_target.Goals as goal
 
 pub returns : goal.returns
-returns c = reads_by {h = MethodTarget} c.read.ensures (rw (
+returns c = reads_by {h = MethodTarget} c.read.ensures.reads (rw (
   c.separated_pair.ensures.first,
   c.separated_pair.ensures.separator,
   c.separated_pair.ensures.second,

@@ -8,7 +8,7 @@ returns c =
     let first = c.as_slice-protocol.result in
     let last = c.as_slice-end.result in
     reads_as (same_version first last c.as_slice-protocol.ensures c.as_slice-end.ensures)
-    (reads_by {h = VersionRead first last} c.read.ensures (rw (
+    (reads_by {h = VersionRead first last} c.read.ensures.reads (rw (
       c.delimited.ensures.ignored1,
       c.delimited.ensures.parser,
       c.delimited.ensures.ignored2,

@@ -20,4 +20,4 @@ read-requires-clause-premise c = (
 pub returns : goal.returns
 returns c =
     reads_as (meaning_same _ _ ArePair _ (λ o u. (λ m. search rules, λ m. search rules)))
-    c.read.ensures
+    c.read.ensures.reads

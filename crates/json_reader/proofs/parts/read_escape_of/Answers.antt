@@ -2,7 +2,7 @@ use Rattle.winnow.specs.Read.{reads_by}
 use Rattle.json_reader.proofs.parts.read_escape_of.Goals as goal
 
 pub returns : goal.returns
-returns g c = reads_by c.read.ensures (rw (
+returns g c = reads_by c.read.ensures.reads (rw (
   c.preceded-2.ensures.ignored,
   c.preceded-2.ensures.parser,
   c.alt.ensures,

@@ -31,7 +31,7 @@ read_all-requires-clause-premise g c =
     )
 
 pub returns : goal.returns
-returns g c = reads_all_by c.read_all.ensures (rw (
+returns g c = reads_all_by c.read_all.ensures.reads (rw (
   c.preceded.ensures.ignored,
   c.preceded.ensures.parser,
   c.terminated.ensures.parser,

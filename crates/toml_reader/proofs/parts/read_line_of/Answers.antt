@@ -3,7 +3,7 @@ use Rattle.winnow.specs.Read.{reads_by}
 use Rattle.toml_reader.proofs.parts.read_line_of.Goals as goal
 
 pub returns : goal.returns
-returns g c = reads_by c.read.ensures (three_by _ (rw c.delimited.ensures.ignored1)
+returns g c = reads_by c.read.ensures.reads (three_by _ (rw c.delimited.ensures.ignored1)
     (rw (
       c.delimited.ensures.parser,
       c.opt.ensures,

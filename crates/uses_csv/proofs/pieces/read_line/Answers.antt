@@ -4,14 +4,14 @@ use Rattle.uses_csv.proofs.pieces.read_line.Goals as goal
 
 pub returns-clause-line : goal.returns-clause-line
 returns-clause-line g c =
-    line_told c.args.end c.bytes.result c.bytes.ensures refl c.read.ensures (rw (
+    line_told c.args.end c.bytes.result c.bytes.ensures refl c.read.ensures.reads (rw (
       c.terminated.ensures.ignored,
       c.literal.ensures,
     ))
 
 pub returns-clause-none : goal.returns-clause-none
 returns-clause-none g c =
-    line_fails c.args.end c.bytes.result c.bytes.ensures refl c.read.ensures (rw (
+    line_fails c.args.end c.bytes.result c.bytes.ensures refl c.read.ensures.reads (rw (
       c.terminated.ensures.ignored,
       c.literal.ensures,
     ))

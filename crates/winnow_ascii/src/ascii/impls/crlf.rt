@@ -1,5 +1,5 @@
 //! A carriage return and a line feed.
-ghost use Rattle.std.specs.Prelude.{⊤, [], ◌∷◌};
+ghost use Rattle.std.specs.Prelude.{⊤, [], ◌∷◌, ◌≡◌};
 ghost use Rattle.grammars.specs.Grammar.{SpelledBy};
 ghost use Rattle.grammars.specs.Grammar.Searches.{Text};
 ghost use Rattle.grammars.specs.Grammar.Unique.{literally_takes};
@@ -16,7 +16,6 @@ use stream_searches::compare::Compare;
 use stream_searches::compare::like::ComparesLike;
 use streams::stream::{Stream, StreamIsPartial};
 use winnow_core::agrees_with::AgreesWith;
-use winnow_core::exact::Exact;
 use winnow_core::parser::Parser;
 use winnow_core::stable::Stable;
 
@@ -36,8 +35,24 @@ impl<I: StreamIsPartial + Compare<&'static str>, E: ParserError<I>> Parser<I, I:
 
     ghost meaning = { λ form. Keeps (λ _. CrlfRuns I.spells I.reading form) };
 
+    ghost claim = { λ s. record {
+        premise = SpellsByText I.spells;
+        backtracks = ⊤;
+        consumes = SpelledBy I.spells (13 ∷ 10 ∷ []) [] → ⊥;
+        grammar = Text I.reading I.spells (13 ∷ 10 ∷ []);
+        decides = ⊥;
+        alike = λ o p. o ≡ p;
+    } };
+
     ghost leaves_ends = { λ form x i answer y j r. crlf_ends I.spells I.reading form i answer j
         r.0 };
+
+    ghost claimed = { λ s. record {
+        exact = λ form is. text_exact I.reading form I.spells is I.same_units (13 ∷ 10 ∷ []);
+        soft = λ form is soft. text_soft I.reading form I.spells is I.same_units (13 ∷ 10 ∷ []);
+        takes = λ is some. literally_takes I.reading (SpelledBy I.spells) (λ _ slice. slice) (13 ∷ 10 ∷ []) some;
+        decided = λ form never. absurd never;
+    } };
 
     #[inline(always)]
     fn parse_next(&mut self, input: &mut I) -> Result<I::Slice, E> {
@@ -48,23 +63,6 @@ impl<I: StreamIsPartial + Compare<&'static str>, E: ParserError<I>> Parser<I, I:
 impl<I: StreamIsPartial + Compare<&'static str>, E: ParserError<I>> Stable<I, I::Slice, E>
     for Crlf {
     ghost stable = { leaf_stays I.following _ (λ _. crlf_stays I.spells I.reading) };
-}
-
-impl<I: StreamIsPartial + Compare<&'static str>, E: ParserError<I>> Exact<I, I::Slice, E> for Crlf {
-    ghost premise = { λ p. SpellsByText I.spells };
-
-    ghost consumes = { λ p. SpelledBy I.spells (13 ∷ 10 ∷ []) [] → ⊥ };
-
-    ghost grammar = { λ p. Text I.reading I.spells (13 ∷ 10 ∷ []) };
-
-    ghost exact = { λ p form is. text_exact I.reading form I.spells is I.same_units
-        (13 ∷ 10 ∷ []) };
-
-    ghost soft = { λ p form is soft. text_soft I.reading form I.spells is I.same_units
-        (13 ∷ 10 ∷ []) };
-
-    ghost takes = { λ p is some. literally_takes I.reading (SpelledBy I.spells)
-        (λ _ slice. slice) (13 ∷ 10 ∷ []) some };
 }
 
 impl<

@@ -7,9 +7,8 @@ ghost use Rattle.stream_sets.specs.Once.{SeesApart};
 ghost use Rattle.stream_sets.specs.Range.{from_to};
 ghost use Rattle.grammars.specs.Grammar.{Class};
 ghost use Rattle.winnow_ascii.specs.Class.{ClassRuns};
-ghost use Rattle.winnow_ascii.specs.Class.Laws.{SeenOnce, class_decided};
-ghost use Rattle.winnow_ascii.specs.Class.Laws.{class_exact, class_soft, class_takes, one_is_some};
-ghost use Rattle.winnow_ascii.specs.Class.Laws.{class_alike, class_ends};
+ghost use Rattle.winnow_ascii.specs.Class.Laws.{SeenOnce, class_decided, class_exact, class_soft};
+ghost use Rattle.winnow_ascii.specs.Class.Laws.{class_takes, one_is_some, class_alike, class_ends};
 ghost use Rattle.winnow_core.specs.Agrees.{agrees_plain};
 ghost use Rattle.winnow_core.specs.Literal.Laws.{ShowSame};
 ghost use Rattle.winnow_core.specs.Runs.{Keeps};
@@ -22,8 +21,6 @@ use stream_sets::as_char::AsChar;
 use streams::reads_like::ReadsLike;
 use streams::stream::{Stream, StreamIsPartial};
 use winnow_core::agrees_with::AgreesWith;
-use winnow_core::decided::Decided;
-use winnow_core::exact::Exact;
 use winnow_core::parser::Parser;
 use winnow_core::stable::Stable;
 
@@ -46,8 +43,24 @@ where
     ghost meaning = { λ form. Keeps
         (λ _. ClassRuns IsDecDigit 1 I.Token.code I.seen_as I.reading form) };
 
+    ghost claim = { λ s. record {
+        premise = SeesApart I.seen_as;
+        backtracks = ⊤;
+        consumes = ⊤;
+        grammar = Class IsDecDigit 1 I.Token.code I.seen_as I.reading;
+        decides = SeenOnce I.seen_as I.Token.code;
+        alike = ShowSame I.reading;
+    } };
+
     ghost leaves_ends = { λ form x i answer y j r. class_ends IsDecDigit 1 I.Token.code
         I.seen_as I.reading form i answer j r.0 };
+
+    ghost claimed = { λ s. record {
+        exact = λ form is. class_exact IsDecDigit 1 I.Token.code I.seen_as I.reading form is;
+        soft = λ form is soft. class_soft IsDecDigit 1 I.Token.code I.seen_as I.reading form;
+        takes = λ is some. class_takes IsDecDigit 1 I.Token.code I.seen_as I.reading one_is_some;
+        decided = λ form is. class_decided IsDecDigit 1 I.Token.code I.seen_as I.reading form is;
+    } };
 
     #[inline(always)]
     fn parse_next(&mut self, input: &mut I) -> Result<I::Slice, E> {
@@ -61,36 +74,6 @@ where
 {
     ghost stable = { leaf_stays I.following _
         (λ _. take_while_stays I.reading _ (from_to 1 None)) };
-}
-
-impl<I: StreamIsPartial, E: ParserError<I>> Decided<I, I::Slice, E> for Digit1
-where
-    I::Token: AsChar,
-{
-    ghost premise = { λ p. SeenOnce I.seen_as I.Token.code };
-
-    ghost alike = { λ p. ShowSame I.reading };
-
-    ghost decided = { λ p form is. class_decided IsDecDigit 1 I.Token.code I.seen_as I.reading
-        form is };
-}
-
-impl<I: StreamIsPartial, E: ParserError<I>> Exact<I, I::Slice, E> for Digit1
-where
-    I::Token: AsChar,
-{
-    ghost premise = { λ p. SeesApart I.seen_as };
-
-    ghost grammar = { λ p. Class IsDecDigit 1 I.Token.code I.seen_as I.reading };
-
-    ghost exact = { λ p form is. class_exact IsDecDigit 1 I.Token.code I.seen_as I.reading form
-        is };
-
-    ghost soft = { λ p form is soft. class_soft IsDecDigit 1 I.Token.code I.seen_as I.reading
-        form };
-
-    ghost takes = { λ p is some. class_takes IsDecDigit 1 I.Token.code I.seen_as I.reading
-        one_is_some };
 }
 
 impl<

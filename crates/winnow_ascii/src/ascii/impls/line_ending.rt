@@ -1,5 +1,5 @@
 //! A line end, with or without a carriage return.
-ghost use Rattle.std.specs.Prelude.{⊤, ◌<◌, ◌∷◌, []};
+ghost use Rattle.std.specs.Prelude.{⊤, ◌<◌, ◌∷◌, [], ◌≡◌};
 ghost use Rattle.grammars.specs.Grammar.{SpelledBy};
 ghost use Rattle.grammars.specs.Grammar.Searches.{LineEnd};
 ghost use Rattle.grammars.specs.Grammar.Unique.{either_takes, literally_takes};
@@ -18,7 +18,6 @@ use stream_searches::compare::Compare;
 use stream_searches::compare::like::ComparesLike;
 use streams::stream::{Stream, StreamIsPartial};
 use winnow_core::agrees_with::AgreesWith;
-use winnow_core::exact::Exact;
 use winnow_core::parser::Parser;
 use winnow_core::stable::Stable;
 
@@ -38,8 +37,24 @@ impl<I: StreamIsPartial + Compare<&'static str>, E: ParserError<I>> Parser<I, I:
 
     ghost meaning = { λ form. Keeps (λ _. LineEndingRuns I.spells I.reading form) };
 
+    ghost claim = { λ s. record {
+        premise = SpellsByText I.spells;
+        backtracks = ⊤;
+        consumes = (SpelledBy I.spells (10 ∷ []) [] → ⊥) × (SpelledBy I.spells (13 ∷ 10 ∷ []) [] → ⊥);
+        grammar = LineEnd I.reading I.spells;
+        decides = ⊥;
+        alike = λ o p. o ≡ p;
+    } };
+
     ghost leaves_ends = { λ form x i answer y j r. line_ending_ends I.spells I.reading form i
         answer j r.0 };
+
+    ghost claimed = { λ s. record {
+        exact = λ form is. line_ending_exact I.reading form I.spells is I.same_units;
+        soft = λ form is soft. line_ending_soft I.reading form I.spells is I.same_units;
+        takes = λ is some. either_takes (literally_takes I.reading (SpelledBy I.spells) (λ _ slice. slice) (10 ∷ []) some.0) (literally_takes I.reading (SpelledBy I.spells) (λ _ slice. slice) (13 ∷ 10 ∷ []) some.1);
+        decided = λ form never. absurd never;
+    } };
 
     #[inline(always)]
     fn parse_next(&mut self, input: &mut I) -> Result<I::Slice, E> {
@@ -50,24 +65,6 @@ impl<I: StreamIsPartial + Compare<&'static str>, E: ParserError<I>> Parser<I, I:
 impl<I: StreamIsPartial + Compare<&'static str>, E: ParserError<I>> Stable<I, I::Slice, E>
     for LineEnding {
     ghost stable = { leaf_stays I.following _ (λ _. line_ending_stays I.spells I.reading) };
-}
-
-impl<I: StreamIsPartial + Compare<&'static str>, E: ParserError<I>> Exact<I, I::Slice, E>
-    for LineEnding {
-    ghost premise = { λ p. SpellsByText I.spells };
-
-    ghost consumes = { λ p. (SpelledBy I.spells (10 ∷ []) [] → ⊥)
-        × (SpelledBy I.spells (13 ∷ 10 ∷ []) [] → ⊥) };
-
-    ghost grammar = { λ p. LineEnd I.reading I.spells };
-
-    ghost exact = { λ p form is. line_ending_exact I.reading form I.spells is I.same_units };
-
-    ghost soft = { λ p form is soft. line_ending_soft I.reading form I.spells is I.same_units };
-
-    ghost takes = { λ p is some. either_takes (literally_takes I.reading (SpelledBy I.spells)
-        (λ _ slice. slice) (10 ∷ []) some.0) (literally_takes I.reading (SpelledBy I.spells)
-        (λ _ slice. slice) (13 ∷ 10 ∷ []) some.1) };
 }
 
 impl<

@@ -4,8 +4,7 @@ ghost use Rattle.std.proofs.Common.{refl};
 ghost use Rattle.grammars.specs.Grammar.{Literally};
 ghost use Rattle.grammars.specs.Grammar.Unique.{literally_takes};
 ghost use Rattle.winnow_core.specs.Agrees.{agrees_plain};
-ghost use Rattle.winnow_core.specs.Literal.Laws.{literal_decided};
-ghost use Rattle.winnow_core.specs.Literal.Laws.{literal_exact, literal_soft};
+ghost use Rattle.winnow_core.specs.Literal.Laws.{literal_decided, literal_exact, literal_soft};
 ghost use Rattle.winnow_core.specs.Literal.Laws.{literal_stays};
 ghost use Rattle.winnow_core.specs.Runs.{Keeps};
 ghost use Rattle.winnow_core.specs.Stable.Grows.{leaf_stays};
@@ -18,8 +17,6 @@ use stream_searches::compare::Compare;
 use stream_searches::compare::like::ComparesLike;
 use streams::stream::{Stream, StreamIsPartial};
 use winnow_core::agrees_with::AgreesWith;
-use winnow_core::decided::Decided;
-use winnow_core::exact::Exact;
 use winnow_core::parser::Parser;
 use winnow_core::stable::Stable;
 
@@ -38,8 +35,24 @@ impl<I: StreamIsPartial + Compare<char>, E: ParserError<I>> Parser<I, char, E> f
 
     ghost meaning = { λ form. Keeps (λ _. NewlineRuns I.spells I.reading form) };
 
+    ghost claim = { λ s. record {
+        premise = ⊤;
+        backtracks = ⊤;
+        consumes = I.spells 10 [] → ⊥;
+        grammar = Literally I.reading I.spells (λ s _. s) 10;
+        decides = ⊤;
+        alike = λ o p. o ≡ p;
+    } };
+
     ghost leaves_ends = { λ form x i answer y j r. newline_ends I.spells I.reading form i answer
         j r.0 };
+
+    ghost claimed = { λ s. record {
+        exact = λ form is. literal_exact I.reading form I.spells (λ s _. s) (λ _. 10) tt (I.same_units 10);
+        soft = λ form is soft. literal_soft I.reading form I.spells (λ s _. s) (λ _. 10) tt;
+        takes = λ is some. literally_takes I.reading I.spells (λ s _. s) 10 some;
+        decided = λ form is. literal_decided I.reading form I.spells (λ s _. s) (λ _. 10) (λ o q. o ≡ q) tt (I.same_units 10) (λ slice other shown. refl);
+    } };
 
     #[inline(always)]
     fn parse_next(&mut self, input: &mut I) -> Result<char, E> {
@@ -50,25 +63,6 @@ impl<I: StreamIsPartial + Compare<char>, E: ParserError<I>> Parser<I, char, E> f
 impl<I: StreamIsPartial + Compare<char>, E: ParserError<I>> Stable<I, char, E> for Newline {
     ghost stable = { leaf_stays I.following _
         (λ _. literal_stays I.reading (I.spells 10) (λ _. 10)) };
-}
-
-impl<I: StreamIsPartial + Compare<char>, E: ParserError<I>> Decided<I, char, E> for Newline {
-    ghost decided = { λ p form is. literal_decided I.reading form I.spells (λ s _. s) (λ _. 10)
-        (λ o q. o ≡ q) tt (I.same_units 10) (λ slice other shown. refl) };
-}
-
-impl<I: StreamIsPartial + Compare<char>, E: ParserError<I>> Exact<I, char, E> for Newline {
-    ghost consumes = { λ p. I.spells 10 [] → ⊥ };
-
-    ghost grammar = { λ p. Literally I.reading I.spells (λ s _. s) 10 };
-
-    ghost exact = { λ p form is. literal_exact I.reading form I.spells (λ s _. s) (λ _. 10) tt
-        (I.same_units 10) };
-
-    ghost soft = { λ p form is soft. literal_soft I.reading form I.spells (λ s _. s) (λ _. 10)
-        tt };
-
-    ghost takes = { λ p is some. literally_takes I.reading I.spells (λ s _. s) 10 some };
 }
 
 impl<

@@ -1,5 +1,5 @@
 //! What stands before a line end.
-ghost use Rattle.std.specs.Prelude.{⊤, ◌<◌};
+ghost use Rattle.std.specs.Prelude.{⊤, ◌<◌, ◌≡◌};
 ghost use Rattle.grammars.specs.Grammar.Searches.{Line};
 ghost use Rattle.winnow_core.specs.Agrees.{agrees_plain};
 ghost use Rattle.winnow_core.specs.Literal.Laws.{SpellsByText};
@@ -21,7 +21,6 @@ use stream_searches::find::FindSlice;
 use stream_searches::find::like::FindsLike;
 use streams::stream::{Stream, StreamIsPartial};
 use winnow_core::agrees_with::AgreesWith;
-use winnow_core::exact::Exact;
 use winnow_core::parser::Parser;
 use winnow_core::stable::Stable;
 
@@ -43,8 +42,24 @@ impl<
 
     ghost meaning = { λ form. Keeps (λ _. TillLineEndingRuns I.spells I.sought I.reading form) };
 
+    ghost claim = { λ s. record {
+        premise = SpellsByText I.spells;
+        backtracks = ⊤;
+        consumes = ⊥;
+        grammar = Line I.reading I.spells I.sought;
+        decides = ⊥;
+        alike = λ o p. o ≡ p;
+    } };
+
     ghost leaves_ends = { λ form x i answer y j r. till_line_ending_ends I.spells I.sought
         I.reading form i answer j r.0 };
+
+    ghost claimed = { λ s. record {
+        exact = λ form is. till_line_ending_exact I.reading form I.spells is I.sought;
+        soft = λ form is soft. till_line_ending_soft I.reading form I.spells is I.sought;
+        takes = λ is never. absurd never;
+        decided = λ form never. absurd never;
+    } };
 
     #[inline(always)]
     fn parse_next(&mut self, input: &mut I) -> Result<I::Slice, E> {
@@ -56,24 +71,6 @@ impl<I: LineEnds, E: ParserError<I>> Stable<I, I::Slice, E> for TillLineEnding {
     ghost stable = { leaf_stays I.following _
         (λ _. till_line_ending_stays I.spells I.sought I.reading (I.stays_first (13, 10))
         I.seeks_some I.spells_one) };
-}
-
-impl<I: StreamIsPartial + Compare<&'static str> + FindSlice<(char, char)>, E: ParserError<I>> Exact<
-    I,
-    I::Slice,
-    E,
-> for TillLineEnding {
-    ghost premise = { λ p. SpellsByText I.spells };
-
-    ghost consumes = { λ p. ⊥ };
-
-    ghost grammar = { λ p. Line I.reading I.spells I.sought };
-
-    ghost exact = { λ p form is. till_line_ending_exact I.reading form I.spells is I.sought };
-
-    ghost soft = { λ p form is soft. till_line_ending_soft I.reading form I.spells is I.sought };
-
-    ghost takes = { λ p is never. absurd never };
 }
 
 impl<

@@ -1,12 +1,12 @@
 //! A signed integer of 2 bytes, which stand in an order that is chosen.
 //!
 //! Written by scripts/families.py: do not edit.
-ghost use Rattle.std.specs.Prelude.{◌≡◌};
-ghost use Rattle.winnow_binary.specs.Chosen.{ChosenRuns, i16_endian};
+ghost use Rattle.std.specs.Prelude.{◌≡◌, ⊤};
+ghost use Rattle.winnow_binary.specs.Chosen.{ChosenRuns};
 ghost use Rattle.winnow_integers.specs.Integer.{signed_value};
 ghost use Rattle.winnow_integers.specs.Integer.Laws.{integer_exact, integer_soft, some_bytes};
-ghost use Rattle.winnow_integers.specs.Integer.Grammar.{Integer, integer_takes};
 ghost use Rattle.winnow_integers.specs.Integer.Laws.{integer_alike, integer_ends, integer_stays};
+ghost use Rattle.winnow_integers.specs.Integer.Grammar.{Integer, integer_takes};
 ghost use Rattle.winnow_integers.specs.declared.binary.endianness.Endianness.{Endianness};
 ghost use Rattle.winnow_core.specs.Agrees.{agrees_by};
 ghost use Rattle.winnow_core.specs.Stable.Grows.{leaf_stays};
@@ -17,7 +17,6 @@ use streams::byte_stream::ByteStream;
 use streams::reads_like::ReadsLike;
 use streams::stream::{Stream, StreamIsPartial};
 use winnow_core::agrees_with::AgreesWith;
-use winnow_core::exact::Exact;
 use winnow_core::parser::Parser;
 use winnow_core::stable::Stable;
 use winnow_integers::binary::{Endianness, be_i16, le_i16};
@@ -43,8 +42,24 @@ impl<I: StreamIsPartial + ByteStream, E: ParserError<I>> Parser<I, i16, E> for I
 
     ghost meaning = { λ form. ChosenRuns 2 signed_value I.reading form };
 
+    ghost claim = { λ s. record {
+        premise = ⊤;
+        backtracks = ⊤;
+        consumes = ⊤;
+        grammar = Integer 2 (signed_value s);
+        decides = ⊥;
+        alike = λ o p. o ≡ p;
+    } };
+
     ghost leaves_ends = { λ form x i answer y j r. integer_ends 2 (signed_value x) I.reading
         form i answer j r.0 };
+
+    ghost claimed = { λ s. record {
+        exact = λ form is. integer_exact 2 signed_value I.reading form s;
+        soft = λ form is soft. integer_soft 2 signed_value I.reading form s;
+        takes = λ is some. integer_takes 2 (signed_value s) (some_bytes 1);
+        decided = λ form never. absurd never;
+    } };
 
     #[inline(always)]
     fn parse_next(&mut self, input: &mut I) -> Result<i16, E> {
@@ -57,16 +72,6 @@ impl<I: StreamIsPartial + ByteStream, E: ParserError<I>> Parser<I, i16, E> for I
 
 impl<I: StreamIsPartial + ByteStream, E: ParserError<I>> Stable<I, i16, E> for I16<I, E> {
     ghost stable = { leaf_stays I.following _ (λ x. integer_stays 2 (signed_value x) I.reading) };
-}
-
-impl<I: StreamIsPartial + ByteStream, E: ParserError<I>> Exact<I, i16, E> for I16<I, E> {
-    ghost grammar = { λ p. Integer 2 (signed_value (i16_endian p)) };
-
-    ghost exact = { λ p form is. integer_exact 2 signed_value I.reading form (i16_endian p) };
-
-    ghost soft = { λ p form is soft. integer_soft 2 signed_value I.reading form (i16_endian p) };
-
-    ghost takes = { λ p is some. integer_takes 2 (signed_value (i16_endian p)) (some_bytes 1) };
 }
 
 impl<

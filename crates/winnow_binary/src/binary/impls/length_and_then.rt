@@ -5,12 +5,12 @@ ghost use Rattle.stream_errors.specs.Form.{answer_by, modal};
 ghost use Rattle.winnow_core.specs.CompleteErr.{CompleteErrRuns};
 ghost use Rattle.winnow_core.specs.Stable.Grows.{grows, stays};
 ghost use Rattle.winnow_binary.specs.LengthAndThen.{LengthAndThenRuns, TakenRuns};
-ghost use Rattle.winnow_binary.specs.LengthAndThen.{length_and_then_count, length_and_then_parser};
 ghost use Rattle.winnow_binary.specs.LengthAndThen.Laws.{length_and_then_exact};
 ghost use Rattle.winnow_binary.specs.LengthAndThen.Laws.{length_and_then_soft};
 ghost use Rattle.winnow_binary.specs.LengthAndThen.Laws.{length_and_then_agrees};
 ghost use Rattle.winnow_binary.specs.LengthAndThen.Laws.{length_and_then_ends};
 ghost use Rattle.winnow_binary.specs.LengthAndThen.Laws.{length_and_then_grows};
+ghost use Rattle.std.specs.Prelude.{◌≡◌};
 
 use std::marker::PhantomData;
 use stream_errors::parser_error::ParserError;
@@ -18,7 +18,6 @@ use stream_sets::numbers::ToUsize;
 use streams::reads_like::ReadsLike;
 use streams::stream::{Stream, StreamIsPartial, UpdateSlice};
 use winnow_core::agrees_with::AgreesWith;
-use winnow_core::exact::Exact;
 use winnow_core::parser::Parser;
 use winnow_core::short::short;
 use winnow_core::stable::Stable;
@@ -54,8 +53,24 @@ impl<
     ghost meaning = { λ form. LengthAndThenRuns N.number I.reading form I.counts_missing
         (P.meaning form) (G.meaning form) };
 
+    ghost claim = { λ s. record {
+        premise = (P.claim s.0).premise × SaysOne N.number (P.claim s.0).grammar × (G.claim s.1).premise;
+        backtracks = (P.claim s.0).backtracks × (G.claim s.1).backtracks;
+        consumes = (P.claim s.0).consumes;
+        grammar = Sized N.number (Inside (G.claim s.1).grammar) (P.claim s.0).grammar;
+        decides = ⊥;
+        alike = λ o p. o ≡ p;
+    } };
+
     ghost leaves_ends = { λ form. length_and_then_ends N.number I.reading form I.counts_missing
         (P.meaning form) (G.meaning form) (P.leaves_ends form) };
+
+    ghost claimed = { λ s. record {
+        exact = λ form is. length_and_then_exact N.number I.reading form I.counts_missing is.1 ((P.claimed s.0).exact form is.0) ((G.claimed s.1).exact form is.2);
+        soft = λ form is soft. length_and_then_soft N.number I.reading form I.counts_missing ((P.claimed s.0).exact form is.0) ((P.claimed s.0).soft form is.0 soft.0) ((G.claimed s.1).soft form is.2 soft.1);
+        takes = λ is some. sized_inside_takes N.number (G.claim s.1).grammar ((P.claimed s.0).exact modal is.0).unique ((P.claimed s.0).takes is.0 some);
+        decided = λ form never. absurd never;
+    } };
 
     #[inline]
     fn parse_next(&mut self, input: &mut I) -> Result<O, E> {
@@ -124,41 +139,6 @@ impl<
     ghost stable = { stays
         (length_and_then_grows I.reading I.counts_missing N.number (G.meaning modal)
         (grows (P.leaves_ends modal) P.stable)) };
-}
-
-impl<
-    P: Exact<I, N, E>,
-    G: Exact<I, O, E>,
-    I: StreamIsPartial + UpdateSlice + Copy,
-    N: ToUsize + Drop,
-    O,
-    E: ParserError<I>,
-> Exact<I, O, E> for LengthAndThen<P, G, I, N, O, E> {
-    ghost premise = { λ p. P.premise (length_and_then_count p)
-        × SaysOne N.number (P.grammar (length_and_then_count p))
-        × G.premise (length_and_then_parser p) };
-
-    ghost backtracks = { λ p. P.backtracks (length_and_then_count p)
-        × G.backtracks (length_and_then_parser p) };
-
-    ghost consumes = { λ p. P.consumes (length_and_then_count p) };
-
-    ghost grammar = { λ p. Sized N.number (Inside (G.grammar (length_and_then_parser p)))
-        (P.grammar (length_and_then_count p)) };
-
-    ghost exact = { λ p form is. length_and_then_exact N.number I.reading form
-        I.counts_missing is.1 (P.exact (length_and_then_count p) form is.0)
-        (G.exact (length_and_then_parser p) form is.2) };
-
-    ghost soft = { λ p form is soft. length_and_then_soft N.number I.reading form
-        I.counts_missing (P.exact (length_and_then_count p) form is.0)
-        (P.soft (length_and_then_count p) form is.0 soft.0)
-        (G.soft (length_and_then_parser p) form is.2 soft.1) };
-
-    ghost takes = { λ p is some. sized_inside_takes N.number
-        (G.grammar (length_and_then_parser p))
-        (P.exact (length_and_then_count p) modal is.0).unique
-        (P.takes (length_and_then_count p) is.0 some) };
 }
 
 impl<

@@ -3,20 +3,18 @@ ghost use Rattle.grammars.specs.Grammar.Lengths.{SaysOne, Sized, Times, sized_ti
 ghost use Rattle.stream_errors.specs.Form.{assert_kind, modal};
 ghost use Rattle.winnow_core.specs.Agrees.Sizes.{agrees2};
 ghost use Rattle.winnow_core.specs.Stable.Grows.{grows, stays};
-ghost use Rattle.winnow_binary.specs.LengthRepeat.{LengthRepeatRuns, length_repeat_count};
-ghost use Rattle.winnow_binary.specs.LengthRepeat.{length_repeat_parser};
+ghost use Rattle.winnow_binary.specs.LengthRepeat.{LengthRepeatRuns};
 ghost use Rattle.winnow_binary.specs.LengthRepeat.Laws.{length_repeat_exact, length_repeat_soft};
 ghost use Rattle.winnow_binary.specs.LengthRepeat.Laws.{length_repeat_ends, length_repeat_grows};
+ghost use Rattle.std.specs.Prelude.{◌≡◌};
 
 use std::alloc::Allocator;
 use std::marker::PhantomData;
 use stream_errors::parser_error::ParserError;
 use stream_sets::accumulate::Accumulate;
-use stream_sets::gathers::Gathers;
 use stream_sets::numbers::ToUsize;
 use streams::stream::Stream;
 use winnow_core::agrees_with::AgreesWith;
-use winnow_core::exact::Exact;
 use winnow_core::parser::Parser;
 use winnow_core::stable::Stable;
 use winnow_repeat::combinator::items::repeat_many;
@@ -55,9 +53,25 @@ impl<
     ghost meaning = { λ form. LengthRepeatRuns N.number C.accumulator (assert_kind form)
         (P.meaning form) (G.meaning form) };
 
+    ghost claim = { λ s. record {
+        premise = (P.claim s.0).premise × SaysOne N.number (P.claim s.0).grammar × (G.claim s.1).premise × (G.claim s.1).backtracks × (G.claim s.1).consumes;
+        backtracks = (P.claim s.0).backtracks;
+        consumes = (P.claim s.0).consumes;
+        grammar = Sized N.number (Times C.holds (G.claim s.1).grammar) (P.claim s.0).grammar;
+        decides = ⊥;
+        alike = λ o p. o ≡ p;
+    } };
+
     ghost leaves_ends = { λ form. length_repeat_ends I.reading N.number C.accumulator
         (assert_kind form) (P.meaning form) (G.meaning form) (P.leaves_ends form)
         (G.leaves_ends form) };
+
+    ghost claimed = { λ s. record {
+        exact = λ form is. length_repeat_exact N.number C.accumulator (assert_kind form) s ((P.claimed s.0).exact form is.0) ((G.claimed s.1).exact form is.2) ((G.claimed s.1).soft form is.2 is.3) ((G.claimed s.1).takes is.2 is.4) C.holds C.gathers is.1;
+        soft = λ form is soft. length_repeat_soft N.number C.accumulator (assert_kind form) s ((P.claimed s.0).exact form is.0) ((G.claimed s.1).exact form is.2) ((G.claimed s.1).soft form is.2 is.3) ((G.claimed s.1).takes is.2 is.4) C.holds C.gathers ((P.claimed s.0).soft form is.0 soft);
+        takes = λ is some. sized_times_takes N.number C.holds ((G.claimed s.1).exact modal is.2).unique ((P.claimed s.0).exact modal is.0).unique ((P.claimed s.0).takes is.0 some);
+        decided = λ form never. absurd never;
+    } };
 
     fn parse_next(&mut self, input: &mut I) -> Result<C, E> {
         let count = self.count.parse_next(input)?.to_usize();
@@ -78,49 +92,6 @@ impl<
     ghost stable = { stays
         (length_repeat_grows N.number C.accumulator (assert_kind modal) (G.meaning modal)
         (grows (P.leaves_ends modal) P.stable) (grows (G.leaves_ends modal) G.stable)) };
-}
-
-impl<
-    P: Exact<I, N, E>,
-    G: Exact<I, O, E>,
-    I: Stream,
-    N: ToUsize + Drop,
-    O: Drop,
-    C: Gathers<O, A>,
-    E: ParserError<I>,
-    A: Allocator + Copy,
-> Exact<I, C, E> for LengthRepeat<P, G, I, N, O, C, E, A> {
-    ghost premise = { λ p. P.premise (length_repeat_count p)
-        × SaysOne N.number (P.grammar (length_repeat_count p))
-        × G.premise (length_repeat_parser p) × G.backtracks (length_repeat_parser p)
-        × G.consumes (length_repeat_parser p) };
-
-    ghost backtracks = { λ p. P.backtracks (length_repeat_count p) };
-
-    ghost consumes = { λ p. P.consumes (length_repeat_count p) };
-
-    ghost grammar = { λ p. Sized N.number
-        (Times C.holds (G.grammar (length_repeat_parser p)))
-        (P.grammar (length_repeat_count p)) };
-
-    ghost exact = { λ p form is. length_repeat_exact N.number C.accumulator (assert_kind form)
-        (P.state (length_repeat_count p), G.state (length_repeat_parser p))
-        (P.exact (length_repeat_count p) form is.0) (G.exact (length_repeat_parser p) form is.2)
-        (G.soft (length_repeat_parser p) form is.2 is.3)
-        (G.takes (length_repeat_parser p) is.2 is.4) C.holds C.gathers is.1 };
-
-    ghost soft = { λ p form is soft. length_repeat_soft N.number C.accumulator
-        (assert_kind form)
-        (P.state (length_repeat_count p), G.state (length_repeat_parser p))
-        (P.exact (length_repeat_count p) form is.0) (G.exact (length_repeat_parser p) form is.2)
-        (G.soft (length_repeat_parser p) form is.2 is.3)
-        (G.takes (length_repeat_parser p) is.2 is.4) C.holds C.gathers
-        (P.soft (length_repeat_count p) form is.0 soft) };
-
-    ghost takes = { λ p is some. sized_times_takes N.number C.holds
-        (G.exact (length_repeat_parser p) modal is.2).unique
-        (P.exact (length_repeat_count p) modal is.0).unique
-        (P.takes (length_repeat_count p) is.0 some) };
 }
 
 impl<

@@ -3,11 +3,11 @@ ghost use Rattle.grammars.specs.Grammar.{Counted};
 ghost use Rattle.grammars.specs.Grammar.Lengths.{SaysOne, Sized};
 ghost use Rattle.stream_errors.specs.Form.{modal};
 ghost use Rattle.winnow_core.specs.Stable.Grows.{grows};
-ghost use Rattle.winnow_binary.specs.LengthTake.{LengthTakeRuns, length_take_count};
+ghost use Rattle.winnow_binary.specs.LengthTake.{LengthTakeRuns};
 ghost use Rattle.winnow_binary.specs.LengthTake.Laws.{length_take_exact, length_take_soft};
-ghost use Rattle.winnow_binary.specs.LengthTake.Laws.{length_take_takes};
-ghost use Rattle.winnow_binary.specs.LengthTake.Laws.{length_take_agrees, length_take_ends};
-ghost use Rattle.winnow_binary.specs.LengthTake.Laws.{length_take_stays};
+ghost use Rattle.winnow_binary.specs.LengthTake.Laws.{length_take_takes, length_take_agrees};
+ghost use Rattle.winnow_binary.specs.LengthTake.Laws.{length_take_ends, length_take_stays};
+ghost use Rattle.std.specs.Prelude.{◌≡◌};
 
 use std::marker::PhantomData;
 use stream_errors::parser_error::ParserError;
@@ -15,7 +15,6 @@ use stream_sets::numbers::ToUsize;
 use streams::reads_like::ReadsLike;
 use streams::stream::{Stream, StreamIsPartial};
 use winnow_core::agrees_with::AgreesWith;
-use winnow_core::exact::Exact;
 use winnow_core::parser::Parser;
 use winnow_core::stable::Stable;
 use winnow_token::token::take;
@@ -47,8 +46,24 @@ impl<P: Parser<I, N, E>, I: StreamIsPartial, N: ToUsize + Drop, E: ParserError<I
     ghost meaning = { λ form. LengthTakeRuns N.number I.reading form I.counts_missing
         (P.meaning form) };
 
+    ghost claim = { λ s. record {
+        premise = (P.claim s).premise × SaysOne N.number (P.claim s).grammar;
+        backtracks = (P.claim s).backtracks;
+        consumes = (P.claim s).consumes;
+        grammar = Sized N.number (Counted I.reading) (P.claim s).grammar;
+        decides = ⊥;
+        alike = λ o p. o ≡ p;
+    } };
+
     ghost leaves_ends = { λ form. length_take_ends N.number I.reading form I.counts_missing
         (P.meaning form) (P.leaves_ends form) };
+
+    ghost claimed = { λ s. record {
+        exact = λ form is. length_take_exact N.number I.reading form I.counts_missing is.1 ((P.claimed s).exact form is.0);
+        soft = λ form is soft. length_take_soft N.number I.reading form I.counts_missing ((P.claimed s).exact form is.0) ((P.claimed s).soft form is.0 soft);
+        takes = λ is some. length_take_takes N.number I.reading ((P.claimed s).exact modal is.0) ((P.claimed s).takes is.0 some);
+        decided = λ form never. absurd never;
+    } };
 
     #[inline]
     fn parse_next(&mut self, input: &mut I) -> Result<I::Slice, E> {
@@ -64,33 +79,6 @@ impl<P: Stable<I, N, E>, I: StreamIsPartial, N: ToUsize + Drop, E: ParserError<I
 > for LengthTake<P, I, N, E> {
     ghost stable = { length_take_stays I.reading I.counts_missing N.number
         (grows (P.leaves_ends modal) P.stable) };
-}
-
-impl<P: Exact<I, N, E>, I: StreamIsPartial, N: ToUsize + Drop, E: ParserError<I>> Exact<
-    I,
-    I::Slice,
-    E,
-> for LengthTake<P, I, N, E> {
-    ghost premise = { λ p. P.premise (length_take_count p)
-        × SaysOne N.number (P.grammar (length_take_count p)) };
-
-    ghost backtracks = { λ p. P.backtracks (length_take_count p) };
-
-    ghost consumes = { λ p. P.consumes (length_take_count p) };
-
-    ghost grammar = { λ p. Sized N.number (Counted I.reading)
-        (P.grammar (length_take_count p)) };
-
-    ghost exact = { λ p form is. length_take_exact N.number I.reading form I.counts_missing is.1
-        (P.exact (length_take_count p) form is.0) };
-
-    ghost soft = { λ p form is soft. length_take_soft N.number I.reading form I.counts_missing
-        (P.exact (length_take_count p) form is.0)
-        (P.soft (length_take_count p) form is.0 soft) };
-
-    ghost takes = { λ p is some. length_take_takes N.number I.reading
-        (P.exact (length_take_count p) modal is.0)
-        (P.takes (length_take_count p) is.0 some) };
 }
 
 impl<

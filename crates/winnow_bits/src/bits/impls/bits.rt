@@ -1,9 +1,9 @@
 //! A parser of bits, run on bytes.
-ghost use Rattle.stream_bits.specs.BitReading.{bits_reading};
 ghost use Rattle.stream_errors.specs.Form.{modal};
 ghost use Rattle.winnow_bits.specs.BitAgree.{bits_agree};
 ghost use Rattle.winnow_bits.specs.BitsOfBytes.{BitsOfBytesRuns};
 ghost use Rattle.winnow_bits.specs.BitsOfBytes.Laws.{bits_of_bytes_ends, bits_of_bytes_stays};
+ghost use Rattle.winnow_core.specs.Claim.{no_claim, nothing_claimed};
 
 use crate::bits::whole::{in_bytes, whole_bytes};
 use std::marker::PhantomData;
@@ -49,8 +49,12 @@ impl<
 
     ghost meaning = { λ form. BitsOfBytesRuns I.reading form (P.meaning form) };
 
+    ghost claim = { λ _. no_claim };
+
     ghost leaves_ends = { λ form. bits_of_bytes_ends I.reading form (P.meaning form)
         (P.leaves_ends form) };
+
+    ghost claimed = { λ _. nothing_claimed };
 
     #[inline]
     fn parse_next(&mut self, input: &mut I) -> Result<O, F> {

@@ -7,6 +7,7 @@ ghost use Rattle.winnow_bits.specs.BitBool.Laws.{bit_bool_alike, bit_bool_ends, 
 ghost use Rattle.winnow_core.specs.Agrees.{agrees_plain};
 ghost use Rattle.winnow_core.specs.Runs.{Keeps};
 ghost use Rattle.winnow_core.specs.Stable.Grows.{leaf_stays};
+ghost use Rattle.winnow_core.specs.Claim.{no_claim, nothing_claimed};
 
 use crate::bits;
 use stream_bits::bits::Bits;
@@ -36,8 +37,12 @@ impl<I: ByteStream + StreamIsPartial, E: ParserError<Bits<I>>> Parser<Bits<I>, b
 
     ghost meaning = { λ form. Keeps (λ _. BitBoolRuns (bits_reading I.reading) form) };
 
+    ghost claim = { λ _. no_claim };
+
     ghost leaves_ends = { λ form x i answer y j r.
         bit_bool_ends (bits_reading I.reading) form i answer j r.0 };
+
+    ghost claimed = { λ _. nothing_claimed };
 
     #[inline(always)]
     fn parse_next(&mut self, input: &mut Bits<I>) -> Result<bool, E> {

@@ -4,6 +4,7 @@ ghost use Rattle.stream_errors.specs.Form.{modal};
 ghost use Rattle.winnow_bits.specs.BitAgree.{bytes_agree};
 ghost use Rattle.winnow_bits.specs.BytesOfBits.{BytesOfBitsRuns};
 ghost use Rattle.winnow_bits.specs.BytesOfBits.Laws.{bytes_of_bits_ends, bytes_of_bits_stays};
+ghost use Rattle.winnow_core.specs.Claim.{no_claim, nothing_claimed};
 
 use crate::bits::whole::{in_bits, whole_bytes};
 use std::marker::PhantomData;
@@ -48,8 +49,12 @@ impl<
 
     ghost meaning = { λ form. BytesOfBitsRuns (bits_reading I.reading) form (P.meaning form) };
 
+    ghost claim = { λ _. no_claim };
+
     ghost leaves_ends = { λ form. bytes_of_bits_ends I.reading I.counts_bytes form
         (P.meaning form) (P.leaves_ends form) };
+
+    ghost claimed = { λ _. nothing_claimed };
 
     #[inline]
     fn parse_next(&mut self, input: &mut Bits<I>) -> Result<O, F> {

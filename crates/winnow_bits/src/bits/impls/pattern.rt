@@ -8,6 +8,7 @@ ghost use Rattle.winnow_bits.specs.BitPattern.Laws.{bit_pattern_stays};
 ghost use Rattle.winnow_core.specs.Agrees.{agrees_by_parts};
 ghost use Rattle.winnow_core.specs.Runs.{Keeps};
 ghost use Rattle.winnow_core.specs.Stable.Grows.{leaf_stays};
+ghost use Rattle.winnow_core.specs.Claim.{no_claim, nothing_claimed};
 
 use crate::bits::fields::take_counted;
 use crate::bits::output::BitOutput;
@@ -48,8 +49,12 @@ impl<I: ByteStream + StreamIsPartial, O: BitOutput, E: ParserError<Bits<I>>> Par
     ghost meaning = { λ form. Keeps
         (λ s. BitPatternRuns O.number O.WIDTH (bits_reading I.reading) form s.0 s.1) };
 
+    ghost claim = { λ _. no_claim };
+
     ghost leaves_ends = { λ form s i answer m j r.
         bit_pattern_ends O.number O.WIDTH (bits_reading I.reading) form s.0 s.1 i answer j r.0 };
+
+    ghost claimed = { λ _. nothing_claimed };
 
     #[inline(always)]
     fn parse_next(&mut self, input: &mut Bits<I>) -> Result<O, E> {

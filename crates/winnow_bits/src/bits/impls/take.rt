@@ -7,6 +7,7 @@ ghost use Rattle.winnow_bits.specs.BitTake.Laws.{bit_take_alike, bit_take_ends, 
 ghost use Rattle.winnow_core.specs.Agrees.{agrees_by};
 ghost use Rattle.winnow_core.specs.Runs.{Keeps};
 ghost use Rattle.winnow_core.specs.Stable.Grows.{leaf_stays};
+ghost use Rattle.winnow_core.specs.Claim.{no_claim, nothing_claimed};
 
 use crate::bits::fields::take_counted;
 use crate::bits::output::BitOutput;
@@ -47,8 +48,12 @@ impl<I: ByteStream + StreamIsPartial, O: BitOutput, E: ParserError<Bits<I>>> Par
     ghost meaning = { λ form. Keeps
         (λ n. BitTakeRuns O.number O.WIDTH (bits_reading I.reading) form n) };
 
+    ghost claim = { λ _. no_claim };
+
     ghost leaves_ends = { λ form n i answer m j r.
         bit_take_ends O.number O.WIDTH (bits_reading I.reading) form n i answer j r.0 };
+
+    ghost claimed = { λ _. nothing_claimed };
 
     #[inline(always)]
     fn parse_next(&mut self, input: &mut Bits<I>) -> Result<O, E> {

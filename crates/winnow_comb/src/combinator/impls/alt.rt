@@ -3,11 +3,10 @@ ghost use Rattle.std.specs.Prelude.{⊤, ◌≡◌};
 ghost use Rattle.stream_errors.specs.Form.{ErrorForm, answer_by};
 ghost use Rattle.streams.specs.Input.{IsEndOf};
 ghost use Rattle.winnow_comb.specs.Attempt.{AttemptRuns};
+ghost use Rattle.winnow_core.specs.Claim.{Claim, Claimed};
 ghost use Rattle.winnow_core.specs.Runs.{LeaveEnds, Meaning};
 
 mod agreeing;
-mod decided;
-mod exact;
 mod slices;
 mod tuples;
 
@@ -37,6 +36,9 @@ pub trait Alt<I: Stream, O, E: ParserError<I>> {
     // What the choice means: by the form of the errors, its runs.
     ghost meaning: { Meaning State I.Seen O };
 
+    // What the choice claims of its runs from a state.
+    ghost claim: { State → Claim I.Seen O };
+
     /// Runs the branches in order, each from the start, to the first answer that does not
     /// backtrack.
     fn choice(&mut self, input: &mut I) -> Result<O, E>
@@ -48,6 +50,9 @@ pub trait Alt<I: Stream, O, E: ParserError<I>> {
 
     // Each run leaves an end of its input.
     ghost leaves_ends: { (form : ErrorForm) → LeaveEnds I.reading (meaning form) };
+
+    // Its runs keep what is claimed.
+    ghost claimed: { (s : State) → Claimed (claim s) s meaning };
 }
 
 /// The parser that [`alt`](crate::combinator::alt) makes.
@@ -73,7 +78,11 @@ impl<A: Alt<I, O, E>, I: Stream, O, E: ParserError<I>> Parser<I, O, E> for AltPa
 
     ghost meaning = { A.meaning };
 
+    ghost claim = { A.claim };
+
     ghost leaves_ends = { A.leaves_ends };
+
+    ghost claimed = { A.claimed };
 
     #[inline(always)]
     fn parse_next(&mut self, input: &mut I) -> Result<O, E> {

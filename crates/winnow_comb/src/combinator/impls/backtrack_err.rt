@@ -4,6 +4,7 @@ ghost use Rattle.winnow_comb.specs.BacktrackErr.{BacktrackErrRuns};
 ghost use Rattle.winnow_comb.specs.BacktrackErr.Laws.{backtrack_err_ends, backtrack_err_grows};
 ghost use Rattle.winnow_core.specs.Agrees.{agrees1};
 ghost use Rattle.winnow_core.specs.Stable.Grows.{grows, stays};
+ghost use Rattle.winnow_core.specs.Claim.{no_claim, nothing_claimed};
 
 use std::marker::PhantomData;
 use stream_errors::modal::ModalError;
@@ -37,8 +38,12 @@ impl<P: Parser<I, O, E>, I: Stream, O, E: ParserError<I> + ModalError> Parser<I,
 
     ghost meaning = { λ form. BacktrackErrRuns (P.meaning form) };
 
+    ghost claim = { λ _. no_claim };
+
     ghost leaves_ends = { λ form. backtrack_err_ends I.reading (P.meaning form)
         (P.leaves_ends form) };
+
+    ghost claimed = { λ _. nothing_claimed };
 
     #[inline(always)]
     fn parse_next(&mut self, input: &mut I) -> Result<O, E> {

@@ -4,15 +4,13 @@ ghost use Rattle.grammars.specs.Grammar.{When};
 ghost use Rattle.stream_errors.specs.Form.{modal};
 ghost use Rattle.winnow_core.specs.Agrees.{agrees_with};
 ghost use Rattle.winnow_core.specs.Stable.Grows.{grows, stays};
-ghost use Rattle.winnow_comb.specs.Cond.{CondRuns, cond_condition, cond_parser};
-ghost use Rattle.winnow_comb.specs.Cond.Laws.{cond_exact, cond_soft};
-ghost use Rattle.winnow_comb.specs.Cond.Laws.{cond_ends, cond_grows};
+ghost use Rattle.winnow_comb.specs.Cond.{CondRuns};
+ghost use Rattle.winnow_comb.specs.Cond.Laws.{cond_exact, cond_soft, cond_ends, cond_grows};
 
 use std::marker::PhantomData;
 use stream_errors::parser_error::ParserError;
 use streams::stream::Stream;
 use winnow_core::agrees_with::AgreesWith;
-use winnow_core::exact::Exact;
 use winnow_core::parser::Parser;
 use winnow_core::stable::Stable;
 
@@ -41,7 +39,23 @@ impl<P: Parser<I, O, E>, I: Stream, O, E: ParserError<I>> Parser<I, Option<O>, E
 
     ghost meaning = { λ form. CondRuns (P.meaning form) };
 
+    ghost claim = { λ s. record {
+        premise = (P.claim s.0).premise;
+        backtracks = (P.claim s.0).backtracks;
+        consumes = ⊥;
+        grammar = When s.1 (P.claim s.0).grammar;
+        decides = ⊥;
+        alike = λ o p. o ≡ p;
+    } };
+
     ghost leaves_ends = { λ form. cond_ends I.reading (P.meaning form) (P.leaves_ends form) };
+
+    ghost claimed = { λ s. record {
+        exact = λ form is. cond_exact ((P.claimed s.0).exact form is);
+        soft = λ form is soft. cond_soft ((P.claimed s.0).soft form is soft);
+        takes = λ is never. absurd never;
+        decided = λ form never. absurd never;
+    } };
 
     #[inline(always)]
     fn parse_next(&mut self, input: &mut I) -> Result<Option<O>, E> {
@@ -57,23 +71,6 @@ impl<P: Parser<I, O, E>, I: Stream, O, E: ParserError<I>> Parser<I, Option<O>, E
 impl<I: Stream, O, E: ParserError<I>, P: Stable<I, O, E>> Stable<I, Option<O>, E>
     for Cond<P, I, O, E> {
     ghost stable = { stays (cond_grows (grows (P.leaves_ends modal) P.stable)) };
-}
-
-impl<P: Exact<I, O, E>, I: Stream, O, E: ParserError<I>> Exact<I, Option<O>, E>
-    for Cond<P, I, O, E> {
-    ghost premise = { λ p. P.premise (cond_parser p) };
-
-    ghost backtracks = { λ p. P.backtracks (cond_parser p) };
-
-    ghost consumes = { λ p. ⊥ };
-
-    ghost grammar = { λ p. When (cond_condition p) (P.grammar (cond_parser p)) };
-
-    ghost exact = { λ p form is. cond_exact (P.exact (cond_parser p) form is) };
-
-    ghost soft = { λ p form is soft. cond_soft (P.soft (cond_parser p) form is soft) };
-
-    ghost takes = { λ p is never. absurd never };
 }
 
 impl<

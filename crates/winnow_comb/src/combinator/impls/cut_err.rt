@@ -2,18 +2,15 @@
 ghost use Rattle.stream_errors.specs.Form.{modal};
 ghost use Rattle.winnow_core.specs.Agrees.{agrees1};
 ghost use Rattle.winnow_core.specs.Stable.Grows.{grows, stays};
-ghost use Rattle.winnow_comb.specs.CutErr.{CutErrRuns, cut_err_parser};
-ghost use Rattle.winnow_comb.specs.CutErr.Laws.{cut_err_decided};
-ghost use Rattle.winnow_comb.specs.CutErr.Laws.{cut_err_exact};
-ghost use Rattle.winnow_comb.specs.CutErr.Laws.{cut_err_ends, cut_err_grows};
+ghost use Rattle.winnow_comb.specs.CutErr.{CutErrRuns};
+ghost use Rattle.winnow_comb.specs.CutErr.Laws.{cut_err_decided, cut_err_exact, cut_err_ends};
+ghost use Rattle.winnow_comb.specs.CutErr.Laws.{cut_err_grows};
 
 use std::marker::PhantomData;
 use stream_errors::modal::ModalError;
 use stream_errors::parser_error::ParserError;
 use streams::stream::Stream;
 use winnow_core::agrees_with::AgreesWith;
-use winnow_core::decided::Decided;
-use winnow_core::exact::Exact;
 use winnow_core::parser::Parser;
 use winnow_core::stable::Stable;
 
@@ -41,7 +38,23 @@ impl<P: Parser<I, O, E>, I: Stream, O, E: ParserError<I> + ModalError> Parser<I,
 
     ghost meaning = { λ form. CutErrRuns (P.meaning form) };
 
+    ghost claim = { λ s. record {
+        premise = (P.claim s).premise;
+        backtracks = ⊥;
+        consumes = (P.claim s).consumes;
+        grammar = (P.claim s).grammar;
+        decides = (P.claim s).decides;
+        alike = (P.claim s).alike;
+    } };
+
     ghost leaves_ends = { λ form. cut_err_ends I.reading (P.meaning form) (P.leaves_ends form) };
+
+    ghost claimed = { λ s. record {
+        exact = λ form is. cut_err_exact ((P.claimed s).exact form is);
+        soft = λ form is never. absurd never;
+        takes = λ is some. (P.claimed s).takes is some;
+        decided = λ form is. cut_err_decided ((P.claimed s).decided form is);
+    } };
 
     #[inline(always)]
     fn parse_next(&mut self, input: &mut I) -> Result<O, E> {
@@ -55,32 +68,6 @@ impl<P: Parser<I, O, E>, I: Stream, O, E: ParserError<I> + ModalError> Parser<I,
 impl<P: Stable<I, O, E>, I: Stream, O, E: ParserError<I> + ModalError> Stable<I, O, E>
     for CutErr<P, I, O, E> {
     ghost stable = { stays (cut_err_grows (grows (P.leaves_ends modal) P.stable)) };
-}
-
-impl<P: Decided<I, O, E>, I: Stream, O, E: ParserError<I> + ModalError> Decided<I, O, E>
-    for CutErr<P, I, O, E> {
-    ghost premise = { λ p. P.premise (cut_err_parser p) };
-
-    ghost alike = { λ p. P.alike (cut_err_parser p) };
-
-    ghost decided = { λ p form is. cut_err_decided (P.decided (cut_err_parser p) form is) };
-}
-
-impl<P: Exact<I, O, E>, I: Stream, O, E: ParserError<I> + ModalError> Exact<I, O, E>
-    for CutErr<P, I, O, E> {
-    ghost premise = { λ p. P.premise (cut_err_parser p) };
-
-    ghost backtracks = { λ p. ⊥ };
-
-    ghost consumes = { λ p. P.consumes (cut_err_parser p) };
-
-    ghost grammar = { λ p. P.grammar (cut_err_parser p) };
-
-    ghost exact = { λ p form is. cut_err_exact (P.exact (cut_err_parser p) form is) };
-
-    ghost soft = { λ p form is never. absurd never };
-
-    ghost takes = { λ p is some. P.takes (cut_err_parser p) is some };
 }
 
 impl<

@@ -8,15 +8,12 @@ ghost use Rattle.winnow_core.specs.InOrder.Decided.{three_decided};
 ghost use Rattle.winnow_core.specs.InOrder.Laws.{three_ends, three_grow};
 ghost use Rattle.winnow_core.specs.InOrder.Three.{three_exact, three_soft, three_takes};
 ghost use Rattle.winnow_core.specs.Stable.Grows.{grows, stays};
-ghost use Rattle.winnow_comb.specs.Delimited.{DelimitedRuns, delimited_ignored1};
-ghost use Rattle.winnow_comb.specs.Delimited.{delimited_ignored2, delimited_parser};
+ghost use Rattle.winnow_comb.specs.Delimited.{DelimitedRuns};
 
 use std::marker::PhantomData;
 use stream_errors::parser_error::ParserError;
 use streams::stream::Stream;
 use winnow_core::agrees_with::AgreesWith;
-use winnow_core::decided::Decided;
-use winnow_core::exact::Exact;
 use winnow_core::parser::Parser;
 use winnow_core::stable::Stable;
 
@@ -57,9 +54,25 @@ impl<
 
     ghost meaning = { λ form. DelimitedRuns (P1.meaning form) (P2.meaning form) (P3.meaning form) };
 
+    ghost claim = { λ s. record {
+        premise = (P1.claim s.0).premise × (P2.claim s.1).premise × (P3.claim s.2).premise;
+        backtracks = (P1.claim s.0).backtracks × (P2.claim s.1).backtracks × (P3.claim s.2).backtracks;
+        consumes = ((P1.claim s.0).consumes ⊎ (P2.claim s.1).consumes) ⊎ (P3.claim s.2).consumes;
+        grammar = Three (λ o1 o2 o3. o2) (P1.claim s.0).grammar (P2.claim s.1).grammar (P3.claim s.2).grammar;
+        decides = (P1.claim s.0).decides × (P2.claim s.1).decides × (P3.claim s.2).decides;
+        alike = (P2.claim s.1).alike;
+    } };
+
     ghost leaves_ends = { λ form. three_ends I.reading (λ o1 o2 o3. o2) (P1.meaning form)
         (P2.meaning form) (P3.meaning form) (P1.leaves_ends form) (P2.leaves_ends form)
         (P3.leaves_ends form) };
+
+    ghost claimed = { λ s. record {
+        exact = λ form is. three_exact ((P1.claimed s.0).exact form is.0) ((P2.claimed s.1).exact form is.1) ((P3.claimed s.2).exact form is.2);
+        soft = λ form is soft. three_soft ((P1.claimed s.0).exact form is.0) ((P2.claimed s.1).exact form is.1) ((P1.claimed s.0).soft form is.0 soft.0) ((P2.claimed s.1).soft form is.1 soft.1) ((P3.claimed s.2).soft form is.2 soft.2);
+        takes = λ is some. three_takes (λ o1 o2 o3. o2) ((P1.claimed s.0).exact modal is.0) ((P2.claimed s.1).exact modal is.1) ((P3.claimed s.2).exact modal is.2) (either_way (either_way ((P1.claimed s.0).takes is.0) ((P2.claimed s.1).takes is.1)) ((P3.claimed s.2).takes is.2) some);
+        decided = λ form is. three_decided (P2.claim s.1).alike (λ o q r u x y first like last. like) ((P1.claimed s.0).decided form is.0) ((P2.claimed s.1).decided form is.1) ((P3.claimed s.2).decided form is.2);
+    } };
 
     #[inline(always)]
     fn parse_next(&mut self, input: &mut I) -> Result<O2, E> {
@@ -84,66 +97,6 @@ impl<
         (three_grow (λ o1 o2 o3. o2) (grows (P1.leaves_ends modal) P1.stable)
         (grows (P2.leaves_ends modal) P2.stable)
         (grows (P3.leaves_ends modal) P3.stable)) };
-}
-
-impl<
-    P1: Decided<I, O1, E>,
-    P2: Decided<I, O2, E>,
-    P3: Decided<I, O3, E>,
-    I: Stream,
-    O1: Drop,
-    O2: Drop,
-    O3: Drop,
-    E: ParserError<I>,
-> Decided<I, O2, E> for Delimited<P1, P2, P3, I, O1, O2, O3, E> {
-    ghost premise = { λ p. P1.premise (delimited_ignored1 p) × P2.premise (delimited_parser p)
-        × P3.premise (delimited_ignored2 p) };
-
-    ghost alike = { λ p. P2.alike (delimited_parser p) };
-
-    ghost decided = { λ p form is. three_decided (P2.alike (delimited_parser p))
-        (λ o q r u x y first like last. like) (P1.decided (delimited_ignored1 p) form is.0)
-        (P2.decided (delimited_parser p) form is.1)
-        (P3.decided (delimited_ignored2 p) form is.2) };
-}
-
-impl<
-    P1: Exact<I, O1, E>,
-    P2: Exact<I, O2, E>,
-    P3: Exact<I, O3, E>,
-    I: Stream,
-    O1: Drop,
-    O2: Drop,
-    O3: Drop,
-    E: ParserError<I>,
-> Exact<I, O2, E> for Delimited<P1, P2, P3, I, O1, O2, O3, E> {
-    ghost premise = { λ p. P1.premise (delimited_ignored1 p) × P2.premise (delimited_parser p)
-        × P3.premise (delimited_ignored2 p) };
-
-    ghost backtracks = { λ p. P1.backtracks (delimited_ignored1 p)
-        × P2.backtracks (delimited_parser p)
-        × P3.backtracks (delimited_ignored2 p) };
-
-    ghost consumes = { λ p. (P1.consumes (delimited_ignored1 p) ⊎ P2.consumes (delimited_parser p))
-        ⊎ P3.consumes (delimited_ignored2 p) };
-
-    ghost grammar = { λ p. Three (λ o1 o2 o3. o2) (P1.grammar (delimited_ignored1 p))
-        (P2.grammar (delimited_parser p)) (P3.grammar (delimited_ignored2 p)) };
-
-    ghost exact = { λ p form is. three_exact (P1.exact (delimited_ignored1 p) form is.0)
-        (P2.exact (delimited_parser p) form is.1) (P3.exact (delimited_ignored2 p) form is.2) };
-
-    ghost soft = { λ p form is soft. three_soft (P1.exact (delimited_ignored1 p) form is.0)
-        (P2.exact (delimited_parser p) form is.1) (P1.soft (delimited_ignored1 p) form is.0 soft.0)
-        (P2.soft (delimited_parser p) form is.1 soft.1) (P3.soft
-        (delimited_ignored2 p) form is.2 soft.2) };
-
-    ghost takes = { λ p is some. three_takes (λ o1 o2 o3. o2)
-        (P1.exact (delimited_ignored1 p) modal is.0) (P2.exact (delimited_parser p) modal is.1)
-        (P3.exact (delimited_ignored2 p) modal is.2)
-        (either_way (either_way (P1.takes (delimited_ignored1 p) is.0) (P2.takes
-        (delimited_parser p) is.1))
-        (P3.takes (delimited_ignored2 p) is.2) some) };
 }
 
 impl<

@@ -1,5 +1,5 @@
 //! The parser that takes nothing.
-ghost use Rattle.std.specs.Prelude.{⊤, ◌<◌};
+ghost use Rattle.std.specs.Prelude.{⊤, ◌<◌, ◌≡◌};
 ghost use Rattle.grammars.specs.Grammar.{Nothing};
 ghost use Rattle.winnow_core.specs.Agrees.{agrees_plain};
 ghost use Rattle.winnow_core.specs.Ends.{same_ends};
@@ -7,14 +7,12 @@ ghost use Rattle.winnow_core.specs.Runs.{Keeps};
 ghost use Rattle.winnow_core.specs.SameMeaning.{same_refl};
 ghost use Rattle.winnow_core.specs.Stable.Grows.{leaf_stays};
 ghost use Rattle.winnow_comb.specs.Empty.{EmptyRuns};
-ghost use Rattle.winnow_comb.specs.Empty.Laws.{empty_exact, empty_soft};
-ghost use Rattle.winnow_comb.specs.Empty.Laws.{empty_stays};
+ghost use Rattle.winnow_comb.specs.Empty.Laws.{empty_exact, empty_soft, empty_stays};
 
 use crate::combinator::basic::empty;
 use stream_errors::parser_error::ParserError;
 use streams::stream::Stream;
 use winnow_core::agrees_with::AgreesWith;
-use winnow_core::exact::Exact;
 use winnow_core::parser::Parser;
 use winnow_core::stable::Stable;
 
@@ -34,7 +32,23 @@ impl<I: Stream, E: ParserError<I>> Parser<I, (), E> for Empty {
 
     ghost meaning = { λ _. Keeps (λ _. EmptyRuns) };
 
+    ghost claim = { λ s. record {
+        premise = ⊤;
+        backtracks = ⊤;
+        consumes = ⊥;
+        grammar = Nothing tt;
+        decides = ⊥;
+        alike = λ o p. o ≡ p;
+    } };
+
     ghost leaves_ends = { λ form x i answer y j r. same_ends I.reading i j r.0.1 };
+
+    ghost claimed = { λ s. record {
+        exact = λ form is. empty_exact;
+        soft = λ form is soft. empty_soft;
+        takes = λ is never. absurd never;
+        decided = λ form never. absurd never;
+    } };
 
     #[inline(always)]
     fn parse_next(&mut self, input: &mut I) -> Result<(), E> {
@@ -44,18 +58,6 @@ impl<I: Stream, E: ParserError<I>> Parser<I, (), E> for Empty {
 
 impl<I: Stream, E: ParserError<I>> Stable<I, (), E> for Empty {
     ghost stable = { leaf_stays I.following _ (λ _. empty_stays) };
-}
-
-impl<I: Stream, E: ParserError<I>> Exact<I, (), E> for Empty {
-    ghost consumes = { λ p. ⊥ };
-
-    ghost grammar = { λ p. Nothing tt };
-
-    ghost exact = { λ p form is. empty_exact };
-
-    ghost soft = { λ p form is soft. empty_soft };
-
-    ghost takes = { λ p is never. absurd never };
 }
 
 impl<

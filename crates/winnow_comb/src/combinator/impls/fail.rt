@@ -1,5 +1,5 @@
 //! The parser that fails.
-ghost use Rattle.std.specs.Prelude.{⊤, ◌<◌};
+ghost use Rattle.std.specs.Prelude.{⊤, ◌<◌, ◌≡◌};
 ghost use Rattle.grammars.specs.Grammar.{Never};
 ghost use Rattle.winnow_core.specs.Agrees.{agrees_plain};
 ghost use Rattle.winnow_core.specs.Ends.{same_ends};
@@ -7,14 +7,12 @@ ghost use Rattle.winnow_core.specs.Runs.{Keeps};
 ghost use Rattle.winnow_core.specs.SameMeaning.{same_refl};
 ghost use Rattle.winnow_core.specs.Stable.Grows.{leaf_stays};
 ghost use Rattle.winnow_comb.specs.Fail.{FailRuns};
-ghost use Rattle.winnow_comb.specs.Fail.Laws.{fail_exact, fail_soft, never_takes};
-ghost use Rattle.winnow_comb.specs.Fail.Laws.{fail_stays};
+ghost use Rattle.winnow_comb.specs.Fail.Laws.{fail_exact, fail_soft, never_takes, fail_stays};
 
 use crate::combinator::basic::fail;
 use stream_errors::parser_error::ParserError;
 use streams::stream::Stream;
 use winnow_core::agrees_with::AgreesWith;
-use winnow_core::exact::Exact;
 use winnow_core::parser::Parser;
 use winnow_core::stable::Stable;
 
@@ -34,7 +32,23 @@ impl<I: Stream, O, E: ParserError<I>> Parser<I, O, E> for Fail {
 
     ghost meaning = { λ _. Keeps (λ _. FailRuns) };
 
+    ghost claim = { λ s. record {
+        premise = ⊤;
+        backtracks = ⊤;
+        consumes = ⊤;
+        grammar = Never;
+        decides = ⊥;
+        alike = λ o p. o ≡ p;
+    } };
+
     ghost leaves_ends = { λ form x i answer y j r. same_ends I.reading i j r.0.1 };
+
+    ghost claimed = { λ s. record {
+        exact = λ form is. fail_exact;
+        soft = λ form is soft. fail_soft;
+        takes = λ is some. never_takes;
+        decided = λ form never. absurd never;
+    } };
 
     #[inline(always)]
     fn parse_next(&mut self, input: &mut I) -> Result<O, E> {
@@ -44,16 +58,6 @@ impl<I: Stream, O, E: ParserError<I>> Parser<I, O, E> for Fail {
 
 impl<I: Stream, O, E: ParserError<I>> Stable<I, O, E> for Fail {
     ghost stable = { leaf_stays I.following _ (λ _. fail_stays) };
-}
-
-impl<I: Stream, O, E: ParserError<I>> Exact<I, O, E> for Fail {
-    ghost grammar = { λ p. Never };
-
-    ghost exact = { λ p form is. fail_exact };
-
-    ghost soft = { λ p form is soft. fail_soft };
-
-    ghost takes = { λ p is some. never_takes };
 }
 
 impl<

@@ -4,17 +4,13 @@ ghost use Rattle.grammars.specs.Grammar.{Absent};
 ghost use Rattle.stream_errors.specs.Form.{modal};
 ghost use Rattle.winnow_core.specs.Agrees.{agrees1};
 ghost use Rattle.winnow_core.specs.Stable.Grows.{grows, stays};
-ghost use Rattle.winnow_comb.specs.Not.{NotRuns, not_parser};
-ghost use Rattle.winnow_comb.specs.Not.Laws.{not_decided};
-ghost use Rattle.winnow_comb.specs.Not.Laws.{not_exact, not_soft};
-ghost use Rattle.winnow_comb.specs.Not.Laws.{not_ends, not_grows};
+ghost use Rattle.winnow_comb.specs.Not.{NotRuns};
+ghost use Rattle.winnow_comb.specs.Not.Laws.{not_decided, not_exact, not_soft, not_ends, not_grows};
 
 use std::marker::PhantomData;
 use stream_errors::parser_error::ParserError;
 use streams::stream::Stream;
 use winnow_core::agrees_with::AgreesWith;
-use winnow_core::decided::Decided;
-use winnow_core::exact::Exact;
 use winnow_core::parser::Parser;
 use winnow_core::stable::Stable;
 
@@ -42,7 +38,23 @@ impl<P: Parser<I, O, E>, I: Stream, O: Drop, E: ParserError<I>> Parser<I, (), E>
 
     ghost meaning = { λ form. NotRuns (P.meaning form) };
 
+    ghost claim = { λ s. record {
+        premise = (P.claim s).premise × (P.claim s).backtracks;
+        backtracks = ⊤;
+        consumes = ⊥;
+        grammar = Absent (P.claim s).grammar;
+        decides = (P.claim s).decides;
+        alike = λ o q. ⊤;
+    } };
+
     ghost leaves_ends = { λ form. not_ends I.reading (P.meaning form) (P.leaves_ends form) };
+
+    ghost claimed = { λ s. record {
+        exact = λ form is. not_exact ((P.claimed s).exact form is.0) ((P.claimed s).soft form is.0 is.1);
+        soft = λ form is soft. not_soft ((P.claimed s).soft form is.0 is.1);
+        takes = λ is never. absurd never;
+        decided = λ form is. not_decided ((P.claimed s).decided form is);
+    } };
 
     #[inline(always)]
     fn parse_next(&mut self, input: &mut I) -> Result<(), E> {
@@ -65,30 +77,6 @@ impl<P: Parser<I, O, E>, I: Stream, O: Drop, E: ParserError<I>> Parser<I, (), E>
 impl<P: Stable<I, O, E>, I: Stream, O: Drop, E: ParserError<I>> Stable<I, (), E>
     for Not<P, I, O, E> {
     ghost stable = { stays (not_grows (grows (P.leaves_ends modal) P.stable)) };
-}
-
-impl<P: Decided<I, O, E>, I: Stream, O: Drop, E: ParserError<I>> Decided<I, (), E>
-    for Not<P, I, O, E> {
-    ghost premise = { λ p. P.premise (not_parser p) };
-
-    ghost alike = { λ p o q. ⊤ };
-
-    ghost decided = { λ p form is. not_decided (P.decided (not_parser p) form is) };
-}
-
-impl<P: Exact<I, O, E>, I: Stream, O: Drop, E: ParserError<I>> Exact<I, (), E> for Not<P, I, O, E> {
-    ghost premise = { λ p. P.premise (not_parser p) × P.backtracks (not_parser p) };
-
-    ghost consumes = { λ p. ⊥ };
-
-    ghost grammar = { λ p. Absent (P.grammar (not_parser p)) };
-
-    ghost exact = { λ p form is. not_exact (P.exact (not_parser p) form is.0)
-        (P.soft (not_parser p) form is.0 is.1) };
-
-    ghost soft = { λ p form is soft. not_soft (P.soft (not_parser p) form is.0 is.1) };
-
-    ghost takes = { λ p is never. absurd never };
 }
 
 impl<

@@ -3,17 +3,15 @@ ghost use Rattle.grammars.specs.Grammar.{Maybe};
 ghost use Rattle.stream_errors.specs.Form.{modal};
 ghost use Rattle.winnow_core.specs.Agrees.{agrees1};
 ghost use Rattle.winnow_core.specs.Stable.Grows.{grows, stays};
-ghost use Rattle.winnow_comb.specs.Opt.{OptRuns, opt_parser};
-ghost use Rattle.winnow_comb.specs.Opt.Laws.{AlikeOptions, opt_decided};
-ghost use Rattle.winnow_comb.specs.Opt.Laws.{opt_exact, opt_soft};
+ghost use Rattle.winnow_comb.specs.Opt.{OptRuns};
+ghost use Rattle.winnow_comb.specs.Opt.Laws.{AlikeOptions, opt_decided, opt_exact, opt_soft};
 ghost use Rattle.winnow_comb.specs.Opt.Laws.{opt_ends, opt_grows};
+ghost use Rattle.std.specs.Prelude.{⊤};
 
 use std::marker::PhantomData;
 use stream_errors::parser_error::ParserError;
 use streams::stream::Stream;
 use winnow_core::agrees_with::AgreesWith;
-use winnow_core::decided::Decided;
-use winnow_core::exact::Exact;
 use winnow_core::parser::Parser;
 use winnow_core::stable::Stable;
 
@@ -41,7 +39,23 @@ impl<P: Parser<I, O, E>, I: Stream, O, E: ParserError<I>> Parser<I, Option<O>, E
 
     ghost meaning = { λ form. OptRuns (P.meaning form) };
 
+    ghost claim = { λ s. record {
+        premise = (P.claim s).premise × (P.claim s).backtracks;
+        backtracks = ⊤;
+        consumes = ⊥;
+        grammar = Maybe (P.claim s).grammar;
+        decides = (P.claim s).decides;
+        alike = AlikeOptions (P.claim s).alike;
+    } };
+
     ghost leaves_ends = { λ form. opt_ends I.reading (P.meaning form) (P.leaves_ends form) };
+
+    ghost claimed = { λ s. record {
+        exact = λ form is. opt_exact ((P.claimed s).exact form is.0) ((P.claimed s).soft form is.0 is.1);
+        soft = λ form is soft. opt_soft ((P.claimed s).soft form is.0 is.1);
+        takes = λ is never. absurd never;
+        decided = λ form is. opt_decided ((P.claimed s).decided form is);
+    } };
 
     #[inline(always)]
     fn parse_next(&mut self, input: &mut I) -> Result<Option<O>, E> {
@@ -63,31 +77,6 @@ impl<P: Parser<I, O, E>, I: Stream, O, E: ParserError<I>> Parser<I, Option<O>, E
 impl<P: Stable<I, O, E>, I: Stream, O, E: ParserError<I>> Stable<I, Option<O>, E>
     for Opt<P, I, O, E> {
     ghost stable = { stays (opt_grows (grows (P.leaves_ends modal) P.stable)) };
-}
-
-impl<P: Decided<I, O, E>, I: Stream, O, E: ParserError<I>> Decided<I, Option<O>, E>
-    for Opt<P, I, O, E> {
-    ghost premise = { λ p. P.premise (opt_parser p) };
-
-    ghost alike = { λ p. AlikeOptions (P.alike (opt_parser p)) };
-
-    ghost decided = { λ p form is. opt_decided (P.decided (opt_parser p) form is) };
-}
-
-impl<P: Exact<I, O, E>, I: Stream, O, E: ParserError<I>> Exact<I, Option<O>, E>
-    for Opt<P, I, O, E> {
-    ghost premise = { λ p. P.premise (opt_parser p) × P.backtracks (opt_parser p) };
-
-    ghost consumes = { λ p. ⊥ };
-
-    ghost grammar = { λ p. Maybe (P.grammar (opt_parser p)) };
-
-    ghost exact = { λ p form is. opt_exact (P.exact (opt_parser p) form is.0)
-        (P.soft (opt_parser p) form is.0 is.1) };
-
-    ghost soft = { λ p form is soft. opt_soft (P.soft (opt_parser p) form is.0 is.1) };
-
-    ghost takes = { λ p is never. absurd never };
 }
 
 impl<

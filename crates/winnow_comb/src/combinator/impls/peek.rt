@@ -3,17 +3,14 @@ ghost use Rattle.grammars.specs.Grammar.{Ahead};
 ghost use Rattle.stream_errors.specs.Form.{modal};
 ghost use Rattle.winnow_core.specs.Agrees.{agrees1};
 ghost use Rattle.winnow_core.specs.Stable.Grows.{grows, stays};
-ghost use Rattle.winnow_comb.specs.Peek.{PeekRuns, peek_parser};
-ghost use Rattle.winnow_comb.specs.Peek.Laws.{peek_decided};
-ghost use Rattle.winnow_comb.specs.Peek.Laws.{peek_exact, peek_soft};
-ghost use Rattle.winnow_comb.specs.Peek.Laws.{peek_ends, peek_grows};
+ghost use Rattle.winnow_comb.specs.Peek.{PeekRuns};
+ghost use Rattle.winnow_comb.specs.Peek.Laws.{peek_decided, peek_exact, peek_soft, peek_ends};
+ghost use Rattle.winnow_comb.specs.Peek.Laws.{peek_grows};
 
 use std::marker::PhantomData;
 use stream_errors::parser_error::ParserError;
 use streams::stream::Stream;
 use winnow_core::agrees_with::AgreesWith;
-use winnow_core::decided::Decided;
-use winnow_core::exact::Exact;
 use winnow_core::parser::Parser;
 use winnow_core::stable::Stable;
 
@@ -40,7 +37,23 @@ impl<P: Parser<I, O, E>, I: Stream, O, E: ParserError<I>> Parser<I, O, E> for Pe
 
     ghost meaning = { λ form. PeekRuns (P.meaning form) };
 
+    ghost claim = { λ s. record {
+        premise = (P.claim s).premise;
+        backtracks = (P.claim s).backtracks;
+        consumes = ⊥;
+        grammar = Ahead (P.claim s).grammar;
+        decides = (P.claim s).decides;
+        alike = (P.claim s).alike;
+    } };
+
     ghost leaves_ends = { λ form. peek_ends I.reading (P.meaning form) (P.leaves_ends form) };
+
+    ghost claimed = { λ s. record {
+        exact = λ form is. peek_exact ((P.claimed s).exact form is);
+        soft = λ form is soft. peek_soft ((P.claimed s).soft form is soft);
+        takes = λ is never. absurd never;
+        decided = λ form is. peek_decided ((P.claimed s).decided form is);
+    } };
 
     #[inline(always)]
     fn parse_next(&mut self, input: &mut I) -> Result<O, E> {
@@ -53,30 +66,6 @@ impl<P: Parser<I, O, E>, I: Stream, O, E: ParserError<I>> Parser<I, O, E> for Pe
 
 impl<P: Stable<I, O, E>, I: Stream, O, E: ParserError<I>> Stable<I, O, E> for Peek<P, I, O, E> {
     ghost stable = { stays (peek_grows (grows (P.leaves_ends modal) P.stable)) };
-}
-
-impl<P: Decided<I, O, E>, I: Stream, O, E: ParserError<I>> Decided<I, O, E> for Peek<P, I, O, E> {
-    ghost premise = { λ p. P.premise (peek_parser p) };
-
-    ghost alike = { λ p. P.alike (peek_parser p) };
-
-    ghost decided = { λ p form is. peek_decided (P.decided (peek_parser p) form is) };
-}
-
-impl<P: Exact<I, O, E>, I: Stream, O, E: ParserError<I>> Exact<I, O, E> for Peek<P, I, O, E> {
-    ghost premise = { λ p. P.premise (peek_parser p) };
-
-    ghost backtracks = { λ p. P.backtracks (peek_parser p) };
-
-    ghost consumes = { λ p. ⊥ };
-
-    ghost grammar = { λ p. Ahead (P.grammar (peek_parser p)) };
-
-    ghost exact = { λ p form is. peek_exact (P.exact (peek_parser p) form is) };
-
-    ghost soft = { λ p form is soft. peek_soft (P.soft (peek_parser p) form is soft) };
-
-    ghost takes = { λ p is never. absurd never };
 }
 
 impl<

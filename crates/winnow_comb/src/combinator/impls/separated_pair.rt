@@ -8,15 +8,12 @@ ghost use Rattle.winnow_core.specs.InOrder.Decided.{AlikePairs, three_decided};
 ghost use Rattle.winnow_core.specs.InOrder.Laws.{three_ends, three_grow};
 ghost use Rattle.winnow_core.specs.InOrder.Three.{three_exact, three_soft, three_takes};
 ghost use Rattle.winnow_core.specs.Stable.Grows.{grows, stays};
-ghost use Rattle.winnow_comb.specs.SeparatedPair.{SeparatedPairRuns, separated_pair_first};
-ghost use Rattle.winnow_comb.specs.SeparatedPair.{separated_pair_second, separated_pair_separator};
+ghost use Rattle.winnow_comb.specs.SeparatedPair.{SeparatedPairRuns};
 
 use std::marker::PhantomData;
 use stream_errors::parser_error::ParserError;
 use streams::stream::Stream;
 use winnow_core::agrees_with::AgreesWith;
-use winnow_core::decided::Decided;
-use winnow_core::exact::Exact;
 use winnow_core::parser::Parser;
 use winnow_core::stable::Stable;
 
@@ -58,9 +55,25 @@ impl<
     ghost meaning = { λ form. SeparatedPairRuns (P1.meaning form) (P2.meaning form)
         (P3.meaning form) };
 
+    ghost claim = { λ s. record {
+        premise = (P1.claim s.0).premise × (P2.claim s.1).premise × (P3.claim s.2).premise;
+        backtracks = (P1.claim s.0).backtracks × (P2.claim s.1).backtracks × (P3.claim s.2).backtracks;
+        consumes = ((P1.claim s.0).consumes ⊎ (P2.claim s.1).consumes) ⊎ (P3.claim s.2).consumes;
+        grammar = Three (λ o1 o2 o3. (o1, o3)) (P1.claim s.0).grammar (P2.claim s.1).grammar (P3.claim s.2).grammar;
+        decides = (P1.claim s.0).decides × (P2.claim s.1).decides × (P3.claim s.2).decides;
+        alike = AlikePairs (P1.claim s.0).alike (P3.claim s.2).alike;
+    } };
+
     ghost leaves_ends = { λ form. three_ends I.reading (λ o1 o2 o3. (o1, o3)) (P1.meaning form)
         (P2.meaning form) (P3.meaning form) (P1.leaves_ends form) (P2.leaves_ends form)
         (P3.leaves_ends form) };
+
+    ghost claimed = { λ s. record {
+        exact = λ form is. three_exact ((P1.claimed s.0).exact form is.0) ((P2.claimed s.1).exact form is.1) ((P3.claimed s.2).exact form is.2);
+        soft = λ form is soft. three_soft ((P1.claimed s.0).exact form is.0) ((P2.claimed s.1).exact form is.1) ((P1.claimed s.0).soft form is.0 soft.0) ((P2.claimed s.1).soft form is.1 soft.1) ((P3.claimed s.2).soft form is.2 soft.2);
+        takes = λ is some. three_takes (λ o1 o2 o3. (o1, o3)) ((P1.claimed s.0).exact modal is.0) ((P2.claimed s.1).exact modal is.1) ((P3.claimed s.2).exact modal is.2) (either_way (either_way ((P1.claimed s.0).takes is.0) ((P2.claimed s.1).takes is.1)) ((P3.claimed s.2).takes is.2) some);
+        decided = λ form is. three_decided (AlikePairs (P1.claim s.0).alike (P3.claim s.2).alike) (λ o q r u x y first between last. (first, last)) ((P1.claimed s.0).decided form is.0) ((P2.claimed s.1).decided form is.1) ((P3.claimed s.2).decided form is.2);
+    } };
 
     #[inline(always)]
     fn parse_next(&mut self, input: &mut I) -> Result<(O1, O3), E> {
@@ -85,74 +98,6 @@ impl<
         (three_grow (λ o1 o2 o3. (o1, o3)) (grows (P1.leaves_ends modal) P1.stable)
         (grows (P2.leaves_ends modal) P2.stable)
         (grows (P3.leaves_ends modal) P3.stable)) };
-}
-
-impl<
-    P1: Decided<I, O1, E>,
-    P2: Decided<I, O2, E>,
-    P3: Decided<I, O3, E>,
-    I: Stream,
-    O1: Drop,
-    O2: Drop,
-    O3,
-    E: ParserError<I>,
-> Decided<I, (O1, O3), E> for SeparatedPair<P1, P2, P3, I, O1, O2, O3, E> {
-    ghost premise = { λ p. P1.premise (separated_pair_first p)
-        × P2.premise (separated_pair_separator p) × P3.premise (separated_pair_second p) };
-
-    ghost alike = { λ p. AlikePairs (P1.alike (separated_pair_first p))
-        (P3.alike (separated_pair_second p)) };
-
-    ghost decided = { λ p form is. three_decided
-        (AlikePairs (P1.alike (separated_pair_first p)) (P3.alike (separated_pair_second p)))
-        (λ o q r u x y first between last. (first, last))
-        (P1.decided (separated_pair_first p) form is.0)
-        (P2.decided (separated_pair_separator p) form is.1)
-        (P3.decided (separated_pair_second p) form is.2) };
-}
-
-impl<
-    P1: Exact<I, O1, E>,
-    P2: Exact<I, O2, E>,
-    P3: Exact<I, O3, E>,
-    I: Stream,
-    O1: Drop,
-    O2: Drop,
-    O3,
-    E: ParserError<I>,
-> Exact<I, (O1, O3), E> for SeparatedPair<P1, P2, P3, I, O1, O2, O3, E> {
-    ghost premise = { λ p. P1.premise (separated_pair_first p)
-        × P2.premise (separated_pair_separator p)
-        × P3.premise (separated_pair_second p) };
-
-    ghost backtracks = { λ p. P1.backtracks (separated_pair_first p)
-        × P2.backtracks (separated_pair_separator p)
-        × P3.backtracks (separated_pair_second p) };
-
-    ghost consumes = { λ p. (P1.consumes (separated_pair_first p) ⊎ P2.consumes
-        (separated_pair_separator p))
-        ⊎ P3.consumes (separated_pair_second p) };
-
-    ghost grammar = { λ p. Three (λ o1 o2 o3. (o1, o3)) (P1.grammar (separated_pair_first p))
-        (P2.grammar (separated_pair_separator p)) (P3.grammar (separated_pair_second p)) };
-
-    ghost exact = { λ p form is. three_exact (P1.exact (separated_pair_first p) form is.0)
-        (P2.exact (separated_pair_separator p) form is.1) (P3.exact
-        (separated_pair_second p) form is.2) };
-
-    ghost soft = { λ p form is soft. three_soft (P1.exact (separated_pair_first p) form is.0)
-        (P2.exact (separated_pair_separator p) form is.1) (P1.soft
-        (separated_pair_first p) form is.0 soft.0)
-        (P2.soft (separated_pair_separator p) form is.1 soft.1) (P3.soft
-        (separated_pair_second p) form is.2 soft.2) };
-
-    ghost takes = { λ p is some. three_takes (λ o1 o2 o3. (o1, o3))
-        (P1.exact (separated_pair_first p) modal is.0) (P2.exact
-        (separated_pair_separator p) modal is.1)
-        (P3.exact (separated_pair_second p) modal is.2)
-        (either_way (either_way (P1.takes (separated_pair_first p) is.0) (P2.takes
-        (separated_pair_separator p) is.1))
-        (P3.takes (separated_pair_second p) is.2) some) };
 }
 
 impl<

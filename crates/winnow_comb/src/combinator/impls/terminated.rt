@@ -8,15 +8,12 @@ ghost use Rattle.winnow_core.specs.InOrder.Decided.{both_decided};
 ghost use Rattle.winnow_core.specs.InOrder.Exact.{both_exact, both_soft, both_takes};
 ghost use Rattle.winnow_core.specs.InOrder.Laws.{both_ends, both_grows};
 ghost use Rattle.winnow_core.specs.Stable.Grows.{grows, stays};
-ghost use Rattle.winnow_comb.specs.Terminated.{TerminatedRuns, terminated_ignored};
-ghost use Rattle.winnow_comb.specs.Terminated.{terminated_parser};
+ghost use Rattle.winnow_comb.specs.Terminated.{TerminatedRuns};
 
 use std::marker::PhantomData;
 use stream_errors::parser_error::ParserError;
 use streams::stream::Stream;
 use winnow_core::agrees_with::AgreesWith;
-use winnow_core::decided::Decided;
-use winnow_core::exact::Exact;
 use winnow_core::parser::Parser;
 use winnow_core::stable::Stable;
 
@@ -52,8 +49,24 @@ impl<
 
     ghost meaning = { λ form. TerminatedRuns (P1.meaning form) (P2.meaning form) };
 
+    ghost claim = { λ s. record {
+        premise = (P1.claim s.0).premise × (P2.claim s.1).premise;
+        backtracks = (P1.claim s.0).backtracks × (P2.claim s.1).backtracks;
+        consumes = (P1.claim s.0).consumes ⊎ (P2.claim s.1).consumes;
+        grammar = Both (λ o1 o2. o1) (P1.claim s.0).grammar (P2.claim s.1).grammar;
+        decides = (P1.claim s.0).decides × (P2.claim s.1).decides;
+        alike = (P1.claim s.0).alike;
+    } };
+
     ghost leaves_ends = { λ form. both_ends I.reading (λ o1 o2. o1) (P1.meaning form)
         (P2.meaning form) (P1.leaves_ends form) (P2.leaves_ends form) };
+
+    ghost claimed = { λ s. record {
+        exact = λ form is. both_exact ((P1.claimed s.0).exact form is.0) ((P2.claimed s.1).exact form is.1);
+        soft = λ form is soft. both_soft ((P1.claimed s.0).exact form is.0) ((P1.claimed s.0).soft form is.0 soft.0) ((P2.claimed s.1).soft form is.1 soft.1);
+        takes = λ is some. both_takes (λ o1 o2. o1) ((P1.claimed s.0).exact modal is.0) ((P2.claimed s.1).exact modal is.1) (either_way ((P1.claimed s.0).takes is.0) ((P2.claimed s.1).takes is.1) some);
+        decided = λ form is. both_decided (P1.claim s.0).alike (λ o q r u like other. like) ((P1.claimed s.0).decided form is.0) ((P2.claimed s.1).decided form is.1);
+    } };
 
     #[inline(always)]
     fn parse_next(&mut self, input: &mut I) -> Result<O1, E> {
@@ -74,56 +87,6 @@ impl<
     ghost stable = { stays
         (both_grows (λ o1 o2. o1) (grows (P1.leaves_ends modal) P1.stable)
         (grows (P2.leaves_ends modal) P2.stable)) };
-}
-
-impl<
-    P1: Decided<I, O1, E>,
-    P2: Decided<I, O2, E>,
-    I: Stream,
-    O1: Drop,
-    O2: Drop,
-    E: ParserError<I>,
-> Decided<I, O1, E> for Terminated<P1, P2, I, O1, O2, E> {
-    ghost premise = { λ p. P1.premise (terminated_parser p) × P2.premise (terminated_ignored p) };
-
-    ghost alike = { λ p. P1.alike (terminated_parser p) };
-
-    ghost decided = { λ p form is. both_decided (P1.alike (terminated_parser p))
-        (λ o q r u like other. like) (P1.decided (terminated_parser p) form is.0)
-        (P2.decided (terminated_ignored p) form is.1) };
-}
-
-impl<
-    P1: Exact<I, O1, E>,
-    P2: Exact<I, O2, E>,
-    I: Stream,
-    O1: Drop,
-    O2: Drop,
-    E: ParserError<I>,
-> Exact<I, O1, E> for Terminated<P1, P2, I, O1, O2, E> {
-    ghost premise = { λ p. P1.premise (terminated_parser p) × P2.premise (terminated_ignored p) };
-
-    ghost backtracks = { λ p. P1.backtracks (terminated_parser p)
-        × P2.backtracks (terminated_ignored p) };
-
-    ghost consumes = { λ p. P1.consumes (terminated_parser p)
-        ⊎ P2.consumes (terminated_ignored p) };
-
-    ghost grammar = { λ p. Both (λ o1 o2. o1) (P1.grammar (terminated_parser p))
-        (P2.grammar (terminated_ignored p)) };
-
-    ghost exact = { λ p form is. both_exact (P1.exact (terminated_parser p) form is.0)
-        (P2.exact (terminated_ignored p) form is.1) };
-
-    ghost soft = { λ p form is soft. both_soft (P1.exact (terminated_parser p) form is.0)
-        (P1.soft (terminated_parser p) form is.0 soft.0)
-        (P2.soft (terminated_ignored p) form is.1 soft.1) };
-
-    ghost takes = { λ p is some. both_takes (λ o1 o2. o1)
-        (P1.exact (terminated_parser p) modal is.0)
-        (P2.exact (terminated_ignored p) modal is.1)
-        (either_way (P1.takes (terminated_parser p) is.0) (P2.takes (terminated_ignored p) is.1)
-        some) };
 }
 
 impl<

@@ -13,7 +13,6 @@ ghost use Rattle.winnow_core.specs.Settles.Laws.{settles_ends, settles_grows};
 ghost use Rattle.winnow_core.specs.Stable.Grows.{grows, stays};
 
 use crate::agrees_with::AgreesWith;
-use crate::exact::Exact;
 use crate::parser::Parser;
 use crate::stable::Stable;
 use std::marker::PhantomData;
@@ -63,9 +62,25 @@ impl<
 
     ghost meaning = { λ form. AndThenRuns O.view (F.meaning form) (G.meaning form) };
 
+    ghost claim = { λ s. record {
+        premise = (F.claim s.0).premise × (G.claim s.1).premise × (G.claim s.1).backtracks × RejectsAll (ReadsWithin O.view (G.claim s.1).grammar) (NoneWithin O.view (G.claim s.1).grammar) tt (F.claim s.0).grammar;
+        backtracks = (F.claim s.0).backtracks;
+        consumes = (F.claim s.0).consumes;
+        grammar = Made (ReadsWithin O.view (G.claim s.1).grammar) tt (F.claim s.0).grammar;
+        decides = ⊥;
+        alike = λ o p. o ≡ p;
+    } };
+
     ghost leaves_ends = { λ form. settles_ends I.reading
         (AndThenSettles O.view (G.meaning form)) (F.meaning form)
         (F.leaves_ends form) };
+
+    ghost claimed = { λ s. record {
+        exact = λ form is. and_then_exact O.view is.3 ((F.claimed s.0).exact form is.0) ((G.claimed s.1).exact form is.1) ((G.claimed s.1).soft form is.1 is.2);
+        soft = λ form is soft. and_then_soft O.view ((F.claimed s.0).soft form is.0 soft) ((G.claimed s.1).exact form is.1) ((G.claimed s.1).soft form is.1 is.2);
+        takes = λ is some. made_of_takes (ReadsWithin O.view (G.claim s.1).grammar) tt ((F.claimed s.0).takes is.0 some);
+        decided = λ form never. absurd never;
+    } };
 
     #[inline]
     fn parse_next(&mut self, input: &mut I) -> Result<O2, E> {
@@ -80,38 +95,6 @@ impl<
             }
         }
     }
-}
-
-impl<
-    F: Exact<I, O, E>,
-    G: Exact<O, O2, E>,
-    I: Stream,
-    O: StreamIsPartial + Drop,
-    O2,
-    E: ParserError<I> + ParserError<O>,
-> Exact<I, O2, E> for AndThen<F, G, I, O, O2, E> {
-    ghost premise = { λ p. F.premise (and_then_outer p) × G.premise (and_then_inner p)
-        × G.backtracks (and_then_inner p)
-        × RejectsAll (ReadsWithin O.view (G.grammar (and_then_inner p)))
-        (NoneWithin O.view (G.grammar (and_then_inner p))) tt (F.grammar (and_then_outer p)) };
-
-    ghost backtracks = { λ p. F.backtracks (and_then_outer p) };
-
-    ghost consumes = { λ p. F.consumes (and_then_outer p) };
-
-    ghost grammar = { λ p. Made (ReadsWithin O.view (G.grammar (and_then_inner p))) tt
-        (F.grammar (and_then_outer p)) };
-
-    ghost exact = { λ p form is. and_then_exact O.view is.3 (F.exact (and_then_outer p) form is.0)
-        (G.exact (and_then_inner p) form is.1) (G.soft (and_then_inner p) form is.1 is.2) };
-
-    ghost soft = { λ p form is soft. and_then_soft O.view
-        (F.soft (and_then_outer p) form is.0 soft) (G.exact (and_then_inner p) form is.1)
-        (G.soft (and_then_inner p) form is.1 is.2) };
-
-    ghost takes = { λ p is some. made_of_takes
-        (ReadsWithin O.view (G.grammar (and_then_inner p))) tt
-        (F.takes (and_then_outer p) is.0 some) };
 }
 
 // The inner parser reads the same stream in both, an output; so it is one parser under one type of

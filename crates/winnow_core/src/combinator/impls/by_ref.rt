@@ -2,15 +2,12 @@
 ghost use Rattle.std.specs.Prelude.{◌≡◌, ℕ};
 ghost use Rattle.stream_errors.specs.Form.{modal};
 ghost use Rattle.winnow_core.specs.Agrees.{agrees_with};
-ghost use Rattle.winnow_core.specs.ByRef.{ByRefRuns, by_ref_parser};
-ghost use Rattle.winnow_core.specs.ByRef.Laws.{by_ref_exact, by_ref_soft};
-ghost use Rattle.winnow_core.specs.ByRef.Laws.{by_ref_grows};
+ghost use Rattle.winnow_core.specs.ByRef.{ByRefRuns};
+ghost use Rattle.winnow_core.specs.ByRef.Laws.{by_ref_exact, by_ref_soft, by_ref_grows};
 ghost use Rattle.winnow_core.specs.Decided.Adapters.{by_ref_decided};
 ghost use Rattle.winnow_core.specs.Stable.Grows.{grows, stays};
 
 use crate::agrees_with::AgreesWith;
-use crate::decided::Decided;
-use crate::exact::Exact;
 use crate::parser::Parser;
 use crate::stable::Stable;
 use std::marker::PhantomData;
@@ -40,7 +37,23 @@ impl<'p, P: Parser<I, O, E>, I: Stream, O, E: ParserError<I>> Parser<I, O, E>
 
     ghost meaning = { λ form. ByRefRuns (P.meaning form) };
 
+    ghost claim = { λ s. record {
+        premise = (P.claim s.0).premise;
+        backtracks = (P.claim s.0).backtracks;
+        consumes = (P.claim s.0).consumes;
+        grammar = (P.claim s.0).grammar;
+        decides = (P.claim s.0).decides;
+        alike = (P.claim s.0).alike;
+    } };
+
     ghost leaves_ends = { λ form s i answer t j r. P.leaves_ends form s.0 i answer t.0 j r.0 };
+
+    ghost claimed = { λ s. record {
+        exact = λ form is. by_ref_exact ((P.claimed s.0).exact form is);
+        soft = λ form is soft. by_ref_soft ((P.claimed s.0).soft form is soft);
+        takes = λ is some. (P.claimed s.0).takes is some;
+        decided = λ form is. by_ref_decided ((P.claimed s.0).decided form is);
+    } };
 
     #[inline(always)]
     fn parse_next(&mut self, input: &mut I) -> Result<O, E> {
@@ -51,32 +64,6 @@ impl<'p, P: Parser<I, O, E>, I: Stream, O, E: ParserError<I>> Parser<I, O, E>
 impl<'p, P: Stable<I, O, E>, I: Stream, O, E: ParserError<I>> Stable<I, O, E>
     for ByRef<'p, P, I, O, E> {
     ghost stable = { stays (by_ref_grows (grows (P.leaves_ends modal) P.stable)) };
-}
-
-impl<'p, P: Decided<I, O, E>, I: Stream, O, E: ParserError<I>> Decided<I, O, E>
-    for ByRef<'p, P, I, O, E> {
-    ghost premise = { λ p. P.premise (by_ref_parser p) };
-
-    ghost alike = { λ p. P.alike (by_ref_parser p) };
-
-    ghost decided = { λ p form is. by_ref_decided (P.decided (by_ref_parser p) form is) };
-}
-
-impl<'p, P: Exact<I, O, E>, I: Stream, O, E: ParserError<I>> Exact<I, O, E>
-    for ByRef<'p, P, I, O, E> {
-    ghost premise = { λ p. P.premise (by_ref_parser p) };
-
-    ghost backtracks = { λ p. P.backtracks (by_ref_parser p) };
-
-    ghost consumes = { λ p. P.consumes (by_ref_parser p) };
-
-    ghost grammar = { λ p. P.grammar (by_ref_parser p) };
-
-    ghost exact = { λ p form is. by_ref_exact (P.exact (by_ref_parser p) form is) };
-
-    ghost soft = { λ p form is soft. by_ref_soft (P.soft (by_ref_parser p) form is soft) };
-
-    ghost takes = { λ p is some. P.takes (by_ref_parser p) is some };
 }
 
 impl<

@@ -7,7 +7,6 @@ ghost use Rattle.winnow_core.specs.Exact.Errors.{complete_err_exact, complete_er
 ghost use Rattle.winnow_core.specs.MakesError.Laws.{makes_error_ends};
 
 use crate::agrees_with::AgreesWith;
-use crate::exact::Exact;
 use crate::parser::Parser;
 use std::marker::PhantomData;
 use stream_errors::parser_error::ParserError;
@@ -48,9 +47,25 @@ impl<F: Parser<I, O, E>, I: Stream, O, E: ParserError<I>> Parser<I, O, E>
 
     ghost meaning = { λ form. CompleteErrRuns (F.meaning form) };
 
+    ghost claim = { λ s. record {
+        premise = (F.claim s).premise;
+        backtracks = (F.claim s).backtracks;
+        consumes = (F.claim s).consumes;
+        grammar = (F.claim s).grammar;
+        decides = ⊥;
+        alike = λ o p. o ≡ p;
+    } };
+
     ghost leaves_ends = { λ form s i answer t j ran. makes_error_ends I.reading
         CompleteErrBecomes (F.meaning form)
         (F.leaves_ends form) _ i answer _ j ran };
+
+    ghost claimed = { λ s. record {
+        exact = λ form is. complete_err_exact ((F.claimed s).exact form is);
+        soft = λ form is soft. complete_err_soft ((F.claimed s).soft form is soft);
+        takes = λ is some. (F.claimed s).takes is some;
+        decided = λ form never. absurd never;
+    } };
 
     #[inline]
     fn parse_next(&mut self, input: &mut I) -> Result<O, E> {
@@ -65,24 +80,6 @@ impl<F: Parser<I, O, E>, I: Stream, O, E: ParserError<I>> Parser<I, O, E>
             }
         }
     }
-}
-
-impl<P: Exact<I, O, E>, I: Stream, O, E: ParserError<I>> Exact<I, O, E>
-    for CompleteErr<P, I, O, E> {
-    ghost premise = { λ p. P.premise (complete_err_parser p) };
-
-    ghost backtracks = { λ p. P.backtracks (complete_err_parser p) };
-
-    ghost consumes = { λ p. P.consumes (complete_err_parser p) };
-
-    ghost grammar = { λ p. P.grammar (complete_err_parser p) };
-
-    ghost exact = { λ p form is. complete_err_exact (P.exact (complete_err_parser p) form is) };
-
-    ghost soft = { λ p form is soft. complete_err_soft
-        (P.soft (complete_err_parser p) form is soft) };
-
-    ghost takes = { λ p is some. P.takes (complete_err_parser p) is some };
 }
 
 impl<

@@ -11,7 +11,6 @@ ghost use Rattle.winnow_core.specs.MakesError.Laws.{makes_error_ends, makes_erro
 ghost use Rattle.winnow_core.specs.Stable.Grows.{grows, stays};
 
 use crate::agrees_with::AgreesWith;
-use crate::exact::Exact;
 use crate::parser::Parser;
 use crate::stable::Stable;
 use std::alloc::Allocator;
@@ -69,9 +68,25 @@ impl<
 
     ghost meaning = { λ form. ContextRuns C.is_clone C.is_infallible (F.meaning form) };
 
+    ghost claim = { λ s. record {
+        premise = (F.claim s.0).premise;
+        backtracks = (F.claim s.0).backtracks;
+        consumes = (F.claim s.0).consumes;
+        grammar = (F.claim s.0).grammar;
+        decides = ⊥;
+        alike = λ o p. o ≡ p;
+    } };
+
     ghost leaves_ends = { λ form. makes_error_ends I.reading
         (ContextBecomes C.is_clone C.is_infallible) (F.meaning form)
         (F.leaves_ends form) };
+
+    ghost claimed = { λ s. record {
+        exact = λ form is. errors_exact (context_keeps_kinds C.is_clone C.is_infallible) ((F.claimed s.0).exact form is);
+        soft = λ form is soft. errors_soft (context_keeps_kinds C.is_clone C.is_infallible) ((F.claimed s.0).soft form is soft);
+        takes = λ is some. (F.claimed s.0).takes is some;
+        decided = λ form never. absurd never;
+    } };
 
     #[inline]
     fn parse_next(&mut self, input: &mut I) -> Result<O, E> {
@@ -104,31 +119,6 @@ impl<
         (makes_error_grows (ContextBecomes C.is_clone C.is_infallible)
         (context_keeps C.is_clone C.is_infallible)
         (grows (F.leaves_ends modal) F.stable)) };
-}
-
-impl<
-    F: Exact<I, O, E>,
-    I: Stream,
-    O,
-    E: ParserError<I> + AddContext<I, C, A>,
-    C: Clone,
-    A: Allocator + Copy,
-> Exact<I, O, E> for Context<F, I, O, E, C, A> {
-    ghost premise = { λ p. F.premise (context_parser p) };
-
-    ghost backtracks = { λ p. F.backtracks (context_parser p) };
-
-    ghost consumes = { λ p. F.consumes (context_parser p) };
-
-    ghost grammar = { λ p. F.grammar (context_parser p) };
-
-    ghost exact = { λ p form is. errors_exact (context_keeps_kinds C.is_clone C.is_infallible)
-        (F.exact (context_parser p) form is) };
-
-    ghost soft = { λ p form is soft. errors_soft (context_keeps_kinds C.is_clone C.is_infallible)
-        (F.soft (context_parser p) form is soft) };
-
-    ghost takes = { λ p is some. F.takes (context_parser p) is some };
 }
 
 impl<

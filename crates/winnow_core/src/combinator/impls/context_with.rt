@@ -9,6 +9,7 @@ ghost use Rattle.winnow_core.specs.ContextWith.{context_with_closure, context_wi
 ghost use Rattle.winnow_core.specs.ContextWith.Laws.{context_with_keeps};
 ghost use Rattle.winnow_core.specs.MakesError.Laws.{makes_error_ends, makes_error_grows};
 ghost use Rattle.winnow_core.specs.Stable.Grows.{grows, stays};
+ghost use Rattle.winnow_core.specs.Claim.{no_claim, nothing_claimed};
 
 use crate::agrees_with::AgreesWith;
 use crate::parser::Parser;
@@ -72,9 +73,13 @@ impl<
 
     ghost meaning = { λ form. ContextWithRuns F.post FI.next_gives (P.meaning form) };
 
+    ghost claim = { λ _. no_claim };
+
     ghost leaves_ends = { λ form. makes_error_ends I.reading
         (ContextWithBecomes F.post FI.next_gives) (P.meaning form)
         (P.leaves_ends form) };
+
+    ghost claimed = { λ _. nothing_claimed };
 
     #[inline]
     fn parse_next(&mut self, input: &mut I) -> Result<O, E> {

@@ -11,7 +11,6 @@ ghost use Rattle.winnow_core.specs.MakesOutput.Laws.{makes_output_grows};
 ghost use Rattle.winnow_core.specs.Stable.Grows.{grows, stays};
 
 use crate::agrees_with::AgreesWith;
-use crate::exact::Exact;
 use crate::parser::Parser;
 use crate::stable::Stable;
 use std::marker::PhantomData;
@@ -52,8 +51,24 @@ impl<F: Parser<I, O, E>, I: Stream, O: Drop, O2: Default, E: ParserError<I>> Par
 
     ghost meaning = { λ form. DefaultValueRuns O2.is_default (F.meaning form) };
 
+    ghost claim = { λ s. record {
+        premise = (F.claim s).premise;
+        backtracks = (F.claim s).backtracks;
+        consumes = (F.claim s).consumes;
+        grammar = Made (λ (_ : Unit {0}) o u. O2.is_default u) tt (F.claim s).grammar;
+        decides = ⊥;
+        alike = λ o p. o ≡ p;
+    } };
+
     ghost leaves_ends = { λ form. makes_output_ends I.reading _ (F.meaning form)
         (F.leaves_ends form) };
+
+    ghost claimed = { λ s. record {
+        exact = λ form is. output_exact (λ (_ : Unit {0}) o u. O2.is_default u) tt ((F.claimed s).exact form is);
+        soft = λ form is soft. output_soft (λ o u. O2.is_default u) ((F.claimed s).soft form is soft);
+        takes = λ is some. made_of_takes (λ (_ : Unit {0}) o u. O2.is_default u) tt ((F.claimed s).takes is some);
+        decided = λ form never. absurd never;
+    } };
 
     #[inline]
     fn parse_next(&mut self, input: &mut I) -> Result<O2, E> {
@@ -67,27 +82,6 @@ impl<F: Stable<I, O, E>, I: Stream, O: Drop, O2: Default, E: ParserError<I>> Sta
     ghost stable = { stays
         (makes_output_grows (λ i o j u. O2.is_default u) (made_of_output _)
         (grows (F.leaves_ends modal) F.stable)) };
-}
-
-impl<F: Exact<I, O, E>, I: Stream, O: Drop, O2: Default, E: ParserError<I>> Exact<I, O2, E>
-    for DefaultValue<F, I, O, O2, E> {
-    ghost premise = { λ p. F.premise (default_value_parser p) };
-
-    ghost backtracks = { λ p. F.backtracks (default_value_parser p) };
-
-    ghost consumes = { λ p. F.consumes (default_value_parser p) };
-
-    ghost grammar = { λ p. Made (λ (_ : Unit {0}) o u. O2.is_default u) tt
-        (F.grammar (default_value_parser p)) };
-
-    ghost exact = { λ p form is. output_exact (λ (_ : Unit {0}) o u. O2.is_default u) tt
-        (F.exact (default_value_parser p) form is) };
-
-    ghost soft = { λ p form is soft. output_soft (λ o u. O2.is_default u)
-        (F.soft (default_value_parser p) form is soft) };
-
-    ghost takes = { λ p is some. made_of_takes (λ (_ : Unit {0}) o u. O2.is_default u) tt
-        (F.takes (default_value_parser p) is some) };
 }
 
 impl<

@@ -1,15 +1,13 @@
 //! The end of the input.
-ghost use Rattle.std.specs.Prelude.{⊤, ◌<◌};
+ghost use Rattle.std.specs.Prelude.{⊤, ◌<◌, ◌≡◌};
 ghost use Rattle.grammars.specs.Grammar.{NoTokens};
 ghost use Rattle.winnow_core.specs.Agrees.{agrees_plain};
 ghost use Rattle.winnow_core.specs.Eof.{EofRuns};
-ghost use Rattle.winnow_core.specs.Eof.Laws.{eof_exact, eof_soft};
-ghost use Rattle.winnow_core.specs.Eof.Laws.{eof_alike, eof_ends};
+ghost use Rattle.winnow_core.specs.Eof.Laws.{eof_exact, eof_soft, eof_alike, eof_ends};
 ghost use Rattle.winnow_core.specs.Runs.{Keeps};
 
 use crate::agrees_with::AgreesWith;
 use crate::combinator::eof;
-use crate::exact::Exact;
 use crate::parser::Parser;
 use stream_errors::parser_error::ParserError;
 use streams::reads_like::ReadsLike;
@@ -31,24 +29,28 @@ impl<I: Stream, E: ParserError<I>> Parser<I, I::Slice, E> for Eof {
 
     ghost meaning = { λ _. Keeps (λ _. EofRuns I.reading) };
 
+    ghost claim = { λ s. record {
+        premise = ⊤;
+        backtracks = ⊤;
+        consumes = ⊥;
+        grammar = NoTokens I.reading;
+        decides = ⊥;
+        alike = λ o p. o ≡ p;
+    } };
+
     ghost leaves_ends = { λ form x i answer y j r. eof_ends I.reading i answer j r.0 };
+
+    ghost claimed = { λ s. record {
+        exact = λ form is. eof_exact I.reading;
+        soft = λ form is soft. eof_soft I.reading;
+        takes = λ is never. absurd never;
+        decided = λ form never. absurd never;
+    } };
 
     #[inline(always)]
     fn parse_next(&mut self, input: &mut I) -> Result<I::Slice, E> {
         eof(input)
     }
-}
-
-impl<I: Stream, E: ParserError<I>> Exact<I, I::Slice, E> for Eof {
-    ghost consumes = { λ p. ⊥ };
-
-    ghost grammar = { λ p. NoTokens I.reading };
-
-    ghost exact = { λ p form is. eof_exact I.reading };
-
-    ghost soft = { λ p form is soft. eof_soft I.reading };
-
-    ghost takes = { λ p is never. absurd never };
 }
 
 impl<

@@ -8,7 +8,6 @@ ghost use Rattle.winnow_core.specs.MakesError.Laws.{makes_error_ends, makes_erro
 ghost use Rattle.winnow_core.specs.Stable.Grows.{grows_at, stays_beside};
 
 use crate::agrees_with::AgreesWith;
-use crate::exact::Exact;
 use crate::parser::Parser;
 use crate::stable::{KeepsKinds, Stable};
 use std::marker::PhantomData;
@@ -52,9 +51,25 @@ impl<F: Parser<I, O, E>, I: Stream, O, E: ParserError<I>, E2: ParserError<I> + F
 
     ghost meaning = { λ _. ErrIntoRuns E.kind E2.kind E2.from_gives (F.meaning E.form) };
 
+    ghost claim = { λ s. record {
+        premise = (F.claim s).premise × SameKinds E.kind E2.kind E2.from_gives;
+        backtracks = (F.claim s).backtracks;
+        consumes = (F.claim s).consumes;
+        grammar = (F.claim s).grammar;
+        decides = ⊥;
+        alike = λ o p. o ≡ p;
+    } };
+
     ghost leaves_ends = { λ _ s i answer t j ran. makes_error_ends I.reading
         (ErrIntoBecomes E.kind E2.kind E2.from_gives) (F.meaning E.form)
         (F.leaves_ends E.form) _ i answer _ j ran };
+
+    ghost claimed = { λ s. record {
+        exact = λ form is. err_into_exact E.kind E2.kind E2.from_gives is.1 ((F.claimed s).exact E.form is.0);
+        soft = λ form is soft. err_into_soft E.kind E2.kind E2.from_gives is.1 ((F.claimed s).soft E.form is.0 soft);
+        takes = λ is some. (F.claimed s).takes is.0 some;
+        decided = λ form never. absurd never;
+    } };
 
     #[inline]
     fn parse_next(&mut self, input: &mut I) -> Result<O, E2> {
@@ -76,29 +91,6 @@ impl<
         (makes_error_grows (ErrIntoBecomes E.kind E2.kind E2.from_gives)
         (err_into_keeps E.kind E2.kind E2.from_gives E2.keeps)
         (grows_at F.meaning E.form E2.from_modal F.leaves_ends F.stable)) };
-}
-
-impl<F: Exact<I, O, E>, I: Stream, O, E: ParserError<I>, E2: ParserError<I> + From<E>> Exact<
-    I,
-    O,
-    E2,
-> for ErrInto<F, I, O, E, E2> {
-    ghost premise = { λ p. F.premise (err_into_parser p)
-        × SameKinds E.kind E2.kind E2.from_gives };
-
-    ghost backtracks = { λ p. F.backtracks (err_into_parser p) };
-
-    ghost consumes = { λ p. F.consumes (err_into_parser p) };
-
-    ghost grammar = { λ p. F.grammar (err_into_parser p) };
-
-    ghost exact = { λ p form is. err_into_exact E.kind E2.kind E2.from_gives is.1
-        (F.exact (err_into_parser p) E.form is.0) };
-
-    ghost soft = { λ p form is soft. err_into_soft E.kind E2.kind E2.from_gives is.1
-        (F.soft (err_into_parser p) E.form is.0 soft) };
-
-    ghost takes = { λ p is some. F.takes (err_into_parser p) is.0 some };
 }
 
 /// The conversion is of one type of error, so both parsers have that.

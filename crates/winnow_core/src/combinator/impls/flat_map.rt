@@ -6,12 +6,10 @@ ghost use Rattle.winnow_core.specs.Closures.{Gives, Stays};
 ghost use Rattle.winnow_core.specs.Exact.Along.{either_way};
 ghost use Rattle.winnow_core.specs.FlatMap.{FlatMapRuns, MakesParsers, flat_map_closure};
 ghost use Rattle.winnow_core.specs.FlatMap.{flat_map_parser};
-ghost use Rattle.winnow_core.specs.FlatMap.Laws.{flat_map_exact, flat_map_soft};
-ghost use Rattle.winnow_core.specs.FlatMap.Laws.{flat_map_ends, flat_map_grows};
+ghost use Rattle.winnow_core.specs.FlatMap.Laws.{flat_map_exact, flat_map_soft, flat_map_ends};
+ghost use Rattle.winnow_core.specs.FlatMap.Laws.{flat_map_grows};
 ghost use Rattle.winnow_core.specs.Stable.Grows.{grows, stays};
 
-use crate::agrees_with::AgreesWith;
-use crate::exact::Exact;
 use crate::parser::Parser;
 use crate::stable::Stable;
 use std::marker::PhantomData;
@@ -64,8 +62,24 @@ impl<
 
     ghost meaning = { λ form. FlatMapRuns G.step H.state (F.meaning form) (H.meaning form) };
 
+    ghost claim = { λ s. record {
+        premise = (F.claim s.0).premise × Stays G.step s.1 × EachMade (Gives G.step) s.1 (λ m. (H.claim (H.state m)).premise) × MadeAlike (Gives G.step) s.1 (λ m. (H.claim (H.state m)).grammar) (F.claim s.0).grammar;
+        backtracks = (F.claim s.0).backtracks × EachMade (Gives G.step) s.1 (λ m. (H.claim (H.state m)).backtracks);
+        consumes = (F.claim s.0).consumes ⊎ EachMade (Gives G.step) s.1 (λ m. (H.claim (H.state m)).consumes);
+        grammar = Decided (Gives G.step) s.1 (λ m. (H.claim (H.state m)).grammar) (F.claim s.0).grammar;
+        decides = ⊥;
+        alike = λ o p. o ≡ p;
+    } };
+
     ghost leaves_ends = { λ form. flat_map_ends I.reading G.step H.state (F.meaning form)
         (H.meaning form) (F.leaves_ends form) (H.leaves_ends form) };
+
+    ghost claimed = { λ s. record {
+        exact = λ form is. flat_map_exact G.step H.state (λ m. (H.claim (H.state m)).grammar) is.1 ((F.claimed s.0).exact form is.0) (λ o made m. (H.claimed (H.state made)).exact form (is.2 o made m)) is.3;
+        soft = λ form is soft. flat_map_soft G.step H.state (λ m. (H.claim (H.state m)).grammar) is.1 ((F.claimed s.0).exact form is.0) ((F.claimed s.0).soft form is.0 soft.0) (λ o made m. (H.claimed (H.state made)).soft form (is.2 o made m) (soft.1 o made m));
+        takes = λ is some. decided_takes (Gives G.step) s.1 (λ m. (H.claim (H.state m)).grammar) ((F.claimed s.0).exact modal is.0).unique (λ o made m. ((H.claimed (H.state made)).exact modal (is.2 o made m)).unique) (either_way ((F.claimed s.0).takes is.0) (λ each o made m. (H.claimed (H.state made)).takes (is.2 o made m) (each o made m)) some);
+        decided = λ form never. absurd never;
+    } };
 
     #[inline]
     fn parse_next(&mut self, input: &mut I) -> Result<O2, E> {
@@ -87,46 +101,6 @@ impl<
     ghost stable = { stays
         (flat_map_grows G.step H.state (grows (F.leaves_ends modal) F.stable)
         (grows (H.leaves_ends modal) H.stable)) };
-
-    fn stay() {}
-}
-
-impl<
-    F: Exact<I, O, E>,
-    G: FnMut(O) -> H,
-    H: Exact<I, O2, E> + Drop,
-    I: Stream,
-    O,
-    O2,
-    E: ParserError<I>,
-> Exact<I, O2, E> for FlatMap<F, G, H, I, O, O2, E> {
-    ghost premise = { λ p. F.premise (flat_map_parser p) × Stays G.step (flat_map_closure p)
-        × EachMade (Gives G.step) (flat_map_closure p) H.premise
-        × MadeAlike (Gives G.step) (flat_map_closure p) H.grammar
-        (F.grammar (flat_map_parser p)) };
-
-    ghost backtracks = { λ p. F.backtracks (flat_map_parser p)
-        × EachMade (Gives G.step) (flat_map_closure p) H.backtracks };
-
-    ghost consumes = { λ p. F.consumes (flat_map_parser p)
-        ⊎ EachMade (Gives G.step) (flat_map_closure p) H.consumes };
-
-    ghost grammar = { λ p. Decided (Gives G.step) (flat_map_closure p) H.grammar
-        (F.grammar (flat_map_parser p)) };
-
-    ghost exact = { λ p form is. flat_map_exact G.step H.state H.grammar is.1
-        (F.exact (flat_map_parser p) form is.0)
-        (λ o made m. H.exact made form (is.2 o made m)) is.3 };
-
-    ghost soft = { λ p form is soft. flat_map_soft G.step H.state H.grammar is.1
-        (F.exact (flat_map_parser p) form is.0) (F.soft (flat_map_parser p) form is.0 soft.0)
-        (λ o made m. H.soft made form (is.2 o made m) (soft.1 o made m)) };
-
-    ghost takes = { λ p is some. decided_takes (Gives G.step) (flat_map_closure p) H.grammar
-        (F.exact (flat_map_parser p) modal is.0).unique
-        (λ o made m. (H.exact made modal (is.2 o made m)).unique)
-        (either_way (F.takes (flat_map_parser p) is.0)
-        (λ each o made m. H.takes made (is.2 o made m) (each o made m)) some) };
 
     fn stay() {}
 }

@@ -13,8 +13,6 @@ ghost use Rattle.winnow_core.specs.Map.Laws.{map_ends, map_grows};
 ghost use Rattle.winnow_core.specs.Stable.Grows.{grows, stays};
 
 use crate::agrees_with::AgreesWith;
-use crate::decided::Decided;
-use crate::exact::Exact;
 use crate::parser::Parser;
 use crate::stable::Stable;
 use std::marker::PhantomData;
@@ -58,7 +56,23 @@ impl<F: Parser<I, O, E>, G: FnMut(O) -> O2, I: Stream, O, O2, E: ParserError<I>>
 
     ghost meaning = { λ form. MapRuns (F.meaning form) G.step };
 
+    ghost claim = { λ s. record {
+        premise = (F.claim s.0).premise × Stays G.step s.1;
+        backtracks = (F.claim s.0).backtracks;
+        consumes = (F.claim s.0).consumes;
+        grammar = Made (Gives G.step) s.1 (F.claim s.0).grammar;
+        decides = (F.claim s.0).decides × Stays G.step s.1;
+        alike = MadeAlike (F.claim s.0).alike (Gives G.step s.1);
+    } };
+
     ghost leaves_ends = { λ form. map_ends I.reading (F.meaning form) G.step (F.leaves_ends form) };
+
+    ghost claimed = { λ s. record {
+        exact = λ form is. map_exact G.step is.1 ((F.claimed s.0).exact form is.0);
+        soft = λ form is soft. map_soft G.step is.1 ((F.claimed s.0).soft form is.0 soft);
+        takes = λ is some. made_of_takes (Gives G.step) s.1 ((F.claimed s.0).takes is.0 some);
+        decided = λ form is. map_decided G.step is.1 ((F.claimed s.0).decided form is.0);
+    } };
 
     #[inline(always)]
     fn parse_next(&mut self, input: &mut I) -> Result<O2, E> {
@@ -70,37 +84,6 @@ impl<F: Parser<I, O, E>, G: FnMut(O) -> O2, I: Stream, O, O2, E: ParserError<I>>
 impl<F: Stable<I, O, E>, G: FnMut(O) -> O2, I: Stream, O, O2, E: ParserError<I>> Stable<I, O2, E>
     for Map<F, G, I, O, O2, E> {
     ghost stable = { stays (map_grows G.step (grows (F.leaves_ends modal) F.stable)) };
-
-    fn stay() {}
-}
-
-impl<F: Decided<I, O, E>, G: FnMut(O) -> O2, I: Stream, O, O2, E: ParserError<I>> Decided<I, O2, E>
-    for Map<F, G, I, O, O2, E> {
-    ghost premise = { λ p. F.premise (map_parser p) × Stays G.step (map_closure p) };
-
-    ghost alike = { λ p. MadeAlike (F.alike (map_parser p)) (Gives G.step (map_closure p)) };
-
-    ghost decided = { λ p form is. map_decided G.step is.1 (F.decided (map_parser p) form is.0) };
-
-    fn stay() {}
-}
-
-impl<F: Exact<I, O, E>, G: FnMut(O) -> O2, I: Stream, O, O2, E: ParserError<I>> Exact<I, O2, E>
-    for Map<F, G, I, O, O2, E> {
-    ghost premise = { λ p. F.premise (map_parser p) × Stays G.step (map_closure p) };
-
-    ghost backtracks = { λ p. F.backtracks (map_parser p) };
-
-    ghost consumes = { λ p. F.consumes (map_parser p) };
-
-    ghost grammar = { λ p. Made (Gives G.step) (map_closure p) (F.grammar (map_parser p)) };
-
-    ghost exact = { λ p form is. map_exact G.step is.1 (F.exact (map_parser p) form is.0) };
-
-    ghost soft = { λ p form is soft. map_soft G.step is.1 (F.soft (map_parser p) form is.0 soft) };
-
-    ghost takes = { λ p is some. made_of_takes (Gives G.step) (map_closure p)
-        (F.takes (map_parser p) is.0 some) };
 
     fn stay() {}
 }

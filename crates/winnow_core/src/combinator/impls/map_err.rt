@@ -9,7 +9,6 @@ ghost use Rattle.winnow_core.specs.MapErr.{map_err_parser};
 ghost use Rattle.winnow_core.specs.MapErrKept.{KeepsEachKind};
 
 use crate::agrees_with::AgreesWith;
-use crate::exact::Exact;
 use crate::parser::Parser;
 use std::marker::PhantomData;
 use stream_errors::parser_error::ParserError;
@@ -59,9 +58,25 @@ impl<
 
     ghost meaning = { λ _. MapErrRuns E.kind E2.kind G.step (F.meaning E.form) };
 
+    ghost claim = { λ s. record {
+        premise = (F.claim s.0).premise × Stays G.step s.1 × KeepsEachKind E.kind E2.kind G.step;
+        backtracks = (F.claim s.0).backtracks;
+        consumes = (F.claim s.0).consumes;
+        grammar = (F.claim s.0).grammar;
+        decides = ⊥;
+        alike = λ o p. o ≡ p;
+    } };
+
     ghost leaves_ends = { λ _. makes_error_ends I.reading (MapErrBecomes E.kind E2.kind G.step)
         (F.meaning E.form)
         (F.leaves_ends E.form) };
+
+    ghost claimed = { λ s. record {
+        exact = λ form is. map_err_exact E.kind E2.kind G.step is.2 is.1 ((F.claimed s.0).exact E.form is.0);
+        soft = λ form is soft. map_err_soft E.kind E2.kind G.step is.2 is.1 ((F.claimed s.0).soft E.form is.0 soft);
+        takes = λ is some. (F.claimed s.0).takes is.0 some;
+        decided = λ form never. absurd never;
+    } };
 
     #[inline]
     fn parse_next(&mut self, input: &mut I) -> Result<O, E2> {
@@ -70,34 +85,6 @@ impl<
             Err(error) => Err((self.map)(error)),
         }
     }
-}
-
-impl<
-    F: Exact<I, O, E>,
-    G: FnMut(E) -> E2,
-    I: Stream,
-    O,
-    E: ParserError<I>,
-    E2: ParserError<I>,
-> Exact<I, O, E2> for MapErr<F, G, I, O, E, E2> {
-    ghost premise = { λ p. F.premise (map_err_parser p) × Stays G.step (map_err_closure p)
-        × KeepsEachKind E.kind E2.kind G.step };
-
-    ghost backtracks = { λ p. F.backtracks (map_err_parser p) };
-
-    ghost consumes = { λ p. F.consumes (map_err_parser p) };
-
-    ghost grammar = { λ p. F.grammar (map_err_parser p) };
-
-    ghost exact = { λ p form is. map_err_exact E.kind E2.kind G.step is.2 is.1
-        (F.exact (map_err_parser p) E.form is.0) };
-
-    ghost soft = { λ p form is soft. map_err_soft E.kind E2.kind G.step is.2 is.1
-        (F.soft (map_err_parser p) E.form is.0 soft) };
-
-    ghost takes = { λ p is some. F.takes (map_err_parser p) is.0 some };
-
-    fn stay() {}
 }
 
 /// The closure takes one type of error, so both parsers have that.

@@ -11,7 +11,6 @@ ghost use Rattle.winnow_core.specs.MapErrKept.{map_err_kept_parser};
 ghost use Rattle.winnow_core.specs.Stable.Grows.{grows, stays};
 
 use crate::agrees_with::AgreesWith;
-use crate::exact::Exact;
 use crate::parser::Parser;
 use crate::stable::Stable;
 use std::marker::PhantomData;
@@ -66,8 +65,24 @@ impl<
 
     ghost meaning = { λ form. MapErrKeptRuns E.kind E2.kind G.step (F.meaning form) };
 
+    ghost claim = { λ s. record {
+        premise = (F.claim s.0).premise × Stays G.step s.1;
+        backtracks = (F.claim s.0).backtracks;
+        consumes = (F.claim s.0).consumes;
+        grammar = (F.claim s.0).grammar;
+        decides = ⊥;
+        alike = λ o p. o ≡ p;
+    } };
+
     ghost leaves_ends = { λ form. makes_error_ends I.reading
         (MapErrKeptBecomes E.kind E2.kind G.step) (F.meaning form) (F.leaves_ends form) };
+
+    ghost claimed = { λ s. record {
+        exact = λ form is. map_err_kept_exact E.kind E2.kind G.step is.1 ((F.claimed s.0).exact form is.0);
+        soft = λ form is soft. map_err_kept_soft E.kind E2.kind G.step is.1 ((F.claimed s.0).soft form is.0 soft);
+        takes = λ is some. (F.claimed s.0).takes is.0 some;
+        decided = λ form never. absurd never;
+    } };
 
     #[inline]
     fn parse_next(&mut self, input: &mut I) -> Result<O, E2> {
@@ -88,34 +103,6 @@ impl<
 > Stable<I, O, E2> for MapErrKept<F, G, I, O, E, E2> {
     ghost stable = { stays (makes_error_grows (MapErrKeptBecomes E.kind E2.kind G.step)
         (map_err_kept_keeps E.kind E2.kind G.step) (grows (F.leaves_ends modal) F.stable)) };
-
-    fn stay() {}
-}
-
-impl<
-    F: Exact<I, O, E>,
-    G: FnMut(E) -> E2,
-    I: Stream,
-    O,
-    E: ParserError<I>,
-    E2: ParserError<I>,
-> Exact<I, O, E2> for MapErrKept<F, G, I, O, E, E2> {
-    ghost premise = { λ p. F.premise (map_err_kept_parser p)
-        × Stays G.step (map_err_kept_closure p) };
-
-    ghost backtracks = { λ p. F.backtracks (map_err_kept_parser p) };
-
-    ghost consumes = { λ p. F.consumes (map_err_kept_parser p) };
-
-    ghost grammar = { λ p. F.grammar (map_err_kept_parser p) };
-
-    ghost exact = { λ p form is. map_err_kept_exact E.kind E2.kind G.step is.1
-        (F.exact (map_err_kept_parser p) form is.0) };
-
-    ghost soft = { λ p form is soft. map_err_kept_soft E.kind E2.kind G.step is.1
-        (F.soft (map_err_kept_parser p) form is.0 soft) };
-
-    ghost takes = { λ p is some. F.takes (map_err_kept_parser p) is.0 some };
 
     fn stay() {}
 }

@@ -4,8 +4,8 @@ ghost use Rattle.std.specs.Prelude.{◌≡◌};
 ghost use Rattle.stream_errors.specs.Form.{assert_kind};
 ghost use Rattle.winnow_core.specs.Parse.{IsFaultAt};
 ghost use Rattle.winnow_core.specs.ParseIter.{ParseIterNext, parse_iter_name, parse_iter_parser};
-ghost use Rattle.winnow_core.specs.ParseIter.{parse_iter_state, parse_iter_standing};
-ghost use Rattle.winnow_core.specs.ParseIter.{IsReached, reads, tokens_to_read};
+ghost use Rattle.winnow_core.specs.ParseIter.{parse_iter_state, parse_iter_standing, IsReached};
+ghost use Rattle.winnow_core.specs.ParseIter.{reads, tokens_to_read};
 
 use crate::parser::Parser;
 use crate::parser::fault::fault_at;

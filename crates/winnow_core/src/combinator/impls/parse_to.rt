@@ -14,8 +14,6 @@ ghost use Rattle.winnow_core.specs.Settles.Laws.{settles_ends, settles_grows};
 ghost use Rattle.winnow_core.specs.Stable.Grows.{grows, stays_beside};
 
 use crate::agrees_with::AgreesWith;
-use crate::decided::Decided;
-use crate::exact::Exact;
 use crate::parser::Parser;
 use crate::stable::Stable;
 use std::marker::PhantomData;
@@ -60,9 +58,25 @@ impl<F: Parser<I, O, E>, I: Stream, O: ParseSlice<O2> + Drop, O2, E: ParserError
 
     ghost meaning = { λ form. ParseToRuns O.reads (F.meaning form) };
 
+    ghost claim = { λ s. record {
+        premise = (F.claim s).premise × RejectsAll (ReadsSome O.reads) (ReadsNone O.reads) tt (F.claim s).grammar;
+        backtracks = (F.claim s).backtracks;
+        consumes = (F.claim s).consumes;
+        grammar = Made (ReadsSome O.reads) tt (F.claim s).grammar;
+        decides = (F.claim s).decides × ReadsSame O.reads (F.claim s).alike;
+        alike = MadeAlike (F.claim s).alike (λ o u. O.reads o (Some u));
+    } };
+
     ghost leaves_ends = { λ form s i answer t j ran. settles_ends I.reading
         (ParseToSettles O.reads) (F.meaning form)
         (F.leaves_ends form) _ i answer _ j ran };
+
+    ghost claimed = { λ s. record {
+        exact = λ form is. parse_to_exact O.reads is.1 ((F.claimed s).exact form is.0);
+        soft = λ form is soft. parse_to_soft O.reads ((F.claimed s).soft form is.0 soft);
+        takes = λ is some. made_of_takes (ReadsSome O.reads) tt ((F.claimed s).takes is.0 some);
+        decided = λ form is. parse_to_decided O.reads is.1 ((F.claimed s).decided form is.0);
+    } };
 
     #[inline]
     fn parse_next(&mut self, input: &mut I) -> Result<O2, E> {
@@ -85,41 +99,6 @@ impl<F: Stable<I, O, E>, I: Stream, O: ParseSlice<O2> + Drop, O2, E: ParserError
 > for ParseTo<F, I, O, O2, E> {
     ghost stable = { stays_beside tt
         (settles_grows (ParseToSettles O.reads) (grows (F.leaves_ends modal) F.stable)) };
-}
-
-impl<F: Decided<I, O, E>, I: Stream, O: ParseSlice<O2> + Drop, O2, E: ParserError<I>> Decided<
-    I,
-    O2,
-    E,
-> for ParseTo<F, I, O, O2, E> {
-    ghost premise = { λ p. F.premise (parse_to_parser p)
-        × ReadsSame O.reads (F.alike (parse_to_parser p)) };
-
-    ghost alike = { λ p. MadeAlike (F.alike (parse_to_parser p)) (λ o u. O.reads o (Some u)) };
-
-    ghost decided = { λ p form is. parse_to_decided O.reads is.1
-        (F.decided (parse_to_parser p) form is.0) };
-}
-
-impl<F: Exact<I, O, E>, I: Stream, O: ParseSlice<O2> + Drop, O2, E: ParserError<I>> Exact<I, O2, E>
-    for ParseTo<F, I, O, O2, E> {
-    ghost premise = { λ p. F.premise (parse_to_parser p) × RejectsAll (ReadsSome O.reads)
-        (ReadsNone O.reads) tt (F.grammar (parse_to_parser p)) };
-
-    ghost backtracks = { λ p. F.backtracks (parse_to_parser p) };
-
-    ghost consumes = { λ p. F.consumes (parse_to_parser p) };
-
-    ghost grammar = { λ p. Made (ReadsSome O.reads) tt (F.grammar (parse_to_parser p)) };
-
-    ghost exact = { λ p form is. parse_to_exact O.reads is.1
-        (F.exact (parse_to_parser p) form is.0) };
-
-    ghost soft = { λ p form is soft. parse_to_soft O.reads
-        (F.soft (parse_to_parser p) form is.0 soft) };
-
-    ghost takes = { λ p is some. made_of_takes (ReadsSome O.reads) tt
-        (F.takes (parse_to_parser p) is.0 some) };
 }
 
 impl<

@@ -10,7 +10,6 @@ ghost use Rattle.winnow_core.specs.Span.{SpanRuns, span_parser, places};
 ghost use Rattle.winnow_core.specs.Stable.Grows.{grows, stays};
 
 use crate::agrees_with::AgreesWith;
-use crate::exact::Exact;
 use crate::parser::Parser;
 use crate::stable::Stable;
 use std::marker::PhantomData;
@@ -53,8 +52,24 @@ impl<F: Parser<I, O, E>, I: Location, O: Drop, E: ParserError<I>> Parser<I, Rang
 
     ghost meaning = { λ form. SpanRuns (F.meaning form) };
 
+    ghost claim = { λ s. record {
+        premise = (F.claim s).premise;
+        backtracks = (F.claim s).backtracks;
+        consumes = (F.claim s).consumes;
+        grammar = Made AnyPlaces tt (F.claim s).grammar;
+        decides = ⊥;
+        alike = λ o p. o ≡ p;
+    } };
+
     ghost leaves_ends = { λ form. makes_output_ends I.reading _ (F.meaning form)
         (F.leaves_ends form) };
+
+    ghost claimed = { λ s. record {
+        exact = λ form is. span_exact (F.meaning form) (s) ((F.claimed s).exact form is);
+        soft = λ form is soft. span_soft (F.meaning form) (s) ((F.claimed s).soft form is soft);
+        takes = λ is some. made_of_takes AnyPlaces tt ((F.claimed s).takes is some);
+        decided = λ form never. absurd never;
+    } };
 
     #[inline]
     fn parse_next(&mut self, input: &mut I) -> Result<Range<usize>, E> {
@@ -70,25 +85,6 @@ impl<F: Stable<I, O, E>, I: Location, O: Drop, E: ParserError<I>> Stable<I, Rang
     ghost stable = { stays
         (makes_output_grows (λ i o j span. span ≡ places i j) (λ more flag i o j span is. is)
         (grows (F.leaves_ends modal) F.stable)) };
-}
-
-impl<F: Exact<I, O, E>, I: Location, O: Drop, E: ParserError<I>> Exact<I, Range<usize>, E>
-    for Span<F, I, O, E> {
-    ghost premise = { λ p. F.premise (span_parser p) };
-
-    ghost backtracks = { λ p. F.backtracks (span_parser p) };
-
-    ghost consumes = { λ p. F.consumes (span_parser p) };
-
-    ghost grammar = { λ p. Made AnyPlaces tt (F.grammar (span_parser p)) };
-
-    ghost exact = { λ p form is. span_exact (F.meaning form) (F.state (span_parser p))
-        (F.exact (span_parser p) form is) };
-
-    ghost soft = { λ p form is soft. span_soft (F.meaning form) (F.state (span_parser p))
-        (F.soft (span_parser p) form is soft) };
-
-    ghost takes = { λ p is some. made_of_takes AnyPlaces tt (F.takes (span_parser p) is some) };
 }
 
 impl<

@@ -11,8 +11,6 @@ ghost use Rattle.winnow_core.specs.Take.{TakeRuns, take_parser};
 ghost use Rattle.winnow_core.specs.Take.Laws.{take_agrees, take_ends, take_adapter_grows};
 
 use crate::agrees_with::AgreesWith;
-use crate::decided::Decided;
-use crate::exact::Exact;
 use crate::parser::Parser;
 use crate::stable::Stable;
 use std::marker::PhantomData;
@@ -54,7 +52,23 @@ impl<F: Parser<I, O, E>, I: Stream, O: Drop, E: ParserError<I>> Parser<I, I::Sli
 
     ghost meaning = { λ form. TakeRuns I.reading (F.meaning form) };
 
+    ghost claim = { λ s. record {
+        premise = (F.claim s).premise;
+        backtracks = (F.claim s).backtracks;
+        consumes = (F.claim s).consumes;
+        grammar = Taken I.reading (F.claim s).grammar;
+        decides = (F.claim s).decides;
+        alike = ShowSame I.reading;
+    } };
+
     ghost leaves_ends = { λ form. take_ends I.reading (F.meaning form) (F.leaves_ends form) };
+
+    ghost claimed = { λ s. record {
+        exact = λ form is. take_exact I.reading ((F.claimed s).exact form is);
+        soft = λ form is soft. take_soft I.reading ((F.claimed s).soft form is soft);
+        takes = λ is some. taken_takes I.reading ((F.claimed s).takes is some);
+        decided = λ form is. take_decided I.reading ((F.claimed s).decided form is);
+    } };
 
     #[inline]
     fn parse_next(&mut self, input: &mut I) -> Result<I::Slice, E> {
@@ -81,32 +95,6 @@ pub(crate) fn slice_from<I: Stream>(start: &I::Checkpoint, input: &mut I) -> I::
 impl<F: Stable<I, O, E>, I: Stream, O: Drop, E: ParserError<I>> Stable<I, I::Slice, E>
     for Take<F, I, O, E> {
     ghost stable = { stays (take_adapter_grows I.reading (grows (F.leaves_ends modal) F.stable)) };
-}
-
-impl<F: Decided<I, O, E>, I: Stream, O: Drop, E: ParserError<I>> Decided<I, I::Slice, E>
-    for Take<F, I, O, E> {
-    ghost premise = { λ p. F.premise (take_parser p) };
-
-    ghost alike = { λ p. ShowSame I.reading };
-
-    ghost decided = { λ p form is. take_decided I.reading (F.decided (take_parser p) form is) };
-}
-
-impl<F: Exact<I, O, E>, I: Stream, O: Drop, E: ParserError<I>> Exact<I, I::Slice, E>
-    for Take<F, I, O, E> {
-    ghost premise = { λ p. F.premise (take_parser p) };
-
-    ghost backtracks = { λ p. F.backtracks (take_parser p) };
-
-    ghost consumes = { λ p. F.consumes (take_parser p) };
-
-    ghost grammar = { λ p. Taken I.reading (F.grammar (take_parser p)) };
-
-    ghost exact = { λ p form is. take_exact I.reading (F.exact (take_parser p) form is) };
-
-    ghost soft = { λ p form is soft. take_soft I.reading (F.soft (take_parser p) form is soft) };
-
-    ghost takes = { λ p is some. taken_takes I.reading (F.takes (take_parser p) is some) };
 }
 
 impl<

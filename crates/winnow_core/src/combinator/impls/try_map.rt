@@ -14,7 +14,6 @@ ghost use Rattle.winnow_core.specs.TryMap.{TryMapSettles, TryMapRuns, try_map_cl
 ghost use Rattle.winnow_core.specs.TryMap.{try_map_parser};
 
 use crate::agrees_with::AgreesWith;
-use crate::exact::Exact;
 use crate::parser::Parser;
 use crate::stable::Stable;
 use std::marker::PhantomData;
@@ -66,9 +65,25 @@ impl<
 
     ghost meaning = { λ form. TryMapRuns G.step (F.meaning form) };
 
+    ghost claim = { λ s. record {
+        premise = (F.claim s.0).premise × Stays G.step s.1.0 × RejectsAll (GivesOk G.step) (GivesErr G.step) s.1.0 (F.claim s.0).grammar;
+        backtracks = (F.claim s.0).backtracks;
+        consumes = (F.claim s.0).consumes;
+        grammar = Made (GivesOk G.step) s.1.0 (F.claim s.0).grammar;
+        decides = ⊥;
+        alike = λ o p. o ≡ p;
+    } };
+
     ghost leaves_ends = { λ form. settles_ends I.reading
         (TryMapSettles G.step) (F.meaning form)
         (F.leaves_ends form) };
+
+    ghost claimed = { λ s. record {
+        exact = λ form is. try_map_exact G.step is.1 is.2 ((F.claimed s.0).exact form is.0);
+        soft = λ form is soft. try_map_soft G.step is.1 ((F.claimed s.0).soft form is.0 soft);
+        takes = λ is some. made_of_takes (GivesOk G.step) s.1.0 ((F.claimed s.0).takes is.0 some);
+        decided = λ form never. absurd never;
+    } };
 
     #[inline]
     fn parse_next(&mut self, input: &mut I) -> Result<O2, E> {
@@ -95,38 +110,6 @@ impl<
 > Stable<I, O2, E> for TryMap<F, G, I, O, O2, E, E2> {
     ghost stable = { stays
         (settles_grows (TryMapSettles G.step) (grows (F.leaves_ends modal) F.stable)) };
-
-    fn stay() {}
-}
-
-impl<
-    F: Exact<I, O, E>,
-    G: FnMut(O) -> Result<O2, E2>,
-    I: Stream,
-    O,
-    O2,
-    E: ParserError<I> + FromExternalError<I, E2>,
-    E2,
-> Exact<I, O2, E> for TryMap<F, G, I, O, O2, E, E2> {
-    ghost premise = { λ p. F.premise (try_map_parser p) × Stays G.step (try_map_closure p)
-        × RejectsAll (GivesOk G.step) (GivesErr G.step) (try_map_closure p)
-        (F.grammar (try_map_parser p)) };
-
-    ghost backtracks = { λ p. F.backtracks (try_map_parser p) };
-
-    ghost consumes = { λ p. F.consumes (try_map_parser p) };
-
-    ghost grammar = { λ p. Made (GivesOk G.step) (try_map_closure p)
-        (F.grammar (try_map_parser p)) };
-
-    ghost exact = { λ p form is. try_map_exact G.step is.1 is.2
-        (F.exact (try_map_parser p) form is.0) };
-
-    ghost soft = { λ p form is soft. try_map_soft G.step is.1
-        (F.soft (try_map_parser p) form is.0 soft) };
-
-    ghost takes = { λ p is some. made_of_takes (GivesOk G.step) (try_map_closure p)
-        (F.takes (try_map_parser p) is.0 some) };
 
     fn stay() {}
 }

@@ -11,8 +11,6 @@ ghost use Rattle.winnow_core.specs.Value.{ValueRuns, value_kept, value_parser};
 ghost use Rattle.winnow_core.specs.Value.Laws.{value_ends, value_grows};
 
 use crate::agrees_with::AgreesWith;
-use crate::decided::Decided;
-use crate::exact::Exact;
 use crate::parser::Parser;
 use crate::stable::Stable;
 use std::marker::PhantomData;
@@ -55,8 +53,24 @@ impl<F: Parser<I, O, E>, I: Stream, O: Drop, O2: Clone, E: ParserError<I>> Parse
 
     ghost meaning = { λ form. ValueRuns O2.is_clone O2.is_infallible (F.meaning form) };
 
+    ghost claim = { λ s. record {
+        premise = (F.claim s.0).premise;
+        backtracks = (F.claim s.0).backtracks;
+        consumes = (F.claim s.0).consumes;
+        grammar = Made (λ v o u. O2.is_clone v u) s.1 (F.claim s.0).grammar;
+        decides = (F.claim s.0).decides;
+        alike = BothClones O2.is_clone s.1;
+    } };
+
     ghost leaves_ends = { λ form. value_ends I.reading O2.is_clone O2.is_infallible
         (F.meaning form) (F.leaves_ends form) };
+
+    ghost claimed = { λ s. record {
+        exact = λ form is. value_exact O2.is_clone O2.is_infallible ((F.claimed s.0).exact form is);
+        soft = λ form is soft. value_soft O2.is_clone O2.is_infallible ((F.claimed s.0).soft form is soft);
+        takes = λ is some. made_of_takes (λ v o u. O2.is_clone v u) s.1 ((F.claimed s.0).takes is some);
+        decided = λ form is. value_decided O2.is_clone O2.is_infallible ((F.claimed s.0).decided form is);
+    } };
 
     #[inline]
     fn parse_next(&mut self, input: &mut I) -> Result<O2, E> {
@@ -72,37 +86,6 @@ impl<F: Stable<I, O, E>, I: Stream, O: Drop, O2: Clone, E: ParserError<I>> Stabl
     for Value<F, I, O, O2, E> {
     ghost stable = { stays
         (value_grows O2.is_clone O2.is_infallible (grows (F.leaves_ends modal) F.stable)) };
-}
-
-impl<F: Decided<I, O, E>, I: Stream, O: Drop, O2: Clone, E: ParserError<I>> Decided<I, O2, E>
-    for Value<F, I, O, O2, E> {
-    ghost premise = { λ p. F.premise (value_parser p) };
-
-    ghost alike = { λ p. BothClones O2.is_clone (value_kept p) };
-
-    ghost decided = { λ p form is. value_decided O2.is_clone O2.is_infallible
-        (F.decided (value_parser p) form is) };
-}
-
-impl<F: Exact<I, O, E>, I: Stream, O: Drop, O2: Clone, E: ParserError<I>> Exact<I, O2, E>
-    for Value<F, I, O, O2, E> {
-    ghost premise = { λ p. F.premise (value_parser p) };
-
-    ghost backtracks = { λ p. F.backtracks (value_parser p) };
-
-    ghost consumes = { λ p. F.consumes (value_parser p) };
-
-    ghost grammar = { λ p. Made (λ v o u. O2.is_clone v u) (value_kept p)
-        (F.grammar (value_parser p)) };
-
-    ghost exact = { λ p form is. value_exact O2.is_clone O2.is_infallible
-        (F.exact (value_parser p) form is) };
-
-    ghost soft = { λ p form is soft. value_soft O2.is_clone O2.is_infallible
-        (F.soft (value_parser p) form is soft) };
-
-    ghost takes = { λ p is some. made_of_takes (λ v o u. O2.is_clone v u) (value_kept p)
-        (F.takes (value_parser p) is some) };
 }
 
 impl<

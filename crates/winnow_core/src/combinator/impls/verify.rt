@@ -16,8 +16,6 @@ ghost use Rattle.winnow_core.specs.Verify.{VerifySettles, VerifyRuns, verify_clo
 ghost use Rattle.winnow_core.specs.Verify.{verify_parser};
 
 use crate::agrees_with::AgreesWith;
-use crate::decided::Decided;
-use crate::exact::Exact;
 use crate::parser::Parser;
 use crate::stable::Stable;
 use std::marker::PhantomData;
@@ -64,9 +62,25 @@ impl<F: Parser<I, O, E>, G: FnMut(&O) -> bool, I: Stream, O: Drop, E: ParserErro
 
     ghost meaning = { λ form. VerifyRuns (CalledAt G.FnMut) (F.meaning form) };
 
+    ghost claim = { λ s. record {
+        premise = (F.claim s.0).premise × Stays (CalledAt G.FnMut) s.1 × RejectsAll (Finds (CalledAt G.FnMut)) (Misses (CalledAt G.FnMut)) s.1 (F.claim s.0).grammar;
+        backtracks = (F.claim s.0).backtracks;
+        consumes = (F.claim s.0).consumes;
+        grammar = Made (Finds (CalledAt G.FnMut)) s.1 (F.claim s.0).grammar;
+        decides = (F.claim s.0).decides × Stays (CalledAt G.FnMut) s.1 × FindsSame (CalledAt G.FnMut) s.1 (F.claim s.0).alike;
+        alike = (F.claim s.0).alike;
+    } };
+
     ghost leaves_ends = { λ form. settles_ends I.reading (VerifySettles (CalledAt G.FnMut))
         (F.meaning form)
         (F.leaves_ends form) };
+
+    ghost claimed = { λ s. record {
+        exact = λ form is. settled_exact (verify_settler (CalledAt G.FnMut) is.1) is.2 ((F.claimed s.0).exact form is.0);
+        soft = λ form is soft. settled_soft (verify_settler (CalledAt G.FnMut) is.1) ((F.claimed s.0).soft form is.0 soft);
+        takes = λ is some. made_of_takes (Finds (CalledAt G.FnMut)) s.1 ((F.claimed s.0).takes is.0 some);
+        decided = λ form is. verify_decided (CalledAt G.FnMut) is.1 is.2 ((F.claimed s.0).decided form is.0);
+    } };
 
     #[inline]
     fn parse_next(&mut self, input: &mut I) -> Result<O, E> {
@@ -89,47 +103,6 @@ impl<F: Stable<I, O, E>, G: FnMut(&O) -> bool, I: Stream, O: Drop, E: ParserErro
     ghost stable = { stays
         (settles_grows (VerifySettles (CalledAt G.FnMut))
         (grows (F.leaves_ends modal) F.stable)) };
-
-    fn stay() {}
-}
-
-impl<F: Decided<I, O, E>, G: FnMut(&O) -> bool, I: Stream, O: Drop, E: ParserError<I>> Decided<
-    I,
-    O,
-    E,
-> for Verify<F, G, I, O, E> {
-    ghost premise = { λ p. F.premise (verify_parser p) × Stays (CalledAt G.FnMut) (verify_closure p)
-        × FindsSame (CalledAt G.FnMut) (verify_closure p) (F.alike (verify_parser p)) };
-
-    ghost alike = { λ p. F.alike (verify_parser p) };
-
-    ghost decided = { λ p form is. verify_decided (CalledAt G.FnMut) is.1 is.2
-        (F.decided (verify_parser p) form is.0) };
-
-    fn stay() {}
-}
-
-impl<F: Exact<I, O, E>, G: FnMut(&O) -> bool, I: Stream, O: Drop, E: ParserError<I>> Exact<I, O, E>
-    for Verify<F, G, I, O, E> {
-    ghost premise = { λ p. F.premise (verify_parser p) × Stays (CalledAt G.FnMut) (verify_closure p)
-        × RejectsAll (Finds (CalledAt G.FnMut)) (Misses (CalledAt G.FnMut)) (verify_closure p)
-        (F.grammar (verify_parser p)) };
-
-    ghost backtracks = { λ p. F.backtracks (verify_parser p) };
-
-    ghost consumes = { λ p. F.consumes (verify_parser p) };
-
-    ghost grammar = { λ p. Made (Finds (CalledAt G.FnMut)) (verify_closure p)
-        (F.grammar (verify_parser p)) };
-
-    ghost exact = { λ p form is. settled_exact (verify_settler (CalledAt G.FnMut) is.1) is.2
-        (F.exact (verify_parser p) form is.0) };
-
-    ghost soft = { λ p form is soft. settled_soft (verify_settler (CalledAt G.FnMut) is.1)
-        (F.soft (verify_parser p) form is.0 soft) };
-
-    ghost takes = { λ p is some. made_of_takes (Finds (CalledAt G.FnMut)) (verify_closure p)
-        (F.takes (verify_parser p) is.0 some) };
 
     fn stay() {}
 }

@@ -10,13 +10,10 @@ ghost use Rattle.winnow_core.specs.Decided.Adapters.{RefusesSame, verify_map_dec
 ghost use Rattle.winnow_core.specs.Decided.Made.{MadeAlike};
 ghost use Rattle.winnow_core.specs.Exact.Settled.{GivesNone, verify_map_exact, verify_map_soft};
 ghost use Rattle.winnow_core.specs.Stable.Grows.{grows, stays};
-ghost use Rattle.winnow_core.specs.VerifyMap.{VerifyMapRuns, verify_map_parser};
-ghost use Rattle.winnow_core.specs.VerifyMap.{verify_map_closure};
+ghost use Rattle.winnow_core.specs.VerifyMap.{VerifyMapRuns, verify_map_parser, verify_map_closure};
 ghost use Rattle.winnow_core.specs.VerifyMap.Laws.{verify_map_ends, verify_map_grows};
 
 use crate::agrees_with::AgreesWith;
-use crate::decided::Decided;
-use crate::exact::Exact;
 use crate::parser::Parser;
 use crate::stable::Stable;
 use std::marker::PhantomData;
@@ -63,8 +60,24 @@ impl<F: Parser<I, O, E>, G: FnMut(O) -> Option<O2>, I: Stream, O, O2, E: ParserE
 
     ghost meaning = { λ form. VerifyMapRuns (F.meaning form) G.step };
 
+    ghost claim = { λ s. record {
+        premise = (F.claim s.0).premise × Stays G.step s.1 × RejectsAll (GivesSome G.step) (GivesNone G.step) s.1 (F.claim s.0).grammar;
+        backtracks = (F.claim s.0).backtracks;
+        consumes = (F.claim s.0).consumes;
+        grammar = Made (GivesSome G.step) s.1 (F.claim s.0).grammar;
+        decides = (F.claim s.0).decides × Stays G.step s.1 × RefusesSame G.step s.1 (F.claim s.0).alike;
+        alike = MadeAlike (F.claim s.0).alike (GivesSome G.step s.1);
+    } };
+
     ghost leaves_ends = { λ form. verify_map_ends I.reading (F.meaning form) G.step
         (F.leaves_ends form) };
+
+    ghost claimed = { λ s. record {
+        exact = λ form is. verify_map_exact G.step is.1 is.2 ((F.claimed s.0).exact form is.0);
+        soft = λ form is soft. verify_map_soft G.step is.1 ((F.claimed s.0).soft form is.0 soft);
+        takes = λ is some. made_of_takes (GivesSome G.step) s.1 ((F.claimed s.0).takes is.0 some);
+        decided = λ form is. verify_map_decided G.step is.1 is.2 ((F.claimed s.0).decided form is.0);
+    } };
 
     #[inline]
     fn parse_next(&mut self, input: &mut I) -> Result<O2, E> {
@@ -86,51 +99,6 @@ impl<F: Stable<I, O, E>, G: FnMut(O) -> Option<O2>, I: Stream, O, O2, E: ParserE
     E,
 > for VerifyMap<F, G, I, O, O2, E> {
     ghost stable = { stays (verify_map_grows G.step (grows (F.leaves_ends modal) F.stable)) };
-
-    fn stay() {}
-}
-
-impl<F: Decided<I, O, E>, G: FnMut(O) -> Option<O2>, I: Stream, O, O2, E: ParserError<I>> Decided<
-    I,
-    O2,
-    E,
-> for VerifyMap<F, G, I, O, O2, E> {
-    ghost premise = { λ p. F.premise (verify_map_parser p) × Stays G.step (verify_map_closure p)
-        × RefusesSame G.step (verify_map_closure p) (F.alike (verify_map_parser p)) };
-
-    ghost alike = { λ p. MadeAlike (F.alike (verify_map_parser p))
-        (GivesSome G.step (verify_map_closure p)) };
-
-    ghost decided = { λ p form is. verify_map_decided G.step is.1 is.2
-        (F.decided (verify_map_parser p) form is.0) };
-
-    fn stay() {}
-}
-
-impl<F: Exact<I, O, E>, G: FnMut(O) -> Option<O2>, I: Stream, O, O2, E: ParserError<I>> Exact<
-    I,
-    O2,
-    E,
-> for VerifyMap<F, G, I, O, O2, E> {
-    ghost premise = { λ p. F.premise (verify_map_parser p) × Stays G.step (verify_map_closure p)
-        × RejectsAll (GivesSome G.step) (GivesNone G.step) (verify_map_closure p)
-        (F.grammar (verify_map_parser p)) };
-
-    ghost backtracks = { λ p. F.backtracks (verify_map_parser p) };
-
-    ghost consumes = { λ p. F.consumes (verify_map_parser p) };
-
-    ghost grammar = { λ p. Made (GivesSome G.step) (verify_map_closure p)
-        (F.grammar (verify_map_parser p)) };
-
-    ghost exact = { λ p form is. verify_map_exact G.step is.1 is.2
-        (F.exact (verify_map_parser p) form is.0) };
-
-    ghost soft = { λ p form is soft. verify_map_soft G.step is.1
-        (F.soft (verify_map_parser p) form is.0 soft) };
-
-    ghost takes = { λ p is some. made_of_takes (GivesSome G.step) (verify_map_closure p)
-        (F.takes (verify_map_parser p) is.0 some) };
 
     fn stay() {}
 }

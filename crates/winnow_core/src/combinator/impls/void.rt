@@ -11,8 +11,6 @@ ghost use Rattle.winnow_core.specs.Void.{VoidRuns, void_parser};
 ghost use Rattle.winnow_core.specs.Void.Laws.{void_ends, void_grows};
 
 use crate::agrees_with::AgreesWith;
-use crate::decided::Decided;
-use crate::exact::Exact;
 use crate::parser::Parser;
 use crate::stable::Stable;
 use std::marker::PhantomData;
@@ -52,7 +50,23 @@ impl<F: Parser<I, O, E>, I: Stream, O: Drop, E: ParserError<I>> Parser<I, (), E>
 
     ghost meaning = { λ form. VoidRuns (F.meaning form) };
 
+    ghost claim = { λ s. record {
+        premise = (F.claim s).premise;
+        backtracks = (F.claim s).backtracks;
+        consumes = (F.claim s).consumes;
+        grammar = Made (λ (_ : Unit {0}) o (u : Unit {0}). ⊤) tt (F.claim s).grammar;
+        decides = (F.claim s).decides;
+        alike = λ o q. ⊤;
+    } };
+
     ghost leaves_ends = { λ form. void_ends I.reading (F.meaning form) (F.leaves_ends form) };
+
+    ghost claimed = { λ s. record {
+        exact = λ form is. void_exact ((F.claimed s).exact form is);
+        soft = λ form is soft. void_soft ((F.claimed s).soft form is soft);
+        takes = λ is some. made_of_takes (λ (_ : Unit {0}) o (u : Unit {0}). ⊤) tt ((F.claimed s).takes is some);
+        decided = λ form is. void_decided ((F.claimed s).decided form is);
+    } };
 
     #[inline(always)]
     fn parse_next(&mut self, input: &mut I) -> Result<(), E> {
@@ -64,34 +78,6 @@ impl<F: Parser<I, O, E>, I: Stream, O: Drop, E: ParserError<I>> Parser<I, (), E>
 impl<F: Stable<I, O, E>, I: Stream, O: Drop, E: ParserError<I>> Stable<I, (), E>
     for Void<F, I, O, E> {
     ghost stable = { stays (void_grows (grows (F.leaves_ends modal) F.stable)) };
-}
-
-impl<F: Decided<I, O, E>, I: Stream, O: Drop, E: ParserError<I>> Decided<I, (), E>
-    for Void<F, I, O, E> {
-    ghost premise = { λ p. F.premise (void_parser p) };
-
-    ghost alike = { λ p o q. ⊤ };
-
-    ghost decided = { λ p form is. void_decided (F.decided (void_parser p) form is) };
-}
-
-impl<F: Exact<I, O, E>, I: Stream, O: Drop, E: ParserError<I>> Exact<I, (), E>
-    for Void<F, I, O, E> {
-    ghost premise = { λ p. F.premise (void_parser p) };
-
-    ghost backtracks = { λ p. F.backtracks (void_parser p) };
-
-    ghost consumes = { λ p. F.consumes (void_parser p) };
-
-    ghost grammar = { λ p. Made (λ (_ : Unit {0}) o (u : Unit {0}). ⊤) tt
-        (F.grammar (void_parser p)) };
-
-    ghost exact = { λ p form is. void_exact (F.exact (void_parser p) form is) };
-
-    ghost soft = { λ p form is soft. void_soft (F.soft (void_parser p) form is soft) };
-
-    ghost takes = { λ p is some. made_of_takes (λ (_ : Unit {0}) o (u : Unit {0}). ⊤) tt
-        (F.takes (void_parser p) is some) };
 }
 
 impl<

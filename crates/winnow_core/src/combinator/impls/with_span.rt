@@ -11,7 +11,6 @@ ghost use Rattle.winnow_core.specs.Stable.Grows.{grows, stays};
 ghost use Rattle.winnow_core.specs.WithSpan.{WithSpanRuns, with_span_parser};
 
 use crate::agrees_with::AgreesWith;
-use crate::exact::Exact;
 use crate::parser::Parser;
 use crate::stable::Stable;
 use std::marker::PhantomData;
@@ -54,8 +53,24 @@ impl<F: Parser<I, O, E>, I: Location, O, E: ParserError<I>> Parser<I, (O, Range<
 
     ghost meaning = { λ form. WithSpanRuns (F.meaning form) };
 
+    ghost claim = { λ s. record {
+        premise = (F.claim s).premise;
+        backtracks = (F.claim s).backtracks;
+        consumes = (F.claim s).consumes;
+        grammar = Made WithPlaces tt (F.claim s).grammar;
+        decides = ⊥;
+        alike = λ o p. o ≡ p;
+    } };
+
     ghost leaves_ends = { λ form. makes_output_ends I.reading _ (F.meaning form)
         (F.leaves_ends form) };
+
+    ghost claimed = { λ s. record {
+        exact = λ form is. with_span_exact (F.meaning form) (s) ((F.claimed s).exact form is);
+        soft = λ form is soft. with_span_soft (F.meaning form) (s) ((F.claimed s).soft form is soft);
+        takes = λ is some. made_of_takes WithPlaces tt ((F.claimed s).takes is some);
+        decided = λ form never. absurd never;
+    } };
 
     #[inline]
     fn parse_next(&mut self, input: &mut I) -> Result<(O, Range<usize>), E> {
@@ -71,26 +86,6 @@ impl<F: Stable<I, O, E>, I: Location, O, E: ParserError<I>> Stable<I, (O, Range<
     ghost stable = { stays
         (makes_output_grows (λ i o j both. (both.0 ≡ o) × (both.1 ≡ places i j))
         (λ more flag i o j both is. is) (grows (F.leaves_ends modal) F.stable)) };
-}
-
-impl<F: Exact<I, O, E>, I: Location, O, E: ParserError<I>> Exact<I, (O, Range<usize>), E>
-    for WithSpan<F, I, O, E> {
-    ghost premise = { λ p. F.premise (with_span_parser p) };
-
-    ghost backtracks = { λ p. F.backtracks (with_span_parser p) };
-
-    ghost consumes = { λ p. F.consumes (with_span_parser p) };
-
-    ghost grammar = { λ p. Made WithPlaces tt (F.grammar (with_span_parser p)) };
-
-    ghost exact = { λ p form is. with_span_exact (F.meaning form) (F.state (with_span_parser p))
-        (F.exact (with_span_parser p) form is) };
-
-    ghost soft = { λ p form is soft. with_span_soft (F.meaning form)
-        (F.state (with_span_parser p)) (F.soft (with_span_parser p) form is soft) };
-
-    ghost takes = { λ p is some. made_of_takes WithPlaces tt
-        (F.takes (with_span_parser p) is some) };
 }
 
 impl<

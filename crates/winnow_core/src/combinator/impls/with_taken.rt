@@ -14,8 +14,6 @@ ghost use Rattle.winnow_core.specs.WithTaken.Laws.{with_taken_agrees, made_with_
 
 use crate::agrees_with::AgreesWith;
 use crate::combinator::impls::take::slice_from;
-use crate::decided::Decided;
-use crate::exact::Exact;
 use crate::parser::Parser;
 use crate::stable::Stable;
 use std::marker::PhantomData;
@@ -57,8 +55,24 @@ impl<F: Parser<I, O, E>, I: Stream, O, E: ParserError<I>> Parser<I, (O, I::Slice
 
     ghost meaning = { λ form. WithTakenRuns I.reading (F.meaning form) };
 
+    ghost claim = { λ s. record {
+        premise = (F.claim s).premise;
+        backtracks = (F.claim s).backtracks;
+        consumes = (F.claim s).consumes;
+        grammar = AndTaken I.reading (F.claim s).grammar;
+        decides = (F.claim s).decides;
+        alike = AlikePairs (F.claim s).alike (ShowSame I.reading);
+    } };
+
     ghost leaves_ends = { λ form. makes_output_ends I.reading _ (F.meaning form)
         (F.leaves_ends form) };
+
+    ghost claimed = { λ s. record {
+        exact = λ form is. with_taken_exact I.reading ((F.claimed s).exact form is);
+        soft = λ form is soft. with_taken_soft I.reading ((F.claimed s).soft form is soft);
+        takes = λ is some. and_taken_takes I.reading ((F.claimed s).takes is some);
+        decided = λ form is. with_taken_decided I.reading ((F.claimed s).decided form is);
+    } };
 
     #[inline]
     fn parse_next(&mut self, input: &mut I) -> Result<(O, I::Slice), E> {
@@ -73,36 +87,6 @@ impl<F: Stable<I, O, E>, I: Stream, O, E: ParserError<I>> Stable<I, (O, I::Slice
     ghost stable = { stays
         (makes_output_grows _ (made_with_taken I.reading)
         (grows (F.leaves_ends modal) F.stable)) };
-}
-
-impl<F: Decided<I, O, E>, I: Stream, O, E: ParserError<I>> Decided<I, (O, I::Slice), E>
-    for WithTaken<F, I, O, E> {
-    ghost premise = { λ p. F.premise (with_taken_parser p) };
-
-    ghost alike = { λ p. AlikePairs (F.alike (with_taken_parser p)) (ShowSame I.reading) };
-
-    ghost decided = { λ p form is. with_taken_decided I.reading
-        (F.decided (with_taken_parser p) form is) };
-}
-
-impl<F: Exact<I, O, E>, I: Stream, O, E: ParserError<I>> Exact<I, (O, I::Slice), E>
-    for WithTaken<F, I, O, E> {
-    ghost premise = { λ p. F.premise (with_taken_parser p) };
-
-    ghost backtracks = { λ p. F.backtracks (with_taken_parser p) };
-
-    ghost consumes = { λ p. F.consumes (with_taken_parser p) };
-
-    ghost grammar = { λ p. AndTaken I.reading (F.grammar (with_taken_parser p)) };
-
-    ghost exact = { λ p form is. with_taken_exact I.reading
-        (F.exact (with_taken_parser p) form is) };
-
-    ghost soft = { λ p form is soft. with_taken_soft I.reading
-        (F.soft (with_taken_parser p) form is soft) };
-
-    ghost takes = { λ p is some. and_taken_takes I.reading
-        (F.takes (with_taken_parser p) is some) };
 }
 
 impl<

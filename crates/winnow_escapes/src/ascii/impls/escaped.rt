@@ -7,6 +7,7 @@ ghost use Rattle.winnow_escapes.specs.Controls.{grows_on_some};
 ghost use Rattle.winnow_escapes.specs.Escaped.{EscapedRuns, escaped_control, escaped_escape};
 ghost use Rattle.winnow_escapes.specs.Escaped.{escaped_normal, turns_kept};
 ghost use Rattle.winnow_escapes.specs.Escaped.Laws.{escaped_ends, escaped_grows};
+ghost use Rattle.winnow_core.specs.Claim.{no_claim, nothing_claimed};
 
 use crate::ascii::turns::read_turns;
 use crate::stable::SettledControl;
@@ -79,11 +80,15 @@ impl<
         (turns_kept ⟦<C as Accumulate<O, A>>⟧.accumulator ⟦<C as Accumulate<P, A>>⟧.accumulator)
         (assert_kind form) (incomplete_kind form None) };
 
+    ghost claim = { λ _. no_claim };
+
     ghost leaves_ends = { λ form. escaped_ends I.reading (N.meaning form) (K.meaning plain)
         (X.meaning form)
         (turns_kept ⟦<C as Accumulate<O, A>>⟧.accumulator ⟦<C as Accumulate<P, A>>⟧.accumulator)
         (assert_kind form) (incomplete_kind form None) (N.leaves_ends form)
         (K.leaves_ends plain) (X.leaves_ends form) };
+
+    ghost claimed = { λ _. nothing_claimed };
 
     fn parse_next(&mut self, input: &mut I) -> Result<C, E> {
         match <C as Accumulate<O, A>>::initial(self.alloc, None) {

@@ -11,6 +11,7 @@ ghost use Rattle.winnow_escapes.specs.TakeEscaped.{TakeEscapedRuns, no_turns_kep
 ghost use Rattle.winnow_escapes.specs.TakeEscaped.{take_escaped_control, take_escaped_escapable};
 ghost use Rattle.winnow_escapes.specs.TakeEscaped.{take_escaped_normal};
 ghost use Rattle.winnow_escapes.specs.TakeEscaped.Laws.{take_escaped_ends};
+ghost use Rattle.winnow_core.specs.Claim.{no_claim, nothing_claimed};
 
 use crate::ascii::impls::Escaped;
 use crate::stable::SettledControl;
@@ -87,9 +88,13 @@ impl<
     ghost meaning = { λ form. TakeEscapedRuns I.reading (N.meaning form) (K.meaning plain)
         (X.meaning form) (assert_kind form) (incomplete_kind form None) };
 
+    ghost claim = { λ _. no_claim };
+
     ghost leaves_ends = { λ form. take_escaped_ends I.reading (N.meaning form) (K.meaning plain)
         (X.meaning form) (assert_kind form) (incomplete_kind form None) (N.leaves_ends form)
         (K.leaves_ends plain) (X.leaves_ends form) };
+
+    ghost claimed = { λ _. nothing_claimed };
 
     #[inline]
     fn parse_next(&mut self, input: &mut I) -> Result<I::Slice, E> {

@@ -7,6 +7,7 @@ ghost use Rattle.winnow_expression.specs.Expression.Agree.{expression_agrees};
 ghost use Rattle.winnow_expression.specs.Expression.Laws.{leveled_leaves};
 ghost use Rattle.winnow_expression.specs.Parts.{parts_grammar};
 ghost use Rattle.winnow_expression.specs.Places.Laws.{first_ends, next_ends};
+ghost use Rattle.winnow_core.specs.Claim.{no_claim, nothing_claimed};
 
 use crate::combinator::folds::{FoldBinary, FoldUnary, FoldsBinaryLike, FoldsUnaryLike};
 use crate::combinator::machine::expression_from;
@@ -216,6 +217,8 @@ impl<
         (P.meaning form) (Pre.meaning form) (Post.meaning form) (Pix.meaning form) (F.folds form)
         (G.folds form) (H.folds form)) };
 
+    ghost claim = { λ _. no_claim };
+
     ghost leaves_ends = { λ form. leveled_leaves I.reading (parts_grammar I.reading.units
         (assert_kind form) (P.meaning form) (Pre.meaning form) (Post.meaning form)
         (Pix.meaning form) (F.folds form) (G.folds form) (H.folds form)) (record {
@@ -227,6 +230,8 @@ impl<
           before = F.leaves_ends form;
           between = H.leaves_ends form;
         }) };
+
+    ghost claimed = { λ _. nothing_claimed };
 
     #[inline(always)]
     fn parse_next(&mut self, input: &mut I) -> Result<O, E> {

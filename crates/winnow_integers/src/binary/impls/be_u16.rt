@@ -1,11 +1,11 @@
 //! An unsigned integer of 2 bytes, of which the highest stands first.
 //!
 //! Written by scripts/families.py: do not edit.
-ghost use Rattle.std.specs.Prelude.{⊤};
+ghost use Rattle.std.specs.Prelude.{⊤, ◌≡◌};
 ghost use Rattle.winnow_integers.specs.Integer.{IntegerRuns, unsigned_value};
 ghost use Rattle.winnow_integers.specs.Integer.Laws.{integer_exact, integer_soft, some_bytes};
-ghost use Rattle.winnow_integers.specs.Integer.Grammar.{Integer, integer_takes};
 ghost use Rattle.winnow_integers.specs.Integer.Laws.{integer_alike, integer_ends, integer_stays};
+ghost use Rattle.winnow_integers.specs.Integer.Grammar.{Integer, integer_takes};
 ghost use Rattle.winnow_integers.specs.declared.binary.endianness.Endianness.TheVariants.{Big};
 ghost use Rattle.winnow_core.specs.Agrees.{agrees_plain};
 ghost use Rattle.winnow_core.specs.Runs.{Keeps};
@@ -17,7 +17,6 @@ use streams::byte_stream::ByteStream;
 use streams::reads_like::ReadsLike;
 use streams::stream::{Stream, StreamIsPartial};
 use winnow_core::agrees_with::AgreesWith;
-use winnow_core::exact::Exact;
 use winnow_core::parser::Parser;
 use winnow_core::stable::Stable;
 
@@ -37,8 +36,24 @@ impl<I: StreamIsPartial + ByteStream, E: ParserError<I>> Parser<I, u16, E> for B
 
     ghost meaning = { λ form. Keeps (λ _. IntegerRuns 2 (unsigned_value Big) I.reading form) };
 
+    ghost claim = { λ s. record {
+        premise = ⊤;
+        backtracks = ⊤;
+        consumes = ⊤;
+        grammar = Integer 2 (unsigned_value Big);
+        decides = ⊥;
+        alike = λ o p. o ≡ p;
+    } };
+
     ghost leaves_ends = { λ form x i answer y j r. integer_ends 2 (unsigned_value Big) I.reading
         form i answer j r.0 };
+
+    ghost claimed = { λ s. record {
+        exact = λ form is. integer_exact 2 (λ (_ : ⊤). unsigned_value Big) I.reading form tt;
+        soft = λ form is soft. integer_soft 2 (λ (_ : ⊤). unsigned_value Big) I.reading form tt;
+        takes = λ is some. integer_takes 2 (unsigned_value Big) (some_bytes 1);
+        decided = λ form never. absurd never;
+    } };
 
     #[inline(always)]
     fn parse_next(&mut self, input: &mut I) -> Result<u16, E> {
@@ -49,18 +64,6 @@ impl<I: StreamIsPartial + ByteStream, E: ParserError<I>> Parser<I, u16, E> for B
 impl<I: StreamIsPartial + ByteStream, E: ParserError<I>> Stable<I, u16, E> for BeU16 {
     ghost stable = { leaf_stays I.following _
         (λ _. integer_stays 2 (unsigned_value Big) I.reading) };
-}
-
-impl<I: StreamIsPartial + ByteStream, E: ParserError<I>> Exact<I, u16, E> for BeU16 {
-    ghost grammar = { λ p. Integer 2 (unsigned_value Big) };
-
-    ghost exact = { λ p form is. integer_exact 2 (λ (_ : ⊤). unsigned_value Big) I.reading form
-        tt };
-
-    ghost soft = { λ p form is soft. integer_soft 2 (λ (_ : ⊤). unsigned_value Big) I.reading
-        form tt };
-
-    ghost takes = { λ p is some. integer_takes 2 (unsigned_value Big) (some_bytes 1) };
 }
 
 impl<

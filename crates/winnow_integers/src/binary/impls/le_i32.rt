@@ -1,11 +1,11 @@
 //! A signed integer of 4 bytes, of which the lowest stands first.
 //!
 //! Written by scripts/families.py: do not edit.
-ghost use Rattle.std.specs.Prelude.{⊤};
+ghost use Rattle.std.specs.Prelude.{⊤, ◌≡◌};
 ghost use Rattle.winnow_integers.specs.Integer.{IntegerRuns, signed_value};
 ghost use Rattle.winnow_integers.specs.Integer.Laws.{integer_exact, integer_soft, some_bytes};
-ghost use Rattle.winnow_integers.specs.Integer.Grammar.{Integer, integer_takes};
 ghost use Rattle.winnow_integers.specs.Integer.Laws.{integer_alike, integer_ends, integer_stays};
+ghost use Rattle.winnow_integers.specs.Integer.Grammar.{Integer, integer_takes};
 ghost use Rattle.winnow_integers.specs.declared.binary.endianness.Endianness.TheVariants.{Little};
 ghost use Rattle.winnow_core.specs.Agrees.{agrees_plain};
 ghost use Rattle.winnow_core.specs.Runs.{Keeps};
@@ -17,7 +17,6 @@ use streams::byte_stream::ByteStream;
 use streams::reads_like::ReadsLike;
 use streams::stream::{Stream, StreamIsPartial};
 use winnow_core::agrees_with::AgreesWith;
-use winnow_core::exact::Exact;
 use winnow_core::parser::Parser;
 use winnow_core::stable::Stable;
 
@@ -37,8 +36,24 @@ impl<I: StreamIsPartial + ByteStream, E: ParserError<I>> Parser<I, i32, E> for L
 
     ghost meaning = { λ form. Keeps (λ _. IntegerRuns 4 (signed_value Little) I.reading form) };
 
+    ghost claim = { λ s. record {
+        premise = ⊤;
+        backtracks = ⊤;
+        consumes = ⊤;
+        grammar = Integer 4 (signed_value Little);
+        decides = ⊥;
+        alike = λ o p. o ≡ p;
+    } };
+
     ghost leaves_ends = { λ form x i answer y j r. integer_ends 4 (signed_value Little)
         I.reading form i answer j r.0 };
+
+    ghost claimed = { λ s. record {
+        exact = λ form is. integer_exact 4 (λ (_ : ⊤). signed_value Little) I.reading form tt;
+        soft = λ form is soft. integer_soft 4 (λ (_ : ⊤). signed_value Little) I.reading form tt;
+        takes = λ is some. integer_takes 4 (signed_value Little) (some_bytes 3);
+        decided = λ form never. absurd never;
+    } };
 
     #[inline(always)]
     fn parse_next(&mut self, input: &mut I) -> Result<i32, E> {
@@ -49,18 +64,6 @@ impl<I: StreamIsPartial + ByteStream, E: ParserError<I>> Parser<I, i32, E> for L
 impl<I: StreamIsPartial + ByteStream, E: ParserError<I>> Stable<I, i32, E> for LeI32 {
     ghost stable = { leaf_stays I.following _
         (λ _. integer_stays 4 (signed_value Little) I.reading) };
-}
-
-impl<I: StreamIsPartial + ByteStream, E: ParserError<I>> Exact<I, i32, E> for LeI32 {
-    ghost grammar = { λ p. Integer 4 (signed_value Little) };
-
-    ghost exact = { λ p form is. integer_exact 4 (λ (_ : ⊤). signed_value Little) I.reading form
-        tt };
-
-    ghost soft = { λ p form is soft. integer_soft 4 (λ (_ : ⊤). signed_value Little) I.reading
-        form tt };
-
-    ghost takes = { λ p is some. integer_takes 4 (signed_value Little) (some_bytes 3) };
 }
 
 impl<

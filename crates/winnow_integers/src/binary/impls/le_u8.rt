@@ -1,11 +1,11 @@
 //! An unsigned integer of 1 byte.
 //!
 //! Written by scripts/families.py: do not edit.
-ghost use Rattle.std.specs.Prelude.{⊤};
+ghost use Rattle.std.specs.Prelude.{⊤, ◌≡◌};
 ghost use Rattle.winnow_integers.specs.Integer.{IntegerRuns, unsigned_value};
 ghost use Rattle.winnow_integers.specs.Integer.Laws.{integer_exact, integer_soft, some_bytes};
-ghost use Rattle.winnow_integers.specs.Integer.Grammar.{Integer, integer_takes};
 ghost use Rattle.winnow_integers.specs.Integer.Laws.{integer_alike, integer_ends, integer_stays};
+ghost use Rattle.winnow_integers.specs.Integer.Grammar.{Integer, integer_takes};
 ghost use Rattle.winnow_integers.specs.declared.binary.endianness.Endianness.TheVariants.{Little};
 ghost use Rattle.winnow_core.specs.Agrees.{agrees_plain};
 ghost use Rattle.winnow_core.specs.Runs.{Keeps};
@@ -17,7 +17,6 @@ use streams::byte_stream::ByteStream;
 use streams::reads_like::ReadsLike;
 use streams::stream::{Stream, StreamIsPartial};
 use winnow_core::agrees_with::AgreesWith;
-use winnow_core::exact::Exact;
 use winnow_core::parser::Parser;
 use winnow_core::stable::Stable;
 
@@ -37,8 +36,24 @@ impl<I: StreamIsPartial + ByteStream, E: ParserError<I>> Parser<I, u8, E> for Le
 
     ghost meaning = { λ form. Keeps (λ _. IntegerRuns 1 (unsigned_value Little) I.reading form) };
 
+    ghost claim = { λ s. record {
+        premise = ⊤;
+        backtracks = ⊤;
+        consumes = ⊤;
+        grammar = Integer 1 (unsigned_value Little);
+        decides = ⊥;
+        alike = λ o p. o ≡ p;
+    } };
+
     ghost leaves_ends = { λ form x i answer y j r. integer_ends 1 (unsigned_value Little)
         I.reading form i answer j r.0 };
+
+    ghost claimed = { λ s. record {
+        exact = λ form is. integer_exact 1 (λ (_ : ⊤). unsigned_value Little) I.reading form tt;
+        soft = λ form is soft. integer_soft 1 (λ (_ : ⊤). unsigned_value Little) I.reading form tt;
+        takes = λ is some. integer_takes 1 (unsigned_value Little) (some_bytes 0);
+        decided = λ form never. absurd never;
+    } };
 
     #[inline(always)]
     fn parse_next(&mut self, input: &mut I) -> Result<u8, E> {
@@ -49,18 +64,6 @@ impl<I: StreamIsPartial + ByteStream, E: ParserError<I>> Parser<I, u8, E> for Le
 impl<I: StreamIsPartial + ByteStream, E: ParserError<I>> Stable<I, u8, E> for LeU8 {
     ghost stable = { leaf_stays I.following _
         (λ _. integer_stays 1 (unsigned_value Little) I.reading) };
-}
-
-impl<I: StreamIsPartial + ByteStream, E: ParserError<I>> Exact<I, u8, E> for LeU8 {
-    ghost grammar = { λ p. Integer 1 (unsigned_value Little) };
-
-    ghost exact = { λ p form is. integer_exact 1 (λ (_ : ⊤). unsigned_value Little) I.reading
-        form tt };
-
-    ghost soft = { λ p form is soft. integer_soft 1 (λ (_ : ⊤). unsigned_value Little) I.reading
-        form tt };
-
-    ghost takes = { λ p is some. integer_takes 1 (unsigned_value Little) (some_bytes 0) };
 }
 
 impl<

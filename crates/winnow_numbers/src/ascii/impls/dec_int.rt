@@ -1,5 +1,5 @@
 //! Decimal signed numbers.
-ghost use Rattle.std.specs.Prelude.{⊤};
+ghost use Rattle.std.specs.Prelude.{⊤, ◌≡◌};
 ghost use Rattle.stream_sets.specs.Once.{SeesApart};
 ghost use Rattle.winnow_core.specs.Agrees.{agrees_plain};
 ghost use Rattle.winnow_core.specs.Runs.{Keeps};
@@ -16,7 +16,6 @@ use stream_sets::as_char::AsChar;
 use streams::reads_like::ReadsLike;
 use streams::stream::{Stream, StreamIsPartial};
 use winnow_core::agrees_with::AgreesWith;
-use winnow_core::exact::Exact;
 use winnow_core::parser::Parser;
 use winnow_core::stable::Stable;
 
@@ -40,8 +39,24 @@ where
     ghost meaning = { λ form. Keeps
         (λ _. DecIntRuns O.number O.fits I.seen_as I.Token.code I.reading form) };
 
+    ghost claim = { λ s. record {
+        premise = SeesApart I.seen_as;
+        backtracks = ⊤;
+        consumes = ⊤;
+        grammar = SignedDecimal O.number O.fits I.seen_as I.Token.code;
+        decides = ⊥;
+        alike = λ o p. o ≡ p;
+    } };
+
     ghost leaves_ends = { λ form x i answer y j r. dec_int_ends O.number O.fits I.seen_as
         I.Token.code I.reading form i answer j r.0 };
+
+    ghost claimed = { λ s. record {
+        exact = λ form is. dec_int_exact I.seen_as I.Token.code I.reading O.number O.fits form is;
+        soft = λ form is soft. dec_int_soft I.seen_as I.Token.code I.reading O.number O.fits form;
+        takes = λ is some. signed_takes I.seen_as I.Token.code I.reading O.number O.fits;
+        decided = λ form never. absurd never;
+    } };
 
     #[inline(always)]
     fn parse_next(&mut self, input: &mut I) -> Result<O, E> {
@@ -56,24 +71,6 @@ where
 {
     ghost stable = { leaf_stays I.following _
         (λ _. dec_int_stays I.seen_as I.Token.code I.reading O.number O.fits) };
-}
-
-impl<I: StreamIsPartial + SlicesAsBytes, O: Int, E: ParserError<I>> Exact<I, O, E> for DecInt
-where
-    I::Token: AsChar,
-    I::Slice: AsBStr,
-{
-    ghost premise = { λ p. SeesApart I.seen_as };
-
-    ghost grammar = { λ p. SignedDecimal O.number O.fits I.seen_as I.Token.code };
-
-    ghost exact = { λ p form is. dec_int_exact I.seen_as I.Token.code I.reading O.number O.fits
-        form is };
-
-    ghost soft = { λ p form is soft. dec_int_soft I.seen_as I.Token.code I.reading O.number
-        O.fits form };
-
-    ghost takes = { λ p is some. signed_takes I.seen_as I.Token.code I.reading O.number O.fits };
 }
 
 impl<

@@ -5,8 +5,8 @@ ghost use Rattle.winnow_core.specs.Agrees.{agrees_plain};
 ghost use Rattle.winnow_core.specs.Runs.{Keeps};
 ghost use Rattle.winnow_core.specs.Stable.Grows.{leaf_stays};
 ghost use Rattle.winnow_numbers.specs.DecUint.{DecUintRuns};
-ghost use Rattle.winnow_numbers.specs.DecUint.Laws.{OneNumber, dec_uint_decided};
-ghost use Rattle.winnow_numbers.specs.DecUint.Laws.{dec_uint_alike, dec_uint_ends, dec_uint_stays};
+ghost use Rattle.winnow_numbers.specs.DecUint.Laws.{OneNumber, dec_uint_decided, dec_uint_alike};
+ghost use Rattle.winnow_numbers.specs.DecUint.Laws.{dec_uint_ends, dec_uint_stays};
 ghost use Rattle.winnow_numbers.specs.Numeral.Exact.{dec_uint_exact, dec_uint_soft, decimal_takes};
 ghost use Rattle.winnow_numbers.specs.Numeral.Grammar.{Decimal};
 
@@ -17,8 +17,6 @@ use stream_sets::as_char::AsChar;
 use streams::reads_like::ReadsLike;
 use streams::stream::{Stream, StreamIsPartial};
 use winnow_core::agrees_with::AgreesWith;
-use winnow_core::decided::Decided;
-use winnow_core::exact::Exact;
 use winnow_core::parser::Parser;
 use winnow_core::stable::Stable;
 
@@ -42,8 +40,24 @@ where
     ghost meaning = { λ form. Keeps
         (λ _. DecUintRuns O.number O.bound I.seen_as I.Token.code I.reading form) };
 
+    ghost claim = { λ s. record {
+        premise = SeesApart I.seen_as;
+        backtracks = ⊤;
+        consumes = ⊤;
+        grammar = Decimal O.number O.bound I.seen_as I.Token.code;
+        decides = ⊤;
+        alike = OneNumber O.number;
+    } };
+
     ghost leaves_ends = { λ form x i answer y j r. dec_uint_ends O.number O.bound I.seen_as
         I.Token.code I.reading form i answer j r.0 };
+
+    ghost claimed = { λ s. record {
+        exact = λ form is. dec_uint_exact I.seen_as I.Token.code I.reading O.number O.bound form is;
+        soft = λ form is soft. dec_uint_soft I.seen_as I.Token.code I.reading O.number O.bound form;
+        takes = λ is some. decimal_takes I.seen_as I.Token.code I.reading O.number O.bound;
+        decided = λ form is. dec_uint_decided O.number O.bound I.seen_as I.Token.code I.reading form I.one_code;
+    } };
 
     #[inline(always)]
     fn parse_next(&mut self, input: &mut I) -> Result<O, E> {
@@ -58,36 +72,6 @@ where
 {
     ghost stable = { leaf_stays I.following _
         (λ _. dec_uint_stays I.seen_as I.Token.code I.reading O.number O.bound) };
-}
-
-impl<I: StreamIsPartial + SlicesAsBytes, O: Uint, E: ParserError<I>> Decided<I, O, E> for DecUint
-where
-    I::Token: AsChar,
-    I::Slice: AsBStr,
-{
-    ghost alike = { λ p. OneNumber O.number };
-
-    ghost decided = { λ p form is. dec_uint_decided O.number O.bound I.seen_as I.Token.code
-        I.reading form I.one_code };
-}
-
-impl<I: StreamIsPartial + SlicesAsBytes, O: Uint, E: ParserError<I>> Exact<I, O, E> for DecUint
-where
-    I::Token: AsChar,
-    I::Slice: AsBStr,
-{
-    ghost premise = { λ p. SeesApart I.seen_as };
-
-    ghost grammar = { λ p. Decimal O.number O.bound I.seen_as I.Token.code };
-
-    ghost exact = { λ p form is. dec_uint_exact I.seen_as I.Token.code I.reading O.number O.bound
-        form is };
-
-    ghost soft = { λ p form is soft. dec_uint_soft I.seen_as I.Token.code I.reading O.number
-        O.bound form };
-
-    ghost takes = { λ p is some. decimal_takes I.seen_as I.Token.code I.reading O.number
-        O.bound };
 }
 
 impl<

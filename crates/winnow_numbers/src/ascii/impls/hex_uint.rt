@@ -7,8 +7,8 @@ ghost use Rattle.winnow_core.specs.Runs.{Keeps};
 ghost use Rattle.winnow_core.specs.Stable.Grows.{leaf_stays};
 ghost use Rattle.winnow_numbers.specs.HexUint.{HexUintRuns};
 ghost use Rattle.winnow_numbers.specs.HexUint.Laws.{hex_uint_exact, hex_uint_soft};
-ghost use Rattle.winnow_numbers.specs.HexUint.Laws.{hexadecimal_takes};
-ghost use Rattle.winnow_numbers.specs.HexUint.Laws.{hex_uint_alike, hex_uint_ends, hex_uint_stays};
+ghost use Rattle.winnow_numbers.specs.HexUint.Laws.{hexadecimal_takes, hex_uint_alike};
+ghost use Rattle.winnow_numbers.specs.HexUint.Laws.{hex_uint_ends, hex_uint_stays};
 ghost use Rattle.winnow_numbers.specs.Numeral.Grammar.{Hexadecimal};
 
 use crate::ascii::hex_uint;
@@ -19,7 +19,6 @@ use stream_sets::as_char::AsChar;
 use streams::reads_like::ReadsLike;
 use streams::stream::{Stream, StreamIsPartial};
 use winnow_core::agrees_with::AgreesWith;
-use winnow_core::exact::Exact;
 use winnow_core::parser::Parser;
 use winnow_core::stable::Stable;
 
@@ -200,8 +199,24 @@ where
     ghost meaning = { λ form. Keeps
         (λ _. HexUintRuns O.number O.nibbles I.seen_as I.Token.code I.reading form) };
 
+    ghost claim = { λ s. record {
+        premise = SeesApart I.seen_as;
+        backtracks = ⊤;
+        consumes = ⊤;
+        grammar = Hexadecimal O.number O.nibbles I.seen_as I.Token.code;
+        decides = ⊥;
+        alike = λ o p. o ≡ p;
+    } };
+
     ghost leaves_ends = { λ form x i answer y j r. hex_uint_ends O.number O.nibbles I.seen_as
         I.Token.code I.reading form i answer j r.0 };
+
+    ghost claimed = { λ s. record {
+        exact = λ form is. hex_uint_exact I.seen_as I.Token.code I.reading O.number O.nibbles form is;
+        soft = λ form is soft. hex_uint_soft I.seen_as I.Token.code I.reading O.number O.nibbles form;
+        takes = λ is some. hexadecimal_takes I.seen_as I.Token.code I.reading O.number O.nibbles;
+        decided = λ form never. absurd never;
+    } };
 
     #[inline(always)]
     fn parse_next(&mut self, input: &mut I) -> Result<O, E> {
@@ -217,26 +232,6 @@ where
 {
     ghost stable = { leaf_stays I.following _
         (λ _. hex_uint_stays I.seen_as I.Token.code I.reading O.number O.nibbles) };
-}
-
-impl<I: StreamIsPartial + SlicesAsBytes, O: HexUint, E: ParserError<I>> Exact<I, O, E>
-    for HexUintParser
-where
-    I::Token: AsChar,
-    I::Slice: AsBStr,
-{
-    ghost premise = { λ p. SeesApart I.seen_as };
-
-    ghost grammar = { λ p. Hexadecimal O.number O.nibbles I.seen_as I.Token.code };
-
-    ghost exact = { λ p form is. hex_uint_exact I.seen_as I.Token.code I.reading O.number
-        O.nibbles form is };
-
-    ghost soft = { λ p form is soft. hex_uint_soft I.seen_as I.Token.code I.reading O.number
-        O.nibbles form };
-
-    ghost takes = { λ p is some. hexadecimal_takes I.seen_as I.Token.code I.reading O.number
-        O.nibbles };
 }
 
 impl<

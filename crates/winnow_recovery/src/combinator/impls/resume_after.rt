@@ -9,6 +9,7 @@ ghost use Rattle.winnow_recovery.specs.Recovery.{Recovery, recovery_of};
 ghost use Rattle.winnow_recovery.specs.ResumeAfter.Laws.{resume_after_ends};
 ghost use Rattle.winnow_recovery.specs.ResumeAfter.{ResumeAfterRuns, ResumeRuns};
 ghost use Rattle.winnow_recovery.specs.ResumeAfter.{resume_after_parser, resume_after_recover};
+ghost use Rattle.winnow_core.specs.Claim.{no_claim, nothing_claimed};
 
 use crate::combinator::{can_recover, recover_from};
 use std::marker::PhantomData;
@@ -80,8 +81,12 @@ impl<
 
     ghost meaning = { λ form. ResumeAfterRuns (P.meaning form) (R.meaning form) };
 
+    ghost claim = { λ _. no_claim };
+
     ghost leaves_ends = { λ form. resume_after_ends I.reading (P.meaning form) (R.meaning form)
         (P.leaves_ends form) (R.leaves_ends form) };
+
+    ghost claimed = { λ _. nothing_claimed };
 
     #[inline]
     fn parse_next(&mut self, input: &mut I) -> Result<Option<O>, E> {

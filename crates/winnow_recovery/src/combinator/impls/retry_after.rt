@@ -9,6 +9,7 @@ ghost use Rattle.winnow_recovery.specs.Recovery.{Recovery, recovery_of};
 ghost use Rattle.winnow_recovery.specs.RetryAfter.Laws.{retry_after_ends};
 ghost use Rattle.winnow_recovery.specs.RetryAfter.{RetryAfterRuns, RetryRuns, retry_after_parser};
 ghost use Rattle.winnow_recovery.specs.RetryAfter.{retry_after_recover};
+ghost use Rattle.winnow_core.specs.Claim.{no_claim, nothing_claimed};
 
 use crate::combinator::{can_recover, recover_from};
 use std::marker::PhantomData;
@@ -78,8 +79,12 @@ impl<
 
     ghost meaning = { λ form. RetryAfterRuns (P.meaning form) (R.meaning form) };
 
+    ghost claim = { λ _. no_claim };
+
     ghost leaves_ends = { λ form. retry_after_ends I.reading (P.meaning form) (R.meaning form)
         (P.leaves_ends form) (R.leaves_ends form) };
+
+    ghost claimed = { λ _. nothing_claimed };
 
     #[inline]
     fn parse_next(&mut self, input: &mut I) -> Result<O, E> {

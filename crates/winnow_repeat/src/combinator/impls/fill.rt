@@ -6,6 +6,7 @@ ghost use Rattle.winnow_core.specs.Stable.Grows.{grows, stays};
 ghost use Rattle.winnow_repeat.specs.Fill.{Buffer, FillRuns, FillsElements, fill_buffer};
 ghost use Rattle.winnow_repeat.specs.Fill.Laws.{fill_ends, fill_grows};
 ghost use Rattle.winnow_core.specs.Agrees.{agrees_with};
+ghost use Rattle.winnow_core.specs.Claim.{no_claim, nothing_claimed};
 
 use std::marker::PhantomData;
 use stream_errors::parser_error::ParserError;
@@ -38,7 +39,11 @@ impl<'b, P: Parser<I, O, E>, I: Stream, O: Drop, E: ParserError<I>> Parser<I, ()
 
     ghost meaning = { λ form. FillRuns (P.meaning form) };
 
+    ghost claim = { λ _. no_claim };
+
     ghost leaves_ends = { λ form. fill_ends I.reading (P.meaning form) (P.leaves_ends form) };
+
+    ghost claimed = { λ _. nothing_claimed };
 
     fn parse_next(&mut self, input: &mut I) -> Result<(), E> {
         fill_each(&mut self.parser, self.buffer, input)

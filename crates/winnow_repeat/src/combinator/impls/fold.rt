@@ -1,7 +1,7 @@
 //! Repetition whose outputs a closure folds into a value.
 ghost use Rattle.std.specs.Prelude.{◌≡◌, ⊤, ◌<◌};
 ghost use Rattle.streams.specs.Input.{IsEndOf};
-ghost use Rattle.streams.specs.Kind.{Kind, backtrack};
+ghost use Rattle.streams.specs.Kind.{backtrack};
 ghost use Rattle.stream_sets.specs.Range.{IsWithin, bounds_of};
 ghost use Rattle.stream_sets.specs.declared.range.Range.{Range};
 ghost use Rattle.grammars.specs.Grammar.Folded.{FoldOf, Folded, StaysFolding, StaysMaking};
@@ -20,7 +20,6 @@ use stream_errors::parser_error::ParserError;
 use stream_sets::range::Range;
 use streams::stream::Stream;
 use winnow_core::agrees_with::AgreesWith;
-use winnow_core::exact::Exact;
 use winnow_core::parser::Parser;
 use winnow_core::stable::Stable;
 
@@ -111,8 +110,24 @@ impl<
 
     ghost meaning = { λ form. RangedFolds G.step H.step (P.meaning form) (assert_kind form) };
 
+    ghost claim = { λ s. record {
+        premise = (P.claim s.0).premise × (P.claim s.0).backtracks × (P.claim s.0).consumes × IsWithin (bounds_of s.1.0).greatest (bounds_of s.1.0).least × StaysMaking G.step s.1.1.0 × StaysFolding H.step s.1.1.1;
+        backtracks = ⊤;
+        consumes = 0 < (bounds_of s.1.0).least;
+        grammar = Folded G.step s.1.1.0 H.step s.1.1.1 s.1.0 (P.claim s.0).grammar;
+        decides = ⊥;
+        alike = λ o p. o ≡ p;
+    } };
+
     ghost leaves_ends = { λ form. ranged_folds_end I.reading G.step H.step (P.meaning form)
         (assert_kind form) (P.leaves_ends form) };
+
+    ghost claimed = { λ s. record {
+        exact = λ form is. fold_exact (P.meaning form) G.step s.1.1.0 is.4 H.step s.1.1.1 is.5 (assert_kind form) s.1.0 ((P.claimed s.0).exact form is.0) ((P.claimed s.0).soft form is.0 is.1) ((P.claimed s.0).takes is.0 is.2) is.3;
+        soft = λ form is soft. fold_soft (P.meaning form) G.step s.1.1.0 is.4 H.step s.1.1.1 is.5 (assert_kind form) s.1.0 ((P.claimed s.0).exact form is.0) ((P.claimed s.0).soft form is.0 is.1) ((P.claimed s.0).takes is.0 is.2) is.3;
+        takes = λ is some. repeated_take (FoldOf G.step s.1.1.0 H.step s.1.1.1) s.1.0 ((P.claimed s.0).exact modal is.0).unique ((P.claimed s.0).takes is.0 is.2) some;
+        decided = λ form never. absurd never;
+    } };
 
     fn parse_next(&mut self, input: &mut I) -> Result<R, E> {
         if self.occurrences.start_inclusive == 1 && self.occurrences.greatest().is_none() {
@@ -141,42 +156,6 @@ impl<
     ghost stable = { stays
         (fold_grows G.step H.step (P.meaning modal) (assert_kind modal)
         (grows (P.leaves_ends modal) P.stable)) };
-
-    fn stay() {}
-}
-
-impl<
-    P: Exact<I, O, E>,
-    G: FnMut() -> R,
-    H: FnMut(R, O) -> R,
-    I: Stream,
-    O: Drop,
-    R: Drop,
-    E: ParserError<I>,
-> Exact<I, R, E> for RepeatFold<P, G, H, I, O, R, E> {
-    ghost premise = { λ p. P.premise (fold_parser p) × P.backtracks (fold_parser p)
-        × P.consumes (fold_parser p) × IsWithin (bounds_of (fold_occurrences p)).greatest
-        (bounds_of (fold_occurrences p)).least × StaysMaking G.step (fold_init p)
-        × StaysFolding H.step (fold_closure p) };
-
-    ghost consumes = { λ p. 0 < (bounds_of (fold_occurrences p)).least };
-
-    ghost grammar = { λ p. Folded G.step (fold_init p) H.step (fold_closure p)
-        (fold_occurrences p) (P.grammar (fold_parser p)) };
-
-    ghost exact = { λ p form is. fold_exact (P.meaning form) G.step (fold_init p) is.4 H.step
-        (fold_closure p) is.5 (assert_kind form) (fold_occurrences p)
-        (P.exact (fold_parser p) form is.0) (P.soft (fold_parser p) form is.0 is.1)
-        (P.takes (fold_parser p) is.0 is.2) is.3 };
-
-    ghost soft = { λ p form is soft. fold_soft (P.meaning form) G.step (fold_init p) is.4 H.step
-        (fold_closure p) is.5 (assert_kind form) (fold_occurrences p)
-        (P.exact (fold_parser p) form is.0) (P.soft (fold_parser p) form is.0 is.1)
-        (P.takes (fold_parser p) is.0 is.2) is.3 };
-
-    ghost takes = { λ p is some. repeated_take
-        (FoldOf G.step (fold_init p) H.step (fold_closure p)) (fold_occurrences p)
-        (P.exact (fold_parser p) modal is.0).unique (P.takes (fold_parser p) is.0 is.2) some };
 
     fn stay() {}
 }

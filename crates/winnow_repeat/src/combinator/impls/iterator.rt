@@ -5,8 +5,7 @@ ghost use Rattle.stream_errors.specs.Form.{answer_by, assert_kind};
 ghost use Rattle.streams.specs.Input.{IsEndOf};
 ghost use Rattle.winnow_repeat.specs.Iterator.{IteratorNext, finish_answer, iterator_input};
 ghost use Rattle.winnow_repeat.specs.Iterator.{iterator_input_name, iterator_parser};
-ghost use Rattle.winnow_repeat.specs.Iterator.{iterator_state};
-ghost use Rattle.winnow_repeat.specs.Iterator.{iterator_standing};
+ghost use Rattle.winnow_repeat.specs.Iterator.{iterator_state, iterator_standing};
 
 use std::marker::PhantomData;
 use stream_errors::parser_error::ParserError;

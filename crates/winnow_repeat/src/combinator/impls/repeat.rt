@@ -1,5 +1,5 @@
 //! Repetition.
-ghost use Rattle.std.specs.Prelude.{◌≡◌, ◌<◌};
+ghost use Rattle.std.specs.Prelude.{◌≡◌, ◌<◌, ⊤};
 ghost use Rattle.streams.specs.Input.{IsEndOf};
 ghost use Rattle.stream_sets.specs.Range.{IsWithin, bounds_of};
 ghost use Rattle.stream_sets.specs.declared.range.Range.{Range};
@@ -25,12 +25,9 @@ use std::marker::PhantomData;
 use stream_errors::external::FromExternalError;
 use stream_errors::parser_error::ParserError;
 use stream_sets::accumulate::Accumulate;
-use stream_sets::gathers::Gathers;
 use stream_sets::range::Range;
 use streams::stream::Stream;
 use winnow_core::agrees_with::AgreesWith;
-use winnow_core::decided::Decided;
-use winnow_core::exact::Exact;
 use winnow_core::parser::Parser;
 use winnow_core::stable::Stable;
 
@@ -146,8 +143,24 @@ impl<
 
     ghost meaning = { λ form. RangedRuns (P.meaning form) C.accumulator (assert_kind form) };
 
+    ghost claim = { λ s. record {
+        premise = (P.claim s.0).premise × (P.claim s.0).backtracks × (P.claim s.0).consumes × IsWithin (bounds_of s.1).greatest (bounds_of s.1).least;
+        backtracks = ⊤;
+        consumes = 0 < (bounds_of s.1).least;
+        grammar = Repeated C.holds s.1 (P.claim s.0).grammar;
+        decides = (P.claim s.0).decides;
+        alike = HeldAlike C.holds (P.claim s.0).alike;
+    } };
+
     ghost leaves_ends = { λ form. ranged_ends I.reading (P.meaning form) C.accumulator
         (assert_kind form) (P.leaves_ends form) };
+
+    ghost claimed = { λ s. record {
+        exact = λ form is. repeat_exact C.accumulator (assert_kind form) s C.holds C.gathers ((P.claimed s.0).exact form is.0) ((P.claimed s.0).soft form is.0 is.1) ((P.claimed s.0).takes is.0 is.2) is.3;
+        soft = λ form is soft. repeat_soft C.accumulator (assert_kind form) s ((P.claimed s.0).exact form is.0) ((P.claimed s.0).soft form is.0 is.1) ((P.claimed s.0).takes is.0 is.2) is.3;
+        takes = λ is some. repeat_takes C.accumulator (assert_kind modal) s C.holds ((P.claimed s.0).exact modal is.0) ((P.claimed s.0).takes is.0 is.2) some;
+        decided = λ form is. repeat_decided C.accumulator (assert_kind form) C.holds C.gathers s ((P.claimed s.0).decided form is);
+    } };
 
     fn parse_next(&mut self, input: &mut I) -> Result<C, E> {
         let least = self.occurrences.start_inclusive;
@@ -175,54 +188,6 @@ impl<
     ghost stable = { stays
         (repeat_grows (P.meaning modal) C.accumulator (assert_kind modal)
         (grows (P.leaves_ends modal) P.stable)) };
-}
-
-impl<
-    P: Decided<I, O, E>,
-    I: Stream,
-    O: Drop,
-    C: Gathers<O, A>,
-    E: ParserError<I>,
-    A: Allocator + Copy,
-> Decided<I, C, E> for Repeat<P, I, O, C, E, A> {
-    ghost premise = { λ p. P.premise (repeat_parser p) };
-
-    ghost alike = { λ p. HeldAlike C.holds (P.alike (repeat_parser p)) };
-
-    ghost decided = { λ p form is. repeat_decided C.accumulator (assert_kind form) C.holds
-        C.gathers (P.state (repeat_parser p), repeat_occurrences p)
-        (P.decided (repeat_parser p) form is) };
-}
-
-impl<
-    P: Exact<I, O, E>,
-    I: Stream,
-    O: Drop,
-    C: Gathers<O, A>,
-    E: ParserError<I>,
-    A: Allocator + Copy,
-> Exact<I, C, E> for Repeat<P, I, O, C, E, A> {
-    ghost premise = { λ p. P.premise (repeat_parser p) × P.backtracks (repeat_parser p)
-        × P.consumes (repeat_parser p) × IsWithin (bounds_of (repeat_occurrences p)).greatest
-        (bounds_of (repeat_occurrences p)).least };
-
-    ghost consumes = { λ p. 0 < (bounds_of (repeat_occurrences p)).least };
-
-    ghost grammar = { λ p. Repeated C.holds (repeat_occurrences p)
-        (P.grammar (repeat_parser p)) };
-
-    ghost exact = { λ p form is. repeat_exact C.accumulator (assert_kind form)
-        (P.state (repeat_parser p), repeat_occurrences p) C.holds C.gathers (P.exact
-        (repeat_parser p) form is.0)
-        (P.soft (repeat_parser p) form is.0 is.1) (P.takes (repeat_parser p) is.0 is.2) is.3 };
-
-    ghost soft = { λ p form is soft. repeat_soft C.accumulator (assert_kind form)
-        (P.state (repeat_parser p), repeat_occurrences p) (P.exact (repeat_parser p) form is.0)
-        (P.soft (repeat_parser p) form is.0 is.1) (P.takes (repeat_parser p) is.0 is.2) is.3 };
-
-    ghost takes = { λ p is some. repeat_takes C.accumulator (assert_kind modal)
-        (P.state (repeat_parser p), repeat_occurrences p) C.holds
-        (P.exact (repeat_parser p) modal is.0) (P.takes (repeat_parser p) is.0 is.2) some };
 }
 
 impl<

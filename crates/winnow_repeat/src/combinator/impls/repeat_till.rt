@@ -1,5 +1,5 @@
 //! Repetition until a terminator.
-ghost use Rattle.std.specs.Prelude.{◌≡◌, ◌<◌};
+ghost use Rattle.std.specs.Prelude.{◌≡◌, ◌<◌, ⊤};
 ghost use Rattle.streams.specs.Input.{IsEndOf};
 ghost use Rattle.stream_sets.specs.Range.{IsWithin, bounds_of};
 ghost use Rattle.stream_sets.specs.declared.range.Range.{Range};
@@ -8,8 +8,6 @@ ghost use Rattle.stream_errors.specs.Form.{answer_by, assert_kind, modal};
 ghost use Rattle.winnow_core.specs.Agrees.Beside.{agrees2_with};
 ghost use Rattle.winnow_core.specs.Stable.Grows.{grows, stays};
 ghost use Rattle.winnow_repeat.specs.RepeatTill.{LeastItemsRun, RangedTillRuns, TurnsRun};
-ghost use Rattle.winnow_repeat.specs.RepeatTill.{repeat_till_occurrences, repeat_till_parser};
-ghost use Rattle.winnow_repeat.specs.RepeatTill.{repeat_till_terminator};
 ghost use Rattle.winnow_repeat.specs.RepeatTill.Exact.{repeat_till_exact, repeat_till_soft};
 ghost use Rattle.winnow_repeat.specs.RepeatTill.Laws.{repeat_till_ends, repeat_till_grows};
 
@@ -18,11 +16,9 @@ use std::alloc::Allocator;
 use std::marker::PhantomData;
 use stream_errors::parser_error::ParserError;
 use stream_sets::accumulate::Accumulate;
-use stream_sets::gathers::Gathers;
 use stream_sets::range::Range;
 use streams::stream::Stream;
 use winnow_core::agrees_with::AgreesWith;
-use winnow_core::exact::Exact;
 use winnow_core::parser::Parser;
 use winnow_core::stable::Stable;
 
@@ -60,8 +56,24 @@ impl<
     ghost meaning = { λ form. RangedTillRuns (P.meaning form) (G.meaning form) C.accumulator
         (assert_kind form) };
 
+    ghost claim = { λ s. record {
+        premise = (P.claim s.0).premise × (P.claim s.0).backtracks × (P.claim s.0).consumes × (G.claim s.1).premise × (G.claim s.1).backtracks × IsWithin (bounds_of s.2).greatest (bounds_of s.2).least;
+        backtracks = ⊤;
+        consumes = (G.claim s.1).consumes;
+        grammar = Till C.holds s.2 (P.claim s.0).grammar (G.claim s.1).grammar;
+        decides = ⊥;
+        alike = λ o p. o ≡ p;
+    } };
+
     ghost leaves_ends = { λ form. repeat_till_ends I.reading (P.meaning form) (G.meaning form)
         C.accumulator (assert_kind form) (P.leaves_ends form) (G.leaves_ends form) };
+
+    ghost claimed = { λ s. record {
+        exact = λ form is. repeat_till_exact C.accumulator (assert_kind form) s C.holds C.gathers is.5 ((P.claimed s.0).exact form is.0) ((P.claimed s.0).soft form is.0 is.1) ((P.claimed s.0).takes is.0 is.2) ((G.claimed s.1).exact form is.3) ((G.claimed s.1).soft form is.3 is.4);
+        soft = λ form is soft. repeat_till_soft C.accumulator (assert_kind form) s C.holds C.gathers is.5 ((P.claimed s.0).exact form is.0) ((P.claimed s.0).soft form is.0 is.1) ((P.claimed s.0).takes is.0 is.2) ((G.claimed s.1).exact form is.3) ((G.claimed s.1).soft form is.3 is.4);
+        takes = λ is some. till_takes (P.claim s.0).grammar (G.claim s.1).grammar ((P.claimed s.0).exact modal is.0).unique C.holds s.2 ((G.claimed s.1).takes is.3 some);
+        decided = λ form never. absurd never;
+    } };
 
     fn parse_next(&mut self, input: &mut I) -> Result<(C, D), E> {
         let least = self.occurrences.start_inclusive;
@@ -94,53 +106,6 @@ impl<
         (repeat_till_grows (P.meaning modal) (G.meaning modal) C.accumulator
         (assert_kind modal) (grows (P.leaves_ends modal) P.stable)
         (grows (G.leaves_ends modal) G.stable)) };
-}
-
-impl<
-    P: Exact<I, O, E>,
-    G: Exact<I, D, E>,
-    I: Stream,
-    O: Drop,
-    D,
-    C: Gathers<O, A>,
-    E: ParserError<I>,
-    A: Allocator + Copy,
-> Exact<I, (C, D), E> for RepeatTill<P, G, I, O, D, C, E, A> {
-    ghost premise = { λ p. P.premise (repeat_till_parser p) × P.backtracks (repeat_till_parser p)
-        × P.consumes (repeat_till_parser p) × G.premise (repeat_till_terminator p)
-        × G.backtracks (repeat_till_terminator p)
-        × IsWithin (bounds_of (repeat_till_occurrences p)).greatest
-        (bounds_of (repeat_till_occurrences p)).least };
-
-    ghost consumes = { λ p. G.consumes (repeat_till_terminator p) };
-
-    ghost grammar = { λ p. Till C.holds (repeat_till_occurrences p)
-        (P.grammar (repeat_till_parser p)) (G.grammar (repeat_till_terminator p)) };
-
-    ghost exact = { λ p form is. repeat_till_exact C.accumulator (assert_kind form) (
-      P.state (repeat_till_parser p),
-      G.state (repeat_till_terminator p),
-      repeat_till_occurrences p,
-    ) C.holds C.gathers is.5
-        (P.exact (repeat_till_parser p) form is.0)
-        (P.soft (repeat_till_parser p) form is.0 is.1) (P.takes (repeat_till_parser p) is.0 is.2)
-        (G.exact (repeat_till_terminator p) form is.3)
-        (G.soft (repeat_till_terminator p) form is.3 is.4) };
-
-    ghost soft = { λ p form is soft. repeat_till_soft C.accumulator (assert_kind form) (
-      P.state (repeat_till_parser p),
-      G.state (repeat_till_terminator p),
-      repeat_till_occurrences p,
-    ) C.holds C.gathers is.5
-        (P.exact (repeat_till_parser p) form is.0)
-        (P.soft (repeat_till_parser p) form is.0 is.1) (P.takes (repeat_till_parser p) is.0 is.2)
-        (G.exact (repeat_till_terminator p) form is.3)
-        (G.soft (repeat_till_terminator p) form is.3 is.4) };
-
-    ghost takes = { λ p is some. till_takes (P.grammar (repeat_till_parser p))
-        (G.grammar (repeat_till_terminator p))
-        (P.exact (repeat_till_parser p) modal is.0).unique C.holds (repeat_till_occurrences p)
-        (G.takes (repeat_till_terminator p) is.3 some) };
 }
 
 impl<

@@ -6,10 +6,10 @@ ghost use Rattle.stream_sets.specs.declared.range.Range.{Range};
 ghost use Rattle.streams.specs.Kind.{backtrack};
 ghost use Rattle.winnow_core.specs.Stable.Grows.{grows, stays};
 ghost use Rattle.winnow_repeat.specs.Fold.Laws.{ranged_fold_many_ends, fold_any_grows};
-ghost use Rattle.winnow_repeat.specs.TryFold.{TryFoldRuns, TryFoldTakes};
-ghost use Rattle.winnow_repeat.specs.TryFold.{try_fold_closure, try_fold_init};
-ghost use Rattle.winnow_repeat.specs.TryFold.{try_fold_occurrences, try_fold_parser};
+ghost use Rattle.winnow_repeat.specs.TryFold.{TryFoldRuns, TryFoldTakes, try_fold_closure};
+ghost use Rattle.winnow_repeat.specs.TryFold.{try_fold_init, try_fold_occurrences, try_fold_parser};
 ghost use Rattle.winnow_core.specs.Agrees.{agrees_with};
+ghost use Rattle.winnow_core.specs.Claim.{no_claim, nothing_claimed};
 
 use crate::combinator::folding::{Folding, fold_range};
 use std::marker::PhantomData;
@@ -124,8 +124,12 @@ impl<
 
     ghost meaning = { λ form. TryFoldRuns G.step H.step (P.meaning form) (assert_kind form) };
 
+    ghost claim = { λ _. no_claim };
+
     ghost leaves_ends = { λ form. ranged_fold_many_ends I.reading G.step
         (TryFoldTakes H.step) (P.meaning form) (assert_kind form) (P.leaves_ends form) };
+
+    ghost claimed = { λ _. nothing_claimed };
 
     fn parse_next(&mut self, input: &mut I) -> Result<R, E> {
         fold_range(

@@ -9,6 +9,7 @@ ghost use Rattle.winnow_repeat.specs.VerifyFold.{VerifyFoldRuns, VerifyFoldTakes
 ghost use Rattle.winnow_repeat.specs.VerifyFold.{verify_fold_closure, verify_fold_init};
 ghost use Rattle.winnow_repeat.specs.VerifyFold.{verify_fold_occurrences, verify_fold_parser};
 ghost use Rattle.winnow_core.specs.Agrees.{agrees_with};
+ghost use Rattle.winnow_core.specs.Claim.{no_claim, nothing_claimed};
 
 use crate::combinator::folding::{Folding, fold_range};
 use std::marker::PhantomData;
@@ -110,8 +111,12 @@ impl<
 
     ghost meaning = { λ form. VerifyFoldRuns G.step H.step (P.meaning form) (assert_kind form) };
 
+    ghost claim = { λ _. no_claim };
+
     ghost leaves_ends = { λ form. ranged_fold_many_ends I.reading G.step
         (VerifyFoldTakes H.step) (P.meaning form) (assert_kind form) (P.leaves_ends form) };
+
+    ghost claimed = { λ _. nothing_claimed };
 
     fn parse_next(&mut self, input: &mut I) -> Result<R, E> {
         fold_range(

@@ -1,5 +1,5 @@
 //! Elements with separators between them.
-ghost use Rattle.std.specs.Prelude.{◌≡◌, ◌<◌};
+ghost use Rattle.std.specs.Prelude.{◌≡◌, ◌<◌, ⊤};
 ghost use Rattle.streams.specs.Input.{IsEndOf};
 ghost use Rattle.stream_sets.specs.Range.{IsWithin, from_to, bounds_of};
 ghost use Rattle.stream_sets.specs.declared.range.Range.{Range};
@@ -9,8 +9,7 @@ ghost use Rattle.winnow_core.specs.Agrees.Beside.{agrees2_with};
 ghost use Rattle.winnow_core.specs.Stable.Grows.{grows, stays};
 ghost use Rattle.winnow_repeat.specs.Repeat.Decided.{HeldAlike};
 ghost use Rattle.winnow_separated.specs.Separated.{ElementsRun, LinksRun, RangedElements};
-ghost use Rattle.winnow_separated.specs.Separated.{SeparatedRuns, separated_occurrences};
-ghost use Rattle.winnow_separated.specs.Separated.{separated_parser, separated_separator};
+ghost use Rattle.winnow_separated.specs.Separated.{SeparatedRuns};
 ghost use Rattle.winnow_separated.specs.Separated.Decided.{separated_decided};
 ghost use Rattle.winnow_separated.specs.Separated.Exact.{separated_exact, separated_soft};
 ghost use Rattle.winnow_separated.specs.Separated.Exact.{separated_takes};
@@ -21,12 +20,9 @@ use std::alloc::Allocator;
 use std::marker::PhantomData;
 use stream_errors::parser_error::ParserError;
 use stream_sets::accumulate::Accumulate;
-use stream_sets::gathers::Gathers;
 use stream_sets::range::Range;
 use streams::stream::Stream;
 use winnow_core::agrees_with::AgreesWith;
-use winnow_core::decided::Decided;
-use winnow_core::exact::Exact;
 use winnow_core::parser::Parser;
 use winnow_core::stable::Stable;
 use winnow_repeat::combinator::items::is_descending;
@@ -64,8 +60,24 @@ impl<
     ghost meaning = { λ form. RangedElements (P.meaning form) (S.meaning form) C.accumulator
         (assert_kind form) };
 
+    ghost claim = { λ s. record {
+        premise = (P.claim s.0).premise × (P.claim s.0).backtracks × (S.claim s.1).premise × (S.claim s.1).backtracks × (S.claim s.1).consumes × IsWithin (bounds_of s.2).greatest (bounds_of s.2).least;
+        backtracks = ⊤;
+        consumes = (P.claim s.0).consumes × (0 < (bounds_of s.2).least);
+        grammar = Apart C.holds s.2 (P.claim s.0).grammar (S.claim s.1).grammar;
+        decides = (P.claim s.0).decides × (S.claim s.1).decides;
+        alike = HeldAlike C.holds (P.claim s.0).alike;
+    } };
+
     ghost leaves_ends = { λ form. separated_ends I.reading (P.meaning form) (S.meaning form)
         C.accumulator (assert_kind form) (P.leaves_ends form) (S.leaves_ends form) };
+
+    ghost claimed = { λ s. record {
+        exact = λ form is. separated_exact C.accumulator (assert_kind form) s ((P.claimed s.0).exact form is.0) ((S.claimed s.1).exact form is.2) ((S.claimed s.1).takes is.2 is.4) C.holds C.gathers ((P.claimed s.0).soft form is.0 is.1) ((S.claimed s.1).soft form is.2 is.3) is.5;
+        soft = λ form is soft. separated_soft C.accumulator (assert_kind form) s ((P.claimed s.0).exact form is.0) ((S.claimed s.1).exact form is.2) ((S.claimed s.1).takes is.2 is.4) ((P.claimed s.0).soft form is.0 is.1) ((S.claimed s.1).soft form is.2 is.3) is.5;
+        takes = λ is some. separated_takes C.holds s.2 ((P.claimed s.0).exact modal is.0).unique ((S.claimed s.1).exact modal is.2).unique ((P.claimed s.0).takes is.0 some.0) some.1;
+        decided = λ form is. separated_decided C.accumulator (assert_kind form) C.holds C.gathers s ((P.claimed s.0).decided form is.0) ((S.claimed s.1).decided form is.1);
+    } };
 
     fn parse_next(&mut self, input: &mut I) -> Result<C, E> {
         let least = self.occurrences.start_inclusive;
@@ -87,69 +99,6 @@ impl<
     ghost stable = { stays
         (separated_grows (P.meaning modal) (S.meaning modal) C.accumulator (assert_kind modal)
         (grows (P.leaves_ends modal) P.stable) (grows (S.leaves_ends modal) S.stable)) };
-}
-
-impl<
-    P: Decided<I, O, E>,
-    S: Decided<I, D, E>,
-    I: Stream,
-    O: Drop,
-    D: Drop,
-    C: Gathers<O, A>,
-    E: ParserError<I>,
-    A: Allocator + Copy,
-> Decided<I, C, E> for Separated<P, S, I, O, D, C, E, A> {
-    ghost premise = { λ p. P.premise (separated_parser p) × S.premise (separated_separator p) };
-
-    ghost alike = { λ p. HeldAlike C.holds (P.alike (separated_parser p)) };
-
-    ghost decided = { λ p form is. separated_decided C.accumulator (assert_kind form) C.holds
-        C.gathers
-        (P.state (separated_parser p), S.state (separated_separator p), separated_occurrences p)
-        (P.decided (separated_parser p) form is.0)
-        (S.decided (separated_separator p) form is.1) };
-}
-
-impl<
-    P: Exact<I, O, E>,
-    S: Exact<I, D, E>,
-    I: Stream,
-    O: Drop,
-    D: Drop,
-    C: Gathers<O, A>,
-    E: ParserError<I>,
-    A: Allocator + Copy,
-> Exact<I, C, E> for Separated<P, S, I, O, D, C, E, A> {
-    ghost premise = { λ p. P.premise (separated_parser p) × P.backtracks (separated_parser p)
-        × S.premise (separated_separator p) × S.backtracks (separated_separator p)
-        × S.consumes (separated_separator p)
-        × IsWithin (bounds_of (separated_occurrences p)).greatest
-        (bounds_of (separated_occurrences p)).least };
-
-    ghost consumes = { λ p. P.consumes (separated_parser p)
-        × (0 < (bounds_of (separated_occurrences p)).least) };
-
-    ghost grammar = { λ p. Apart C.holds (separated_occurrences p)
-        (P.grammar (separated_parser p)) (S.grammar (separated_separator p)) };
-
-    ghost exact = { λ p form is. separated_exact C.accumulator (assert_kind form)
-        (P.state (separated_parser p), S.state (separated_separator p), separated_occurrences p)
-        (P.exact (separated_parser p) form is.0) (S.exact (separated_separator p) form is.2)
-        (S.takes (separated_separator p) is.2 is.4) C.holds C.gathers
-        (P.soft (separated_parser p) form is.0 is.1)
-        (S.soft (separated_separator p) form is.2 is.3) is.5 };
-
-    ghost soft = { λ p form is soft. separated_soft C.accumulator (assert_kind form)
-        (P.state (separated_parser p), S.state (separated_separator p), separated_occurrences p)
-        (P.exact (separated_parser p) form is.0) (S.exact (separated_separator p) form is.2)
-        (S.takes (separated_separator p) is.2 is.4)
-        (P.soft (separated_parser p) form is.0 is.1)
-        (S.soft (separated_separator p) form is.2 is.3) is.5 };
-
-    ghost takes = { λ p is some. separated_takes C.holds (separated_occurrences p)
-        (P.exact (separated_parser p) modal is.0).unique
-        (S.exact (separated_separator p) modal is.2).unique
-        (P.takes (separated_parser p) is.0 some.0) some.1 };
 }
 
 impl<

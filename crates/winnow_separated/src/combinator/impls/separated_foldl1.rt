@@ -8,6 +8,7 @@ ghost use Rattle.winnow_separated.specs.SeparatedFoldl1.{foldl1_closure, foldl1_
 ghost use Rattle.winnow_separated.specs.SeparatedFoldl1.{foldl1_separator};
 ghost use Rattle.winnow_separated.specs.SeparatedFoldl1.Laws.{foldl1_ends, foldl1_grows};
 ghost use Rattle.winnow_core.specs.Agrees.Beside.{agrees2_with};
+ghost use Rattle.winnow_core.specs.Claim.{no_claim, nothing_claimed};
 
 use crate::combinator::impls::link::Link;
 use std::marker::PhantomData;
@@ -65,8 +66,12 @@ impl<
     ghost meaning = { λ form. SeparatedFoldl1Runs H.step (P.meaning form) (S.meaning form)
         (assert_kind form) };
 
+    ghost claim = { λ _. no_claim };
+
     ghost leaves_ends = { λ form. foldl1_ends I.reading H.step (P.meaning form) (S.meaning form)
         (assert_kind form) (P.leaves_ends form) (S.leaves_ends form) };
+
+    ghost claimed = { λ _. nothing_claimed };
 
     fn parse_next(&mut self, input: &mut I) -> Result<O, E> {
         let first = self.link.parser.parse_next(input)?;

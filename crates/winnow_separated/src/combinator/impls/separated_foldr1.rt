@@ -7,6 +7,7 @@ ghost use Rattle.winnow_separated.specs.SeparatedFoldr1.{foldr1_closure, foldr1_
 ghost use Rattle.winnow_separated.specs.SeparatedFoldr1.{foldr1_separator};
 ghost use Rattle.winnow_separated.specs.SeparatedFoldr1.Laws.{foldr1_ends, foldr1_grows};
 ghost use Rattle.winnow_core.specs.Agrees.Beside.{agrees2_with};
+ghost use Rattle.winnow_core.specs.Claim.{no_claim, nothing_claimed};
 
 use std::alloc::Allocator;
 use std::marker::PhantomData;
@@ -74,8 +75,12 @@ impl<
     ghost meaning = { λ form. SeparatedFoldr1Runs A H.step (P.meaning form)
         (S.meaning form) (assert_kind form) };
 
+    ghost claim = { λ _. no_claim };
+
     ghost leaves_ends = { λ form. foldr1_ends A I.reading H.step (P.meaning form) (S.meaning form)
         (assert_kind form) (P.leaves_ends form) (S.leaves_ends form) };
+
+    ghost claimed = { λ _. nothing_claimed };
 
     fn parse_next(&mut self, input: &mut I) -> Result<O, E> {
         let first = self.pair.1.parse_next(input)?;

@@ -5,17 +5,14 @@ ghost use Rattle.winnow_core.specs.Agrees.{agrees_plain};
 ghost use Rattle.winnow_core.specs.Runs.{Keeps};
 ghost use Rattle.winnow_core.specs.Stable.Grows.{leaf_stays};
 ghost use Rattle.winnow_token.specs.Any.{AnyRuns};
-ghost use Rattle.winnow_token.specs.Any.Laws.{any_exact, any_soft, token_takes};
-ghost use Rattle.winnow_token.specs.Any.Laws.{any_alike, any_ends, any_stays};
-ghost use Rattle.winnow_token.specs.Any.Laws.{SeenSame, any_decided};
+ghost use Rattle.winnow_token.specs.Any.Laws.{any_exact, any_soft, token_takes, any_alike};
+ghost use Rattle.winnow_token.specs.Any.Laws.{any_ends, any_stays, SeenSame, any_decided};
 
 use crate::token::any;
 use stream_errors::parser_error::ParserError;
 use streams::reads_like::ReadsLike;
 use streams::stream::{Stream, StreamIsPartial};
 use winnow_core::agrees_with::AgreesWith;
-use winnow_core::decided::Decided;
-use winnow_core::exact::Exact;
 use winnow_core::parser::Parser;
 use winnow_core::stable::Stable;
 
@@ -35,8 +32,24 @@ impl<I: StreamIsPartial, E: ParserError<I>> Parser<I, I::Token, E> for Any {
 
     ghost meaning = { λ form. Keeps (λ _. AnyRuns I.seen_as I.reading form) };
 
+    ghost claim = { λ s. record {
+        premise = ⊤;
+        backtracks = ⊤;
+        consumes = ⊤;
+        grammar = Token I.seen_as;
+        decides = ⊤;
+        alike = SeenSame I.seen_as;
+    } };
+
     ghost leaves_ends = { λ form x i answer y j r. any_ends I.seen_as I.reading form i answer j
         r.0 };
+
+    ghost claimed = { λ s. record {
+        exact = λ form is. any_exact I.seen_as I.reading form;
+        soft = λ form is soft. any_soft I.seen_as I.reading form;
+        takes = λ is some. token_takes I.seen_as;
+        decided = λ form is. any_decided I.seen_as I.reading form;
+    } };
 
     #[inline(always)]
     fn parse_next(&mut self, input: &mut I) -> Result<I::Token, E> {
@@ -46,22 +59,6 @@ impl<I: StreamIsPartial, E: ParserError<I>> Parser<I, I::Token, E> for Any {
 
 impl<I: StreamIsPartial, E: ParserError<I>> Stable<I, I::Token, E> for Any {
     ghost stable = { leaf_stays I.following _ (λ _. any_stays I.seen_as I.reading) };
-}
-
-impl<I: StreamIsPartial, E: ParserError<I>> Decided<I, I::Token, E> for Any {
-    ghost alike = { λ p. SeenSame I.seen_as };
-
-    ghost decided = { λ p form is. any_decided I.seen_as I.reading form };
-}
-
-impl<I: StreamIsPartial, E: ParserError<I>> Exact<I, I::Token, E> for Any {
-    ghost grammar = { λ p. Token I.seen_as };
-
-    ghost exact = { λ p form is. any_exact I.seen_as I.reading form };
-
-    ghost soft = { λ p form is soft. any_soft I.seen_as I.reading form };
-
-    ghost takes = { λ p is some. token_takes I.seen_as };
 }
 
 impl<

@@ -1,29 +1,25 @@
 //! One token outside a set.
-ghost use Rattle.std.specs.Prelude.{◌≡◌, not};
+ghost use Rattle.std.specs.Prelude.{◌≡◌, not, ⊤};
 ghost use Rattle.streams.specs.Stream.{AnswersSeen};
 ghost use Rattle.stream_sets.specs.Once.{SeesApart, others_once, seen_once, Others, TellsOnce};
 ghost use Rattle.grammars.specs.Grammar.{Token, TokenOf};
 ghost use Rattle.winnow_core.specs.Agrees.{agrees_by};
 ghost use Rattle.winnow_core.specs.Runs.{Keeps};
 ghost use Rattle.winnow_core.specs.Stable.Grows.{leaf_stays};
-ghost use Rattle.winnow_token.specs.NoneOf.{none_of_set};
 ghost use Rattle.winnow_token.specs.OneOf.{OneOfRuns};
 ghost use Rattle.winnow_token.specs.Any.Laws.{SeenSame};
-ghost use Rattle.winnow_token.specs.OneOf.Laws.{one_of_decided};
-ghost use Rattle.winnow_token.specs.OneOf.Laws.{one_of_exact, one_of_soft, token_of_takes};
-ghost use Rattle.winnow_token.specs.OneOf.Laws.{one_of_alike, one_of_ends, one_of_stays};
+ghost use Rattle.winnow_token.specs.OneOf.Laws.{one_of_decided, one_of_exact, one_of_soft};
+ghost use Rattle.winnow_token.specs.OneOf.Laws.{token_of_takes, one_of_alike, one_of_ends};
+ghost use Rattle.winnow_token.specs.OneOf.Laws.{one_of_stays};
 
 use crate::token::members::Others;
 use crate::token::one::take_member;
 use std::marker::PhantomData;
 use stream_errors::parser_error::ParserError;
-use stream_sets::decides::Decides;
 use stream_sets::sets::ContainsToken;
 use streams::reads_like::ReadsLike;
 use streams::stream::{Stream, StreamIsPartial};
 use winnow_core::agrees_with::AgreesWith;
-use winnow_core::decided::Decided;
-use winnow_core::exact::Exact;
 use winnow_core::parser::Parser;
 use winnow_core::stable::Stable;
 
@@ -54,8 +50,24 @@ where
     ghost meaning = { λ form. Keeps
         (λ x. OneOfRuns I.seen_as I.reading form (λ k b. S.tells x k (not b))) };
 
+    ghost claim = { λ s. record {
+        premise = S.decides s × SeesApart I.seen_as;
+        backtracks = ⊤;
+        consumes = ⊤;
+        grammar = TokenOf I.seen_as (Others S.tells) s;
+        decides = TellsOnce (AnswersSeen I.seen_as (Others S.tells s));
+        alike = SeenSame I.seen_as;
+    } };
+
     ghost leaves_ends = { λ form x i answer y j r. one_of_ends I.seen_as I.reading form
         (λ k b. S.tells x k (not b)) i answer j r.0 };
+
+    ghost claimed = { λ s. record {
+        exact = λ form is. one_of_exact I.seen_as I.reading form (Others S.tells) s (seen_once I.seen_as (Others S.tells s) is.1 (others_once S.tells s (S.once s is.0)));
+        soft = λ form is soft. one_of_soft I.seen_as I.reading form (Others S.tells) s;
+        takes = λ is some. token_of_takes I.seen_as (Others S.tells) s;
+        decided = λ form is. one_of_decided I.seen_as I.reading form (Others S.tells) s is;
+    } };
 
     #[inline(always)]
     fn parse_next(&mut self, input: &mut I) -> Result<I::Token, E> {
@@ -70,38 +82,6 @@ where
 {
     ghost stable = { leaf_stays I.following _
         (λ x. one_of_stays I.seen_as I.reading (λ k b. S.tells x k (not b))) };
-}
-
-impl<S: ContainsToken<I::Token>, I: StreamIsPartial, E: ParserError<I>> Decided<I, I::Token, E>
-    for NoneOf<S, I, E>
-where
-    I::Token: Copy,
-{
-    ghost premise = { λ p. TellsOnce (AnswersSeen I.seen_as (Others S.tells (none_of_set p))) };
-
-    ghost alike = { λ p. SeenSame I.seen_as };
-
-    ghost decided = { λ p form is. one_of_decided I.seen_as I.reading form (Others S.tells)
-        (none_of_set p) is };
-}
-
-impl<S: Decides<I::Token>, I: StreamIsPartial, E: ParserError<I>> Exact<I, I::Token, E>
-    for NoneOf<S, I, E>
-where
-    I::Token: Copy,
-{
-    ghost premise = { λ p. S.decides (none_of_set p) × SeesApart I.seen_as };
-
-    ghost grammar = { λ p. TokenOf I.seen_as (Others S.tells) (none_of_set p) };
-
-    ghost exact = { λ p form is. one_of_exact I.seen_as I.reading form (Others S.tells)
-        (none_of_set p) (seen_once I.seen_as (Others S.tells (none_of_set p)) is.1
-        (others_once S.tells (none_of_set p) (S.once (none_of_set p) is.0))) };
-
-    ghost soft = { λ p form is soft. one_of_soft I.seen_as I.reading form (Others S.tells)
-        (none_of_set p) };
-
-    ghost takes = { λ p is some. token_of_takes I.seen_as (Others S.tells) (none_of_set p) };
 }
 
 impl<

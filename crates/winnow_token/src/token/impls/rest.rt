@@ -1,18 +1,16 @@
 //! All that is left.
-ghost use Rattle.std.specs.Prelude.{⊤, ◌<◌};
+ghost use Rattle.std.specs.Prelude.{⊤, ◌<◌, ◌≡◌};
 ghost use Rattle.grammars.specs.Grammar.{AllTokens};
 ghost use Rattle.winnow_core.specs.Agrees.{agrees_plain};
 ghost use Rattle.winnow_core.specs.Runs.{Keeps};
 ghost use Rattle.winnow_token.specs.Rest.{RestRuns};
-ghost use Rattle.winnow_token.specs.Rest.Laws.{rest_exact, rest_soft};
-ghost use Rattle.winnow_token.specs.Rest.Laws.{rest_alike, rest_ends};
+ghost use Rattle.winnow_token.specs.Rest.Laws.{rest_exact, rest_soft, rest_alike, rest_ends};
 
 use crate::token::rest;
 use stream_errors::parser_error::ParserError;
 use streams::reads_like::ReadsLike;
 use streams::stream::Stream;
 use winnow_core::agrees_with::AgreesWith;
-use winnow_core::exact::Exact;
 use winnow_core::parser::Parser;
 
 /// The parser [`rest`](crate::token::rest).
@@ -31,24 +29,28 @@ impl<I: Stream, E: ParserError<I>> Parser<I, I::Slice, E> for Rest {
 
     ghost meaning = { λ _. Keeps (λ _. RestRuns I.reading) };
 
+    ghost claim = { λ s. record {
+        premise = ⊤;
+        backtracks = ⊤;
+        consumes = ⊥;
+        grammar = AllTokens I.reading;
+        decides = ⊥;
+        alike = λ o p. o ≡ p;
+    } };
+
     ghost leaves_ends = { λ form x i answer y j r. rest_ends I.reading i answer j r.0 };
+
+    ghost claimed = { λ s. record {
+        exact = λ form is. rest_exact I.reading;
+        soft = λ form is soft. rest_soft I.reading;
+        takes = λ is never. absurd never;
+        decided = λ form never. absurd never;
+    } };
 
     #[inline(always)]
     fn parse_next(&mut self, input: &mut I) -> Result<I::Slice, E> {
         rest(input)
     }
-}
-
-impl<I: Stream, E: ParserError<I>> Exact<I, I::Slice, E> for Rest {
-    ghost consumes = { λ p. ⊥ };
-
-    ghost grammar = { λ p. AllTokens I.reading };
-
-    ghost exact = { λ p form is. rest_exact I.reading };
-
-    ghost soft = { λ p form is soft. rest_soft I.reading };
-
-    ghost takes = { λ p is never. absurd never };
 }
 
 impl<

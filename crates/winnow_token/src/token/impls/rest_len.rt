@@ -1,19 +1,17 @@
 //! How much is left.
-ghost use Rattle.std.specs.Prelude.{⊤, ◌<◌};
+ghost use Rattle.std.specs.Prelude.{⊤, ◌<◌, ◌≡◌};
 ghost use Rattle.grammars.specs.Grammar.{UnitsLeft};
 ghost use Rattle.winnow_core.specs.Agrees.{agrees_plain};
 ghost use Rattle.winnow_core.specs.Ends.{same_ends};
 ghost use Rattle.winnow_core.specs.Runs.{Keeps};
 ghost use Rattle.winnow_token.specs.Rest.{RestLenRuns};
-ghost use Rattle.winnow_token.specs.Rest.Laws.{rest_len_exact, rest_len_soft};
-ghost use Rattle.winnow_token.specs.Rest.Laws.{rest_len_alike};
+ghost use Rattle.winnow_token.specs.Rest.Laws.{rest_len_exact, rest_len_soft, rest_len_alike};
 
 use crate::token::rest_len;
 use stream_errors::parser_error::ParserError;
 use streams::reads_like::ReadsLike;
 use streams::stream::Stream;
 use winnow_core::agrees_with::AgreesWith;
-use winnow_core::exact::Exact;
 use winnow_core::parser::Parser;
 
 /// The parser [`rest_len`](crate::token::rest_len).
@@ -32,24 +30,28 @@ impl<I: Stream, E: ParserError<I>> Parser<I, usize, E> for RestLen {
 
     ghost meaning = { λ _. Keeps (λ _. RestLenRuns I.reading) };
 
+    ghost claim = { λ s. record {
+        premise = ⊤;
+        backtracks = ⊤;
+        consumes = ⊥;
+        grammar = UnitsLeft I.reading;
+        decides = ⊥;
+        alike = λ o p. o ≡ p;
+    } };
+
     ghost leaves_ends = { λ form x i answer y j r. same_ends I.reading i j r.0.1 };
+
+    ghost claimed = { λ s. record {
+        exact = λ form is. rest_len_exact I.reading;
+        soft = λ form is soft. rest_len_soft I.reading;
+        takes = λ is never. absurd never;
+        decided = λ form never. absurd never;
+    } };
 
     #[inline(always)]
     fn parse_next(&mut self, input: &mut I) -> Result<usize, E> {
         rest_len(input)
     }
-}
-
-impl<I: Stream, E: ParserError<I>> Exact<I, usize, E> for RestLen {
-    ghost consumes = { λ p. ⊥ };
-
-    ghost grammar = { λ p. UnitsLeft I.reading };
-
-    ghost exact = { λ p form is. rest_len_exact I.reading };
-
-    ghost soft = { λ p form is soft. rest_len_soft I.reading };
-
-    ghost takes = { λ p is never. absurd never };
 }
 
 impl<

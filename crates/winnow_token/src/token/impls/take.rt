@@ -1,22 +1,19 @@
 //! So many tokens.
-ghost use Rattle.std.specs.Prelude.{◌≡◌, ℕ, ◌<◌};
+ghost use Rattle.std.specs.Prelude.{◌≡◌, ℕ, ◌<◌, ⊤};
 ghost use Rattle.grammars.specs.Grammar.{Counted};
 ghost use Rattle.winnow_core.specs.Agrees.{agrees_by};
 ghost use Rattle.winnow_core.specs.Literal.Laws.{ShowSame};
 ghost use Rattle.winnow_core.specs.Runs.{Keeps};
 ghost use Rattle.winnow_core.specs.Stable.Grows.{leaf_stays};
-ghost use Rattle.winnow_token.specs.Take.{TakeRuns, take_count};
-ghost use Rattle.winnow_token.specs.Take.Laws.{take_count_decided};
-ghost use Rattle.winnow_token.specs.Take.Laws.{counted_takes, take_exact, take_soft};
-ghost use Rattle.winnow_token.specs.Take.Laws.{take_alike, take_ends, take_stays};
+ghost use Rattle.winnow_token.specs.Take.{TakeRuns};
+ghost use Rattle.winnow_token.specs.Take.Laws.{take_count_decided, counted_takes, take_exact};
+ghost use Rattle.winnow_token.specs.Take.Laws.{take_soft, take_alike, take_ends, take_stays};
 
 use std::marker::PhantomData;
 use stream_errors::parser_error::ParserError;
 use streams::reads_like::ReadsLike;
 use streams::stream::{Stream, StreamIsPartial};
 use winnow_core::agrees_with::AgreesWith;
-use winnow_core::decided::Decided;
-use winnow_core::exact::Exact;
 use winnow_core::parser::Parser;
 use winnow_core::short::short;
 use winnow_core::stable::Stable;
@@ -41,8 +38,24 @@ impl<I: StreamIsPartial, E: ParserError<I>> Parser<I, I::Slice, E> for Take<I, E
 
     ghost meaning = { λ form. Keeps (λ x. TakeRuns I.reading form I.counts_missing x) };
 
+    ghost claim = { λ s. record {
+        premise = ⊤;
+        backtracks = ⊤;
+        consumes = 0 < s;
+        grammar = Counted I.reading s;
+        decides = ⊤;
+        alike = ShowSame I.reading;
+    } };
+
     ghost leaves_ends = { λ form x i answer y j r. take_ends I.reading form I.counts_missing x i
         answer j r.0 };
+
+    ghost claimed = { λ s. record {
+        exact = λ form is. take_exact I.reading form I.counts_missing s;
+        soft = λ form is soft. take_soft I.reading form I.counts_missing s;
+        takes = λ is some. counted_takes I.reading s some;
+        decided = λ form is. take_count_decided I.reading form I.counts_missing s;
+    } };
 
     #[inline(always)]
     fn parse_next(&mut self, input: &mut I) -> Result<I::Slice, E> {
@@ -55,25 +68,6 @@ impl<I: StreamIsPartial, E: ParserError<I>> Parser<I, I::Slice, E> for Take<I, E
 
 impl<I: StreamIsPartial, E: ParserError<I>> Stable<I, I::Slice, E> for Take<I, E> {
     ghost stable = { leaf_stays I.following _ (take_stays I.reading I.counts_missing) };
-}
-
-impl<I: StreamIsPartial, E: ParserError<I>> Decided<I, I::Slice, E> for Take<I, E> {
-    ghost alike = { λ p. ShowSame I.reading };
-
-    ghost decided = { λ p form is. take_count_decided I.reading form I.counts_missing
-        (take_count p) };
-}
-
-impl<I: StreamIsPartial, E: ParserError<I>> Exact<I, I::Slice, E> for Take<I, E> {
-    ghost consumes = { λ p. 0 < take_count p };
-
-    ghost grammar = { λ p. Counted I.reading (take_count p) };
-
-    ghost exact = { λ p form is. take_exact I.reading form I.counts_missing (take_count p) };
-
-    ghost soft = { λ p form is soft. take_soft I.reading form I.counts_missing (take_count p) };
-
-    ghost takes = { λ p is some. counted_takes I.reading (take_count p) some };
 }
 
 impl<

@@ -1,5 +1,5 @@
 //! Takes of the tokens outside a set.
-ghost use Rattle.std.specs.Prelude.{◌≡◌, not, ◌<◌};
+ghost use Rattle.std.specs.Prelude.{◌≡◌, not, ◌<◌, ⊤};
 ghost use Rattle.streams.specs.Stream.{AnswersSeen};
 ghost use Rattle.stream_sets.specs.Once.{SeesApart, others_once, seen_once, Others, TellsOnce};
 ghost use Rattle.stream_sets.specs.Range.{bounds_of, IsWithin};
@@ -9,7 +9,6 @@ ghost use Rattle.winnow_core.specs.Agrees.{agrees_by_parts};
 ghost use Rattle.winnow_core.specs.Literal.Laws.{ShowSame};
 ghost use Rattle.winnow_core.specs.Runs.{Keeps};
 ghost use Rattle.winnow_core.specs.Stable.Grows.{leaf_stays};
-ghost use Rattle.winnow_token.specs.TakeTill.{take_till_occurrences, take_till_set};
 ghost use Rattle.winnow_token.specs.TakeWhile.{TakeWhileRuns};
 ghost use Rattle.winnow_token.specs.TakeWhile.Decided.{take_while_decided};
 ghost use Rattle.winnow_token.specs.TakeWhile.Exact.{longest_takes, take_while_exact};
@@ -20,14 +19,11 @@ ghost use Rattle.winnow_token.specs.TakeWhile.Laws.{take_while_stays};
 use crate::token::members::{Others, take_members};
 use std::marker::PhantomData;
 use stream_errors::parser_error::ParserError;
-use stream_sets::decides::Decides;
 use stream_sets::range::Range;
 use stream_sets::sets::ContainsToken;
 use streams::reads_like::ReadsLike;
 use streams::stream::{Stream, StreamIsPartial};
 use winnow_core::agrees_with::AgreesWith;
-use winnow_core::decided::Decided;
-use winnow_core::exact::Exact;
 use winnow_core::parser::Parser;
 use winnow_core::stable::Stable;
 
@@ -57,8 +53,24 @@ impl<S: ContainsToken<I::Token>, I: StreamIsPartial, E: ParserError<I>> Parser<I
         (λ x. TakeWhileRuns I.reading form
         (AnswersSeen I.seen_as (λ k b. S.tells x.1 k (not b))) (bounds_of x.0)) };
 
+    ghost claim = { λ s. record {
+        premise = S.decides s.1 × SeesApart I.seen_as × IsWithin (bounds_of s.0).greatest (bounds_of s.0).least;
+        backtracks = ⊤;
+        consumes = 0 < (bounds_of s.0).least;
+        grammar = Longest I.reading I.seen_as (Others S.tells) s.1 (bounds_of s.0);
+        decides = TellsOnce (AnswersSeen I.seen_as (Others S.tells s.1));
+        alike = ShowSame I.reading;
+    } };
+
     ghost leaves_ends = { λ form x i answer y j r. take_while_ends I.reading form
         (AnswersSeen I.seen_as (λ k b. S.tells x.1 k (not b))) (bounds_of x.0) i answer j r.0 };
+
+    ghost claimed = { λ s. record {
+        exact = λ form is. take_while_exact I.reading form I.seen_as (Others S.tells) (λ x. x.1) (λ x. bounds_of x.0) s is.2 (seen_once I.seen_as (Others S.tells s.1) is.1 (others_once S.tells s.1 (S.once s.1 is.0)));
+        soft = λ form is soft. take_while_soft I.reading form I.seen_as (Others S.tells) (λ x. x.1) (λ x. bounds_of x.0) s is.2;
+        takes = λ is some. longest_takes I.reading I.seen_as (Others S.tells) s.1 (bounds_of s.0) some;
+        decided = λ form is. take_while_decided I.reading form (λ x. AnswersSeen I.seen_as (Others S.tells x.1)) (λ x. bounds_of x.0) s is;
+    } };
 
     #[inline(always)]
     fn parse_next(&mut self, input: &mut I) -> Result<I::Slice, E> {
@@ -71,43 +83,6 @@ impl<S: ContainsToken<I::Token>, I: StreamIsPartial, E: ParserError<I>> Stable<I
     ghost stable = { leaf_stays I.following _
         (λ x. take_while_stays I.reading
         (AnswersSeen I.seen_as (λ k b. S.tells x.1 k (not b))) (bounds_of x.0)) };
-}
-
-impl<S: ContainsToken<I::Token>, I: StreamIsPartial, E: ParserError<I>> Decided<I, I::Slice, E>
-    for TakeTill<S, I, E> {
-    ghost premise = { λ p. TellsOnce (AnswersSeen I.seen_as (Others S.tells (take_till_set p))) };
-
-    ghost alike = { λ p. ShowSame I.reading };
-
-    ghost decided = { λ p form is. take_while_decided I.reading form
-        (λ x. AnswersSeen I.seen_as (Others S.tells x.1)) (λ x. bounds_of x.0)
-        (take_till_occurrences p, take_till_set p) is };
-}
-
-impl<S: Decides<I::Token>, I: StreamIsPartial, E: ParserError<I>> Exact<I, I::Slice, E>
-    for TakeTill<S, I, E> {
-    ghost premise = { λ p. S.decides (take_till_set p) × SeesApart I.seen_as
-        × IsWithin (bounds_of (take_till_occurrences p)).greatest
-        (bounds_of (take_till_occurrences p)).least };
-
-    ghost consumes = { λ p. 0 < (bounds_of (take_till_occurrences p)).least };
-
-    ghost grammar = { λ p. Longest I.reading I.seen_as (Others S.tells) (take_till_set p)
-        (bounds_of (take_till_occurrences p)) };
-
-    ghost exact = { λ p form is. take_while_exact I.reading form I.seen_as (Others S.tells) (λ x.
-        x.1)
-        (λ x. bounds_of x.0) (take_till_occurrences p, take_till_set p) is.2
-        (seen_once I.seen_as (Others S.tells (take_till_set p)) is.1
-        (others_once S.tells (take_till_set p) (S.once (take_till_set p) is.0))) };
-
-    ghost soft = { λ p form is soft. take_while_soft I.reading form I.seen_as (Others S.tells) (λ
-        x. x.1)
-        (λ x. bounds_of x.0) (take_till_occurrences p, take_till_set p) is.2 };
-
-    ghost takes = { λ p is some. longest_takes I.reading I.seen_as (Others S.tells)
-        (take_till_set p)
-        (bounds_of (take_till_occurrences p)) some };
 }
 
 impl<

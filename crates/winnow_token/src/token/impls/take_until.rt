@@ -1,5 +1,5 @@
 //! Takes of what stands before a literal.
-ghost use Rattle.std.specs.Prelude.{◌≡◌, ◌<◌};
+ghost use Rattle.std.specs.Prelude.{◌≡◌, ◌<◌, ⊤};
 ghost use Rattle.stream_sets.specs.Range.{bounds_of, IsWithin};
 ghost use Rattle.stream_sets.specs.declared.range.Range.{Range};
 ghost use Rattle.grammars.specs.Grammar.Searches.{Before};
@@ -7,8 +7,7 @@ ghost use Rattle.grammars.specs.Grammar.Searches.Unique.{before_takes};
 ghost use Rattle.winnow_core.specs.Agrees.{agrees_by_parts};
 ghost use Rattle.winnow_core.specs.Runs.{Keeps};
 ghost use Rattle.winnow_core.specs.Stable.Grows.{leaf_stays};
-ghost use Rattle.winnow_token.specs.TakeUntil.{TakeUntilRuns, take_until_literal};
-ghost use Rattle.winnow_token.specs.TakeUntil.{take_until_occurrences};
+ghost use Rattle.winnow_token.specs.TakeUntil.{TakeUntilRuns};
 ghost use Rattle.winnow_token.specs.TakeUntil.Laws.{take_until_exact, take_until_soft};
 ghost use Rattle.winnow_token.specs.TakeUntil.Laws.{take_until_alike, take_until_ends};
 ghost use Rattle.winnow_token.specs.TakeUntil.Laws.{take_until_stays};
@@ -21,7 +20,6 @@ use stream_searches::find::like::FindsLike;
 use stream_sets::range::Range;
 use streams::stream::{Stream, StreamIsPartial};
 use winnow_core::agrees_with::AgreesWith;
-use winnow_core::exact::Exact;
 use winnow_core::parser::Parser;
 use winnow_core::stable::Stable;
 
@@ -48,9 +46,25 @@ impl<T: Copy, I: StreamIsPartial + FindSlice<T>, E: ParserError<I>> Parser<I, I:
     ghost meaning = { λ form. Keeps
         (λ x. TakeUntilRuns I.reading form (I.sought x.1) (bounds_of x.0)) };
 
+    ghost claim = { λ s. record {
+        premise = IsWithin (bounds_of s.0).greatest (bounds_of s.0).least;
+        backtracks = ⊤;
+        consumes = 0 < (bounds_of s.0).least;
+        grammar = Before I.reading (I.sought s.1) (bounds_of s.0);
+        decides = ⊥;
+        alike = λ o p. o ≡ p;
+    } };
+
     ghost leaves_ends = { λ form x i answer y j r. take_until_ends I.reading form (I.sought x.1)
         (bounds_of x.0) i answer j
         r.0 };
+
+    ghost claimed = { λ s. record {
+        exact = λ form is. take_until_exact I.reading form (λ x. I.sought x.1) (λ x. bounds_of x.0) s is;
+        soft = λ form is soft. take_until_soft I.reading form (λ x. I.sought x.1) (λ x. bounds_of x.0) s is;
+        takes = λ is some. before_takes I.reading (I.sought s.1) (bounds_of s.0) some;
+        decided = λ form never. absurd never;
+    } };
 
     #[inline(always)]
     fn parse_next(&mut self, input: &mut I) -> Result<I::Slice, E> {
@@ -63,26 +77,6 @@ impl<T: Copy, I: StreamIsPartial + FindSlice<T>, E: ParserError<I>> Stable<I, I:
     ghost stable = { leaf_stays I.following _
         (λ x. take_until_stays I.reading (I.sought x.1) (I.stays_first x.1)
         (bounds_of x.0)) };
-}
-
-impl<T: Copy, I: StreamIsPartial + FindSlice<T>, E: ParserError<I>> Exact<I, I::Slice, E>
-    for TakeUntil<T, I, E> {
-    ghost premise = { λ p. IsWithin (bounds_of (take_until_occurrences p)).greatest
-        (bounds_of (take_until_occurrences p)).least };
-
-    ghost consumes = { λ p. 0 < (bounds_of (take_until_occurrences p)).least };
-
-    ghost grammar = { λ p. Before I.reading (I.sought (take_until_literal p))
-        (bounds_of (take_until_occurrences p)) };
-
-    ghost exact = { λ p form is. take_until_exact I.reading form (λ x. I.sought x.1)
-        (λ x. bounds_of x.0) (take_until_occurrences p, take_until_literal p) is };
-
-    ghost soft = { λ p form is soft. take_until_soft I.reading form (λ x. I.sought x.1)
-        (λ x. bounds_of x.0) (take_until_occurrences p, take_until_literal p) is };
-
-    ghost takes = { λ p is some. before_takes I.reading (I.sought (take_until_literal p))
-        (bounds_of (take_until_occurrences p)) some };
 }
 
 impl<

@@ -6,10 +6,9 @@ ghost use Rattle.grammars.specs.Grammar.FirstOf.{FirstOf, first_of_takes};
 ghost use Rattle.stream_errors.specs.Form.{answer_by, assert_kind, modal};
 ghost use Rattle.winnow_core.specs.Agrees.{AllAlike, agrees_list};
 ghost use Rattle.winnow_core.specs.ByRef.{ByRefRuns};
-ghost use Rattle.winnow_core.specs.ByRef.Laws.{by_ref_exact, by_ref_soft};
-ghost use Rattle.winnow_core.specs.ByRef.Laws.{by_ref_ends, by_ref_grows};
+ghost use Rattle.winnow_core.specs.ByRef.Laws.{by_ref_exact, by_ref_soft, by_ref_ends};
+ghost use Rattle.winnow_core.specs.ByRef.Laws.{by_ref_grows};
 ghost use Rattle.winnow_core.specs.Stable.Grows.{grows, stays};
-ghost use Rattle.winnow_comb.specs.Alt.{alt_alternatives};
 ghost use Rattle.winnow_comb.specs.Alt.FirstOf.{first_of_exact, first_of_soft};
 ghost use Rattle.winnow_comb.specs.Alt.Slice.{AltSliceRuns};
 ghost use Rattle.winnow_comb.specs.Alt.Slice.Laws.{alt_slice_ends, slice_agrees, alt_slice_grows};
@@ -18,7 +17,6 @@ use crate::combinator::impls::alt::{Alt, AltParser, attempt};
 use stream_errors::parser_error::ParserError;
 use streams::stream::Stream;
 use winnow_core::agrees_with::AgreesWith;
-use winnow_core::exact::Exact;
 use winnow_core::parser::Parser;
 use winnow_core::stable::Stable;
 
@@ -31,8 +29,30 @@ impl<const N: usize, I: Stream, O, E: ParserError<I>, P: Parser<I, O, E>> Alt<I,
 
     ghost meaning = { λ form. AltSliceRuns (P.meaning form) (assert_kind form) };
 
+    ghost claim = { λ s. record {
+        premise = All (λ x. (P.claim x).premise × (P.claim x).backtracks) s;
+        backtracks = s ≡ [] → ⊥;
+        consumes = All (λ x. (P.claim x).consumes) s;
+        grammar = FirstOf (λ x. (P.claim x).grammar) s;
+        decides = ⊥;
+        alike = λ o p. o ≡ p;
+    } };
+
     ghost leaves_ends = { λ form. alt_slice_ends I.reading (P.meaning form) (assert_kind form)
         (P.leaves_ends form) };
+
+    ghost claimed = { λ s. record {
+        exact = λ form is. first_of_exact (P.meaning form) (assert_kind form) (λ x. (P.claim x).grammar)
+            (λ x. (P.claim x).premise × (P.claim x).backtracks) (λ x k. (P.claimed x).exact form k.0)
+            (λ x k. (P.claimed x).soft form k.0 k.1) s is;
+        soft = λ form is some. first_of_soft (P.meaning form) (assert_kind form) (λ x. (P.claim x).grammar)
+            (λ x. (P.claim x).premise × (P.claim x).backtracks) (λ x k. (P.claimed x).exact form k.0)
+            (λ x k. (P.claimed x).soft form k.0 k.1) s is some;
+        takes = λ is some. first_of_takes (λ x. (P.claim x).grammar)
+            (λ x. (P.claim x).premise) (λ x. (P.claim x).backtracks)
+            (λ x. (P.claim x).consumes) (λ x. (P.claimed x).takes) s is some;
+        decided = λ form never. absurd never;
+    } };
 
     #[inline(always)]
     fn choice(&mut self, input: &mut I) -> Result<O, E> {
@@ -49,60 +69,11 @@ impl<const N: usize, P: Stable<I, O, E>, I: Stream, O, E: ParserError<I>> Stable
     fn stay() {}
 }
 
-impl<const N: usize, P: Exact<I, O, E>, I: Stream, O, E: ParserError<I>> Exact<I, O, E>
-    for AltParser<[P; N], I, O, E> {
-    ghost premise = { λ p. All (λ q. P.premise q × P.backtracks q) (alt_alternatives p) };
-
-    ghost backtracks = { λ p. alt_alternatives p ≡ [] → ⊥ };
-
-    ghost consumes = { λ p. All P.consumes (alt_alternatives p) };
-
-    ghost grammar = { λ p. FirstOf P.grammar (alt_alternatives p) };
-
-    ghost exact = { λ p form is. first_of_exact P.state (P.meaning form) (assert_kind form)
-        P.grammar (λ q. P.premise q × P.backtracks q) (λ q k. P.exact q form k.0)
-        (λ q k. P.soft q form k.0 k.1) (alt_alternatives p) is };
-
-    ghost soft = { λ p form is some. first_of_soft P.state (P.meaning form) (assert_kind form)
-        P.grammar (λ q. P.premise q × P.backtracks q) (λ q k. P.exact q form k.0)
-        (λ q k. P.soft q form k.0 k.1) (alt_alternatives p) is some };
-
-    ghost takes = { λ p is some. first_of_takes P.grammar P.premise P.backtracks P.consumes P.takes
-        (alt_alternatives p) is some };
-
-    fn stay() {}
-}
-
 impl<'a, P: Stable<I, O, E>, I: Stream, O, E: ParserError<I>> Stable<I, O, E>
     for AltParser<&'a mut [P], I, O, E> {
     ghost stable = { stays
         (by_ref_grows (alt_slice_grows (P.meaning modal) (assert_kind modal)
         (grows (P.leaves_ends modal) P.stable))) };
-}
-
-impl<'a, P: Exact<I, O, E>, I: Stream, O, E: ParserError<I>> Exact<I, O, E>
-    for AltParser<&'a mut [P], I, O, E> {
-    ghost premise = { λ p. All (λ q. P.premise q × P.backtracks q) (alt_alternatives p).now };
-
-    ghost backtracks = { λ p. (alt_alternatives p).now ≡ [] → ⊥ };
-
-    ghost consumes = { λ p. All P.consumes (alt_alternatives p).now };
-
-    ghost grammar = { λ p. FirstOf P.grammar (alt_alternatives p).now };
-
-    ghost exact = { λ p form is. by_ref_exact (first_of_exact P.state (P.meaning form)
-        (assert_kind form) P.grammar (λ q. P.premise q × P.backtracks q)
-        (λ q k. P.exact q form k.0) (λ q k. P.soft q form k.0 k.1) (alt_alternatives p).now is) };
-
-    ghost soft = { λ p form is some. by_ref_soft (first_of_soft P.state (P.meaning form)
-        (assert_kind form) P.grammar (λ q. P.premise q × P.backtracks q)
-        (λ q k. P.exact q form k.0) (λ q k. P.soft q form k.0 k.1) (alt_alternatives p).now is
-        some) };
-
-    ghost takes = { λ p is some. first_of_takes P.grammar P.premise P.backtracks P.consumes P.takes
-        (alt_alternatives p).now is some };
-
-    fn stay() {}
 }
 
 impl<
@@ -132,9 +103,31 @@ impl<'a, I: Stream, O, E: ParserError<I>, P: Parser<I, O, E>> Alt<I, O, E> for &
 
     ghost meaning = { λ form. ByRefRuns (AltSliceRuns (P.meaning form) (assert_kind form)) };
 
+    ghost claim = { λ s. record {
+        premise = All (λ x. (P.claim x).premise × (P.claim x).backtracks) s.0;
+        backtracks = s.0 ≡ [] → ⊥;
+        consumes = All (λ x. (P.claim x).consumes) s.0;
+        grammar = FirstOf (λ x. (P.claim x).grammar) s.0;
+        decides = ⊥;
+        alike = λ o p. o ≡ p;
+    } };
+
     ghost leaves_ends = { λ form. by_ref_ends I.reading
         (AltSliceRuns (P.meaning form) (assert_kind form))
         (alt_slice_ends I.reading (P.meaning form) (assert_kind form) (P.leaves_ends form)) };
+
+    ghost claimed = { λ s. record {
+        exact = λ form is. by_ref_exact (first_of_exact (P.meaning form) (assert_kind form) (λ x. (P.claim x).grammar)
+            (λ x. (P.claim x).premise × (P.claim x).backtracks) (λ x k. (P.claimed x).exact form k.0)
+            (λ x k. (P.claimed x).soft form k.0 k.1) s.0 is);
+        soft = λ form is some. by_ref_soft (first_of_soft (P.meaning form) (assert_kind form) (λ x. (P.claim x).grammar)
+            (λ x. (P.claim x).premise × (P.claim x).backtracks) (λ x k. (P.claimed x).exact form k.0)
+            (λ x k. (P.claimed x).soft form k.0 k.1) s.0 is some);
+        takes = λ is some. first_of_takes (λ x. (P.claim x).grammar)
+            (λ x. (P.claim x).premise) (λ x. (P.claim x).backtracks)
+            (λ x. (P.claim x).consumes) (λ x. (P.claimed x).takes) s.0 is some;
+        decided = λ form never. absurd never;
+    } };
 
     #[inline(always)]
     fn choice(&mut self, input: &mut I) -> Result<O, E> {

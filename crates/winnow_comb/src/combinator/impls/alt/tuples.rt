@@ -5,6 +5,7 @@ ghost use Rattle.stream_errors.specs.Form.{modal};
 ghost use Rattle.winnow_comb.specs.Alt.{OrElse};
 ghost use Rattle.winnow_comb.specs.Alt.Laws.{or_else_ends, or_else_grows};
 ghost use Rattle.winnow_core.specs.Stable.Grows.{grows, stays};
+ghost use Rattle.winnow_comb.specs.Alt.Claim.{or_else_claim, or_else_claimed};
 
 use crate::combinator::impls::alt::{Alt, AltParser, attempt};
 use stream_errors::parser_error::ParserError;
@@ -21,7 +22,11 @@ impl<I: Stream, O, E: ParserError<I>, P1: Parser<I, O, E>> Alt<I, O, E> for (P1,
 
     ghost meaning = { P1.meaning };
 
+    ghost claim = { P1.claim };
+
     ghost leaves_ends = { P1.leaves_ends };
+
+    ghost claimed = { P1.claimed };
 
     #[inline(always)]
     fn choice(&mut self, input: &mut I) -> Result<O, E> {
@@ -44,8 +49,12 @@ impl<I: Stream, O, E: ParserError<I>, P1: Parser<I, O, E>, P2: Parser<I, O, E>> 
 
     ghost meaning = { λ form. OrElse (P1.meaning form) (P2.meaning form) };
 
+    ghost claim = { λ s. or_else_claim (P1.claim s.0) (P2.claim s.1) };
+
     ghost leaves_ends = { λ form. or_else_ends I.reading (P1.meaning form) (P2.meaning form)
         (P1.leaves_ends form) (P2.leaves_ends form) };
+
+    ghost claimed = { λ s. or_else_claimed (P1.claimed s.0) (P2.claimed s.1) };
 
     #[inline(always)]
     fn choice(&mut self, input: &mut I) -> Result<O, E> {
@@ -81,10 +90,14 @@ impl<
     ghost meaning = { λ form. OrElse (P1.meaning form)
         (OrElse (P2.meaning form) (P3.meaning form)) };
 
+    ghost claim = { λ s. or_else_claim (P1.claim s.0) (or_else_claim (P2.claim s.1.0) (P3.claim s.1.1)) };
+
     ghost leaves_ends = { λ form. or_else_ends I.reading (P1.meaning form)
         (OrElse (P2.meaning form) (P3.meaning form)) (P1.leaves_ends form)
         (or_else_ends I.reading (P2.meaning form) (P3.meaning form) (P2.leaves_ends form)
         (P3.leaves_ends form)) };
+
+    ghost claimed = { λ s. or_else_claimed (P1.claimed s.0) (or_else_claimed (P2.claimed s.1.0) (P3.claimed s.1.1)) };
 
     #[inline(always)]
     fn choice(&mut self, input: &mut I) -> Result<O, E> {
@@ -132,6 +145,8 @@ impl<
     ghost meaning = { λ form. OrElse (P1.meaning form)
         (OrElse (P2.meaning form) (OrElse (P3.meaning form) (P4.meaning form))) };
 
+    ghost claim = { λ s. or_else_claim (P1.claim s.0) (or_else_claim (P2.claim s.1.0) (or_else_claim (P3.claim s.1.1.0) (P4.claim s.1.1.1))) };
+
     ghost leaves_ends = { λ form. or_else_ends I.reading (P1.meaning form)
         (OrElse (P2.meaning form) (OrElse (P3.meaning form) (P4.meaning form)))
         (P1.leaves_ends form)
@@ -139,6 +154,8 @@ impl<
         (P2.leaves_ends form)
         (or_else_ends I.reading (P3.meaning form) (P4.meaning form) (P3.leaves_ends form)
         (P4.leaves_ends form))) };
+
+    ghost claimed = { λ s. or_else_claimed (P1.claimed s.0) (or_else_claimed (P2.claimed s.1.0) (or_else_claimed (P3.claimed s.1.1.0) (P4.claimed s.1.1.1))) };
 
     #[inline(always)]
     fn choice(&mut self, input: &mut I) -> Result<O, E> {
@@ -194,6 +211,8 @@ impl<
         (OrElse (P2.meaning form)
         (OrElse (P3.meaning form) (OrElse (P4.meaning form) (P5.meaning form)))) };
 
+    ghost claim = { λ s. or_else_claim (P1.claim s.0) (or_else_claim (P2.claim s.1.0) (or_else_claim (P3.claim s.1.1.0) (or_else_claim (P4.claim s.1.1.1.0) (P5.claim s.1.1.1.1)))) };
+
     ghost leaves_ends = { λ form. or_else_ends I.reading (P1.meaning form)
         (OrElse (P2.meaning form)
         (OrElse (P3.meaning form) (OrElse (P4.meaning form) (P5.meaning form))))
@@ -205,6 +224,8 @@ impl<
         (OrElse (P4.meaning form) (P5.meaning form)) (P3.leaves_ends form)
         (or_else_ends I.reading (P4.meaning form) (P5.meaning form) (P4.leaves_ends form)
         (P5.leaves_ends form)))) };
+
+    ghost claimed = { λ s. or_else_claimed (P1.claimed s.0) (or_else_claimed (P2.claimed s.1.0) (or_else_claimed (P3.claimed s.1.1.0) (or_else_claimed (P4.claimed s.1.1.1.0) (P5.claimed s.1.1.1.1)))) };
 
     #[inline(always)]
     fn choice(&mut self, input: &mut I) -> Result<O, E> {
@@ -272,6 +293,8 @@ impl<
         (OrElse (P3.meaning form)
         (OrElse (P4.meaning form) (OrElse (P5.meaning form) (P6.meaning form))))) };
 
+    ghost claim = { λ s. or_else_claim (P1.claim s.0) (or_else_claim (P2.claim s.1.0) (or_else_claim (P3.claim s.1.1.0) (or_else_claim (P4.claim s.1.1.1.0) (or_else_claim (P5.claim s.1.1.1.1.0) (P6.claim s.1.1.1.1.1))))) };
+
     ghost leaves_ends = { λ form. or_else_ends I.reading (P1.meaning form)
         (OrElse (P2.meaning form)
         (OrElse (P3.meaning form)
@@ -288,6 +311,8 @@ impl<
         (OrElse (P5.meaning form) (P6.meaning form)) (P4.leaves_ends form)
         (or_else_ends I.reading (P5.meaning form) (P6.meaning form)
         (P5.leaves_ends form) (P6.leaves_ends form))))) };
+
+    ghost claimed = { λ s. or_else_claimed (P1.claimed s.0) (or_else_claimed (P2.claimed s.1.0) (or_else_claimed (P3.claimed s.1.1.0) (or_else_claimed (P4.claimed s.1.1.1.0) (or_else_claimed (P5.claimed s.1.1.1.1.0) (P6.claimed s.1.1.1.1.1))))) };
 
     #[inline(always)]
     fn choice(&mut self, input: &mut I) -> Result<O, E> {

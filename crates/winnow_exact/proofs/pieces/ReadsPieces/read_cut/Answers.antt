@@ -1,12 +1,12 @@
 use Rattle.winnow_exact.specs.Cut.{told_or_asked}
 use Rattle.winnow_exact.proofs.pieces.ReadsPieces.read_cut.Goals as goal
 
-pub returns : goal.returns
-returns g c =
-    let p = c.args.self.now in
+pub returns-clause-reads : goal.returns-clause-reads
+returns-clause-reads g c =
+    let claimed = g.met.Self.Parser.claimed (g.Self.Parser.state c.args.self.now) in
     let form = g.E.HasKind.form in
     told_or_asked g.I.Stream.reading g.E.HasKind.kind g.Self.Parser.meaning form
-    c.requires.modal (g.met.Self.Exact.exact p form c.requires.premise)
-    (g.met.Self.Exact.soft p form c.requires.premise c.requires.backtracks)
+    c.requires.modal (claimed.exact form c.requires.premise)
+    (claimed.soft form c.requires.premise c.requires.backtracks)
     g.met.Self.Stable.stable _ c.parse_next.result _ _ c.parse_next.ensures.ends
     c.parse_next.ensures.ran

@@ -1,0 +1,37 @@
+-- What literals claim.
+use Rattle.std.specs.Prelude.{◌≡◌, List, [], ⊤}
+use Rattle.streams.specs.Reading.{Reading}
+use Rattle.grammars.specs.Grammar.{Literally}
+use Rattle.grammars.specs.Grammar.Unique.{literally_takes}
+use Rattle.winnow_core.specs.Claim.{Claim, Claimed}
+use Rattle.winnow_core.specs.Literal.{LiteralRuns}
+use Rattle.winnow_core.specs.Literal.Laws.{ShowSame, literal_decided, literal_exact}
+use Rattle.winnow_core.specs.Literal.Laws.{literal_soft}
+use Rattle.winnow_core.specs.Runs.{Keeps}
+
+-- A literal that stands for the lists `spells`, of which the output is made by `output`.
+abbrev pub literal_claim : {S T L O : Type 0} → Reading T L → (S → List T → Type 0)
+    → (S → L → O) → (O → O → Type 0) → S → Claim T O
+literal_claim reading spells output alike s = record {
+  premise = ⊤;
+  backtracks = ⊤;
+  consumes = spells s [] → ⊥;
+  grammar = Literally reading spells output s;
+  decides = ⊤;
+  alike = alike;
+}
+
+-- that is kept
+pub literal_claimed : {S T L O : Type 0} (reading : Reading T L) (spells : S → List T → Type 0)
+    (output : S → L → O) (alike : O → O → Type 0) (s : S)
+    → ((xs ys : List T) → spells s xs → spells s ys → reading.units xs ≡ reading.units ys)
+    → ((slice other : L) → ShowSame reading slice other → alike (output s slice) (output s other))
+    → Claimed (literal_claim reading spells output alike s) s
+    (λ form. Keeps (λ y. LiteralRuns reading form (spells y) (output y)))
+literal_claimed reading spells output alike s same_units shown = record {
+  exact = λ form is. literal_exact reading form spells output (λ y. y) s same_units;
+  soft = λ form is soft. literal_soft reading form spells output (λ y. y) s;
+  takes = λ is some. literally_takes reading spells output s some;
+  decided = λ form is.
+      literal_decided reading form spells output (λ y. y) alike s same_units shown;
+}
