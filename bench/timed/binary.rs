@@ -1,6 +1,7 @@
 //! Integers as bytes, and records behind their lengths.
 #![tactic(auto, using(winnow::specs::Rules::ends_follow))]
 
+ghost use Rattle.winnow.specs.Claim.{no_claim, nothing_claimed};
 ghost use Rattle.std.specs.Prelude.{⊤};
 ghost use Rattle.winnow.specs.Bytes.{bytes_input, bytes_reading};
 ghost use Rattle.winnow.specs.Input.{IsEndOf};
@@ -70,7 +71,11 @@ impl<'i> Parser<&'i [u8], Record<'i>, ErrMode<EmptyError>> for RecordReader {
 
     ghost meaning = { λ _ _ i _ _ j. IsEndOf bytes_reading j i };
 
+    ghost claim = { λ _. no_claim };
+
     ghost leaves_ends = { λ _ _ _ _ _ _ ends. ends };
+
+    ghost claimed = { λ _. nothing_claimed };
 
     #[inline(always)]
     fn parse_next(&mut self, input: &mut &'i [u8]) -> Result<Record<'i>, ErrMode<EmptyError>> {

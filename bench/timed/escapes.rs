@@ -1,6 +1,7 @@
 //! Texts with escapes.
 #![tactic(auto, using(winnow::specs::Rules::ends_follow))]
 
+ghost use Rattle.winnow.specs.Claim.{no_claim, nothing_claimed};
 ghost use Rattle.std.specs.Prelude.{⊤};
 ghost use Rattle.winnow.specs.Input.{IsEndOf};
 ghost use Rattle.winnow.specs.Text.{text_input, text_reading};
@@ -64,7 +65,11 @@ impl<'i> Parser<&'i str, String, ErrMode<EmptyError>> for TextReader {
 
     ghost meaning = { λ _ _ i _ _ j. IsEndOf text_reading j i };
 
+    ghost claim = { λ _. no_claim };
+
     ghost leaves_ends = { λ _ _ _ _ _ _ ends. ends };
+
+    ghost claimed = { λ _. nothing_claimed };
 
     #[inline(always)]
     fn parse_next(&mut self, input: &mut &'i str) -> Result<String, ErrMode<EmptyError>> {

@@ -1,6 +1,7 @@
 //! Comma separated values, without quotes.
 #![tactic(auto, using(winnow::specs::Rules::ends_follow))]
 
+ghost use Rattle.winnow.specs.Claim.{no_claim, nothing_claimed};
 ghost use Rattle.std.specs.Prelude.{⊤};
 ghost use Rattle.winnow.specs.Text.{text_input, text_reading};
 ghost use Rattle.winnow.specs.Input.{IsEndOf};
@@ -63,7 +64,11 @@ impl<'i> Parser<&'i str, Row<'i>, ErrMode<InputError<&'i str>>> for RowReader {
 
     ghost meaning = { λ _ _ i _ _ j. IsEndOf text_reading j i };
 
+    ghost claim = { λ _. no_claim };
+
     ghost leaves_ends = { λ _ _ _ _ _ _ ends. ends };
+
+    ghost claimed = { λ _. nothing_claimed };
 
     #[inline(always)]
     fn parse_next(&mut self, input: &mut &'i str) -> Result<Row<'i>, ErrMode<InputError<&'i str>>> {

@@ -1,6 +1,7 @@
 //! Expressions of digits with four operators between them.
 #![tactic(auto, using(winnow::specs::Rules::ends_follow))]
 
+ghost use Rattle.winnow.specs.Claim.{no_claim, nothing_claimed};
 ghost use Rattle.std.specs.Prelude.{⊤};
 ghost use Rattle.winnow.specs.Bytes.{bytes_input, bytes_reading};
 ghost use Rattle.winnow.specs.Input.{IsEndOf};
@@ -68,7 +69,11 @@ impl<'i> Parser<&'i [u8], u64, EmptyError> for Digit {
 
     ghost meaning = { λ _ _ i _ _ j. IsEndOf bytes_reading j i };
 
+    ghost claim = { λ _. no_claim };
+
     ghost leaves_ends = { λ _ _ _ _ _ _ ends. ends };
+
+    ghost claimed = { λ _. nothing_claimed };
 
     #[inline(always)]
     fn parse_next(&mut self, input: &mut &'i [u8]) -> Result<u64, EmptyError> {
@@ -99,7 +104,11 @@ impl<'i> Parser<&'i [u8], Infix<Operator>, EmptyError> for Between {
 
     ghost meaning = { λ _ _ i _ _ j. IsEndOf bytes_reading j i };
 
+    ghost claim = { λ _. no_claim };
+
     ghost leaves_ends = { λ _ _ _ _ _ _ ends. ends };
+
+    ghost claimed = { λ _. nothing_claimed };
 
     #[inline(always)]
     fn parse_next(&mut self, input: &mut &'i [u8]) -> Result<Infix<Operator>, EmptyError> {

@@ -1,5 +1,6 @@
 //! Compositions as parsers: at each node the library's own combinator runs, over references to the
 //! parts.
+ghost use Rattle.winnow_core.specs.Claim.{no_claim, nothing_claimed};
 ghost use Rattle.std.specs.Prelude.{⊤};
 ghost use Rattle.streams.specs.Input.{IsEndOf};
 
@@ -27,7 +28,11 @@ impl<'i, I: Bytes<'i>> Parser<I, Shown, Modal> for Tree {
 
     ghost meaning = { λ _ _ i _ _ j. IsEndOf I.reading j i };
 
+    ghost claim = { λ _. no_claim };
+
     ghost leaves_ends = { λ _ _ _ _ _ _ ends. ends };
+
+    ghost claimed = { λ _. nothing_claimed };
 
     fn parse_next(&mut self, input: &mut I) -> Result<Shown, Modal> {
         match self {

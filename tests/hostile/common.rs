@@ -1,4 +1,5 @@
 //! What these tests share: a child that counts its runs, and a child with a plan.
+ghost use Rattle.winnow_core.specs.Claim.{no_claim, nothing_claimed};
 ghost use Rattle.std.specs.Prelude.{⊤};
 ghost use Rattle.streams.specs.Input.{IsEndOf};
 
@@ -34,7 +35,11 @@ impl<I: Stream, O, E: ParserError<I>, P: Parser<I, O, E>> Parser<I, O, E> for Co
 
     ghost meaning = { P.meaning };
 
+    ghost claim = { λ _. no_claim };
+
     ghost leaves_ends = { P.leaves_ends };
+
+    ghost claimed = { λ _. nothing_claimed };
 
     fn parse_next(&mut self, input: &mut I) -> Result<O, E> {
         self.runs.set(self.runs.get() + 1);
@@ -95,7 +100,11 @@ impl<I: Stream, E: ParserError<I>> Parser<I, usize, E> for Planned {
 
     ghost meaning = { λ _ _ i _ _ j. IsEndOf I.reading j i };
 
+    ghost claim = { λ _. no_claim };
+
     ghost leaves_ends = { λ _ _ _ _ _ _ ends. ends };
+
+    ghost claimed = { λ _. nothing_claimed };
 
     fn parse_next(&mut self, input: &mut I) -> Result<usize, E> {
         let number = self.next;

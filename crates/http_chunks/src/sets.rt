@@ -5,7 +5,6 @@ ghost use Rattle.http_chunks.specs.Lines.{IsQuotedByte};
 ghost use Rattle.std.specs.Prelude.{◌↔◌, IsTrue};
 ghost use Rattle.winnow.specs.Once.{holds_once};
 
-use winnow::exact::Decides;
 use winnow::stream::ContainsToken;
 
 /// The bytes that stand for themselves in a quoted string.

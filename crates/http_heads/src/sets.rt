@@ -5,7 +5,6 @@ ghost use Rattle.std.specs.Prelude.{◌↔◌, IsTrue};
 ghost use Rattle.http_heads.specs.Bytes.{IsDigit, IsTokenByte, IsValueByte, IsVisible, IsWhite};
 ghost use Rattle.winnow.specs.Once.{holds_once};
 
-use winnow::exact::Decides;
 use winnow::stream::ContainsToken;
 
 /// The bytes of tokens, of which names and methods are made.

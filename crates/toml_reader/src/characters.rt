@@ -3,7 +3,6 @@ ghost use Rattle.std.specs.Prelude.{◌↔◌, IsTrue};
 ghost use Rattle.toml_reader.specs.Toml.{IsBare, IsOf, IsShown};
 ghost use Rattle.winnow.specs.Once.{holds_once};
 
-use winnow::exact::Decides;
 use winnow::stream::ContainsToken;
 
 /// A set of characters.

@@ -1,6 +1,7 @@
 //! A line of comma separated values, without quotes.
 #![tactic(auto)]
 
+ghost use Rattle.winnow.specs.Once.{holds_once};
 ghost use Rattle.std.specs.Prelude.{◌≡◌, ◌↔◌, IsTrue, IfErr, IfOk};
 ghost use Rattle.winnow.specs.Bytes.{bytes_input, bytes_reading};
 ghost use Rattle.winnow.specs.Input.{IsEndOf};
@@ -23,6 +24,8 @@ struct FieldBytes;
 
 impl ContainsToken<u8> for FieldBytes {
     ghost tells = { λ s b answer. IsTrue answer ↔ IsFieldByte b };
+
+    ghost once = { λ s is. holds_once IsFieldByte };
 
     #[inline]
     fn contains_token(&self, b: u8) -> bool {

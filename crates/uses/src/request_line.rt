@@ -1,6 +1,7 @@
 //! The request line of HTTP/1.1 (RFC 9112, section 3), over bytes that are whole or come in pieces.
 #![tactic(auto)]
 
+ghost use Rattle.winnow.specs.Once.{holds_once};
 ghost use Rattle.std.specs.Prelude.{◌≡◌, ◌↔◌, IsTrue, IfOk, IsOk, List, ℕ};
 ghost use Rattle.winnow.specs.TakeWhile.{take_while_occurrences};
 ghost use Rattle.winnow.specs.Bytes.{bytes_input, bytes_reading};
@@ -21,6 +22,8 @@ struct Visible;
 impl ContainsToken<u8> for Visible {
     ghost tells = { λ s b answer. IsTrue answer ↔ IsVisible b };
 
+    ghost once = { λ s is. holds_once IsVisible };
+
     #[inline]
     fn contains_token(&self, b: u8) -> bool {
         b > 32 && b < 127
@@ -33,6 +36,8 @@ struct TokenBytes;
 
 impl ContainsToken<u8> for TokenBytes {
     ghost tells = { λ s b answer. IsTrue answer ↔ IsTokenByte b };
+
+    ghost once = { λ s is. holds_once IsTokenByte };
 
     #[inline]
     fn contains_token(&self, b: u8) -> bool {

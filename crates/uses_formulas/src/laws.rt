@@ -21,9 +21,9 @@ type Bytes = &'static [u8];
 /// // Of `Digit1`.
 /// a_decided_part_is_stateless::<Digit1, &[u8], &[u8], EmptyError>();
 /// ```
-pub fn a_decided_part_is_stateless<P: Decided<I, O, E>, I: Stream, O, E: ParserError<I>>()
-    ensures { (p : P) → P.Decided.premise p
-        → IsStateless (P.Decided.alike p) (P.Parser.meaning E.form) (P.Parser.state p) }
+pub fn a_decided_part_is_stateless<P: Parser<I, O, E>, I: Stream, O, E: ParserError<I>>()
+    ensures { (s : P.State) → (P.claim s).decides
+        → IsStateless (P.claim s).alike (P.meaning E.form) s }
 {}
 
 /// A byte consumes, where it is answered.

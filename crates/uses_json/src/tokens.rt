@@ -1,5 +1,6 @@
 //! Single bytes, and all bytes of a set.
 
+ghost use Rattle.winnow.specs.Once.{holds_once};
 ghost use Rattle.std.specs.Prelude.{◌≡◌, ◌↔◌, ◌∷◌, List, ℕ, IsTrue, MatchOption};
 ghost use Rattle.std.specs.List.{All};
 ghost use Rattle.winnow.specs.TakeWhile.{take_while_occurrences};
@@ -22,6 +23,8 @@ struct Digits;
 impl ContainsToken<u8> for Digits {
     ghost tells = { λ s b answer. IsTrue answer ↔ IsDigit b };
 
+    ghost once = { λ s is. holds_once IsDigit };
+
     #[inline]
     fn contains_token(&self, b: u8) -> bool {
         b >= b'0' && b <= b'9'
@@ -35,6 +38,8 @@ struct Spaces;
 impl ContainsToken<u8> for Spaces {
     ghost tells = { λ s b answer. IsTrue answer ↔ IsSpace b };
 
+    ghost once = { λ s is. holds_once IsSpace };
+
     #[inline]
     fn contains_token(&self, b: u8) -> bool {
         b == b' ' || b == b'\t' || b == b'\n' || b == b'\r'
@@ -47,6 +52,8 @@ struct Unescaped;
 
 impl ContainsToken<u8> for Unescaped {
     ghost tells = { λ s b answer. IsTrue answer ↔ IsUnescaped b };
+
+    ghost once = { λ s is. holds_once IsUnescaped };
 
     #[inline]
     fn contains_token(&self, b: u8) -> bool {

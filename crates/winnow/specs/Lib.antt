@@ -111,6 +111,7 @@ pub use Rattle.stream_recovery.specs.Recorded
 pub use Rattle.winnow_core.specs.Agrees
 pub use Rattle.winnow_core.specs.AndThen
 pub use Rattle.winnow_core.specs.ByRef
+pub use Rattle.winnow_core.specs.Claim
 pub use Rattle.winnow_core.specs.Closures
 pub use Rattle.winnow_core.specs.CompleteErr
 pub use Rattle.winnow_core.specs.Context

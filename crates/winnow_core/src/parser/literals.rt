@@ -48,6 +48,8 @@ impl<I: StreamIsPartial + Compare<u8>, E: ParserError<I>> Parser<I, u8, E> for u
 impl<I: StreamIsPartial + Compare<u8>, E: ParserError<I>> Stable<I, u8, E> for u8 {
     ghost stable = { leaf_stays I.following _
         (λ s. literal_stays I.reading (I.spells s) (λ _. s)) };
+
+    fn stay() {}
 }
 
 impl<
@@ -60,6 +62,8 @@ impl<
 
     ghost agrees = { agrees_by (λ p. p) (λ q. q)
         (literal_alike (λ s _. s) I.same_reading I.same_spells) };
+
+    fn agree() {}
 }
 
 /// Bytes stand for themselves; the output is the slice of the input.
@@ -90,6 +94,8 @@ impl<'t, I: StreamIsPartial + Compare<&'t [u8]>, E: ParserError<I>> Stable<I, I:
     for &'t [u8] {
     ghost stable = { leaf_stays I.following _
         (λ s. literal_stays I.reading (I.spells s) (λ slice. slice)) };
+
+    fn stay() {}
 }
 
 impl<
@@ -105,6 +111,8 @@ impl<
 
     ghost agrees = { agrees_by (λ p. p) (λ q. q)
         (literal_alike (λ _ slice. slice) I.same_reading I.same_spells) };
+
+    fn agree() {}
 }
 
 /// Bytes stand for themselves; the output is the slice of the input.
@@ -192,6 +200,8 @@ impl<I: StreamIsPartial + Compare<char>, E: ParserError<I>> Parser<I, char, E> f
 impl<I: StreamIsPartial + Compare<char>, E: ParserError<I>> Stable<I, char, E> for char {
     ghost stable = { leaf_stays I.following _
         (λ s. literal_stays I.reading (I.spells s) (λ _. s)) };
+
+    fn stay() {}
 }
 
 impl<
@@ -204,6 +214,8 @@ impl<
 
     ghost agrees = { agrees_by (λ p. p) (λ q. q)
         (literal_alike (λ s _. s) I.same_reading I.same_spells) };
+
+    fn agree() {}
 }
 
 /// A text stands for itself; the output is the slice of the input.
@@ -234,6 +246,8 @@ impl<'t, I: StreamIsPartial + Compare<&'t str>, E: ParserError<I>> Stable<I, I::
     for &'t str {
     ghost stable = { leaf_stays I.following _
         (λ s. literal_stays I.reading (I.spells s) (λ slice. slice)) };
+
+    fn stay() {}
 }
 
 impl<
@@ -249,6 +263,8 @@ impl<
 
     ghost agrees = { agrees_by (λ p. p) (λ q. q)
         (literal_alike (λ _ slice. slice) I.same_reading I.same_spells) };
+
+    fn agree() {}
 }
 
 /// Bytes without regard to ASCII case stand for themselves; the output is the slice of the input.
@@ -279,6 +295,8 @@ impl<'t, I: StreamIsPartial + Compare<Caseless<&'t [u8]>>, E: ParserError<I>> St
     for Caseless<&'t [u8]> {
     ghost stable = { leaf_stays I.following _
         (λ s. literal_stays I.reading (I.spells s) (λ slice. slice)) };
+
+    fn stay() {}
 }
 
 impl<
@@ -294,6 +312,8 @@ impl<
 
     ghost agrees = { agrees_by (λ p. p) (λ q. q)
         (literal_alike (λ _ slice. slice) I.same_reading I.same_spells) };
+
+    fn agree() {}
 }
 
 /// Bytes without regard to ASCII case stand for themselves; the output is the slice of the input.
@@ -382,6 +402,8 @@ impl<'t, I: StreamIsPartial + Compare<Caseless<&'t str>>, E: ParserError<I>> Sta
     for Caseless<&'t str> {
     ghost stable = { leaf_stays I.following _
         (λ s. literal_stays I.reading (I.spells s) (λ slice. slice)) };
+
+    fn stay() {}
 }
 
 impl<
@@ -397,4 +419,6 @@ impl<
 
     ghost agrees = { agrees_by (λ p. p) (λ q. q)
         (literal_alike (λ _ slice. slice) I.same_reading I.same_spells) };
+
+    fn agree() {}
 }

@@ -70,6 +70,8 @@ impl<
     ghost like = { λ p q. ⊤ };
 
     ghost agrees = { agrees_plain (same_refl (λ _. SequenceRuns0)) };
+
+    fn agree() {}
 }
 
 impl<I: Stream, O1, E: ParserError<I>, P1: Parser<I, O1, E>> Parser<I, (O1,), E> for (P1,) {
@@ -120,6 +122,8 @@ impl<
 
     ghost agrees = { agrees_one (λ p. p.0) (λ q. q.0) (λ X m form. SequenceRuns1 (m form))
         P1.agrees };
+
+    fn agree() {}
 }
 
 impl<I: Stream, O1: Drop, O2, E: ParserError<I>, P1: Parser<I, O1, E>, P2: Parser<I, O2, E>> Parser<
@@ -166,6 +170,8 @@ impl<
 
     ghost agrees = { agrees2 (λ p. p.0) (λ q. q.0) (λ p. p.1) (λ q. q.1)
         (λ X1 X2 m1 m2 form. SequenceRuns2 (m1 form) (m2 form)) P1.agrees P2.agrees };
+
+    fn agree() {}
 }
 
 impl<
@@ -222,6 +228,8 @@ impl<
     ghost agrees = { agrees3 (λ p. p.0) (λ q. q.0) (λ p. p.1) (λ q. q.1) (λ p. p.2) (λ q. q.2)
         (λ X1 X2 X3 m1 m2 m3 form. SequenceRuns3 (m1 form) (m2 form) (m3 form)) P1.agrees
         P2.agrees P3.agrees };
+
+    fn agree() {}
 }
 
 impl<
@@ -288,6 +296,8 @@ impl<
         (λ p. p.3) (λ q. q.3)
         (λ X1 X2 X3 X4 m1 m2 m3 m4 form. SequenceRuns4 (m1 form) (m2 form) (m3 form)
         (m4 form)) P1.agrees P2.agrees P3.agrees P4.agrees };
+
+    fn agree() {}
 }
 
 impl<
@@ -362,6 +372,8 @@ impl<
         (λ p. p.3) (λ q. q.3) (λ p. p.4) (λ q. q.4)
         (λ X1 X2 X3 X4 X5 m1 m2 m3 m4 m5 form. SequenceRuns5 (m1 form) (m2 form) (m3 form)
         (m4 form) (m5 form)) P1.agrees P2.agrees P3.agrees P4.agrees P5.agrees };
+
+    fn agree() {}
 }
 
 impl<
@@ -451,4 +463,6 @@ impl<
         (λ X1 X2 X3 X4 X5 X6 m1 m2 m3 m4 m5 m6 form. SequenceRuns6 (m1 form) (m2 form)
         (m3 form) (m4 form) (m5 form) (m6 form)) P1.agrees P2.agrees P3.agrees P4.agrees
         P5.agrees P6.agrees };
+
+    fn agree() {}
 }

@@ -197,6 +197,8 @@ impl<I: Stream, F: Clone, E: ParserError<I>> Parser<I, Infix<F>, E> for Infix<F>
 impl<I: Stream, F: Clone, E: ParserError<I>> Stable<I, Prefix<F>, E> for Prefix<F> {
     ghost stable = { leaf_stays I.following _
         (operator_stays (IsPrefixClone F.is_clone) (λ s. F.is_infallible s.1)) };
+
+    fn stay() {}
 }
 
 impl<
@@ -209,11 +211,15 @@ impl<
     ghost like = { λ p q. p ≡ q };
 
     ghost agrees = { agrees_by (λ p. p) (λ q. q) (same_refl _) };
+
+    fn agree() {}
 }
 
 impl<I: Stream, F: Clone, E: ParserError<I>> Stable<I, Postfix<F>, E> for Postfix<F> {
     ghost stable = { leaf_stays I.following _
         (operator_stays (IsPostfixClone F.is_clone) (λ s. F.is_infallible s.1)) };
+
+    fn stay() {}
 }
 
 impl<
@@ -226,11 +232,15 @@ impl<
     ghost like = { λ p q. p ≡ q };
 
     ghost agrees = { agrees_by (λ p. p) (λ q. q) (same_refl _) };
+
+    fn agree() {}
 }
 
 impl<I: Stream, F: Clone, E: ParserError<I>> Stable<I, Infix<F>, E> for Infix<F> {
     ghost stable = { leaf_stays I.following _
         (operator_stays (IsInfixClone F.is_clone) (λ s. F.is_infallible (fold_of s))) };
+
+    fn stay() {}
 }
 
 impl<
@@ -243,6 +253,8 @@ impl<
     ghost like = { λ p q. p ≡ q };
 
     ghost agrees = { agrees_by (λ p. p) (λ q. q) (same_refl _) };
+
+    fn agree() {}
 }
 
 /// A clone of an operator; none where a request for memory was refused to the clone of its fold.

@@ -2,4 +2,4 @@ use Rattle.uses_formulas.specs.Decided.{decided_stateless}
 use Rattle.uses_formulas.proofs.laws.a_decided_part_is_stateless.Goals as goal
 
 pub returns : goal.returns
-returns g c p premise = decided_stateless (g.met.P.Decided.decided p g.E.HasKind.form premise)
+returns g c s asked = decided_stateless ((g.met.P.Parser.claimed s).decided g.E.HasKind.form asked)

@@ -63,6 +63,8 @@ impl<I: StreamIsPartial + Compare<&'static str>, E: ParserError<I>> Parser<I, I:
 impl<I: StreamIsPartial + Compare<&'static str>, E: ParserError<I>> Stable<I, I::Slice, E>
     for Crlf {
     ghost stable = { leaf_stays I.following _ (λ _. crlf_stays I.spells I.reading) };
+
+    fn stay() {}
 }
 
 impl<
@@ -76,4 +78,6 @@ impl<
     ghost like = { λ p q. ⊤ };
 
     ghost agrees = { agrees_plain (crlf_alike I.same_reading I.same_spells) };
+
+    fn agree() {}
 }

@@ -65,6 +65,8 @@ impl<I: StreamIsPartial + Compare<&'static str>, E: ParserError<I>> Parser<I, I:
 impl<I: StreamIsPartial + Compare<&'static str>, E: ParserError<I>> Stable<I, I::Slice, E>
     for LineEnding {
     ghost stable = { leaf_stays I.following _ (λ _. line_ending_stays I.spells I.reading) };
+
+    fn stay() {}
 }
 
 impl<
@@ -78,4 +80,6 @@ impl<
     ghost like = { λ p q. ⊤ };
 
     ghost agrees = { agrees_plain (line_ending_alike I.same_reading I.same_spells) };
+
+    fn agree() {}
 }

@@ -74,6 +74,8 @@ where
 {
     ghost stable = { leaf_stays I.following _
         (λ _. take_while_stays I.reading _ (from_to 1 None)) };
+
+    fn stay() {}
 }
 
 impl<
@@ -89,4 +91,6 @@ where
 
     ghost agrees = { agrees_plain
         (class_alike IsMultispace 1 I.Token.code I.same_reading I.same_tokens) };
+
+    fn agree() {}
 }

@@ -63,6 +63,8 @@ impl<I: StreamIsPartial + Compare<char>, E: ParserError<I>> Parser<I, char, E> f
 impl<I: StreamIsPartial + Compare<char>, E: ParserError<I>> Stable<I, char, E> for Newline {
     ghost stable = { leaf_stays I.following _
         (λ _. literal_stays I.reading (I.spells 10) (λ _. 10)) };
+
+    fn stay() {}
 }
 
 impl<
@@ -74,4 +76,6 @@ impl<
     ghost like = { λ p q. ⊤ };
 
     ghost agrees = { agrees_plain (newline_alike I.same_reading I.same_spells) };
+
+    fn agree() {}
 }

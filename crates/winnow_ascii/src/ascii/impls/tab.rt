@@ -63,6 +63,8 @@ impl<I: StreamIsPartial + Compare<char>, E: ParserError<I>> Parser<I, char, E> f
 impl<I: StreamIsPartial + Compare<char>, E: ParserError<I>> Stable<I, char, E> for Tab {
     ghost stable = { leaf_stays I.following _
         (λ _. literal_stays I.reading (I.spells 9) (λ _. 9)) };
+
+    fn stay() {}
 }
 
 impl<
@@ -74,4 +76,6 @@ impl<
     ghost like = { λ p q. ⊤ };
 
     ghost agrees = { agrees_plain (tab_alike I.same_reading I.same_spells) };
+
+    fn agree() {}
 }

@@ -71,6 +71,8 @@ impl<I: LineEnds, E: ParserError<I>> Stable<I, I::Slice, E> for TillLineEnding {
     ghost stable = { leaf_stays I.following _
         (λ _. till_line_ending_stays I.spells I.sought I.reading (I.stays_first (13, 10))
         I.seeks_some I.spells_one) };
+
+    fn stay() {}
 }
 
 impl<
@@ -86,4 +88,6 @@ impl<
 
     ghost agrees = { agrees_plain
         (till_line_ending_alike I.same_reading I.same_spells I.same_sought) };
+
+    fn agree() {}
 }

@@ -139,6 +139,8 @@ impl<
     ghost stable = { stays
         (length_and_then_grows I.reading I.counts_missing N.number (G.meaning modal)
         (grows (P.leaves_ends modal) P.stable)) };
+
+    fn stay() {}
 }
 
 impl<
@@ -160,4 +162,6 @@ impl<
 
     ghost agrees = { length_and_then_agrees N.number (λ p. p.count) (λ q. q.count)
         (λ p. p.parser) (λ q. q.parser) I.same_reading I.same_missing P.agrees G.agrees };
+
+    fn agree() {}
 }

@@ -92,6 +92,8 @@ impl<
     ghost stable = { stays
         (length_repeat_grows N.number C.accumulator (assert_kind modal) (G.meaning modal)
         (grows (P.leaves_ends modal) P.stable) (grows (G.leaves_ends modal) G.stable)) };
+
+    fn stay() {}
 }
 
 impl<
@@ -114,4 +116,6 @@ impl<
     ghost agrees = { agrees2 (λ p. p.count) (λ q. q.count) (λ p. p.parser) (λ q. q.parser)
         (λ X Y m n form. LengthRepeatRuns N.number C.accumulator (assert_kind form) (m form)
         (n form)) P.agrees G.agrees };
+
+    fn agree() {}
 }

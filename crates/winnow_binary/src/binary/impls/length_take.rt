@@ -79,6 +79,8 @@ impl<P: Stable<I, N, E>, I: StreamIsPartial, N: ToUsize + Drop, E: ParserError<I
 > for LengthTake<P, I, N, E> {
     ghost stable = { length_take_stays I.reading I.counts_missing N.number
         (grows (P.leaves_ends modal) P.stable) };
+
+    fn stay() {}
 }
 
 impl<
@@ -94,4 +96,6 @@ impl<
 
     ghost agrees = { length_take_agrees N.number (λ p. p.count) (λ q. q.count) I.same_reading
         I.same_missing P.agrees };
+
+    fn agree() {}
 }

@@ -73,6 +73,8 @@ impl<I: StreamIsPartial + ByteStream, E: ParserError<I>> Parser<I, u128, E> for 
 impl<I: StreamIsPartial + ByteStream, E: ParserError<I>> Stable<I, u128, E> for U128<I, E> {
     ghost stable = { leaf_stays I.following _
         (λ x. integer_stays 16 (unsigned_value x) I.reading) };
+
+    fn stay() {}
 }
 
 impl<
@@ -85,4 +87,6 @@ impl<
 
     ghost agrees = { agrees_by (λ p. p.endian) (λ q. q.endian)
         (integer_alike 16 unsigned_value I.same_reading) };
+
+    fn agree() {}
 }

@@ -72,6 +72,8 @@ impl<I: StreamIsPartial + ByteStream, E: ParserError<I>> Parser<I, u32, E> for U
 
 impl<I: StreamIsPartial + ByteStream, E: ParserError<I>> Stable<I, u32, E> for U24<I, E> {
     ghost stable = { leaf_stays I.following _ (λ x. integer_stays 3 (unsigned_value x) I.reading) };
+
+    fn stay() {}
 }
 
 impl<
@@ -84,4 +86,6 @@ impl<
 
     ghost agrees = { agrees_by (λ p. p.endian) (λ q. q.endian)
         (integer_alike 3 unsigned_value I.same_reading) };
+
+    fn agree() {}
 }

@@ -85,6 +85,8 @@ impl<
 > Stable<I, O, F> for BitsParser<P, I, O, E, F> {
     ghost stable = { bits_of_bytes_stays I.reading I.following I.followed_by_bytes
         (P.meaning modal) P.stable };
+
+    fn stay() {}
 }
 
 impl<
@@ -101,4 +103,6 @@ impl<
     ghost like = { λ p q. P.like p.parser q.parser };
 
     ghost agrees = { bits_agree (λ p. p.parser) (λ q. q.parser) I.same_reading P.agrees };
+
+    fn agree() {}
 }

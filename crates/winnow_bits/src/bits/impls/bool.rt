@@ -53,6 +53,8 @@ impl<I: ByteStream + StreamIsPartial, E: ParserError<Bits<I>>> Parser<Bits<I>, b
 impl<I: ByteStream + StreamIsPartial, E: ParserError<Bits<I>>> Stable<Bits<I>, bool, E> for Bool {
     ghost stable = { leaf_stays (bits_follow I.reading) _
         (λ _. bit_bool_stays (bits_reading I.reading)) };
+
+    fn stay() {}
 }
 
 impl<
@@ -64,4 +66,6 @@ impl<
     ghost like = { λ p q. ⊤ };
 
     ghost agrees = { agrees_plain (bit_bool_alike (bits_alike I.same_reading)) };
+
+    fn agree() {}
 }

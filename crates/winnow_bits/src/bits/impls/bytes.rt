@@ -81,6 +81,8 @@ impl<
 > Stable<Bits<I>, O, F> for Bytes<P, I, O, E, F> {
     ghost stable = { bytes_of_bits_stays I.reading I.following I.followed_by_bytes
         (P.meaning modal) (P.leaves_ends modal) P.stable };
+
+    fn stay() {}
 }
 
 impl<
@@ -97,4 +99,6 @@ impl<
     ghost like = { λ p q. P.like p.parser q.parser };
 
     ghost agrees = { bytes_agree (λ p. p.parser) (λ q. q.parser) I.same_reading P.agrees };
+
+    fn agree() {}
 }

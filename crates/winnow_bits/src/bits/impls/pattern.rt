@@ -77,6 +77,8 @@ impl<I: ByteStream + StreamIsPartial, O: BitOutput, E: ParserError<Bits<I>>> Sta
     for Pattern<I, O, E> {
     ghost stable = { leaf_stays (bits_follow I.reading) _
         (λ x. bit_pattern_stays (bits_reading I.reading) O.number O.WIDTH x.0 x.1) };
+
+    fn stay() {}
 }
 
 impl<
@@ -91,4 +93,6 @@ impl<
     ghost agrees = { agrees_by_parts (λ p. O.number p.value) (λ p. p.count)
         (λ q. O.number q.value) (λ q. q.count)
         (bit_pattern_alike O.number O.WIDTH (bits_alike I.same_reading)) };
+
+    fn agree() {}
 }

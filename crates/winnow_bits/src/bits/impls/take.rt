@@ -65,6 +65,8 @@ impl<I: ByteStream + StreamIsPartial, O: BitOutput, E: ParserError<Bits<I>>> Sta
     for Take<I, O, E> {
     ghost stable = { leaf_stays (bits_follow I.reading) _
         (bit_take_stays (bits_reading I.reading) O.number O.WIDTH) };
+
+    fn stay() {}
 }
 
 impl<
@@ -78,4 +80,6 @@ impl<
 
     ghost agrees = { agrees_by (λ p. p.count) (λ q. q.count)
         (bit_take_alike O.number O.WIDTH (bits_alike I.same_reading)) };
+
+    fn agree() {}
 }

@@ -57,6 +57,8 @@ impl<P: Parser<I, O, E>, I: Stream, O, E: ParserError<I> + ModalError> Parser<I,
 impl<P: Stable<I, O, E>, I: Stream, O, E: ParserError<I> + ModalError> Stable<I, O, E>
     for BacktrackErr<P, I, O, E> {
     ghost stable = { stays (backtrack_err_grows (grows (P.leaves_ends modal) P.stable)) };
+
+    fn stay() {}
 }
 
 impl<
@@ -72,4 +74,6 @@ impl<
 
     ghost agrees = { agrees1 (λ p. p.parser) (λ q. q.parser)
         (λ X m form. BacktrackErrRuns (m form)) P.agrees };
+
+    fn agree() {}
 }

@@ -71,6 +71,8 @@ impl<P: Parser<I, O, E>, I: Stream, O, E: ParserError<I>> Parser<I, Option<O>, E
 impl<I: Stream, O, E: ParserError<I>, P: Stable<I, O, E>> Stable<I, Option<O>, E>
     for Cond<P, I, O, E> {
     ghost stable = { stays (cond_grows (grows (P.leaves_ends modal) P.stable)) };
+
+    fn stay() {}
 }
 
 impl<
@@ -86,4 +88,6 @@ impl<
 
     ghost agrees = { agrees_with (λ p. p.parser) (λ q. q.parser) (λ p. p.condition)
         (λ q. q.condition) (λ X m form. CondRuns (m form)) P.agrees };
+
+    fn agree() {}
 }

@@ -68,6 +68,8 @@ impl<P: Parser<I, O, E>, I: Stream, O, E: ParserError<I> + ModalError> Parser<I,
 impl<P: Stable<I, O, E>, I: Stream, O, E: ParserError<I> + ModalError> Stable<I, O, E>
     for CutErr<P, I, O, E> {
     ghost stable = { stays (cut_err_grows (grows (P.leaves_ends modal) P.stable)) };
+
+    fn stay() {}
 }
 
 impl<
@@ -83,4 +85,6 @@ impl<
 
     ghost agrees = { agrees1 (λ p. p.parser) (λ q. q.parser) (λ X m form. CutErrRuns (m form))
         P.agrees };
+
+    fn agree() {}
 }

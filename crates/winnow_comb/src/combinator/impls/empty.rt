@@ -58,6 +58,8 @@ impl<I: Stream, E: ParserError<I>> Parser<I, (), E> for Empty {
 
 impl<I: Stream, E: ParserError<I>> Stable<I, (), E> for Empty {
     ghost stable = { leaf_stays I.following _ (λ _. empty_stays) };
+
+    fn stay() {}
 }
 
 impl<
@@ -69,4 +71,6 @@ impl<
     ghost like = { λ p q. ⊤ };
 
     ghost agrees = { agrees_plain (same_refl (λ _. Keeps (λ _. EmptyRuns))) };
+
+    fn agree() {}
 }

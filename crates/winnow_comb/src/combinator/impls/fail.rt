@@ -58,6 +58,8 @@ impl<I: Stream, O, E: ParserError<I>> Parser<I, O, E> for Fail {
 
 impl<I: Stream, O, E: ParserError<I>> Stable<I, O, E> for Fail {
     ghost stable = { leaf_stays I.following _ (λ _. fail_stays) };
+
+    fn stay() {}
 }
 
 impl<
@@ -70,4 +72,6 @@ impl<
     ghost like = { λ p q. ⊤ };
 
     ghost agrees = { agrees_plain (same_refl (λ _. Keeps (λ _. FailRuns))) };
+
+    fn agree() {}
 }

@@ -77,6 +77,8 @@ impl<P: Parser<I, O, E>, I: Stream, O: Drop, E: ParserError<I>> Parser<I, (), E>
 impl<P: Stable<I, O, E>, I: Stream, O: Drop, E: ParserError<I>> Stable<I, (), E>
     for Not<P, I, O, E> {
     ghost stable = { stays (not_grows (grows (P.leaves_ends modal) P.stable)) };
+
+    fn stay() {}
 }
 
 impl<
@@ -92,4 +94,6 @@ impl<
 
     ghost agrees = { agrees1 (λ p. p.parser) (λ q. q.parser) (λ X m form. NotRuns (m form))
         P.agrees };
+
+    fn agree() {}
 }

@@ -66,6 +66,8 @@ impl<P: Parser<I, O, E>, I: Stream, O, E: ParserError<I>> Parser<I, O, E> for Pe
 
 impl<P: Stable<I, O, E>, I: Stream, O, E: ParserError<I>> Stable<I, O, E> for Peek<P, I, O, E> {
     ghost stable = { stays (peek_grows (grows (P.leaves_ends modal) P.stable)) };
+
+    fn stay() {}
 }
 
 impl<
@@ -81,4 +83,6 @@ impl<
 
     ghost agrees = { agrees1 (λ p. p.parser) (λ q. q.parser) (λ X m form. PeekRuns (m form))
         P.agrees };
+
+    fn agree() {}
 }

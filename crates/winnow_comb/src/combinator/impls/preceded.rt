@@ -80,6 +80,8 @@ impl<P1: Stable<I, O1, E>, P2: Stable<I, O2, E>, I: Stream, O1: Drop, O2, E: Par
     ghost stable = { stays
         (both_grows (λ o1 o2. o2) (grows (P1.leaves_ends modal) P1.stable)
         (grows (P2.leaves_ends modal) P2.stable)) };
+
+    fn stay() {}
 }
 
 impl<
@@ -98,4 +100,6 @@ impl<
 
     ghost agrees = { agrees2 (λ p. p.ignored) (λ q. q.ignored) (λ p. p.parser) (λ q. q.parser)
         (λ X1 X2 m1 m2 form. PrecededRuns (m1 form) (m2 form)) P1.agrees P2.agrees };
+
+    fn agree() {}
 }

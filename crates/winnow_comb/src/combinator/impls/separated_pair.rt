@@ -98,6 +98,8 @@ impl<
         (three_grow (λ o1 o2 o3. (o1, o3)) (grows (P1.leaves_ends modal) P1.stable)
         (grows (P2.leaves_ends modal) P2.stable)
         (grows (P3.leaves_ends modal) P3.stable)) };
+
+    fn stay() {}
 }
 
 impl<
@@ -123,4 +125,6 @@ impl<
         (λ p. p.second) (λ q. q.second)
         (λ X1 X2 X3 m1 m2 m3 form. SeparatedPairRuns (m1 form) (m2 form) (m3 form)) P1.agrees
         P2.agrees P3.agrees };
+
+    fn agree() {}
 }

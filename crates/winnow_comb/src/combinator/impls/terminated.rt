@@ -87,6 +87,8 @@ impl<
     ghost stable = { stays
         (both_grows (λ o1 o2. o1) (grows (P1.leaves_ends modal) P1.stable)
         (grows (P2.leaves_ends modal) P2.stable)) };
+
+    fn stay() {}
 }
 
 impl<
@@ -106,4 +108,6 @@ impl<
 
     ghost agrees = { agrees2 (λ p. p.parser) (λ q. q.parser) (λ p. p.ignored) (λ q. q.ignored)
         (λ X1 X2 m1 m2 form. TerminatedRuns (m1 form) (m2 form)) P1.agrees P2.agrees };
+
+    fn agree() {}
 }

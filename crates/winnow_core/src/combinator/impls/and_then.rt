@@ -111,6 +111,8 @@ impl<
     ghost stable = { stays
         (settles_grows (AndThenSettles O.view (G.meaning modal))
         (grows (F.leaves_ends modal) F.stable)) };
+
+    fn stay() {}
 }
 
 impl<
@@ -128,4 +130,6 @@ impl<
     ghost agrees = { agrees_with (λ p. p.outer) (λ q. q.outer) (λ p. G.state p.inner)
         (λ q. G.state q.inner)
         (λ X m form. AndThenRuns O.view (m form) (G.meaning form)) P.agrees };
+
+    fn agree() {}
 }

@@ -64,6 +64,8 @@ impl<'p, P: Parser<I, O, E>, I: Stream, O, E: ParserError<I>> Parser<I, O, E>
 impl<'p, P: Stable<I, O, E>, I: Stream, O, E: ParserError<I>> Stable<I, O, E>
     for ByRef<'p, P, I, O, E> {
     ghost stable = { stays (by_ref_grows (grows (P.leaves_ends modal) P.stable)) };
+
+    fn stay() {}
 }
 
 impl<
@@ -82,4 +84,6 @@ impl<
     ghost agrees = { agrees_with (λ p. p.parser.now) (λ q. q.parser.now)
         (λ p. p.parser.ghost_name) (λ q. q.parser.ghost_name) (λ X m form. ByRefRuns (m form))
         P.agrees };
+
+    fn agree() {}
 }

@@ -95,4 +95,6 @@ impl<
 
     ghost agrees = { agrees1 (λ p. p.parser) (λ q. q.parser)
         (λ X m form. CompleteErrRuns (m form)) P.agrees };
+
+    fn agree() {}
 }

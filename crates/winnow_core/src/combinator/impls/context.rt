@@ -119,6 +119,8 @@ impl<
         (makes_error_grows (ContextBecomes C.is_clone C.is_infallible)
         (context_keeps C.is_clone C.is_infallible)
         (grows (F.leaves_ends modal) F.stable)) };
+
+    fn stay() {}
 }
 
 impl<
@@ -139,4 +141,6 @@ impl<
     ghost agrees = { agrees_with (λ p. p.parser) (λ q. q.parser)
         (λ p. (p.context, E.context_gives)) (λ q. (q.context, F.context_gives))
         (λ X m form. ContextRuns C.is_clone C.is_infallible (m form)) P.agrees };
+
+    fn agree() {}
 }

@@ -82,6 +82,8 @@ impl<F: Stable<I, O, E>, I: Stream, O: Drop, O2: Default, E: ParserError<I>> Sta
     ghost stable = { stays
         (makes_output_grows (λ i o j u. O2.is_default u) (made_of_output _)
         (grows (F.leaves_ends modal) F.stable)) };
+
+    fn stay() {}
 }
 
 impl<
@@ -98,4 +100,6 @@ impl<
 
     ghost agrees = { agrees1 (λ p. p.parser) (λ q. q.parser)
         (λ X m form. DefaultValueRuns O2.is_default (m form)) P.agrees };
+
+    fn agree() {}
 }

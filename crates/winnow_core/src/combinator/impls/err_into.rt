@@ -91,6 +91,8 @@ impl<
         (makes_error_grows (ErrIntoBecomes E.kind E2.kind E2.from_gives)
         (err_into_keeps E.kind E2.kind E2.from_gives E2.keeps)
         (grows_at F.meaning E.form E2.from_modal F.leaves_ends F.stable)) };
+
+    fn stay() {}
 }
 
 /// The conversion is of one type of error, so both parsers have that.
@@ -107,4 +109,6 @@ impl<
 
     ghost agrees = { agrees1 (λ p. p.parser) (λ q. q.parser)
         (λ X m form. ErrIntoRuns E.kind E2.kind E2.from_gives (m E.form)) P.agrees };
+
+    fn agree() {}
 }

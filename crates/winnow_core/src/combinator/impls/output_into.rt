@@ -82,6 +82,8 @@ impl<F: Stable<I, O, E>, I: Stream, O, O2: From<O>, E: ParserError<I>> Stable<I,
     ghost stable = { stays
         (makes_output_grows (λ i o j u. O2.from_gives o u) (made_of_output _)
         (grows (F.leaves_ends modal) F.stable)) };
+
+    fn stay() {}
 }
 
 impl<
@@ -98,4 +100,6 @@ impl<
 
     ghost agrees = { agrees1 (λ p. p.parser) (λ q. q.parser)
         (λ X m form. OutputIntoRuns O2.from_gives (m form)) P.agrees };
+
+    fn agree() {}
 }

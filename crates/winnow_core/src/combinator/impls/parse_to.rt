@@ -99,6 +99,8 @@ impl<F: Stable<I, O, E>, I: Stream, O: ParseSlice<O2> + Drop, O2, E: ParserError
 > for ParseTo<F, I, O, O2, E> {
     ghost stable = { stays_beside tt
         (settles_grows (ParseToSettles O.reads) (grows (F.leaves_ends modal) F.stable)) };
+
+    fn stay() {}
 }
 
 impl<
@@ -115,4 +117,6 @@ impl<
 
     ghost agrees = { agrees1 (λ p. p.parser) (λ q. q.parser)
         (λ X m form. ParseToRuns O.reads (m form)) P.agrees };
+
+    fn agree() {}
 }

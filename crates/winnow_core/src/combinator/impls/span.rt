@@ -85,6 +85,8 @@ impl<F: Stable<I, O, E>, I: Location, O: Drop, E: ParserError<I>> Stable<I, Rang
     ghost stable = { stays
         (makes_output_grows (λ i o j span. span ≡ places i j) (λ more flag i o j span is. is)
         (grows (F.leaves_ends modal) F.stable)) };
+
+    fn stay() {}
 }
 
 impl<
@@ -100,4 +102,6 @@ impl<
 
     ghost agrees = { agrees1 (λ p. p.parser) (λ q. q.parser)
         (λ X m form. SpanRuns (m form)) P.agrees };
+
+    fn agree() {}
 }

@@ -95,6 +95,8 @@ pub(crate) fn slice_from<I: Stream>(start: &I::Checkpoint, input: &mut I) -> I::
 impl<F: Stable<I, O, E>, I: Stream, O: Drop, E: ParserError<I>> Stable<I, I::Slice, E>
     for Take<F, I, O, E> {
     ghost stable = { stays (take_adapter_grows I.reading (grows (F.leaves_ends modal) F.stable)) };
+
+    fn stay() {}
 }
 
 impl<
@@ -109,4 +111,6 @@ impl<
     ghost like = { λ p q. P.like p.parser q.parser };
 
     ghost agrees = { take_agrees (λ p. p.parser) (λ q. q.parser) I.same_reading P.agrees };
+
+    fn agree() {}
 }

@@ -86,6 +86,8 @@ impl<F: Stable<I, O, E>, I: Stream, O: Drop, O2: Clone, E: ParserError<I>> Stabl
     for Value<F, I, O, O2, E> {
     ghost stable = { stays
         (value_grows O2.is_clone O2.is_infallible (grows (F.leaves_ends modal) F.stable)) };
+
+    fn stay() {}
 }
 
 impl<
@@ -102,4 +104,6 @@ impl<
 
     ghost agrees = { agrees_with (λ p. p.parser) (λ q. q.parser) (λ p. p.value) (λ q. q.value)
         (λ X m form. ValueRuns O2.is_clone O2.is_infallible (m form)) P.agrees };
+
+    fn agree() {}
 }

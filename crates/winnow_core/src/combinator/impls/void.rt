@@ -78,6 +78,8 @@ impl<F: Parser<I, O, E>, I: Stream, O: Drop, E: ParserError<I>> Parser<I, (), E>
 impl<F: Stable<I, O, E>, I: Stream, O: Drop, E: ParserError<I>> Stable<I, (), E>
     for Void<F, I, O, E> {
     ghost stable = { stays (void_grows (grows (F.leaves_ends modal) F.stable)) };
+
+    fn stay() {}
 }
 
 impl<
@@ -93,4 +95,6 @@ impl<
 
     ghost agrees = { agrees1 (λ p. p.parser) (λ q. q.parser) (λ X m form. VoidRuns (m form))
         P.agrees };
+
+    fn agree() {}
 }

@@ -86,6 +86,8 @@ impl<F: Stable<I, O, E>, I: Location, O, E: ParserError<I>> Stable<I, (O, Range<
     ghost stable = { stays
         (makes_output_grows (λ i o j both. (both.0 ≡ o) × (both.1 ≡ places i j))
         (λ more flag i o j both is. is) (grows (F.leaves_ends modal) F.stable)) };
+
+    fn stay() {}
 }
 
 impl<
@@ -101,4 +103,6 @@ impl<
 
     ghost agrees = { agrees1 (λ p. p.parser) (λ q. q.parser)
         (λ X m form. WithSpanRuns (m form)) P.agrees };
+
+    fn agree() {}
 }

@@ -87,6 +87,8 @@ impl<F: Stable<I, O, E>, I: Stream, O, E: ParserError<I>> Stable<I, (O, I::Slice
     ghost stable = { stays
         (makes_output_grows _ (made_with_taken I.reading)
         (grows (F.leaves_ends modal) F.stable)) };
+
+    fn stay() {}
 }
 
 impl<
@@ -101,4 +103,6 @@ impl<
     ghost like = { λ p q. P.like p.parser q.parser };
 
     ghost agrees = { with_taken_agrees (λ p. p.parser) (λ q. q.parser) I.same_reading P.agrees };
+
+    fn agree() {}
 }

@@ -14,10 +14,14 @@ use streams::stream::Stream;
 
 impl<I: Stream, E: ParserError<I>> Stable<I, (), E> for () {
     ghost stable = { stays sequence0_grows };
+
+    fn stay() {}
 }
 
 impl<I: Stream, O1, E: ParserError<I>, P1: Stable<I, O1, E>> Stable<I, (O1,), E> for (P1,) {
     ghost stable = { stays (sequence1_grows (grows (P1.leaves_ends modal) P1.stable)) };
+
+    fn stay() {}
 }
 
 impl<I: Stream, O1: Drop, O2, E: ParserError<I>, P1: Stable<I, O1, E>, P2: Stable<I, O2, E>> Stable<
@@ -28,6 +32,8 @@ impl<I: Stream, O1: Drop, O2, E: ParserError<I>, P1: Stable<I, O1, E>, P2: Stabl
     ghost stable = { stays
         (sequence2_grows (grows (P1.leaves_ends modal) P1.stable)
         (grows (P2.leaves_ends modal) P2.stable)) };
+
+    fn stay() {}
 }
 
 impl<
@@ -44,6 +50,8 @@ impl<
         (sequence3_grows (grows (P1.leaves_ends modal) P1.stable)
         (grows (P2.leaves_ends modal) P2.stable)
         (grows (P3.leaves_ends modal) P3.stable)) };
+
+    fn stay() {}
 }
 
 impl<
@@ -62,6 +70,8 @@ impl<
         (sequence4_grows (grows (P1.leaves_ends modal) P1.stable)
         (grows (P2.leaves_ends modal) P2.stable) (grows (P3.leaves_ends modal) P3.stable)
         (grows (P4.leaves_ends modal) P4.stable)) };
+
+    fn stay() {}
 }
 
 impl<
@@ -83,6 +93,8 @@ impl<
         (grows (P2.leaves_ends modal) P2.stable) (grows (P3.leaves_ends modal) P3.stable)
         (grows (P4.leaves_ends modal) P4.stable)
         (grows (P5.leaves_ends modal) P5.stable)) };
+
+    fn stay() {}
 }
 
 impl<
@@ -106,4 +118,6 @@ impl<
         (grows (P2.leaves_ends modal) P2.stable) (grows (P3.leaves_ends modal) P3.stable)
         (grows (P4.leaves_ends modal) P4.stable) (grows (P5.leaves_ends modal) P5.stable)
         (grows (P6.leaves_ends modal) P6.stable)) };
+
+    fn stay() {}
 }

@@ -123,6 +123,8 @@ impl<
         (grows (X.leaves_ends modal) X.stable)
         (turns_kept ⟦<C as Accumulate<O, A>>⟧.accumulator ⟦<C as Accumulate<P, A>>⟧.accumulator)
         (assert_kind modal)) };
+
+    fn stay() {}
 }
 
 impl<
@@ -152,4 +154,6 @@ impl<
         (escape form)
         (turns_kept ⟦<C as Accumulate<O, A>>⟧.accumulator ⟦<C as Accumulate<P, A>>⟧.accumulator)
         (assert_kind form) (incomplete_kind form None)) N.agrees K.agrees X.agrees };
+
+    fn agree() {}
 }

@@ -118,6 +118,8 @@ impl<
         (grows (N.leaves_ends modal) N.stable)
         (grows_on_some (K.leaves_ends plain) K.settled)
         (grows (X.leaves_ends modal) X.stable) no_turns_kept (assert_kind modal))) };
+
+    fn stay() {}
 }
 
 impl<
@@ -146,4 +148,6 @@ impl<
         (λ S W V normal control escape form. EscapedRuns (normal form) (control plain)
         (escape form) no_turns_kept (assert_kind form) (incomplete_kind form None))
         N.agrees K.agrees X.agrees) };
+
+    fn agree() {}
 }

@@ -275,4 +275,6 @@ impl<
         (λ p. p.next.«infix») (λ q. q.next.«infix») (λ p. p.level) (λ q. q.level)
         I.same_reading.units F.same_folds G.same_folds H.same_folds P.agrees Pre.agrees
         Post.agrees Pix.agrees };
+
+    fn agree() {}
 }

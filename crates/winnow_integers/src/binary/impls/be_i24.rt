@@ -63,6 +63,8 @@ impl<I: StreamIsPartial + ByteStream, E: ParserError<I>> Parser<I, i32, E> for B
 
 impl<I: StreamIsPartial + ByteStream, E: ParserError<I>> Stable<I, i32, E> for BeI24 {
     ghost stable = { leaf_stays I.following _ (λ _. integer_stays 3 (signed_value Big) I.reading) };
+
+    fn stay() {}
 }
 
 impl<
@@ -74,4 +76,6 @@ impl<
     ghost like = { λ p q. ⊤ };
 
     ghost agrees = { agrees_plain (integer_alike 3 (λ _. signed_value Big) I.same_reading) };
+
+    fn agree() {}
 }

@@ -64,6 +64,8 @@ impl<I: StreamIsPartial + ByteStream, E: ParserError<I>> Parser<I, u128, E> for 
 impl<I: StreamIsPartial + ByteStream, E: ParserError<I>> Stable<I, u128, E> for BeU128 {
     ghost stable = { leaf_stays I.following _
         (λ _. integer_stays 16 (unsigned_value Big) I.reading) };
+
+    fn stay() {}
 }
 
 impl<
@@ -75,4 +77,6 @@ impl<
     ghost like = { λ p q. ⊤ };
 
     ghost agrees = { agrees_plain (integer_alike 16 (λ _. unsigned_value Big) I.same_reading) };
+
+    fn agree() {}
 }

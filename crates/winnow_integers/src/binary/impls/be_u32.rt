@@ -64,6 +64,8 @@ impl<I: StreamIsPartial + ByteStream, E: ParserError<I>> Parser<I, u32, E> for B
 impl<I: StreamIsPartial + ByteStream, E: ParserError<I>> Stable<I, u32, E> for BeU32 {
     ghost stable = { leaf_stays I.following _
         (λ _. integer_stays 4 (unsigned_value Big) I.reading) };
+
+    fn stay() {}
 }
 
 impl<
@@ -75,4 +77,6 @@ impl<
     ghost like = { λ p q. ⊤ };
 
     ghost agrees = { agrees_plain (integer_alike 4 (λ _. unsigned_value Big) I.same_reading) };
+
+    fn agree() {}
 }

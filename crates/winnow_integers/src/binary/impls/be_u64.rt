@@ -64,6 +64,8 @@ impl<I: StreamIsPartial + ByteStream, E: ParserError<I>> Parser<I, u64, E> for B
 impl<I: StreamIsPartial + ByteStream, E: ParserError<I>> Stable<I, u64, E> for BeU64 {
     ghost stable = { leaf_stays I.following _
         (λ _. integer_stays 8 (unsigned_value Big) I.reading) };
+
+    fn stay() {}
 }
 
 impl<
@@ -75,4 +77,6 @@ impl<
     ghost like = { λ p q. ⊤ };
 
     ghost agrees = { agrees_plain (integer_alike 8 (λ _. unsigned_value Big) I.same_reading) };
+
+    fn agree() {}
 }

@@ -63,6 +63,8 @@ impl<I: StreamIsPartial + ByteStream, E: ParserError<I>> Parser<I, i8, E> for I8
 
 impl<I: StreamIsPartial + ByteStream, E: ParserError<I>> Stable<I, i8, E> for I8 {
     ghost stable = { leaf_stays I.following _ (λ _. integer_stays 1 (signed_value Big) I.reading) };
+
+    fn stay() {}
 }
 
 impl<
@@ -74,4 +76,6 @@ impl<
     ghost like = { λ p q. ⊤ };
 
     ghost agrees = { agrees_plain (integer_alike 1 (λ _. signed_value Big) I.same_reading) };
+
+    fn agree() {}
 }

@@ -64,6 +64,8 @@ impl<I: StreamIsPartial + ByteStream, E: ParserError<I>> Parser<I, i128, E> for 
 impl<I: StreamIsPartial + ByteStream, E: ParserError<I>> Stable<I, i128, E> for LeI128 {
     ghost stable = { leaf_stays I.following _
         (λ _. integer_stays 16 (signed_value Little) I.reading) };
+
+    fn stay() {}
 }
 
 impl<
@@ -75,4 +77,6 @@ impl<
     ghost like = { λ p q. ⊤ };
 
     ghost agrees = { agrees_plain (integer_alike 16 (λ _. signed_value Little) I.same_reading) };
+
+    fn agree() {}
 }

@@ -64,6 +64,8 @@ impl<I: StreamIsPartial + ByteStream, E: ParserError<I>> Parser<I, i16, E> for L
 impl<I: StreamIsPartial + ByteStream, E: ParserError<I>> Stable<I, i16, E> for LeI16 {
     ghost stable = { leaf_stays I.following _
         (λ _. integer_stays 2 (signed_value Little) I.reading) };
+
+    fn stay() {}
 }
 
 impl<
@@ -75,4 +77,6 @@ impl<
     ghost like = { λ p q. ⊤ };
 
     ghost agrees = { agrees_plain (integer_alike 2 (λ _. signed_value Little) I.same_reading) };
+
+    fn agree() {}
 }

@@ -64,6 +64,8 @@ impl<I: StreamIsPartial + ByteStream, E: ParserError<I>> Parser<I, i64, E> for L
 impl<I: StreamIsPartial + ByteStream, E: ParserError<I>> Stable<I, i64, E> for LeI64 {
     ghost stable = { leaf_stays I.following _
         (λ _. integer_stays 8 (signed_value Little) I.reading) };
+
+    fn stay() {}
 }
 
 impl<
@@ -75,4 +77,6 @@ impl<
     ghost like = { λ p q. ⊤ };
 
     ghost agrees = { agrees_plain (integer_alike 8 (λ _. signed_value Little) I.same_reading) };
+
+    fn agree() {}
 }

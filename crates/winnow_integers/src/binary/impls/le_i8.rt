@@ -64,6 +64,8 @@ impl<I: StreamIsPartial + ByteStream, E: ParserError<I>> Parser<I, i8, E> for Le
 impl<I: StreamIsPartial + ByteStream, E: ParserError<I>> Stable<I, i8, E> for LeI8 {
     ghost stable = { leaf_stays I.following _
         (λ _. integer_stays 1 (signed_value Little) I.reading) };
+
+    fn stay() {}
 }
 
 impl<
@@ -75,4 +77,6 @@ impl<
     ghost like = { λ p q. ⊤ };
 
     ghost agrees = { agrees_plain (integer_alike 1 (λ _. signed_value Little) I.same_reading) };
+
+    fn agree() {}
 }

@@ -64,6 +64,8 @@ impl<I: StreamIsPartial + ByteStream, E: ParserError<I>> Parser<I, u8, E> for U8
 impl<I: StreamIsPartial + ByteStream, E: ParserError<I>> Stable<I, u8, E> for U8 {
     ghost stable = { leaf_stays I.following _
         (λ _. integer_stays 1 (unsigned_value Big) I.reading) };
+
+    fn stay() {}
 }
 
 impl<
@@ -75,4 +77,6 @@ impl<
     ghost like = { λ p q. ⊤ };
 
     ghost agrees = { agrees_plain (integer_alike 1 (λ _. unsigned_value Big) I.same_reading) };
+
+    fn agree() {}
 }

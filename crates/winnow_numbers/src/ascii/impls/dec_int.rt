@@ -71,6 +71,8 @@ where
 {
     ghost stable = { leaf_stays I.following _
         (λ _. dec_int_stays I.seen_as I.Token.code I.reading O.number O.fits) };
+
+    fn stay() {}
 }
 
 impl<
@@ -88,4 +90,6 @@ where
 
     ghost agrees = { agrees_plain
         (dec_int_alike O.number O.fits I.Token.code I.same_reading I.same_tokens) };
+
+    fn agree() {}
 }

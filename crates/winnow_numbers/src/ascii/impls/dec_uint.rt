@@ -72,6 +72,8 @@ where
 {
     ghost stable = { leaf_stays I.following _
         (λ _. dec_uint_stays I.seen_as I.Token.code I.reading O.number O.bound) };
+
+    fn stay() {}
 }
 
 impl<
@@ -89,4 +91,6 @@ where
 
     ghost agrees = { agrees_plain
         (dec_uint_alike O.number O.bound I.Token.code I.same_reading I.same_tokens) };
+
+    fn agree() {}
 }

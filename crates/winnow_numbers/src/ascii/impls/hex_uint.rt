@@ -232,6 +232,8 @@ where
 {
     ghost stable = { leaf_stays I.following _
         (λ _. hex_uint_stays I.seen_as I.Token.code I.reading O.number O.nibbles) };
+
+    fn stay() {}
 }
 
 impl<
@@ -249,4 +251,6 @@ where
 
     ghost agrees = { agrees_plain
         (hex_uint_alike O.number O.nibbles I.Token.code I.same_reading I.same_tokens) };
+
+    fn agree() {}
 }

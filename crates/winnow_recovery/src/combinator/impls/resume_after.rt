@@ -121,6 +121,8 @@ impl<
         (λ p. recovery_of I.supports_recovery E.recoverable_grows)
         (λ q. recovery_of J.supports_recovery F.recoverable_grows)
         (λ X Y m n form. ResumeAfterRuns (m form) (n form)) P.agrees R.agrees };
+
+    fn agree() {}
 }
 
 /// Runs a parser, and the one that recovers where that fails.

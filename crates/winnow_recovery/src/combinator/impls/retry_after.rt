@@ -116,6 +116,8 @@ impl<
         (λ p. recovery_of I.supports_recovery E.recoverable_grows)
         (λ q. recovery_of J.supports_recovery F.recoverable_grows)
         (λ X Y m n form. RetryAfterRuns (m form) (n form)) P.agrees R.agrees };
+
+    fn agree() {}
 }
 
 /// Tries a parser until it succeeds, or does not recover.

@@ -53,6 +53,8 @@ impl<'b, P: Parser<I, O, E>, I: Stream, O: Drop, E: ParserError<I>> Parser<I, ()
 impl<'b, P: Stable<I, O, E>, I: Stream, O: Drop, E: ParserError<I>> Stable<I, (), E>
     for Fill<'b, P, I, O, E> {
     ghost stable = { stays (fill_grows (P.meaning modal) (grows (P.leaves_ends modal) P.stable)) };
+
+    fn stay() {}
 }
 
 impl<
@@ -70,6 +72,8 @@ impl<
 
     ghost agrees = { agrees_with (λ p. p.parser) (λ q. q.parser) fill_buffer fill_buffer
         (λ X m form. FillRuns (m form)) P.agrees };
+
+    fn agree() {}
 }
 
 /// Overwrites each element of a buffer by the output of a run.

@@ -180,6 +180,8 @@ impl<
         (λ p. (p.occurrences, (p.init, p.op.closure)))
         (λ q. (q.occurrences, (q.init, q.op.closure)))
         (λ X m form. RangedFolds G.step H.step (m form) (assert_kind form)) P.agrees };
+
+    fn agree() {}
 }
 
 /// Folds one item or more: the value to begin with is made behind the first.

@@ -188,6 +188,8 @@ impl<
     ghost stable = { stays
         (repeat_grows (P.meaning modal) C.accumulator (assert_kind modal)
         (grows (P.leaves_ends modal) P.stable)) };
+
+    fn stay() {}
 }
 
 impl<
@@ -206,6 +208,8 @@ impl<
     ghost agrees = { agrees_with (λ p. p.parser) (λ q. q.parser) (λ p. p.occurrences)
         (λ q. q.occurrences)
         (λ X m form. RangedRuns (m form) C.accumulator (assert_kind form)) P.agrees };
+
+    fn agree() {}
 }
 
 /// Repeats once or more: the accumulator is made behind the first item.

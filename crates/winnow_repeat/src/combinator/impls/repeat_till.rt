@@ -106,6 +106,8 @@ impl<
         (repeat_till_grows (P.meaning modal) (G.meaning modal) C.accumulator
         (assert_kind modal) (grows (P.leaves_ends modal) P.stable)
         (grows (G.leaves_ends modal) G.stable)) };
+
+    fn stay() {}
 }
 
 impl<
@@ -130,6 +132,8 @@ impl<
         (λ q. q.terminator) (λ p. p.occurrences) (λ q. q.occurrences)
         (λ X Y m n form. RangedTillRuns (m form) (n form) C.accumulator (assert_kind form))
         P.agrees G.agrees };
+
+    fn agree() {}
 }
 
 /// Reads so many items into an accumulator, and lets them consume nothing.

@@ -182,4 +182,6 @@ impl<
         (λ p. (p.occurrences, (p.init, (p.op.closure, E.external_gives))))
         (λ q. (q.occurrences, (q.init, (q.op.closure, F.external_gives))))
         (λ X m form. TryFoldRuns G.step H.step (m form) (assert_kind form)) P.agrees };
+
+    fn agree() {}
 }

@@ -166,4 +166,6 @@ impl<
         (λ p. (p.occurrences, (p.init, p.op.closure)))
         (λ q. (q.occurrences, (q.init, q.op.closure)))
         (λ X m form. VerifyFoldRuns G.step H.step (m form) (assert_kind form)) P.agrees };
+
+    fn agree() {}
 }

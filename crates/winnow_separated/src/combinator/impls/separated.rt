@@ -99,6 +99,8 @@ impl<
     ghost stable = { stays
         (separated_grows (P.meaning modal) (S.meaning modal) C.accumulator (assert_kind modal)
         (grows (P.leaves_ends modal) P.stable) (grows (S.leaves_ends modal) S.stable)) };
+
+    fn stay() {}
 }
 
 impl<
@@ -124,6 +126,8 @@ impl<
         (λ q. q.occurrences)
         (λ X Y m n form. RangedElements (m form) (n form) C.accumulator (assert_kind form))
         P.agrees S.agrees };
+
+    fn agree() {}
 }
 
 /// Reads elements into an accumulator, at least `least` and at most `greatest` if there is a bound.

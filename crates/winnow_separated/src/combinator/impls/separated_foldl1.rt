@@ -117,6 +117,8 @@ impl<
         (λ q. q.op)
         (λ X Y m n form. SeparatedFoldl1Runs H.step (m form) (n form) (assert_kind form))
         P.agrees S.agrees };
+
+    fn agree() {}
 }
 
 /// Joins links to a first element, each as it is read, until one backtracks.

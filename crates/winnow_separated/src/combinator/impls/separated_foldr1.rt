@@ -128,6 +128,8 @@ impl<
         (λ q. q.pair.0) (λ p. p.op) (λ q. q.op)
         (λ X Y m n form. SeparatedFoldr1Runs A H.step (m form) (n form)
         (assert_kind form)) P.agrees S.agrees };
+
+    fn agree() {}
 }
 
 /// Joins a first element and links behind it, from the last one on.

@@ -59,6 +59,8 @@ impl<I: StreamIsPartial, E: ParserError<I>> Parser<I, I::Token, E> for Any {
 
 impl<I: StreamIsPartial, E: ParserError<I>> Stable<I, I::Token, E> for Any {
     ghost stable = { leaf_stays I.following _ (λ _. any_stays I.seen_as I.reading) };
+
+    fn stay() {}
 }
 
 impl<
@@ -70,4 +72,6 @@ impl<
     ghost like = { λ p q. ⊤ };
 
     ghost agrees = { agrees_plain (any_alike I.same_reading I.same_tokens) };
+
+    fn agree() {}
 }

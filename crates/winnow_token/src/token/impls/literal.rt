@@ -71,6 +71,8 @@ impl<T: Copy, I: StreamIsPartial + Compare<T>, E: ParserError<I>> Stable<I, I::S
     for Literal<T, I, E> {
     ghost stable = { leaf_stays I.following _
         (λ x. literal_stays I.reading (I.spells x) (λ slice. slice)) };
+
+    fn stay() {}
 }
 
 impl<
@@ -84,4 +86,6 @@ impl<
 
     ghost agrees = { agrees_by (λ p. p.literal) (λ q. q.literal)
         (literal_alike (λ _ slice. slice) I.same_reading I.same_spells) };
+
+    fn agree() {}
 }

@@ -82,6 +82,8 @@ where
 {
     ghost stable = { leaf_stays I.following _
         (λ x. one_of_stays I.seen_as I.reading (λ k b. S.tells x k (not b))) };
+
+    fn stay() {}
 }
 
 impl<
@@ -98,4 +100,6 @@ where
 
     ghost agrees = { agrees_by (λ p. p.set) (λ q. q.set)
         (one_of_alike (λ x k b. S.tells x k (not b)) I.same_reading I.same_tokens) };
+
+    fn agree() {}
 }

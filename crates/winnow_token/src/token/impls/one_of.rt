@@ -79,6 +79,8 @@ where
     I::Token: Copy,
 {
     ghost stable = { leaf_stays I.following _ (λ x. one_of_stays I.seen_as I.reading (S.tells x)) };
+
+    fn stay() {}
 }
 
 impl<
@@ -95,4 +97,6 @@ where
 
     ghost agrees = { agrees_by (λ p. p.set) (λ q. q.set)
         (one_of_alike S.tells I.same_reading I.same_tokens) };
+
+    fn agree() {}
 }

@@ -62,4 +62,6 @@ impl<
     ghost like = { λ p q. ⊤ };
 
     ghost agrees = { agrees_plain (rest_alike I.same_reading) };
+
+    fn agree() {}
 }

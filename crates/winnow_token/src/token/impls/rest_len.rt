@@ -63,4 +63,6 @@ impl<
     ghost like = { λ p q. ⊤ };
 
     ghost agrees = { agrees_plain (rest_len_alike I.same_reading) };
+
+    fn agree() {}
 }

@@ -68,6 +68,8 @@ impl<I: StreamIsPartial, E: ParserError<I>> Parser<I, I::Slice, E> for Take<I, E
 
 impl<I: StreamIsPartial, E: ParserError<I>> Stable<I, I::Slice, E> for Take<I, E> {
     ghost stable = { leaf_stays I.following _ (take_stays I.reading I.counts_missing) };
+
+    fn stay() {}
 }
 
 impl<
@@ -80,4 +82,6 @@ impl<
 
     ghost agrees = { agrees_by (λ p. p.count) (λ q. q.count)
         (take_alike I.same_reading I.same_missing) };
+
+    fn agree() {}
 }

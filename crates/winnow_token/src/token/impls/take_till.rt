@@ -83,6 +83,8 @@ impl<S: ContainsToken<I::Token>, I: StreamIsPartial, E: ParserError<I>> Stable<I
     ghost stable = { leaf_stays I.following _
         (λ x. take_while_stays I.reading
         (AnswersSeen I.seen_as (λ k b. S.tells x.1 k (not b))) (bounds_of x.0)) };
+
+    fn stay() {}
 }
 
 impl<
@@ -97,4 +99,6 @@ impl<
     ghost agrees = { agrees_by_parts (λ p. p.occurrences) (λ p. p.set) (λ q. q.occurrences)
         (λ q. q.set) (take_while_alike (λ x k b. S.tells x k (not b)) I.same_reading
         I.same_tokens) };
+
+    fn agree() {}
 }

@@ -77,6 +77,8 @@ impl<T: Copy, I: StreamIsPartial + FindSlice<T>, E: ParserError<I>> Stable<I, I:
     ghost stable = { leaf_stays I.following _
         (λ x. take_until_stays I.reading (I.sought x.1) (I.stays_first x.1)
         (bounds_of x.0)) };
+
+    fn stay() {}
 }
 
 impl<
@@ -90,4 +92,6 @@ impl<
 
     ghost agrees = { agrees_by_parts (λ p. p.occurrences) (λ p. p.literal) (λ q. q.occurrences)
         (λ q. q.literal) (take_until_alike I.same_reading I.same_sought) };
+
+    fn agree() {}
 }

@@ -22,6 +22,8 @@ impl<
     ghost like = { λ p q. P1.like p.alternatives.0 q.alternatives.0 };
 
     ghost agrees = { agrees1 (λ p. p.alternatives.0) (λ q. q.alternatives.0) (λ X m. m) P1.agrees };
+
+    fn agree() {}
 }
 
 impl<
@@ -40,6 +42,8 @@ impl<
 
     ghost agrees = { or_else_agrees (λ p. p.alternatives.0) (λ q. q.alternatives.0)
         (λ p. p.alternatives.1) (λ q. q.alternatives.1) P1.agrees P2.agrees };
+
+    fn agree() {}
 }
 
 impl<
@@ -63,6 +67,8 @@ impl<
         (λ q. q) P1.agrees
         (or_else_agrees (λ p. p.alternatives.1) (λ q. q.alternatives.1)
         (λ p. p.alternatives.2) (λ q. q.alternatives.2) P2.agrees P3.agrees) };
+
+    fn agree() {}
 }
 
 impl<
@@ -91,6 +97,8 @@ impl<
         (or_else_agrees (λ p. p.alternatives.1) (λ q. q.alternatives.1) (λ p. p) (λ q. q)
         P2.agrees (or_else_agrees (λ p. p.alternatives.2) (λ q. q.alternatives.2)
         (λ p. p.alternatives.3) (λ q. q.alternatives.3) P3.agrees P4.agrees)) };
+
+    fn agree() {}
 }
 
 impl<
@@ -124,6 +132,8 @@ impl<
         (λ q. q) P3.agrees
         (or_else_agrees (λ p. p.alternatives.3) (λ q. q.alternatives.3)
         (λ p. p.alternatives.4) (λ q. q.alternatives.4) P4.agrees P5.agrees))) };
+
+    fn agree() {}
 }
 
 impl<
@@ -161,4 +171,6 @@ impl<
         (or_else_agrees (λ p. p.alternatives.3) (λ q. q.alternatives.3) (λ p. p) (λ q. q)
         P4.agrees (or_else_agrees (λ p. p.alternatives.4) (λ q. q.alternatives.4)
         (λ p. p.alternatives.5) (λ q. q.alternatives.5) P5.agrees P6.agrees)))) };
+
+    fn agree() {}
 }

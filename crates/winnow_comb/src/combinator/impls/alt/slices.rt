@@ -74,6 +74,8 @@ impl<'a, P: Stable<I, O, E>, I: Stream, O, E: ParserError<I>> Stable<I, O, E>
     ghost stable = { stays
         (by_ref_grows (alt_slice_grows (P.meaning modal) (assert_kind modal)
         (grows (P.leaves_ends modal) P.stable))) };
+
+    fn stay() {}
 }
 
 impl<
@@ -151,6 +153,8 @@ impl<
     ghost agrees = { slice_agrees (λ p. p.alternatives.now) (λ q. q.alternatives.now)
         (λ p. p.alternatives.ghost_name) (λ q. q.alternatives.ghost_name) assert_kind
         P.agrees };
+
+    fn agree() {}
 }
 
 /// Runs the branches of a slice in order, each from the start.

@@ -37,6 +37,8 @@ impl<I: Stream, O, E: ParserError<I>, P1: Parser<I, O, E>> Alt<I, O, E> for (P1,
 impl<I: Stream, O, E: ParserError<I>, P1: Stable<I, O, E>> Stable<I, O, E>
     for AltParser<(P1,), I, O, E> {
     ghost stable = { stays (grows (P1.leaves_ends modal) P1.stable) };
+
+    fn stay() {}
 }
 
 impl<I: Stream, O, E: ParserError<I>, P1: Parser<I, O, E>, P2: Parser<I, O, E>> Alt<I, O, E>
@@ -71,6 +73,8 @@ impl<I: Stream, O, E: ParserError<I>, P1: Stable<I, O, E>, P2: Stable<I, O, E>> 
     ghost stable = { stays
         (or_else_grows (grows (P1.leaves_ends modal) P1.stable)
         (grows (P2.leaves_ends modal) P2.stable)) };
+
+    fn stay() {}
 }
 
 impl<
@@ -124,6 +128,8 @@ impl<
         (or_else_grows (grows (P1.leaves_ends modal) P1.stable)
         (or_else_grows (grows (P2.leaves_ends modal) P2.stable)
         (grows (P3.leaves_ends modal) P3.stable))) };
+
+    fn stay() {}
 }
 
 impl<
@@ -187,6 +193,8 @@ impl<
         (or_else_grows (grows (P2.leaves_ends modal) P2.stable)
         (or_else_grows (grows (P3.leaves_ends modal) P3.stable)
         (grows (P4.leaves_ends modal) P4.stable)))) };
+
+    fn stay() {}
 }
 
 impl<
@@ -262,6 +270,8 @@ impl<
         (or_else_grows (grows (P3.leaves_ends modal) P3.stable)
         (or_else_grows (grows (P4.leaves_ends modal) P4.stable)
         (grows (P5.leaves_ends modal) P5.stable))))) };
+
+    fn stay() {}
 }
 
 impl<
@@ -354,4 +364,6 @@ impl<
         (or_else_grows (grows (P4.leaves_ends modal) P4.stable)
         (or_else_grows (grows (P5.leaves_ends modal) P5.stable)
         (grows (P6.leaves_ends modal) P6.stable)))))) };
+
+    fn stay() {}
 }
