@@ -10,6 +10,10 @@ pub mod impls;
 mod turns;
 
 use crate::ascii::impls::{Escaped, TakeEscaped};
+use stream_errors::control::ControlError;
+use stream_errors::parser_error::ParserError;
+use streams::stream::StreamIsPartial;
+use winnow_core::parser::Parser;
 
 /// Takes text with escapes as it stands: turns of `normal`, or of `control` and then `escapable`,
 /// while anything is left. It answers the slice of all of them.
@@ -35,6 +39,15 @@ pub fn take_escaped<N, K, X, I, O, D, P, E>(
     control: K,
     escapable: X,
 ) -> TakeEscaped<N, K, X, I, O, D, P, E>
+where
+    I: StreamIsPartial,
+    O: Drop,
+    D: Drop,
+    P: Drop,
+    E: ParserError<I>,
+    N: Parser<I, O, E>,
+    K: Parser<I, D, ControlError>,
+    X: Parser<I, P, E>,
     ensures normal { take_escaped_normal result ≡ normal }
     ensures control { take_escaped_control result ≡ control }
     ensures escapable { take_escaped_escapable result ≡ escapable }
