@@ -5,7 +5,8 @@ proved and call little, and then puts edits of different functions into one chec
 what the first one proved. An edit is refused where the prover does not prove a goal of a function
 that it changes. That a function waits for another one, or that its proof names what the edit took
 away, says nothing. What a group does not settle is tried alone, and so is an edit outside the
-bodies of functions, over a check of the whole crate.
+bodies of functions, as of an impl's head: first with the functions of its module, and where none of
+these is refused over a check of the whole crate.
 """
 import os
 import re
@@ -29,12 +30,17 @@ CYCLE = re.compile(r"\./proofs/(\S*/)?\+[^/\s]*/")
 ERROR = re.compile(r"(\./)?(src|specs|proofs)/\S+: error|note: src/\S+: it is not proved")
 
 
+def modules_of(path):
+    """The names of the modules above what a file of code has, and its own."""
+    parts = os.path.splitext(path)[0].split("/")[1:]
+    return parts[:-1] if parts[-1] in ("lib", "main") else parts
+
+
 class Function:
     """A function as the source has it: its module, its name, and the words of its impl's head."""
 
     def __init__(self, path, lines, at):
-        parts = os.path.splitext(path)[0].split("/")[1:]
-        self.modules = parts[:-1] if parts[-1] in ("lib", "main") else parts
+        self.modules = modules_of(path)
         indent, self.name = FUNCTION.match(lines[at]).groups()
         self.head = head_above(lines, at) if indent else []
 
@@ -88,8 +94,9 @@ class Edit:
             elif line.startswith("new:") and path and old:
                 self.pairs.append((path, old, line[len("new:") :].removeprefix(" ")))
                 old = None
-        # What it changes: functions, None for what is none, and their names for the prover.
-        self.functions, self.names = [], []
+        # What it changes: functions, None for what is none, and their names for the prover; and its
+        # modules, with an empty name for the root and for what is no code.
+        self.functions, self.names, self.modules = [], [], set()
 
     def applied(self, texts, folder):
         """The texts with this edit, by their paths, or None where a line does not stand once."""
@@ -112,6 +119,7 @@ class Edit:
             is_there = path.startswith("src/") and old in whole
             line = whole[: whole.find(old)].count("\n")
             self.functions.append(function_at(path, whole, line) if is_there else None)
+            self.modules.add("::".join(modules_of(path)) if is_there else "")
         return bool(texts) and bool(self.pairs)
 
     def take_names(self, names):
@@ -284,32 +292,55 @@ class Trial:
         return bool(told)
 
     def alone(self, edit):
-        """Tries one edit: its functions, or the whole crate where it changes no function."""
+        """Tries one edit: its functions, or where it changes none those of its module, and the
+        whole crate where these do not settle it."""
         texts = edit.applied({}, self.folder)
+        if not edit.names and "" not in edit.modules and self.by_modules(edit, texts):
+            return
         if not edit.names and not self.is_whole:
             self.is_whole = not self.checked({}, [], self.seed)[0]
             if not self.is_whole:
                 self.miss(edit, "the crate is not proved as it stands")
                 return
         status, said = self.over_seed(texts, edit.names)
-        errors = [it for it in said if ERROR.match(it)]
-        bad = [it for it in errors if not it.startswith("./proofs/") and BAD_CLAUSE.search(it)]
-        if status == 0:
-            self.miss(edit, "it is still proved")
-        elif bad or BAD_TEXT.search("\n".join(said)):
-            self.miss(edit, f"it cannot be read: {(bad or said)[0]}")
-        elif not said[-1].startswith(("only=", "logic=not-proved")):
-            self.miss(edit, f"its check came to no end: {said[-1]}")
-        elif not self.is_refused(edit, said):
-            # No other body differs, so a goal that `search` left open is one of this edit's, and
-            # one of a cycle of calls is of the function that calls this one, or of itself.
-            told = [it for it in errors if not NAMES.search(it)]
-            if edit.names:
-                told = [it for it in told if it.startswith("note: ") or CYCLE.match(it)]
-            if told:
-                self.say(edit, f"refused: {told[0][:100]}")
-            else:
-                self.miss(edit, "no goal fails but by a name that it took away")
+        why = unread(status, said)
+        if why:
+            self.miss(edit, why)
+        elif not self.is_refused(edit, said) and not self.told_alone(edit, said, bool(edit.names)):
+            self.miss(edit, "no goal fails but by a name that it took away")
+
+    def by_modules(self, edit, texts):
+        """Tries an edit that changes no function with the functions of its modules alone, which are
+        proved as they stand, and says whether it is refused so."""
+        names = sorted(edit.modules)
+        if self.calls is None and self.checked({}, names, self.seed)[0]:
+            return False
+        status, said = self.over_seed(texts, names)
+        return not unread(status, said) and self.told_alone(edit, said, False)
+
+    def told_alone(self, edit, said, is_named):
+        """Whether a goal fails in the check of one edit: no other body differs, so a goal that
+        `search` left open is one of this edit's, and one of a cycle of calls is of the function
+        that calls this one, or of itself."""
+        told = [it for it in said if ERROR.match(it) and not NAMES.search(it)]
+        if is_named:
+            told = [it for it in told if it.startswith("note: ") or CYCLE.match(it)]
+        if told:
+            self.say(edit, f"refused: {told[0][:100]}")
+        return bool(told)
+
+
+def unread(status, said):
+    """Why the check of one edit says nothing of its goals, or None."""
+    errors = [it for it in said if ERROR.match(it)]
+    bad = [it for it in errors if not it.startswith("./proofs/") and BAD_CLAUSE.search(it)]
+    if status == 0:
+        return "it is still proved"
+    if bad or BAD_TEXT.search("\n".join(said)):
+        return f"it cannot be read: {(bad or said)[0]}"
+    if not said[-1].startswith(("only=", "logic=not-proved")):
+        return f"its check came to no end: {said[-1]}"
+    return None
 
 
 def link_all(of, to):
