@@ -130,6 +130,9 @@ def wrapped(text, is_antt):
             lines += [line] if is_table else wrapped_comment(line, mark)
         elif stripped.startswith(("ghost ", "ensures ", "requires ", "pub ghost ", "invariant ")):
             lines += broken(line, indent, 1)
+        elif re.fullmatch(r"\w+ = .*;", stripped) and indent == 8:
+            # a field of a ghost record
+            lines += broken(line, indent)
         else:
             lines.append(line)
     return "\n".join(lines)

@@ -1,5 +1,4 @@
 //! Sets of bytes as a table of bits.
 #![tactic(auto)]
 
-
 pub mod byte_set;

@@ -7,8 +7,8 @@ ghost use Rattle.winnow.specs.Exact.{Reads};
 ghost use Rattle.winnow.specs.Grammar.{Counted, Gathered, Many};
 ghost use Rattle.winnow.specs.Grammar.Lengths.{SaysOne, Sized};
 
-use winnow::Parser;
 use std::alloc::Allocator;
+use winnow::Parser;
 use winnow::binary::length_take;
 use winnow::combinator::repeat;
 use winnow::error::{EmptyError, ErrMode, HasKind, ParserError};
@@ -23,11 +23,13 @@ where
     N: ToUsize + Drop,
     P: Parser<I, N, E> + Drop,
     A: Allocator + Copy,
-    requires count { P.can_parse count × (P.claim (P.state count)).premise × (P.claim (P.state count)).backtracks × (P.claim (P.state count)).consumes }
+    requires count { P.can_parse count × (P.claim (P.state count)).premise
+        × (P.claim (P.state count)).backtracks × (P.claim (P.state count)).consumes }
     requires says { SaysOne N.number (P.claim (P.state count)).grammar }
-    ensures { Reads I.reading E.kind (Gathered (λ list parts. list.items ≡ parts)
-        (Many (Sized N.number (Counted I.reading) (P.claim (P.state count)).grammar) (from_to 0 None)))
-        (I.view input.old) result (I.view input.new) }
+    ensures { Reads I.reading E.kind
+        (Gathered (λ list parts. list.items ≡ parts)
+        (Many (Sized N.number (Counted I.reading) (P.claim (P.state count)).grammar)
+        (from_to 0 None))) (I.view input.old) result (I.view input.new) }
 {
     repeat(alloc, Range::from(0..), length_take(count)).read(input)
 }

@@ -31,10 +31,11 @@ where
     P: Stable<I, O, E> + Drop,
     requires modal { E.form ≡ modal }
     requires seen { SeesApart I.seen_as }
-    requires behind { P.can_parse behind × (P.claim (P.state behind)).premise × (P.claim (P.state behind)).backtracks }
-    ensures { ReadsOrAsks I.reading I.following E.kind (Ended I.reading I.seen_as
-        (Literally I.reading I.spells (λ s _. s)) (P.claim (P.state behind)).grammar) (I.view input.old) result
-        (I.view input.new) }
+    requires behind { P.can_parse behind × (P.claim (P.state behind)).premise
+        × (P.claim (P.state behind)).backtracks }
+    ensures { ReadsOrAsks I.reading I.following E.kind
+        (Ended I.reading I.seen_as (Literally I.reading I.spells (λ s _. s))
+        (P.claim (P.state behind)).grammar) (I.view input.old) result (I.view input.new) }
 {
     (HexDigit1, terminated(behind, (b'\r', b'\n'))).read_cut(input)
 }
@@ -52,11 +53,12 @@ where
     P: Stable<I, I::Slice, E> + Drop,
     requires modal { E.form ≡ modal }
     requires seen { SeesApart I.seen_as }
-    requires value { P.can_parse value × (P.claim (P.state value)).premise × (P.claim (P.state value)).backtracks }
-    ensures { ReadsOrAsks I.reading I.following E.kind (Ended I.reading I.seen_as
-        (Literally I.reading I.spells (λ s _. s)) (Extensions I.reading I.seen_as
-        (Literally I.reading I.spells (λ s _. s)) (P.claim (P.state value)).grammar)) (I.view input.old) result
-        (I.view input.new) }
+    requires value { P.can_parse value × (P.claim (P.state value)).premise
+        × (P.claim (P.state value)).backtracks }
+    ensures { ReadsOrAsks I.reading I.following E.kind
+        (Ended I.reading I.seen_as (Literally I.reading I.spells (λ s _. s))
+        (Extensions I.reading I.seen_as (Literally I.reading I.spells (λ s _. s))
+        (P.claim (P.state value)).grammar)) (I.view input.old) result (I.view input.new) }
 {
     let token = take_while(Range::from(1..), TokenBytes);
     let name = preceded((Space0, b';', Space0), token);
@@ -77,11 +79,13 @@ where
     P: Stable<I, (), E> + Drop,
     requires modal { E.form ≡ modal }
     requires seen { SeesApart I.seen_as }
-    requires text { P.can_parse text × (P.claim (P.state text)).premise × (P.claim (P.state text)).backtracks }
-    ensures { ReadsOrAsks I.reading I.following E.kind (Ended I.reading I.seen_as
-        (Literally I.reading I.spells (λ s _. s)) (Extensions I.reading I.seen_as
-        (Literally I.reading I.spells (λ s _. s)) (TextOrToken I.reading I.seen_as
-        (Literally I.reading I.spells (λ s _. s)) (P.claim (P.state text)).grammar))) (I.view input.old) result
+    requires text { P.can_parse text × (P.claim (P.state text)).premise
+        × (P.claim (P.state text)).backtracks }
+    ensures { ReadsOrAsks I.reading I.following E.kind
+        (Ended I.reading I.seen_as (Literally I.reading I.spells (λ s _. s))
+        (Extensions I.reading I.seen_as (Literally I.reading I.spells (λ s _. s))
+        (TextOrToken I.reading I.seen_as (Literally I.reading I.spells (λ s _. s))
+        (P.claim (P.state text)).grammar))) (I.view input.old) result
         (I.view input.new) }
 {
     let token = take_while(Range::from(1..), TokenBytes);

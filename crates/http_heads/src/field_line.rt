@@ -8,8 +8,8 @@ ghost use Rattle.http_heads.specs.FieldRead.{NameRead, NameValue, ValueStands};
 ghost use Rattle.http_heads.specs.Parts.{EndStands};
 ghost use Rattle.winnow.specs.Exact.{Reads};
 
-use winnow::Parser;
 use crate::sets::{TokenBytes, ValueBytes, White};
+use winnow::Parser;
 use winnow::combinator::{preceded, terminated};
 use winnow::error::{EmptyError, ErrMode, HasKind};
 use winnow::stream::Range;

@@ -12,8 +12,8 @@ ghost use Rattle.http_heads.specs.RequestRead.{DigitStands, MethodTarget, Versio
 ghost use Rattle.http_heads.specs.RequestRead.{digit_unique};
 ghost use Rattle.winnow.specs.Exact.{Reads};
 
-use winnow::Parser;
 use crate::sets::{Digits, TokenBytes, Visible};
+use winnow::Parser;
 use winnow::combinator::{delimited, separated_pair};
 use winnow::error::{EmptyError, ErrMode, HasKind};
 use winnow::exact::Rule;

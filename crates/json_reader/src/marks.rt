@@ -7,8 +7,8 @@ ghost use Rattle.winnow.specs.Exact.{Reads};
 ghost use Rattle.winnow.specs.Grammar.{Both, Three};
 ghost use Rattle.winnow.specs.Rule.{CallsRead};
 
-use winnow::Parser;
 use std::alloc::Allocator;
+use winnow::Parser;
 use winnow::combinator::impls::Separated;
 use winnow::combinator::{delimited, separated, terminated};
 use winnow::error::ParserError;
@@ -41,7 +41,8 @@ where
     requires third_premise { (R.claim (R.state third)).premise }
     requires third_backtracks { (R.claim (R.state third)).backtracks }
     ensures { Reads I.reading E.kind
-        (Three (λ _ o _. o) (P.claim (P.state first)).grammar (Q.claim (Q.state second)).grammar (R.claim (R.state third)).grammar)
+        (Three (λ _ o _. o) (P.claim (P.state first)).grammar
+        (Q.claim (Q.state second)).grammar (R.claim (R.state third)).grammar)
         (I.view input.old) result (I.view input.new) }
 {
     delimited(first, second, third).read(input)
@@ -78,17 +79,22 @@ where
     P: Parser<I, O, E> + Drop,
     B: Parser<I, M, E> + Copy + Drop,
     G: Parser<I, W, E> + Copy + Drop,
-    requires item { P.can_parse item × (P.claim (P.state item)).premise × (P.claim (P.state item)).backtracks }
+    requires item { P.can_parse item × (P.claim (P.state item)).premise
+        × (P.claim (P.state item)).backtracks }
     requires opening { B.can_parse marks.opening × (B.claim (B.state marks.opening)).premise
         × (B.claim (B.state marks.opening)).backtracks }
-    requires comma { B.can_parse marks.comma × (B.claim (B.state marks.comma)).premise × (B.claim (B.state marks.comma)).backtracks
+    requires comma { B.can_parse marks.comma × (B.claim (B.state marks.comma)).premise
+        × (B.claim (B.state marks.comma)).backtracks
         × (B.claim (B.state marks.comma)).consumes }
     requires closing { B.can_parse marks.closing × (B.claim (B.state marks.closing)).premise
         × (B.claim (B.state marks.closing)).backtracks }
-    requires gap { G.can_parse marks.gap × (G.claim (G.state marks.gap)).premise × (G.claim (G.state marks.gap)).backtracks }
-    ensures { Reads I.reading E.kind (Items (P.claim (P.state item)).grammar (B.claim (B.state marks.opening)).grammar
-        (B.claim (B.state marks.comma)).grammar (B.claim (B.state marks.closing)).grammar (G.claim (G.state marks.gap)).grammar)
-        (I.view input.old) result (I.view input.new) }
+    requires gap { G.can_parse marks.gap × (G.claim (G.state marks.gap)).premise
+        × (G.claim (G.state marks.gap)).backtracks }
+    ensures { Reads I.reading E.kind
+        (Items (P.claim (P.state item)).grammar (B.claim (B.state marks.opening)).grammar
+        (B.claim (B.state marks.comma)).grammar (B.claim (B.state marks.closing)).grammar
+        (G.claim (G.state marks.gap)).grammar) (I.view input.old) result
+        (I.view input.new) }
 {
     let items: Separated<P, (B, G), I, O, (M, W), Vec<O, A>, E, A> = separated(
         alloc,
@@ -123,14 +129,18 @@ where
         value }
     requires opening { B.can_parse marks.opening × (B.claim (B.state marks.opening)).premise
         × (B.claim (B.state marks.opening)).backtracks }
-    requires comma { B.can_parse marks.comma × (B.claim (B.state marks.comma)).premise × (B.claim (B.state marks.comma)).backtracks
+    requires comma { B.can_parse marks.comma × (B.claim (B.state marks.comma)).premise
+        × (B.claim (B.state marks.comma)).backtracks
         × (B.claim (B.state marks.comma)).consumes }
     requires closing { B.can_parse marks.closing × (B.claim (B.state marks.closing)).premise
         × (B.claim (B.state marks.closing)).backtracks }
-    requires gap { G.can_parse marks.gap × (G.claim (G.state marks.gap)).premise × (G.claim (G.state marks.gap)).backtracks }
-    ensures { Reads I.reading E.kind (Items (Both former (R.grammar rule) (G.claim (G.state marks.gap)).grammar)
-        (B.claim (B.state marks.opening)).grammar (B.claim (B.state marks.comma)).grammar (B.claim (B.state marks.closing)).grammar
-        (G.claim (G.state marks.gap)).grammar) (I.view input.old) result (I.view input.new) }
+    requires gap { G.can_parse marks.gap × (G.claim (G.state marks.gap)).premise
+        × (G.claim (G.state marks.gap)).backtracks }
+    ensures { Reads I.reading E.kind
+        (Items (Both former (R.grammar rule) (G.claim (G.state marks.gap)).grammar)
+        (B.claim (B.state marks.opening)).grammar (B.claim (B.state marks.comma)).grammar
+        (B.claim (B.state marks.closing)).grammar (G.claim (G.state marks.gap)).grammar)
+        (I.view input.old) result (I.view input.new) }
 {
     let item = terminated(rule.by(value), marks.gap);
     read_items(alloc, item, marks, input)

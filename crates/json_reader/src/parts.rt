@@ -25,7 +25,8 @@ where
     requires second_callable { Q.can_parse second }
     requires second_premise { (Q.claim (Q.state second)).premise }
     requires second_backtracks { (Q.claim (Q.state second)).backtracks }
-    ensures { Reads I.reading E.kind (Both latter (P.claim (P.state first)).grammar (Q.claim (Q.state second)).grammar)
+    ensures { Reads I.reading E.kind
+        (Both latter (P.claim (P.state first)).grammar (Q.claim (Q.state second)).grammar)
         (I.view input.old) result (I.view input.new) }
 {
     preceded(first, second).read(input)
@@ -44,7 +45,8 @@ where
     requires second_callable { Q.can_parse second }
     requires second_premise { (Q.claim (Q.state second)).premise }
     requires second_backtracks { (Q.claim (Q.state second)).backtracks }
-    ensures { Reads I.reading E.kind (Either (P.claim (P.state first)).grammar (Q.claim (Q.state second)).grammar)
+    ensures { Reads I.reading E.kind
+        (Either (P.claim (P.state first)).grammar (Q.claim (Q.state second)).grammar)
         (I.view input.old) result (I.view input.new) }
 {
     alt((first, second)).read(input)
@@ -80,8 +82,10 @@ where
     requires fourth_callable { S.can_parse fourth }
     requires fourth_premise { (S.claim (S.state fourth)).premise }
     requires fourth_backtracks { (S.claim (S.state fourth)).backtracks }
-    ensures { Reads I.reading E.kind (Four (P.claim (P.state first)).grammar (Q.claim (Q.state second)).grammar
-        (R.claim (R.state third)).grammar (S.claim (S.state fourth)).grammar) (I.view input.old) result (I.view input.new) }
+    ensures { Reads I.reading E.kind
+        (Four (P.claim (P.state first)).grammar (Q.claim (Q.state second)).grammar
+        (R.claim (R.state third)).grammar (S.claim (S.state fourth)).grammar)
+        (I.view input.old) result (I.view input.new) }
 {
     (first, second, third, fourth).read(input)
 }
@@ -111,9 +115,11 @@ where
     requires more_callable { R.can_parse more }
     requires more_premise { (R.claim (R.state more)).premise }
     requires more_backtracks { (R.claim (R.state more)).backtracks }
-    ensures { Reads I.reading E.kind (Either (Taken I.reading (P.claim (P.state zero)).grammar)
-        (Taken I.reading (Both pair (Q.claim (Q.state leading)).grammar (R.claim (R.state more)).grammar)))
-        (I.view input.old) result (I.view input.new) }
+    ensures { Reads I.reading E.kind
+        (Either (Taken I.reading (P.claim (P.state zero)).grammar)
+        (Taken I.reading (Both pair (Q.claim (Q.state leading)).grammar
+        (R.claim (R.state more)).grammar))) (I.view input.old) result
+        (I.view input.new) }
 {
     alt((zero.take(), (leading, more).take())).read(input)
 }
@@ -143,8 +149,9 @@ where
     requires digits_callable { R.can_parse digits }
     requires digits_premise { (R.claim (R.state digits)).premise }
     requires digits_backtracks { (R.claim (R.state digits)).backtracks }
-    ensures { Reads I.reading E.kind (Both latter
-        (Both pair (P.claim (P.state letter)).grammar (Maybe (Q.claim (Q.state sign)).grammar)) (R.claim (R.state digits)).grammar)
+    ensures { Reads I.reading E.kind
+        (Both latter (Both pair (P.claim (P.state letter)).grammar
+        (Maybe (Q.claim (Q.state sign)).grammar)) (R.claim (R.state digits)).grammar)
         (I.view input.old) result (I.view input.new) }
 {
     preceded((letter, opt(sign)), digits).read(input)
@@ -181,9 +188,11 @@ where
     requires exponent_callable { S.can_parse exponent }
     requires exponent_premise { (S.claim (S.state exponent)).premise }
     requires exponent_backtracks { (S.claim (S.state exponent)).backtracks }
-    ensures { Reads I.reading E.kind (Taken I.reading (Four (Maybe (P.claim (P.state sign)).grammar)
-        (Q.claim (Q.state whole)).grammar (Maybe (R.claim (R.state fraction)).grammar) (Maybe (S.claim (S.state exponent)).grammar)))
-        (I.view input.old) result (I.view input.new) }
+    ensures { Reads I.reading E.kind
+        (Taken I.reading (Four (Maybe (P.claim (P.state sign)).grammar)
+        (Q.claim (Q.state whole)).grammar (Maybe (R.claim (R.state fraction)).grammar)
+        (Maybe (S.claim (S.state exponent)).grammar))) (I.view input.old) result
+        (I.view input.new) }
 {
     (opt(sign), whole, opt(fraction), opt(exponent))
         .take()
@@ -219,9 +228,12 @@ where
     requires unicode_callable { S.can_parse unicode }
     requires unicode_premise { (S.claim (S.state unicode)).premise }
     requires unicode_backtracks { (S.claim (S.state unicode)).backtracks }
-    ensures { Reads I.reading E.kind (Both latter (P.claim (P.state backslash)).grammar
-        (Either (Q.claim (Q.state short)).grammar (Both latter (R.claim (R.state letter)).grammar (S.claim (S.state unicode)).grammar)))
-        (I.view input.old) result (I.view input.new) }
+    ensures { Reads I.reading E.kind
+        (Both latter (P.claim (P.state backslash)).grammar
+        (Either (Q.claim (Q.state short)).grammar
+        (Both latter (R.claim (R.state letter)).grammar
+        (S.claim (S.state unicode)).grammar))) (I.view input.old) result
+        (I.view input.new) }
 {
     preceded(backslash, alt((short, preceded(letter, unicode)))).read(input)
 }
@@ -256,9 +268,10 @@ where
     requires second_callable { S.can_parse second }
     requires second_premise { (S.claim (S.state second)).premise }
     requires second_backtracks { (S.claim (S.state second)).backtracks }
-    ensures { Reads I.reading E.kind (Both pair (P.claim (P.state first)).grammar
-        (Both latter (Both pair (Q.claim (Q.state backslash)).grammar (R.claim (R.state letter)).grammar)
-        (S.claim (S.state second)).grammar))
+    ensures { Reads I.reading E.kind
+        (Both pair (P.claim (P.state first)).grammar
+        (Both latter (Both pair (Q.claim (Q.state backslash)).grammar
+        (R.claim (R.state letter)).grammar) (S.claim (S.state second)).grammar))
         (I.view input.old) result (I.view input.new) }
 {
     (first, preceded((backslash, letter), second)).read(input)

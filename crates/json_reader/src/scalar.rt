@@ -14,11 +14,11 @@ ghost use Rattle.winnow.specs.Accumulator.Holds.{HasCharacters};
 ghost use Rattle.winnow.specs.Texts.{Begins, NotFirst};
 ghost use Rattle.winnow.specs.Told.{ReadsText};
 
-use winnow::Parser;
 use crate::number::read_number;
 use crate::string::read_string;
 use json_texts::value::Value;
 use std::alloc::Allocator;
+use winnow::Parser;
 use winnow::error::{EmptyError, ErrMode, HasKind, OrNoMemory};
 use winnow::token::literal;
 

@@ -9,10 +9,10 @@ ghost use Rattle.winnow.specs.Accumulator.Holds.{HasCharacters};
 ghost use Rattle.winnow.specs.Texts.{Anything};
 ghost use Rattle.winnow.specs.Told.{ReadsText};
 
-use winnow::Parser;
 use crate::escapes::read_escape;
 use crate::marks::read_between;
 use std::alloc::Allocator;
+use winnow::Parser;
 use winnow::error::{EmptyError, ErrMode, HasKind, ParserError};
 use winnow::exact::Rule;
 use winnow::stream::Range;

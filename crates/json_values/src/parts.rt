@@ -10,9 +10,9 @@ ghost use Rattle.winnow.specs.Exact.Whole.{ReadsAll};
 ghost use Rattle.winnow.specs.Grammar.{Both};
 ghost use Rattle.winnow.specs.Rule.{CallsRead};
 
-use winnow::Parser;
 use json_reader::marks::{Marks, read_items};
 use std::alloc::Allocator;
+use winnow::Parser;
 use winnow::combinator::{preceded, separated_pair, terminated};
 use winnow::error::{ParseFault, ParserError};
 use winnow::exact::Rule;
@@ -50,17 +50,22 @@ where
     requires callable { F.IsAlwaysCallable value }
     requires reads { CallsRead I.reading I.view E.kind (CalledAtMut F.FnMut) (R.grammar rule)
         value }
-    requires colon { B.can_parse colon × (B.claim (B.state colon)).premise × (B.claim (B.state colon)).backtracks }
+    requires colon { B.can_parse colon × (B.claim (B.state colon)).premise
+        × (B.claim (B.state colon)).backtracks }
     requires opening { B.can_parse marks.opening × (B.claim (B.state marks.opening)).premise
         × (B.claim (B.state marks.opening)).backtracks }
-    requires comma { B.can_parse marks.comma × (B.claim (B.state marks.comma)).premise × (B.claim (B.state marks.comma)).backtracks
+    requires comma { B.can_parse marks.comma × (B.claim (B.state marks.comma)).premise
+        × (B.claim (B.state marks.comma)).backtracks
         × (B.claim (B.state marks.comma)).consumes }
     requires closing { B.can_parse marks.closing × (B.claim (B.state marks.closing)).premise
         × (B.claim (B.state marks.closing)).backtracks }
-    requires gap { G.can_parse marks.gap × (G.claim (G.state marks.gap)).premise × (G.claim (G.state marks.gap)).backtracks }
-    ensures { Reads I.reading E.kind (Items (Pair (S.grammar names) (B.claim (B.state colon)).grammar
-        (R.grammar rule) (G.claim (G.state marks.gap)).grammar) (B.claim (B.state marks.opening)).grammar (B.claim (B.state marks.comma)).grammar
-        (B.claim (B.state marks.closing)).grammar (G.claim (G.state marks.gap)).grammar) (I.view input.old) result
+    requires gap { G.can_parse marks.gap × (G.claim (G.state marks.gap)).premise
+        × (G.claim (G.state marks.gap)).backtracks }
+    ensures { Reads I.reading E.kind
+        (Items (Pair (S.grammar names) (B.claim (B.state colon)).grammar (R.grammar rule)
+        (G.claim (G.state marks.gap)).grammar) (B.claim (B.state marks.opening)).grammar
+        (B.claim (B.state marks.comma)).grammar (B.claim (B.state marks.closing)).grammar
+        (G.claim (G.state marks.gap)).grammar) (I.view input.old) result
         (I.view input.new) }
 {
     let name = terminated(names.by(name), marks.gap);
@@ -93,8 +98,10 @@ where
         value }
     requires gap { G.can_parse gap × (G.claim (G.state gap)).premise }
     requires whole { I.supports_partial ≡ false }
-    ensures { ReadsAll E.inner_kind (Both latter (G.claim (G.state gap)).grammar
-        (Both former (R.grammar rule) (G.claim (G.state gap)).grammar)) (I.view input).left.tokens result }
+    ensures { ReadsAll E.inner_kind
+        (Both latter (G.claim (G.state gap)).grammar
+        (Both former (R.grammar rule) (G.claim (G.state gap)).grammar))
+        (I.view input).left.tokens result }
 {
     preceded(gap, terminated(rule.by(value), gap)).read_all(input)
 }

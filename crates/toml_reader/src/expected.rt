@@ -8,13 +8,13 @@ ghost use Rattle.toml_reader.specs.Toml.{AnyValue, Line, Mark, Newline, Separato
 ghost use Rattle.winnow.specs.Grammar.{NoneStands};
 ghost use Rattle.winnow.specs.Texts.{NotFirst};
 
-use winnow::Parser;
 use crate::characters::Characters;
 use crate::lines::{AnyLine, read_line, read_value};
 use crate::scalars::begins_with;
 use std::alloc::Allocator;
 use std::fmt;
 use std::fmt::{Display, Formatter};
+use winnow::Parser;
 use winnow::ascii::impls::Space0;
 use winnow::combinator::{alt, preceded};
 use winnow::error::{EmptyError, ErrMode, ParserError};
@@ -80,7 +80,8 @@ fn past<'i, O: Drop, P: Parser<&'i str, O, ErrMode<EmptyError>> + Drop>(
     parser: P,
     text: &'i str,
 ) -> Result<Option<&'i str>, ErrMode<EmptyError>>
-    requires { P.can_parse parser × (P.claim (P.state parser)).premise × (P.claim (P.state parser)).backtracks }
+    requires { P.can_parse parser × (P.claim (P.state parser)).premise
+        × (P.claim (P.state parser)).backtracks }
     ensures { IfOk result (λ o. IsPast (P.claim (P.state parser)).grammar (chars text.now) o) }
 {
     let mut parser = parser;
@@ -103,7 +104,8 @@ fn behind<'i, O: Drop, P: Parser<&'i str, O, ErrMode<EmptyError>> + Drop>(
     parser: P,
     text: &'i str,
 ) -> Result<&'i str, ErrMode<EmptyError>>
-    requires { P.can_parse parser × (P.claim (P.state parser)).premise × (P.claim (P.state parser)).backtracks }
+    requires { P.can_parse parser × (P.claim (P.state parser)).premise
+        × (P.claim (P.state parser)).backtracks }
     ensures { IfOk result (λ rest. Stands (P.claim (P.state parser)).grammar (chars text.now)
         (chars rest.now)) }
 {

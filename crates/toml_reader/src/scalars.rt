@@ -8,12 +8,12 @@ ghost use Rattle.winnow.specs.Exact.{Reads};
 ghost use Rattle.winnow.specs.Grammar.Meaning.{Meaning};
 ghost use Rattle.winnow.specs.Texts.{Begins, NotFirst};
 
-use winnow::Parser;
 use crate::characters::Characters;
 use crate::escapes::{AnyCharacter, read_character};
 use crate::value::Value;
 use json_reader::marks::read_between;
 use std::alloc::Allocator;
+use winnow::Parser;
 use winnow::ascii::impls::DecInt;
 use winnow::combinator::repeat;
 use winnow::error::{EmptyError, ErrMode, HasKind};

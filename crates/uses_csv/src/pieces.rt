@@ -9,9 +9,9 @@ ghost use Rattle.uses_csv.specs.Csv.{IsRecord};
 ghost use Rattle.uses_csv.specs.Pieces.{IsLine};
 ghost use Rattle.winnow.specs.Cut.{Asks, ReadsOrAsks};
 
-use winnow::Parser;
 use crate::{Fields, LineEnd, Record, read_fields, read_record};
 use std::alloc::Allocator;
+use winnow::Parser;
 use winnow::combinator::terminated;
 use winnow::error::{EmptyError, ErrMode, HasKind, Needed, ParserError};
 use winnow::exact::Rule;

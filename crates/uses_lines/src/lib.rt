@@ -16,8 +16,8 @@ ghost use Rattle.winnow.specs.Texts.{NotFirst};
 ghost use Rattle.winnow.specs.Back.{ReadsBack};
 ghost use Rattle.winnow.specs.Told.{IsTextOf, ReadsText};
 
-use winnow::Parser;
 use std::alloc::Allocator;
+use winnow::Parser;
 use winnow::combinator::{alt, repeat, terminated};
 use winnow::error::{EmptyError, ErrMode, HasKind, ParseFault, ParserError};
 use winnow::exact::Rule;

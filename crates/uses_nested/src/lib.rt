@@ -13,8 +13,8 @@ ghost use Rattle.winnow.specs.Rule.{CallsRead};
 ghost use Rattle.winnow.specs.Texts.{NotFirst};
 ghost use Rattle.std.specs.Fn.{CalledAtMut};
 
-use winnow::Parser;
 use std::alloc::Allocator;
+use winnow::Parser;
 use winnow::ascii::impls::DecUint;
 use winnow::combinator::impls::Separated;
 use winnow::combinator::{delimited, separated};
@@ -64,11 +64,16 @@ where
     requires callable { F.IsAlwaysCallable element }
     requires reads { CallsRead I.reading I.view E.kind (CalledAtMut F.FnMut) (R.grammar rule)
         element }
-    requires opening { B.can_parse opening × (B.claim (B.state opening)).premise × (B.claim (B.state opening)).backtracks }
-    requires comma { B.can_parse comma × (B.claim (B.state comma)).premise × (B.claim (B.state comma)).backtracks × (B.claim (B.state comma)).consumes }
-    requires closing { B.can_parse closing × (B.claim (B.state closing)).premise × (B.claim (B.state closing)).backtracks }
-    ensures { Reads I.reading E.kind (AreElements (R.grammar rule) (B.claim (B.state opening)).grammar
-        (B.claim (B.state comma)).grammar (B.claim (B.state closing)).grammar) (I.view input.old) result (I.view input.new) }
+    requires opening { B.can_parse opening × (B.claim (B.state opening)).premise
+        × (B.claim (B.state opening)).backtracks }
+    requires comma { B.can_parse comma × (B.claim (B.state comma)).premise
+        × (B.claim (B.state comma)).backtracks × (B.claim (B.state comma)).consumes }
+    requires closing { B.can_parse closing × (B.claim (B.state closing)).premise
+        × (B.claim (B.state closing)).backtracks }
+    ensures { Reads I.reading E.kind
+        (AreElements (R.grammar rule) (B.claim (B.state opening)).grammar
+        (B.claim (B.state comma)).grammar (B.claim (B.state closing)).grammar)
+        (I.view input.old) result (I.view input.new) }
 {
     let elements: Separated<By<R, F>, B, I, O, u8, Vec<O, A>, E, A> = separated(
         alloc,

@@ -11,8 +11,8 @@ ghost use Rattle.winnow.specs.Cut.{ReadsOrAsks};
 ghost use Rattle.winnow.specs.Once.{SeesApart};
 ghost use Rattle.winnow.specs.Grammar.{Literally};
 
-use winnow::Parser;
 use std::alloc::Allocator;
+use winnow::Parser;
 use winnow::ascii::impls::{Alpha1, Alphanumeric1};
 use winnow::combinator::{delimited, opt, preceded, separated};
 use winnow::error::{EmptyError, ErrMode, HasKind, ParserError};

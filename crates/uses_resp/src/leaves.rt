@@ -9,8 +9,8 @@ ghost use Rattle.winnow.specs.InTurn.{First};
 ghost use Rattle.uses_resp.specs.Leaves.{SignedRead};
 ghost use Rattle.uses_resp.specs.Resp.{DataText, IntegerText, LineText, MarkText, SizeText};
 
-use winnow::Parser;
 use crate::pieces::{line, token, tokens};
+use winnow::Parser;
 use winnow::ascii::impls::DecInt;
 use winnow::error::{EmptyError, ErrMode, HasKind, ParserError};
 use winnow::stream::{Partial, Stream};

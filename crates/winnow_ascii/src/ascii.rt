@@ -1,7 +1,6 @@
 //! Parsers of ASCII text, as winnow's documentation has them: those of characters and lines.
 #![tactic(auto, using(streams::specs::Ends::ends_follow))]
 
-
 mod classes;
 pub mod impls;
 mod line_ends;

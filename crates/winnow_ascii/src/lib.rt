@@ -5,6 +5,5 @@
 //! the definition of its name in `specs/`.
 #![tactic(auto)]
 
-
 pub mod ascii;
 pub mod stable;

@@ -2,7 +2,6 @@
 //! chosen, and data behind its length.
 #![tactic(auto, using(streams::specs::Ends::ends_follow))]
 
-
 mod chosen;
 pub mod impls;
 mod lengths;

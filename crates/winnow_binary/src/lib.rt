@@ -3,5 +3,4 @@
 //! Each is the definition of its name in `specs/`.
 #![tactic(auto)]
 
-
 pub mod binary;

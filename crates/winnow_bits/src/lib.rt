@@ -3,6 +3,5 @@
 //! Each is proved to be its definition, a file of `specs/`.
 #![tactic(auto)]
 
-
 pub mod bits;
 pub mod laws;

@@ -1,8 +1,6 @@
 //! Combinators, as winnow's documentation has them: those of choice, options and sequence.
 #![tactic(auto, using(streams::specs::Ends::ends_follow))]
 
-
-
 pub mod basic;
 pub mod branch;
 pub mod impls;

@@ -4,7 +4,5 @@
 //! combinator, over the runs of its children.
 #![tactic(auto)]
 
-
-
 pub mod combinator;
 pub mod laws;

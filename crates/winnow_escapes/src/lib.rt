@@ -3,7 +3,6 @@
 //! Each is the definition of its name in `specs/`: a chain of turns, and what ended it.
 #![tactic(auto)]
 
-
 pub mod ascii;
 pub mod laws;
 pub mod stable;

@@ -2,7 +2,6 @@
 //! what calls in turn tell.
 #![tactic(auto)]
 
-
 pub mod for_good;
 pub mod laws;
 pub mod pieces;

@@ -26,7 +26,8 @@ use winnow_core::stable::Stable;
 /// assert_eq!(rt; answer, Ok(b"ab".as_slice()));
 /// ```
 pub trait ReadsPieces<I: Stream, O, E: ParserError<I>>: Stable<I, O, E> {
-    /// As [`read`](winnow_core::parser::Parser::read), and its grammar says what it answers on a cut
+    /// As [`read`](winnow_core::parser::Parser::read), and its grammar says what it answers on a
+    /// cut
     /// input too: whatever follows until the input is complete, an output stands first in all of
     /// it, with what is left and what followed; an error that backtracks says that none does. Else
     /// it asks for more, or wants memory. The caller owes errors with a mode.
@@ -47,5 +48,4 @@ pub trait ReadsPieces<I: Stream, O, E: ParserError<I>>: Stable<I, O, E> {
     }
 }
 
-impl<P: Stable<I, O, E>, I: Stream, O, E: ParserError<I>> ReadsPieces<I, O, E>
-    for P {}
+impl<P: Stable<I, O, E>, I: Stream, O, E: ParserError<I>> ReadsPieces<I, O, E> for P {}

@@ -58,21 +58,21 @@ impl<N: Rule<I, O>, F: FnMut(&mut I) -> Result<O, E>, I: Stream, O, E: ParserErr
     ghost meaning = { λ _. ByRuns I.reading I.view E.kind (CalledAtMut F.FnMut) };
 
     ghost claim = { λ s. record {
-        premise = CallsRead I.reading I.view E.kind (CalledAtMut F.FnMut) (N.grammar s.0) s.1;
-        backtracks = ⊤;
-        consumes = N.consumes s.0;
-        grammar = N.grammar s.0;
-        decides = ⊥;
-        alike = λ o p. o ≡ p;
+      premise = CallsRead I.reading I.view E.kind (CalledAtMut F.FnMut) (N.grammar s.0) s.1;
+      backtracks = ⊤;
+      consumes = N.consumes s.0;
+      grammar = N.grammar s.0;
+      decides = ⊥;
+      alike = λ o p. o ≡ p;
     } };
 
     ghost leaves_ends = { λ form s i answer t j r. r.0.1 };
 
     ghost claimed = { λ s. record {
-        exact = λ form is. by_exact s is (N.unique s.0);
-        soft = λ form is soft. by_soft s is;
-        takes = λ is some. N.takes s.0 some;
-        decided = λ form never. absurd never;
+      exact = λ form is. by_exact s is (N.unique s.0);
+      soft = λ form is soft. by_soft s is;
+      takes = λ is some. N.takes s.0 some;
+      decided = λ form never. absurd never;
     } };
 
     #[inline(always)]

@@ -1,7 +1,6 @@
 //! Combinators, as winnow's documentation has them: operator expressions.
 #![tactic(auto, using(streams::specs::Ends::ends_follow))]
 
-
 pub mod calls;
 pub mod folds;
 pub mod impls;

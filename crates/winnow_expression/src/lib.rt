@@ -6,5 +6,4 @@
 //! powers is proved in the crate above.
 #![tactic(auto)]
 
-
 pub mod combinator;

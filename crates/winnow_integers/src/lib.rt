@@ -4,6 +4,5 @@
 //! bytes.
 #![tactic(auto)]
 
-
 pub mod binary;
 pub mod laws;

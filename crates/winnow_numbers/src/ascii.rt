@@ -1,7 +1,6 @@
 //! Parsers of ASCII text, as winnow's documentation has them: those of numbers.
 #![tactic(auto, using(streams::specs::Ends::ends_follow))]
 
-
 mod digits;
 mod hex;
 pub mod impls;

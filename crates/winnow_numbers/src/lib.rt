@@ -4,6 +4,5 @@
 //! whose slices show them as bytes.
 #![tactic(auto)]
 
-
 pub mod ascii;
 pub mod laws;

@@ -5,7 +5,6 @@
 //! tries and what ended them.
 #![tactic(auto)]
 
-
 pub mod combinator;
 pub mod laws;
 pub mod parser;

@@ -1,7 +1,6 @@
 //! Combinators, as winnow's documentation has them: those that repeat a parser.
 #![tactic(auto, using(streams::specs::Ends::ends_follow))]
 
-
 pub mod folding;
 pub mod impls;
 pub mod items;

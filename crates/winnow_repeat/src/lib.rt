@@ -5,6 +5,5 @@
 //! the parser that is repeated, and what ended it.
 #![tactic(auto)]
 
-
 pub mod combinator;
 pub mod laws;

@@ -1,7 +1,6 @@
 //! Combinators, as winnow's documentation has them: those of elements with separators.
 #![tactic(auto, using(streams::specs::Ends::ends_follow))]
 
-
 pub mod impls;
 pub mod multi;
 

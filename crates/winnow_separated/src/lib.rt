@@ -4,6 +4,5 @@
 //! and a repetition of links, each of which is a separator that consumes and an element.
 #![tactic(auto)]
 
-
 pub mod combinator;
 pub mod laws;

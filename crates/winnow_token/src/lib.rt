@@ -3,6 +3,5 @@
 //! Each is proved to be its definition, a file of `specs/` with the parser's name.
 #![tactic(auto)]
 
-
 pub mod laws;
 pub mod token;

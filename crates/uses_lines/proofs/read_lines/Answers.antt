@@ -13,4 +13,5 @@ returns-clause-grammar g c =
 
 pub returns-clause-text : goal.returns-clause-text
 returns-clause-text g c = text_told lines_of (reads_as
-    (same_lines _ (ap bounds_of (c.repeat.ensures.occurrences ∙ c.from.ensures))) c.read.ensures.reads)
+    (same_lines _ (ap bounds_of (c.repeat.ensures.occurrences ∙ c.from.ensures)))
+    c.read.ensures.reads)

@@ -30,16 +30,23 @@ sequence2_claim c1 c2 = record {
   alike = AlikePairs c1.alike c2.alike;
 }
 
-pub sequence2_claimed : {S1 S2 T O1 O2 : Type 0} {c1 : Claim T O1} {c2 : Claim T O2} {m1 : Meaning S1 T O1} {m2 : Meaning S2 T O2} {s : S1 × S2} → Claimed c1 s.0 m1 → Claimed c2 s.1 m2 → Claimed (sequence2_claim c1 c2) s (λ form. SequenceRuns2 (m1 form) (m2 form))
+pub sequence2_claimed : {S1 S2 T O1 O2 : Type 0} {c1 : Claim T O1} {c2 : Claim T O2}
+    {m1 : Meaning S1 T O1} {m2 : Meaning S2 T O2} {s : S1 × S2} → Claimed c1 s.0 m1
+    → Claimed c2 s.1 m2
+    → Claimed (sequence2_claim c1 c2) s (λ form. SequenceRuns2 (m1 form) (m2 form))
 sequence2_claimed {c1 = c1} {c2} h1 h2 = record {
   exact = λ form is. both_exact (h1.exact form is.0) (h2.exact form is.1);
-  soft = λ form is soft. both_soft (h1.exact form is.0) (h1.soft form is.0 soft.0) (h2.soft form is.1 soft.1);
-  takes = λ is some. both_takes (λ o1 o2. (o1, o2)) (h1.exact modal is.0) (h2.exact modal is.1) (either_way (h1.takes is.0) (h2.takes is.1) some);
-  decided = λ form is. both_decided (AlikePairs c1.alike c2.alike) (λ o p q r a b. (a, b)) (h1.decided form is.0) (h2.decided form is.1);
+  soft = λ form is soft. both_soft (h1.exact form is.0) (h1.soft form is.0 soft.0)
+      (h2.soft form is.1 soft.1);
+  takes = λ is some. both_takes (λ o1 o2. (o1, o2)) (h1.exact modal is.0) (h2.exact modal is.1)
+      (either_way (h1.takes is.0) (h2.takes is.1) some);
+  decided = λ form is. both_decided (AlikePairs c1.alike c2.alike) (λ o p q r a b. (a, b))
+      (h1.decided form is.0) (h2.decided form is.1);
 }
 
 -- three
-abbrev pub sequence3_claim : {T O1 O2 O3 : Type 0} → Claim T O1 → Claim T O2 → Claim T O3 → Claim T (O1 × O2 × O3)
+abbrev pub sequence3_claim : {T O1 O2 O3 : Type 0} → Claim T O1 → Claim T O2 → Claim T O3
+    → Claim T (O1 × O2 × O3)
 sequence3_claim c1 c2 c3 = record {
   premise = c1.premise × c2.premise × c3.premise;
   backtracks = c1.backtracks × c2.backtracks × c3.backtracks;
@@ -49,16 +56,25 @@ sequence3_claim c1 c2 c3 = record {
   alike = AlikeTriples c1.alike c2.alike c3.alike;
 }
 
-pub sequence3_claimed : {S1 S2 S3 T O1 O2 O3 : Type 0} {c1 : Claim T O1} {c2 : Claim T O2} {c3 : Claim T O3} {m1 : Meaning S1 T O1} {m2 : Meaning S2 T O2} {m3 : Meaning S3 T O3} {s : S1 × S2 × S3} → Claimed c1 s.0 m1 → Claimed c2 s.1 m2 → Claimed c3 s.2 m3 → Claimed (sequence3_claim c1 c2 c3) s (λ form. SequenceRuns3 (m1 form) (m2 form) (m3 form))
+pub sequence3_claimed : {S1 S2 S3 T O1 O2 O3 : Type 0} {c1 : Claim T O1} {c2 : Claim T O2}
+    {c3 : Claim T O3} {m1 : Meaning S1 T O1} {m2 : Meaning S2 T O2} {m3 : Meaning S3 T O3}
+    {s : S1 × S2 × S3} → Claimed c1 s.0 m1 → Claimed c2 s.1 m2 → Claimed c3 s.2 m3
+    → Claimed (sequence3_claim c1 c2 c3) s (λ form. SequenceRuns3 (m1 form) (m2 form) (m3 form))
 sequence3_claimed {c1 = c1} {c2} {c3} h1 h2 h3 = record {
   exact = λ form is. three_exact (h1.exact form is.0) (h2.exact form is.1) (h3.exact form is.2);
-  soft = λ form is soft. three_soft (h1.exact form is.0) (h2.exact form is.1) (h1.soft form is.0 soft.0) (h2.soft form is.1 soft.1) (h3.soft form is.2 soft.2);
-  takes = λ is some. three_takes (λ o1 o2 o3. (o1, o2, o3)) (h1.exact modal is.0) (h2.exact modal is.1) (h3.exact modal is.2) (either_way (either_way (h1.takes is.0) (h2.takes is.1)) (h3.takes is.2) some);
-  decided = λ form is. three_decided (AlikeTriples c1.alike c2.alike c3.alike) (λ o p q r x y a b c. (a, b, c)) (h1.decided form is.0) (h2.decided form is.1) (h3.decided form is.2);
+  soft = λ form is soft. three_soft (h1.exact form is.0) (h2.exact form is.1)
+      (h1.soft form is.0 soft.0) (h2.soft form is.1 soft.1) (h3.soft form is.2 soft.2);
+  takes = λ is some. three_takes (λ o1 o2 o3. (o1, o2, o3)) (h1.exact modal is.0)
+      (h2.exact modal is.1) (h3.exact modal is.2)
+      (either_way (either_way (h1.takes is.0) (h2.takes is.1)) (h3.takes is.2) some);
+  decided = λ form is. three_decided (AlikeTriples c1.alike c2.alike c3.alike)
+      (λ o p q r x y a b c. (a, b, c)) (h1.decided form is.0) (h2.decided form is.1)
+      (h3.decided form is.2);
 }
 
 -- four
-abbrev pub sequence4_claim : {T O1 O2 O3 O4 : Type 0} → Claim T O1 → Claim T O2 → Claim T O3 → Claim T O4 → Claim T (O1 × O2 × O3 × O4)
+abbrev pub sequence4_claim : {T O1 O2 O3 O4 : Type 0} → Claim T O1 → Claim T O2 → Claim T O3
+    → Claim T O4 → Claim T (O1 × O2 × O3 × O4)
 sequence4_claim c1 c2 c3 c4 = record {
   premise = c1.premise × c2.premise × c3.premise × c4.premise;
   backtracks = c1.backtracks × c2.backtracks × c3.backtracks × c4.backtracks;
@@ -68,16 +84,29 @@ sequence4_claim c1 c2 c3 c4 = record {
   alike = AlikeFour c1.alike c2.alike c3.alike c4.alike;
 }
 
-pub sequence4_claimed : {S1 S2 S3 S4 T O1 O2 O3 O4 : Type 0} {c1 : Claim T O1} {c2 : Claim T O2} {c3 : Claim T O3} {c4 : Claim T O4} {m1 : Meaning S1 T O1} {m2 : Meaning S2 T O2} {m3 : Meaning S3 T O3} {m4 : Meaning S4 T O4} {s : S1 × S2 × S3 × S4} → Claimed c1 s.0 m1 → Claimed c2 s.1 m2 → Claimed c3 s.2 m3 → Claimed c4 s.3 m4 → Claimed (sequence4_claim c1 c2 c3 c4) s (λ form. SequenceRuns4 (m1 form) (m2 form) (m3 form) (m4 form))
+pub sequence4_claimed : {S1 S2 S3 S4 T O1 O2 O3 O4 : Type 0} {c1 : Claim T O1} {c2 : Claim T O2}
+    {c3 : Claim T O3} {c4 : Claim T O4} {m1 : Meaning S1 T O1} {m2 : Meaning S2 T O2}
+    {m3 : Meaning S3 T O3} {m4 : Meaning S4 T O4} {s : S1 × S2 × S3 × S4} → Claimed c1 s.0 m1
+    → Claimed c2 s.1 m2 → Claimed c3 s.2 m3 → Claimed c4 s.3 m4
+    → Claimed (sequence4_claim c1 c2 c3 c4) s
+    (λ form. SequenceRuns4 (m1 form) (m2 form) (m3 form) (m4 form))
 sequence4_claimed h1 h2 h3 h4 = record {
-  exact = λ form is. tuple4_exact (h1.exact form is.0) (h2.exact form is.1) (h3.exact form is.2) (h4.exact form is.3);
-  soft = λ form is soft. tuple4_soft (h1.exact form is.0) (h2.exact form is.1) (h3.exact form is.2) (h1.soft form is.0 soft.0) (h2.soft form is.1 soft.1) (h3.soft form is.2 soft.2) (h4.soft form is.3 soft.3);
-  takes = λ is some. tuple4_takes (h1.exact modal is.0) (h2.exact modal is.1) (h3.exact modal is.2) (h4.exact modal is.3) (either_way (either_way (either_way (h1.takes is.0) (h2.takes is.1)) (h3.takes is.2)) (h4.takes is.3) some);
-  decided = λ form is. tuple4_decided (h1.decided form is.0) (h2.decided form is.1) (h3.decided form is.2) (h4.decided form is.3);
+  exact = λ form is. tuple4_exact (h1.exact form is.0) (h2.exact form is.1) (h3.exact form is.2)
+      (h4.exact form is.3);
+  soft = λ form is soft. tuple4_soft (h1.exact form is.0) (h2.exact form is.1)
+      (h3.exact form is.2) (h1.soft form is.0 soft.0) (h2.soft form is.1 soft.1)
+      (h3.soft form is.2 soft.2) (h4.soft form is.3 soft.3);
+  takes = λ is some. tuple4_takes (h1.exact modal is.0) (h2.exact modal is.1)
+      (h3.exact modal is.2) (h4.exact modal is.3)
+      (either_way (either_way (either_way (h1.takes is.0) (h2.takes is.1)) (h3.takes is.2))
+      (h4.takes is.3) some);
+  decided = λ form is. tuple4_decided (h1.decided form is.0) (h2.decided form is.1)
+      (h3.decided form is.2) (h4.decided form is.3);
 }
 
 -- five
-abbrev pub sequence5_claim : {T O1 O2 O3 O4 O5 : Type 0} → Claim T O1 → Claim T O2 → Claim T O3 → Claim T O4 → Claim T O5 → Claim T (O1 × O2 × O3 × O4 × O5)
+abbrev pub sequence5_claim : {T O1 O2 O3 O4 O5 : Type 0} → Claim T O1 → Claim T O2 → Claim T O3
+    → Claim T O4 → Claim T O5 → Claim T (O1 × O2 × O3 × O4 × O5)
 sequence5_claim c1 c2 c3 c4 c5 = record {
   premise = c1.premise × c2.premise × c3.premise × c4.premise × c5.premise;
   backtracks = c1.backtracks × c2.backtracks × c3.backtracks × c4.backtracks × c5.backtracks;
@@ -87,29 +116,64 @@ sequence5_claim c1 c2 c3 c4 c5 = record {
   alike = AlikeFive c1.alike c2.alike c3.alike c4.alike c5.alike;
 }
 
-pub sequence5_claimed : {S1 S2 S3 S4 S5 T O1 O2 O3 O4 O5 : Type 0} {c1 : Claim T O1} {c2 : Claim T O2} {c3 : Claim T O3} {c4 : Claim T O4} {c5 : Claim T O5} {m1 : Meaning S1 T O1} {m2 : Meaning S2 T O2} {m3 : Meaning S3 T O3} {m4 : Meaning S4 T O4} {m5 : Meaning S5 T O5} {s : S1 × S2 × S3 × S4 × S5} → Claimed c1 s.0 m1 → Claimed c2 s.1 m2 → Claimed c3 s.2 m3 → Claimed c4 s.3 m4 → Claimed c5 s.4 m5 → Claimed (sequence5_claim c1 c2 c3 c4 c5) s (λ form. SequenceRuns5 (m1 form) (m2 form) (m3 form) (m4 form) (m5 form))
+pub sequence5_claimed : {S1 S2 S3 S4 S5 T O1 O2 O3 O4 O5 : Type 0} {c1 : Claim T O1}
+    {c2 : Claim T O2} {c3 : Claim T O3} {c4 : Claim T O4} {c5 : Claim T O5}
+    {m1 : Meaning S1 T O1} {m2 : Meaning S2 T O2} {m3 : Meaning S3 T O3} {m4 : Meaning S4 T O4}
+    {m5 : Meaning S5 T O5} {s : S1 × S2 × S3 × S4 × S5} → Claimed c1 s.0 m1 → Claimed c2 s.1 m2
+    → Claimed c3 s.2 m3 → Claimed c4 s.3 m4 → Claimed c5 s.4 m5
+    → Claimed (sequence5_claim c1 c2 c3 c4 c5) s
+    (λ form. SequenceRuns5 (m1 form) (m2 form) (m3 form) (m4 form) (m5 form))
 sequence5_claimed h1 h2 h3 h4 h5 = record {
-  exact = λ form is. tuple5_exact (h1.exact form is.0) (h2.exact form is.1) (h3.exact form is.2) (h4.exact form is.3) (h5.exact form is.4);
-  soft = λ form is soft. tuple5_soft (h1.exact form is.0) (h2.exact form is.1) (h3.exact form is.2) (h4.exact form is.3) (h1.soft form is.0 soft.0) (h2.soft form is.1 soft.1) (h3.soft form is.2 soft.2) (h4.soft form is.3 soft.3) (h5.soft form is.4 soft.4);
-  takes = λ is some. tuple5_takes (h1.exact modal is.0) (h2.exact modal is.1) (h3.exact modal is.2) (h4.exact modal is.3) (h5.exact modal is.4) (either_way (either_way (either_way (either_way (h1.takes is.0) (h2.takes is.1)) (h3.takes is.2)) (h4.takes is.3)) (h5.takes is.4) some);
-  decided = λ form is. tuple5_decided (h1.decided form is.0) (h2.decided form is.1) (h3.decided form is.2) (h4.decided form is.3) (h5.decided form is.4);
+  exact = λ form is. tuple5_exact (h1.exact form is.0) (h2.exact form is.1) (h3.exact form is.2)
+      (h4.exact form is.3) (h5.exact form is.4);
+  soft = λ form is soft. tuple5_soft (h1.exact form is.0) (h2.exact form is.1)
+      (h3.exact form is.2) (h4.exact form is.3) (h1.soft form is.0 soft.0)
+      (h2.soft form is.1 soft.1) (h3.soft form is.2 soft.2) (h4.soft form is.3 soft.3)
+      (h5.soft form is.4 soft.4);
+  takes = λ is some. tuple5_takes (h1.exact modal is.0) (h2.exact modal is.1)
+      (h3.exact modal is.2) (h4.exact modal is.3) (h5.exact modal is.4)
+      (either_way (either_way
+      (either_way (either_way (h1.takes is.0) (h2.takes is.1)) (h3.takes is.2))
+      (h4.takes is.3)) (h5.takes is.4) some);
+  decided = λ form is. tuple5_decided (h1.decided form is.0) (h2.decided form is.1)
+      (h3.decided form is.2) (h4.decided form is.3) (h5.decided form is.4);
 }
 
 -- six
-abbrev pub sequence6_claim : {T O1 O2 O3 O4 O5 O6 : Type 0} → Claim T O1 → Claim T O2 → Claim T O3 → Claim T O4 → Claim T O5 → Claim T O6 → Claim T (O1 × O2 × O3 × O4 × O5 × O6)
+abbrev pub sequence6_claim : {T O1 O2 O3 O4 O5 O6 : Type 0} → Claim T O1 → Claim T O2
+    → Claim T O3 → Claim T O4 → Claim T O5 → Claim T O6 → Claim T (O1 × O2 × O3 × O4 × O5 × O6)
 sequence6_claim c1 c2 c3 c4 c5 c6 = record {
   premise = c1.premise × c2.premise × c3.premise × c4.premise × c5.premise × c6.premise;
-  backtracks = c1.backtracks × c2.backtracks × c3.backtracks × c4.backtracks × c5.backtracks × c6.backtracks;
-  consumes = ((((c1.consumes ⊎ c2.consumes) ⊎ c3.consumes) ⊎ c4.consumes) ⊎ c5.consumes) ⊎ c6.consumes;
+  backtracks = c1.backtracks × c2.backtracks × c3.backtracks × c4.backtracks × c5.backtracks
+      × c6.backtracks;
+  consumes = ((((c1.consumes ⊎ c2.consumes) ⊎ c3.consumes) ⊎ c4.consumes) ⊎ c5.consumes)
+      ⊎ c6.consumes;
   grammar = Six c1.grammar c2.grammar c3.grammar c4.grammar c5.grammar c6.grammar;
   decides = c1.decides × c2.decides × c3.decides × c4.decides × c5.decides × c6.decides;
   alike = AlikeSix c1.alike c2.alike c3.alike c4.alike c5.alike c6.alike;
 }
 
-pub sequence6_claimed : {S1 S2 S3 S4 S5 S6 T O1 O2 O3 O4 O5 O6 : Type 0} {c1 : Claim T O1} {c2 : Claim T O2} {c3 : Claim T O3} {c4 : Claim T O4} {c5 : Claim T O5} {c6 : Claim T O6} {m1 : Meaning S1 T O1} {m2 : Meaning S2 T O2} {m3 : Meaning S3 T O3} {m4 : Meaning S4 T O4} {m5 : Meaning S5 T O5} {m6 : Meaning S6 T O6} {s : S1 × S2 × S3 × S4 × S5 × S6} → Claimed c1 s.0 m1 → Claimed c2 s.1 m2 → Claimed c3 s.2 m3 → Claimed c4 s.3 m4 → Claimed c5 s.4 m5 → Claimed c6 s.5 m6 → Claimed (sequence6_claim c1 c2 c3 c4 c5 c6) s (λ form. SequenceRuns6 (m1 form) (m2 form) (m3 form) (m4 form) (m5 form) (m6 form))
+pub sequence6_claimed : {S1 S2 S3 S4 S5 S6 T O1 O2 O3 O4 O5 O6 : Type 0} {c1 : Claim T O1}
+    {c2 : Claim T O2} {c3 : Claim T O3} {c4 : Claim T O4} {c5 : Claim T O5} {c6 : Claim T O6}
+    {m1 : Meaning S1 T O1} {m2 : Meaning S2 T O2} {m3 : Meaning S3 T O3} {m4 : Meaning S4 T O4}
+    {m5 : Meaning S5 T O5} {m6 : Meaning S6 T O6} {s : S1 × S2 × S3 × S4 × S5 × S6}
+    → Claimed c1 s.0 m1 → Claimed c2 s.1 m2 → Claimed c3 s.2 m3 → Claimed c4 s.3 m4
+    → Claimed c5 s.4 m5 → Claimed c6 s.5 m6
+    → Claimed (sequence6_claim c1 c2 c3 c4 c5 c6) s
+    (λ form. SequenceRuns6 (m1 form) (m2 form) (m3 form) (m4 form) (m5 form) (m6 form))
 sequence6_claimed h1 h2 h3 h4 h5 h6 = record {
-  exact = λ form is. tuple6_exact (h1.exact form is.0) (h2.exact form is.1) (h3.exact form is.2) (h4.exact form is.3) (h5.exact form is.4) (h6.exact form is.5);
-  soft = λ form is soft. tuple6_soft (h1.exact form is.0) (h2.exact form is.1) (h3.exact form is.2) (h4.exact form is.3) (h5.exact form is.4) (h1.soft form is.0 soft.0) (h2.soft form is.1 soft.1) (h3.soft form is.2 soft.2) (h4.soft form is.3 soft.3) (h5.soft form is.4 soft.4) (h6.soft form is.5 soft.5);
-  takes = λ is some. tuple6_takes (h1.exact modal is.0) (h2.exact modal is.1) (h3.exact modal is.2) (h4.exact modal is.3) (h5.exact modal is.4) (h6.exact modal is.5) (either_way (either_way (either_way (either_way (either_way (h1.takes is.0) (h2.takes is.1)) (h3.takes is.2)) (h4.takes is.3)) (h5.takes is.4)) (h6.takes is.5) some);
-  decided = λ form is. tuple6_decided (h1.decided form is.0) (h2.decided form is.1) (h3.decided form is.2) (h4.decided form is.3) (h5.decided form is.4) (h6.decided form is.5);
+  exact = λ form is. tuple6_exact (h1.exact form is.0) (h2.exact form is.1) (h3.exact form is.2)
+      (h4.exact form is.3) (h5.exact form is.4) (h6.exact form is.5);
+  soft = λ form is soft. tuple6_soft (h1.exact form is.0) (h2.exact form is.1)
+      (h3.exact form is.2) (h4.exact form is.3) (h5.exact form is.4)
+      (h1.soft form is.0 soft.0) (h2.soft form is.1 soft.1) (h3.soft form is.2 soft.2)
+      (h4.soft form is.3 soft.3) (h5.soft form is.4 soft.4) (h6.soft form is.5 soft.5);
+  takes = λ is some. tuple6_takes (h1.exact modal is.0) (h2.exact modal is.1)
+      (h3.exact modal is.2) (h4.exact modal is.3) (h5.exact modal is.4) (h6.exact modal is.5)
+      (either_way (either_way
+      (either_way (either_way (either_way (h1.takes is.0) (h2.takes is.1))
+      (h3.takes is.2)) (h4.takes is.3)) (h5.takes is.4)) (h6.takes is.5) some);
+  decided = λ form is. tuple6_decided (h1.decided form is.0) (h2.decided form is.1)
+      (h3.decided form is.2) (h4.decided form is.3) (h5.decided form is.4)
+      (h6.decided form is.5);
 }

@@ -38,21 +38,21 @@ impl<I: Stream, E: ParserError<I>> Parser<I, (), E> for () {
     ghost meaning = { λ _. SequenceRuns0 };
 
     ghost claim = { λ s. record {
-        premise = ⊤;
-        backtracks = ⊤;
-        consumes = ⊥;
-        grammar = Nothing tt;
-        decides = ⊥;
-        alike = λ o p. o ≡ p;
+      premise = ⊤;
+      backtracks = ⊤;
+      consumes = ⊥;
+      grammar = Nothing tt;
+      decides = ⊥;
+      alike = λ o p. o ≡ p;
     } };
 
     ghost leaves_ends = { λ form s i answer t j r. same_ends I.reading i j r.1 };
 
     ghost claimed = { λ s. record {
-        exact = λ form is. unit_exact;
-        soft = λ form is soft. unit_soft;
-        takes = λ is never. absurd never;
-        decided = λ form never. absurd never;
+      exact = λ form is. unit_exact;
+      soft = λ form is soft. unit_soft;
+      takes = λ is never. absurd never;
+      decided = λ form never. absurd never;
     } };
 
     #[inline(always)]
@@ -84,22 +84,24 @@ impl<I: Stream, O1, E: ParserError<I>, P1: Parser<I, O1, E>> Parser<I, (O1,), E>
     ghost meaning = { λ form. SequenceRuns1 (P1.meaning form) };
 
     ghost claim = { λ s. record {
-        premise = (P1.claim s.0).premise;
-        backtracks = (P1.claim s.0).backtracks;
-        consumes = (P1.claim s.0).consumes;
-        grammar = Made OneTuple tt (P1.claim s.0).grammar;
-        decides = ⊥;
-        alike = λ o p. o ≡ p;
+      premise = (P1.claim s.0).premise;
+      backtracks = (P1.claim s.0).backtracks;
+      consumes = (P1.claim s.0).consumes;
+      grammar = Made OneTuple tt (P1.claim s.0).grammar;
+      decides = ⊥;
+      alike = λ o p. o ≡ p;
     } };
 
     ghost leaves_ends = { λ form. sequence1_ends I.reading (P1.meaning form)
         (P1.leaves_ends form) };
 
     ghost claimed = { λ s. record {
-        exact = λ form is. tuple1_exact (P1.meaning form) (record { 0 = s.0 }) ((P1.claimed s.0).exact form is);
-        soft = λ form is soft. tuple1_soft (P1.meaning form) (record { 0 = s.0 }) ((P1.claimed s.0).soft form is soft);
-        takes = λ is some. made_of_takes OneTuple tt ((P1.claimed s.0).takes is some);
-        decided = λ form never. absurd never;
+      exact = λ form is. tuple1_exact (P1.meaning form) (record { 0 = s.0 })
+          ((P1.claimed s.0).exact form is);
+      soft = λ form is soft. tuple1_soft (P1.meaning form) (record { 0 = s.0 })
+          ((P1.claimed s.0).soft form is soft);
+      takes = λ is some. made_of_takes OneTuple tt ((P1.claimed s.0).takes is some);
+      decided = λ form never. absurd never;
     } };
 
     #[inline(always)]
@@ -254,13 +256,15 @@ impl<
     ghost meaning = { λ form. SequenceRuns4 (P1.meaning form) (P2.meaning form)
         (P3.meaning form) (P4.meaning form) };
 
-    ghost claim = { λ s. sequence4_claim (P1.claim s.0) (P2.claim s.1) (P3.claim s.2) (P4.claim s.3) };
+    ghost claim = { λ s. sequence4_claim (P1.claim s.0) (P2.claim s.1) (P3.claim s.2)
+        (P4.claim s.3) };
 
     ghost leaves_ends = { λ form. sequence4_ends I.reading (P1.meaning form) (P2.meaning form)
         (P3.meaning form) (P4.meaning form) (P1.leaves_ends form) (P2.leaves_ends form)
         (P3.leaves_ends form) (P4.leaves_ends form) };
 
-    ghost claimed = { λ s. sequence4_claimed (P1.claimed s.0) (P2.claimed s.1) (P3.claimed s.2) (P4.claimed s.3) };
+    ghost claimed = { λ s. sequence4_claimed (P1.claimed s.0) (P2.claimed s.1) (P3.claimed s.2)
+        (P4.claimed s.3) };
 
     #[inline(always)]
     fn parse_next(&mut self, input: &mut I) -> Result<(O1, O2, O3, O4), E> {
@@ -324,14 +328,16 @@ impl<
     ghost meaning = { λ form. SequenceRuns5 (P1.meaning form) (P2.meaning form)
         (P3.meaning form) (P4.meaning form) (P5.meaning form) };
 
-    ghost claim = { λ s. sequence5_claim (P1.claim s.0) (P2.claim s.1) (P3.claim s.2) (P4.claim s.3) (P5.claim s.4) };
+    ghost claim = { λ s. sequence5_claim (P1.claim s.0) (P2.claim s.1) (P3.claim s.2)
+        (P4.claim s.3) (P5.claim s.4) };
 
     ghost leaves_ends = { λ form. sequence5_ends I.reading (P1.meaning form) (P2.meaning form)
         (P3.meaning form) (P4.meaning form) (P5.meaning form) (P1.leaves_ends form)
         (P2.leaves_ends form) (P3.leaves_ends form) (P4.leaves_ends form)
         (P5.leaves_ends form) };
 
-    ghost claimed = { λ s. sequence5_claimed (P1.claimed s.0) (P2.claimed s.1) (P3.claimed s.2) (P4.claimed s.3) (P5.claimed s.4) };
+    ghost claimed = { λ s. sequence5_claimed (P1.claimed s.0) (P2.claimed s.1) (P3.claimed s.2)
+        (P4.claimed s.3) (P5.claimed s.4) };
 
     #[inline(always)]
     fn parse_next(&mut self, input: &mut I) -> Result<(O1, O2, O3, O4, O5), E> {
@@ -409,14 +415,16 @@ impl<
     ghost meaning = { λ form. SequenceRuns6 (P1.meaning form) (P2.meaning form)
         (P3.meaning form) (P4.meaning form) (P5.meaning form) (P6.meaning form) };
 
-    ghost claim = { λ s. sequence6_claim (P1.claim s.0) (P2.claim s.1) (P3.claim s.2) (P4.claim s.3) (P5.claim s.4) (P6.claim s.5) };
+    ghost claim = { λ s. sequence6_claim (P1.claim s.0) (P2.claim s.1) (P3.claim s.2)
+        (P4.claim s.3) (P5.claim s.4) (P6.claim s.5) };
 
     ghost leaves_ends = { λ form. sequence6_ends I.reading (P1.meaning form) (P2.meaning form)
         (P3.meaning form) (P4.meaning form) (P5.meaning form) (P6.meaning form)
         (P1.leaves_ends form) (P2.leaves_ends form) (P3.leaves_ends form)
         (P4.leaves_ends form) (P5.leaves_ends form) (P6.leaves_ends form) };
 
-    ghost claimed = { λ s. sequence6_claimed (P1.claimed s.0) (P2.claimed s.1) (P3.claimed s.2) (P4.claimed s.3) (P5.claimed s.4) (P6.claimed s.5) };
+    ghost claimed = { λ s. sequence6_claimed (P1.claimed s.0) (P2.claimed s.1) (P3.claimed s.2)
+        (P4.claimed s.3) (P5.claimed s.4) (P6.claimed s.5) };
 
     #[inline(always)]
     fn parse_next(&mut self, input: &mut I) -> Result<(O1, O2, O3, O4, O5, O6), E> {

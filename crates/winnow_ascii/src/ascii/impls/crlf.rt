@@ -36,22 +36,23 @@ impl<I: StreamIsPartial + Compare<&'static str>, E: ParserError<I>> Parser<I, I:
     ghost meaning = { λ form. Keeps (λ _. CrlfRuns I.spells I.reading form) };
 
     ghost claim = { λ s. record {
-        premise = SpellsByText I.spells;
-        backtracks = ⊤;
-        consumes = SpelledBy I.spells (13 ∷ 10 ∷ []) [] → ⊥;
-        grammar = Text I.reading I.spells (13 ∷ 10 ∷ []);
-        decides = ⊥;
-        alike = λ o p. o ≡ p;
+      premise = SpellsByText I.spells;
+      backtracks = ⊤;
+      consumes = SpelledBy I.spells (13 ∷ 10 ∷ []) [] → ⊥;
+      grammar = Text I.reading I.spells (13 ∷ 10 ∷ []);
+      decides = ⊥;
+      alike = λ o p. o ≡ p;
     } };
 
     ghost leaves_ends = { λ form x i answer y j r. crlf_ends I.spells I.reading form i answer j
         r.0 };
 
     ghost claimed = { λ s. record {
-        exact = λ form is. text_exact I.reading form I.spells is I.same_units (13 ∷ 10 ∷ []);
-        soft = λ form is soft. text_soft I.reading form I.spells is I.same_units (13 ∷ 10 ∷ []);
-        takes = λ is some. literally_takes I.reading (SpelledBy I.spells) (λ _ slice. slice) (13 ∷ 10 ∷ []) some;
-        decided = λ form never. absurd never;
+      exact = λ form is. text_exact I.reading form I.spells is I.same_units (13 ∷ 10 ∷ []);
+      soft = λ form is soft. text_soft I.reading form I.spells is I.same_units (13 ∷ 10 ∷ []);
+      takes = λ is some. literally_takes I.reading (SpelledBy I.spells) (λ _ slice. slice)
+          (13 ∷ 10 ∷ []) some;
+      decided = λ form never. absurd never;
     } };
 
     #[inline(always)]

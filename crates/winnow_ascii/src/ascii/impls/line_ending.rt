@@ -38,22 +38,26 @@ impl<I: StreamIsPartial + Compare<&'static str>, E: ParserError<I>> Parser<I, I:
     ghost meaning = { λ form. Keeps (λ _. LineEndingRuns I.spells I.reading form) };
 
     ghost claim = { λ s. record {
-        premise = SpellsByText I.spells;
-        backtracks = ⊤;
-        consumes = (SpelledBy I.spells (10 ∷ []) [] → ⊥) × (SpelledBy I.spells (13 ∷ 10 ∷ []) [] → ⊥);
-        grammar = LineEnd I.reading I.spells;
-        decides = ⊥;
-        alike = λ o p. o ≡ p;
+      premise = SpellsByText I.spells;
+      backtracks = ⊤;
+      consumes = (SpelledBy I.spells (10 ∷ []) [] → ⊥)
+          × (SpelledBy I.spells (13 ∷ 10 ∷ []) [] → ⊥);
+      grammar = LineEnd I.reading I.spells;
+      decides = ⊥;
+      alike = λ o p. o ≡ p;
     } };
 
     ghost leaves_ends = { λ form x i answer y j r. line_ending_ends I.spells I.reading form i
         answer j r.0 };
 
     ghost claimed = { λ s. record {
-        exact = λ form is. line_ending_exact I.reading form I.spells is I.same_units;
-        soft = λ form is soft. line_ending_soft I.reading form I.spells is I.same_units;
-        takes = λ is some. either_takes (literally_takes I.reading (SpelledBy I.spells) (λ _ slice. slice) (10 ∷ []) some.0) (literally_takes I.reading (SpelledBy I.spells) (λ _ slice. slice) (13 ∷ 10 ∷ []) some.1);
-        decided = λ form never. absurd never;
+      exact = λ form is. line_ending_exact I.reading form I.spells is I.same_units;
+      soft = λ form is soft. line_ending_soft I.reading form I.spells is I.same_units;
+      takes = λ is some. either_takes
+          (literally_takes I.reading (SpelledBy I.spells) (λ _ slice. slice) (10 ∷ [])
+          some.0) (literally_takes I.reading (SpelledBy I.spells) (λ _ slice. slice)
+          (13 ∷ 10 ∷ []) some.1);
+      decided = λ form never. absurd never;
     } };
 
     #[inline(always)]

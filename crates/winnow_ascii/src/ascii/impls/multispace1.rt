@@ -44,22 +44,22 @@ where
         (λ _. ClassRuns IsMultispace 1 I.Token.code I.seen_as I.reading form) };
 
     ghost claim = { λ s. record {
-        premise = SeesApart I.seen_as;
-        backtracks = ⊤;
-        consumes = ⊤;
-        grammar = Class IsMultispace 1 I.Token.code I.seen_as I.reading;
-        decides = SeenOnce I.seen_as I.Token.code;
-        alike = ShowSame I.reading;
+      premise = SeesApart I.seen_as;
+      backtracks = ⊤;
+      consumes = ⊤;
+      grammar = Class IsMultispace 1 I.Token.code I.seen_as I.reading;
+      decides = SeenOnce I.seen_as I.Token.code;
+      alike = ShowSame I.reading;
     } };
 
     ghost leaves_ends = { λ form x i answer y j r. class_ends IsMultispace 1 I.Token.code
         I.seen_as I.reading form i answer j r.0 };
 
     ghost claimed = { λ s. record {
-        exact = λ form is. class_exact IsMultispace 1 I.Token.code I.seen_as I.reading form is;
-        soft = λ form is soft. class_soft IsMultispace 1 I.Token.code I.seen_as I.reading form;
-        takes = λ is some. class_takes IsMultispace 1 I.Token.code I.seen_as I.reading one_is_some;
-        decided = λ form is. class_decided IsMultispace 1 I.Token.code I.seen_as I.reading form is;
+      exact = λ form is. class_exact IsMultispace 1 I.Token.code I.seen_as I.reading form is;
+      soft = λ form is soft. class_soft IsMultispace 1 I.Token.code I.seen_as I.reading form;
+      takes = λ is some. class_takes IsMultispace 1 I.Token.code I.seen_as I.reading one_is_some;
+      decided = λ form is. class_decided IsMultispace 1 I.Token.code I.seen_as I.reading form is;
     } };
 
     #[inline(always)]

@@ -36,22 +36,24 @@ impl<I: StreamIsPartial + Compare<char>, E: ParserError<I>> Parser<I, char, E> f
     ghost meaning = { λ form. Keeps (λ _. NewlineRuns I.spells I.reading form) };
 
     ghost claim = { λ s. record {
-        premise = ⊤;
-        backtracks = ⊤;
-        consumes = I.spells 10 [] → ⊥;
-        grammar = Literally I.reading I.spells (λ s _. s) 10;
-        decides = ⊤;
-        alike = λ o p. o ≡ p;
+      premise = ⊤;
+      backtracks = ⊤;
+      consumes = I.spells 10 [] → ⊥;
+      grammar = Literally I.reading I.spells (λ s _. s) 10;
+      decides = ⊤;
+      alike = λ o p. o ≡ p;
     } };
 
     ghost leaves_ends = { λ form x i answer y j r. newline_ends I.spells I.reading form i answer
         j r.0 };
 
     ghost claimed = { λ s. record {
-        exact = λ form is. literal_exact I.reading form I.spells (λ s _. s) (λ _. 10) tt (I.same_units 10);
-        soft = λ form is soft. literal_soft I.reading form I.spells (λ s _. s) (λ _. 10) tt;
-        takes = λ is some. literally_takes I.reading I.spells (λ s _. s) 10 some;
-        decided = λ form is. literal_decided I.reading form I.spells (λ s _. s) (λ _. 10) (λ o q. o ≡ q) tt (I.same_units 10) (λ slice other shown. refl);
+      exact = λ form is. literal_exact I.reading form I.spells (λ s _. s) (λ _. 10) tt
+          (I.same_units 10);
+      soft = λ form is soft. literal_soft I.reading form I.spells (λ s _. s) (λ _. 10) tt;
+      takes = λ is some. literally_takes I.reading I.spells (λ s _. s) 10 some;
+      decided = λ form is. literal_decided I.reading form I.spells (λ s _. s) (λ _. 10)
+          (λ o q. o ≡ q) tt (I.same_units 10) (λ slice other shown. refl);
     } };
 
     #[inline(always)]

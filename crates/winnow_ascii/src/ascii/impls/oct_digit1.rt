@@ -44,22 +44,22 @@ where
         (λ _. ClassRuns IsOctDigit 1 I.Token.code I.seen_as I.reading form) };
 
     ghost claim = { λ s. record {
-        premise = SeesApart I.seen_as;
-        backtracks = ⊤;
-        consumes = ⊤;
-        grammar = Class IsOctDigit 1 I.Token.code I.seen_as I.reading;
-        decides = SeenOnce I.seen_as I.Token.code;
-        alike = ShowSame I.reading;
+      premise = SeesApart I.seen_as;
+      backtracks = ⊤;
+      consumes = ⊤;
+      grammar = Class IsOctDigit 1 I.Token.code I.seen_as I.reading;
+      decides = SeenOnce I.seen_as I.Token.code;
+      alike = ShowSame I.reading;
     } };
 
     ghost leaves_ends = { λ form x i answer y j r. class_ends IsOctDigit 1 I.Token.code
         I.seen_as I.reading form i answer j r.0 };
 
     ghost claimed = { λ s. record {
-        exact = λ form is. class_exact IsOctDigit 1 I.Token.code I.seen_as I.reading form is;
-        soft = λ form is soft. class_soft IsOctDigit 1 I.Token.code I.seen_as I.reading form;
-        takes = λ is some. class_takes IsOctDigit 1 I.Token.code I.seen_as I.reading one_is_some;
-        decided = λ form is. class_decided IsOctDigit 1 I.Token.code I.seen_as I.reading form is;
+      exact = λ form is. class_exact IsOctDigit 1 I.Token.code I.seen_as I.reading form is;
+      soft = λ form is soft. class_soft IsOctDigit 1 I.Token.code I.seen_as I.reading form;
+      takes = λ is some. class_takes IsOctDigit 1 I.Token.code I.seen_as I.reading one_is_some;
+      decided = λ form is. class_decided IsOctDigit 1 I.Token.code I.seen_as I.reading form is;
     } };
 
     #[inline(always)]

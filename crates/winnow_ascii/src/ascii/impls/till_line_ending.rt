@@ -43,22 +43,22 @@ impl<
     ghost meaning = { λ form. Keeps (λ _. TillLineEndingRuns I.spells I.sought I.reading form) };
 
     ghost claim = { λ s. record {
-        premise = SpellsByText I.spells;
-        backtracks = ⊤;
-        consumes = ⊥;
-        grammar = Line I.reading I.spells I.sought;
-        decides = ⊥;
-        alike = λ o p. o ≡ p;
+      premise = SpellsByText I.spells;
+      backtracks = ⊤;
+      consumes = ⊥;
+      grammar = Line I.reading I.spells I.sought;
+      decides = ⊥;
+      alike = λ o p. o ≡ p;
     } };
 
     ghost leaves_ends = { λ form x i answer y j r. till_line_ending_ends I.spells I.sought
         I.reading form i answer j r.0 };
 
     ghost claimed = { λ s. record {
-        exact = λ form is. till_line_ending_exact I.reading form I.spells is I.sought;
-        soft = λ form is soft. till_line_ending_soft I.reading form I.spells is I.sought;
-        takes = λ is never. absurd never;
-        decided = λ form never. absurd never;
+      exact = λ form is. till_line_ending_exact I.reading form I.spells is I.sought;
+      soft = λ form is soft. till_line_ending_soft I.reading form I.spells is I.sought;
+      takes = λ is never. absurd never;
+      decided = λ form never. absurd never;
     } };
 
     #[inline(always)]

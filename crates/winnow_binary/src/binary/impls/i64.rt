@@ -43,22 +43,22 @@ impl<I: StreamIsPartial + ByteStream, E: ParserError<I>> Parser<I, i64, E> for I
     ghost meaning = { λ form. ChosenRuns 8 signed_value I.reading form };
 
     ghost claim = { λ s. record {
-        premise = ⊤;
-        backtracks = ⊤;
-        consumes = ⊤;
-        grammar = Integer 8 (signed_value s);
-        decides = ⊥;
-        alike = λ o p. o ≡ p;
+      premise = ⊤;
+      backtracks = ⊤;
+      consumes = ⊤;
+      grammar = Integer 8 (signed_value s);
+      decides = ⊥;
+      alike = λ o p. o ≡ p;
     } };
 
     ghost leaves_ends = { λ form x i answer y j r. integer_ends 8 (signed_value x) I.reading
         form i answer j r.0 };
 
     ghost claimed = { λ s. record {
-        exact = λ form is. integer_exact 8 signed_value I.reading form s;
-        soft = λ form is soft. integer_soft 8 signed_value I.reading form s;
-        takes = λ is some. integer_takes 8 (signed_value s) (some_bytes 7);
-        decided = λ form never. absurd never;
+      exact = λ form is. integer_exact 8 signed_value I.reading form s;
+      soft = λ form is soft. integer_soft 8 signed_value I.reading form s;
+      takes = λ is some. integer_takes 8 (signed_value s) (some_bytes 7);
+      decided = λ form never. absurd never;
     } };
 
     #[inline(always)]

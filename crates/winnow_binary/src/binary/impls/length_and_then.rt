@@ -54,22 +54,27 @@ impl<
         (P.meaning form) (G.meaning form) };
 
     ghost claim = { λ s. record {
-        premise = (P.claim s.0).premise × SaysOne N.number (P.claim s.0).grammar × (G.claim s.1).premise;
-        backtracks = (P.claim s.0).backtracks × (G.claim s.1).backtracks;
-        consumes = (P.claim s.0).consumes;
-        grammar = Sized N.number (Inside (G.claim s.1).grammar) (P.claim s.0).grammar;
-        decides = ⊥;
-        alike = λ o p. o ≡ p;
+      premise = (P.claim s.0).premise × SaysOne N.number (P.claim s.0).grammar
+          × (G.claim s.1).premise;
+      backtracks = (P.claim s.0).backtracks × (G.claim s.1).backtracks;
+      consumes = (P.claim s.0).consumes;
+      grammar = Sized N.number (Inside (G.claim s.1).grammar) (P.claim s.0).grammar;
+      decides = ⊥;
+      alike = λ o p. o ≡ p;
     } };
 
     ghost leaves_ends = { λ form. length_and_then_ends N.number I.reading form I.counts_missing
         (P.meaning form) (G.meaning form) (P.leaves_ends form) };
 
     ghost claimed = { λ s. record {
-        exact = λ form is. length_and_then_exact N.number I.reading form I.counts_missing is.1 ((P.claimed s.0).exact form is.0) ((G.claimed s.1).exact form is.2);
-        soft = λ form is soft. length_and_then_soft N.number I.reading form I.counts_missing ((P.claimed s.0).exact form is.0) ((P.claimed s.0).soft form is.0 soft.0) ((G.claimed s.1).soft form is.2 soft.1);
-        takes = λ is some. sized_inside_takes N.number (G.claim s.1).grammar ((P.claimed s.0).exact modal is.0).unique ((P.claimed s.0).takes is.0 some);
-        decided = λ form never. absurd never;
+      exact = λ form is. length_and_then_exact N.number I.reading form I.counts_missing is.1
+          ((P.claimed s.0).exact form is.0) ((G.claimed s.1).exact form is.2);
+      soft = λ form is soft. length_and_then_soft N.number I.reading form I.counts_missing
+          ((P.claimed s.0).exact form is.0) ((P.claimed s.0).soft form is.0 soft.0)
+          ((G.claimed s.1).soft form is.2 soft.1);
+      takes = λ is some. sized_inside_takes N.number (G.claim s.1).grammar
+          ((P.claimed s.0).exact modal is.0).unique ((P.claimed s.0).takes is.0 some);
+      decided = λ form never. absurd never;
     } };
 
     #[inline]

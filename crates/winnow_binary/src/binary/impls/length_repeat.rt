@@ -54,12 +54,13 @@ impl<
         (P.meaning form) (G.meaning form) };
 
     ghost claim = { λ s. record {
-        premise = (P.claim s.0).premise × SaysOne N.number (P.claim s.0).grammar × (G.claim s.1).premise × (G.claim s.1).backtracks × (G.claim s.1).consumes;
-        backtracks = (P.claim s.0).backtracks;
-        consumes = (P.claim s.0).consumes;
-        grammar = Sized N.number (Times C.holds (G.claim s.1).grammar) (P.claim s.0).grammar;
-        decides = ⊥;
-        alike = λ o p. o ≡ p;
+      premise = (P.claim s.0).premise × SaysOne N.number (P.claim s.0).grammar
+          × (G.claim s.1).premise × (G.claim s.1).backtracks × (G.claim s.1).consumes;
+      backtracks = (P.claim s.0).backtracks;
+      consumes = (P.claim s.0).consumes;
+      grammar = Sized N.number (Times C.holds (G.claim s.1).grammar) (P.claim s.0).grammar;
+      decides = ⊥;
+      alike = λ o p. o ≡ p;
     } };
 
     ghost leaves_ends = { λ form. length_repeat_ends I.reading N.number C.accumulator
@@ -67,10 +68,18 @@ impl<
         (G.leaves_ends form) };
 
     ghost claimed = { λ s. record {
-        exact = λ form is. length_repeat_exact N.number C.accumulator (assert_kind form) s ((P.claimed s.0).exact form is.0) ((G.claimed s.1).exact form is.2) ((G.claimed s.1).soft form is.2 is.3) ((G.claimed s.1).takes is.2 is.4) C.holds C.gathers is.1;
-        soft = λ form is soft. length_repeat_soft N.number C.accumulator (assert_kind form) s ((P.claimed s.0).exact form is.0) ((G.claimed s.1).exact form is.2) ((G.claimed s.1).soft form is.2 is.3) ((G.claimed s.1).takes is.2 is.4) C.holds C.gathers ((P.claimed s.0).soft form is.0 soft);
-        takes = λ is some. sized_times_takes N.number C.holds ((G.claimed s.1).exact modal is.2).unique ((P.claimed s.0).exact modal is.0).unique ((P.claimed s.0).takes is.0 some);
-        decided = λ form never. absurd never;
+      exact = λ form is. length_repeat_exact N.number C.accumulator (assert_kind form) s
+          ((P.claimed s.0).exact form is.0) ((G.claimed s.1).exact form is.2)
+          ((G.claimed s.1).soft form is.2 is.3) ((G.claimed s.1).takes is.2 is.4) C.holds
+          C.gathers is.1;
+      soft = λ form is soft. length_repeat_soft N.number C.accumulator (assert_kind form) s
+          ((P.claimed s.0).exact form is.0) ((G.claimed s.1).exact form is.2)
+          ((G.claimed s.1).soft form is.2 is.3) ((G.claimed s.1).takes is.2 is.4) C.holds
+          C.gathers ((P.claimed s.0).soft form is.0 soft);
+      takes = λ is some. sized_times_takes N.number C.holds
+          ((G.claimed s.1).exact modal is.2).unique
+          ((P.claimed s.0).exact modal is.0).unique ((P.claimed s.0).takes is.0 some);
+      decided = λ form never. absurd never;
     } };
 
     fn parse_next(&mut self, input: &mut I) -> Result<C, E> {

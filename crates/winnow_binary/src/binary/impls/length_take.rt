@@ -47,22 +47,25 @@ impl<P: Parser<I, N, E>, I: StreamIsPartial, N: ToUsize + Drop, E: ParserError<I
         (P.meaning form) };
 
     ghost claim = { λ s. record {
-        premise = (P.claim s).premise × SaysOne N.number (P.claim s).grammar;
-        backtracks = (P.claim s).backtracks;
-        consumes = (P.claim s).consumes;
-        grammar = Sized N.number (Counted I.reading) (P.claim s).grammar;
-        decides = ⊥;
-        alike = λ o p. o ≡ p;
+      premise = (P.claim s).premise × SaysOne N.number (P.claim s).grammar;
+      backtracks = (P.claim s).backtracks;
+      consumes = (P.claim s).consumes;
+      grammar = Sized N.number (Counted I.reading) (P.claim s).grammar;
+      decides = ⊥;
+      alike = λ o p. o ≡ p;
     } };
 
     ghost leaves_ends = { λ form. length_take_ends N.number I.reading form I.counts_missing
         (P.meaning form) (P.leaves_ends form) };
 
     ghost claimed = { λ s. record {
-        exact = λ form is. length_take_exact N.number I.reading form I.counts_missing is.1 ((P.claimed s).exact form is.0);
-        soft = λ form is soft. length_take_soft N.number I.reading form I.counts_missing ((P.claimed s).exact form is.0) ((P.claimed s).soft form is.0 soft);
-        takes = λ is some. length_take_takes N.number I.reading ((P.claimed s).exact modal is.0) ((P.claimed s).takes is.0 some);
-        decided = λ form never. absurd never;
+      exact = λ form is. length_take_exact N.number I.reading form I.counts_missing is.1
+          ((P.claimed s).exact form is.0);
+      soft = λ form is soft. length_take_soft N.number I.reading form I.counts_missing
+          ((P.claimed s).exact form is.0) ((P.claimed s).soft form is.0 soft);
+      takes = λ is some. length_take_takes N.number I.reading ((P.claimed s).exact modal is.0)
+          ((P.claimed s).takes is.0 some);
+      decided = λ form never. absurd never;
     } };
 
     #[inline]

@@ -43,22 +43,22 @@ impl<I: StreamIsPartial + ByteStream, E: ParserError<I>> Parser<I, u32, E> for U
     ghost meaning = { λ form. ChosenRuns 4 unsigned_value I.reading form };
 
     ghost claim = { λ s. record {
-        premise = ⊤;
-        backtracks = ⊤;
-        consumes = ⊤;
-        grammar = Integer 4 (unsigned_value s);
-        decides = ⊥;
-        alike = λ o p. o ≡ p;
+      premise = ⊤;
+      backtracks = ⊤;
+      consumes = ⊤;
+      grammar = Integer 4 (unsigned_value s);
+      decides = ⊥;
+      alike = λ o p. o ≡ p;
     } };
 
     ghost leaves_ends = { λ form x i answer y j r. integer_ends 4 (unsigned_value x) I.reading
         form i answer j r.0 };
 
     ghost claimed = { λ s. record {
-        exact = λ form is. integer_exact 4 unsigned_value I.reading form s;
-        soft = λ form is soft. integer_soft 4 unsigned_value I.reading form s;
-        takes = λ is some. integer_takes 4 (unsigned_value s) (some_bytes 3);
-        decided = λ form never. absurd never;
+      exact = λ form is. integer_exact 4 unsigned_value I.reading form s;
+      soft = λ form is soft. integer_soft 4 unsigned_value I.reading form s;
+      takes = λ is some. integer_takes 4 (unsigned_value s) (some_bytes 3);
+      decided = λ form never. absurd never;
     } };
 
     #[inline(always)]

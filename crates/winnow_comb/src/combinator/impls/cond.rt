@@ -40,21 +40,21 @@ impl<P: Parser<I, O, E>, I: Stream, O, E: ParserError<I>> Parser<I, Option<O>, E
     ghost meaning = { λ form. CondRuns (P.meaning form) };
 
     ghost claim = { λ s. record {
-        premise = (P.claim s.0).premise;
-        backtracks = (P.claim s.0).backtracks;
-        consumes = ⊥;
-        grammar = When s.1 (P.claim s.0).grammar;
-        decides = ⊥;
-        alike = λ o p. o ≡ p;
+      premise = (P.claim s.0).premise;
+      backtracks = (P.claim s.0).backtracks;
+      consumes = ⊥;
+      grammar = When s.1 (P.claim s.0).grammar;
+      decides = ⊥;
+      alike = λ o p. o ≡ p;
     } };
 
     ghost leaves_ends = { λ form. cond_ends I.reading (P.meaning form) (P.leaves_ends form) };
 
     ghost claimed = { λ s. record {
-        exact = λ form is. cond_exact ((P.claimed s.0).exact form is);
-        soft = λ form is soft. cond_soft ((P.claimed s.0).soft form is soft);
-        takes = λ is never. absurd never;
-        decided = λ form never. absurd never;
+      exact = λ form is. cond_exact ((P.claimed s.0).exact form is);
+      soft = λ form is soft. cond_soft ((P.claimed s.0).soft form is soft);
+      takes = λ is never. absurd never;
+      decided = λ form never. absurd never;
     } };
 
     #[inline(always)]

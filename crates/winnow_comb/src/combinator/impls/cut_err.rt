@@ -39,21 +39,21 @@ impl<P: Parser<I, O, E>, I: Stream, O, E: ParserError<I> + ModalError> Parser<I,
     ghost meaning = { λ form. CutErrRuns (P.meaning form) };
 
     ghost claim = { λ s. record {
-        premise = (P.claim s).premise;
-        backtracks = ⊥;
-        consumes = (P.claim s).consumes;
-        grammar = (P.claim s).grammar;
-        decides = (P.claim s).decides;
-        alike = (P.claim s).alike;
+      premise = (P.claim s).premise;
+      backtracks = ⊥;
+      consumes = (P.claim s).consumes;
+      grammar = (P.claim s).grammar;
+      decides = (P.claim s).decides;
+      alike = (P.claim s).alike;
     } };
 
     ghost leaves_ends = { λ form. cut_err_ends I.reading (P.meaning form) (P.leaves_ends form) };
 
     ghost claimed = { λ s. record {
-        exact = λ form is. cut_err_exact ((P.claimed s).exact form is);
-        soft = λ form is never. absurd never;
-        takes = λ is some. (P.claimed s).takes is some;
-        decided = λ form is. cut_err_decided ((P.claimed s).decided form is);
+      exact = λ form is. cut_err_exact ((P.claimed s).exact form is);
+      soft = λ form is never. absurd never;
+      takes = λ is some. (P.claimed s).takes is some;
+      decided = λ form is. cut_err_decided ((P.claimed s).decided form is);
     } };
 
     #[inline(always)]

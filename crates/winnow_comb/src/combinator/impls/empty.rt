@@ -33,21 +33,21 @@ impl<I: Stream, E: ParserError<I>> Parser<I, (), E> for Empty {
     ghost meaning = { λ _. Keeps (λ _. EmptyRuns) };
 
     ghost claim = { λ s. record {
-        premise = ⊤;
-        backtracks = ⊤;
-        consumes = ⊥;
-        grammar = Nothing tt;
-        decides = ⊥;
-        alike = λ o p. o ≡ p;
+      premise = ⊤;
+      backtracks = ⊤;
+      consumes = ⊥;
+      grammar = Nothing tt;
+      decides = ⊥;
+      alike = λ o p. o ≡ p;
     } };
 
     ghost leaves_ends = { λ form x i answer y j r. same_ends I.reading i j r.0.1 };
 
     ghost claimed = { λ s. record {
-        exact = λ form is. empty_exact;
-        soft = λ form is soft. empty_soft;
-        takes = λ is never. absurd never;
-        decided = λ form never. absurd never;
+      exact = λ form is. empty_exact;
+      soft = λ form is soft. empty_soft;
+      takes = λ is never. absurd never;
+      decided = λ form never. absurd never;
     } };
 
     #[inline(always)]

@@ -33,21 +33,21 @@ impl<I: Stream, O, E: ParserError<I>> Parser<I, O, E> for Fail {
     ghost meaning = { λ _. Keeps (λ _. FailRuns) };
 
     ghost claim = { λ s. record {
-        premise = ⊤;
-        backtracks = ⊤;
-        consumes = ⊤;
-        grammar = Never;
-        decides = ⊥;
-        alike = λ o p. o ≡ p;
+      premise = ⊤;
+      backtracks = ⊤;
+      consumes = ⊤;
+      grammar = Never;
+      decides = ⊥;
+      alike = λ o p. o ≡ p;
     } };
 
     ghost leaves_ends = { λ form x i answer y j r. same_ends I.reading i j r.0.1 };
 
     ghost claimed = { λ s. record {
-        exact = λ form is. fail_exact;
-        soft = λ form is soft. fail_soft;
-        takes = λ is some. never_takes;
-        decided = λ form never. absurd never;
+      exact = λ form is. fail_exact;
+      soft = λ form is soft. fail_soft;
+      takes = λ is some. never_takes;
+      decided = λ form never. absurd never;
     } };
 
     #[inline(always)]

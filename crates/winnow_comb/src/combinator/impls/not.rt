@@ -39,21 +39,22 @@ impl<P: Parser<I, O, E>, I: Stream, O: Drop, E: ParserError<I>> Parser<I, (), E>
     ghost meaning = { λ form. NotRuns (P.meaning form) };
 
     ghost claim = { λ s. record {
-        premise = (P.claim s).premise × (P.claim s).backtracks;
-        backtracks = ⊤;
-        consumes = ⊥;
-        grammar = Absent (P.claim s).grammar;
-        decides = (P.claim s).decides;
-        alike = λ o q. ⊤;
+      premise = (P.claim s).premise × (P.claim s).backtracks;
+      backtracks = ⊤;
+      consumes = ⊥;
+      grammar = Absent (P.claim s).grammar;
+      decides = (P.claim s).decides;
+      alike = λ o q. ⊤;
     } };
 
     ghost leaves_ends = { λ form. not_ends I.reading (P.meaning form) (P.leaves_ends form) };
 
     ghost claimed = { λ s. record {
-        exact = λ form is. not_exact ((P.claimed s).exact form is.0) ((P.claimed s).soft form is.0 is.1);
-        soft = λ form is soft. not_soft ((P.claimed s).soft form is.0 is.1);
-        takes = λ is never. absurd never;
-        decided = λ form is. not_decided ((P.claimed s).decided form is);
+      exact = λ form is. not_exact ((P.claimed s).exact form is.0)
+          ((P.claimed s).soft form is.0 is.1);
+      soft = λ form is soft. not_soft ((P.claimed s).soft form is.0 is.1);
+      takes = λ is never. absurd never;
+      decided = λ form is. not_decided ((P.claimed s).decided form is);
     } };
 
     #[inline(always)]

@@ -40,21 +40,22 @@ impl<P: Parser<I, O, E>, I: Stream, O, E: ParserError<I>> Parser<I, Option<O>, E
     ghost meaning = { λ form. OptRuns (P.meaning form) };
 
     ghost claim = { λ s. record {
-        premise = (P.claim s).premise × (P.claim s).backtracks;
-        backtracks = ⊤;
-        consumes = ⊥;
-        grammar = Maybe (P.claim s).grammar;
-        decides = (P.claim s).decides;
-        alike = AlikeOptions (P.claim s).alike;
+      premise = (P.claim s).premise × (P.claim s).backtracks;
+      backtracks = ⊤;
+      consumes = ⊥;
+      grammar = Maybe (P.claim s).grammar;
+      decides = (P.claim s).decides;
+      alike = AlikeOptions (P.claim s).alike;
     } };
 
     ghost leaves_ends = { λ form. opt_ends I.reading (P.meaning form) (P.leaves_ends form) };
 
     ghost claimed = { λ s. record {
-        exact = λ form is. opt_exact ((P.claimed s).exact form is.0) ((P.claimed s).soft form is.0 is.1);
-        soft = λ form is soft. opt_soft ((P.claimed s).soft form is.0 is.1);
-        takes = λ is never. absurd never;
-        decided = λ form is. opt_decided ((P.claimed s).decided form is);
+      exact = λ form is. opt_exact ((P.claimed s).exact form is.0)
+          ((P.claimed s).soft form is.0 is.1);
+      soft = λ form is soft. opt_soft ((P.claimed s).soft form is.0 is.1);
+      takes = λ is never. absurd never;
+      decided = λ form is. opt_decided ((P.claimed s).decided form is);
     } };
 
     #[inline(always)]

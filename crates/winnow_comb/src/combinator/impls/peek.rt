@@ -38,21 +38,21 @@ impl<P: Parser<I, O, E>, I: Stream, O, E: ParserError<I>> Parser<I, O, E> for Pe
     ghost meaning = { λ form. PeekRuns (P.meaning form) };
 
     ghost claim = { λ s. record {
-        premise = (P.claim s).premise;
-        backtracks = (P.claim s).backtracks;
-        consumes = ⊥;
-        grammar = Ahead (P.claim s).grammar;
-        decides = (P.claim s).decides;
-        alike = (P.claim s).alike;
+      premise = (P.claim s).premise;
+      backtracks = (P.claim s).backtracks;
+      consumes = ⊥;
+      grammar = Ahead (P.claim s).grammar;
+      decides = (P.claim s).decides;
+      alike = (P.claim s).alike;
     } };
 
     ghost leaves_ends = { λ form. peek_ends I.reading (P.meaning form) (P.leaves_ends form) };
 
     ghost claimed = { λ s. record {
-        exact = λ form is. peek_exact ((P.claimed s).exact form is);
-        soft = λ form is soft. peek_soft ((P.claimed s).soft form is soft);
-        takes = λ is never. absurd never;
-        decided = λ form is. peek_decided ((P.claimed s).decided form is);
+      exact = λ form is. peek_exact ((P.claimed s).exact form is);
+      soft = λ form is soft. peek_soft ((P.claimed s).soft form is soft);
+      takes = λ is never. absurd never;
+      decided = λ form is. peek_decided ((P.claimed s).decided form is);
     } };
 
     #[inline(always)]

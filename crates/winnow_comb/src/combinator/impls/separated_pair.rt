@@ -56,12 +56,14 @@ impl<
         (P3.meaning form) };
 
     ghost claim = { λ s. record {
-        premise = (P1.claim s.0).premise × (P2.claim s.1).premise × (P3.claim s.2).premise;
-        backtracks = (P1.claim s.0).backtracks × (P2.claim s.1).backtracks × (P3.claim s.2).backtracks;
-        consumes = ((P1.claim s.0).consumes ⊎ (P2.claim s.1).consumes) ⊎ (P3.claim s.2).consumes;
-        grammar = Three (λ o1 o2 o3. (o1, o3)) (P1.claim s.0).grammar (P2.claim s.1).grammar (P3.claim s.2).grammar;
-        decides = (P1.claim s.0).decides × (P2.claim s.1).decides × (P3.claim s.2).decides;
-        alike = AlikePairs (P1.claim s.0).alike (P3.claim s.2).alike;
+      premise = (P1.claim s.0).premise × (P2.claim s.1).premise × (P3.claim s.2).premise;
+      backtracks =
+          (P1.claim s.0).backtracks × (P2.claim s.1).backtracks × (P3.claim s.2).backtracks;
+      consumes = ((P1.claim s.0).consumes ⊎ (P2.claim s.1).consumes) ⊎ (P3.claim s.2).consumes;
+      grammar = Three (λ o1 o2 o3. (o1, o3)) (P1.claim s.0).grammar (P2.claim s.1).grammar
+          (P3.claim s.2).grammar;
+      decides = (P1.claim s.0).decides × (P2.claim s.1).decides × (P3.claim s.2).decides;
+      alike = AlikePairs (P1.claim s.0).alike (P3.claim s.2).alike;
     } };
 
     ghost leaves_ends = { λ form. three_ends I.reading (λ o1 o2 o3. (o1, o3)) (P1.meaning form)
@@ -69,10 +71,21 @@ impl<
         (P3.leaves_ends form) };
 
     ghost claimed = { λ s. record {
-        exact = λ form is. three_exact ((P1.claimed s.0).exact form is.0) ((P2.claimed s.1).exact form is.1) ((P3.claimed s.2).exact form is.2);
-        soft = λ form is soft. three_soft ((P1.claimed s.0).exact form is.0) ((P2.claimed s.1).exact form is.1) ((P1.claimed s.0).soft form is.0 soft.0) ((P2.claimed s.1).soft form is.1 soft.1) ((P3.claimed s.2).soft form is.2 soft.2);
-        takes = λ is some. three_takes (λ o1 o2 o3. (o1, o3)) ((P1.claimed s.0).exact modal is.0) ((P2.claimed s.1).exact modal is.1) ((P3.claimed s.2).exact modal is.2) (either_way (either_way ((P1.claimed s.0).takes is.0) ((P2.claimed s.1).takes is.1)) ((P3.claimed s.2).takes is.2) some);
-        decided = λ form is. three_decided (AlikePairs (P1.claim s.0).alike (P3.claim s.2).alike) (λ o q r u x y first between last. (first, last)) ((P1.claimed s.0).decided form is.0) ((P2.claimed s.1).decided form is.1) ((P3.claimed s.2).decided form is.2);
+      exact = λ form is. three_exact ((P1.claimed s.0).exact form is.0)
+          ((P2.claimed s.1).exact form is.1) ((P3.claimed s.2).exact form is.2);
+      soft = λ form is soft. three_soft ((P1.claimed s.0).exact form is.0)
+          ((P2.claimed s.1).exact form is.1) ((P1.claimed s.0).soft form is.0 soft.0)
+          ((P2.claimed s.1).soft form is.1 soft.1) ((P3.claimed s.2).soft form is.2 soft.2);
+      takes = λ is some. three_takes (λ o1 o2 o3. (o1, o3))
+          ((P1.claimed s.0).exact modal is.0) ((P2.claimed s.1).exact modal is.1)
+          ((P3.claimed s.2).exact modal is.2)
+          (either_way (either_way ((P1.claimed s.0).takes is.0)
+          ((P2.claimed s.1).takes is.1)) ((P3.claimed s.2).takes is.2) some);
+      decided = λ form is. three_decided
+          (AlikePairs (P1.claim s.0).alike (P3.claim s.2).alike)
+          (λ o q r u x y first between last. (first, last))
+          ((P1.claimed s.0).decided form is.0) ((P2.claimed s.1).decided form is.1)
+          ((P3.claimed s.2).decided form is.2);
     } };
 
     #[inline(always)]

@@ -50,22 +50,27 @@ impl<
     ghost meaning = { λ form. TerminatedRuns (P1.meaning form) (P2.meaning form) };
 
     ghost claim = { λ s. record {
-        premise = (P1.claim s.0).premise × (P2.claim s.1).premise;
-        backtracks = (P1.claim s.0).backtracks × (P2.claim s.1).backtracks;
-        consumes = (P1.claim s.0).consumes ⊎ (P2.claim s.1).consumes;
-        grammar = Both (λ o1 o2. o1) (P1.claim s.0).grammar (P2.claim s.1).grammar;
-        decides = (P1.claim s.0).decides × (P2.claim s.1).decides;
-        alike = (P1.claim s.0).alike;
+      premise = (P1.claim s.0).premise × (P2.claim s.1).premise;
+      backtracks = (P1.claim s.0).backtracks × (P2.claim s.1).backtracks;
+      consumes = (P1.claim s.0).consumes ⊎ (P2.claim s.1).consumes;
+      grammar = Both (λ o1 o2. o1) (P1.claim s.0).grammar (P2.claim s.1).grammar;
+      decides = (P1.claim s.0).decides × (P2.claim s.1).decides;
+      alike = (P1.claim s.0).alike;
     } };
 
     ghost leaves_ends = { λ form. both_ends I.reading (λ o1 o2. o1) (P1.meaning form)
         (P2.meaning form) (P1.leaves_ends form) (P2.leaves_ends form) };
 
     ghost claimed = { λ s. record {
-        exact = λ form is. both_exact ((P1.claimed s.0).exact form is.0) ((P2.claimed s.1).exact form is.1);
-        soft = λ form is soft. both_soft ((P1.claimed s.0).exact form is.0) ((P1.claimed s.0).soft form is.0 soft.0) ((P2.claimed s.1).soft form is.1 soft.1);
-        takes = λ is some. both_takes (λ o1 o2. o1) ((P1.claimed s.0).exact modal is.0) ((P2.claimed s.1).exact modal is.1) (either_way ((P1.claimed s.0).takes is.0) ((P2.claimed s.1).takes is.1) some);
-        decided = λ form is. both_decided (P1.claim s.0).alike (λ o q r u like other. like) ((P1.claimed s.0).decided form is.0) ((P2.claimed s.1).decided form is.1);
+      exact = λ form is. both_exact ((P1.claimed s.0).exact form is.0)
+          ((P2.claimed s.1).exact form is.1);
+      soft = λ form is soft. both_soft ((P1.claimed s.0).exact form is.0)
+          ((P1.claimed s.0).soft form is.0 soft.0) ((P2.claimed s.1).soft form is.1 soft.1);
+      takes = λ is some. both_takes (λ o1 o2. o1) ((P1.claimed s.0).exact modal is.0)
+          ((P2.claimed s.1).exact modal is.1)
+          (either_way ((P1.claimed s.0).takes is.0) ((P2.claimed s.1).takes is.1) some);
+      decided = λ form is. both_decided (P1.claim s.0).alike (λ o q r u like other. like)
+          ((P1.claimed s.0).decided form is.0) ((P2.claimed s.1).decided form is.1);
     } };
 
     #[inline(always)]

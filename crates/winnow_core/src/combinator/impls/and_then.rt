@@ -63,12 +63,14 @@ impl<
     ghost meaning = { λ form. AndThenRuns O.view (F.meaning form) (G.meaning form) };
 
     ghost claim = { λ s. record {
-        premise = (F.claim s.0).premise × (G.claim s.1).premise × (G.claim s.1).backtracks × RejectsAll (ReadsWithin O.view (G.claim s.1).grammar) (NoneWithin O.view (G.claim s.1).grammar) tt (F.claim s.0).grammar;
-        backtracks = (F.claim s.0).backtracks;
-        consumes = (F.claim s.0).consumes;
-        grammar = Made (ReadsWithin O.view (G.claim s.1).grammar) tt (F.claim s.0).grammar;
-        decides = ⊥;
-        alike = λ o p. o ≡ p;
+      premise = (F.claim s.0).premise × (G.claim s.1).premise × (G.claim s.1).backtracks
+          × RejectsAll (ReadsWithin O.view (G.claim s.1).grammar)
+          (NoneWithin O.view (G.claim s.1).grammar) tt (F.claim s.0).grammar;
+      backtracks = (F.claim s.0).backtracks;
+      consumes = (F.claim s.0).consumes;
+      grammar = Made (ReadsWithin O.view (G.claim s.1).grammar) tt (F.claim s.0).grammar;
+      decides = ⊥;
+      alike = λ o p. o ≡ p;
     } };
 
     ghost leaves_ends = { λ form. settles_ends I.reading
@@ -76,10 +78,13 @@ impl<
         (F.leaves_ends form) };
 
     ghost claimed = { λ s. record {
-        exact = λ form is. and_then_exact O.view is.3 ((F.claimed s.0).exact form is.0) ((G.claimed s.1).exact form is.1) ((G.claimed s.1).soft form is.1 is.2);
-        soft = λ form is soft. and_then_soft O.view ((F.claimed s.0).soft form is.0 soft) ((G.claimed s.1).exact form is.1) ((G.claimed s.1).soft form is.1 is.2);
-        takes = λ is some. made_of_takes (ReadsWithin O.view (G.claim s.1).grammar) tt ((F.claimed s.0).takes is.0 some);
-        decided = λ form never. absurd never;
+      exact = λ form is. and_then_exact O.view is.3 ((F.claimed s.0).exact form is.0)
+          ((G.claimed s.1).exact form is.1) ((G.claimed s.1).soft form is.1 is.2);
+      soft = λ form is soft. and_then_soft O.view ((F.claimed s.0).soft form is.0 soft)
+          ((G.claimed s.1).exact form is.1) ((G.claimed s.1).soft form is.1 is.2);
+      takes = λ is some. made_of_takes (ReadsWithin O.view (G.claim s.1).grammar) tt
+          ((F.claimed s.0).takes is.0 some);
+      decided = λ form never. absurd never;
     } };
 
     #[inline]

@@ -38,21 +38,21 @@ impl<'p, P: Parser<I, O, E>, I: Stream, O, E: ParserError<I>> Parser<I, O, E>
     ghost meaning = { λ form. ByRefRuns (P.meaning form) };
 
     ghost claim = { λ s. record {
-        premise = (P.claim s.0).premise;
-        backtracks = (P.claim s.0).backtracks;
-        consumes = (P.claim s.0).consumes;
-        grammar = (P.claim s.0).grammar;
-        decides = (P.claim s.0).decides;
-        alike = (P.claim s.0).alike;
+      premise = (P.claim s.0).premise;
+      backtracks = (P.claim s.0).backtracks;
+      consumes = (P.claim s.0).consumes;
+      grammar = (P.claim s.0).grammar;
+      decides = (P.claim s.0).decides;
+      alike = (P.claim s.0).alike;
     } };
 
     ghost leaves_ends = { λ form s i answer t j r. P.leaves_ends form s.0 i answer t.0 j r.0 };
 
     ghost claimed = { λ s. record {
-        exact = λ form is. by_ref_exact ((P.claimed s.0).exact form is);
-        soft = λ form is soft. by_ref_soft ((P.claimed s.0).soft form is soft);
-        takes = λ is some. (P.claimed s.0).takes is some;
-        decided = λ form is. by_ref_decided ((P.claimed s.0).decided form is);
+      exact = λ form is. by_ref_exact ((P.claimed s.0).exact form is);
+      soft = λ form is soft. by_ref_soft ((P.claimed s.0).soft form is soft);
+      takes = λ is some. (P.claimed s.0).takes is some;
+      decided = λ form is. by_ref_decided ((P.claimed s.0).decided form is);
     } };
 
     #[inline(always)]

@@ -48,12 +48,12 @@ impl<F: Parser<I, O, E>, I: Stream, O, E: ParserError<I>> Parser<I, O, E>
     ghost meaning = { λ form. CompleteErrRuns (F.meaning form) };
 
     ghost claim = { λ s. record {
-        premise = (F.claim s).premise;
-        backtracks = (F.claim s).backtracks;
-        consumes = (F.claim s).consumes;
-        grammar = (F.claim s).grammar;
-        decides = ⊥;
-        alike = λ o p. o ≡ p;
+      premise = (F.claim s).premise;
+      backtracks = (F.claim s).backtracks;
+      consumes = (F.claim s).consumes;
+      grammar = (F.claim s).grammar;
+      decides = ⊥;
+      alike = λ o p. o ≡ p;
     } };
 
     ghost leaves_ends = { λ form s i answer t j ran. makes_error_ends I.reading
@@ -61,10 +61,10 @@ impl<F: Parser<I, O, E>, I: Stream, O, E: ParserError<I>> Parser<I, O, E>
         (F.leaves_ends form) _ i answer _ j ran };
 
     ghost claimed = { λ s. record {
-        exact = λ form is. complete_err_exact ((F.claimed s).exact form is);
-        soft = λ form is soft. complete_err_soft ((F.claimed s).soft form is soft);
-        takes = λ is some. (F.claimed s).takes is some;
-        decided = λ form never. absurd never;
+      exact = λ form is. complete_err_exact ((F.claimed s).exact form is);
+      soft = λ form is soft. complete_err_soft ((F.claimed s).soft form is soft);
+      takes = λ is some. (F.claimed s).takes is some;
+      decided = λ form never. absurd never;
     } };
 
     #[inline]

@@ -69,12 +69,12 @@ impl<
     ghost meaning = { λ form. ContextRuns C.is_clone C.is_infallible (F.meaning form) };
 
     ghost claim = { λ s. record {
-        premise = (F.claim s.0).premise;
-        backtracks = (F.claim s.0).backtracks;
-        consumes = (F.claim s.0).consumes;
-        grammar = (F.claim s.0).grammar;
-        decides = ⊥;
-        alike = λ o p. o ≡ p;
+      premise = (F.claim s.0).premise;
+      backtracks = (F.claim s.0).backtracks;
+      consumes = (F.claim s.0).consumes;
+      grammar = (F.claim s.0).grammar;
+      decides = ⊥;
+      alike = λ o p. o ≡ p;
     } };
 
     ghost leaves_ends = { λ form. makes_error_ends I.reading
@@ -82,10 +82,12 @@ impl<
         (F.leaves_ends form) };
 
     ghost claimed = { λ s. record {
-        exact = λ form is. errors_exact (context_keeps_kinds C.is_clone C.is_infallible) ((F.claimed s.0).exact form is);
-        soft = λ form is soft. errors_soft (context_keeps_kinds C.is_clone C.is_infallible) ((F.claimed s.0).soft form is soft);
-        takes = λ is some. (F.claimed s.0).takes is some;
-        decided = λ form never. absurd never;
+      exact = λ form is. errors_exact (context_keeps_kinds C.is_clone C.is_infallible)
+          ((F.claimed s.0).exact form is);
+      soft = λ form is soft. errors_soft (context_keeps_kinds C.is_clone C.is_infallible)
+          ((F.claimed s.0).soft form is soft);
+      takes = λ is some. (F.claimed s.0).takes is some;
+      decided = λ form never. absurd never;
     } };
 
     #[inline]

@@ -52,22 +52,25 @@ impl<F: Parser<I, O, E>, I: Stream, O: Drop, O2: Default, E: ParserError<I>> Par
     ghost meaning = { λ form. DefaultValueRuns O2.is_default (F.meaning form) };
 
     ghost claim = { λ s. record {
-        premise = (F.claim s).premise;
-        backtracks = (F.claim s).backtracks;
-        consumes = (F.claim s).consumes;
-        grammar = Made (λ (_ : Unit {0}) o u. O2.is_default u) tt (F.claim s).grammar;
-        decides = ⊥;
-        alike = λ o p. o ≡ p;
+      premise = (F.claim s).premise;
+      backtracks = (F.claim s).backtracks;
+      consumes = (F.claim s).consumes;
+      grammar = Made (λ (_ : Unit {0}) o u. O2.is_default u) tt (F.claim s).grammar;
+      decides = ⊥;
+      alike = λ o p. o ≡ p;
     } };
 
     ghost leaves_ends = { λ form. makes_output_ends I.reading _ (F.meaning form)
         (F.leaves_ends form) };
 
     ghost claimed = { λ s. record {
-        exact = λ form is. output_exact (λ (_ : Unit {0}) o u. O2.is_default u) tt ((F.claimed s).exact form is);
-        soft = λ form is soft. output_soft (λ o u. O2.is_default u) ((F.claimed s).soft form is soft);
-        takes = λ is some. made_of_takes (λ (_ : Unit {0}) o u. O2.is_default u) tt ((F.claimed s).takes is some);
-        decided = λ form never. absurd never;
+      exact = λ form is. output_exact (λ (_ : Unit {0}) o u. O2.is_default u) tt
+          ((F.claimed s).exact form is);
+      soft = λ form is soft. output_soft (λ o u. O2.is_default u)
+          ((F.claimed s).soft form is soft);
+      takes = λ is some. made_of_takes (λ (_ : Unit {0}) o u. O2.is_default u) tt
+          ((F.claimed s).takes is some);
+      decided = λ form never. absurd never;
     } };
 
     #[inline]

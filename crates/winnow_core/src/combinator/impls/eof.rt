@@ -30,21 +30,21 @@ impl<I: Stream, E: ParserError<I>> Parser<I, I::Slice, E> for Eof {
     ghost meaning = { λ _. Keeps (λ _. EofRuns I.reading) };
 
     ghost claim = { λ s. record {
-        premise = ⊤;
-        backtracks = ⊤;
-        consumes = ⊥;
-        grammar = NoTokens I.reading;
-        decides = ⊥;
-        alike = λ o p. o ≡ p;
+      premise = ⊤;
+      backtracks = ⊤;
+      consumes = ⊥;
+      grammar = NoTokens I.reading;
+      decides = ⊥;
+      alike = λ o p. o ≡ p;
     } };
 
     ghost leaves_ends = { λ form x i answer y j r. eof_ends I.reading i answer j r.0 };
 
     ghost claimed = { λ s. record {
-        exact = λ form is. eof_exact I.reading;
-        soft = λ form is soft. eof_soft I.reading;
-        takes = λ is never. absurd never;
-        decided = λ form never. absurd never;
+      exact = λ form is. eof_exact I.reading;
+      soft = λ form is soft. eof_soft I.reading;
+      takes = λ is never. absurd never;
+      decided = λ form never. absurd never;
     } };
 
     #[inline(always)]

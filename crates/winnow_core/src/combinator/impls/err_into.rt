@@ -52,12 +52,12 @@ impl<F: Parser<I, O, E>, I: Stream, O, E: ParserError<I>, E2: ParserError<I> + F
     ghost meaning = { λ _. ErrIntoRuns E.kind E2.kind E2.from_gives (F.meaning E.form) };
 
     ghost claim = { λ s. record {
-        premise = (F.claim s).premise × SameKinds E.kind E2.kind E2.from_gives;
-        backtracks = (F.claim s).backtracks;
-        consumes = (F.claim s).consumes;
-        grammar = (F.claim s).grammar;
-        decides = ⊥;
-        alike = λ o p. o ≡ p;
+      premise = (F.claim s).premise × SameKinds E.kind E2.kind E2.from_gives;
+      backtracks = (F.claim s).backtracks;
+      consumes = (F.claim s).consumes;
+      grammar = (F.claim s).grammar;
+      decides = ⊥;
+      alike = λ o p. o ≡ p;
     } };
 
     ghost leaves_ends = { λ _ s i answer t j ran. makes_error_ends I.reading
@@ -65,10 +65,12 @@ impl<F: Parser<I, O, E>, I: Stream, O, E: ParserError<I>, E2: ParserError<I> + F
         (F.leaves_ends E.form) _ i answer _ j ran };
 
     ghost claimed = { λ s. record {
-        exact = λ form is. err_into_exact E.kind E2.kind E2.from_gives is.1 ((F.claimed s).exact E.form is.0);
-        soft = λ form is soft. err_into_soft E.kind E2.kind E2.from_gives is.1 ((F.claimed s).soft E.form is.0 soft);
-        takes = λ is some. (F.claimed s).takes is.0 some;
-        decided = λ form never. absurd never;
+      exact = λ form is. err_into_exact E.kind E2.kind E2.from_gives is.1
+          ((F.claimed s).exact E.form is.0);
+      soft = λ form is soft. err_into_soft E.kind E2.kind E2.from_gives is.1
+          ((F.claimed s).soft E.form is.0 soft);
+      takes = λ is some. (F.claimed s).takes is.0 some;
+      decided = λ form never. absurd never;
     } };
 
     #[inline]

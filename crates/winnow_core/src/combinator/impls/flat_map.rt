@@ -63,22 +63,39 @@ impl<
     ghost meaning = { λ form. FlatMapRuns G.step H.state (F.meaning form) (H.meaning form) };
 
     ghost claim = { λ s. record {
-        premise = (F.claim s.0).premise × Stays G.step s.1 × EachMade (Gives G.step) s.1 (λ m. (H.claim (H.state m)).premise) × MadeAlike (Gives G.step) s.1 (λ m. (H.claim (H.state m)).grammar) (F.claim s.0).grammar;
-        backtracks = (F.claim s.0).backtracks × EachMade (Gives G.step) s.1 (λ m. (H.claim (H.state m)).backtracks);
-        consumes = (F.claim s.0).consumes ⊎ EachMade (Gives G.step) s.1 (λ m. (H.claim (H.state m)).consumes);
-        grammar = Decided (Gives G.step) s.1 (λ m. (H.claim (H.state m)).grammar) (F.claim s.0).grammar;
-        decides = ⊥;
-        alike = λ o p. o ≡ p;
+      premise = (F.claim s.0).premise × Stays G.step s.1
+          × EachMade (Gives G.step) s.1 (λ m. (H.claim (H.state m)).premise)
+          × MadeAlike (Gives G.step) s.1 (λ m. (H.claim (H.state m)).grammar)
+          (F.claim s.0).grammar;
+      backtracks =
+          (F.claim s.0).backtracks
+          × EachMade (Gives G.step) s.1 (λ m. (H.claim (H.state m)).backtracks);
+      consumes = (F.claim s.0).consumes
+          ⊎ EachMade (Gives G.step) s.1 (λ m. (H.claim (H.state m)).consumes);
+      grammar = Decided (Gives G.step) s.1 (λ m. (H.claim (H.state m)).grammar)
+          (F.claim s.0).grammar;
+      decides = ⊥;
+      alike = λ o p. o ≡ p;
     } };
 
     ghost leaves_ends = { λ form. flat_map_ends I.reading G.step H.state (F.meaning form)
         (H.meaning form) (F.leaves_ends form) (H.leaves_ends form) };
 
     ghost claimed = { λ s. record {
-        exact = λ form is. flat_map_exact G.step H.state (λ m. (H.claim (H.state m)).grammar) is.1 ((F.claimed s.0).exact form is.0) (λ o made m. (H.claimed (H.state made)).exact form (is.2 o made m)) is.3;
-        soft = λ form is soft. flat_map_soft G.step H.state (λ m. (H.claim (H.state m)).grammar) is.1 ((F.claimed s.0).exact form is.0) ((F.claimed s.0).soft form is.0 soft.0) (λ o made m. (H.claimed (H.state made)).soft form (is.2 o made m) (soft.1 o made m));
-        takes = λ is some. decided_takes (Gives G.step) s.1 (λ m. (H.claim (H.state m)).grammar) ((F.claimed s.0).exact modal is.0).unique (λ o made m. ((H.claimed (H.state made)).exact modal (is.2 o made m)).unique) (either_way ((F.claimed s.0).takes is.0) (λ each o made m. (H.claimed (H.state made)).takes (is.2 o made m) (each o made m)) some);
-        decided = λ form never. absurd never;
+      exact = λ form is. flat_map_exact G.step H.state (λ m. (H.claim (H.state m)).grammar)
+          is.1 ((F.claimed s.0).exact form is.0)
+          (λ o made m. (H.claimed (H.state made)).exact form (is.2 o made m)) is.3;
+      soft = λ form is soft. flat_map_soft G.step H.state (λ m. (H.claim (H.state m)).grammar)
+          is.1 ((F.claimed s.0).exact form is.0) ((F.claimed s.0).soft form is.0 soft.0)
+          (λ o made m. (H.claimed (H.state made)).soft form (is.2 o made m)
+          (soft.1 o made m));
+      takes = λ is some. decided_takes (Gives G.step) s.1 (λ m. (H.claim (H.state m)).grammar)
+          ((F.claimed s.0).exact modal is.0).unique
+          (λ o made m. ((H.claimed (H.state made)).exact modal (is.2 o made m)).unique)
+          (either_way ((F.claimed s.0).takes is.0)
+          (λ each o made m. (H.claimed (H.state made)).takes (is.2 o made m)
+          (each o made m)) some);
+      decided = λ form never. absurd never;
     } };
 
     #[inline]

@@ -57,21 +57,21 @@ impl<F: Parser<I, O, E>, G: FnMut(O) -> O2, I: Stream, O, O2, E: ParserError<I>>
     ghost meaning = { λ form. MapRuns (F.meaning form) G.step };
 
     ghost claim = { λ s. record {
-        premise = (F.claim s.0).premise × Stays G.step s.1;
-        backtracks = (F.claim s.0).backtracks;
-        consumes = (F.claim s.0).consumes;
-        grammar = Made (Gives G.step) s.1 (F.claim s.0).grammar;
-        decides = (F.claim s.0).decides × Stays G.step s.1;
-        alike = MadeAlike (F.claim s.0).alike (Gives G.step s.1);
+      premise = (F.claim s.0).premise × Stays G.step s.1;
+      backtracks = (F.claim s.0).backtracks;
+      consumes = (F.claim s.0).consumes;
+      grammar = Made (Gives G.step) s.1 (F.claim s.0).grammar;
+      decides = (F.claim s.0).decides × Stays G.step s.1;
+      alike = MadeAlike (F.claim s.0).alike (Gives G.step s.1);
     } };
 
     ghost leaves_ends = { λ form. map_ends I.reading (F.meaning form) G.step (F.leaves_ends form) };
 
     ghost claimed = { λ s. record {
-        exact = λ form is. map_exact G.step is.1 ((F.claimed s.0).exact form is.0);
-        soft = λ form is soft. map_soft G.step is.1 ((F.claimed s.0).soft form is.0 soft);
-        takes = λ is some. made_of_takes (Gives G.step) s.1 ((F.claimed s.0).takes is.0 some);
-        decided = λ form is. map_decided G.step is.1 ((F.claimed s.0).decided form is.0);
+      exact = λ form is. map_exact G.step is.1 ((F.claimed s.0).exact form is.0);
+      soft = λ form is soft. map_soft G.step is.1 ((F.claimed s.0).soft form is.0 soft);
+      takes = λ is some. made_of_takes (Gives G.step) s.1 ((F.claimed s.0).takes is.0 some);
+      decided = λ form is. map_decided G.step is.1 ((F.claimed s.0).decided form is.0);
     } };
 
     #[inline(always)]

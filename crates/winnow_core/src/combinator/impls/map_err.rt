@@ -59,12 +59,12 @@ impl<
     ghost meaning = { λ _. MapErrRuns E.kind E2.kind G.step (F.meaning E.form) };
 
     ghost claim = { λ s. record {
-        premise = (F.claim s.0).premise × Stays G.step s.1 × KeepsEachKind E.kind E2.kind G.step;
-        backtracks = (F.claim s.0).backtracks;
-        consumes = (F.claim s.0).consumes;
-        grammar = (F.claim s.0).grammar;
-        decides = ⊥;
-        alike = λ o p. o ≡ p;
+      premise = (F.claim s.0).premise × Stays G.step s.1 × KeepsEachKind E.kind E2.kind G.step;
+      backtracks = (F.claim s.0).backtracks;
+      consumes = (F.claim s.0).consumes;
+      grammar = (F.claim s.0).grammar;
+      decides = ⊥;
+      alike = λ o p. o ≡ p;
     } };
 
     ghost leaves_ends = { λ _. makes_error_ends I.reading (MapErrBecomes E.kind E2.kind G.step)
@@ -72,10 +72,12 @@ impl<
         (F.leaves_ends E.form) };
 
     ghost claimed = { λ s. record {
-        exact = λ form is. map_err_exact E.kind E2.kind G.step is.2 is.1 ((F.claimed s.0).exact E.form is.0);
-        soft = λ form is soft. map_err_soft E.kind E2.kind G.step is.2 is.1 ((F.claimed s.0).soft E.form is.0 soft);
-        takes = λ is some. (F.claimed s.0).takes is.0 some;
-        decided = λ form never. absurd never;
+      exact = λ form is. map_err_exact E.kind E2.kind G.step is.2 is.1
+          ((F.claimed s.0).exact E.form is.0);
+      soft = λ form is soft. map_err_soft E.kind E2.kind G.step is.2 is.1
+          ((F.claimed s.0).soft E.form is.0 soft);
+      takes = λ is some. (F.claimed s.0).takes is.0 some;
+      decided = λ form never. absurd never;
     } };
 
     #[inline]

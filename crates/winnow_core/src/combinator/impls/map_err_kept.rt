@@ -66,22 +66,24 @@ impl<
     ghost meaning = { λ form. MapErrKeptRuns E.kind E2.kind G.step (F.meaning form) };
 
     ghost claim = { λ s. record {
-        premise = (F.claim s.0).premise × Stays G.step s.1;
-        backtracks = (F.claim s.0).backtracks;
-        consumes = (F.claim s.0).consumes;
-        grammar = (F.claim s.0).grammar;
-        decides = ⊥;
-        alike = λ o p. o ≡ p;
+      premise = (F.claim s.0).premise × Stays G.step s.1;
+      backtracks = (F.claim s.0).backtracks;
+      consumes = (F.claim s.0).consumes;
+      grammar = (F.claim s.0).grammar;
+      decides = ⊥;
+      alike = λ o p. o ≡ p;
     } };
 
     ghost leaves_ends = { λ form. makes_error_ends I.reading
         (MapErrKeptBecomes E.kind E2.kind G.step) (F.meaning form) (F.leaves_ends form) };
 
     ghost claimed = { λ s. record {
-        exact = λ form is. map_err_kept_exact E.kind E2.kind G.step is.1 ((F.claimed s.0).exact form is.0);
-        soft = λ form is soft. map_err_kept_soft E.kind E2.kind G.step is.1 ((F.claimed s.0).soft form is.0 soft);
-        takes = λ is some. (F.claimed s.0).takes is.0 some;
-        decided = λ form never. absurd never;
+      exact = λ form is. map_err_kept_exact E.kind E2.kind G.step is.1
+          ((F.claimed s.0).exact form is.0);
+      soft = λ form is soft. map_err_kept_soft E.kind E2.kind G.step is.1
+          ((F.claimed s.0).soft form is.0 soft);
+      takes = λ is some. (F.claimed s.0).takes is.0 some;
+      decided = λ form never. absurd never;
     } };
 
     #[inline]

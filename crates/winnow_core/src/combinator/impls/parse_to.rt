@@ -59,12 +59,13 @@ impl<F: Parser<I, O, E>, I: Stream, O: ParseSlice<O2> + Drop, O2, E: ParserError
     ghost meaning = { λ form. ParseToRuns O.reads (F.meaning form) };
 
     ghost claim = { λ s. record {
-        premise = (F.claim s).premise × RejectsAll (ReadsSome O.reads) (ReadsNone O.reads) tt (F.claim s).grammar;
-        backtracks = (F.claim s).backtracks;
-        consumes = (F.claim s).consumes;
-        grammar = Made (ReadsSome O.reads) tt (F.claim s).grammar;
-        decides = (F.claim s).decides × ReadsSame O.reads (F.claim s).alike;
-        alike = MadeAlike (F.claim s).alike (λ o u. O.reads o (Some u));
+      premise = (F.claim s).premise
+          × RejectsAll (ReadsSome O.reads) (ReadsNone O.reads) tt (F.claim s).grammar;
+      backtracks = (F.claim s).backtracks;
+      consumes = (F.claim s).consumes;
+      grammar = Made (ReadsSome O.reads) tt (F.claim s).grammar;
+      decides = (F.claim s).decides × ReadsSame O.reads (F.claim s).alike;
+      alike = MadeAlike (F.claim s).alike (λ o u. O.reads o (Some u));
     } };
 
     ghost leaves_ends = { λ form s i answer t j ran. settles_ends I.reading
@@ -72,10 +73,10 @@ impl<F: Parser<I, O, E>, I: Stream, O: ParseSlice<O2> + Drop, O2, E: ParserError
         (F.leaves_ends form) _ i answer _ j ran };
 
     ghost claimed = { λ s. record {
-        exact = λ form is. parse_to_exact O.reads is.1 ((F.claimed s).exact form is.0);
-        soft = λ form is soft. parse_to_soft O.reads ((F.claimed s).soft form is.0 soft);
-        takes = λ is some. made_of_takes (ReadsSome O.reads) tt ((F.claimed s).takes is.0 some);
-        decided = λ form is. parse_to_decided O.reads is.1 ((F.claimed s).decided form is.0);
+      exact = λ form is. parse_to_exact O.reads is.1 ((F.claimed s).exact form is.0);
+      soft = λ form is soft. parse_to_soft O.reads ((F.claimed s).soft form is.0 soft);
+      takes = λ is some. made_of_takes (ReadsSome O.reads) tt ((F.claimed s).takes is.0 some);
+      decided = λ form is. parse_to_decided O.reads is.1 ((F.claimed s).decided form is.0);
     } };
 
     #[inline]

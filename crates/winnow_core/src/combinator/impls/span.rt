@@ -53,22 +53,22 @@ impl<F: Parser<I, O, E>, I: Location, O: Drop, E: ParserError<I>> Parser<I, Rang
     ghost meaning = { λ form. SpanRuns (F.meaning form) };
 
     ghost claim = { λ s. record {
-        premise = (F.claim s).premise;
-        backtracks = (F.claim s).backtracks;
-        consumes = (F.claim s).consumes;
-        grammar = Made AnyPlaces tt (F.claim s).grammar;
-        decides = ⊥;
-        alike = λ o p. o ≡ p;
+      premise = (F.claim s).premise;
+      backtracks = (F.claim s).backtracks;
+      consumes = (F.claim s).consumes;
+      grammar = Made AnyPlaces tt (F.claim s).grammar;
+      decides = ⊥;
+      alike = λ o p. o ≡ p;
     } };
 
     ghost leaves_ends = { λ form. makes_output_ends I.reading _ (F.meaning form)
         (F.leaves_ends form) };
 
     ghost claimed = { λ s. record {
-        exact = λ form is. span_exact (F.meaning form) (s) ((F.claimed s).exact form is);
-        soft = λ form is soft. span_soft (F.meaning form) (s) ((F.claimed s).soft form is soft);
-        takes = λ is some. made_of_takes AnyPlaces tt ((F.claimed s).takes is some);
-        decided = λ form never. absurd never;
+      exact = λ form is. span_exact (F.meaning form) (s) ((F.claimed s).exact form is);
+      soft = λ form is soft. span_soft (F.meaning form) (s) ((F.claimed s).soft form is soft);
+      takes = λ is some. made_of_takes AnyPlaces tt ((F.claimed s).takes is some);
+      decided = λ form never. absurd never;
     } };
 
     #[inline]

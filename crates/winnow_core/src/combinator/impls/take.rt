@@ -53,21 +53,21 @@ impl<F: Parser<I, O, E>, I: Stream, O: Drop, E: ParserError<I>> Parser<I, I::Sli
     ghost meaning = { λ form. TakeRuns I.reading (F.meaning form) };
 
     ghost claim = { λ s. record {
-        premise = (F.claim s).premise;
-        backtracks = (F.claim s).backtracks;
-        consumes = (F.claim s).consumes;
-        grammar = Taken I.reading (F.claim s).grammar;
-        decides = (F.claim s).decides;
-        alike = ShowSame I.reading;
+      premise = (F.claim s).premise;
+      backtracks = (F.claim s).backtracks;
+      consumes = (F.claim s).consumes;
+      grammar = Taken I.reading (F.claim s).grammar;
+      decides = (F.claim s).decides;
+      alike = ShowSame I.reading;
     } };
 
     ghost leaves_ends = { λ form. take_ends I.reading (F.meaning form) (F.leaves_ends form) };
 
     ghost claimed = { λ s. record {
-        exact = λ form is. take_exact I.reading ((F.claimed s).exact form is);
-        soft = λ form is soft. take_soft I.reading ((F.claimed s).soft form is soft);
-        takes = λ is some. taken_takes I.reading ((F.claimed s).takes is some);
-        decided = λ form is. take_decided I.reading ((F.claimed s).decided form is);
+      exact = λ form is. take_exact I.reading ((F.claimed s).exact form is);
+      soft = λ form is soft. take_soft I.reading ((F.claimed s).soft form is soft);
+      takes = λ is some. taken_takes I.reading ((F.claimed s).takes is some);
+      decided = λ form is. take_decided I.reading ((F.claimed s).decided form is);
     } };
 
     #[inline]

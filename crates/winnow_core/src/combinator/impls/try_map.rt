@@ -66,12 +66,13 @@ impl<
     ghost meaning = { λ form. TryMapRuns G.step (F.meaning form) };
 
     ghost claim = { λ s. record {
-        premise = (F.claim s.0).premise × Stays G.step s.1.0 × RejectsAll (GivesOk G.step) (GivesErr G.step) s.1.0 (F.claim s.0).grammar;
-        backtracks = (F.claim s.0).backtracks;
-        consumes = (F.claim s.0).consumes;
-        grammar = Made (GivesOk G.step) s.1.0 (F.claim s.0).grammar;
-        decides = ⊥;
-        alike = λ o p. o ≡ p;
+      premise = (F.claim s.0).premise × Stays G.step s.1.0
+          × RejectsAll (GivesOk G.step) (GivesErr G.step) s.1.0 (F.claim s.0).grammar;
+      backtracks = (F.claim s.0).backtracks;
+      consumes = (F.claim s.0).consumes;
+      grammar = Made (GivesOk G.step) s.1.0 (F.claim s.0).grammar;
+      decides = ⊥;
+      alike = λ o p. o ≡ p;
     } };
 
     ghost leaves_ends = { λ form. settles_ends I.reading
@@ -79,10 +80,10 @@ impl<
         (F.leaves_ends form) };
 
     ghost claimed = { λ s. record {
-        exact = λ form is. try_map_exact G.step is.1 is.2 ((F.claimed s.0).exact form is.0);
-        soft = λ form is soft. try_map_soft G.step is.1 ((F.claimed s.0).soft form is.0 soft);
-        takes = λ is some. made_of_takes (GivesOk G.step) s.1.0 ((F.claimed s.0).takes is.0 some);
-        decided = λ form never. absurd never;
+      exact = λ form is. try_map_exact G.step is.1 is.2 ((F.claimed s.0).exact form is.0);
+      soft = λ form is soft. try_map_soft G.step is.1 ((F.claimed s.0).soft form is.0 soft);
+      takes = λ is some. made_of_takes (GivesOk G.step) s.1.0 ((F.claimed s.0).takes is.0 some);
+      decided = λ form never. absurd never;
     } };
 
     #[inline]

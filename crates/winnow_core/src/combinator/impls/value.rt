@@ -54,22 +54,25 @@ impl<F: Parser<I, O, E>, I: Stream, O: Drop, O2: Clone, E: ParserError<I>> Parse
     ghost meaning = { λ form. ValueRuns O2.is_clone O2.is_infallible (F.meaning form) };
 
     ghost claim = { λ s. record {
-        premise = (F.claim s.0).premise;
-        backtracks = (F.claim s.0).backtracks;
-        consumes = (F.claim s.0).consumes;
-        grammar = Made (λ v o u. O2.is_clone v u) s.1 (F.claim s.0).grammar;
-        decides = (F.claim s.0).decides;
-        alike = BothClones O2.is_clone s.1;
+      premise = (F.claim s.0).premise;
+      backtracks = (F.claim s.0).backtracks;
+      consumes = (F.claim s.0).consumes;
+      grammar = Made (λ v o u. O2.is_clone v u) s.1 (F.claim s.0).grammar;
+      decides = (F.claim s.0).decides;
+      alike = BothClones O2.is_clone s.1;
     } };
 
     ghost leaves_ends = { λ form. value_ends I.reading O2.is_clone O2.is_infallible
         (F.meaning form) (F.leaves_ends form) };
 
     ghost claimed = { λ s. record {
-        exact = λ form is. value_exact O2.is_clone O2.is_infallible ((F.claimed s.0).exact form is);
-        soft = λ form is soft. value_soft O2.is_clone O2.is_infallible ((F.claimed s.0).soft form is soft);
-        takes = λ is some. made_of_takes (λ v o u. O2.is_clone v u) s.1 ((F.claimed s.0).takes is some);
-        decided = λ form is. value_decided O2.is_clone O2.is_infallible ((F.claimed s.0).decided form is);
+      exact = λ form is. value_exact O2.is_clone O2.is_infallible ((F.claimed s.0).exact form is);
+      soft = λ form is soft. value_soft O2.is_clone O2.is_infallible
+          ((F.claimed s.0).soft form is soft);
+      takes = λ is some. made_of_takes (λ v o u. O2.is_clone v u) s.1
+          ((F.claimed s.0).takes is some);
+      decided = λ form is. value_decided O2.is_clone O2.is_infallible
+          ((F.claimed s.0).decided form is);
     } };
 
     #[inline]

@@ -63,12 +63,15 @@ impl<F: Parser<I, O, E>, G: FnMut(&O) -> bool, I: Stream, O: Drop, E: ParserErro
     ghost meaning = { λ form. VerifyRuns (CalledAt G.FnMut) (F.meaning form) };
 
     ghost claim = { λ s. record {
-        premise = (F.claim s.0).premise × Stays (CalledAt G.FnMut) s.1 × RejectsAll (Finds (CalledAt G.FnMut)) (Misses (CalledAt G.FnMut)) s.1 (F.claim s.0).grammar;
-        backtracks = (F.claim s.0).backtracks;
-        consumes = (F.claim s.0).consumes;
-        grammar = Made (Finds (CalledAt G.FnMut)) s.1 (F.claim s.0).grammar;
-        decides = (F.claim s.0).decides × Stays (CalledAt G.FnMut) s.1 × FindsSame (CalledAt G.FnMut) s.1 (F.claim s.0).alike;
-        alike = (F.claim s.0).alike;
+      premise = (F.claim s.0).premise × Stays (CalledAt G.FnMut) s.1
+          × RejectsAll (Finds (CalledAt G.FnMut)) (Misses (CalledAt G.FnMut)) s.1
+          (F.claim s.0).grammar;
+      backtracks = (F.claim s.0).backtracks;
+      consumes = (F.claim s.0).consumes;
+      grammar = Made (Finds (CalledAt G.FnMut)) s.1 (F.claim s.0).grammar;
+      decides = (F.claim s.0).decides × Stays (CalledAt G.FnMut) s.1
+          × FindsSame (CalledAt G.FnMut) s.1 (F.claim s.0).alike;
+      alike = (F.claim s.0).alike;
     } };
 
     ghost leaves_ends = { λ form. settles_ends I.reading (VerifySettles (CalledAt G.FnMut))
@@ -76,10 +79,14 @@ impl<F: Parser<I, O, E>, G: FnMut(&O) -> bool, I: Stream, O: Drop, E: ParserErro
         (F.leaves_ends form) };
 
     ghost claimed = { λ s. record {
-        exact = λ form is. settled_exact (verify_settler (CalledAt G.FnMut) is.1) is.2 ((F.claimed s.0).exact form is.0);
-        soft = λ form is soft. settled_soft (verify_settler (CalledAt G.FnMut) is.1) ((F.claimed s.0).soft form is.0 soft);
-        takes = λ is some. made_of_takes (Finds (CalledAt G.FnMut)) s.1 ((F.claimed s.0).takes is.0 some);
-        decided = λ form is. verify_decided (CalledAt G.FnMut) is.1 is.2 ((F.claimed s.0).decided form is.0);
+      exact = λ form is. settled_exact (verify_settler (CalledAt G.FnMut) is.1) is.2
+          ((F.claimed s.0).exact form is.0);
+      soft = λ form is soft. settled_soft (verify_settler (CalledAt G.FnMut) is.1)
+          ((F.claimed s.0).soft form is.0 soft);
+      takes = λ is some. made_of_takes (Finds (CalledAt G.FnMut)) s.1
+          ((F.claimed s.0).takes is.0 some);
+      decided = λ form is. verify_decided (CalledAt G.FnMut) is.1 is.2
+          ((F.claimed s.0).decided form is.0);
     } };
 
     #[inline]

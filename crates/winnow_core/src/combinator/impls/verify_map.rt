@@ -61,22 +61,25 @@ impl<F: Parser<I, O, E>, G: FnMut(O) -> Option<O2>, I: Stream, O, O2, E: ParserE
     ghost meaning = { λ form. VerifyMapRuns (F.meaning form) G.step };
 
     ghost claim = { λ s. record {
-        premise = (F.claim s.0).premise × Stays G.step s.1 × RejectsAll (GivesSome G.step) (GivesNone G.step) s.1 (F.claim s.0).grammar;
-        backtracks = (F.claim s.0).backtracks;
-        consumes = (F.claim s.0).consumes;
-        grammar = Made (GivesSome G.step) s.1 (F.claim s.0).grammar;
-        decides = (F.claim s.0).decides × Stays G.step s.1 × RefusesSame G.step s.1 (F.claim s.0).alike;
-        alike = MadeAlike (F.claim s.0).alike (GivesSome G.step s.1);
+      premise = (F.claim s.0).premise × Stays G.step s.1
+          × RejectsAll (GivesSome G.step) (GivesNone G.step) s.1 (F.claim s.0).grammar;
+      backtracks = (F.claim s.0).backtracks;
+      consumes = (F.claim s.0).consumes;
+      grammar = Made (GivesSome G.step) s.1 (F.claim s.0).grammar;
+      decides = (F.claim s.0).decides × Stays G.step s.1
+          × RefusesSame G.step s.1 (F.claim s.0).alike;
+      alike = MadeAlike (F.claim s.0).alike (GivesSome G.step s.1);
     } };
 
     ghost leaves_ends = { λ form. verify_map_ends I.reading (F.meaning form) G.step
         (F.leaves_ends form) };
 
     ghost claimed = { λ s. record {
-        exact = λ form is. verify_map_exact G.step is.1 is.2 ((F.claimed s.0).exact form is.0);
-        soft = λ form is soft. verify_map_soft G.step is.1 ((F.claimed s.0).soft form is.0 soft);
-        takes = λ is some. made_of_takes (GivesSome G.step) s.1 ((F.claimed s.0).takes is.0 some);
-        decided = λ form is. verify_map_decided G.step is.1 is.2 ((F.claimed s.0).decided form is.0);
+      exact = λ form is. verify_map_exact G.step is.1 is.2 ((F.claimed s.0).exact form is.0);
+      soft = λ form is soft. verify_map_soft G.step is.1 ((F.claimed s.0).soft form is.0 soft);
+      takes = λ is some. made_of_takes (GivesSome G.step) s.1 ((F.claimed s.0).takes is.0 some);
+      decided = λ form is. verify_map_decided G.step is.1 is.2
+          ((F.claimed s.0).decided form is.0);
     } };
 
     #[inline]

@@ -51,21 +51,22 @@ impl<F: Parser<I, O, E>, I: Stream, O: Drop, E: ParserError<I>> Parser<I, (), E>
     ghost meaning = { λ form. VoidRuns (F.meaning form) };
 
     ghost claim = { λ s. record {
-        premise = (F.claim s).premise;
-        backtracks = (F.claim s).backtracks;
-        consumes = (F.claim s).consumes;
-        grammar = Made (λ (_ : Unit {0}) o (u : Unit {0}). ⊤) tt (F.claim s).grammar;
-        decides = (F.claim s).decides;
-        alike = λ o q. ⊤;
+      premise = (F.claim s).premise;
+      backtracks = (F.claim s).backtracks;
+      consumes = (F.claim s).consumes;
+      grammar = Made (λ (_ : Unit {0}) o (u : Unit {0}). ⊤) tt (F.claim s).grammar;
+      decides = (F.claim s).decides;
+      alike = λ o q. ⊤;
     } };
 
     ghost leaves_ends = { λ form. void_ends I.reading (F.meaning form) (F.leaves_ends form) };
 
     ghost claimed = { λ s. record {
-        exact = λ form is. void_exact ((F.claimed s).exact form is);
-        soft = λ form is soft. void_soft ((F.claimed s).soft form is soft);
-        takes = λ is some. made_of_takes (λ (_ : Unit {0}) o (u : Unit {0}). ⊤) tt ((F.claimed s).takes is some);
-        decided = λ form is. void_decided ((F.claimed s).decided form is);
+      exact = λ form is. void_exact ((F.claimed s).exact form is);
+      soft = λ form is soft. void_soft ((F.claimed s).soft form is soft);
+      takes = λ is some. made_of_takes (λ (_ : Unit {0}) o (u : Unit {0}). ⊤) tt
+          ((F.claimed s).takes is some);
+      decided = λ form is. void_decided ((F.claimed s).decided form is);
     } };
 
     #[inline(always)]

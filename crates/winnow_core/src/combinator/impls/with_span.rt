@@ -54,22 +54,23 @@ impl<F: Parser<I, O, E>, I: Location, O, E: ParserError<I>> Parser<I, (O, Range<
     ghost meaning = { λ form. WithSpanRuns (F.meaning form) };
 
     ghost claim = { λ s. record {
-        premise = (F.claim s).premise;
-        backtracks = (F.claim s).backtracks;
-        consumes = (F.claim s).consumes;
-        grammar = Made WithPlaces tt (F.claim s).grammar;
-        decides = ⊥;
-        alike = λ o p. o ≡ p;
+      premise = (F.claim s).premise;
+      backtracks = (F.claim s).backtracks;
+      consumes = (F.claim s).consumes;
+      grammar = Made WithPlaces tt (F.claim s).grammar;
+      decides = ⊥;
+      alike = λ o p. o ≡ p;
     } };
 
     ghost leaves_ends = { λ form. makes_output_ends I.reading _ (F.meaning form)
         (F.leaves_ends form) };
 
     ghost claimed = { λ s. record {
-        exact = λ form is. with_span_exact (F.meaning form) (s) ((F.claimed s).exact form is);
-        soft = λ form is soft. with_span_soft (F.meaning form) (s) ((F.claimed s).soft form is soft);
-        takes = λ is some. made_of_takes WithPlaces tt ((F.claimed s).takes is some);
-        decided = λ form never. absurd never;
+      exact = λ form is. with_span_exact (F.meaning form) (s) ((F.claimed s).exact form is);
+      soft = λ form is soft. with_span_soft (F.meaning form) (s)
+          ((F.claimed s).soft form is soft);
+      takes = λ is some. made_of_takes WithPlaces tt ((F.claimed s).takes is some);
+      decided = λ form never. absurd never;
     } };
 
     #[inline]

@@ -56,22 +56,22 @@ impl<F: Parser<I, O, E>, I: Stream, O, E: ParserError<I>> Parser<I, (O, I::Slice
     ghost meaning = { λ form. WithTakenRuns I.reading (F.meaning form) };
 
     ghost claim = { λ s. record {
-        premise = (F.claim s).premise;
-        backtracks = (F.claim s).backtracks;
-        consumes = (F.claim s).consumes;
-        grammar = AndTaken I.reading (F.claim s).grammar;
-        decides = (F.claim s).decides;
-        alike = AlikePairs (F.claim s).alike (ShowSame I.reading);
+      premise = (F.claim s).premise;
+      backtracks = (F.claim s).backtracks;
+      consumes = (F.claim s).consumes;
+      grammar = AndTaken I.reading (F.claim s).grammar;
+      decides = (F.claim s).decides;
+      alike = AlikePairs (F.claim s).alike (ShowSame I.reading);
     } };
 
     ghost leaves_ends = { λ form. makes_output_ends I.reading _ (F.meaning form)
         (F.leaves_ends form) };
 
     ghost claimed = { λ s. record {
-        exact = λ form is. with_taken_exact I.reading ((F.claimed s).exact form is);
-        soft = λ form is soft. with_taken_soft I.reading ((F.claimed s).soft form is soft);
-        takes = λ is some. and_taken_takes I.reading ((F.claimed s).takes is some);
-        decided = λ form is. with_taken_decided I.reading ((F.claimed s).decided form is);
+      exact = λ form is. with_taken_exact I.reading ((F.claimed s).exact form is);
+      soft = λ form is soft. with_taken_soft I.reading ((F.claimed s).soft form is soft);
+      takes = λ is some. and_taken_takes I.reading ((F.claimed s).takes is some);
+      decided = λ form is. with_taken_decided I.reading ((F.claimed s).decided form is);
     } };
 
     #[inline]

@@ -37,22 +37,22 @@ impl<I: StreamIsPartial + ByteStream, E: ParserError<I>> Parser<I, i32, E> for B
     ghost meaning = { λ form. Keeps (λ _. IntegerRuns 3 (signed_value Big) I.reading form) };
 
     ghost claim = { λ s. record {
-        premise = ⊤;
-        backtracks = ⊤;
-        consumes = ⊤;
-        grammar = Integer 3 (signed_value Big);
-        decides = ⊥;
-        alike = λ o p. o ≡ p;
+      premise = ⊤;
+      backtracks = ⊤;
+      consumes = ⊤;
+      grammar = Integer 3 (signed_value Big);
+      decides = ⊥;
+      alike = λ o p. o ≡ p;
     } };
 
     ghost leaves_ends = { λ form x i answer y j r. integer_ends 3 (signed_value Big) I.reading
         form i answer j r.0 };
 
     ghost claimed = { λ s. record {
-        exact = λ form is. integer_exact 3 (λ (_ : ⊤). signed_value Big) I.reading form tt;
-        soft = λ form is soft. integer_soft 3 (λ (_ : ⊤). signed_value Big) I.reading form tt;
-        takes = λ is some. integer_takes 3 (signed_value Big) (some_bytes 2);
-        decided = λ form never. absurd never;
+      exact = λ form is. integer_exact 3 (λ (_ : ⊤). signed_value Big) I.reading form tt;
+      soft = λ form is soft. integer_soft 3 (λ (_ : ⊤). signed_value Big) I.reading form tt;
+      takes = λ is some. integer_takes 3 (signed_value Big) (some_bytes 2);
+      decided = λ form never. absurd never;
     } };
 
     #[inline(always)]

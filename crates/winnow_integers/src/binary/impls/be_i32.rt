@@ -37,22 +37,22 @@ impl<I: StreamIsPartial + ByteStream, E: ParserError<I>> Parser<I, i32, E> for B
     ghost meaning = { λ form. Keeps (λ _. IntegerRuns 4 (signed_value Big) I.reading form) };
 
     ghost claim = { λ s. record {
-        premise = ⊤;
-        backtracks = ⊤;
-        consumes = ⊤;
-        grammar = Integer 4 (signed_value Big);
-        decides = ⊥;
-        alike = λ o p. o ≡ p;
+      premise = ⊤;
+      backtracks = ⊤;
+      consumes = ⊤;
+      grammar = Integer 4 (signed_value Big);
+      decides = ⊥;
+      alike = λ o p. o ≡ p;
     } };
 
     ghost leaves_ends = { λ form x i answer y j r. integer_ends 4 (signed_value Big) I.reading
         form i answer j r.0 };
 
     ghost claimed = { λ s. record {
-        exact = λ form is. integer_exact 4 (λ (_ : ⊤). signed_value Big) I.reading form tt;
-        soft = λ form is soft. integer_soft 4 (λ (_ : ⊤). signed_value Big) I.reading form tt;
-        takes = λ is some. integer_takes 4 (signed_value Big) (some_bytes 3);
-        decided = λ form never. absurd never;
+      exact = λ form is. integer_exact 4 (λ (_ : ⊤). signed_value Big) I.reading form tt;
+      soft = λ form is soft. integer_soft 4 (λ (_ : ⊤). signed_value Big) I.reading form tt;
+      takes = λ is some. integer_takes 4 (signed_value Big) (some_bytes 3);
+      decided = λ form never. absurd never;
     } };
 
     #[inline(always)]

@@ -37,22 +37,22 @@ impl<I: StreamIsPartial + ByteStream, E: ParserError<I>> Parser<I, i16, E> for L
     ghost meaning = { λ form. Keeps (λ _. IntegerRuns 2 (signed_value Little) I.reading form) };
 
     ghost claim = { λ s. record {
-        premise = ⊤;
-        backtracks = ⊤;
-        consumes = ⊤;
-        grammar = Integer 2 (signed_value Little);
-        decides = ⊥;
-        alike = λ o p. o ≡ p;
+      premise = ⊤;
+      backtracks = ⊤;
+      consumes = ⊤;
+      grammar = Integer 2 (signed_value Little);
+      decides = ⊥;
+      alike = λ o p. o ≡ p;
     } };
 
     ghost leaves_ends = { λ form x i answer y j r. integer_ends 2 (signed_value Little)
         I.reading form i answer j r.0 };
 
     ghost claimed = { λ s. record {
-        exact = λ form is. integer_exact 2 (λ (_ : ⊤). signed_value Little) I.reading form tt;
-        soft = λ form is soft. integer_soft 2 (λ (_ : ⊤). signed_value Little) I.reading form tt;
-        takes = λ is some. integer_takes 2 (signed_value Little) (some_bytes 1);
-        decided = λ form never. absurd never;
+      exact = λ form is. integer_exact 2 (λ (_ : ⊤). signed_value Little) I.reading form tt;
+      soft = λ form is soft. integer_soft 2 (λ (_ : ⊤). signed_value Little) I.reading form tt;
+      takes = λ is some. integer_takes 2 (signed_value Little) (some_bytes 1);
+      decided = λ form never. absurd never;
     } };
 
     #[inline(always)]

@@ -37,22 +37,22 @@ impl<I: StreamIsPartial + ByteStream, E: ParserError<I>> Parser<I, i8, E> for Le
     ghost meaning = { λ form. Keeps (λ _. IntegerRuns 1 (signed_value Little) I.reading form) };
 
     ghost claim = { λ s. record {
-        premise = ⊤;
-        backtracks = ⊤;
-        consumes = ⊤;
-        grammar = Integer 1 (signed_value Little);
-        decides = ⊥;
-        alike = λ o p. o ≡ p;
+      premise = ⊤;
+      backtracks = ⊤;
+      consumes = ⊤;
+      grammar = Integer 1 (signed_value Little);
+      decides = ⊥;
+      alike = λ o p. o ≡ p;
     } };
 
     ghost leaves_ends = { λ form x i answer y j r. integer_ends 1 (signed_value Little)
         I.reading form i answer j r.0 };
 
     ghost claimed = { λ s. record {
-        exact = λ form is. integer_exact 1 (λ (_ : ⊤). signed_value Little) I.reading form tt;
-        soft = λ form is soft. integer_soft 1 (λ (_ : ⊤). signed_value Little) I.reading form tt;
-        takes = λ is some. integer_takes 1 (signed_value Little) (some_bytes 0);
-        decided = λ form never. absurd never;
+      exact = λ form is. integer_exact 1 (λ (_ : ⊤). signed_value Little) I.reading form tt;
+      soft = λ form is soft. integer_soft 1 (λ (_ : ⊤). signed_value Little) I.reading form tt;
+      takes = λ is some. integer_takes 1 (signed_value Little) (some_bytes 0);
+      decided = λ form never. absurd never;
     } };
 
     #[inline(always)]

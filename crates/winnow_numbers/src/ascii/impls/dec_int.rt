@@ -40,22 +40,22 @@ where
         (λ _. DecIntRuns O.number O.fits I.seen_as I.Token.code I.reading form) };
 
     ghost claim = { λ s. record {
-        premise = SeesApart I.seen_as;
-        backtracks = ⊤;
-        consumes = ⊤;
-        grammar = SignedDecimal O.number O.fits I.seen_as I.Token.code;
-        decides = ⊥;
-        alike = λ o p. o ≡ p;
+      premise = SeesApart I.seen_as;
+      backtracks = ⊤;
+      consumes = ⊤;
+      grammar = SignedDecimal O.number O.fits I.seen_as I.Token.code;
+      decides = ⊥;
+      alike = λ o p. o ≡ p;
     } };
 
     ghost leaves_ends = { λ form x i answer y j r. dec_int_ends O.number O.fits I.seen_as
         I.Token.code I.reading form i answer j r.0 };
 
     ghost claimed = { λ s. record {
-        exact = λ form is. dec_int_exact I.seen_as I.Token.code I.reading O.number O.fits form is;
-        soft = λ form is soft. dec_int_soft I.seen_as I.Token.code I.reading O.number O.fits form;
-        takes = λ is some. signed_takes I.seen_as I.Token.code I.reading O.number O.fits;
-        decided = λ form never. absurd never;
+      exact = λ form is. dec_int_exact I.seen_as I.Token.code I.reading O.number O.fits form is;
+      soft = λ form is soft. dec_int_soft I.seen_as I.Token.code I.reading O.number O.fits form;
+      takes = λ is some. signed_takes I.seen_as I.Token.code I.reading O.number O.fits;
+      decided = λ form never. absurd never;
     } };
 
     #[inline(always)]

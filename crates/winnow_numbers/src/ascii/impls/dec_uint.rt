@@ -41,22 +41,23 @@ where
         (λ _. DecUintRuns O.number O.bound I.seen_as I.Token.code I.reading form) };
 
     ghost claim = { λ s. record {
-        premise = SeesApart I.seen_as;
-        backtracks = ⊤;
-        consumes = ⊤;
-        grammar = Decimal O.number O.bound I.seen_as I.Token.code;
-        decides = ⊤;
-        alike = OneNumber O.number;
+      premise = SeesApart I.seen_as;
+      backtracks = ⊤;
+      consumes = ⊤;
+      grammar = Decimal O.number O.bound I.seen_as I.Token.code;
+      decides = ⊤;
+      alike = OneNumber O.number;
     } };
 
     ghost leaves_ends = { λ form x i answer y j r. dec_uint_ends O.number O.bound I.seen_as
         I.Token.code I.reading form i answer j r.0 };
 
     ghost claimed = { λ s. record {
-        exact = λ form is. dec_uint_exact I.seen_as I.Token.code I.reading O.number O.bound form is;
-        soft = λ form is soft. dec_uint_soft I.seen_as I.Token.code I.reading O.number O.bound form;
-        takes = λ is some. decimal_takes I.seen_as I.Token.code I.reading O.number O.bound;
-        decided = λ form is. dec_uint_decided O.number O.bound I.seen_as I.Token.code I.reading form I.one_code;
+      exact = λ form is. dec_uint_exact I.seen_as I.Token.code I.reading O.number O.bound form is;
+      soft = λ form is soft. dec_uint_soft I.seen_as I.Token.code I.reading O.number O.bound form;
+      takes = λ is some. decimal_takes I.seen_as I.Token.code I.reading O.number O.bound;
+      decided = λ form is. dec_uint_decided O.number O.bound I.seen_as I.Token.code I.reading
+          form I.one_code;
     } };
 
     #[inline(always)]

@@ -200,22 +200,24 @@ where
         (λ _. HexUintRuns O.number O.nibbles I.seen_as I.Token.code I.reading form) };
 
     ghost claim = { λ s. record {
-        premise = SeesApart I.seen_as;
-        backtracks = ⊤;
-        consumes = ⊤;
-        grammar = Hexadecimal O.number O.nibbles I.seen_as I.Token.code;
-        decides = ⊥;
-        alike = λ o p. o ≡ p;
+      premise = SeesApart I.seen_as;
+      backtracks = ⊤;
+      consumes = ⊤;
+      grammar = Hexadecimal O.number O.nibbles I.seen_as I.Token.code;
+      decides = ⊥;
+      alike = λ o p. o ≡ p;
     } };
 
     ghost leaves_ends = { λ form x i answer y j r. hex_uint_ends O.number O.nibbles I.seen_as
         I.Token.code I.reading form i answer j r.0 };
 
     ghost claimed = { λ s. record {
-        exact = λ form is. hex_uint_exact I.seen_as I.Token.code I.reading O.number O.nibbles form is;
-        soft = λ form is soft. hex_uint_soft I.seen_as I.Token.code I.reading O.number O.nibbles form;
-        takes = λ is some. hexadecimal_takes I.seen_as I.Token.code I.reading O.number O.nibbles;
-        decided = λ form never. absurd never;
+      exact = λ form is. hex_uint_exact I.seen_as I.Token.code I.reading O.number O.nibbles
+          form is;
+      soft = λ form is soft. hex_uint_soft I.seen_as I.Token.code I.reading O.number O.nibbles
+          form;
+      takes = λ is some. hexadecimal_takes I.seen_as I.Token.code I.reading O.number O.nibbles;
+      decided = λ form never. absurd never;
     } };
 
     #[inline(always)]

@@ -111,22 +111,29 @@ impl<
     ghost meaning = { λ form. RangedFolds G.step H.step (P.meaning form) (assert_kind form) };
 
     ghost claim = { λ s. record {
-        premise = (P.claim s.0).premise × (P.claim s.0).backtracks × (P.claim s.0).consumes × IsWithin (bounds_of s.1.0).greatest (bounds_of s.1.0).least × StaysMaking G.step s.1.1.0 × StaysFolding H.step s.1.1.1;
-        backtracks = ⊤;
-        consumes = 0 < (bounds_of s.1.0).least;
-        grammar = Folded G.step s.1.1.0 H.step s.1.1.1 s.1.0 (P.claim s.0).grammar;
-        decides = ⊥;
-        alike = λ o p. o ≡ p;
+      premise = (P.claim s.0).premise × (P.claim s.0).backtracks × (P.claim s.0).consumes
+          × IsWithin (bounds_of s.1.0).greatest (bounds_of s.1.0).least
+          × StaysMaking G.step s.1.1.0 × StaysFolding H.step s.1.1.1;
+      backtracks = ⊤;
+      consumes = 0 < (bounds_of s.1.0).least;
+      grammar = Folded G.step s.1.1.0 H.step s.1.1.1 s.1.0 (P.claim s.0).grammar;
+      decides = ⊥;
+      alike = λ o p. o ≡ p;
     } };
 
     ghost leaves_ends = { λ form. ranged_folds_end I.reading G.step H.step (P.meaning form)
         (assert_kind form) (P.leaves_ends form) };
 
     ghost claimed = { λ s. record {
-        exact = λ form is. fold_exact (P.meaning form) G.step s.1.1.0 is.4 H.step s.1.1.1 is.5 (assert_kind form) s.1.0 ((P.claimed s.0).exact form is.0) ((P.claimed s.0).soft form is.0 is.1) ((P.claimed s.0).takes is.0 is.2) is.3;
-        soft = λ form is soft. fold_soft (P.meaning form) G.step s.1.1.0 is.4 H.step s.1.1.1 is.5 (assert_kind form) s.1.0 ((P.claimed s.0).exact form is.0) ((P.claimed s.0).soft form is.0 is.1) ((P.claimed s.0).takes is.0 is.2) is.3;
-        takes = λ is some. repeated_take (FoldOf G.step s.1.1.0 H.step s.1.1.1) s.1.0 ((P.claimed s.0).exact modal is.0).unique ((P.claimed s.0).takes is.0 is.2) some;
-        decided = λ form never. absurd never;
+      exact = λ form is. fold_exact (P.meaning form) G.step s.1.1.0 is.4 H.step s.1.1.1 is.5
+          (assert_kind form) s.1.0 ((P.claimed s.0).exact form is.0)
+          ((P.claimed s.0).soft form is.0 is.1) ((P.claimed s.0).takes is.0 is.2) is.3;
+      soft = λ form is soft. fold_soft (P.meaning form) G.step s.1.1.0 is.4 H.step s.1.1.1
+          is.5 (assert_kind form) s.1.0 ((P.claimed s.0).exact form is.0)
+          ((P.claimed s.0).soft form is.0 is.1) ((P.claimed s.0).takes is.0 is.2) is.3;
+      takes = λ is some. repeated_take (FoldOf G.step s.1.1.0 H.step s.1.1.1) s.1.0
+          ((P.claimed s.0).exact modal is.0).unique ((P.claimed s.0).takes is.0 is.2) some;
+      decided = λ form never. absurd never;
     } };
 
     fn parse_next(&mut self, input: &mut I) -> Result<R, E> {

@@ -144,22 +144,29 @@ impl<
     ghost meaning = { λ form. RangedRuns (P.meaning form) C.accumulator (assert_kind form) };
 
     ghost claim = { λ s. record {
-        premise = (P.claim s.0).premise × (P.claim s.0).backtracks × (P.claim s.0).consumes × IsWithin (bounds_of s.1).greatest (bounds_of s.1).least;
-        backtracks = ⊤;
-        consumes = 0 < (bounds_of s.1).least;
-        grammar = Repeated C.holds s.1 (P.claim s.0).grammar;
-        decides = (P.claim s.0).decides;
-        alike = HeldAlike C.holds (P.claim s.0).alike;
+      premise = (P.claim s.0).premise × (P.claim s.0).backtracks × (P.claim s.0).consumes
+          × IsWithin (bounds_of s.1).greatest (bounds_of s.1).least;
+      backtracks = ⊤;
+      consumes = 0 < (bounds_of s.1).least;
+      grammar = Repeated C.holds s.1 (P.claim s.0).grammar;
+      decides = (P.claim s.0).decides;
+      alike = HeldAlike C.holds (P.claim s.0).alike;
     } };
 
     ghost leaves_ends = { λ form. ranged_ends I.reading (P.meaning form) C.accumulator
         (assert_kind form) (P.leaves_ends form) };
 
     ghost claimed = { λ s. record {
-        exact = λ form is. repeat_exact C.accumulator (assert_kind form) s C.holds C.gathers ((P.claimed s.0).exact form is.0) ((P.claimed s.0).soft form is.0 is.1) ((P.claimed s.0).takes is.0 is.2) is.3;
-        soft = λ form is soft. repeat_soft C.accumulator (assert_kind form) s ((P.claimed s.0).exact form is.0) ((P.claimed s.0).soft form is.0 is.1) ((P.claimed s.0).takes is.0 is.2) is.3;
-        takes = λ is some. repeat_takes C.accumulator (assert_kind modal) s C.holds ((P.claimed s.0).exact modal is.0) ((P.claimed s.0).takes is.0 is.2) some;
-        decided = λ form is. repeat_decided C.accumulator (assert_kind form) C.holds C.gathers s ((P.claimed s.0).decided form is);
+      exact = λ form is. repeat_exact C.accumulator (assert_kind form) s C.holds C.gathers
+          ((P.claimed s.0).exact form is.0) ((P.claimed s.0).soft form is.0 is.1)
+          ((P.claimed s.0).takes is.0 is.2) is.3;
+      soft = λ form is soft. repeat_soft C.accumulator (assert_kind form) s
+          ((P.claimed s.0).exact form is.0) ((P.claimed s.0).soft form is.0 is.1)
+          ((P.claimed s.0).takes is.0 is.2) is.3;
+      takes = λ is some. repeat_takes C.accumulator (assert_kind modal) s C.holds
+          ((P.claimed s.0).exact modal is.0) ((P.claimed s.0).takes is.0 is.2) some;
+      decided = λ form is. repeat_decided C.accumulator (assert_kind form) C.holds C.gathers s
+          ((P.claimed s.0).decided form is);
     } };
 
     fn parse_next(&mut self, input: &mut I) -> Result<C, E> {

@@ -57,22 +57,32 @@ impl<
         (assert_kind form) };
 
     ghost claim = { λ s. record {
-        premise = (P.claim s.0).premise × (P.claim s.0).backtracks × (P.claim s.0).consumes × (G.claim s.1).premise × (G.claim s.1).backtracks × IsWithin (bounds_of s.2).greatest (bounds_of s.2).least;
-        backtracks = ⊤;
-        consumes = (G.claim s.1).consumes;
-        grammar = Till C.holds s.2 (P.claim s.0).grammar (G.claim s.1).grammar;
-        decides = ⊥;
-        alike = λ o p. o ≡ p;
+      premise = (P.claim s.0).premise × (P.claim s.0).backtracks × (P.claim s.0).consumes
+          × (G.claim s.1).premise × (G.claim s.1).backtracks
+          × IsWithin (bounds_of s.2).greatest (bounds_of s.2).least;
+      backtracks = ⊤;
+      consumes = (G.claim s.1).consumes;
+      grammar = Till C.holds s.2 (P.claim s.0).grammar (G.claim s.1).grammar;
+      decides = ⊥;
+      alike = λ o p. o ≡ p;
     } };
 
     ghost leaves_ends = { λ form. repeat_till_ends I.reading (P.meaning form) (G.meaning form)
         C.accumulator (assert_kind form) (P.leaves_ends form) (G.leaves_ends form) };
 
     ghost claimed = { λ s. record {
-        exact = λ form is. repeat_till_exact C.accumulator (assert_kind form) s C.holds C.gathers is.5 ((P.claimed s.0).exact form is.0) ((P.claimed s.0).soft form is.0 is.1) ((P.claimed s.0).takes is.0 is.2) ((G.claimed s.1).exact form is.3) ((G.claimed s.1).soft form is.3 is.4);
-        soft = λ form is soft. repeat_till_soft C.accumulator (assert_kind form) s C.holds C.gathers is.5 ((P.claimed s.0).exact form is.0) ((P.claimed s.0).soft form is.0 is.1) ((P.claimed s.0).takes is.0 is.2) ((G.claimed s.1).exact form is.3) ((G.claimed s.1).soft form is.3 is.4);
-        takes = λ is some. till_takes (P.claim s.0).grammar (G.claim s.1).grammar ((P.claimed s.0).exact modal is.0).unique C.holds s.2 ((G.claimed s.1).takes is.3 some);
-        decided = λ form never. absurd never;
+      exact = λ form is. repeat_till_exact C.accumulator (assert_kind form) s C.holds
+          C.gathers is.5 ((P.claimed s.0).exact form is.0)
+          ((P.claimed s.0).soft form is.0 is.1) ((P.claimed s.0).takes is.0 is.2)
+          ((G.claimed s.1).exact form is.3) ((G.claimed s.1).soft form is.3 is.4);
+      soft = λ form is soft. repeat_till_soft C.accumulator (assert_kind form) s C.holds
+          C.gathers is.5 ((P.claimed s.0).exact form is.0)
+          ((P.claimed s.0).soft form is.0 is.1) ((P.claimed s.0).takes is.0 is.2)
+          ((G.claimed s.1).exact form is.3) ((G.claimed s.1).soft form is.3 is.4);
+      takes = λ is some. till_takes (P.claim s.0).grammar (G.claim s.1).grammar
+          ((P.claimed s.0).exact modal is.0).unique C.holds s.2
+          ((G.claimed s.1).takes is.3 some);
+      decided = λ form never. absurd never;
     } };
 
     fn parse_next(&mut self, input: &mut I) -> Result<(C, D), E> {

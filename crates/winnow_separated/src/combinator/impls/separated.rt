@@ -61,22 +61,34 @@ impl<
         (assert_kind form) };
 
     ghost claim = { λ s. record {
-        premise = (P.claim s.0).premise × (P.claim s.0).backtracks × (S.claim s.1).premise × (S.claim s.1).backtracks × (S.claim s.1).consumes × IsWithin (bounds_of s.2).greatest (bounds_of s.2).least;
-        backtracks = ⊤;
-        consumes = (P.claim s.0).consumes × (0 < (bounds_of s.2).least);
-        grammar = Apart C.holds s.2 (P.claim s.0).grammar (S.claim s.1).grammar;
-        decides = (P.claim s.0).decides × (S.claim s.1).decides;
-        alike = HeldAlike C.holds (P.claim s.0).alike;
+      premise = (P.claim s.0).premise × (P.claim s.0).backtracks × (S.claim s.1).premise
+          × (S.claim s.1).backtracks × (S.claim s.1).consumes
+          × IsWithin (bounds_of s.2).greatest (bounds_of s.2).least;
+      backtracks = ⊤;
+      consumes = (P.claim s.0).consumes × (0 < (bounds_of s.2).least);
+      grammar = Apart C.holds s.2 (P.claim s.0).grammar (S.claim s.1).grammar;
+      decides = (P.claim s.0).decides × (S.claim s.1).decides;
+      alike = HeldAlike C.holds (P.claim s.0).alike;
     } };
 
     ghost leaves_ends = { λ form. separated_ends I.reading (P.meaning form) (S.meaning form)
         C.accumulator (assert_kind form) (P.leaves_ends form) (S.leaves_ends form) };
 
     ghost claimed = { λ s. record {
-        exact = λ form is. separated_exact C.accumulator (assert_kind form) s ((P.claimed s.0).exact form is.0) ((S.claimed s.1).exact form is.2) ((S.claimed s.1).takes is.2 is.4) C.holds C.gathers ((P.claimed s.0).soft form is.0 is.1) ((S.claimed s.1).soft form is.2 is.3) is.5;
-        soft = λ form is soft. separated_soft C.accumulator (assert_kind form) s ((P.claimed s.0).exact form is.0) ((S.claimed s.1).exact form is.2) ((S.claimed s.1).takes is.2 is.4) ((P.claimed s.0).soft form is.0 is.1) ((S.claimed s.1).soft form is.2 is.3) is.5;
-        takes = λ is some. separated_takes C.holds s.2 ((P.claimed s.0).exact modal is.0).unique ((S.claimed s.1).exact modal is.2).unique ((P.claimed s.0).takes is.0 some.0) some.1;
-        decided = λ form is. separated_decided C.accumulator (assert_kind form) C.holds C.gathers s ((P.claimed s.0).decided form is.0) ((S.claimed s.1).decided form is.1);
+      exact = λ form is. separated_exact C.accumulator (assert_kind form) s
+          ((P.claimed s.0).exact form is.0) ((S.claimed s.1).exact form is.2)
+          ((S.claimed s.1).takes is.2 is.4) C.holds C.gathers
+          ((P.claimed s.0).soft form is.0 is.1) ((S.claimed s.1).soft form is.2 is.3) is.5;
+      soft = λ form is soft. separated_soft C.accumulator (assert_kind form) s
+          ((P.claimed s.0).exact form is.0) ((S.claimed s.1).exact form is.2)
+          ((S.claimed s.1).takes is.2 is.4) ((P.claimed s.0).soft form is.0 is.1)
+          ((S.claimed s.1).soft form is.2 is.3) is.5;
+      takes = λ is some. separated_takes C.holds s.2 ((P.claimed s.0).exact modal is.0).unique
+          ((S.claimed s.1).exact modal is.2).unique ((P.claimed s.0).takes is.0 some.0)
+          some.1;
+      decided = λ form is. separated_decided C.accumulator (assert_kind form) C.holds
+          C.gathers s ((P.claimed s.0).decided form is.0)
+          ((S.claimed s.1).decided form is.1);
     } };
 
     fn parse_next(&mut self, input: &mut I) -> Result<C, E> {

@@ -33,22 +33,22 @@ impl<I: StreamIsPartial, E: ParserError<I>> Parser<I, I::Token, E> for Any {
     ghost meaning = { λ form. Keeps (λ _. AnyRuns I.seen_as I.reading form) };
 
     ghost claim = { λ s. record {
-        premise = ⊤;
-        backtracks = ⊤;
-        consumes = ⊤;
-        grammar = Token I.seen_as;
-        decides = ⊤;
-        alike = SeenSame I.seen_as;
+      premise = ⊤;
+      backtracks = ⊤;
+      consumes = ⊤;
+      grammar = Token I.seen_as;
+      decides = ⊤;
+      alike = SeenSame I.seen_as;
     } };
 
     ghost leaves_ends = { λ form x i answer y j r. any_ends I.seen_as I.reading form i answer j
         r.0 };
 
     ghost claimed = { λ s. record {
-        exact = λ form is. any_exact I.seen_as I.reading form;
-        soft = λ form is soft. any_soft I.seen_as I.reading form;
-        takes = λ is some. token_takes I.seen_as;
-        decided = λ form is. any_decided I.seen_as I.reading form;
+      exact = λ form is. any_exact I.seen_as I.reading form;
+      soft = λ form is soft. any_soft I.seen_as I.reading form;
+      takes = λ is some. token_takes I.seen_as;
+      decided = λ form is. any_decided I.seen_as I.reading form;
     } };
 
     #[inline(always)]

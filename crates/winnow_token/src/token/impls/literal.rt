@@ -43,22 +43,24 @@ impl<T: Copy, I: StreamIsPartial + Compare<T>, E: ParserError<I>> Parser<I, I::S
         (λ x. LiteralRuns I.reading form (I.spells x) (λ slice. slice)) };
 
     ghost claim = { λ s. record {
-        premise = ⊤;
-        backtracks = ⊤;
-        consumes = I.spells s [] → ⊥;
-        grammar = Literally I.reading I.spells (λ _ slice. slice) s;
-        decides = ⊤;
-        alike = ShowSame I.reading;
+      premise = ⊤;
+      backtracks = ⊤;
+      consumes = I.spells s [] → ⊥;
+      grammar = Literally I.reading I.spells (λ _ slice. slice) s;
+      decides = ⊤;
+      alike = ShowSame I.reading;
     } };
 
     ghost leaves_ends = { λ form x i answer y j r. literal_ends I.reading form (I.spells x)
         (λ slice. slice) i answer j r.0 };
 
     ghost claimed = { λ s. record {
-        exact = λ form is. literal_exact I.reading form I.spells (λ _ slice. slice) (λ s. s) s (I.same_units s);
-        soft = λ form is soft. literal_soft I.reading form I.spells (λ _ slice. slice) (λ s. s) s;
-        takes = λ is some. literally_takes I.reading I.spells (λ _ slice. slice) s some;
-        decided = λ form is. literal_decided I.reading form I.spells (λ _ slice. slice) (λ s. s) (ShowSame I.reading) s (I.same_units s) (λ slice other shown. shown);
+      exact = λ form is. literal_exact I.reading form I.spells (λ _ slice. slice) (λ s. s) s
+          (I.same_units s);
+      soft = λ form is soft. literal_soft I.reading form I.spells (λ _ slice. slice) (λ s. s) s;
+      takes = λ is some. literally_takes I.reading I.spells (λ _ slice. slice) s some;
+      decided = λ form is. literal_decided I.reading form I.spells (λ _ slice. slice) (λ s. s)
+          (ShowSame I.reading) s (I.same_units s) (λ slice other shown. shown);
     } };
 
     #[inline(always)]

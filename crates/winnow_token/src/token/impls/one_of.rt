@@ -49,22 +49,23 @@ where
     ghost meaning = { λ form. Keeps (λ x. OneOfRuns I.seen_as I.reading form (S.tells x)) };
 
     ghost claim = { λ s. record {
-        premise = S.decides s × SeesApart I.seen_as;
-        backtracks = ⊤;
-        consumes = ⊤;
-        grammar = TokenOf I.seen_as S.tells s;
-        decides = TellsOnce (AnswersSeen I.seen_as (S.tells s));
-        alike = SeenSame I.seen_as;
+      premise = S.decides s × SeesApart I.seen_as;
+      backtracks = ⊤;
+      consumes = ⊤;
+      grammar = TokenOf I.seen_as S.tells s;
+      decides = TellsOnce (AnswersSeen I.seen_as (S.tells s));
+      alike = SeenSame I.seen_as;
     } };
 
     ghost leaves_ends = { λ form x i answer y j r. one_of_ends I.seen_as I.reading form
         (S.tells x) i answer j r.0 };
 
     ghost claimed = { λ s. record {
-        exact = λ form is. one_of_exact I.seen_as I.reading form S.tells s (seen_once I.seen_as (S.tells s) is.1 (S.once s is.0));
-        soft = λ form is soft. one_of_soft I.seen_as I.reading form S.tells s;
-        takes = λ is some. token_of_takes I.seen_as S.tells s;
-        decided = λ form is. one_of_decided I.seen_as I.reading form S.tells s is;
+      exact = λ form is. one_of_exact I.seen_as I.reading form S.tells s
+          (seen_once I.seen_as (S.tells s) is.1 (S.once s is.0));
+      soft = λ form is soft. one_of_soft I.seen_as I.reading form S.tells s;
+      takes = λ is some. token_of_takes I.seen_as S.tells s;
+      decided = λ form is. one_of_decided I.seen_as I.reading form S.tells s is;
     } };
 
     #[inline(always)]

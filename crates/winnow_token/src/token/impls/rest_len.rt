@@ -31,21 +31,21 @@ impl<I: Stream, E: ParserError<I>> Parser<I, usize, E> for RestLen {
     ghost meaning = { λ _. Keeps (λ _. RestLenRuns I.reading) };
 
     ghost claim = { λ s. record {
-        premise = ⊤;
-        backtracks = ⊤;
-        consumes = ⊥;
-        grammar = UnitsLeft I.reading;
-        decides = ⊥;
-        alike = λ o p. o ≡ p;
+      premise = ⊤;
+      backtracks = ⊤;
+      consumes = ⊥;
+      grammar = UnitsLeft I.reading;
+      decides = ⊥;
+      alike = λ o p. o ≡ p;
     } };
 
     ghost leaves_ends = { λ form x i answer y j r. same_ends I.reading i j r.0.1 };
 
     ghost claimed = { λ s. record {
-        exact = λ form is. rest_len_exact I.reading;
-        soft = λ form is soft. rest_len_soft I.reading;
-        takes = λ is never. absurd never;
-        decided = λ form never. absurd never;
+      exact = λ form is. rest_len_exact I.reading;
+      soft = λ form is soft. rest_len_soft I.reading;
+      takes = λ is never. absurd never;
+      decided = λ form never. absurd never;
     } };
 
     #[inline(always)]

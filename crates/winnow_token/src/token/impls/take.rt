@@ -39,22 +39,22 @@ impl<I: StreamIsPartial, E: ParserError<I>> Parser<I, I::Slice, E> for Take<I, E
     ghost meaning = { λ form. Keeps (λ x. TakeRuns I.reading form I.counts_missing x) };
 
     ghost claim = { λ s. record {
-        premise = ⊤;
-        backtracks = ⊤;
-        consumes = 0 < s;
-        grammar = Counted I.reading s;
-        decides = ⊤;
-        alike = ShowSame I.reading;
+      premise = ⊤;
+      backtracks = ⊤;
+      consumes = 0 < s;
+      grammar = Counted I.reading s;
+      decides = ⊤;
+      alike = ShowSame I.reading;
     } };
 
     ghost leaves_ends = { λ form x i answer y j r. take_ends I.reading form I.counts_missing x i
         answer j r.0 };
 
     ghost claimed = { λ s. record {
-        exact = λ form is. take_exact I.reading form I.counts_missing s;
-        soft = λ form is soft. take_soft I.reading form I.counts_missing s;
-        takes = λ is some. counted_takes I.reading s some;
-        decided = λ form is. take_count_decided I.reading form I.counts_missing s;
+      exact = λ form is. take_exact I.reading form I.counts_missing s;
+      soft = λ form is soft. take_soft I.reading form I.counts_missing s;
+      takes = λ is some. counted_takes I.reading s some;
+      decided = λ form is. take_count_decided I.reading form I.counts_missing s;
     } };
 
     #[inline(always)]

@@ -54,22 +54,29 @@ impl<S: ContainsToken<I::Token>, I: StreamIsPartial, E: ParserError<I>> Parser<I
         (AnswersSeen I.seen_as (λ k b. S.tells x.1 k (not b))) (bounds_of x.0)) };
 
     ghost claim = { λ s. record {
-        premise = S.decides s.1 × SeesApart I.seen_as × IsWithin (bounds_of s.0).greatest (bounds_of s.0).least;
-        backtracks = ⊤;
-        consumes = 0 < (bounds_of s.0).least;
-        grammar = Longest I.reading I.seen_as (Others S.tells) s.1 (bounds_of s.0);
-        decides = TellsOnce (AnswersSeen I.seen_as (Others S.tells s.1));
-        alike = ShowSame I.reading;
+      premise = S.decides s.1 × SeesApart I.seen_as
+          × IsWithin (bounds_of s.0).greatest (bounds_of s.0).least;
+      backtracks = ⊤;
+      consumes = 0 < (bounds_of s.0).least;
+      grammar = Longest I.reading I.seen_as (Others S.tells) s.1 (bounds_of s.0);
+      decides = TellsOnce (AnswersSeen I.seen_as (Others S.tells s.1));
+      alike = ShowSame I.reading;
     } };
 
     ghost leaves_ends = { λ form x i answer y j r. take_while_ends I.reading form
         (AnswersSeen I.seen_as (λ k b. S.tells x.1 k (not b))) (bounds_of x.0) i answer j r.0 };
 
     ghost claimed = { λ s. record {
-        exact = λ form is. take_while_exact I.reading form I.seen_as (Others S.tells) (λ x. x.1) (λ x. bounds_of x.0) s is.2 (seen_once I.seen_as (Others S.tells s.1) is.1 (others_once S.tells s.1 (S.once s.1 is.0)));
-        soft = λ form is soft. take_while_soft I.reading form I.seen_as (Others S.tells) (λ x. x.1) (λ x. bounds_of x.0) s is.2;
-        takes = λ is some. longest_takes I.reading I.seen_as (Others S.tells) s.1 (bounds_of s.0) some;
-        decided = λ form is. take_while_decided I.reading form (λ x. AnswersSeen I.seen_as (Others S.tells x.1)) (λ x. bounds_of x.0) s is;
+      exact = λ form is. take_while_exact I.reading form I.seen_as (Others S.tells) (λ x. x.1)
+          (λ x. bounds_of x.0) s is.2
+          (seen_once I.seen_as (Others S.tells s.1) is.1
+          (others_once S.tells s.1 (S.once s.1 is.0)));
+      soft = λ form is soft. take_while_soft I.reading form I.seen_as (Others S.tells)
+          (λ x. x.1) (λ x. bounds_of x.0) s is.2;
+      takes = λ is some. longest_takes I.reading I.seen_as (Others S.tells) s.1
+          (bounds_of s.0) some;
+      decided = λ form is. take_while_decided I.reading form
+          (λ x. AnswersSeen I.seen_as (Others S.tells x.1)) (λ x. bounds_of x.0) s is;
     } };
 
     #[inline(always)]

@@ -47,12 +47,12 @@ impl<T: Copy, I: StreamIsPartial + FindSlice<T>, E: ParserError<I>> Parser<I, I:
         (λ x. TakeUntilRuns I.reading form (I.sought x.1) (bounds_of x.0)) };
 
     ghost claim = { λ s. record {
-        premise = IsWithin (bounds_of s.0).greatest (bounds_of s.0).least;
-        backtracks = ⊤;
-        consumes = 0 < (bounds_of s.0).least;
-        grammar = Before I.reading (I.sought s.1) (bounds_of s.0);
-        decides = ⊥;
-        alike = λ o p. o ≡ p;
+      premise = IsWithin (bounds_of s.0).greatest (bounds_of s.0).least;
+      backtracks = ⊤;
+      consumes = 0 < (bounds_of s.0).least;
+      grammar = Before I.reading (I.sought s.1) (bounds_of s.0);
+      decides = ⊥;
+      alike = λ o p. o ≡ p;
     } };
 
     ghost leaves_ends = { λ form x i answer y j r. take_until_ends I.reading form (I.sought x.1)
@@ -60,10 +60,12 @@ impl<T: Copy, I: StreamIsPartial + FindSlice<T>, E: ParserError<I>> Parser<I, I:
         r.0 };
 
     ghost claimed = { λ s. record {
-        exact = λ form is. take_until_exact I.reading form (λ x. I.sought x.1) (λ x. bounds_of x.0) s is;
-        soft = λ form is soft. take_until_soft I.reading form (λ x. I.sought x.1) (λ x. bounds_of x.0) s is;
-        takes = λ is some. before_takes I.reading (I.sought s.1) (bounds_of s.0) some;
-        decided = λ form never. absurd never;
+      exact = λ form is. take_until_exact I.reading form (λ x. I.sought x.1)
+          (λ x. bounds_of x.0) s is;
+      soft = λ form is soft. take_until_soft I.reading form (λ x. I.sought x.1)
+          (λ x. bounds_of x.0) s is;
+      takes = λ is some. before_takes I.reading (I.sought s.1) (bounds_of s.0) some;
+      decided = λ form never. absurd never;
     } };
 
     #[inline(always)]

@@ -30,28 +30,29 @@ impl<const N: usize, I: Stream, O, E: ParserError<I>, P: Parser<I, O, E>> Alt<I,
     ghost meaning = { λ form. AltSliceRuns (P.meaning form) (assert_kind form) };
 
     ghost claim = { λ s. record {
-        premise = All (λ x. (P.claim x).premise × (P.claim x).backtracks) s;
-        backtracks = s ≡ [] → ⊥;
-        consumes = All (λ x. (P.claim x).consumes) s;
-        grammar = FirstOf (λ x. (P.claim x).grammar) s;
-        decides = ⊥;
-        alike = λ o p. o ≡ p;
+      premise = All (λ x. (P.claim x).premise × (P.claim x).backtracks) s;
+      backtracks = s ≡ [] → ⊥;
+      consumes = All (λ x. (P.claim x).consumes) s;
+      grammar = FirstOf (λ x. (P.claim x).grammar) s;
+      decides = ⊥;
+      alike = λ o p. o ≡ p;
     } };
 
     ghost leaves_ends = { λ form. alt_slice_ends I.reading (P.meaning form) (assert_kind form)
         (P.leaves_ends form) };
 
     ghost claimed = { λ s. record {
-        exact = λ form is. first_of_exact (P.meaning form) (assert_kind form) (λ x. (P.claim x).grammar)
-            (λ x. (P.claim x).premise × (P.claim x).backtracks) (λ x k. (P.claimed x).exact form k.0)
-            (λ x k. (P.claimed x).soft form k.0 k.1) s is;
-        soft = λ form is some. first_of_soft (P.meaning form) (assert_kind form) (λ x. (P.claim x).grammar)
-            (λ x. (P.claim x).premise × (P.claim x).backtracks) (λ x k. (P.claimed x).exact form k.0)
-            (λ x k. (P.claimed x).soft form k.0 k.1) s is some;
-        takes = λ is some. first_of_takes (λ x. (P.claim x).grammar)
-            (λ x. (P.claim x).premise) (λ x. (P.claim x).backtracks)
-            (λ x. (P.claim x).consumes) (λ x. (P.claimed x).takes) s is some;
-        decided = λ form never. absurd never;
+      exact = λ form is. first_of_exact (P.meaning form) (assert_kind form)
+          (λ x. (P.claim x).grammar)
+          (λ x. (P.claim x).premise × (P.claim x).backtracks) (λ x k. (P.claimed x).exact form k.0)
+          (λ x k. (P.claimed x).soft form k.0 k.1) s is;
+      soft = λ form is some. first_of_soft (P.meaning form) (assert_kind form) (λ x. (P.claim x).grammar)
+          (λ x. (P.claim x).premise × (P.claim x).backtracks) (λ x k. (P.claimed x).exact form k.0)
+          (λ x k. (P.claimed x).soft form k.0 k.1) s is some;
+      takes = λ is some. first_of_takes (λ x. (P.claim x).grammar)
+          (λ x. (P.claim x).premise) (λ x. (P.claim x).backtracks)
+          (λ x. (P.claim x).consumes) (λ x. (P.claimed x).takes) s is some;
+      decided = λ form never. absurd never;
     } };
 
     #[inline(always)]
@@ -106,12 +107,12 @@ impl<'a, I: Stream, O, E: ParserError<I>, P: Parser<I, O, E>> Alt<I, O, E> for &
     ghost meaning = { λ form. ByRefRuns (AltSliceRuns (P.meaning form) (assert_kind form)) };
 
     ghost claim = { λ s. record {
-        premise = All (λ x. (P.claim x).premise × (P.claim x).backtracks) s.0;
-        backtracks = s.0 ≡ [] → ⊥;
-        consumes = All (λ x. (P.claim x).consumes) s.0;
-        grammar = FirstOf (λ x. (P.claim x).grammar) s.0;
-        decides = ⊥;
-        alike = λ o p. o ≡ p;
+      premise = All (λ x. (P.claim x).premise × (P.claim x).backtracks) s.0;
+      backtracks = s.0 ≡ [] → ⊥;
+      consumes = All (λ x. (P.claim x).consumes) s.0;
+      grammar = FirstOf (λ x. (P.claim x).grammar) s.0;
+      decides = ⊥;
+      alike = λ o p. o ≡ p;
     } };
 
     ghost leaves_ends = { λ form. by_ref_ends I.reading
@@ -119,16 +120,17 @@ impl<'a, I: Stream, O, E: ParserError<I>, P: Parser<I, O, E>> Alt<I, O, E> for &
         (alt_slice_ends I.reading (P.meaning form) (assert_kind form) (P.leaves_ends form)) };
 
     ghost claimed = { λ s. record {
-        exact = λ form is. by_ref_exact (first_of_exact (P.meaning form) (assert_kind form) (λ x. (P.claim x).grammar)
-            (λ x. (P.claim x).premise × (P.claim x).backtracks) (λ x k. (P.claimed x).exact form k.0)
-            (λ x k. (P.claimed x).soft form k.0 k.1) s.0 is);
-        soft = λ form is some. by_ref_soft (first_of_soft (P.meaning form) (assert_kind form) (λ x. (P.claim x).grammar)
-            (λ x. (P.claim x).premise × (P.claim x).backtracks) (λ x k. (P.claimed x).exact form k.0)
-            (λ x k. (P.claimed x).soft form k.0 k.1) s.0 is some);
-        takes = λ is some. first_of_takes (λ x. (P.claim x).grammar)
-            (λ x. (P.claim x).premise) (λ x. (P.claim x).backtracks)
-            (λ x. (P.claim x).consumes) (λ x. (P.claimed x).takes) s.0 is some;
-        decided = λ form never. absurd never;
+      exact = λ form is. by_ref_exact (first_of_exact (P.meaning form) (assert_kind form)
+          (λ x. (P.claim x).grammar)
+          (λ x. (P.claim x).premise × (P.claim x).backtracks) (λ x k. (P.claimed x).exact form k.0)
+          (λ x k. (P.claimed x).soft form k.0 k.1) s.0 is);
+      soft = λ form is some. by_ref_soft (first_of_soft (P.meaning form) (assert_kind form) (λ x. (P.claim x).grammar)
+          (λ x. (P.claim x).premise × (P.claim x).backtracks) (λ x k. (P.claimed x).exact form k.0)
+          (λ x k. (P.claimed x).soft form k.0 k.1) s.0 is some);
+      takes = λ is some. first_of_takes (λ x. (P.claim x).grammar)
+          (λ x. (P.claim x).premise) (λ x. (P.claim x).backtracks)
+          (λ x. (P.claim x).consumes) (λ x. (P.claimed x).takes) s.0 is some;
+      decided = λ form never. absurd never;
     } };
 
     #[inline(always)]

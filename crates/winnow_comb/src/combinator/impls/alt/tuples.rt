@@ -94,14 +94,16 @@ impl<
     ghost meaning = { λ form. OrElse (P1.meaning form)
         (OrElse (P2.meaning form) (P3.meaning form)) };
 
-    ghost claim = { λ s. or_else_claim (P1.claim s.0) (or_else_claim (P2.claim s.1.0) (P3.claim s.1.1)) };
+    ghost claim = { λ s. or_else_claim (P1.claim s.0)
+        (or_else_claim (P2.claim s.1.0) (P3.claim s.1.1)) };
 
     ghost leaves_ends = { λ form. or_else_ends I.reading (P1.meaning form)
         (OrElse (P2.meaning form) (P3.meaning form)) (P1.leaves_ends form)
         (or_else_ends I.reading (P2.meaning form) (P3.meaning form) (P2.leaves_ends form)
         (P3.leaves_ends form)) };
 
-    ghost claimed = { λ s. or_else_claimed (P1.claimed s.0) (or_else_claimed (P2.claimed s.1.0) (P3.claimed s.1.1)) };
+    ghost claimed = { λ s. or_else_claimed (P1.claimed s.0)
+        (or_else_claimed (P2.claimed s.1.0) (P3.claimed s.1.1)) };
 
     #[inline(always)]
     fn choice(&mut self, input: &mut I) -> Result<O, E> {
@@ -151,7 +153,9 @@ impl<
     ghost meaning = { λ form. OrElse (P1.meaning form)
         (OrElse (P2.meaning form) (OrElse (P3.meaning form) (P4.meaning form))) };
 
-    ghost claim = { λ s. or_else_claim (P1.claim s.0) (or_else_claim (P2.claim s.1.0) (or_else_claim (P3.claim s.1.1.0) (P4.claim s.1.1.1))) };
+    ghost claim = { λ s. or_else_claim (P1.claim s.0)
+        (or_else_claim (P2.claim s.1.0)
+        (or_else_claim (P3.claim s.1.1.0) (P4.claim s.1.1.1))) };
 
     ghost leaves_ends = { λ form. or_else_ends I.reading (P1.meaning form)
         (OrElse (P2.meaning form) (OrElse (P3.meaning form) (P4.meaning form)))
@@ -161,7 +165,9 @@ impl<
         (or_else_ends I.reading (P3.meaning form) (P4.meaning form) (P3.leaves_ends form)
         (P4.leaves_ends form))) };
 
-    ghost claimed = { λ s. or_else_claimed (P1.claimed s.0) (or_else_claimed (P2.claimed s.1.0) (or_else_claimed (P3.claimed s.1.1.0) (P4.claimed s.1.1.1))) };
+    ghost claimed = { λ s. or_else_claimed (P1.claimed s.0)
+        (or_else_claimed (P2.claimed s.1.0)
+        (or_else_claimed (P3.claimed s.1.1.0) (P4.claimed s.1.1.1))) };
 
     #[inline(always)]
     fn choice(&mut self, input: &mut I) -> Result<O, E> {
@@ -219,7 +225,10 @@ impl<
         (OrElse (P2.meaning form)
         (OrElse (P3.meaning form) (OrElse (P4.meaning form) (P5.meaning form)))) };
 
-    ghost claim = { λ s. or_else_claim (P1.claim s.0) (or_else_claim (P2.claim s.1.0) (or_else_claim (P3.claim s.1.1.0) (or_else_claim (P4.claim s.1.1.1.0) (P5.claim s.1.1.1.1)))) };
+    ghost claim = { λ s. or_else_claim (P1.claim s.0)
+        (or_else_claim (P2.claim s.1.0)
+        (or_else_claim (P3.claim s.1.1.0)
+        (or_else_claim (P4.claim s.1.1.1.0) (P5.claim s.1.1.1.1)))) };
 
     ghost leaves_ends = { λ form. or_else_ends I.reading (P1.meaning form)
         (OrElse (P2.meaning form)
@@ -233,7 +242,10 @@ impl<
         (or_else_ends I.reading (P4.meaning form) (P5.meaning form) (P4.leaves_ends form)
         (P5.leaves_ends form)))) };
 
-    ghost claimed = { λ s. or_else_claimed (P1.claimed s.0) (or_else_claimed (P2.claimed s.1.0) (or_else_claimed (P3.claimed s.1.1.0) (or_else_claimed (P4.claimed s.1.1.1.0) (P5.claimed s.1.1.1.1)))) };
+    ghost claimed = { λ s. or_else_claimed (P1.claimed s.0)
+        (or_else_claimed (P2.claimed s.1.0)
+        (or_else_claimed (P3.claimed s.1.1.0)
+        (or_else_claimed (P4.claimed s.1.1.1.0) (P5.claimed s.1.1.1.1)))) };
 
     #[inline(always)]
     fn choice(&mut self, input: &mut I) -> Result<O, E> {
@@ -303,7 +315,11 @@ impl<
         (OrElse (P3.meaning form)
         (OrElse (P4.meaning form) (OrElse (P5.meaning form) (P6.meaning form))))) };
 
-    ghost claim = { λ s. or_else_claim (P1.claim s.0) (or_else_claim (P2.claim s.1.0) (or_else_claim (P3.claim s.1.1.0) (or_else_claim (P4.claim s.1.1.1.0) (or_else_claim (P5.claim s.1.1.1.1.0) (P6.claim s.1.1.1.1.1))))) };
+    ghost claim = { λ s. or_else_claim (P1.claim s.0)
+        (or_else_claim (P2.claim s.1.0)
+        (or_else_claim (P3.claim s.1.1.0)
+        (or_else_claim (P4.claim s.1.1.1.0)
+        (or_else_claim (P5.claim s.1.1.1.1.0) (P6.claim s.1.1.1.1.1))))) };
 
     ghost leaves_ends = { λ form. or_else_ends I.reading (P1.meaning form)
         (OrElse (P2.meaning form)
@@ -322,7 +338,11 @@ impl<
         (or_else_ends I.reading (P5.meaning form) (P6.meaning form)
         (P5.leaves_ends form) (P6.leaves_ends form))))) };
 
-    ghost claimed = { λ s. or_else_claimed (P1.claimed s.0) (or_else_claimed (P2.claimed s.1.0) (or_else_claimed (P3.claimed s.1.1.0) (or_else_claimed (P4.claimed s.1.1.1.0) (or_else_claimed (P5.claimed s.1.1.1.1.0) (P6.claimed s.1.1.1.1.1))))) };
+    ghost claimed = { λ s. or_else_claimed (P1.claimed s.0)
+        (or_else_claimed (P2.claimed s.1.0)
+        (or_else_claimed (P3.claimed s.1.1.0)
+        (or_else_claimed (P4.claimed s.1.1.1.0)
+        (or_else_claimed (P5.claimed s.1.1.1.1.0) (P6.claimed s.1.1.1.1.1))))) };
 
     #[inline(always)]
     fn choice(&mut self, input: &mut I) -> Result<O, E> {
