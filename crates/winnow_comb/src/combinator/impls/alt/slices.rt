@@ -46,7 +46,8 @@ impl<const N: usize, I: Stream, O, E: ParserError<I>, P: Parser<I, O, E>> Alt<I,
           (λ x. (P.claim x).grammar)
           (λ x. (P.claim x).premise × (P.claim x).backtracks) (λ x k. (P.claimed x).exact form k.0)
           (λ x k. (P.claimed x).soft form k.0 k.1) s is;
-      soft = λ form is some. first_of_soft (P.meaning form) (assert_kind form) (λ x. (P.claim x).grammar)
+      soft = λ form is some. first_of_soft (P.meaning form) (assert_kind form)
+          (λ x. (P.claim x).grammar)
           (λ x. (P.claim x).premise × (P.claim x).backtracks) (λ x k. (P.claimed x).exact form k.0)
           (λ x k. (P.claimed x).soft form k.0 k.1) s is some;
       takes = λ is some. first_of_takes (λ x. (P.claim x).grammar)
@@ -124,7 +125,8 @@ impl<'a, I: Stream, O, E: ParserError<I>, P: Parser<I, O, E>> Alt<I, O, E> for &
           (λ x. (P.claim x).grammar)
           (λ x. (P.claim x).premise × (P.claim x).backtracks) (λ x k. (P.claimed x).exact form k.0)
           (λ x k. (P.claimed x).soft form k.0 k.1) s.0 is);
-      soft = λ form is some. by_ref_soft (first_of_soft (P.meaning form) (assert_kind form) (λ x. (P.claim x).grammar)
+      soft = λ form is some. by_ref_soft (first_of_soft (P.meaning form) (assert_kind form)
+          (λ x. (P.claim x).grammar)
           (λ x. (P.claim x).premise × (P.claim x).backtracks) (λ x k. (P.claimed x).exact form k.0)
           (λ x k. (P.claimed x).soft form k.0 k.1) s.0 is some);
       takes = λ is some. first_of_takes (λ x. (P.claim x).grammar)
