@@ -82,6 +82,20 @@ fn parse(rt: HostRuntime) {
     }
 }
 
+/// What is read by a grammar: a beginning of the text, and then all of a text.
+#[test]
+fn read(rt: HostRuntime) {
+    for (text, want, rest) in [("ab", Ok('a'), "b"), ("a", Ok('a'), ""), ("b", Err(()), "b")] {
+        let mut input = text;
+        let answer: Result<char, EmptyError> = 'a'.read(&mut input);
+        same(&rt, "read", text, (answer.map_err(|_| ()), input), (want, rest));
+    }
+    for (text, want) in [("a", Ok('a')), ("ab", Err(())), ("", Err(()))] {
+        let all: Result<char, ParseFault<&str, EmptyError>> = 'a'.read_all(text);
+        same(&rt, "read_all", text, all.map_err(|_| ()), want);
+    }
+}
+
 /// The rest and the output of one run, or its error.
 fn peeked<I: OfText + Compare<char> + Compare<Caseless<&'static str>>, E: ParserError<I>>(
     rt: &impl Abort,

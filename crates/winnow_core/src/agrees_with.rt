@@ -32,7 +32,9 @@ pub trait AgreesWith<
     // The other parsers that are like this one: of the same parts.
     ghost like: { Self → Q → Type 0 };
 
-    /// Does nothing: the prover states a bound on a closure only in a block that has a function.
+    /// Does nothing: the prover states a bound on a closure only in a block that has a function. A
+    /// block with its own `fn agree() {}` is proved in a tenth of the time of one that inherits
+    /// this.
     #[inline(always)]
     fn agree() {}
 

@@ -5,7 +5,7 @@ use Rattle.uses_nested.specs.declared.Tree as trees
 use Rattle.uses_nested.proofs.read_leaf.Goals as goal
 
 pub returns-in-Ok : goal.returns-in-Ok
-returns-in-Ok g c = reads_meaning (λ n tree. tree ≡ trees.Leaf n) c.in-Ok.ensures refl
+returns-in-Ok g c = reads_meaning (λ n tree. tree ≡ trees.Leaf n) c.in-Ok.ensures.reads refl
 
 pub returns-in-Err : goal.returns-in-Err
-returns-in-Err g c = reads_no_meaning (λ n tree. tree ≡ trees.Leaf n) c.in-Err.ensures
+returns-in-Err g c = reads_no_meaning (λ n tree. tree ≡ trees.Leaf n) c.in-Err.ensures.reads

@@ -5,7 +5,7 @@ use Rattle.winnow.specs.Read.{err_as, ok_as, reads_by}
 use Rattle.http_heads.proofs.field_line.read_value.Goals as goal
 
 pub returns-in-Ok : goal.returns-in-Ok
-returns-in-Ok c = ok_as (reads_by {h = ValueRead} c.in-Ok.ensures (rw (
+returns-in-Ok c = ok_as (reads_by {h = ValueRead} c.in-Ok.ensures.reads (rw (
   c.preceded.ensures.ignored,
   c.preceded.ensures.parser,
   c.take_while-white.ensures.occurrences,
@@ -16,7 +16,7 @@ returns-in-Ok c = ok_as (reads_by {h = ValueRead} c.in-Ok.ensures (rw (
 ))) (value_there _ _ c.trimmed.ensures)
 
 pub returns-in-Err : goal.returns-in-Err
-returns-in-Err c = err_as (reads_by {h = ValueRead} c.in-Err.ensures (rw (
+returns-in-Err c = err_as (reads_by {h = ValueRead} c.in-Err.ensures.reads (rw (
   c.preceded.ensures.ignored,
   c.preceded.ensures.parser,
   c.take_while-white.ensures.occurrences,
