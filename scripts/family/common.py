@@ -10,6 +10,10 @@ MOST = 6
 NUMBER = ["no", "one", "two", "three", "four", "five", "six"]
 ORDINAL = ["", "first", "second", "third", "fourth", "fifth", "sixth"]
 BETWEEN = "abcde"
+# What a parser claims that does not say what one state and one input decide of its runs.
+UNDECIDED = {"decides": "⊥", "alike": "λ o p. o ≡ p"}
+NOT_DECIDED = {"decided": "λ form never. absurd never"}
+NEVER_TAKES = "λ is never. absurd never"
 LIKE = "J: Stream<Token = I::Token, Seen = I::Seen, Slice = I::Slice>"
 
 
@@ -68,6 +72,12 @@ def block(parameters, trait, kind, where, members):
     lines = ["impl<"] + ["    %s," % parameter for parameter in parameters]
     lines += ["> %s for %s" % (trait, kind) + (where or " {")]
     return "\n".join(lines + [members, "}"])
+
+
+def record(name, fields):
+    """A ghost member that is a record of these fields, by the state."""
+    lines = ["      %s = %s;" % field for field in fields.items()]
+    return "\n".join(["    ghost %s = { λ s. record {" % name, *lines, "    } };"])
 
 
 def documented(text):
