@@ -1,5 +1,5 @@
 """Choices among the members of a tuple, with their laws, in the crate `winnow_comb`."""
-from family.common import LIKE, MOST, NUMBER, block, conjunction, rust_tuple, upto, write
+from family.common import AGREE, LIKE, MOST, NUMBER, block, conjunction, rust_tuple, upto, write
 from family.stable import choice_block
 
 
@@ -98,7 +98,7 @@ def choice_agrees(n):
     if n == 1:
         law = "(agrees1 (λ p. p.alternatives.0) (λ q. q.alternatives.0) (λ X m. m) P1.agrees)"
     like = nested(lambda k: "P%d.like p.alternatives.%d q.alternatives.%d" % (k, k - 1, k - 1), n, product)
-    members = "    ghost like = { λ p q. %s };\n\n    ghost agrees = { %s };" % (like, law[1:-1])
+    members = "    ghost like = { λ p q. %s };\n\n    ghost agrees = { %s };\n%s" % (like, law[1:-1], AGREE)
     tuples = [rust_tuple(["%s%d" % (x, k) for k in upto(n)]) for x in "PQ"]
     trait = "AgreesWith<I, O, E, AltParser<%s, J, O, F>, J, F>" % tuples[1]
     return block(parameters, trait, "AltParser<%s, I, O, E>" % tuples[0], "", members)

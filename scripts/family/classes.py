@@ -167,6 +167,8 @@ where
     ghost like = {{ λ p q. ⊤ }};
 
     ghost agrees = {{ agrees_plain (class_alike {member} {least} I.Token.code I.same_reading I.same_tokens) }};
+
+    fn agree() {{}}
 }}
 """
 

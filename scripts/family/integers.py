@@ -143,6 +143,8 @@ ALIKE = """impl<
     ghost like = {{ λ p q. {like} }};
 
     ghost agrees = {{ {agrees} }};
+
+    fn agree() {{}}
 }}
 """
 

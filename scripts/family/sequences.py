@@ -1,5 +1,6 @@
 """Sequences: tuples of one to six parsers, in the crate `winnow_core`."""
 from family.common import (
+    AGREE,
     BETWEEN,
     LIKE,
     MOST,
@@ -187,6 +188,7 @@ def sequence_agrees(n):
         "    ghost like = { λ p q. %s };" % conjunction(["P%d.like p.%d q.%d" % (k, k - 1, k - 1) for k in upto(n)]),
         "",
         "    ghost agrees = { %s %s (%s) %s };" % (law, parts, made, " ".join("P%d.agrees" % k for k in upto(n))),
+        AGREE,
     ]
     trait = "AgreesWith<I, %s, E, %s, J, F>" % (tuples["O"], tuples["Q"])
     return block(parameters, trait, tuples["P"], "", "\n".join(members))
@@ -300,6 +302,7 @@ NOTHING = [
     "    ghost like = { λ p q. ⊤ };",
     "",
     "    ghost agrees = { agrees_plain (same_refl (λ _. SequenceRuns0)) };",
+    AGREE,
 ]
 
 
