@@ -9,10 +9,12 @@ It writes the sets that are tuples in the crate `stream_sets`, the meanings and 
 sequences (tuples of one to six) in the crate `winnow_core`, those of choices among as many
 branches in the crate `winnow_comb`, with their laws, the parsers of classes of characters in the
 crate `winnow_ascii`, and those of integers in the crates `winnow_integers` and `winnow_binary`;
-and that all of these are stable. It prints the crates whose files it writes.
+what all of these claim, and that they are stable. It prints the crates whose files it writes.
 """
+from family.agreements import write_agreements
 from family.choices import write_choices
 from family.chosen import write_chosen
+from family.claims import write_claims
 from family.classes import write_classes
 from family.decided import write_decided
 from family.exact import write_exact
@@ -26,6 +28,7 @@ from family.stable import write_stable
 if __name__ == "__main__":
     write_sets()
     write_sequences()
+    write_agreements()
     write_known()
     write_reads()
     write_choices()
@@ -35,4 +38,5 @@ if __name__ == "__main__":
     write_chosen()
     write_exact()
     write_decided()
+    write_claims()
     print("stream_sets grammars winnow_core winnow_comb winnow_ascii winnow_integers winnow_binary")

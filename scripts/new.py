@@ -7,8 +7,8 @@
 FILE is the one that gets the function NAME. The templates are two parsers of the library under the
 new name, `any` for a leaf and `opt` for a combinator, with their proofs: so what is laid out is
 proved as it stands, and is then changed step by step. A test, an edit and a note are laid out too,
-the lists and tables of all parsers are written, and each file is formatted: so what checks names
-finds it. It prints what is to be changed.
+the lists and tables of all parsers are written, and each file is formatted, its long lines broken:
+so what checks names finds it. It prints what is to be changed.
 """
 import pathlib
 import re
@@ -18,6 +18,7 @@ import sys
 sys.path.insert(0, str(pathlib.Path(__file__).resolve().parent))
 from new_beside import beside  # noqa: E402
 from registry.common import CRATES, TOP, camel, read  # noqa: E402
+from wrap import wrapped  # noqa: E402
 
 MODELS = {
     "leaf": ("any", CRATES / "winnow_token/src/token.rt"),
@@ -26,9 +27,9 @@ MODELS = {
 NEXT = """Now change, in this order:
   {spec}: the definition, `{kind}Runs`, a line a case
   {file}: the clauses and the documentation of `{name}`, and what it runs
-  {impls}: the struct `{kind}`, its parser, that it is stable and decided, and what it reads
+  {impls}: the struct `{kind}`, its parser with what it claims, and that it is stable
   {laws}: that its runs leave an end, stay on longer inputs, mean the same over streams that are
-    read alike, are decided, and read by its grammar
+    read alike, and keep what is claimed: one input decides them, and they read by its grammar
   {known}: what a caller knows of a run that answered
   {test}: what it answers, by values from outside
   {edit}: a line of the code, and a wrong one in its place
@@ -64,7 +65,8 @@ def renamed(text, of, to):
         is_comment = line.lstrip().startswith(("//", "--"))
         is_code = is_comment and is_code != line.rstrip().endswith("```")
         if is_comment and not is_code:
-            line = re.sub(rf"(?<=[`:]){of.name}(?=[`)])", to.name, line)
+            line = re.sub(rf"(?<=[`:]){of.name}(?=[`)])|\b{of.name}(?=_)", to.name, line)
+            line = re.sub(rf"\b{kind}(?=[A-Z])", new, line)
         else:
             line = re.sub(rf"\b{kind}(?=[A-Z]|\b)", new, line)
             line = re.sub(rf"\b{of.name}(?=_|\b)", to.name, line)
@@ -154,7 +156,8 @@ def main(words):
     to.file.write_text(with_function(of, to), encoding="utf-8")
     for old, new in copies(of, to):
         new.parent.mkdir(parents=True, exist_ok=True)
-        new.write_text(renamed(read(old), of, to), encoding="utf-8")
+        text = wrapped(renamed(read(old), of, to), new.suffix == ".antt")
+        new.write_text(text, encoding="utf-8")
     name_in_module(to)
     more = beside(words[0], to)
     for path, text in more.items():

@@ -13,6 +13,8 @@ WIDTH = 100
 # What a broken line is made to fit, since `rt fmt` moves some parts in.
 FIT = 96
 OPEN, CLOSE = "([{⟨", ")]}⟩"
+# What a line of Rust begins with that is broken here.
+GHOST = ("ghost ", "ensures ", "requires ", "pub ghost ", "invariant ")
 # Where a line is broken before the word, the loosest first.
 ARGUMENT = 14
 OPERATORS = ["→", "↔", "⊎", "×", "≡", "∙", "$", "↦", "in", "++"]
@@ -107,34 +109,36 @@ def is_fixed(line):
     return line.startswith("use ") and "{" not in line
 
 
+def wrapped_line(line, is_antt, is_fenced, is_inside):
+    """The lines that a line becomes, inside an example or a ghost item or outside."""
+    stripped = line.lstrip()
+    indent = len(line) - len(stripped)
+    if len(line) <= WIDTH or is_fixed(stripped):
+        return [line]
+    if re.fullmatch(r"(pub |ghost )*use [^{}]*\{[^{}]*\};?", stripped):
+        return imports(line)
+    if is_antt and stripped.startswith("-- "):
+        return wrapped_comment(line, "--")
+    if stripped.startswith(("/// ", "//! ", "// ")):
+        mark = stripped.split(" ")[0]
+        is_table = stripped.startswith((f"{mark} |", f"{mark} -")) or is_fenced
+        return [line] if is_table else wrapped_comment(line, mark)
+    if is_antt or is_inside:
+        return broken(line, indent)
+    return broken(line, indent, 1) if stripped.startswith(GHOST) else [line]
+
+
 def wrapped(text, is_antt):
-    lines, is_fenced = [], False
+    lines, is_fenced, open_braces = [], False, 0
     for line in text.split("\n"):
         stripped = line.lstrip()
-        indent = len(line) - len(stripped)
         if stripped.startswith(("/// ```", "//! ```")):
             is_fenced = not is_fenced
-        if len(line) <= WIDTH:
-            lines.append(line)
-        elif is_fixed(stripped):
-            lines.append(line)
-        elif re.fullmatch(r"(pub |ghost )*use [^{}]*\{[^{}]*\};?", stripped):
-            lines += imports(line)
-        elif is_antt and stripped.startswith("-- "):
-            lines += wrapped_comment(line, "--")
-        elif is_antt:
-            lines += broken(line, indent)
-        elif stripped.startswith(("/// ", "//! ", "// ")):
-            mark = stripped.split(" ")[0]
-            is_table = stripped.startswith((f"{mark} |", f"{mark} -")) or is_fenced
-            lines += [line] if is_table else wrapped_comment(line, mark)
-        elif stripped.startswith(("ghost ", "ensures ", "requires ", "pub ghost ", "invariant ")):
-            lines += broken(line, indent, 1)
-        elif re.fullmatch(r"\w+ = .*;", stripped) and indent == 8:
-            # a field of a ghost record
-            lines += broken(line, indent)
-        else:
-            lines.append(line)
+        # A ghost item of several lines ends where its first brace is closed.
+        is_inside = open_braces > 0
+        if is_inside or stripped.startswith(GHOST):
+            open_braces += line.count("{") - line.count("}")
+        lines += wrapped_line(line, is_antt, is_fenced, is_inside)
     return "\n".join(lines)
 
 

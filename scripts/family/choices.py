@@ -1,5 +1,5 @@
 """Choices among the members of a tuple, with their laws, in the crate `winnow_comb`."""
-from family.common import LIKE, MOST, NUMBER, block, conjunction, rust_tuple, upto, write
+from family.common import AGREE, LIKE, MOST, NUMBER, block, conjunction, rust_tuple, upto, write
 from family.stable import choice_block
 
 
@@ -32,6 +32,23 @@ def choice_ends(n):
     return term[1:-1]
 
 
+def place(n, k):
+    """Where the branch k of n stands in a state, which is pairs nested to the right."""
+    return ".1" * (k - 1) + (".0" if k < n else "")
+
+
+def choice_claim(n, member):
+    """What a choice among n claims of its branches' claims, or that it is kept."""
+    if n == 1:
+        return "P1.%s" % member
+    claim = nested(
+        lambda k: "(P%d.%s s%s)" % (k, member, place(n, k)),
+        n,
+        lambda first, rest: "(or_else_%s %s %s)" % (member, first, rest),
+    )
+    return "λ s. %s" % claim[1:-1]
+
+
 def choice_impl(n):
     state = nested(lambda k: "P%d.state s.%d" % (k, k - 1), n, lambda a, b: "(%s, %s)" % (a, b))
     meaning = "P1.meaning" if n == 1 else "λ form. %s" % choice_meaning(n)[1:-1]
@@ -47,7 +64,11 @@ def choice_impl(n):
         "",
         "    ghost meaning = { %s };" % meaning,
         "",
+        "    ghost claim = { %s };" % choice_claim(n, "claim"),
+        "",
         "    ghost leaves_ends = { %s };" % ends,
+        "",
+        "    ghost claimed = { %s };" % choice_claim(n, "claimed"),
         "",
         "    #[inline(always)]",
         "    fn choice(&mut self, input: &mut I) -> Result<O, E> {",
@@ -77,7 +98,7 @@ def choice_agrees(n):
     if n == 1:
         law = "(agrees1 (λ p. p.alternatives.0) (λ q. q.alternatives.0) (λ X m. m) P1.agrees)"
     like = nested(lambda k: "P%d.like p.alternatives.%d q.alternatives.%d" % (k, k - 1, k - 1), n, product)
-    members = "    ghost like = { λ p q. %s };\n\n    ghost agrees = { %s };" % (like, law[1:-1])
+    members = "    ghost like = { λ p q. %s };\n\n    ghost agrees = { %s };\n%s" % (like, law[1:-1], AGREE)
     tuples = [rust_tuple(["%s%d" % (x, k) for k in upto(n)]) for x in "PQ"]
     trait = "AgreesWith<I, O, E, AltParser<%s, J, O, F>, J, F>" % tuples[1]
     return block(parameters, trait, "AltParser<%s, I, O, E>" % tuples[0], "", members)
@@ -88,6 +109,7 @@ CHOICE_IMPLS = """//! Tuples as branches.
 //! {head}
 ghost use Rattle.stream_errors.specs.Form.{{modal}};
 ghost use Rattle.winnow_comb.specs.Alt.{{OrElse}};
+ghost use Rattle.winnow_comb.specs.Alt.Claim.{{or_else_claim, or_else_claimed}};
 ghost use Rattle.winnow_comb.specs.Alt.Laws.{{or_else_ends, or_else_grows}};
 ghost use Rattle.winnow_core.specs.Stable.Grows.{{grows, stays}};
 
@@ -118,8 +140,7 @@ use winnow_core::parser::Parser;
 
 def law_run(n, k):
     """The run of the branch k of n, between the states that the nested pairs have for it."""
-    path = ".1" * (k - 1) + (".0" if k < n else "")
-    return "(λ x a y. run%d s%s x a t%s y)" % (k, path, path)
+    return "(λ x a y. run%d s%s x a t%s y)" % (k, place(n, k), place(n, k))
 
 
 def law_spec(n):

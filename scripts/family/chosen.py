@@ -1,6 +1,6 @@
 """The parsers of integers whose bytes stand in an order that is chosen, in `winnow_binary`."""
 from family.common import camel, documented, write
-from family.exact_integers import chosen_exact
+from family.integer_claims import chosen_claims
 from family.integers import ALIKE, IMPORTS, WIDTHS, Integer
 from family.stable import integer_block
 
@@ -63,12 +63,12 @@ CHOSEN_STRUCT = (
     """//! {about}
 //!
 //! {head}
-ghost use Rattle.std.specs.Prelude.{{◌≡◌}};
-ghost use Rattle.winnow_binary.specs.Chosen.{{ChosenRuns, {name}_endian}};
+ghost use Rattle.std.specs.Prelude.{{◌≡◌, ⊤}};
+ghost use Rattle.winnow_binary.specs.Chosen.{{ChosenRuns}};
 ghost use Rattle.winnow_integers.specs.Integer.{{{value}}};
-ghost use Rattle.winnow_integers.specs.Integer.Laws.{{integer_exact, integer_soft, some_bytes}};
 ghost use Rattle.winnow_integers.specs.Integer.Grammar.{{Integer, integer_takes}};
-ghost use Rattle.winnow_integers.specs.Integer.Laws.{{integer_alike, integer_ends, integer_stays}};
+ghost use Rattle.winnow_integers.specs.Integer.Laws.{{integer_alike, integer_ends, integer_exact}};
+ghost use Rattle.winnow_integers.specs.Integer.Laws.{{integer_soft, integer_stays, some_bytes}};
 ghost use Rattle.winnow_integers.specs.declared.binary.endianness.Endianness.{{Endianness}};
 ghost use Rattle.winnow_core.specs.Agrees.{{agrees_by}};
 ghost use Rattle.winnow_core.specs.Stable.Grows.{{leaf_stays}};
@@ -99,7 +99,11 @@ impl<I: StreamIsPartial + ByteStream, E: ParserError<I>> Parser<I, {type}, E> fo
 
     ghost meaning = {{ λ form. ChosenRuns {width} {value} I.reading form }};
 
+{claim}
+
     ghost leaves_ends = {{ λ form x i answer y j r. integer_ends {width} ({value} x) I.reading form i answer j r.0 }};
+
+{claimed}
 
     #[inline(always)]
     fn parse_next(&mut self, input: &mut I) -> Result<{type}, E> {{
@@ -111,8 +115,6 @@ impl<I: StreamIsPartial + ByteStream, E: ParserError<I>> Parser<I, {type}, E> fo
 }}
 
 {stable}
-
-{exact}
 
 """
     + ALIKE
@@ -154,5 +156,7 @@ def write_chosen():
         text = "%s of %s, which stand in an order that is chosen." % (one.kind(), one.bytes())
         agrees = "agrees_by (λ p. p.endian) (λ q. q.endian) (integer_alike %d %s I.same_reading)" % (one.width, one.value)
         stable = integer_block(one, kind + "<I, E>", "x", "(%s x)" % one.value)
-        parts = {"stable": stable, "exact": chosen_exact(name, one), "kind": kind, "own": kind + "<I, E>", "other": kind + "<J, F>", "like": "p.endian ≡ q.endian", "agrees": agrees, **vars(one)}
+        parts = {"kind": kind, "own": kind + "<I, E>", "other": kind + "<J, F>"}
+        parts |= {"like": "p.endian ≡ q.endian", "agrees": agrees, "stable": stable}
+        parts |= chosen_claims(one) | vars(one)
         write(CHOSEN + "src/binary/impls/%s.rt" % name, CHOSEN_STRUCT, about=text, name=name, row=row, number=number, **parts)

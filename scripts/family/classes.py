@@ -1,5 +1,5 @@
 """The parsers of classes of ASCII characters, in the crate `winnow_ascii`."""
-from family.common import camel, documented, write
+from family.common import NEVER_TAKES, camel, documented, record, write
 from family.stable import class_block
 
 CLASSES = [
@@ -82,42 +82,24 @@ use streams::stream::StreamIsPartial;
 """
 
 
-def class_impl(kind, trait, members):
-    return "\n".join(
-        [
-            "impl<I: StreamIsPartial, E: ParserError<I>> %s<I, I::Slice, E> for %s" % (trait, kind),
-            "where",
-            "    I::Token: AsChar,",
-            "{",
-            "\n\n".join("    ghost %s = { %s };" % row for row in members),
-            "}",
-        ]
-    )
-
-
-def class_decided(kind, is_member, least):
-    """That one state and one input decide a take of a class."""
-    members = [
-        ("premise", "λ p. SeenOnce I.seen_as I.Token.code"),
-        ("alike", "λ p. ShowSame I.reading"),
-        ("decided", "λ p form is. class_decided %s %d I.Token.code I.seen_as I.reading form is" % (is_member, least)),
-    ]
-    return class_impl(kind, "Decided", members)
-
-
-def class_exact(kind, is_member, least):
-    """What a take of a class reads."""
+def class_claims(is_member, least):
+    """What a take of a class claims, and that it is kept."""
     parts = "%s %d I.Token.code I.seen_as I.reading" % (is_member, least)
-    members = [("premise", "λ p. SeesApart I.seen_as")]
-    if not least:
-        members.append(("consumes", "λ p. ⊥"))
-    members += [
-        ("grammar", "λ p. Class %s" % parts),
-        ("exact", "λ p form is. class_exact %s form is" % parts),
-        ("soft", "λ p form is soft. class_soft %s form" % parts),
-        ("takes", "λ p is some. class_takes %s one_is_some" % parts if least else "λ p is never. absurd never"),
-    ]
-    return class_impl(kind, "Exact", members)
+    claim = {
+        "premise": "SeesApart I.seen_as",
+        "backtracks": "⊤",
+        "consumes": "⊤" if least else "⊥",
+        "grammar": "Class %s" % parts,
+        "decides": "SeenOnce I.seen_as I.Token.code",
+        "alike": "ShowSame I.reading",
+    }
+    claimed = {
+        "exact": "λ form is. class_exact %s form is" % parts,
+        "soft": "λ form is soft. class_soft %s form" % parts,
+        "takes": "λ is some. class_takes %s one_is_some" % parts if least else NEVER_TAKES,
+        "decided": "λ form is. class_decided %s form is" % parts,
+    }
+    return {"claim": record("claim", claim), "claimed": record("claimed", claimed)}
 
 
 CLASS_STRUCT = """//! {about}
@@ -129,9 +111,8 @@ ghost use Rattle.stream_sets.specs.Once.{{SeesApart}};
 ghost use Rattle.stream_sets.specs.Range.{{from_to}};
 ghost use Rattle.grammars.specs.Grammar.{{Class}};
 ghost use Rattle.winnow_ascii.specs.Class.{{ClassRuns}};
-ghost use Rattle.winnow_ascii.specs.Class.Laws.{{SeenOnce, class_decided}};
-ghost use Rattle.winnow_ascii.specs.Class.Laws.{{{reads}}};
-ghost use Rattle.winnow_ascii.specs.Class.Laws.{{class_alike, class_ends}};
+ghost use Rattle.winnow_ascii.specs.Class.Laws.{{SeenOnce, class_decided, class_exact, class_soft}};
+ghost use Rattle.winnow_ascii.specs.Class.Laws.{{{laws}}};
 ghost use Rattle.winnow_core.specs.Agrees.{{agrees_plain}};
 ghost use Rattle.winnow_core.specs.Literal.Laws.{{ShowSame}};
 ghost use Rattle.winnow_core.specs.Runs.{{Keeps}};
@@ -144,8 +125,6 @@ use stream_sets::as_char::AsChar;
 use streams::reads_like::ReadsLike;
 use streams::stream::{{Stream, StreamIsPartial}};
 use winnow_core::agrees_with::AgreesWith;
-use winnow_core::decided::Decided;
-use winnow_core::exact::Exact;
 use winnow_core::parser::Parser;
 use winnow_core::stable::Stable;
 
@@ -167,7 +146,11 @@ where
 
     ghost meaning = {{ λ form. Keeps (λ _. ClassRuns {member} {least} I.Token.code I.seen_as I.reading form) }};
 
+{claim}
+
     ghost leaves_ends = {{ λ form x i answer y j r. class_ends {member} {least} I.Token.code I.seen_as I.reading form i answer j r.0 }};
+
+{claimed}
 
     #[inline(always)]
     fn parse_next(&mut self, input: &mut I) -> Result<I::Slice, E> {{
@@ -177,10 +160,6 @@ where
 
 {stable}
 
-{decided}
-
-{exact}
-
 impl<I: StreamIsPartial + ReadsLike<J>, J: StreamIsPartial + Stream<Token = I::Token, Seen = I::Seen, Slice = I::Slice>, E: ParserError<I>, F: ParserError<J>> AgreesWith<I, I::Slice, E, {kind}, J, F> for {kind}
 where
     I::Token: AsChar,
@@ -188,6 +167,8 @@ where
     ghost like = {{ λ p q. ⊤ }};
 
     ghost agrees = {{ agrees_plain (class_alike {member} {least} I.Token.code I.same_reading I.same_tokens) }};
+
+    fn agree() {{}}
 }}
 """
 
@@ -205,8 +186,7 @@ def write_classes():
         about = "The longest beginning of %s, %s." % (members, "at least one" if least else "none too")
         blocks = {
             "stable": class_block(camel(call), least),
-            "decided": class_decided(camel(call), is_member, least),
-            "exact": class_exact(camel(call), is_member, least),
-            "reads": "class_exact, class_soft" + (", class_takes, one_is_some" if least else ""),
+            "laws": ("class_takes, one_is_some, " if least else "") + "class_alike, class_ends",
+            **class_claims(is_member, least),
         }
         write(ascii_crate + "src/ascii/impls/%s.rt" % call, CLASS_STRUCT, about=about, **blocks, call=call, kind=camel(call), member=is_member, least=least, front=front, rest=rest)

@@ -10,6 +10,12 @@ MOST = 6
 NUMBER = ["no", "one", "two", "three", "four", "five", "six"]
 ORDINAL = ["", "first", "second", "third", "fourth", "fifth", "sixth"]
 BETWEEN = "abcde"
+# What a parser claims that does not say what one state and one input decide of its runs.
+UNDECIDED = {"decides": "⊥", "alike": "λ o p. o ≡ p"}
+NOT_DECIDED = {"decided": "λ form never. absurd never"}
+NEVER_TAKES = "λ is never. absurd never"
+# What stands behind `agrees` in a block: with it the block is proved much sooner.
+AGREE = "\n    fn agree() {}"
 LIKE = "J: Stream<Token = I::Token, Seen = I::Seen, Slice = I::Slice>"
 
 
@@ -68,6 +74,12 @@ def block(parameters, trait, kind, where, members):
     lines = ["impl<"] + ["    %s," % parameter for parameter in parameters]
     lines += ["> %s for %s" % (trait, kind) + (where or " {")]
     return "\n".join(lines + [members, "}"])
+
+
+def record(name, fields):
+    """A ghost member that is a record of these fields, by the state."""
+    lines = ["      %s = %s;" % field for field in fields.items()]
+    return "\n".join(["    ghost %s = { λ s. record {" % name, *lines, "    } };"])
 
 
 def documented(text):

@@ -1,15 +1,15 @@
-"""What tuples of parsers read, and choices among them, beside these parsers."""
-from family.common import BETWEEN, MOST, NUMBER, block, conjunction, rust_tuple, tuple_type, tuple_value, upto, write
+"""What tuples of four to six parsers read: the words of their grammars, and the lemmas."""
+from family.common import BETWEEN, MOST, NUMBER, conjunction, tuple_type, tuple_value, upto, write
 
 CORE = "crates/winnow_core/"
-COMB = "crates/winnow_comb/"
 GRAMMARS = "crates/grammars/"
 WORDS = {2: "Both", 3: "Three", 4: "Four", 5: "Five", 6: "Six"}
 LARGE = range(4, MOST + 1)
 
 
 def numbered(form, n):
-    return [form.replace("#", str(k)) for k in upto(n)]
+    """A text for each of n members, with its number and its place in the tuple."""
+    return [form.replace("#", str(k)).replace("@", str(k - 1)) for k in upto(n)]
 
 
 def spaced(form, n):
@@ -188,9 +188,9 @@ def exact_lemmas(n):
 
 def sums(form, n):
     """A sum of n, nested to the left."""
-    text = form.replace("#", "1")
-    for k in range(2, n + 1):
-        text = "%s ⊎ %s" % (text if k == 2 else "(%s)" % text, form.replace("#", str(k)))
+    text, *others = numbered(form, n)
+    for k, other in enumerate(others):
+        text = "%s ⊎ %s" % ("(%s)" % text if k else text, other)
     return text
 
 
@@ -237,127 +237,9 @@ use Rattle.winnow_core.specs.Sequence.{{{names}}}
 """
 
 
-def part(form, n, between=" "):
-    """An expression for each member and what is asked of it."""
-    return between.join(form.replace("#", str(k)).replace("@", str(k - 1)) for k in upto(n))
-
-
-def tuple_block(n):
-    outputs = ["O%d: Drop" % k if k < n else "O%d" % k for k in upto(n)]
-    parameters = ["P%d: Exact<I, O%d, E>" % (k, k) for k in upto(n)] + ["I: Stream"] + outputs + ["E: ParserError<I>"]
-    name = prefix(n)
-    output = "(%s) " % whole(n) if n < 4 else ""
-    taking = "(P1.takes p.0 is.0)"
-    for k in range(2, n + 1):
-        taking = "(either_way %s (P%d.takes p.%d is.%d))" % (taking, k, k - 1, k - 1)
-    members = [
-        "    ghost premise = { λ p. %s };" % part("P#.premise p.@", n, " × "),
-        "",
-        "    ghost backtracks = { λ p. %s };" % part("P#.backtracks p.@", n, " × "),
-        "",
-        "    ghost consumes = { λ p. %s };"
-        % sums("P#.consumes p.#", n).replace(" ⊎ P4", "\n        ⊎ P4" if n > 4 else " ⊎ P4"),
-        "",
-        "    ghost grammar = { λ p. %s %s };" % (word(n), part("(P#.grammar p.@)", n)),
-        "",
-        "    ghost exact = { λ p form is. %s_exact %s };" % (name, part("(P#.exact p.@ form is.@)", n)),
-        "",
-        "    ghost soft = { λ p form is soft. %s_soft %s %s };"
-        % (name, part("(P#.exact p.@ form is.@)", n - 1), part("(P#.soft p.@ form is.@ soft.@)", n)),
-        "",
-        "    ghost takes = { λ p is some. %s_takes %s%s (%s some) };" % (name, output, part("(P#.exact p.@ modal is.@)", n), taking[1:-1]),
-    ]
-    for k in upto(n):
-        members[4] = members[4].replace("consumes p.%d" % k, "consumes p!%d" % (k - 1))
-    members[4] = members[4].replace("p!", "p.")
-    kind = rust_tuple(numbered("O#", n))
-    return block(parameters, "Exact<I, %s, E>" % kind, rust_tuple(numbered("P#", n)), "", "\n".join(members))
-
-
-BLOCKS = """//! Tuples of two to six read what their members read, one behind the other.
-//!
-//! {head}
-ghost use Rattle.std.specs.Prelude.{{◌≡◌, ◌⊎◌}};
-ghost use Rattle.stream_errors.specs.Form.{{modal}};
-ghost use Rattle.grammars.specs.Grammar.{{Both, Three}};
-ghost use Rattle.grammars.specs.Grammar.Tuples.{{{words}}};
-ghost use Rattle.winnow_core.specs.Exact.Along.{{either_way}};
-ghost use Rattle.winnow_core.specs.InOrder.Exact.{{both_exact, both_soft, both_takes}};
-ghost use Rattle.winnow_core.specs.InOrder.Three.{{three_exact, three_soft, three_takes}};
-{lemmas}
-
-use crate::exact::Exact;
-use stream_errors::parser_error::ParserError;
-use streams::stream::Stream;
-
-{family}
-"""
-
-
-def nested(first, last, n):
-    """An expression for each branch but the last, with that for those behind it."""
-    text = last.replace("#", str(n)).replace("@", str(n - 1)).replace("!", str(2 * n - 2))
-    for k in range(n - 1, 0, -1):
-        text = "%s (%s)" % (first.replace("#", str(k)).replace("@", str(k - 1)).replace("!", str(2 * k - 2)).replace("?", str(2 * k - 1)), text)
-    return text
-
-
-def choice_block(n):
-    parameters = ["P%d: Exact<I, O, E>" % k for k in upto(n)] + ["I: Stream", "O", "E: ParserError<I>"]
-    at = "(alt_alternatives p)"
-    is_last = "is.!" if n > 1 else "is"
-    some = "some.@" if n > 1 else "some"
-    asked = ["P%d.premise %s.%d × P%d.backtracks %s.%d" % (k, at, k - 1, k, at, k - 1) for k in upto(n - 1)]
-    asked.append("P%d.premise %s.%d" % (n, at, n - 1))
-    read = "(P#.exact %s.@ form is.!) (P#.soft %s.@ form is.! is.?)" % (at, at)
-    members = [
-        "    ghost premise = { λ p. %s };" % conjunction(asked),
-        "",
-        "    ghost backtracks = { λ p. P%d.backtracks %s.%d };" % (n, at, n - 1),
-        "",
-        "    ghost consumes = { λ p. %s };" % part("P#.consumes %s.@" % at, n, " × "),
-        "",
-        "    ghost grammar = { λ p. %s };" % nested("Either (P#.grammar %s.@)" % at, "P#.grammar %s.@" % at, n),
-        "",
-        "    ghost exact = { λ p form is. %s };" % nested("or_else_exact " + read, "P#.exact %s.@ form %s" % (at, is_last), n),
-        "",
-        "    ghost soft = { λ p form is soft. %s };" % nested("or_else_soft " + read, "P#.soft %s.@ form %s soft" % (at, is_last), n),
-        "",
-        "    ghost takes = { λ p is some. %s };"
-        % nested("either_takes (P#.takes %s.@ is.! some.@)" % at, "P#.takes %s.@ %s %s" % (at, is_last, some), n),
-        "",
-        "    fn stay() {}",
-    ]
-    kind = "AltParser<%s, I, O, E>" % rust_tuple(numbered("P#", n))
-    return block(parameters, "Exact<I, O, E>", kind, "", "\n".join(members))
-
-
-CHOICES = """//! Choices among one to six read what the first branch reads of which something stands.
-//!
-//! {head}
-ghost use Rattle.std.specs.Prelude.{{◌≡◌, ⊤}};
-ghost use Rattle.grammars.specs.Grammar.{{Either}};
-ghost use Rattle.grammars.specs.Grammar.Unique.{{either_takes}};
-ghost use Rattle.winnow_comb.specs.Alt.{{alt_alternatives}};
-ghost use Rattle.winnow_comb.specs.Alt.Laws.{{or_else_exact, or_else_soft}};
-
-use crate::combinator::impls::alt::AltParser;
-use stream_errors::parser_error::ParserError;
-use streams::stream::Stream;
-use winnow_core::exact::Exact;
-
-{family}
-"""
-
-
 def write_exact():
     words = ", ".join(sorted(WORDS[n] for n in LARGE))
     names = ", ".join("SequenceRuns%d" % n for n in LARGE)
     write(GRAMMARS + "specs/Grammar/Tuples.antt", WORD_SPECS, family="\n\n".join(word_spec(n) for n in LARGE))
     lemmas = "\n\n".join("%s\n\n%s\n\n%s\n\n%s" % (same_lemma(n), there_lemma(n), exact_lemmas(n), takes_lemma(n)) for n in LARGE)
     write(CORE + "specs/Sequence/Exact.antt", LEMMAS, names=names, words=words, family=lemmas)
-    uses = "\n".join("ghost use Rattle.winnow_core.specs.Sequence.Exact.{tuple%d_exact, tuple%d_soft, tuple%d_takes};" % (n, n, n) for n in LARGE)
-    blocks = "\n\n".join(tuple_block(n) for n in range(2, MOST + 1))
-    write(CORE + "src/parser/tuples/exact.rt", BLOCKS, lemmas=uses, words=words, family=blocks)
-    choices = "\n\n".join(choice_block(n) for n in upto(MOST))
-    write(COMB + "src/combinator/impls/alt/exact.rt", CHOICES, family=choices)

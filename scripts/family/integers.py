@@ -1,6 +1,6 @@
 """The parsers of integers as bytes, in the crate `winnow_integers`."""
 from family.common import camel, documented, write
-from family.exact_integers import fixed_exact
+from family.integer_claims import fixed_claims
 from family.stable import integer_block
 
 FIXED = "crates/winnow_integers/"
@@ -130,7 +130,6 @@ use streams::byte_stream::ByteStream;
 use streams::reads_like::ReadsLike;
 use streams::stream::{{Stream, StreamIsPartial}};
 use winnow_core::agrees_with::AgreesWith;
-use winnow_core::exact::Exact;
 use winnow_core::parser::Parser;
 use winnow_core::stable::Stable;
 """
@@ -144,6 +143,8 @@ ALIKE = """impl<
     ghost like = {{ λ p q. {like} }};
 
     ghost agrees = {{ {agrees} }};
+
+    fn agree() {{}}
 }}
 """
 
@@ -151,11 +152,11 @@ STRUCT = (
     """//! {about}
 //!
 //! {head}
-ghost use Rattle.std.specs.Prelude.{{⊤}};
+ghost use Rattle.std.specs.Prelude.{{◌≡◌, ⊤}};
 ghost use Rattle.winnow_integers.specs.Integer.{{IntegerRuns, {value}}};
-ghost use Rattle.winnow_integers.specs.Integer.Laws.{{integer_exact, integer_soft, some_bytes}};
 ghost use Rattle.winnow_integers.specs.Integer.Grammar.{{Integer, integer_takes}};
-ghost use Rattle.winnow_integers.specs.Integer.Laws.{{integer_alike, integer_ends, integer_stays}};
+ghost use Rattle.winnow_integers.specs.Integer.Laws.{{integer_alike, integer_ends, integer_exact}};
+ghost use Rattle.winnow_integers.specs.Integer.Laws.{{integer_soft, integer_stays, some_bytes}};
 ghost use Rattle.winnow_integers.specs.declared.binary.endianness.Endianness.TheVariants.{{{constructor}}};
 ghost use Rattle.winnow_core.specs.Agrees.{{agrees_plain}};
 ghost use Rattle.winnow_core.specs.Runs.{{Keeps}};
@@ -181,7 +182,11 @@ impl<I: StreamIsPartial + ByteStream, E: ParserError<I>> Parser<I, {type}, E> fo
 
     ghost meaning = {{ λ form. Keeps (λ _. IntegerRuns {width} ({value} {constructor}) I.reading form) }};
 
+{claim}
+
     ghost leaves_ends = {{ λ form x i answer y j r. integer_ends {width} ({value} {constructor}) I.reading form i answer j r.0 }};
+
+{claimed}
 
     #[inline(always)]
     fn parse_next(&mut self, input: &mut I) -> Result<{type}, E> {{
@@ -190,8 +195,6 @@ impl<I: StreamIsPartial + ByteStream, E: ParserError<I>> Parser<I, {type}, E> fo
 }}
 
 {stable}
-
-{exact}
 
 """
     + ALIKE
@@ -282,7 +285,8 @@ def write_fixed():
         own = camel(name)
         agrees = "agrees_plain (integer_alike %d (λ _. %s %s) I.same_reading)" % (one.width, one.value, one.constructor)
         stable = integer_block(one, own, "_", "(%s %s)" % (one.value, one.constructor))
-        parts = {"own": own, "other": own, "like": "⊤", "agrees": agrees, "stable": stable, "exact": fixed_exact(name, one), **vars(one)}
+        parts = {"own": own, "other": own, "like": "⊤", "agrees": agrees, "stable": stable}
+        parts |= fixed_claims(one) | vars(one)
         write(FIXED + "src/binary/impls/%s.rt" % name, STRUCT, about=about(one), name=name, row=row, number=number, **parts)
         path = struct_path(name, one)
         answers = FIXED + "proofs/binary/impls/%s/Answers.antt" % "/".join(path)

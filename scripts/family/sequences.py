@@ -1,5 +1,6 @@
 """Sequences: tuples of one to six parsers, in the crate `winnow_core`."""
 from family.common import (
+    AGREE,
     BETWEEN,
     LIKE,
     MOST,
@@ -14,6 +15,7 @@ from family.common import (
     upto,
     write,
 )
+from family.claims import NOTHING_CLAIMS, member_claims
 
 
 def sequence_case(n, failing):
@@ -62,6 +64,7 @@ use Rattle.streams.specs.Kind.{{Kind}}
 use Rattle.winnow_core.specs.Runs.{{Runs}}
 
 pub mod Cases
+pub mod Claim
 pub mod Decided
 pub mod Exact
 pub mod Grows
@@ -142,6 +145,7 @@ def sequence_impl(n):
     parsers = rust_tuple(["P%d" % k for k in upto(n)])
     meanings = " ".join("(P%d.meaning form)" % k for k in upto(n))
     dropped = ", ".join("O%d: Drop" % k if k < n else "O%d" % k for k in upto(n))
+    claims = member_claims(n)
     lines = [
         "impl<I: Stream, %s, E: ParserError<I>, %s> Parser<I, %s, E> for %s {" % (dropped, bounds(n, lambda k: "O%d" % k), outputs, parsers),
         "    ghost can_parse = { λ s. %s };" % conjunction(["P%d.can_parse s.%d" % (k, k - 1) for k in upto(n)]),
@@ -152,7 +156,11 @@ def sequence_impl(n):
         "",
         "    ghost meaning = { λ form. SequenceRuns%d %s };" % (n, meanings),
         "",
+        claims["claim"],
+        "",
         "    ghost leaves_ends = { λ form. sequence%d_ends I.reading %s %s };" % (n, meanings, " ".join("(P%d.leaves_ends form)" % k for k in upto(n))),
+        "",
+        claims["claimed"],
         "",
         "    #[inline(always)]",
         "    fn parse_next(&mut self, input: &mut I) -> Result<%s, E> {" % outputs,
@@ -180,6 +188,7 @@ def sequence_agrees(n):
         "    ghost like = { λ p q. %s };" % conjunction(["P%d.like p.%d q.%d" % (k, k - 1, k - 1) for k in upto(n)]),
         "",
         "    ghost agrees = { %s %s (%s) %s };" % (law, parts, made, " ".join("P%d.agrees" % k for k in upto(n))),
+        AGREE,
     ]
     trait = "AgreesWith<I, %s, E, %s, J, F>" % (tuples["O"], tuples["Q"])
     return block(parameters, trait, tuples["P"], "", "\n".join(members))
@@ -188,17 +197,19 @@ def sequence_agrees(n):
 SEQUENCE_IMPLS = """//! Tuples: their members run in order, and the first failure is handed on.
 //!
 //! {head}
-ghost use Rattle.std.specs.Prelude.{{⊤}};
+ghost use Rattle.std.specs.Prelude.{{◌≡◌, ⊤}};
+ghost use Rattle.grammars.specs.Grammar.{{Made, Nothing}};
+ghost use Rattle.grammars.specs.Grammar.Unique.{{made_of_takes}};
 ghost use Rattle.winnow_core.specs.Agrees.{{agrees_plain}};
 ghost use Rattle.winnow_core.specs.Agrees.Sizes.{{{agreements}}};
 ghost use Rattle.winnow_core.specs.Ends.{{same_ends}};
+ghost use Rattle.winnow_core.specs.Exact.Nothing.{{unit_exact, unit_soft}};
+ghost use Rattle.winnow_core.specs.InOrder.Exact.{{OneTuple, tuple1_exact, tuple1_soft}};
 ghost use Rattle.winnow_core.specs.SameMeaning.{{same_refl}};
 ghost use Rattle.winnow_core.specs.Sequence.{{{names}}};
+{claims}
 ghost use Rattle.winnow_core.specs.Sequence.Laws.{{{laws}}};
 
-mod decided;
-mod exact;
-mod small;
 mod stable;
 
 use crate::agrees_with::AgreesWith;
@@ -214,7 +225,11 @@ impl<I: Stream, E: ParserError<I>> Parser<I, (), E> for () {{
 
     ghost meaning = {{ λ _. SequenceRuns0 }};
 
+{nothing_claim}
+
     ghost leaves_ends = {{ λ form s i answer t j r. same_ends I.reading i j r.1 }};
+
+{nothing_claimed}
 
     #[inline(always)]
     fn parse_next(&mut self, _input: &mut I) -> Result<(), E> {{
@@ -282,91 +297,12 @@ use Rattle.std.proofs.Common.{{rules, refl, inl, inr}}
 """
 
 
-# Choices.
-
-
-def agreement(n):
-    """What is made of n children that agree agrees."""
-    every = upto(n)
-
-    def each(text, joined=" "):
-        return joined.join(text.replace("#", str(k)).replace("@", str(k - 1)) for k in every)
-
-    def lifted(k):
-        """The child k in the place of its like one, where those before it were put already."""
-        states = ["U%d" % x if x < k else "X" if x == k else "S%d" % x for x in every]
-        meanings = ["n%d" % x if x < k else "m" if x == k else "m%d" % x for x in every]
-        mapped = ", ".join("f s.%d" % (x - 1) if x == k else "s.%d" % (x - 1) for x in every)
-        make = "λ X m. make %s %s" % (" ".join(states), " ".join(meanings))
-        return "lift (λ X. %s) (λ X Y f s. (%s)) (%s) (λ X. refl) one%d.along one%d.same" % (" × ".join(states), mapped, make, k, k)
-
-    def led(k):
-        """The state of the child k leads to that of its like one."""
-        parts = ["other%d (other_part%d q)" % (x, x) if x < k else "x" if x == k else "one%d.along (state%d (part%d p))" % (x, x, x) for x in every]
-        return "ap (λ x. (%s)) (one%d.leads (part%d p) (other_part%d q) is.%d)" % (", ".join(parts), k, k, k, k - 1)
-
-    same = lifted(n)
-    for k in range(n - 1, 0, -1):
-        same = "same_trans (%s) (%s)" % (lifted(k), same)
-    kind = "{P Q T O : Type 0} {%s : Type 0} %s (make : (%s : Type 0) → %s → Meaning (%s) T O) %s → %s → Agrees (λ p. (%s)) (λ q. (%s)) (λ p q. %s) (make %s %s) (make %s %s)" % (
-        each("P# Q# S# U# T# O#"),
-        each("(part# : P → P#) (other_part# : Q → Q#)"),
-        each("X#"),
-        each("Meaning X# T# O#", " → "),
-        each("X#", " × "),
-        each("{state# : P# → S#} {other# : Q# → U#} {like# : P# → Q# → Type 0} {m# : Meaning S# T# O#} {n# : Meaning U# T# O#}"),
-        each("Agrees state# other# like# m# n#", " → "),
-        each("state# (part# p)", ", "),
-        each("other# (other_part# q)", ", "),
-        each("like# (part# p) (other_part# q)", " × "),
-        each("S#"),
-        each("m#"),
-        each("U#"),
-        each("n#"),
-    )
-    named = "%s %s make %s %s" % (
-        each("{S# = S#} {U# = U#}"),
-        each("part# other_part#"),
-        each("{state# = state#} {other# = other#} {m# = m#} {n# = n#}"),
-        each("one#"),
-    )
-    return "\n".join(
-        [
-            "-- ... of %s children" % NUMBER[n],
-            "pub agrees%d : %s" % (n, kind),
-            "agrees%d %s = record {" % (n, named),
-            "  along = λ s. (%s);" % each("one#.along s.@", ", "),
-            "  same = %s;" % same,
-            "  leads = λ p q is. %s;" % " ∙ ".join(led(k) for k in every),
-            "  only = λ p q e. (%s);" % each("one#.only (part# p) (other_part# q) (ap (λ x. x.@) e)", ", "),
-            "}",
-        ]
-    )
-
-
-AGREEMENTS = """-- What is made of one to six children that agree agrees.
--- {head}
-use Rattle.std.proofs.Common.{{refl, ap, ◌∙◌}}
-use Rattle.winnow_core.specs.Agrees.{{Agrees}}
-use Rattle.winnow_core.specs.Runs.{{Meaning}}
-use Rattle.winnow_core.specs.SameMeaning.{{lift, same_trans}}
-
--- ... of one child, in a tuple
-pub agrees_one : {{P P' Q Q' S U T O T' O' : Type 0}} (part : P' → P) (other_part : Q' → Q) (make : (X : Type 0) → Meaning X T O → Meaning (record {{ 0 : X }}) T' O') {{state : P → S}} {{other : Q → U}} {{like : P → Q → Type 0}} {{m : Meaning S T O}} {{n : Meaning U T O}} → Agrees state other like m n → Agrees (λ p. record {{ 0 = state (part p) }}) (λ q. record {{ 0 = other (other_part q) }}) (λ p q. like (part p) (other_part q)) (make S m) (make U n)
-agrees_one part other_part make child = record {{
-  along = λ s. record {{ 0 = child.along s.0 }};
-  same = lift (λ X. record {{ 0 : X }}) (λ X Y f s. record {{ 0 = f s.0 }}) make (λ X. refl) child.along child.same;
-  leads = λ p q is. ap (λ x. record {{ 0 = x }}) (child.leads (part p) (other_part q) is);
-  only = λ p q e. child.only (part p) (other_part q) (ap (λ x. x.0) e);
-}}
-
-{family}
-"""
-
+CLAIMS = "ghost use Rattle.winnow_core.specs.Sequence.Claim.{sequence%d_claim, sequence%d_claimed};"
 NOTHING = [
     "    ghost like = { λ p q. ⊤ };",
     "",
     "    ghost agrees = { agrees_plain (same_refl (λ _. SequenceRuns0)) };",
+    AGREE,
 ]
 
 
@@ -384,10 +320,12 @@ def write_sequences():
         names=names,
         laws=", ".join("sequence%d_ends" % n for n in every),
         agreements=", ".join(["agrees%d" % n for n in every if n > 1] + ["agrees_one"]),
+        claims="\n".join(CLAIMS % (n, n) for n in every if n > 1),
         nothing=nothing,
+        nothing_claim=NOTHING_CLAIMS["claim"],
+        nothing_claimed=NOTHING_CLAIMS["claimed"],
         family="\n\n".join("%s\n\n%s" % (sequence_impl(n), sequence_agrees(n)) for n in every),
     )
-    write(core + "specs/Agrees/Sizes.antt", AGREEMENTS, family="\n\n".join(agreement(n) for n in every if n > 1))
     for n in every:
         chains = ", ".join(trans(k) for k in range(2, n + 1))
         ends = "use Rattle.streams.specs.Input.{%s}\n" % chains if chains else ""

@@ -2,25 +2,36 @@
 from family.common import MOST, conjunction, rust_tuple, upto, write
 
 
-def set_tells(n):
-    """What n sets tell of a token, asked in order."""
-    tells = ["(S%d.tells s.%d)" % (k, k - 1) for k in upto(n)]
-    if n == 1:
-        return "S1.tells s.0 t b"
-    term = tells[-1]
-    for first in reversed(tells[1:-1]):
-        term = "(EitherTells %s %s)" % (first, term)
-    return "EitherTells %s %s t b" % (tells[0], term)
+def tells(k):
+    return "(S%d.tells s.%d)" % (k, k - 1)
+
+
+def tells_from(k, n):
+    """What the sets from k to n tell of a token, asked in order."""
+    return tells(n) if k == n else "(EitherTells %s %s)" % (tells(k), tells_from(k + 1, n))
+
+
+def once_from(k, n):
+    """That the sets from k to n tell one thing of a token, where each does."""
+    one = "(S%d.once s.%d is%s)" % (k, k - 1, ".%d" % (k - 1) if n > 1 else "")
+    if k == n:
+        return one
+    return "(either_once %s %s %s %s)" % (tells(k), tells_from(k + 1, n), one, once_from(k + 1, n))
 
 
 def set_impl(n):
     sets = rust_tuple(["S%d" % k for k in upto(n)])
+    decides = conjunction(["S%d.decides s.%d" % (k, k - 1) for k in upto(n)])
     bounds = ", ".join("S%d: ContainsToken<T>" % k for k in upto(n))
     lines = [
         "impl<T: Copy, %s> ContainsToken<T> for %s {" % (bounds, sets),
         "    ghost can_test = { λ s. %s };" % conjunction(["S%d.can_test s.%d" % (k, k - 1) for k in upto(n)]),
         "",
-        "    ghost tells = { λ s t b. %s };" % set_tells(n),
+        "    ghost tells = { λ s t b. %s t b };" % tells_from(1, n)[1:-1],
+        "",
+        "    ghost decides = { λ s. %s };" % decides,
+        "",
+        "    ghost once = { λ s is. %s };" % once_from(1, n)[1:-1],
         "",
         "    #[inline(always)]",
         "    fn contains_token(&self, token: T) -> bool {",
@@ -34,6 +45,7 @@ def set_impl(n):
 SET_IMPLS = """//! Tuples of sets: a token is a member where one of the sets has it, which are asked in order.
 //!
 //! {head}
+ghost use Rattle.stream_sets.specs.Once.{{either_once}};
 ghost use Rattle.stream_sets.specs.Sets.{{EitherTells}};
 
 use crate::sets::ContainsToken;

@@ -25,7 +25,6 @@ use stream_sets::numbers::ToUsize;
 use streams::byte_stream::ByteStream;
 use streams::needed::Needed;
 use streams::stream::{Stream, StreamIsPartial};
-use winnow_core::parser::Parser;
 use winnow_core::short::short;
 
 /// A parser of `count` bits as a number, of which the first bit is the greatest.

@@ -1,8 +1,8 @@
 //! Tuples of sets: a token is a member where one of the sets has it, which are asked in order.
 //!
 //! Written by scripts/families.py: do not edit.
-ghost use Rattle.stream_sets.specs.Sets.{EitherTells};
 ghost use Rattle.stream_sets.specs.Once.{either_once};
+ghost use Rattle.stream_sets.specs.Sets.{EitherTells};
 
 use crate::sets::ContainsToken;
 
@@ -70,11 +70,13 @@ impl<
 
     ghost decides = { λ s. S1.decides s.0 × S2.decides s.1 × S3.decides s.2 × S4.decides s.3 };
 
-    ghost once = { λ s is. either_once (S1.tells s.0) (EitherTells (S2.tells s.1)
-        (EitherTells (S3.tells s.2) (S4.tells s.3))) (S1.once s.0 is.0)
-        (either_once (S2.tells s.1)
-        (EitherTells (S3.tells s.2) (S4.tells s.3)) (S2.once s.1 is.1)
-        (either_once (S3.tells s.2) (S4.tells s.3) (S3.once s.2 is.2) (S4.once s.3 is.3))) };
+    ghost once = { λ s is. either_once (S1.tells s.0)
+        (EitherTells (S2.tells s.1) (EitherTells (S3.tells s.2) (S4.tells s.3)))
+        (S1.once s.0 is.0)
+        (either_once (S2.tells s.1) (EitherTells (S3.tells s.2) (S4.tells s.3))
+        (S2.once s.1 is.1)
+        (either_once (S3.tells s.2) (S4.tells s.3) (S3.once s.2 is.2)
+        (S4.once s.3 is.3))) };
 
     #[inline(always)]
     fn contains_token(&self, token: T) -> bool {
@@ -103,13 +105,17 @@ impl<
     ghost decides = { λ s. S1.decides s.0 × S2.decides s.1 × S3.decides s.2 × S4.decides s.3
         × S5.decides s.4 };
 
-    ghost once = { λ s is. either_once (S1.tells s.0) (EitherTells (S2.tells s.1)
-        (EitherTells (S3.tells s.2) (EitherTells (S4.tells s.3) (S5.tells s.4)))) (S1.once s.0 is.0)
-        (either_once (S2.tells s.1) (EitherTells (S3.tells s.2)
-        (EitherTells (S4.tells s.3) (S5.tells s.4))) (S2.once s.1 is.1)
-        (either_once (S3.tells s.2)
-        (EitherTells (S4.tells s.3) (S5.tells s.4)) (S3.once s.2 is.2)
-        (either_once (S4.tells s.3) (S5.tells s.4) (S4.once s.3 is.3) (S5.once s.4 is.4)))) };
+    ghost once = { λ s is. either_once (S1.tells s.0)
+        (EitherTells (S2.tells s.1)
+        (EitherTells (S3.tells s.2) (EitherTells (S4.tells s.3) (S5.tells s.4))))
+        (S1.once s.0 is.0)
+        (either_once (S2.tells s.1)
+        (EitherTells (S3.tells s.2) (EitherTells (S4.tells s.3) (S5.tells s.4)))
+        (S2.once s.1 is.1)
+        (either_once (S3.tells s.2) (EitherTells (S4.tells s.3) (S5.tells s.4))
+        (S3.once s.2 is.2)
+        (either_once (S4.tells s.3) (S5.tells s.4) (S4.once s.3 is.3)
+        (S5.once s.4 is.4)))) };
 
     #[inline(always)]
     fn contains_token(&self, token: T) -> bool {
@@ -141,16 +147,22 @@ impl<
     ghost decides = { λ s. S1.decides s.0 × S2.decides s.1 × S3.decides s.2 × S4.decides s.3
         × S5.decides s.4 × S6.decides s.5 };
 
-    ghost once = { λ s is. either_once (S1.tells s.0) (EitherTells (S2.tells s.1)
-        (EitherTells (S3.tells s.2) (EitherTells (S4.tells s.3)
-        (EitherTells (S5.tells s.4) (S6.tells s.5))))) (S1.once s.0 is.0)
-        (either_once (S2.tells s.1) (EitherTells (S3.tells s.2)
-        (EitherTells (S4.tells s.3) (EitherTells (S5.tells s.4) (S6.tells s.5)))) (S2.once s.1 is.1)
-        (either_once (S3.tells s.2) (EitherTells (S4.tells s.3)
-        (EitherTells (S5.tells s.4) (S6.tells s.5))) (S3.once s.2 is.2)
-        (either_once (S4.tells s.3)
-        (EitherTells (S5.tells s.4) (S6.tells s.5)) (S4.once s.3 is.3)
-        (either_once (S5.tells s.4) (S6.tells s.5) (S5.once s.4 is.4) (S6.once s.5 is.5))))) };
+    ghost once = { λ s is. either_once (S1.tells s.0)
+        (EitherTells (S2.tells s.1)
+        (EitherTells (S3.tells s.2)
+        (EitherTells (S4.tells s.3) (EitherTells (S5.tells s.4) (S6.tells s.5)))))
+        (S1.once s.0 is.0)
+        (either_once (S2.tells s.1)
+        (EitherTells (S3.tells s.2)
+        (EitherTells (S4.tells s.3) (EitherTells (S5.tells s.4) (S6.tells s.5))))
+        (S2.once s.1 is.1)
+        (either_once (S3.tells s.2)
+        (EitherTells (S4.tells s.3) (EitherTells (S5.tells s.4) (S6.tells s.5)))
+        (S3.once s.2 is.2)
+        (either_once (S4.tells s.3) (EitherTells (S5.tells s.4) (S6.tells s.5))
+        (S4.once s.3 is.3)
+        (either_once (S5.tells s.4) (S6.tells s.5) (S5.once s.4 is.4)
+        (S6.once s.5 is.5))))) };
 
     #[inline(always)]
     fn contains_token(&self, token: T) -> bool {

@@ -13,10 +13,8 @@ ghost use Rattle.winnow_comb.specs.Peek.{peek_parser};
 
 use crate::combinator::impls::{BacktrackErr, Cond, CutErr, Not, Opt, Peek};
 use std::marker::PhantomData;
-use stream_errors::modal::ModalError;
 use stream_errors::parser_error::ParserError;
 use streams::stream::Stream;
-use winnow_core::parser::Parser;
 
 /// A parser of `parser` or of nothing.
 ///

@@ -11,9 +11,9 @@ use Rattle.winnow_core.specs.InOrder.Decided.{three_decided}
 use Rattle.winnow_core.specs.InOrder.Exact.{both_exact, both_soft, both_takes}
 use Rattle.winnow_core.specs.InOrder.Three.{three_exact, three_soft, three_takes}
 use Rattle.winnow_core.specs.Runs.{Meaning}
-use Rattle.winnow_core.specs.Sequence.{SequenceRuns2, SequenceRuns3, SequenceRuns4}
-use Rattle.winnow_core.specs.Sequence.{SequenceRuns5, SequenceRuns6}
-use Rattle.winnow_core.specs.Sequence.Decided.{AlikeFive, AlikeFour, AlikeSix, tuple4_decided}
+use Rattle.winnow_core.specs.Sequence.{SequenceRuns2, SequenceRuns3, SequenceRuns4, SequenceRuns5}
+use Rattle.winnow_core.specs.Sequence.{SequenceRuns6}
+use Rattle.winnow_core.specs.Sequence.Decided.{AlikeFour, AlikeFive, AlikeSix, tuple4_decided}
 use Rattle.winnow_core.specs.Sequence.Decided.{tuple5_decided, tuple6_decided}
 use Rattle.winnow_core.specs.Sequence.Exact.{tuple4_exact, tuple4_soft, tuple4_takes}
 use Rattle.winnow_core.specs.Sequence.Exact.{tuple5_exact, tuple5_soft, tuple5_takes}
@@ -30,6 +30,7 @@ sequence2_claim c1 c2 = record {
   alike = AlikePairs c1.alike c2.alike;
 }
 
+-- that is kept
 pub sequence2_claimed : {S1 S2 T O1 O2 : Type 0} {c1 : Claim T O1} {c2 : Claim T O2}
     {m1 : Meaning S1 T O1} {m2 : Meaning S2 T O2} {s : S1 × S2} → Claimed c1 s.0 m1
     → Claimed c2 s.1 m2
@@ -56,6 +57,7 @@ sequence3_claim c1 c2 c3 = record {
   alike = AlikeTriples c1.alike c2.alike c3.alike;
 }
 
+-- that is kept
 pub sequence3_claimed : {S1 S2 S3 T O1 O2 O3 : Type 0} {c1 : Claim T O1} {c2 : Claim T O2}
     {c3 : Claim T O3} {m1 : Meaning S1 T O1} {m2 : Meaning S2 T O2} {m3 : Meaning S3 T O3}
     {s : S1 × S2 × S3} → Claimed c1 s.0 m1 → Claimed c2 s.1 m2 → Claimed c3 s.2 m3
@@ -84,6 +86,7 @@ sequence4_claim c1 c2 c3 c4 = record {
   alike = AlikeFour c1.alike c2.alike c3.alike c4.alike;
 }
 
+-- that is kept
 pub sequence4_claimed : {S1 S2 S3 S4 T O1 O2 O3 O4 : Type 0} {c1 : Claim T O1} {c2 : Claim T O2}
     {c3 : Claim T O3} {c4 : Claim T O4} {m1 : Meaning S1 T O1} {m2 : Meaning S2 T O2}
     {m3 : Meaning S3 T O3} {m4 : Meaning S4 T O4} {s : S1 × S2 × S3 × S4} → Claimed c1 s.0 m1
@@ -116,6 +119,7 @@ sequence5_claim c1 c2 c3 c4 c5 = record {
   alike = AlikeFive c1.alike c2.alike c3.alike c4.alike c5.alike;
 }
 
+-- that is kept
 pub sequence5_claimed : {S1 S2 S3 S4 S5 T O1 O2 O3 O4 O5 : Type 0} {c1 : Claim T O1}
     {c2 : Claim T O2} {c3 : Claim T O3} {c4 : Claim T O4} {c5 : Claim T O5}
     {m1 : Meaning S1 T O1} {m2 : Meaning S2 T O2} {m3 : Meaning S3 T O3} {m4 : Meaning S4 T O4}
@@ -153,6 +157,7 @@ sequence6_claim c1 c2 c3 c4 c5 c6 = record {
   alike = AlikeSix c1.alike c2.alike c3.alike c4.alike c5.alike c6.alike;
 }
 
+-- that is kept
 pub sequence6_claimed : {S1 S2 S3 S4 S5 S6 T O1 O2 O3 O4 O5 O6 : Type 0} {c1 : Claim T O1}
     {c2 : Claim T O2} {c3 : Claim T O3} {c4 : Claim T O4} {c5 : Claim T O5} {c6 : Claim T O6}
     {m1 : Meaning S1 T O1} {m2 : Meaning S2 T O2} {m3 : Meaning S3 T O3} {m4 : Meaning S4 T O4}

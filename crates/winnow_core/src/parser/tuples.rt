@@ -1,26 +1,26 @@
 //! Tuples: their members run in order, and the first failure is handed on.
 //!
 //! Written by scripts/families.py: do not edit.
-ghost use Rattle.std.specs.Prelude.{⊤, ◌≡◌};
+ghost use Rattle.std.specs.Prelude.{◌≡◌, ⊤};
+ghost use Rattle.grammars.specs.Grammar.{Made, Nothing};
+ghost use Rattle.grammars.specs.Grammar.Unique.{made_of_takes};
 ghost use Rattle.winnow_core.specs.Agrees.{agrees_plain};
 ghost use Rattle.winnow_core.specs.Agrees.Sizes.{agrees2, agrees3, agrees4, agrees5, agrees6};
 ghost use Rattle.winnow_core.specs.Agrees.Sizes.{agrees_one};
 ghost use Rattle.winnow_core.specs.Ends.{same_ends};
+ghost use Rattle.winnow_core.specs.Exact.Nothing.{unit_exact, unit_soft};
+ghost use Rattle.winnow_core.specs.InOrder.Exact.{OneTuple, tuple1_exact, tuple1_soft};
 ghost use Rattle.winnow_core.specs.SameMeaning.{same_refl};
 ghost use Rattle.winnow_core.specs.Sequence.{SequenceRuns0, SequenceRuns1, SequenceRuns2};
 ghost use Rattle.winnow_core.specs.Sequence.{SequenceRuns3, SequenceRuns4, SequenceRuns5};
 ghost use Rattle.winnow_core.specs.Sequence.{SequenceRuns6};
-ghost use Rattle.winnow_core.specs.Sequence.Laws.{sequence1_ends, sequence2_ends, sequence3_ends};
-ghost use Rattle.winnow_core.specs.Sequence.Laws.{sequence4_ends, sequence5_ends, sequence6_ends};
-ghost use Rattle.grammars.specs.Grammar.{Nothing, Made};
-ghost use Rattle.grammars.specs.Grammar.Unique.{made_of_takes};
-ghost use Rattle.winnow_core.specs.Exact.Nothing.{unit_exact, unit_soft};
-ghost use Rattle.winnow_core.specs.InOrder.Exact.{OneTuple, tuple1_exact, tuple1_soft};
 ghost use Rattle.winnow_core.specs.Sequence.Claim.{sequence2_claim, sequence2_claimed};
 ghost use Rattle.winnow_core.specs.Sequence.Claim.{sequence3_claim, sequence3_claimed};
 ghost use Rattle.winnow_core.specs.Sequence.Claim.{sequence4_claim, sequence4_claimed};
 ghost use Rattle.winnow_core.specs.Sequence.Claim.{sequence5_claim, sequence5_claimed};
 ghost use Rattle.winnow_core.specs.Sequence.Claim.{sequence6_claim, sequence6_claimed};
+ghost use Rattle.winnow_core.specs.Sequence.Laws.{sequence1_ends, sequence2_ends, sequence3_ends};
+ghost use Rattle.winnow_core.specs.Sequence.Laws.{sequence4_ends, sequence5_ends, sequence6_ends};
 
 mod stable;
 

@@ -4,9 +4,9 @@
 ghost use Rattle.std.specs.Prelude.{◌≡◌, ⊤};
 ghost use Rattle.winnow_binary.specs.Chosen.{ChosenRuns};
 ghost use Rattle.winnow_integers.specs.Integer.{unsigned_value};
-ghost use Rattle.winnow_integers.specs.Integer.Laws.{integer_exact, integer_soft, some_bytes};
-ghost use Rattle.winnow_integers.specs.Integer.Laws.{integer_alike, integer_ends, integer_stays};
 ghost use Rattle.winnow_integers.specs.Integer.Grammar.{Integer, integer_takes};
+ghost use Rattle.winnow_integers.specs.Integer.Laws.{integer_alike, integer_ends, integer_exact};
+ghost use Rattle.winnow_integers.specs.Integer.Laws.{integer_soft, integer_stays, some_bytes};
 ghost use Rattle.winnow_integers.specs.declared.binary.endianness.Endianness.{Endianness};
 ghost use Rattle.winnow_core.specs.Agrees.{agrees_by};
 ghost use Rattle.winnow_core.specs.Stable.Grows.{leaf_stays};

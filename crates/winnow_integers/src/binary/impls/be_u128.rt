@@ -1,11 +1,11 @@
 //! An unsigned integer of 16 bytes, of which the highest stands first.
 //!
 //! Written by scripts/families.py: do not edit.
-ghost use Rattle.std.specs.Prelude.{⊤, ◌≡◌};
+ghost use Rattle.std.specs.Prelude.{◌≡◌, ⊤};
 ghost use Rattle.winnow_integers.specs.Integer.{IntegerRuns, unsigned_value};
-ghost use Rattle.winnow_integers.specs.Integer.Laws.{integer_exact, integer_soft, some_bytes};
-ghost use Rattle.winnow_integers.specs.Integer.Laws.{integer_alike, integer_ends, integer_stays};
 ghost use Rattle.winnow_integers.specs.Integer.Grammar.{Integer, integer_takes};
+ghost use Rattle.winnow_integers.specs.Integer.Laws.{integer_alike, integer_ends, integer_exact};
+ghost use Rattle.winnow_integers.specs.Integer.Laws.{integer_soft, integer_stays, some_bytes};
 ghost use Rattle.winnow_integers.specs.declared.binary.endianness.Endianness.TheVariants.{Big};
 ghost use Rattle.winnow_core.specs.Agrees.{agrees_plain};
 ghost use Rattle.winnow_core.specs.Runs.{Keeps};

@@ -3,9 +3,9 @@
 //! Written by scripts/families.py: do not edit.
 ghost use Rattle.stream_errors.specs.Form.{modal};
 ghost use Rattle.winnow_comb.specs.Alt.{OrElse};
+ghost use Rattle.winnow_comb.specs.Alt.Claim.{or_else_claim, or_else_claimed};
 ghost use Rattle.winnow_comb.specs.Alt.Laws.{or_else_ends, or_else_grows};
 ghost use Rattle.winnow_core.specs.Stable.Grows.{grows, stays};
-ghost use Rattle.winnow_comb.specs.Alt.Claim.{or_else_claim, or_else_claimed};
 
 use crate::combinator::impls::alt::{Alt, AltParser, attempt};
 use stream_errors::parser_error::ParserError;

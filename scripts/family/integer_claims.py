@@ -1,0 +1,35 @@
+"""What integers as bytes claim."""
+from family.common import NOT_DECIDED, UNDECIDED, record
+
+
+def integer_claims(one, order, by, state):
+    """What an integer whose bytes stand in the order claims, and that it is kept: its value by a
+    state, and the state."""
+    value = "(%s %s)" % (one.value, order)
+    laws = "%d %s I.reading form %s" % (one.width, by, state)
+    some = "(some_bytes %d)" % (one.width - 1)
+    claim = {
+        "premise": "⊤",
+        "backtracks": "⊤",
+        "consumes": "⊤",
+        "grammar": "Integer %d %s" % (one.width, value),
+        **UNDECIDED,
+    }
+    claimed = {
+        "exact": "λ form is. integer_exact %s" % laws,
+        "soft": "λ form is soft. integer_soft %s" % laws,
+        "takes": "λ is some. integer_takes %d %s %s" % (one.width, value, some),
+        **NOT_DECIDED,
+    }
+    return {"claim": record("claim", claim), "claimed": record("claimed", claimed)}
+
+
+def fixed_claims(one):
+    """Of an integer of an order: its state is nothing."""
+    order = one.constructor
+    return integer_claims(one, order, "(λ (_ : ⊤). %s %s)" % (one.value, order), "tt")
+
+
+def chosen_claims(one):
+    """Of an integer of which the order is chosen: it is the state."""
+    return integer_claims(one, "s", one.value, "s")
