@@ -5,7 +5,9 @@
 
 The comment of each public item, `///` in a crate's `src/`, begins with a capital letter or a code
 span, ends its first paragraph as a sentence, and names each other name of the item once ("Known as
-`tag` in nom"). Every public item of the library has one. It fails where a comment has a fault.
+`tag` in nom"). Every public item of the library has one. README.md has at most 700 words outside of
+its blocks of code, and at most 25 lines of code that are not empty in these blocks together. It
+fails where a comment or README.md has a fault.
 """
 import pathlib
 import re
@@ -16,6 +18,7 @@ from registry.common import CRATES, TOP, below_winnow, read  # noqa: E402
 
 ITEM = re.compile(r"\s*(?:pub |final )+(?:const fn|fn|struct|trait|enum|const|type)\s+(\w+)")
 ATTRIBUTE = re.compile(r"\s*#\[")
+MOST_WORDS, MOST_CODE = 700, 25
 
 
 def comments(path):
@@ -55,8 +58,22 @@ def faults(comment):
         yield f"names `{name}` twice"
 
 
+def faults_of_readme():
+    """What README.md has too much of, in words."""
+    parts = re.split(r"^```.*$", read(TOP / "README.md"), flags=re.MULTILINE)
+    words = len(re.findall(r"\S*\w\S*", "".join(parts[::2])))
+    code = len(re.findall(r"\S.*", "".join(parts[1::2])))
+    if words > MOST_WORDS:
+        yield f"{words} words, and at most {MOST_WORDS} are allowed"
+    if code > MOST_CODE:
+        yield f"{code} lines of code, and at most {MOST_CODE} are allowed"
+
+
 def main():
     wrong = 0
+    for fault in faults_of_readme():
+        wrong += 1
+        print(f"README.md: {fault}")
     library = {*below_winnow(), "winnow"}
     for path in sorted(CRATES.glob("*/src/**/*.rt")):
         is_library = path.relative_to(CRATES).parts[0] in library

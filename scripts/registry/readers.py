@@ -1,8 +1,13 @@
-"""Writes the table of the readers of formats: how long each is, and what is proved of it."""
-from .common import CRATES, NAME, TOP, read, write
+"""Writes two tables of the readers of formats: the one of README.md, which is short, and the one of
+docs/READERS.md, with how long each reader is and all that is proved of it."""
+import re
 
-FIRST = f"<!-- The table below is written by {NAME}: do not edit. -->\n"
-LAST = "<!-- The written table ends here. -->\n"
+from .common import CRATES, HEAD, TOP, read, write
+
+FIRST = f"<!-- {HEAD} -->\n"
+LAST = "<!-- End. -->\n"
+README, COUNTED = TOP / "README.md", TOP / "docs/READERS.md"
+GUARANTEES = TOP / "docs/GUARANTEES.md"
 # Formats, the crate of the reader, whether it is made of grammars, and what is proved of it.
 READERS = [
     ("lines of one letter", "uses_lines", "yes",
@@ -40,6 +45,21 @@ READERS = [
     ("INI", "readers", "no", "`Ok` exactly where the bytes are a document of these sections"),
     ("formulas", "readers_calc", "no", "`Ok(v)` exactly where the one tree has this value"),
 ]
+# What README.md says of formats: the crates of their readers, and what is proved, in the words that
+# it explains.
+BRIEF = [
+    ("CSV (RFC 4180)", ["uses_csv"], "exactly; first, in pieces"),
+    ("DNS", ["uses_dns", "dns_names"], "the header of 12 bytes; the name at a place"),
+    ("formulas", ["readers_calc"], "exactly"),
+    ("HTTP/1.1 heads", ["http_heads", "uses_http"], "first, in pieces"),
+    ("HTTP/1.1 chunk sizes", ["http_chunks"], "first, in pieces"),
+    ("INI", ["readers"], "exactly"),
+    ("JSON", ["json_values", "json_pieces", "json_writer"],
+        "exactly; first, in pieces; written values read back"),
+    ("JSON extents", ["uses_json"], "where the first value ends"),
+    ("RESP2", ["uses_resp"], "first, in pieces"),
+    ("TOML 1.0, a subset", ["toml_reader"], "exactly"),
+]
 
 
 def lines(crate, part, ending):
@@ -48,25 +68,46 @@ def lines(crate, part, ending):
     return sum(len(read(it).splitlines()) for it in files if it.name != "Lib.antt")
 
 
+def exported():
+    """The crates that the static library for Rust and C has."""
+    names = re.search(r"^exported staticlib:(.*)$", read(TOP / "crates.txt"), re.MULTILINE)
+    return {*names[1].split()}
+
+
+def page(crate):
+    """The part of docs/GUARANTEES.md whose heading, or what stands above its table, names a crate."""
+    for part in read(GUARANTEES).split("\n## "):
+        if f"`{crate}`" in part.partition("\n|")[0]:
+            heading = part.partition("\n")[0]
+            anchor = re.sub(r"[^\w -]", "", heading.lower()).replace(" ", "-")
+            return f"[{re.sub(r' .*', '', heading)}](docs/GUARANTEES.md#{anchor})"
+    raise SystemExit(f"no heading of docs/GUARANTEES.md names {crate}")
+
+
+def put(path, heads, rows):
+    """Writes a table where a document has its marks."""
+    before, mark, rest = read(path).partition(FIRST)
+    if mark:
+        table = [f"| {' | '.join(it)} |\n" for it in (heads, *rows)]
+        table.insert(1, "|" + "---|" * len(heads) + "\n")
+        write(path, before + mark + "".join(table) + LAST + rest.partition(LAST)[2])
+
+
 def write_readers():
-    """Writes the table where README.md has its marks."""
-    path = TOP / "README.md"
-    text = read(path)
-    if FIRST not in text:
-        return
-    rows = [
-        "| Format | Crate | By grammars | Source | Specs | Answers | Proved |\n",
-        "|---|---|---|---|---|---|---|\n",
-    ]
+    """Writes both tables."""
+    counted, brief, of_library = [], [], exported()
     for what, crate, is_by_grammars, proved in READERS:
-        if not (CRATES / crate).is_dir():
-            continue
         counts = [
             lines(crate, "src", ".rt"),
             lines(crate, "specs", ".antt"),
             lines(crate, "proofs", ".antt"),
         ]
-        counted = " | ".join(f"{it:,}" for it in counts)
-        rows.append(f"| {what} | [{crate}](crates/{crate}) | {is_by_grammars} | {counted} | {proved} |\n")
-    before, _, rest = text.partition(FIRST)
-    write(path, before + FIRST + "".join(rows) + LAST + rest.partition(LAST)[2])
+        link = f"[{crate}](../crates/{crate})"
+        counted.append([what, link, is_by_grammars, *(f"{it:,}" for it in counts), proved])
+    for what, crates, proved in BRIEF:
+        links = ", ".join(f"[{it}](crates/{it})" for it in crates)
+        is_exported = "yes" if {*crates} & of_library else "no"
+        brief.append([what, links, is_exported, proved, page(crates[0])])
+    heads = ["Format", "Crate", "By grammars", "Source", "Specs", "Answers", "Proved"]
+    put(COUNTED, heads, counted)
+    put(README, ["Format", "Crate", "From Rust and C", "Proved", "Page"], brief)
