@@ -35,12 +35,11 @@ pub fn read_among<P: Parser<I, O, E>, I: Stream, O, E: ParserError<I>>(
     input: &mut I,
 ) -> Result<O, E>
     requires callable { All P.can_parse branches.old }
-    requires known { All (λ p. (P.claim (P.state p)).premise × (P.claim (P.state p)).backtracks)
-        branches.old }
-    requires some { branches.old ≡ [] → ⊥ }
-    ensures { Reads I.reading E.kind (FirstOf (P.claim (P.state branches.old)).grammar)
-        (I.view input.old) result
-        (I.view input.new) }
+    requires known { All (λ s. (P.claim s).premise × (P.claim s).backtracks)
+        (map P.state branches.old) }
+    requires some { map P.state branches.old ≡ [] → ⊥ }
+    ensures { Reads I.reading E.kind (FirstOf (λ s. (P.claim s).grammar)
+        (map P.state branches.old)) (I.view input.old) result (I.view input.new) }
 {
     alt(&mut *branches).read(input)
 }
