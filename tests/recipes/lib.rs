@@ -8,6 +8,8 @@ mod numbers;
 #[cfg(test)]
 mod rows;
 #[cfg(test)]
+mod strings;
+#[cfg(test)]
 mod tokens;
 #[cfg(test)]
 mod words;
