@@ -1,10 +1,115 @@
-//! Each reader of a choice on a text that it reads, and on one that it refuses.
+//! Choices: one of some forms, by `alt`, by `opt`, or by a look at what stands first.
 
 use crate::forms::{read_number_or_word, read_signed, read_switch};
 use test_support::rows::Modal;
-use uses_readers::choices::{
-    Duration, Level, Value, read_duration, read_level, read_port, read_user, read_value,
-};
+use winnow::ascii::impls::Alpha1;
+use winnow::ascii::{dec_int, dec_uint};
+use winnow::combinator::{alt, delimited, opt, peek};
+use winnow::error::{EmptyError, ErrMode};
+use winnow::prelude::*;
+use winnow::stream::{AsChar, Compare};
+use winnow::token::impls::Any;
+use winnow::token::{any, take_till};
+
+/// How much is written to a log.
+#[derive(Clone, Copy, Debug, PartialEq, Eq)]
+pub enum Level {
+    /// Errors.
+    Error,
+    /// What may be wrong too.
+    Warning,
+    /// All that happens.
+    Trace,
+}
+
+/// Reads the name of a level, over any stream of text.
+pub fn read_level<I, E>(input: &mut I) -> Result<Level, E>
+where
+    I: StreamIsPartial + Compare<&'static str>,
+    E: ParserError<I>,
+{
+    alt((
+        "error".value(Level::Error),
+        "warning".value(Level::Warning),
+        "trace".value(Level::Trace),
+    ))
+    .parse_next(input)
+}
+
+/// How long something lasts.
+#[derive(Clone, Copy, Debug, PartialEq, Eq)]
+pub enum Duration {
+    /// So many seconds.
+    Seconds(u32),
+    /// So many minutes.
+    Minutes(u32),
+}
+
+/// Reads a duration, as `90s` or `2m`.
+pub fn read_duration(input: &mut &str) -> Result<Duration, ErrMode<EmptyError>> {
+    let count = dec_uint(input)?;
+    match any(input)? {
+        's' => Ok(Duration::Seconds(count)),
+        'm' => Ok(Duration::Minutes(count)),
+        _ => Err(ErrMode::from_input(input)),
+    }
+}
+
+/// Reads a user's name, over any stream of text; there is none where `-` stands.
+pub fn read_user<I, E>(input: &mut I) -> Result<Option<I::Slice>, E>
+where
+    I: StreamIsPartial + Compare<&'static str>,
+    I::Token: AsChar,
+    I::Slice: Clone,
+    E: ParserError<I>,
+{
+    alt(("-".value(None), Alpha1.map(Some))).parse_next(input)
+}
+
+/// A value of a setting.
+#[derive(Clone, Copy, Debug, PartialEq, Eq)]
+pub enum Value<'i> {
+    /// A number.
+    Number(i64),
+    /// A text.
+    Text(&'i str),
+}
+
+/// Reads a text in quotes, over any stream of text.
+fn read_quoted<I, E>(input: &mut I) -> Result<I::Slice, E>
+where
+    I: StreamIsPartial + Compare<char>,
+    I::Token: AsChar,
+    E: ParserError<I>,
+{
+    delimited('"', take_till(Range::from(0..), '"'), '"').parse_next(input)
+}
+
+/// Reads a value: a text in quotes, or a number.
+pub fn read_value<'i>(input: &mut &'i str) -> Result<Value<'i>, ErrMode<EmptyError>> {
+    match peek(Any).parse_next(input)? {
+        '"' => {
+            let text = read_quoted(input)?;
+            Ok(Value::Text(text))
+        }
+        _ => {
+            let number = dec_int(input)?;
+            Ok(Value::Number(number))
+        }
+    }
+}
+
+/// Reads a port behind a colon; there is none where no colon stands.
+pub fn read_port(input: &mut &str) -> Result<Option<u16>, ErrMode<EmptyError>> {
+    let colon: Option<char> = opt(':').parse_next(input)?;
+    match colon {
+        Some(_) => {
+            let port = dec_uint(input)?;
+            Ok(Some(port))
+        }
+        None => Ok(None),
+    }
+}
 
 #[test]
 fn names(rt: HostRuntime) {

@@ -1,4 +1,4 @@
-//! Readers of forms that stand once more in `uses_readers`, where they are proved.
+//! Readers of forms that stand once more in the files beside it, most of them at one stream here.
 
 use std::alloc::Allocator;
 use winnow::ascii::impls::{Alpha1, Crlf, DecUint, Digit1, Space1};

@@ -1,4 +1,25 @@
-//! Tests of the small readers, and of functions that are parsers as users call them.
+//! Small readers as the library's users write them, and functions that are parsers as users call
+//! them, with their tests.
+//!
+//! The readers promise nothing: what they show is forms of code, at text, at bytes and in pieces,
+//! with lifetimes and without. Those of the crate `uses` have exact contracts.
+//!
+//! - Parsers as functions, a statement each, into a struct: `read_entry`, `read_version`; over
+//!   input in pieces: `read_head`.
+//! - A literal between statements: `read_date`, `read_point`.
+//! - A `match` on a token, and on one that is only looked at: `read_duration`, `read_value`.
+//! - A part that may be left out: `read_port`, and as one parser in `read_version`.
+//! - A choice over any stream of text: `read_level`, `read_user`.
+//! - An output that is read by `FromStr`, and verified by a closure that holds a parameter:
+//!   `read_date`; a slice that another parser reads: `read_color`.
+//! - Sequences that are let go, and those of which a part stays: `read_assignment`, `read_value`,
+//!   `read_chunk_length`; bytes behind their length: `read_frame`.
+//! - Lists over any stream: `read_numbers`, `read_array`, `read_settings`; and a list of slices
+//!   with a lifetime behind other parts: `read_named_words`.
+//!
+//! All of these but those of `forms` were proved to be safe, with no proof file. A parser of three
+//! parts and more at one stream is dear to prove: a part is a function, or the function is over any
+//! stream, as `read_level`.
 #![tactic(auto)]
 
 #[cfg(test)]
@@ -8,10 +29,8 @@ mod forms;
 #[cfg(test)]
 mod functions;
 #[cfg(test)]
-mod lines;
+mod lists;
 #[cfg(test)]
-mod readers;
-#[cfg(test)]
-mod recipes;
+mod pieces;
 #[cfg(test)]
 mod records;

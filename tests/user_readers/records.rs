@@ -1,12 +1,226 @@
-//! Each reader of a record on a text that it reads, with what is left, and on some that it refuses.
+//! Records: parts in order into a struct, a statement each or all in one parser.
 
+use crate::choices::read_user;
 use crate::forms::{Person, Request, read_person, read_request};
 use test_support::rows::Modal;
-use uses_readers::records::{
-    Color, Date, Entry, Point, Version, read_assignment, read_chunk_length, read_color, read_date,
-    read_entry, read_point, read_version,
-};
-use winnow::error::ErrMode;
+use winnow::ascii::impls::{Alphanumeric1, Crlf, DecInt, HexUintParser, Space0};
+use winnow::ascii::{alphanumeric1, dec_uint, newline, till_line_ending};
+use winnow::combinator::{opt, preceded, separated_pair, terminated};
+use winnow::error::{EmptyError, ErrMode};
+use winnow::prelude::*;
+use winnow::stream::{AsBStr, AsChar, Compare, ParseSlice, SlicesAsBytes};
+use winnow::token::{take_till, take_while};
+
+/// An entry of an access log.
+#[derive(Clone, Copy, Debug, PartialEq, Eq)]
+pub struct Entry<'i> {
+    /// Who asked.
+    pub host: &'i str,
+    /// Under which name, if any.
+    pub user: Option<&'i str>,
+    /// What was answered, as a number.
+    pub status: u16,
+    /// How many bytes were sent.
+    pub size: u64,
+}
+
+/// Reads an entry of an access log, as `10.0.0.7 frank 200 2326`, with the end of its line.
+pub fn read_entry<'i>(input: &mut &'i str) -> Result<Entry<'i>, ErrMode<EmptyError>> {
+    let host = take_till(Range::from(1..), ' ').parse_next(input)?;
+    ' '.parse_next(input)?;
+    let user = read_user(input)?;
+    ' '.parse_next(input)?;
+    let status = dec_uint(input)?;
+    ' '.parse_next(input)?;
+    let size = dec_uint(input)?;
+    newline(input)?;
+    Ok(Entry {
+        host,
+        user,
+        status,
+        size,
+    })
+}
+
+/// A day of the calendar.
+#[derive(Clone, Copy, Debug, PartialEq, Eq)]
+pub struct Date {
+    /// The year.
+    pub year: u16,
+    /// The month, from 1 to 12.
+    pub month: u8,
+    /// The day of the month, from 1 to 31.
+    pub day: u8,
+}
+
+/// Reads the digits of a number, so many, over any stream of text.
+fn read_digits<I, O, E>(count: usize, input: &mut I) -> Result<O, E>
+where
+    I: StreamIsPartial,
+    I::Token: AsChar,
+    I::Slice: ParseSlice<O>,
+    E: ParserError<I>,
+{
+    take_while(Range::from(count), '0'..='9')
+        .parse_to()
+        .parse_next(input)
+}
+
+/// Reads the two digits of a number from 1 to another, over any stream of text.
+fn read_up_to<I, E>(most: u8, input: &mut I) -> Result<u8, E>
+where
+    I: StreamIsPartial,
+    I::Token: AsChar,
+    I::Slice: ParseSlice<u8>,
+    E: ParserError<I>,
+{
+    take_while(Range::from(2), '0'..='9')
+        .parse_to()
+        .verify(|number: &u8| 1 <= *number && *number <= most)
+        .parse_next(input)
+}
+
+/// Reads a date, as `2026-11-25`.
+pub fn read_date(input: &mut &str) -> Result<Date, ErrMode<EmptyError>> {
+    let year = read_digits(4, input)?;
+    '-'.parse_next(input)?;
+    let month = read_up_to(12, input)?;
+    '-'.parse_next(input)?;
+    let day = read_up_to(31, input)?;
+    Ok(Date { year, month, day })
+}
+
+/// A color.
+#[derive(Clone, Copy, Debug, PartialEq, Eq)]
+pub struct Color {
+    /// How much red.
+    pub red: u8,
+    /// How much green.
+    pub green: u8,
+    /// How much blue.
+    pub blue: u8,
+}
+
+/// Reads the two hexadecimal digits of a part of a color, over any stream of text.
+fn read_part<I, E>(input: &mut I) -> Result<u8, E>
+where
+    I: StreamIsPartial,
+    I::Token: AsChar + Copy,
+    I::Slice: StreamIsPartial + SlicesAsBytes,
+    <I::Slice as Stream>::Token: AsChar,
+    <I::Slice as Stream>::Slice: AsBStr,
+    E: ParserError<I> + ParserError<I::Slice>,
+{
+    take_while(Range::from(2), ('0'..='9', 'a'..='f', 'A'..='F'))
+        .and_then(HexUintParser)
+        .parse_next(input)
+}
+
+/// Reads a color, as `#2F14DF`.
+pub fn read_color(input: &mut &str) -> Result<Color, ErrMode<EmptyError>> {
+    '#'.parse_next(input)?;
+    let red = read_part(input)?;
+    let green = read_part(input)?;
+    let blue = read_part(input)?;
+    Ok(Color { red, green, blue })
+}
+
+/// A point of the plane.
+#[derive(Clone, Copy, Debug, PartialEq, Eq)]
+pub struct Point {
+    /// How far to the right.
+    pub x: i32,
+    /// How far up.
+    pub y: i32,
+}
+
+/// Reads two numbers with a comma between them, over any stream of text.
+fn read_pair<I, E>(input: &mut I) -> Result<(i32, i32), E>
+where
+    I: StreamIsPartial + SlicesAsBytes + Compare<char>,
+    I::Token: AsChar,
+    I::Slice: AsBStr,
+    E: ParserError<I>,
+{
+    separated_pair(DecInt, ',', DecInt).parse_next(input)
+}
+
+/// Reads a point, as `(1,-2)`.
+pub fn read_point(input: &mut &str) -> Result<Point, ErrMode<EmptyError>> {
+    '('.parse_next(input)?;
+    let (x, y) = read_pair(input)?;
+    ')'.parse_next(input)?;
+    Ok(Point { x, y })
+}
+
+/// Reads the sign between a name and a text, with white space round it; over any stream of text.
+fn read_sign<I, E>(input: &mut I) -> Result<(), E>
+where
+    I: StreamIsPartial + Compare<char>,
+    I::Token: AsChar,
+    E: ParserError<I>,
+{
+    (Space0, '=', Space0).void().parse_next(input)
+}
+
+/// Reads a name and what it is set to, with white space round the sign, as `name = any text`.
+pub fn read_assignment<'i>(input: &mut &'i str) -> Result<(&'i str, &'i str), ErrMode<EmptyError>> {
+    let name = alphanumeric1(input)?;
+    read_sign(input)?;
+    let text = till_line_ending(input)?;
+    Ok((name, text))
+}
+
+/// A version of a program.
+#[derive(Clone, Copy, Debug, PartialEq, Eq)]
+pub struct Version<'i> {
+    /// What breaks callers is counted here.
+    pub major: u64,
+    /// What is added is counted here.
+    pub minor: u64,
+    /// What is mended is counted here.
+    pub patch: u64,
+    /// What stands before the version itself, as `beta`.
+    pub label: Option<&'i str>,
+}
+
+/// Reads what stands behind a version, as `-beta`, if anything does; over any stream of text.
+fn read_label<I, E>(input: &mut I) -> Result<Option<I::Slice>, E>
+where
+    I: StreamIsPartial + Compare<char>,
+    I::Token: AsChar,
+    E: ParserError<I>,
+{
+    opt(preceded('-', Alphanumeric1)).parse_next(input)
+}
+
+/// Reads a version, as `1.2.3` or `1.2.3-beta`.
+pub fn read_version<'i>(input: &mut &'i str) -> Result<Version<'i>, ErrMode<EmptyError>> {
+    let major = dec_uint(input)?;
+    '.'.parse_next(input)?;
+    let minor = dec_uint(input)?;
+    '.'.parse_next(input)?;
+    let patch = dec_uint(input)?;
+    let label = read_label(input)?;
+    Ok(Version {
+        major,
+        minor,
+        patch,
+        label,
+    })
+}
+
+/// Reads the length of a chunk, in hexadecimal digits, with the end of its line; over any stream
+/// of bytes or text.
+pub fn read_chunk_length<I, E>(input: &mut I) -> Result<u64, E>
+where
+    I: StreamIsPartial + SlicesAsBytes + Compare<&'static str>,
+    I::Token: AsChar,
+    I::Slice: AsBStr,
+    E: ParserError<I>,
+{
+    terminated(HexUintParser, Crlf).parse_next(input)
+}
 
 #[test]
 fn entries(rt: HostRuntime) {

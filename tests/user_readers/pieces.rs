@@ -1,8 +1,10 @@
 //! Input in pieces, and bytes as numbers.
 
+use crate::forms::read_name;
+use test_support::rows::Modal;
 use winnow::binary::impls::BeU16;
 use winnow::binary::{be_u32, length_take, u8};
-use winnow::error::{EmptyError, ErrMode};
+use winnow::error::{EmptyError, ErrMode, Needed};
 use winnow::prelude::*;
 use winnow::stream::{ByteStream, Partial};
 
@@ -31,4 +33,15 @@ where
     let kind = u8(input)?;
     let bytes = length_take(BeU16).parse_next(input)?;
     Ok((kind, bytes))
+}
+
+#[test]
+fn pieces(rt: HostRuntime) {
+    let head = read_head(&mut Partial::new([7, 0, 0, 1, 0].as_slice())).ok();
+    assert_eq!(rt; head.map(|it| (it.kind, it.length)), Some((7, 256)));
+    let short = read_head(&mut Partial::new([7, 0, 0].as_slice())).err();
+    assert!(rt; short == Some(ErrMode::Incomplete(Needed::new(2))));
+    let frame = read_frame::<_, Modal>(&mut Partial::new([1, 0, 2, 8, 9, 10].as_slice())).ok();
+    assert_eq!(rt; frame, Some((1, [8, 9].as_slice())));
+    assert_eq!(rt; read_name(&mut [2, 97, 98, 99].as_slice()).ok(), Some(b"ab".as_slice()));
 }

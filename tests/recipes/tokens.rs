@@ -40,3 +40,13 @@ pub fn read_plus<'t>(input: &mut TokenSlice<'t, Token>) -> Result<&'t Token, Err
 pub fn read_number(input: &mut TokenSlice<Token>) -> Result<u64, ErrMode<EmptyError>> {
     Any.verify_map(number_of).parse_next(input)
 }
+
+#[test]
+fn tokens(rt: HostRuntime) {
+    let mut input = TokenSlice::new(&[Token::Number(7), Token::Plus]);
+    assert!(rt; read_plus(&mut input).is_err());
+    assert_eq!(rt; read_number(&mut input).ok(), Some(7));
+    assert!(rt; read_number(&mut input).is_err());
+    assert_eq!(rt; read_plus(&mut input).ok(), Some(&Token::Plus));
+    assert!(rt; read_plus(&mut input).is_err());
+}

@@ -1,6 +1,8 @@
 //! Lists: repetitions and separated elements, into a list.
 
+use crate::forms::{count_lines, read_words};
 use std::alloc::Allocator;
+use test_support::rows::Modal;
 use winnow::ascii::impls::{Alpha1, DecUint};
 use winnow::combinator::{delimited, repeat, separated, separated_pair, terminated};
 use winnow::error::{EmptyError, ErrMode};
@@ -56,4 +58,20 @@ pub fn read_named_words<'i, A: Allocator + Copy>(
         separated(alloc, Range::from(0..), Alpha1, ','),
     ).parse_next(input)?;
     Ok((name, words))
+}
+
+#[test]
+fn lists(rt: HostRuntime) {
+    let numbers = read_numbers::<&str, Modal, _>(rt.alloc(), &mut "1,2,30;").ok();
+    assert!(rt; numbers.is_some_and(|it| it.as_slice() == [1, 2, 30].as_slice()));
+    let words = read_words(rt.alloc(), &mut "to be or").ok();
+    assert!(rt; words.is_some_and(|it| it.as_slice() == ["to", "be", "or"].as_slice()));
+    let settings = read_settings::<&str, Modal, _>(rt.alloc(), &mut "a=1\nb=2\n").ok();
+    assert!(rt; settings.is_some_and(|it| it.as_slice() == [("a", 1), ("b", 2)].as_slice()));
+    let array = read_array::<&[u8], Modal, _>(rt.alloc(), &mut b"[4,5]".as_slice()).ok();
+    assert!(rt; array.is_some_and(|it| it.as_slice() == [4, 5].as_slice()));
+    let named = read_named_words(rt.alloc(), &mut "a:b,c,").ok();
+    assert!(rt; named.is_some_and(|it| it.0 == "a" && it.1.as_slice() == ["b", "c"].as_slice()));
+    assert!(rt; read_named_words(rt.alloc(), &mut "a b").is_err());
+    assert_eq!(rt; count_lines(rt.alloc(), &mut "a\nb\n").ok(), Some(2));
 }

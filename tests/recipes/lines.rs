@@ -1,8 +1,8 @@
 //! Lines of a large file, read one at a time into one buffer.
 
+use super::numbers::read_temperature;
 use std::alloc::Global;
 use std::io::{self, BufRead};
-use uses_recipes::numbers::read_temperature;
 
 /// How many lines of a reader are temperatures, and how many are not.
 fn count_lines_of<R: BufRead>(alloc: Global, reader: &mut R) -> io::Result<(u64, u64)> {

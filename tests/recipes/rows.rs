@@ -1,6 +1,8 @@
 //! Rows of numbers and their sums, and lines of which bad ones are passed over.
-use crate::numbers::read_temperature;
+
+use super::numbers::read_temperature;
 use std::alloc::Allocator;
+use test_support::rows::Modal;
 use winnow::ascii::impls::{DecUint, Space0};
 use winnow::combinator::{opt, preceded, repeat, separated};
 use winnow::error::{EmptyError, ErrMode};
@@ -56,4 +58,24 @@ pub fn count_temperatures(text: &str) -> (u64, u64) {
         }
     }
     (good, bad)
+}
+
+#[test]
+fn rows_and_lines(rt: HostRuntime) {
+    for text in ["1,2,;", "1,2;"] {
+        let mut input = text;
+        let row = read_row(rt.alloc(), &mut input);
+        assert!(rt; matches!(&row, Ok(list) if list.as_slice() == [1, 2].as_slice()));
+        assert_eq!(rt; input, ";");
+    }
+    assert_eq!(rt; count_temperatures("12\n99\n-3\nx\n7 \n"), (2, 3));
+    assert_eq!(rt; count_temperatures(""), (0, 0));
+}
+
+#[test]
+fn sums(rt: HostRuntime) {
+    let mut input = " 12 7;";
+    assert_eq!(rt; read_total::<&str, Modal, _>(rt.alloc(), &mut input).ok(), Some(19));
+    assert_eq!(rt; input, ";");
+    assert!(rt; read_total::<&str, Modal, _>(rt.alloc(), &mut ";").is_err());
 }

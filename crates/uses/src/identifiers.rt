@@ -1,0 +1,21 @@
+//! Names in use: what is taken, and then what is left, is the input.
+#![tactic(auto)]
+
+ghost use Rattle.std.specs.Prelude.{◌≡◌, ◌++◌, IfOk};
+
+use winnow::error::{EmptyError, ErrMode};
+use winnow::prelude::*;
+use winnow::token::{one_of, take_while};
+
+/// Reads a name: a letter or an underscore, and then letters, digits and underscores. It, and then
+/// what is left, is the input.
+pub fn read_identifier<'i>(input: &mut &'i [u8]) -> Result<&'i [u8], ErrMode<EmptyError>>
+    ensures { IfOk result (λ name. input.old.now ≡ name.now ++ input.new.now) }
+{
+    let first = one_of((b'a'..=b'z', b'A'..=b'Z', b'_'));
+    let later = take_while(
+        Range::from(0..),
+        (b'a'..=b'z', b'A'..=b'Z', b'0'..=b'9', b'_'),
+    );
+    (first, later).take().parse_next(input)
+}

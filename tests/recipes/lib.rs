@@ -1,0 +1,15 @@
+//! Small tasks, a function each, as `docs/RECIPES.md` has them, and the tests of each.
+#![tactic(auto)]
+
+#[cfg(test)]
+mod lines;
+#[cfg(test)]
+mod numbers;
+#[cfg(test)]
+mod rows;
+#[cfg(test)]
+mod strings;
+#[cfg(test)]
+mod tokens;
+#[cfg(test)]
+mod words;
