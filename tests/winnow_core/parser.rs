@@ -91,7 +91,7 @@ fn read(rt: HostRuntime) {
         same(&rt, "read", text, (answer.ok(), input), (want, rest));
     }
     for (text, want) in [("a", Some('a')), ("ab", None), ("", None)] {
-        let all: Result<char, ParseFault<&str, EmptyError>> = 'a'.read_all(text);
+        let all = Parser::<_, char, EmptyError>::read_all(&mut 'a', text);
         same(&rt, "read_all", text, all.ok(), want);
     }
 }
