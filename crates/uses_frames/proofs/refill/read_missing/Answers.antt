@@ -9,7 +9,7 @@ returns-in-Ok-clause-bytes g c =
     let from = c.args.filled in
     let room = from + c.args.missing - from in
     let read = c.read.new.buf in
-    let fits = c.in-Ok.ensures.reads.bound.0 in
+    let fits = c.in-Ok.ensures.bound.0 in
     let as_many = length-take-le c.in-Ok.n read fits in
     let whole = put_mid from room c.loop.bytes read in (
       take c.in-Ok.n read,
@@ -18,6 +18,6 @@ returns-in-Ok-clause-bytes g c =
           (omega arith) fits
           ∙ ap (λ l. l ++ take c.in-Ok.n read) c.loop.invariant.kept,
       Consumes-trans _ _ _ [] (take c.in-Ok.n read) c.loop.invariant.none
-          c.in-Ok.ensures.reads.bytes.0,
+          c.in-Ok.ensures.bytes.0,
       (sym as_many, omega arith),
     )
