@@ -14,14 +14,14 @@ use Rattle.winnow.specs.Text.{text_reading}
 use Rattle.winnow.specs.Growth.{grown}
 use Rattle.winnow.specs.AsChar.{IsDecDigit}
 use Rattle.winnow.specs.Sets.{EitherTells}
-use Rattle.json_texts.specs.Number.{Integer, IsLeading, Slice}
+use Rattle.json_texts.specs.Number.{Slice}
 use Rattle.json_texts.specs.Values.{HasText}
-use Rattle.json_texts.specs.Words.{Char, OneIn, RunOf, Word, pair}
+use Rattle.json_texts.specs.Words.{OneIn, Word}
 use Rattle.winnow.specs.Exact.{Reads}
 use Rattle.winnow.specs.Read.{err_as, ok_as, reads_meaning, reads_wanting}
 use Rattle.winnow.specs.Grammar.Same.{Same, same_refl}
 use Rattle.winnow.specs.Grammar.{Both, Either, Grammar, Literally, Made, Taken, TokenOf}
-use Rattle.winnow.specs.Grammar.Alike.{both_same, either_same}
+use Rattle.winnow.specs.Grammar.Tuples.{Four}
 use Rattle.winnow.specs.Grammar.Meaning.{Meaning}
 
 -- a character of a set, where the set is a class
@@ -52,7 +52,7 @@ abbrev pub RangesTell : RangeInclusive ℕ × RangeInclusive ℕ × RangeInclusi
 RangesTell s = EitherTells (RangeTells s.0) (EitherTells (RangeTells s.1) (RangeTells s.2))
 
 -- the characters of what stands by grammars that are the same
-taken_same : {O : Type 0} {g h : Grammar ℕ O} → Same g h
+pub taken_same : {O : Type 0} {g h : Grammar ℕ O} → Same g h
     → Same (Taken text_reading g) (Taken text_reading h)
 unfolding Taken
 taken_same same = record {
@@ -60,16 +60,17 @@ taken_same same = record {
   back = λ tokens slice rest (o, x, shown). (o, same.back tokens o rest x, shown);
 }
 
--- the digits before a point, by the range of those that may be first
-pub integer_same : (set : RangeInclusive ℕ) → range_inclusive_start set ≡ 49
-    → range_inclusive_end set ≡ 57
-    → Same (Either (Taken text_reading (Char 48))
-    (Taken text_reading (Both pair (TokenOf (λ c. c) RangeTells set) (RunOf IsDecDigit 0))))
-    Integer
-integer_same set start end =
-    either_same (same_refl _)
-    (taken_same (both_same pair
-    (class_same RangeTells set IsLeading (range_told set 49 57 start end)) (same_refl _)))
+-- the second of four by a grammar that is the same
+pub four_second : {O1 O2 O3 O4 : Type 0} (g1 : Grammar ℕ O1) {g2 h2 : Grammar ℕ O2}
+    (g3 : Grammar ℕ O3) (g4 : Grammar ℕ O4) → Same g2 h2
+    → Same (Four g1 g2 g3 g4) (Four g1 h2 g3 g4)
+unfolding Four
+four_second g1 g3 g4 same = record {
+  there = λ tokens o rest (o1, o2, o3, o4, a, b, c, x1, x2, x3, x4, is).
+      (o1, o2, o3, o4, a, b, c, x1, same.there a o2 b x2, x3, x4, is);
+  back = λ tokens o rest (o1, o2, o3, o4, a, b, c, x1, x2, x3, x4, is).
+      (o1, o2, o3, o4, a, b, c, x1, same.back a o2 b x2, x3, x4, is);
+}
 
 -- a text that is read
 abbrev pub Spelling : Slice → Grammar ℕ Slice

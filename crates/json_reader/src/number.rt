@@ -1,90 +1,61 @@
 //! Numbers of JSON (RFC 8259, section 6).
-ghost use Rattle.json_reader.specs.Numbers.{exponent_takes, exponent_unique, fraction_takes};
-ghost use Rattle.json_reader.specs.Numbers.{fraction_unique, integer_takes, integer_unique};
-ghost use Rattle.json_texts.specs.Number.{Exponent, Fraction, GoesOn, Integer, Number, NumberText};
-ghost use Rattle.std.specs.Prelude.{◌≡◌, ⊤};
-ghost use Rattle.winnow.specs.Text.{text_input, text_reading};
+ghost use Rattle.json_reader.specs.Numbers.{NumberOf};
+ghost use Rattle.json_texts.specs.Number.{GoesOn, IsLeading, Number, NumberText};
+ghost use Rattle.std.specs.Prelude.{◌≡◌};
 ghost use Rattle.winnow.specs.Exact.{Reads};
+ghost use Rattle.winnow.specs.Grammar.{InClass, Literally};
+ghost use Rattle.winnow.specs.Once.{SeesApart, holds_once};
+ghost use Rattle.winnow.specs.Text.{text_input, text_reading};
 ghost use Rattle.winnow.specs.Texts.{NotFirst};
 ghost use Rattle.winnow.specs.Told.{ReadsText};
 
-use crate::parts::{read_exponent_of, read_integer_of, read_latter, read_number_of};
+use winnow::Parser;
 use winnow::ascii::impls::{Digit0, Digit1};
-use winnow::combinator::alt;
-use winnow::error::{EmptyError, ErrMode, HasKind};
-use winnow::exact::Rule;
+use winnow::combinator::{alt, opt, preceded};
+use winnow::error::{EmptyError, ErrMode, HasKind, ParserError};
+use winnow::stream::{AsChar, Compare, ContainsToken, StreamIsPartial};
 use winnow::token::one_of;
 
-/// The name of the digits before the point.
+/// The digits from 1 on.
 #[derive(Clone, Copy, Drop)]
-struct WholeDigits;
+pub struct LeadingDigits;
 
-impl<'i> Rule<&'i str, &'i str> for WholeDigits {
-    ghost grammar = { λ _. Integer };
+impl<T: AsChar> ContainsToken<T> for LeadingDigits {
+    ghost tells = { λ s. InClass IsLeading T.code tt };
 
-    ghost consumes = { λ _. ⊤ };
+    ghost once = { λ s is. holds_once (λ t. IsLeading (T.code t)) };
 
-    fn name() {}
-
-    ghost unique = { λ _. integer_unique };
-
-    ghost takes = { λ _ _. integer_takes };
+    #[inline(always)]
+    fn contains_token(&self, token: T) -> bool {
+        let c = token.as_char();
+        '1' <= c && c <= '9'
+    }
 }
 
-/// The name of a point, and digits.
-#[derive(Clone, Copy, Drop)]
-struct PointDigits;
-
-impl<'i> Rule<&'i str, &'i str> for PointDigits {
-    ghost grammar = { λ _. Fraction };
-
-    ghost consumes = { λ _. ⊤ };
-
-    fn name() {}
-
-    ghost unique = { λ _. fraction_unique };
-
-    ghost takes = { λ _ _. fraction_takes };
-}
-
-/// The name of a letter, a sign, and digits.
-#[derive(Clone, Copy, Drop)]
-struct PowerDigits;
-
-impl<'i> Rule<&'i str, &'i str> for PowerDigits {
-    ghost grammar = { λ _. Exponent };
-
-    ghost consumes = { λ _. ⊤ };
-
-    fn name() {}
-
-    ghost unique = { λ _. exponent_unique };
-
-    ghost takes = { λ _ _. exponent_takes };
-}
-
-/// A zero, or a digit from 1 on and as many as stand behind it.
-fn read_integer<'i>(input: &mut &'i str) -> Result<&'i str, ErrMode<EmptyError>>
-    ensures { Reads text_reading ⟦<ErrMode<EmptyError> as HasKind>⟧.kind Integer
-        (text_input input.old.now) result (text_input input.new.now) }
+/// The longest number that stands first, as it is written, over any stream of characters.
+///
+/// ```
+/// use json_reader::number::number;
+///
+/// let mut cut = Partial::new("12.");
+/// let asks: Result<&str, ErrMode<EmptyError>> = number(&mut cut);
+/// assert_eq!(rt; asks, Err(ErrMode::Incomplete(Needed::new(1))));
+/// ```
+pub fn number<I, E>(input: &mut I) -> Result<I::Slice, E>
+where
+    I: StreamIsPartial + Compare<char>,
+    I::Token: AsChar + Copy,
+    E: ParserError<I>,
+    requires seen { SeesApart I.seen_as }
+    ensures { Reads I.reading E.kind (NumberOf I.reading I.seen_as I.Token.code
+        (Literally I.reading I.spells (λ s _. s))) (I.view input.old) result (I.view input.new) }
 {
-    read_integer_of('0', one_of('1'..='9'), Digit0, input)
-}
-
-/// A point, and as many digits as stand behind it.
-fn read_fraction<'i>(input: &mut &'i str) -> Result<&'i str, ErrMode<EmptyError>>
-    ensures { Reads text_reading ⟦<ErrMode<EmptyError> as HasKind>⟧.kind Fraction
-        (text_input input.old.now) result (text_input input.new.now) }
-{
-    read_latter('.', Digit1, input)
-}
-
-/// The letter E or e, a sign if one stands there, and as many digits as stand.
-fn read_exponent<'i>(input: &mut &'i str) -> Result<&'i str, ErrMode<EmptyError>>
-    ensures { Reads text_reading ⟦<ErrMode<EmptyError> as HasKind>⟧.kind Exponent
-        (text_input input.old.now) result (text_input input.new.now) }
-{
-    read_exponent_of(alt(('e', 'E')), alt(('+', '-')), Digit1, input)
+    let whole = alt(('0'.take(), (one_of(LeadingDigits), Digit0).take()));
+    let fraction = preceded('.', Digit1);
+    let exponent = preceded((alt(('e', 'E')), opt(alt(('+', '-')))), Digit1);
+    (opt('-'), whole, opt(fraction), opt(exponent))
+        .take()
+        .read(input)
 }
 
 /// The longest number that stands first, as it is written.
@@ -103,8 +74,5 @@ pub fn read_number<'i>(input: &mut &'i str) -> Result<&'i str, ErrMode<EmptyErro
     ensures text { ReadsText text_reading ⟦<ErrMode<EmptyError> as HasKind>⟧.kind NumberText
         (NotFirst GoesOn) (text_input input.old.now) result (text_input input.new.now) }
 {
-    let whole = WholeDigits.by(read_integer);
-    let fraction = PointDigits.by(read_fraction);
-    let exponent = PowerDigits.by(read_exponent);
-    read_number_of('-', whole, fraction, exponent, input)
+    number(input)
 }

@@ -1,9 +1,11 @@
 use Rattle.json_texts.specs.Number.{number_of}
+use Rattle.json_reader.specs.Numbers.{number_same}
+use Rattle.winnow.specs.Exact.Same.{reads_as}
 use Rattle.winnow.specs.Told.{text_told}
 use Rattle.json_reader.proofs.number.read_number.Goals as goal
 
 pub returns-clause-grammar : goal.returns-clause-grammar
-returns-clause-grammar c = c.read_number_of.ensures
+returns-clause-grammar c = reads_as number_same c.number.ensures
 
 pub returns-clause-text : goal.returns-clause-text
-returns-clause-text c = text_told number_of c.read_number_of.ensures
+returns-clause-text c = text_told number_of (reads_as number_same c.number.ensures)
