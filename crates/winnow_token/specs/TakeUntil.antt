@@ -38,7 +38,8 @@ TakeUntilRuns {T} {S} reading form sought bounds i answer j =
     × (m : IsFirstMatch reading.units sought i.left.tokens start end) × (slice : S)
     × (bounds.least ≤ length m.front) × IsWithin bounds.greatest (length m.front)
     × Takes reading m.front i slice j × (answer ≡ Ok slice))
-    -- it has too few tokens: with no greatest number it fails, else a later match could have enough
+    -- it has too few tokens, and no later match is looked for: with no greatest number it fails,
+    -- else it is short, and on a cut input asks for more whatever is added
     ⊎ (((start : ℕ) × (end : ℕ)
     × (m : IsFirstMatch reading.units sought i.left.tokens start end) × (k : Kind)
     × IsWithin bounds.greatest bounds.least × (length m.front < bounds.least)
