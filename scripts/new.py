@@ -17,6 +17,7 @@ import sys
 
 sys.path.insert(0, str(pathlib.Path(__file__).resolve().parent))
 from new_beside import beside  # noqa: E402
+from new_names import fault_of_name, fault_of_place  # noqa: E402
 from registry.common import CRATES, TOP, camel, read  # noqa: E402
 from wrap import wrapped  # noqa: E402
 
@@ -30,7 +31,6 @@ NEXT = """Now change, in this order:
   {impls}: the struct `{kind}`, its parser with what it claims, and that it is stable
   {laws}: that its runs leave an end, stay on longer inputs, mean the same over streams that are
     read alike, and keep what is claimed: one input decides them, and they read by its grammar
-  {known}: what a caller knows of a run that answered
   {test}: what it answers, by values from outside
   {edit}: a line of the code, and a wrong one in its place
   {note}: a line for the release
@@ -59,7 +59,8 @@ def renamed(text, of, to):
     text = text.replace(f"specs.declared.{of.module}.impls.{of.name}.", f"specs.declared.{to.module}.impls.{to.name}.")
     text = text.replace(f"Rattle.{of.crate.name}.specs.declared", f"Rattle.{to.crate.name}.specs.declared")
     text = re.sub(rf"\bcrate::{of.module}::", f"crate::{to.module}::", text)
-    text = re.sub(r"^pub ruleset known_\w+", f"pub ruleset known_{to.name}s", text, flags=re.MULTILINE)
+    # what callers know of a run of the model beside its grammar is the model's own
+    text = text.replace("pub mod Known\n", "")
     lines, is_code = [], False
     for line in text.split("\n"):
         is_comment = line.lstrip().startswith(("//", "--"))
@@ -75,9 +76,9 @@ def renamed(text, of, to):
 
 
 def function(of):
-    """The model's function, with its documentation."""
+    """The model's function, with its documentation, but not with its names elsewhere."""
     found = re.search(rf"(?:^(?:///|#\[).*\n)*^pub fn {of.name}\b(?:.*\n)*?^\}}\n", read(of.file), re.MULTILINE)
-    return found[0].replace(*OTHERWISE)
+    return re.sub(r"///\n/// Known as .*\n", "", found[0]).replace(*OTHERWISE)
 
 
 def imports(text):
@@ -109,9 +110,9 @@ def with_function(of, to):
         if is_named and new not in have:
             path = path.replace("crate::", f"{of.crate.name}::") if of.crate != to.crate and "impls" not in path else path
             brought = f"{path}.{{{name}}}" if "Rattle" in path else f"{path}::{name}"
-            line = renamed(f"{words}{brought};\n", of, to)
+            line = wrapped(renamed(f"{words}{brought};\n", of, to), False)
             text = with_import(text, words, line)
-    return text.rstrip("\n") + "\n\n" + renamed(body, of, to)
+    return text.rstrip("\n") + "\n\n" + wrapped(renamed(body, of, to), False)
 
 
 def copies(of, to):
@@ -120,7 +121,8 @@ def copies(of, to):
     yield of.spec, to.spec
     folder = of.spec.with_suffix("")
     for file in sorted(folder.rglob("*.antt")):
-        yield file, to.spec.with_suffix("") / file.relative_to(folder)
+        if file.stem != "Known":
+            yield file, to.spec.with_suffix("") / file.relative_to(folder)
     for file in sorted((of.crate / "proofs").joinpath(*of.path, of.name).glob("*.antt")):
         yield file, (to.crate / "proofs").joinpath(*to.path, to.name) / file.name
     folder = of.crate / "proofs" / of.module / "impls" / of.name
@@ -149,10 +151,12 @@ def written():
 def main(words):
     if len(words) != 3 or words[0] not in MODELS or not words[1].endswith(".rt"):
         sys.exit(__doc__.strip())
-    of = Place(*MODELS[words[0]])
-    to = Place(words[2], pathlib.Path(words[1]).resolve())
-    if to.impls.exists() or to.spec.exists():
-        sys.exit(f"{to.crate.name} has a parser {to.name}")
+    of, file = Place(*MODELS[words[0]]), pathlib.Path(words[1]).resolve()
+    if wrong := fault_of_place(file):
+        sys.exit(wrong)
+    to = Place(words[2], file)
+    if wrong := fault_of_name(of, to, function(of)):
+        sys.exit(wrong)
     to.file.write_text(with_function(of, to), encoding="utf-8")
     for old, new in copies(of, to):
         new.parent.mkdir(parents=True, exist_ok=True)
@@ -165,9 +169,10 @@ def main(words):
         path.write_text(text, encoding="utf-8")
     for crate in sorted({to.crate, *written()}):
         subprocess.run(["rt", "fmt"], cwd=crate, check=False, stdout=subprocess.DEVNULL)
+    subprocess.run([sys.executable, str(TOP / "scripts/api.py")], check=True, capture_output=True)
     shown = {"file": to.file, "impls": to.impls, "spec": to.spec}
     shown |= dict(zip(("test", "edit", "note"), more))
-    shown |= {it: to.spec.with_suffix("") / f"{it.capitalize()}.antt" for it in ("laws", "known")}
+    shown["laws"] = to.spec.with_suffix("") / "Laws.antt"
     shown = {key: path.relative_to(TOP) for key, path in shown.items()}
     print(NEXT.format(**shown, name=to.name, kind=camel(to.name)))
 

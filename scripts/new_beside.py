@@ -117,9 +117,11 @@ def beside(kind, place):
     what, old, new = EDIT[kind]
     file = place.impls.relative_to(place.crate)
     edit = f"file: {file}\nold: {old}\nnew: {new}\n".format(name=place.name)
+    note = TOP / "changes" / f"{place.name}.md"
+    notes = read(note) if note.is_file() else ""
     return {
         test: text,
         place.crate / "edits" / f"{place.name}_{what}.edit": edit,
-        TOP / "changes" / f"{place.name}.md": f"- `{place.name}`: {summary(place)}\n",
+        note: f"{notes}- `{place.name}`: {summary(place)}\n",
         root: named,
     }

@@ -2,7 +2,6 @@
 licence, the command `prove`, and what git is to leave out; and what it says at its end."""
 import hashlib
 import os
-import re
 import shutil
 import subprocess
 
@@ -24,6 +23,9 @@ What to do next, and what it costs:
   rt check     in your crate's folder, last: the crate's proof. The first one proves the library,
                which takes {minutes} processor minutes, once; `rt ci` proves all each time
 """
+MORE = """               (each reader of a format is proved where a crate of yours names it: all that
+               were copied here take some {minutes} processor minutes more)
+"""
 
 
 def sum_of(path):
@@ -42,6 +44,13 @@ def changed_files(dest, known):
             yield name
 
 
+def differing_files(dest):
+    """Those of them that stand over there otherwise than here, or not at all."""
+    for name, here in sums().items():
+        if not (dest / name).is_file() or sum_of(dest / name) != here:
+            yield name
+
+
 def git(*words):
     """What a command of git says of this repository, or nothing."""
     ran = subprocess.run(["git", *words], cwd=TOP, capture_output=True, text=True, check=False)
@@ -56,12 +65,13 @@ def commit():
 
 
 def version():
-    """The last release that the notes of changes name."""
-    found = re.findall(r"^## (?!Unreleased)(.*)$", read(TOP / "CHANGELOG.md"), re.MULTILINE)
-    return f"what follows {found[0]}" if found else "before the first release"
+    """The last release, and whether a change was noted since."""
+    last, notes = read(TOP / "VERSION").strip(), any((TOP / "changes").glob("*.md"))
+    is_first = last == "0.0.0"
+    return "before the first release" if is_first else f"what follows {last}" if notes else last
 
 
-def write_origin(dest, lines, parts):
+def write_origin(dest, lines, parts, formats):
     """Says where the copied crates come from."""
     text = [
         "These crates are Pergidau's, the parser library winnow in Rattle: do not edit them.",
@@ -70,17 +80,18 @@ def write_origin(dest, lines, parts):
         f"Commit:  {commit()}",
         f"Version: {version()}",
         f"Parts:   {', '.join(parts) or 'none but what is always copied'}",
+        f"Formats: {', '.join(formats) or 'none'}",
         "Licence: MIT, in LICENSE-PERGIDAU",
         f"Crates:  {' '.join(lines)}",
     ]
     (dest / ORIGIN).write_text("\n".join(text) + "\n", encoding="utf-8")
 
 
-def write_beside(dest, lines, parts):
+def write_beside(dest, lines, parts, formats):
     """Writes what stands beside the crates."""
     for name, here in FILES.items():
         shutil.copy2(TOP / here, dest / name)
-    write_origin(dest, lines, parts)
+    write_origin(dest, lines, parts, formats)
     path = dest / ".gitignore"
     old = read(path) if path.is_file() else ""
     if IGNORED not in old.splitlines():
@@ -95,6 +106,11 @@ def minutes(parts, all_parts):
     if set(parts) == set(all_parts):
         return f"some {whole}"
     return f"some {text}" if set(parts) <= {"text"} else f"from {text} to {whole}"
+
+
+def cost(library, formats):
+    """What the first proofs cost, in words."""
+    return COST.format(minutes=library) + (MORE.format(minutes=formats) if formats else "")
 
 
 def taken_names():

@@ -9,6 +9,8 @@ import os
 import re
 import sys
 
+from registry.common import split
+
 WIDTH = 100
 # What a broken line is made to fit, since `rt fmt` moves some parts in.
 FIT = 96
@@ -33,7 +35,7 @@ def breaks_of(text):
             word = re.match(r"\S+", text[at + 1 :])
             word = word[0] if word else ""
             before = text[:at].rsplit(" ", 1)[-1]
-            if word in ("=", ":", ":=") or word[:1] in CLOSE or before in OPERATORS or before in ("|", "λ"):
+            if word in ("=", ":", ":=") or word[:1] in CLOSE or before in (*OPERATORS, "|", "λ", "{"):
                 pass
             elif word in OPERATORS:
                 places.append((at, depth, OPERATORS.index(word)))
@@ -93,20 +95,38 @@ def wrapped_comment(line, mark):
 
 
 def imports(line):
-    """An import of many names as several, since `rt fmt` gives each name of a broken one a line."""
-    found = re.fullmatch(r"(.*\{)(.*)(\};?)", line)
-    lines, now = [], []
-    for name in found[2].split(", "):
-        if now and len(found[1] + ", ".join([*now, name]) + found[3]) > WIDTH:
-            lines.append(found[1] + ", ".join(now) + found[3])
-            now = []
-        now.append(name)
-    return [*lines, found[1] + ", ".join(now) + found[3]]
+    """An import of many names as several, since `rt fmt` gives each name of a broken one a line. So
+    it stands with a name that no line has room for beside its path."""
+    head, names, end = re.fullmatch(r"(.*\{)(.*)(\};?)", line).groups()
+    groups = [[]]
+    for name in names.split(", "):
+        if groups[-1] and len(head + ", ".join([*groups[-1], name]) + end) > WIDTH:
+            groups.append([])
+        groups[-1].append(name)
+    lines = []
+    for group in groups:
+        one = head + ", ".join(group) + end
+        lines += [one] if len(one) <= WIDTH else [head, f"  {group[0]},", end]
+    return lines
+
+
+def example(line):
+    """A statement of an example: what a name gets below the name, and what is called with its
+    arguments a line each."""
+    head, text = re.fullmatch(r"( *//[/!] +)(.*)", line).groups()
+    if found := re.fullmatch(r"(let [^=]* =) ([^=].*)", text):
+        return [head + found[1], f"{head}    {found[2]}"]
+    if found := re.fullmatch(r"([\w:!]+\()(.*)(\);)", text):
+        *first, last = split(found[2])
+        arguments = [f"{head}    {it}," for it in first] + [f"{head}    {last}"]
+        return [head + found[1], *arguments, head + found[3]]
+    return [line]
 
 
 def is_fixed(line):
-    """Whether a line names one module of the checker's, whose name is as long as it is."""
-    return line.startswith("use ") and "{" not in line
+    """Whether a line has no place to be broken: it names a module of the checker's, whose name is as
+    long as it is, or begins an import from one, or is a link of a comment."""
+    return bool(re.fullmatch(r"(pub |ghost )*use [^{}]*\{?| *//[/!] \S+", line))
 
 
 def wrapped_line(line, is_antt, is_fenced, is_inside):
@@ -121,8 +141,9 @@ def wrapped_line(line, is_antt, is_fenced, is_inside):
         return wrapped_comment(line, "--")
     if stripped.startswith(("/// ", "//! ", "// ")):
         mark = stripped.split(" ")[0]
-        is_table = stripped.startswith((f"{mark} |", f"{mark} -")) or is_fenced
-        return [line] if is_table else wrapped_comment(line, mark)
+        is_table = stripped.startswith((f"{mark} |", f"{mark} -"))
+        comment = [line] if is_table else wrapped_comment(line, mark)
+        return example(line) if is_fenced else comment
     if is_antt or is_inside:
         return broken(line, indent)
     return broken(line, indent, 1) if stripped.startswith(GHOST) else [line]

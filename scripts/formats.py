@@ -1,0 +1,38 @@
+"""The formats whose readers `scripts/vendor --with` copies, and what their proofs cost."""
+import re
+
+from laid import library
+from registry.common import TOP, read
+
+# The crates of each format. What they stand on is found in `crates.txt`.
+FORMATS = {
+    "calculator": ["readers_calc"],
+    "csv": ["uses_csv"],
+    "dns": ["uses_dns", "dns_names"],
+    "http": ["http_heads", "http_chunks", "uses_http"],
+    "ini": ["readers"],
+    "json": ["json_values", "json_pieces", "json_writer"],
+    "json_extents": ["uses_json"],
+    "resp": ["uses_resp"],
+    "toml": ["toml_reader"],
+}
+
+
+def lines_of(formats):
+    """The lines of `crates.txt` that name the crates of formats, and those that they stand on above
+    the library, lowest first."""
+    below = library()
+    found = library(*(crate for it in formats for crate in FORMATS[it]))
+    return {name: line for name, line in found.items() if name not in below}
+
+
+def seconds():
+    """Processor seconds of the proof of each crate, as CONTRIBUTING.md has them."""
+    rows = re.findall(r"`(\w+)` \| (\d+) \| \d+ \|", read(TOP / "CONTRIBUTING.md"))
+    return {name: int(took) for name, took in rows}
+
+
+def minutes_of(formats):
+    """Processor minutes of the proofs of the crates of formats, beside those of the library."""
+    known = seconds()
+    return round(sum(known[it] for it in lines_of(formats)) / 60)
