@@ -1,0 +1,14 @@
+#!/usr/bin/env python3
+"""Writes the API reference, `docs/api/`: each public item of the crate `winnow`, by its modules.
+
+Run it at the top of the repository, where `rt fmt` has laid out the sources:
+
+    python3 scripts/api.py
+
+It prints the pages that it changed, and each link of a comment that leads to no item. On which page
+an item stands is said in `scripts/registry/pages.py`; what no page names has one of its module.
+"""
+from registry.api import Reference, write_api
+
+if __name__ == "__main__":
+    write_api(Reference())

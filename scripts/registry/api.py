@@ -1,0 +1,346 @@
+"""The API reference, `docs/api/`: a page a module, or more where it is long, and an index. Each
+item has its signature, its documentation, and the names of its clauses."""
+import re
+import textwrap
+
+from registry.common import CRATES, TOP, below_winnow, in_order, write
+from registry.facade import FACADE
+from registry.items import find, module, sources
+from registry.pages import NOTES, PAGES
+from registry.parsers import header, sentence
+
+FOLDER = TOP / "docs/api"
+HEAD = "Written by scripts/api.py: do not edit."
+WIDTH = 100
+# What stands in the crate `winnow` as a whole module of another crate.
+MODULES = {"token": ("winnow_token", ["token"]), "binary::bits": ("winnow_bits", ["bits"])}
+# Where the links of a comment lead, as a line below it says.
+LED = re.compile(r"^\[`([^`]*)`\]: ([\w:]+)$")
+LINK = re.compile(r"\[`([^`]*)`\](?:\(([\w:]+)\))?(?!\()")
+
+
+def facade():
+    """The items of each module of winnow's: those of its file, by the crates they stand in."""
+    found = {}
+    for path in sorted((FACADE / "src").rglob("*.rt")):
+        name = "::".join(path.relative_to(FACADE / "src").with_suffix("").parts)
+        uses = module("winnow", path)[2]
+        places = [(uses[it], it) for it in sorted(uses, key=in_order)]
+        items = [find(of.partition("::")[0], of.split("::")[1:], it) for of, it in places]
+        # What is no item is a module, which stands below.
+        found["" if name == "lib" else name] = [it for it in items if it]
+    for name, (crate, modules) in MODULES.items():
+        for inner, more in (("", []), ("::impls", ["impls"])):
+            path = CRATES / crate / "src" / ("/".join([*modules, *more]) + ".rt")
+            items, _, uses = module(crate, path)
+            names = sorted({*items, *uses}, key=in_order)
+            found[name + inner] = [find(crate, [*modules, *more], it) for it in names]
+    return found
+
+
+class Reference:
+    """What stands where: of each item its page, its modules and its anchor."""
+
+    def __init__(self):
+        self.modules, self.pages, self.place, self.said = facade(), {}, {}, []
+        self.blocks = [it for crate in [*below_winnow(), "winnow"] for path in sources(crate)
+                       for it in module(crate, path)[1]]
+        self.submodules = {(it, path.stem) for it in below_winnow() for path in sources(it)}
+        self.all = {}
+        for name, items in self.modules.items():
+            for item in items:
+                self.all.setdefault(id(item), (item, []))[1].append(name)
+        self.names = {it.name for it, _ in self.all.values()}
+        for item, _ in self.all.values():
+            if item.kind in ("struct", "enum") and all(it.kind == "part" for it in item.inside):
+                item.inside = item.inside + self.methods(item)
+        self.moved = {it for *_, names in PAGES for it in names.split() if "::" in it}
+        self.list, self.anchor = {}, {}
+        for page in [*PAGES, *self.others()]:
+            self.add(*page)
+
+    def add(self, stem, title, of, names):
+        """Adds a page where there is something to stand on it."""
+        items = [*self.chosen(stem, of, names.split())]
+        if not items:
+            return
+        self.pages[stem], self.list[stem] = items, (title, of)
+        known = {}
+        for item in [it for whole in items for it in [whole, *self.below(whole, stem)]]:
+            anchor = re.sub(r"[^\w]", "", self.title(item).lower())
+            again = known.get(anchor, 0)
+            self.anchor[id(item)] = anchor + f"-{again}" * bool(again)
+            known[anchor] = again + 1
+
+    def others(self):
+        """Pages for what no page names."""
+        for name in self.modules:
+            stem = name.replace("::", "_") or "winnow"
+            yield f"{stem}_others", f"More of winnow::{name}".rstrip(":"), name, "*"
+
+    def below(self, item, stem):
+        """What an item has that stands on this page with a heading of its own."""
+        own = [it for it in item.inside if it.kind != "part"]
+        return [it for it in own if self.place.get(id(it)) == stem]
+
+    def methods(self, item):
+        """What the blocks of a type without a trait have."""
+        own = [it for it in self.blocks if not it.trait and it.crate == item.crate]
+        own = [it for it in own if re.match(r"\w+", it.type)[0] == item.name]
+        return [method for it in own for method in it.inside]
+
+    def chosen(self, stem, of, names):
+        """The items of a page, each with its place."""
+        for name in names:
+            if name == "*":
+                kept = {it for *_, other in PAGES for it in other.split()}
+                found = [it for it in self.modules.get(of, ()) if id(it) not in self.place]
+                found = [it for it in found if it.name not in kept or names == ["*"]]
+            elif name.startswith("@"):
+                found = [it for it in self.modules.get(of, ()) if it.crate == name[1:]]
+                found = [it for it in found if id(it) not in self.place]
+            else:
+                found = self.named(of, name)
+                self.said += [] if found else [f"scripts/registry/pages.py: there is no {name}"]
+            for item in found:
+                self.place[id(item)] = stem
+                for inner in item.inside:
+                    if f"{item.name}::{inner.name}" not in self.moved:
+                        self.place[id(inner)] = stem
+                yield item
+
+    def named(self, of, name):
+        """The item of a name, or the method: of this module, else of the first that has one."""
+        owner, _, method = name.partition("::")
+        for module_name in [of, *self.modules]:
+            for item in self.modules.get(module_name, ()):
+                if item.name == owner:
+                    return [it for it in item.inside if it.name == method] if method else [item]
+        return []
+
+    def title(self, item):
+        return f"{item.owner}::{item.name}" if item.owner else item.name
+
+    def link(self, item, label, near):
+        """A link to an item from a page, or from another document where there is none."""
+        anchor = self.anchor.get(id(item), item.owner.lower())
+        stem = self.place[id(item)]
+        page = "" if stem == near else f"{'' if near is not None else 'api/'}{stem}.md"
+        return f"[{label}]({page}#{anchor})"
+
+    def of_parser(self, crate, name):
+        """The link of a parser's name from `docs/`."""
+        whole = [it for it, _ in self.all.values() if it.crate == crate]
+        for item in [*whole, *(inner for it in whole for inner in it.inside)]:
+            if item.name == name and item.kind in ("fn", "method"):
+                return self.link(item, f"`{name}`", None)
+        return f"`{name}`"
+
+    def meant(self, item, target):
+        """The item that a link in the documentation of another one means."""
+        *before, name = target.split("::")
+        whole = [it for it, _ in self.all.values()]
+        every = [*whole, *(inner for it in whole for inner in it.inside)]
+        found = [it for it in every if it.name == name and id(it) in self.place]
+        owner = before[-1] if before and before[-1][0].isupper() else ""
+        crate = before[0] if before and before[0] in below_winnow() else item.crate
+        if before:
+            found = [it for it in found if it.owner == owner]
+        # Of those that are as near, that which stands last.
+        near = [(it.crate == crate, it.path == item.path, not it.owner) for it in found]
+        return found[max(range(len(found)), key=lambda at: (near[at], at))] if found else None
+
+    def linked(self, item, text, stem):
+        """A line of documentation, its links led to the items' anchors."""
+
+        told = dict(it.groups() for it in map(LED.match, item.doc) if it)
+
+        def led(found):
+            target = self.meant(item, found[2] or told.get(found[1], found[1]))
+            if target is None and (item.crate, found[1]) not in self.submodules:
+                self.said.append(f"{item.path.relative_to(TOP)}: {found[0]} leads to no item")
+            if target is None:
+                return f"`{found[1]}`"
+            return self.link(target, f"`{found[1]}`", stem)
+
+        return LINK.sub(led, text)
+
+    def prose(self, item, stem):
+        """The documentation of an item, its examples marked as code."""
+        inside, lines = False, []
+        text = "\n".join(it for it in item.doc if not LED.match(it))
+        for part in re.split(r"(^```[^\n]*$)", text, flags=re.MULTILINE):
+            if part.startswith("```"):
+                inside = not inside
+                lines.append("```rust" if inside and part == "```" else part)
+            else:
+                lines.append(part if inside else self.linked(item, part, stem))
+        return "".join(lines).strip() + "\n"
+
+    def example(self, item, stem):
+        """The example of the struct that a call makes, where the call has none of its own."""
+        made = re.search(r"\) -> (\w+)", item.signature)
+        is_own = made and made[1] == item.owner
+        if item.kind != "method" or not made or is_own or "```" in item.doc:
+            return ""
+        for struct in [it for it, _ in self.all.values() if it.kind == "struct"]:
+            if (struct.name, struct.crate) == (made[1], item.crate) and "```" in struct.doc:
+                whole = "\n".join(struct.doc)
+                code = re.search(r"^```\n.*?^```$", whole, re.MULTILINE | re.DOTALL)[0]
+                link = self.link(struct, f"`{struct.name}`", stem)
+                return f"The example of {link}:\n\n```rust{code[3:]}\n\n"
+        return ""
+
+    def contract(self, item):
+        """The names of the clauses, and the file."""
+        words = []
+        for kind in ("requires", "ensures"):
+            names = [name for of, name in item.clauses if of == kind]
+            told = ", ".join(f"`{it}`" if it else "one clause" for it in names)
+            words += [f"{kind} {told}"] if names else []
+        file = f"[{item.path.name}](../../{item.path.relative_to(TOP)})"
+        said = f"Contract: {'; '.join(words)}. " if words and not self.is_law(item) else ""
+        return wrapped(f"{said}In {file}.")
+
+    def is_law(self, item):
+        """Whether an item is a law, whose contract is what it says."""
+        return "laws" in self.all.get(id(item), (None, []))[1]
+
+    def is_shown(self, type_):
+        """Whether a type that implements a trait is one that users name."""
+        name = re.match(r"\w+", type_)
+        return not name or not re.match(r"[A-Z]\w\w", name[0]) or name[0] in self.names
+
+    def implementors(self, item):
+        """The types that implement a trait, and what is said of each."""
+        own = [it for it in self.blocks if self.is_shown(it.type)]
+        own = [it for it in own if it.trait.partition("<")[0].split("::")[-1] == item.name]
+        plain = sorted((self.shown(it) for it in own if not it.doc), key=in_order)
+        plain = ", ".join(f"`{it}`" for it in dict.fromkeys(plain))
+        text = wrapped(f"Implemented for {plain}.") if plain else ""
+        told = "".join(f"- `{it.type}`: {sentence_of(it.doc)}\n" for it in own if it.doc)
+        if told:
+            text += f"{chr(10)}Also implemented for:\n\n" if text else "Implemented for:\n\n"
+        return text + told
+
+    def shown(self, block):
+        """A type that implements a trait; of a parameter, with what is asked of it."""
+        text = " ".join(block.type.split()).replace("< ", "<").replace(", >", ">")
+        if re.fullmatch(r"[A-Z]\d?", text) and text not in self.names:
+            return " ".join(block.head.split()).replace("< ", "<").replace(", >", ">")
+        name = text.partition("<")[0]
+        return name if name in self.names else text
+
+    def traits(self, item):
+        """The traits that a type implements."""
+        same = sum(it.name == item.name for it, _ in self.all.values()) == 1
+        own = [it for it in self.blocks if it.trait and re.match(r"&?\w*", it.type)[0] == item.name]
+        own = [it.trait for it in own if it.crate == item.crate or same]
+        names = [*item.derives, *(re.match(r"[\w:]+", it)[0].split("::")[-1] for it in own)]
+        told = ", ".join(f"`{it}`" for it in sorted({*names}))
+        return wrapped(f"Implements {told}.") if names else ""
+
+    def section(self, item, stem, level):
+        """What a page says of an item."""
+        text = f"{'#' * level} {self.title(item)}\n\n"
+        where = self.all.get(id(item), (None, []))[1]
+        others = [it for it in where if it != self.list[stem][1]]
+        if others:
+            told = ", ".join(f"`winnow{'::' * bool(it)}{it}`" for it in where)
+            text += f"In {told}.\n\n"
+        head = item.whole if self.is_law(item) else item.signature
+        text += f"```rust\n{head}\n```\n\n{self.prose(item, stem)}\n"
+        for part in [it for it in item.inside if it.kind == "part" and it.doc]:
+            about = " ".join(self.linked(item, line, stem) for line in part.doc)
+            text += f"- `{part.signature.removeprefix('pub ')}`: {about}\n"
+        text += "\n" if text.endswith(".\n") and not text.endswith("\n\n") else ""
+        extra = self.implementors(item) if item.kind == "trait" else ""
+        extra = self.traits(item) if item.kind in ("struct", "enum") else extra
+        text += self.example(item, stem) + (extra + "\n" if extra else "")
+        return text + self.contract(item) + "\n"
+
+    def page(self, stem, title, of):
+        whole = f"winnow{'::' * bool(of)}{of}"
+        text = f"<!-- {HEAD} -->\n\n# {title}\n\nOf `{whole}`. [All items](README.md).\n\n"
+        text += wrapped(NOTES[stem]) + "\n" if stem in NOTES else ""
+        for item in self.pages[stem]:
+            text += self.section(item, stem, 2)
+            elsewhere = [it for it in item.inside if self.place[id(it)] != stem]
+            if elsewhere:
+                links = [self.link(it, f"`{it.name}`", stem) for it in elsewhere]
+                text += wrapped("On other pages: " + ", ".join(links) + ".") + "\n"
+            text += "".join(self.section(it, stem, 3) for it in self.below(item, stem))
+        return text.rstrip() + "\n"
+
+    def row(self, item):
+        """The line of an item in the index, with links to what it has."""
+        inner = [it for it in item.inside if it.kind not in ("part", "type")]
+        inner = [self.link(it, f"`{it.name}`", "README") for it in inner]
+        about = sentence_of(item.doc).replace("|", "\\|")
+        has = f" Has {', '.join(inner)}." if inner else ""
+        return f"| {self.link(item, f'`{item.name}`', 'README')} | {item.kind} | {about}{has} |\n"
+
+    def index(self, of_structs):
+        """A line for each item, by the modules of the crate `winnow`: of the modules `impls`, or
+        of the others."""
+        text = f"<!-- {HEAD} -->\n\n# {'Structs' if of_structs else 'API reference'}\n\n"
+        text += ABOUT_STRUCTS if of_structs else INTRODUCTION
+        done = set()
+        for name in sorted(self.modules, key=lambda it: (it == "prelude", "impls" in it, it)):
+            items = [it for it in self.modules[name] if id(it) not in done]
+            done.update(id(it) for it in items)
+            if name.endswith("impls") == of_structs:
+                again = [it for it in self.modules[name] if it not in items]
+                text += f"\n## winnow{'::' * bool(name)}{name}\n\n{about_of(name)}\n\n"
+                links = ", ".join(self.link(it, f"`{it.name}`", "README") for it in again)
+                text += f"Also {links}.\n\n" if again else ""
+                text += "| Item | Kind | Is |\n|---|---|---|\n" if items else ""
+                text += "".join(self.row(it) for it in items)
+        return re.sub(r"\n\n\n+", "\n\n", text).rstrip() + "\n"
+
+
+INTRODUCTION = """Each public item of the crate `winnow`, by its modules: its signature, its
+documentation with examples, and the names of the clauses of its contract, which stands in the file
+that is linked. A law has its contract with it. The definitions that clauses name stand in `specs/`
+of the same crate. Tables by purpose stand in [PARSERS.md](../PARSERS.md), and the items of the
+modules `impls` in [another index](structs.md).
+"""
+ABOUT_STRUCTS = """The items of the modules `impls`; [all others](README.md) have another index. The
+struct of a parser stands for it wherever a parser is passed.
+"""
+
+
+def sentence_of(doc):
+    return sentence("".join(f"/// {it}\n" for it in doc)) if doc else ""
+
+
+def wrapped(text):
+    """A paragraph in lines, none of which ends within code."""
+    text = re.sub(r"`[^`]*`", lambda found: found[0].replace(" ", "\0"), text)
+    lines = textwrap.fill(text, WIDTH, break_long_words=False, break_on_hyphens=False)
+    return lines.replace("\0", " ") + "\n"
+
+
+def about_of(name):
+    """What the head of a module says of it."""
+    of, inner = name.removesuffix("::impls"), name.endswith("::impls")
+    if of in MODULES:
+        crate, modules = MODULES[of]
+        return header(CRATES / crate / "src" / ("/".join(modules + ["impls"] * inner) + ".rt"))
+    path = FACADE / "src" / (name.replace("::", "/") + ".rt" if name else "lib.rt")
+    return header(path)
+
+
+def write_api(reference):
+    """Writes the pages, and takes away those that are none any more."""
+    FOLDER.mkdir(exist_ok=True)
+    for stem, (title, of) in reference.list.items():
+        write(FOLDER / f"{stem}.md", reference.page(stem, title, of))
+    write(FOLDER / "README.md", reference.index(False))
+    write(FOLDER / "structs.md", reference.index(True))
+    for path in FOLDER.glob("*.md"):
+        if path.stem not in [*reference.pages, "README", "structs"]:
+            path.unlink()
+            print(path.relative_to(TOP))
+    for line in dict.fromkeys(reference.said):
+        print(line)
