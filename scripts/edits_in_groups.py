@@ -3,10 +3,9 @@
 `Trial` checks the functions that the edits change as they stand, unless they are known to be
 proved and call little, and then puts edits of different functions into one check, over a copy of
 what the first one proved. An edit is refused where the prover does not prove a goal of a function
-that it changes. That a function waits for another one, or that its proof names what the edit took
-away, says nothing. What a group does not settle is tried alone, and so is an edit outside the
-bodies of functions, as of an impl's head: first with the functions of its module, and where none of
-these is refused over a check of the whole crate.
+that it changes (`edits_refusals.py` reads what it says). What a group does not settle is tried
+alone, and so is an edit outside the bodies of functions, as of an impl's head: first with the
+functions of its module, and where none of these is refused over a check of the whole crate.
 """
 import os
 import re
@@ -16,18 +15,11 @@ import tempfile
 import time
 from collections import Counter
 
+from edits_refusals import own_refusal, open_goals, refusal_alone, unread
+
 # How many edits stand in one check.
 SIZE = 12
 FUNCTION = re.compile(r"( *)(?:pub(?:\([^)]*\))? |const |final |unsafe |extern \"C\" )*fn (\w+)")
-# An error in a proof that only misses a name, and with it what cites that proof.
-NAMES = re.compile(r"has no field|is not in scope|has no `|was not admitted")
-# An error that the front end found: the text is no Rattle.
-BAD_TEXT = re.compile(r"\berror\[[\w-]+\]", re.MULTILINE)
-BAD_CLAUSE = re.compile(r"is not in scope|has no field|is no name|expected the end|cannot cont")
-# A place in the proofs of a cycle of calls, whose folder has a name of its own.
-CYCLE = re.compile(r"\./proofs/(\S*/)?\+[^/\s]*/")
-# A line that says what is not proved, or not read, and where.
-ERROR = re.compile(r"(\./)?(src|specs|proofs)/\S+: error|note: src/\S+: it is not proved")
 
 
 def modules_of(path):
@@ -43,6 +35,11 @@ class Function:
         self.modules = modules_of(path)
         indent, self.name = FUNCTION.match(lines[at]).groups()
         self.head = head_above(lines, at) if indent else []
+
+    def is_as(self, other):
+        """Whether the other one is the same function, of another text."""
+        mine = (self.modules, self.name, self.head)
+        return mine == (other.modules, other.name, other.head)
 
     def among(self, names):
         """Those of the prover's names of functions that can be this one's."""
@@ -122,6 +119,12 @@ class Edit:
             self.modules.add("::".join(modules_of(path)) if is_there else "")
         return bool(texts) and bool(self.pairs)
 
+    def has(self, path, texts, number):
+        """Whether a line of a checked text, by its number from 1, is of a function that this
+        changes."""
+        found = function_at(path, texts[path], number - 1)
+        return found is not None and any(found.is_as(it) for it in self.functions if it)
+
     def take_names(self, names):
         """Takes the names of its functions out of those that the prover told; none where one of
         its places is in no function, or has no name."""
@@ -130,31 +133,14 @@ class Edit:
         self.is_clear = bool(found) and all(len(each) == 1 for each in found)
 
 
-def proofs_of(name):
-    """Where the proofs of a function stand: in its folder, or in that of the cycle of calls that it
-    is in, which has the names of all that are, each behind a plus."""
-    *above, last = (re.escape(it) for it in name.split("::")[1:])
-    return rf"\./proofs/{''.join(it + '/' for it in above)}(\+([^/\s]*\+)?{last}(\+[^/\s]*)?|{last})/"
-
-
-def own_refusal(said, name):
-    """What the prover says against a goal of a function's own, or None."""
-    at = proofs_of(name)
-    for line in said:
-        if re.match(rf"{at}\S*: error", line) and not NAMES.search(line):
-            return line.split(": error: ", 1)[-1]
-        if re.match(rf"fn {re.escape(name)}(::\S+)?: .*did not prove", line):
-            return re.search(r"`search` did not prove.*", line)[0]
-    return None
-
-
 class Trial:
     """The edits of one crate, tried over what was proved of it. `laid` is the crate as the kit
     knows it, over proved libraries; `say` prints a line about an edit."""
 
     def __init__(self, lib, laid, folder, edits, say):
         self.lib, self.laid, self.folder, self.edits, self.say = lib, laid, folder, edits, say
-        self.missed = []
+        # The names of the edits that are not refused, and of those that an answer alone refuses.
+        self.missed, self.by_answer = [], []
 
     def checked(self, texts, only, over):
         """Checks the crate with these texts in place of its own: the status and the lines said."""
@@ -278,18 +264,29 @@ class Trial:
                 left += self.unsettled(half, with_half) if len(half) > 1 else half
             return left
         for edit in group:
-            if not self.is_refused(edit, said):
+            if not self.is_refused(edit, said, texts):
                 left.append(edit)
         took = time.monotonic() - begun
         print(f"{self.laid.name}: {len(group)} in one check, {took:.0f} s", flush=True)
         return left
 
-    def is_refused(self, edit, said):
-        """Whether a goal of a function that an edit changes is refused; says so where one is."""
-        told = [it for it in (own_refusal(said, name) for name in edit.names) if it]
-        if told:
-            self.say(edit, f"refused: {told[0][:100]}")
-        return bool(told)
+    def is_refused(self, edit, said, texts):
+        """Whether a goal of a function that an edit changes is refused; says so where one is.
+        `texts` are those that were checked."""
+        places = open_goals(said)
+        left = [it for it in places if it.path in texts and edit.has(it.path, texts, it.line)]
+        told = [it for it in (own_refusal(said, name, left) for name in edit.names) if it]
+        # (what the prover says itself tells more than what an answer does)
+        return self.note(edit, min(told, key=lambda it: it.by_answer, default=None))
+
+    def note(self, edit, refusal):
+        """Notes what refuses an edit, if anything does."""
+        if refusal:
+            if refusal.by_answer:
+                self.by_answer.append(edit.name)
+            by = " by an answer" if refusal.by_answer else ""
+            self.say(edit, f"refused{by}: {refusal.told[:100]}")
+        return bool(refusal)
 
     def alone(self, edit):
         """Tries one edit: its functions, or where it changes none those of its module, and the
@@ -306,7 +303,9 @@ class Trial:
         why = unread(status, said)
         if why:
             self.miss(edit, why)
-        elif not self.is_refused(edit, said) and not self.told_alone(edit, said, bool(edit.names)):
+        elif self.is_refused(edit, said, texts):
+            return
+        elif not self.note(edit, refusal_alone(said, bool(edit.names))):
             self.miss(edit, "no goal fails but by a name that it took away")
 
     def by_modules(self, edit, texts):
@@ -316,31 +315,7 @@ class Trial:
         if self.calls is None and self.checked({}, names, self.seed)[0]:
             return False
         status, said = self.over_seed(texts, names)
-        return not unread(status, said) and self.told_alone(edit, said, False)
-
-    def told_alone(self, edit, said, is_named):
-        """Whether a goal fails in the check of one edit: no other body differs, so a goal that
-        `search` left open is one of this edit's, and one of a cycle of calls is of the function
-        that calls this one, or of itself."""
-        told = [it for it in said if ERROR.match(it) and not NAMES.search(it)]
-        if is_named:
-            told = [it for it in told if it.startswith("note: ") or CYCLE.match(it)]
-        if told:
-            self.say(edit, f"refused: {told[0][:100]}")
-        return bool(told)
-
-
-def unread(status, said):
-    """Why the check of one edit says nothing of its goals, or None."""
-    errors = [it for it in said if ERROR.match(it)]
-    bad = [it for it in errors if not it.startswith("./proofs/") and BAD_CLAUSE.search(it)]
-    if status == 0:
-        return "it is still proved"
-    if bad or BAD_TEXT.search("\n".join(said)):
-        return f"it cannot be read: {(bad or said)[0]}"
-    if not said[-1].startswith(("only=", "logic=not-proved")):
-        return f"its check came to no end: {said[-1]}"
-    return None
+        return not unread(status, said) and self.note(edit, refusal_alone(said, False))
 
 
 def link_all(of, to):
