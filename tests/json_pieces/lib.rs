@@ -2,6 +2,8 @@
 #![tactic(auto)]
 
 #[cfg(test)]
+mod begun;
+#[cfg(test)]
 mod pieces;
 #[cfg(test)]
 mod refused;

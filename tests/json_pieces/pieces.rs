@@ -7,9 +7,9 @@ use test_json_support::shown::show;
 use winnow::error::ErrMode;
 use winnow::stream::{Partial, StreamIsPartial};
 
-/// A level, bytes, of how many the value is the text that they begin with, and the value as Python's
-/// `json` reads these: `'` round each string, a comma behind each item. What is behind the text is
-/// of no concern, but for numbers.
+/// A level, bytes, of how many the value is the text that they begin with, and the value as
+/// Python's `json` reads these: `'` round each string, a comma behind each item. What is behind the
+/// text is of no concern, but for numbers.
 const ROWS: &[(usize, &[u8], usize, &str)] = &[
     (0, b"null", 4, "null"),
     (0, b"true,", 4, "true"),
@@ -57,26 +57,45 @@ const NONE: &[(usize, &[u8], usize)] = &[
     (0, b"falsy", 5),
     (0, b"tru ", 4),
     (0, b"f\xc3\xa9", 2),
-    (0, b"01 ", 3),
+    (0, b"01 ", 2),
     (0, b"-x", 2),
     (0, b"1. ", 3),
-    (0, b"1.5.2 ", 6),
+    (0, b"1.5.2 ", 4),
     (0, b"1e]", 3),
-    (0, b"[]", 2),
-    (1, b"[[]]", 4),
+    (0, b"[]", 1),
+    (1, b"[[]]", 2),
     (1, b"[1}", 3),
     (1, b"[1,]", 4),
-    (1, b"{\"a\" 1}", 7),
-    (1, b"{a:1}", 5),
-    (0, b"\"\x01\"", 3),
-    (0, b"\"\\x\"", 4),
+    (1, b"{\"a\" 1}", 6),
+    (1, b"{a:1}", 2),
+    (0, b"\"\x01\"", 2),
+    (0, b"\"\\x\"", 3),
     (0, b"\"\\ud834\"", 8),
-    (0, b"\"\\udd1e\\ud834\"", 14),
-    (0, b"\"\xff\"", 3),
+    (0, b"\"\\udd1e\\ud834\"", 5),
+    (0, b"\"\xff\"", 2),
     (0, b"\"\xc3\"", 3),
-    (0, b"\"\xed\xa0\x80\"", 5),
-    (0, b"\"\xc0\xaf\"", 4),
-    (2, b"[\"\xe2\x82\", [1]]", 11),
+    (0, b"\"\xed\xa0\x80\"", 3),
+    (0, b"\"\xc0\xaf\"", 2),
+    (2, b"[\"\xe2\x82\", [1]]", 5),
+    (9, b"[x]", 2),
+    (9, b"[1,,2]", 4),
+    (9, b"{1:2}", 2),
+    (9, b"{\"a\":1,}", 8),
+    (9, b"{\"a\":1]", 7),
+    (9, b"[}", 2),
+    (9, b"[01]", 3),
+    (9, b"[-]", 3),
+    (9, b"[1.]", 4),
+    (9, b"[1e+]", 5),
+    (9, b"[nuls]", 5),
+    (9, b"{\"\\u12g4\":1}", 7),
+    (9, b"[\"\\ud834\\t", 10),
+    (9, b"[\"\\ud834\\ud834\"]", 12),
+    (9, b"\"\xe0\x80\x80\"", 3),
+    (9, b"\"\xf0\x80\"", 3),
+    (9, b"\"\xf4\x90\"", 3),
+    (9, b"\"\xf5\"", 2),
+    (2, b"[{\"a\":[", 7),
 ];
 
 /// What a read comes to.

@@ -2,8 +2,14 @@
 use Rattle.std.proofs.Common.{◌+◌, ◌<◌, ◌≤◌, ℕ, List, drop, get_or, inl, inr, length}
 use Rattle.std.proofs.Common.{map, refl, subst, suc, sym}
 use Rattle.std.proofs.lemmas.List.{drop_all, drop_more}
-use Rattle.http_chunks.specs.Refusals.{AreHosts, IsHost}
-use Rattle.http_heads.specs.Head.{pair}
+use Rattle.std.specs.Prelude.{Option, Some, None}
+use Rattle.http_chunks.specs.Refusals.{AreHosts, IsFault, IsHost, IsRefusal, MayHave}
+use Rattle.http_chunks.specs.declared.refusals.Refusal.{Refusal}
+use Rattle.http_chunks.specs.declared.refusals.Refusal.TheVariants.{LengthBesideCoding}
+use Rattle.http_chunks.specs.declared.refusals.Refusal.TheVariants.{LengthIsNoNumber, LengthsDiffer}
+use Rattle.http_chunks.specs.declared.refusals.Refusal.TheVariants.{ManyHosts, NoHost, NotChunked}
+use Rattle.http_heads.specs.Head.{Pair, pair}
+use Rattle.http_heads.specs.declared.request_line.RequestLine.{RequestLine}
 use Rattle.http_heads.specs.declared.field_line.Field.{Field}
 
 module _ (fields : List Field) (i : ℕ) where
@@ -28,3 +34,15 @@ module _ (fields : List Field) (i : ℕ) where
     other_next not =
         let P : List Field → Type 0 = λ l. AreHosts (map pair l) more in
         subst P (sym (drop_more fields i d below)) (inr (not, are))
+
+-- where the Host fields are no reason, what else is wrong is the reason
+pub fault_refused : (line : RequestLine) (hosts : ℕ) (fields : List Pair)
+    (refusal : Option Refusal) → MayHave line hosts → IsFault fields refusal
+    → IsRefusal line hosts fields refusal
+fault_refused line hosts fields None may fault = (may, fault)
+fault_refused line hosts fields (Some NoHost) may fault = absurd fault
+fault_refused line hosts fields (Some ManyHosts) may fault = absurd fault
+fault_refused line hosts fields (Some LengthBesideCoding) may fault = (may, fault)
+fault_refused line hosts fields (Some NotChunked) may fault = (may, fault)
+fault_refused line hosts fields (Some LengthsDiffer) may fault = (may, fault)
+fault_refused line hosts fields (Some LengthIsNoNumber) may fault = (may, fault)

@@ -1,2 +1,5 @@
+pub mod Codings
+pub mod Ends
 pub mod Fields
 pub mod Hosts
+pub mod Named

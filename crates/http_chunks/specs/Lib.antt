@@ -1,4 +1,5 @@
 -- Written by scripts/registries.py: do not edit.
+pub mod Framing
 pub mod Lines
 pub mod Read
 pub mod Refusals

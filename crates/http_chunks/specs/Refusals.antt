@@ -1,9 +1,13 @@
--- Which requests of HTTP/1.1 a server must refuse by their heads (RFC 9112, section 3.2).
+-- Which requests of HTTP/1.1 a server must refuse by their heads (RFC 9112, sections 3.2 and 6).
 use Rattle.std.specs.Prelude.{◌≡◌, ◌<◌, ◌≤◌, ◌⊎◌, ℕ, List, [], ◌∷◌, map, Option, Some, None}
 use Rattle.std.specs.Prelude.{suc}
 use Rattle.std.specs.Char.{to_ascii_lowercase}
+use Rattle.http_chunks.specs.Framing.{EndChunked, HasNone, HasOne, HasValue, HaveValue, IsNumber}
+use Rattle.http_chunks.specs.Framing.{content_length, transfer_encoding}
 use Rattle.http_chunks.specs.declared.refusals.Refusal.{Refusal}
-use Rattle.http_chunks.specs.declared.refusals.Refusal.TheVariants.{ManyHosts, NoHost}
+use Rattle.http_chunks.specs.declared.refusals.Refusal.TheVariants.{LengthBesideCoding}
+use Rattle.http_chunks.specs.declared.refusals.Refusal.TheVariants.{LengthIsNoNumber, LengthsDiffer}
+use Rattle.http_chunks.specs.declared.refusals.Refusal.TheVariants.{ManyHosts, NoHost, NotChunked}
 use Rattle.http_heads.specs.Head.{Pair}
 use Rattle.http_heads.specs.declared.request_line.RequestLine.{RequestLine}
 
@@ -22,8 +26,57 @@ AreHosts (field ∷ fields) hosts =
 abbrev pub NeedsHost : RequestLine → Type 0
 NeedsHost line = (line.major ≡ 1) × (1 ≤ line.minor)
 
--- Why a request of this line with so many Host fields is refused, or that it is not.
-abbrev pub IsRefusal : RequestLine → ℕ → Option Refusal → Type 0
-IsRefusal line hosts (Some NoHost) = NeedsHost line × (hosts ≡ 0)
-IsRefusal line hosts (Some ManyHosts) = 1 < hosts
-IsRefusal line hosts None = (hosts ≡ 1) ⊎ ((hosts ≡ 0) × (NeedsHost line → ⊥))
+-- A request of this line may have so many Host fields.
+abbrev pub MayHave : RequestLine → ℕ → Type 0
+MayHave line hosts = (hosts ≡ 1) ⊎ ((hosts ≡ 0) × (NeedsHost line → ⊥))
+
+-- Why a request of this line with so many Host fields is refused for them, or that it is not.
+abbrev pub IsHostRefusal : RequestLine → ℕ → Option Refusal → Type 0
+IsHostRefusal line hosts (Some NoHost) = NeedsHost line × (hosts ≡ 0)
+IsHostRefusal line hosts (Some ManyHosts) = 1 < hosts
+IsHostRefusal line hosts (Some LengthBesideCoding) = ⊥
+IsHostRefusal line hosts (Some NotChunked) = ⊥
+IsHostRefusal line hosts (Some LengthsDiffer) = ⊥
+IsHostRefusal line hosts (Some LengthIsNoNumber) = ⊥
+IsHostRefusal line hosts None = MayHave line hosts
+
+-- No field is a length, and none a coding; or the last coding is `chunked`, and none is a length;
+-- or all lengths are one number, and none is a coding.
+abbrev pub IsFramed : List Pair → Type 0
+IsFramed fields =
+    (HasNone content_length fields × HasNone transfer_encoding fields)
+    ⊎ ((HasNone content_length fields × EndChunked fields)
+    ⊎ (HasNone transfer_encoding fields × (length : List ℕ)
+    × HasValue content_length length fields × HaveValue content_length length fields
+    × IsNumber length))
+
+-- Why a request of these fields is refused, or that it is not, where its Host fields are no reason.
+abbrev pub IsFault : List Pair → Option Refusal → Type 0
+IsFault fields (Some NoHost) = ⊥
+IsFault fields (Some ManyHosts) = ⊥
+IsFault fields (Some LengthBesideCoding) =
+    HasOne content_length fields × HasOne transfer_encoding fields
+IsFault fields (Some NotChunked) =
+    HasNone content_length fields × HasOne transfer_encoding fields × (EndChunked fields → ⊥)
+IsFault fields (Some LengthsDiffer) =
+    HasNone transfer_encoding fields
+    × ((length : List ℕ) → HaveValue content_length length fields → ⊥)
+IsFault fields (Some LengthIsNoNumber) =
+    HasNone transfer_encoding fields × (length : List ℕ) × HasValue content_length length fields
+    × HaveValue content_length length fields × (IsNumber length → ⊥)
+IsFault fields None = IsFramed fields
+
+-- Why a request of this line, with so many Host fields among these fields, is refused, or that it
+-- is not. The Host fields come first.
+abbrev pub IsRefusal : RequestLine → ℕ → List Pair → Option Refusal → Type 0
+IsRefusal line hosts fields (Some NoHost) = NeedsHost line × (hosts ≡ 0)
+IsRefusal line hosts fields (Some ManyHosts) = 1 < hosts
+IsRefusal line hosts fields (Some LengthBesideCoding) =
+    MayHave line hosts × IsFault fields (Some LengthBesideCoding)
+IsRefusal line hosts fields (Some NotChunked) =
+    MayHave line hosts × IsFault fields (Some NotChunked)
+IsRefusal line hosts fields (Some LengthsDiffer) =
+    MayHave line hosts × IsFault fields (Some LengthsDiffer)
+IsRefusal line hosts fields (Some LengthIsNoNumber) =
+    MayHave line hosts × IsFault fields (Some LengthIsNoNumber)
+IsRefusal line hosts fields None = MayHave line hosts × IsFault fields None

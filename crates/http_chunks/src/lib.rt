@@ -10,6 +10,7 @@
 #![tactic(auto)]
 
 pub mod field_line;
+mod framing;
 pub mod laws;
 mod lines;
 mod numbers;

@@ -11,7 +11,7 @@ use Rattle.winnow.specs.Input.{Input, is_end_of_refl}
 use Rattle.winnow.specs.Kind.{Kind, backtrack, memory}
 use Rattle.winnow.specs.Partial.{with_flag}
 use Rattle.winnow.specs.Cut.{Asks, ReadsOrAsks}
-use Rattle.winnow.specs.Exact.Whole.{IsWant}
+use Rattle.winnow.specs.Exact.Whole.{IsRefused, IsWant}
 use Rattle.winnow.specs.Grammar.{Grammar, NoneStands}
 use Rattle.winnow.specs.Texts.{Text}
 use Rattle.winnow.specs.Told.{IsTextOf}
@@ -107,11 +107,11 @@ module _ {E O : Type 0} {kind : E → Kind} (grammar : Grammar ℕ O) (cut : Boo
 -- ---- what a whole text is in bytes
 
 module _ {I O X : Type 0} {inner_kind : X → Kind} (text : Text ℕ O) (bytes : List ℕ) where
-  pub broken_told : (fault : ParseFault I X Needed) → (IsUtf8 bytes → ⊥)
+  pub broken_told : (fault : ParseFault I X Needed) → IsRefused fault → (IsUtf8 bytes → ⊥)
       → IsTextOf inner_kind (InUtf8 text) bytes (Err fault)
   unfolding InUtf8
-  broken_told fault broken =
-      record { stands = tt; none = inr (λ o (utf8, written). broken utf8) }
+  broken_told fault refused broken =
+      record { stands = tt; none = inr (λ o (utf8, written). broken utf8); whole = refused }
 
   module _ {J : Type 0} (seen : List ℕ) (same : seen ≡ bytes) where
     pub text_told : (o : O) → IsUtf8 bytes → IsTextOf {I = J} inner_kind text (chars seen) (Ok o)
@@ -119,18 +119,19 @@ module _ {I O X : Type 0} {inner_kind : X → Kind} (text : Text ℕ O) (bytes :
     unfolding InUtf8
     text_told o utf8 told =
         let P : List ℕ → Type 0 = λ l. text o (chars l) in
-        record { stands = (utf8, subst P same told.stands); none = tt }
+        record { stands = (utf8, subst P same told.stands); none = tt; whole = tt }
 
     pub fault_told : {kind : X → Kind} (fault : ParseFault J X Needed)
         (other : ParseFault I X Needed) → IsTextOf kind text (chars seen) (Err fault)
-        → (IsWant kind fault → IsWant inner_kind other)
+        → (IsWant kind fault → IsWant inner_kind other) → (IsRefused fault → IsRefused other)
         → IsTextOf inner_kind (InUtf8 text) bytes (Err other)
     unfolding InUtf8
-    fault_told fault other told wants = record {
+    fault_told fault other told wants refuses = record {
       stands = tt;
       none = elim told.none [
         | inl want ↦ inl (wants want)
         | inr none ↦ inr (λ o (utf8, written).
             let P : List ℕ → Type 0 = λ l. text o (chars l) in none o (subst P (sym same) written))
       ];
+      whole = refuses told.whole;
     }

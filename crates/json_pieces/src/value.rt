@@ -1,23 +1,26 @@
 //! Values of JSON (RFC 8259) that bytes begin with, and texts of JSON in bytes.
+ghost use Rattle.json_pieces.specs.Begun.{IsBegun};
 ghost use Rattle.json_pieces.specs.Told.{Fails, Stands};
 ghost use Rattle.json_pieces.specs.Value.{AreNumerals, HasInner, InUtf8, IsNext, IsNumeral};
 ghost use Rattle.json_pieces.specs.Value.{IsRefusedAt, IsValueIn};
+ghost use Rattle.json_pieces.specs.declared.begun.Mode.TheVariants as modes;
 ghost use Rattle.json_texts.specs.Number.{GoesOn};
 ghost use Rattle.json_texts.specs.Values.{JsonText, ValueText};
 ghost use Rattle.std.specs.List.{All};
-ghost use Rattle.std.specs.Prelude.{◌≡◌, ◌≤◌, ◌↔◌, ◌++◌, ℕ, List, length, false, IfErr, IfOk};
+ghost use Rattle.std.specs.Prelude.{◌≡◌, ◌≤◌, ◌↔◌, ◌++◌, ℕ, List, length, false, IfErr, IfOk, []};
 ghost use Rattle.std.specs.Prelude.{IsTrue, Some};
 ghost use Rattle.std.specs.Str.{IsUtf8, chars};
 ghost use Rattle.std.specs.Str.Lossy.{utf8_valid_len};
 ghost use Rattle.winnow.specs.AsChar.{IsMultispace};
 ghost use Rattle.winnow.specs.Bytes.{bytes_follow, bytes_reading};
 ghost use Rattle.winnow.specs.Cut.{Asks, ReadsOrAsks};
-ghost use Rattle.winnow.specs.Exact.Whole.{IsWant};
+ghost use Rattle.winnow.specs.Exact.Whole.{IsRefused, IsWant};
 ghost use Rattle.winnow.specs.Grammar.{IsUnique};
 ghost use Rattle.winnow.specs.Accumulator.Holds.{HasCharacters};
 ghost use Rattle.winnow.specs.Texts.{Begins, IsGrammarOf, NotFirst};
 ghost use Rattle.winnow.specs.Told.{IsTextOf};
 
+use crate::begun::lacking;
 use crate::extent::{Lack, text_of};
 use json_texts::value::Value;
 use json_values::value::{parse_value, read_value};
@@ -50,10 +53,12 @@ fn value_in<'i, A: Allocator + Copy>(
     ensures asks { IfErr result (λ e. Asks (⟦<ErrMode<EmptyError> as HasKind>⟧.kind e)
         → (v : Value A) (rest : List ℕ) → IsValueIn level bytes.now v rest
         → All IsNumeral bytes.now) }
+    ensures begun { IfErr result (λ e. Asks (⟦<ErrMode<EmptyError> as HasKind>⟧.kind e)
+        → IsBegun level modes.Value [] bytes.now) }
 {
     let text = match text_of(bytes, cut) {
         Ok((text, _)) => text,
-        Err(Lack::Bytes) => return Err(ErrMode::Incomplete(Needed::Unknown)),
+        Err(Lack::Bytes) => return Err(lacking(alloc, level, bytes)),
         Err(Lack::Text) => return Err(ErrMode::from_input(&bytes)),
     };
     let mut left = match str::from_utf8(text) {
@@ -104,6 +109,8 @@ fn next_in<'i, A: Allocator + Copy>(
     ensures asks { IfErr result (λ e. Asks (⟦<ErrMode<EmptyError> as HasKind>⟧.kind e)
         → (v : Value A) (rest : List ℕ) → IsNext level bytes.now (Some v) rest
         → AreNumerals bytes.now) }
+    ensures begun { IfErr result (λ e. Asks (⟦<ErrMode<EmptyError> as HasKind>⟧.kind e)
+        → IsBegun level modes.Value [] bytes.now) }
 {
     let start = behind_gap(bytes);
     if start.is_empty() {
@@ -127,13 +134,16 @@ fn next_in<'i, A: Allocator + Copy>(
 /// The bytes of the value are to be UTF-8; what is behind them is not looked at. A number ends
 /// where neither a digit, a point nor an `e` or `E` is behind it, else no value stands there.
 ///
-/// `Incomplete` where the text of the value may go on behind the bytes, or there are none, and more
-/// may come: then none of the level stands in them, or they are the bytes of a number. (That it is
-/// asked where no value stands whatever comes, as of a bracket that closes, the clauses allow; that
-/// it is not is tested.) So a caller bounds how many it holds: of text that never closes more is
-/// asked for again and again, and what is there is read anew each time. Another error backtracks:
-/// no value of the level stands first, whatever comes behind the bytes; or it wants memory, where a
-/// request was refused. All of them leave the input as it was.
+/// `Incomplete` where the bytes, or none, begin the text of a value of the level that may go on
+/// behind them, and more may come: then none of the level stands in them, or they are the bytes of
+/// a number. Each byte is one that such a text may have there, by a walk over the bytes with the
+/// brackets that are open (clause `begun`, by `IsBegun`): so of `[x`, `[1,,` or `01` no more is
+/// asked for. (That bytes which go on so always are those of some value is tested, and not proved.)
+/// A caller bounds how many bytes it holds: of text that never closes more is asked for again and
+/// again, and what is there is read anew each time. Another error backtracks: no value of the level
+/// stands first, whatever comes behind the bytes; or it wants memory, where a request was refused.
+/// All of them leave the input as it was. Each level takes some of the stack: up to
+/// [`SAFE_LEVEL`](json_values::value::SAFE_LEVEL) two megabytes suffice.
 ///
 /// ```
 /// use json_pieces::value::read_value_in_pieces;
@@ -144,6 +154,9 @@ fn next_in<'i, A: Allocator + Copy>(
 /// let mut piece = Partial::new(b"[1, \"a]".as_slice());
 /// let asks = read_value_in_pieces(alloc, 1, &mut piece);
 /// assert!(rt; matches!(asks, Err(ErrMode::Incomplete(_))));
+/// let mut never = Partial::new(b"[1,,".as_slice());
+/// let refused = read_value_in_pieces(alloc, 1, &mut never);
+/// assert!(rt; matches!(refused, Err(ErrMode::Backtrack(_))));
 /// let mut more = Partial::new(b"[1, \"a]\"]{".as_slice());
 /// let value = read_value_in_pieces(alloc, 1, &mut more);
 /// assert!(rt; matches!(value, Ok(Value::Array(items)) if items.len() == 2));
@@ -161,6 +174,9 @@ pub fn read_value_in_pieces<'i, A: Allocator + Copy>(
         → (v : Value A) (rest : List ℕ) → IsValueIn level
         (⟦<Partial<&'static [u8]> as Stream>⟧.view input.old).left.tokens v rest
         → All IsNumeral (⟦<Partial<&'static [u8]> as Stream>⟧.view input.old).left.tokens) }
+    ensures begun { IfErr result (λ e. Asks (⟦<ErrMode<EmptyError> as HasKind>⟧.kind e)
+        → IsBegun level modes.Value []
+        (⟦<Partial<&'static [u8]> as Stream>⟧.view input.old).left.tokens) }
     ensures kept { IfErr result (λ e. ⟦<Partial<&'static [u8]> as Stream>⟧.view input.new
         ≡ ⟦<Partial<&'static [u8]> as Stream>⟧.view input.old) }
 {
@@ -182,8 +198,8 @@ pub fn read_value_in_pieces<'i, A: Allocator + Copy>(
 /// A value may stand right behind another, as in `[1][2]`; a number behind a number only where it
 /// has a minus, as in `1-2`.
 ///
-/// Errors are those of [`read_value_in_pieces`], and leave the input as it was, the white space
-/// too. Of white space alone more is asked for, where more may come.
+/// The level and errors are those of [`read_value_in_pieces`]; errors leave the input as it was,
+/// the white space too. Of white space alone more is asked for, where more may come.
 ///
 /// ```
 /// use json_pieces::value::read_next_in_pieces;
@@ -211,6 +227,9 @@ pub fn read_next_in_pieces<'i, A: Allocator + Copy>(
         → (v : Value A) (rest : List ℕ) → IsNext level
         (⟦<Partial<&'static [u8]> as Stream>⟧.view input.old).left.tokens (Some v) rest
         → AreNumerals (⟦<Partial<&'static [u8]> as Stream>⟧.view input.old).left.tokens) }
+    ensures begun { IfErr result (λ e. Asks (⟦<ErrMode<EmptyError> as HasKind>⟧.kind e)
+        → IsBegun level modes.Value []
+        (⟦<Partial<&'static [u8]> as Stream>⟧.view input.old).left.tokens) }
     ensures kept { IfErr result (λ e. ⟦<Partial<&'static [u8]> as Stream>⟧.view input.new
         ≡ ⟦<Partial<&'static [u8]> as Stream>⟧.view input.old) }
 {
@@ -233,6 +252,7 @@ fn refused<'i>(
 ) -> ParseFault<&'i [u8], EmptyError>
     ensures inner { HasInner inner result }
     ensures place { offset ≤ length bytes.now → IsRefusedAt offset result }
+    ensures whole { IsRefused result }
 {
     let (_, left) = bytes.split_at(offset.min(bytes.len()));
     ParseFault::Refused(ParseError::new(left, bytes.checkpoint(), inner))
@@ -243,8 +263,9 @@ fn in_bytes<'i>(
     bytes: &'i [u8],
     fault: ParseFault<&'i str, EmptyError>,
 ) -> ParseFault<&'i [u8], EmptyError>
-    ensures { IsWant ⟦<ErrMode<EmptyError> as ParserError<&'i str>>⟧.inner_kind fault.entry
+    ensures wants { IsWant ⟦<ErrMode<EmptyError> as ParserError<&'i str>>⟧.inner_kind fault.entry
         → IsWant ⟦<ErrMode<EmptyError> as ParserError<&'i [u8]>>⟧.inner_kind result }
+    ensures whole { IsRefused fault.entry → IsRefused result }
 {
     match fault {
         ParseFault::Refused(error) => {
@@ -256,7 +277,8 @@ fn in_bytes<'i>(
 }
 
 /// The value of a text of JSON in bytes, where all of them are the UTF-8 of one: a value, in which
-/// no more than `level` arrays and objects stand in one another, with white space round it.
+/// no more than `level` arrays and objects stand in one another, with white space round it. Each
+/// level takes some of the stack, as of [`read_value_in_pieces`].
 ///
 /// Else a fault, at a byte: behind the longest front that is UTF-8 where not all is, else where
 /// `json_values::value::parse_value` stops. Or it says that a request for memory was refused.

@@ -1,5 +1,6 @@
 use Rattle.std.proofs.Common.{arith, sym}
 use Rattle.std.proofs.lemmas.Bool.{eqb-false, eqb-true}
+use Rattle.json_pieces.specs.Passing.{asks_next, asks_white}
 use Rattle.json_pieces.specs.Read.{next_fails, next_numerals, next_stands, none_next}
 use Rattle.json_pieces.proofs.value.next_in.Goals as goal
 
@@ -25,3 +26,13 @@ pub returns-in-Err-clause-asks : goal.returns-in-Err-clause-asks
 returns-in-Err-clause-asks g c asks =
     let (gap, splits, all, not) = c.behind_gap-start.ensures in
     next_numerals c.args.level _ gap _ (splits, all, not) (c.in-Err.ensures.asks asks)
+
+pub returns-in-Err-clause-begun : goal.returns-in-Err-clause-begun
+returns-in-Err-clause-begun g c asks =
+    let (gap, splits, all, not) = c.behind_gap-start.ensures in
+    asks_next c.args.level _ gap _ splits all (c.in-Err.ensures.begun asks)
+
+pub returns-then-cut-clause-begun : goal.returns-then-cut-clause-begun
+returns-then-cut-clause-begun g c asks =
+    let (gap, splits, all, not) = c.behind_gap-start.ensures in
+    asks_white c.args.level _ gap _ splits all (eqb-true _ 0 (sym c.if-is_empty.ensures))

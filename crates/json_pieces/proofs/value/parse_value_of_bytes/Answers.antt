@@ -5,7 +5,8 @@ use Rattle.json_pieces.proofs.value.parse_value_of_bytes.Goals as goal
 
 pub returns-in-Err-clause-text : goal.returns-in-Err-clause-text
 returns-in-Err-clause-text g c =
-    broken_told (JsonText HasCharacters c.args.level) _ _ c.in-Err.ensures.cases.0
+    broken_told (JsonText HasCharacters c.args.level) _ _ c.refused.ensures.whole
+    c.in-Err.ensures.cases.0
 
 pub returns-in-Ok-parse_value-clause-text : goal.returns-in-Ok-parse_value-clause-text
 returns-in-Ok-parse_value-clause-text g c =
@@ -15,4 +16,4 @@ returns-in-Ok-parse_value-clause-text g c =
 pub returns-in-Err-parse_value-clause-text : goal.returns-in-Err-parse_value-clause-text
 returns-in-Err-parse_value-clause-text g c =
     fault_told (JsonText HasCharacters c.args.level) _ _ c.in-Ok.ensures.cases.0 _ _
-    c.in-Err-parse_value.ensures.text c.in_bytes.ensures
+    c.in-Err-parse_value.ensures.text c.in_bytes.ensures.wants c.in_bytes.ensures.whole

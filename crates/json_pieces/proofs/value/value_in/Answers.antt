@@ -4,6 +4,7 @@ use Rattle.std.proofs.lemmas.List.{take_rest}
 use Rattle.std.specs.Str.{IsUtf8, chars}
 use Rattle.json_pieces.specs.Read.{no_longer, none_ends, none_in_bytes, none_in_text, none_on}
 use Rattle.json_pieces.specs.Read.{numerals_lack, some_stands}
+use Rattle.json_pieces.specs.Passing.{asks_begun, none_begun}
 use Rattle.json_pieces.proofs.value.value_in.Goals as goal
 
 pub returns-in-Err-Text-clause-none : goal.returns-in-Err-Text-clause-none
@@ -64,3 +65,19 @@ pub returns-in-Err-Bytes-clause-asks : goal.returns-in-Err-Bytes-clause-asks
 returns-in-Err-Bytes-clause-asks g c asks =
     numerals_lack c.args.level _
     (c.in-Err-Bytes.ensures.lack.0 c.in-Err-Bytes.field-0-is).1
+
+pub returns-in-Err-Bytes-clause-none : goal.returns-in-Err-Bytes-clause-none
+returns-in-Err-Bytes-clause-none g c =
+    let cut = (c.in-Err-Bytes.ensures.lack.0 c.in-Err-Bytes.field-0-is).0 in
+    elim c.lacking.ensures [
+      | inl wants ↦ inl wants
+      | inr (inl (asks, begun)) ↦ inr (inl (asks, cut))
+      | inr (inr (backtracks, not)) ↦ inr (inr (
+        backtracks,
+        λ more allowed. none_begun c.args.level c.args.bytes.now not more,
+      ))
+    ]
+
+pub returns-in-Err-Bytes-clause-begun : goal.returns-in-Err-Bytes-clause-begun
+returns-in-Err-Bytes-clause-begun g c asks =
+    asks_begun c.args.level c.args.bytes.now _ c.lacking.ensures asks
