@@ -34,7 +34,7 @@ def rows():
     found = {}
     for line in (TOP / "docs/PARSERS.md").read_text(encoding="utf-8").splitlines():
         cells = [cell.strip() for cell in line.strip("|").split("|")]
-        if not line.startswith("| `") or len(cells) < 2:
+        if not re.match(r"\| \[?`", line) or len(cells) < 2:
             continue
         links = re.findall(r"\]\(\.\./([^)]+)\)", line)
         for name in re.findall(r"`(\w+)`", cells[0]) if links else ():

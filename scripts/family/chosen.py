@@ -68,9 +68,11 @@ ghost use Rattle.winnow_binary.specs.Chosen.{{ChosenRuns}};
 ghost use Rattle.winnow_integers.specs.Integer.{{{value}}};
 ghost use Rattle.winnow_integers.specs.Integer.Grammar.{{Integer, integer_takes}};
 ghost use Rattle.winnow_integers.specs.Integer.Laws.{{integer_alike, integer_ends, integer_exact}};
-ghost use Rattle.winnow_integers.specs.Integer.Laws.{{integer_soft, integer_stays, some_bytes}};
+ghost use Rattle.winnow_integers.specs.Integer.Laws.{{integer_decided, integer_fails, integer_stays}};
+ghost use Rattle.winnow_integers.specs.Integer.Laws.{{some_bytes}};
 ghost use Rattle.winnow_integers.specs.declared.binary.endianness.Endianness.{{Endianness}};
 ghost use Rattle.winnow_core.specs.Agrees.{{agrees_by}};
+ghost use Rattle.winnow_core.specs.Exact.Allowed.{{backs}};
 ghost use Rattle.winnow_core.specs.Stable.Grows.{{leaf_stays}};
 
 use std::marker::PhantomData;

@@ -1,5 +1,5 @@
 """What tuples of two to six parsers claim, in the crate `winnow_core`."""
-from family.common import MOST, NEVER_TAKES, NOT_DECIDED, NUMBER, UNDECIDED
+from family.common import MOST, NEVER_TAKES, NUMBER
 from family.common import conjunction, record, tuple_type, write
 from family.decided import ALIKE
 from family.exact import LARGE, WORDS, numbered, prefix, spaced, sums, whole, word
@@ -14,6 +14,7 @@ def claim(n):
     fields = {
         "premise": conjunction(numbered("c#.premise", n)),
         "backtracks": conjunction(numbered("c#.backtracks", n)),
+        "spares_memory": conjunction(numbered("c#.spares_memory", n)),
         "consumes": sums("c#.consumes", n),
         "grammar": "%s %s" % (word(n), spaced("c#.grammar", n)),
         "decides": conjunction(numbered("c#.decides", n)),
@@ -55,11 +56,12 @@ def claimed(n):
     name, exact = prefix(n), spaced("(h#.exact form is.@)", n)
     output = "(%s) " % whole(n) if n < 4 else ""
     also = "(%s %s) %s" % (ALIKE[n], spaced("c#.alike", n), JOINED[n]) if n < 4 else ""
-    soft = [*numbered("(h#.exact form is.@)", n - 1), *numbered("(h#.soft form is.@ soft.@)", n)]
+    part = "(fails_as (λ b. b.@) (λ m. m.@) (h#.fails form is.@))"
+    fails = [*numbered("(h#.exact form is.@)", n - 1), *numbered(part, n)]
     takes = "%s%s (%s some)" % (output, spaced("(h#.exact modal is.@)", n), either_way(n))
     fields = {
         "exact": "λ form is. %s_exact %s" % (name, exact),
-        "soft": "λ form is soft. %s_soft %s" % (name, " ".join(soft)),
+        "fails": "λ form is. %s_fails %s" % (name, " ".join(fails)),
         "takes": "λ is some. %s_takes %s" % (name, takes),
         "decided": "λ form is. %s_decided %s%s" % (name, also, spaced("(h#.decided form is.@)", n)),
     }
@@ -79,18 +81,20 @@ NOTHING_CLAIMS = {
         {
             "premise": "⊤",
             "backtracks": "⊤",
+            "spares_memory": "⊤",
             "consumes": "⊥",
             "grammar": "Nothing tt",
-            **UNDECIDED,
+            "decides": "⊤",
+            "alike": "λ (_ _ : ⊤). ⊤",
         },
     ),
     "claimed": record(
         "claimed",
         {
             "exact": "λ form is. unit_exact",
-            "soft": "λ form is soft. unit_soft",
+            "fails": "λ form is. backs unit_fails",
             "takes": NEVER_TAKES,
-            **NOT_DECIDED,
+            "decided": "λ form is. unit_decided",
         },
     ),
 }
@@ -98,16 +102,17 @@ CHILD = "(P1.meaning form) (record { 0 = s.0 })"
 ONE_CLAIMS = {
     "claim": record(
         "claim",
-        {it: "(P1.claim s.0).%s" % it for it in ("premise", "backtracks", "consumes")}
-        | {"grammar": "Made OneTuple tt (P1.claim s.0).grammar", **UNDECIDED},
+        {it: "(P1.claim s.0).%s" % it for it in ("premise", "backtracks", "spares_memory", "consumes")}
+        | {"grammar": "Made OneTuple tt (P1.claim s.0).grammar"}
+        | {"decides": "(P1.claim s.0).decides", "alike": "AlikeOne (P1.claim s.0).alike"},
     ),
     "claimed": record(
         "claimed",
         {
             "exact": "λ form is. tuple1_exact %s ((P1.claimed s.0).exact form is)" % CHILD,
-            "soft": "λ form is soft. tuple1_soft %s ((P1.claimed s.0).soft form is soft)" % CHILD,
+            "fails": "λ form is. tuple1_fails %s ((P1.claimed s.0).fails form is)" % CHILD,
             "takes": "λ is some. made_of_takes OneTuple tt ((P1.claimed s.0).takes is some)",
-            **NOT_DECIDED,
+            "decided": "λ form is. tuple1_decided %s ((P1.claimed s.0).decided form is)" % CHILD,
         },
     ),
 }
@@ -129,11 +134,12 @@ use Rattle.grammars.specs.Grammar.{{Both, Three}}
 use Rattle.grammars.specs.Grammar.Tuples.{{{words}}}
 use Rattle.stream_errors.specs.Form.{{modal}}
 use Rattle.winnow_core.specs.Claim.{{Claim, Claimed}}
+use Rattle.winnow_core.specs.Exact.Allowed.{{fails_as}}
 use Rattle.winnow_core.specs.Exact.Along.{{either_way}}
 use Rattle.winnow_core.specs.InOrder.Decided.{{AlikePairs, AlikeTriples, both_decided}}
 use Rattle.winnow_core.specs.InOrder.Decided.{{three_decided}}
-use Rattle.winnow_core.specs.InOrder.Exact.{{both_exact, both_soft, both_takes}}
-use Rattle.winnow_core.specs.InOrder.Three.{{three_exact, three_soft, three_takes}}
+use Rattle.winnow_core.specs.InOrder.Exact.{{both_exact, both_fails, both_takes}}
+use Rattle.winnow_core.specs.InOrder.Three.{{three_exact, three_fails, three_takes}}
 use Rattle.winnow_core.specs.Runs.{{Meaning}}
 use Rattle.winnow_core.specs.Sequence.{{{runs}}}
 use Rattle.winnow_core.specs.Sequence.Decided.{{{decided}}}
@@ -143,7 +149,7 @@ use Rattle.winnow_core.specs.Sequence.Decided.{{{decided}}}
 """
 
 
-LAWS = "use Rattle.winnow_core.specs.Sequence.Exact.{tuple%d_exact, tuple%d_soft, tuple%d_takes}"
+LAWS = "use Rattle.winnow_core.specs.Sequence.Exact.{tuple%d_exact, tuple%d_fails, tuple%d_takes}"
 FAMILY = "-- %s\n%s\n\n-- that is kept\n%s"
 
 

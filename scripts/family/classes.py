@@ -88,6 +88,7 @@ def class_claims(is_member, least):
     claim = {
         "premise": "SeesApart I.seen_as",
         "backtracks": "⊤",
+        "spares_memory": "⊤",
         "consumes": "⊤" if least else "⊥",
         "grammar": "Class %s" % parts,
         "decides": "SeenOnce I.seen_as I.Token.code",
@@ -95,7 +96,7 @@ def class_claims(is_member, least):
     }
     claimed = {
         "exact": "λ form is. class_exact %s form is" % parts,
-        "soft": "λ form is soft. class_soft %s form" % parts,
+        "fails": "λ form is. backs (class_fails %s form)" % parts,
         "takes": "λ is some. class_takes %s one_is_some" % parts if least else NEVER_TAKES,
         "decided": "λ form is. class_decided %s form is" % parts,
     }
@@ -111,9 +112,10 @@ ghost use Rattle.stream_sets.specs.Once.{{SeesApart}};
 ghost use Rattle.stream_sets.specs.Range.{{from_to}};
 ghost use Rattle.grammars.specs.Grammar.{{Class}};
 ghost use Rattle.winnow_ascii.specs.Class.{{ClassRuns}};
-ghost use Rattle.winnow_ascii.specs.Class.Laws.{{SeenOnce, class_decided, class_exact, class_soft}};
+ghost use Rattle.winnow_ascii.specs.Class.Laws.{{SeenOnce, class_decided, class_exact, class_fails}};
 ghost use Rattle.winnow_ascii.specs.Class.Laws.{{{laws}}};
 ghost use Rattle.winnow_core.specs.Agrees.{{agrees_plain}};
+ghost use Rattle.winnow_core.specs.Exact.Allowed.{{backs}};
 ghost use Rattle.winnow_core.specs.Literal.Laws.{{ShowSame}};
 ghost use Rattle.winnow_core.specs.Runs.{{Keeps}};
 ghost use Rattle.winnow_core.specs.Stable.Grows.{{leaf_stays}};

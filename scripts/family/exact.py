@@ -161,7 +161,7 @@ def exact_lemmas(n):
     grammars = " ".join("{g%d : Grammar T O%d}" % (k, k) for k in upto(n))
     exact = " → ".join("IsExact s.%d run%d g%d" % (k - 1, k, k) for k in upto(n))
     earlier = " → ".join("IsExact s.%d run%d g%d" % (k - 1, k, k) for k in upto(n - 1))
-    soft = " → ".join("IsSoft s.%d run%d" % (k - 1, k) for k in upto(n))
+    fails = " → ".join("FailsBy allowed s.%d run%d" % (k - 1, k) for k in upto(n))
     arguments = spaced("run#", n)
     whole_run = "SequenceRuns%d %s" % (n, arguments)
     cs, fs = spaced("c#", n), spaced("f#", n)
@@ -172,7 +172,8 @@ def exact_lemmas(n):
     )
     there = "(there%d %s s)" % (n, arguments)
     front = "(%s_exact %s)" % (prefix(n - 1), spaced("c#", n - 1))
-    softs = "(%s_soft %s %s)" % (prefix(n - 1), spaced("c#", n - 2), spaced("f#", n - 1))
+    fronts = "(%s_fails %s %s)" % (prefix(n - 1), spaced("c#", n - 2), spaced("f#", n - 1))
+    given = " ".join("{g%d : Grammar T O%d}" % (k, k) for k in upto(n - 1))
     return "\n".join(
         [
             "module _ {%s : Type 0} %s {s : %s} where" % (types, runs, states),
@@ -180,8 +181,8 @@ def exact_lemmas(n):
             "  tuple%d_exact %s %s = exact_along %s %s %s (exact_as (same%d %s) (both_exact %s c%d))"
             % (n, spaced("{g#}", n), cs, to_split(n), back, there, n, spaced("g#", n), front, n),
             "",
-            "  pub tuple%d_soft : %s → %s → %s → IsSoft s (%s)" % (n, " ".join("{g%d : Grammar T O%d}" % (k, k) for k in upto(n - 1)), earlier, soft, whole_run),
-            "  tuple%d_soft %s %s = soft_along %s %s (both_soft %s %s f%d)" % (n, spaced("c#", n - 1), fs, to_split(n), there, front, softs, n),
+            "  pub tuple%d_fails : %s {allowed : Kind → Type 0} → %s → %s → FailsBy allowed s (%s)" % (n, given, earlier, fails, whole_run),
+            "  tuple%d_fails %s %s = fails_along %s %s (both_fails %s %s f%d)" % (n, spaced("c#", n - 1), fs, to_split(n), there, front, fronts, n),
         ]
     )
 
@@ -220,16 +221,17 @@ LEMMAS = """-- What tuples of four to six parsers read: what all but the last re
 use Rattle.std.specs.Prelude.{{◌⊎◌}}
 use Rattle.std.proofs.Common.{{refl, ap, inl, inr, ◌∙◌}}
 use Rattle.streams.specs.Input.{{Input}}
+use Rattle.streams.specs.Kind.{{Kind}}
 use Rattle.grammars.specs.Grammar.{{Both, Grammar, Takes, Three}}
 use Rattle.grammars.specs.Grammar.Same.{{Same, takes_as}}
 use Rattle.grammars.specs.Grammar.Tuples.{{{words}}}
 use Rattle.stream_errors.specs.Form.{{Answer}}
-use Rattle.winnow_core.specs.Exact.{{IsExact, IsSoft}}
-use Rattle.winnow_core.specs.Exact.Along.{{either_way, exact_along, soft_along}}
+use Rattle.winnow_core.specs.Exact.{{FailsBy, IsExact}}
+use Rattle.winnow_core.specs.Exact.Along.{{either_way, exact_along, fails_along}}
 use Rattle.winnow_core.specs.Exact.Same.{{exact_as}}
 use Rattle.winnow_core.specs.InOrder.{{BothRuns, ThreeRuns}}
-use Rattle.winnow_core.specs.InOrder.Exact.{{both_exact, both_soft, both_takes}}
-use Rattle.winnow_core.specs.InOrder.Three.{{three_exact, three_soft, three_takes}}
+use Rattle.winnow_core.specs.InOrder.Exact.{{both_exact, both_fails, both_takes}}
+use Rattle.winnow_core.specs.InOrder.Three.{{three_exact, three_fails, three_takes}}
 use Rattle.winnow_core.specs.Runs.{{Runs}}
 use Rattle.winnow_core.specs.Sequence.{{{names}}}
 

@@ -1,5 +1,5 @@
 """What integers as bytes claim."""
-from family.common import NOT_DECIDED, UNDECIDED, record
+from family.common import record
 
 
 def integer_claims(one, order, by, state):
@@ -11,15 +11,17 @@ def integer_claims(one, order, by, state):
     claim = {
         "premise": "⊤",
         "backtracks": "⊤",
+        "spares_memory": "⊤",
         "consumes": "⊤",
         "grammar": "Integer %d %s" % (one.width, value),
-        **UNDECIDED,
+        "decides": "⊤",
+        "alike": "λ o p. o ≡ p",
     }
     claimed = {
         "exact": "λ form is. integer_exact %s" % laws,
-        "soft": "λ form is soft. integer_soft %s" % laws,
+        "fails": "λ form is. backs (integer_fails %s)" % laws,
         "takes": "λ is some. integer_takes %d %s %s" % (one.width, value, some),
-        **NOT_DECIDED,
+        "decided": "λ form is. integer_decided %s" % laws,
     }
     return {"claim": record("claim", claim), "claimed": record("claimed", claimed)}
 

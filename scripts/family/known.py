@@ -1,5 +1,5 @@
 """What a caller knows of one run of a sequence that answered, in the crate `winnow_core`."""
-from family.common import BETWEEN, MOST, NUMBER, conjunction, tuple_type, upto, write
+from family.common import BETWEEN, NUMBER, conjunction, tuple_type, upto, write
 
 
 def inputs_of(k, n):
@@ -127,26 +127,8 @@ def known_err(n):
     return "\n".join(lines)
 
 
-def known_told(n):
-    """What is said of the children's outputs is said where a call answers one."""
-    outputs = ["O%d" % k for k in upto(n)]
-    shared = " ".join("{%s : %s}" % (" ".join(group), relation) for group, relation in relations(n))
-    children = " ".join("(o%d : O%d)" % (k, k) for k in upto(n))
-    inputs = " ".join("(%s : Input T)" % x for x in BETWEEN[: n - 1])
-    runs = " → ".join("Ran%d %s" % (k, " ".join(["o%d" % k] + inputs_of(k, n))) for k in upto(n))
-    made = ", ".join("o%d" % k for k in upto(n))
-    lines = [
-        "pub sequence%d_told : {T %s E : Type 0} %s (kind : E → Kind) (P : %s → Type 0) (result : Result (%s) E) → SequenceCases%d %s (answer_by kind result) → (%s %s → %s → P (%s)) → IfOk result P" % (
-            n, " ".join(outputs), shared, tuple_type(outputs), tuple_type(outputs), n, " ".join(names(n)), children, inputs, runs, made,
-        ),
-        "sequence%d_told kind P (Ok o) ran told = let (%s) = sequence%d_ok o ran in told %s" % (
-            n, ", ".join(list(BETWEEN[: n - 1]) + ["r%d" % k for k in upto(n)]), n,
-            " ".join(["o.%d" % (k - 1) for k in upto(n)] + list(BETWEEN[: n - 1]) + ["r%d" % k for k in upto(n)]),
-        ),
-        "sequence%d_told kind P (Err e) ran told = tt" % n,
-    ]
-    return "\n".join(lines)
-
+# Lemmas stand for the lengths that something cites.
+CITED = (3, 4, 5)
 
 SEQUENCE_CASES = """-- The runs of sequences by what they relate: an output or a kind, and the inputs between the children. A caller's run is found by these, whatever its children are. That the children which did not run keep their states is Kept.
 -- {head}
@@ -158,25 +140,22 @@ use Rattle.stream_errors.specs.Form.{{Answer}}
 {family}
 """
 
-SEQUENCE_KNOWN = """-- What a caller knows of one run of a sequence that answered: where it succeeded all children did, each where the one before it stopped; where it failed one did, by that kind, and those before it succeeded; and what is said of the children's outputs is said where a call answers one.
+SEQUENCE_KNOWN = """-- What a caller knows of one run of a sequence that answered: where it succeeded all children did, each where the one before it stopped; where it failed one did, by that kind, and those before it succeeded.
 -- {head}
-use Rattle.std.specs.Prelude.{{Result, Ok, Err, IfOk, ◌⊎◌}}
+use Rattle.std.specs.Prelude.{{Ok, Err, ◌⊎◌}}
 use Rattle.std.proofs.Common.{{refl, inl, inr}}
 use Rattle.streams.specs.Input.{{Input}}
 use Rattle.streams.specs.Kind.{{Kind}}
-use Rattle.stream_errors.specs.Form.{{answer_by}}
 use Rattle.stream_errors.specs.Form.Known.{{at_kind, at_output, ok_is_err}}
 use Rattle.winnow_core.specs.Sequence.Cases.{{{names}}}
 
 {family}
-
-pub ruleset known_sequences = ({lemmas})
 """
 
 
 def write_known():
     core = "crates/winnow_core/specs/Sequence/"
-    some = range(2, MOST + 1)
+    some = CITED
     write(
         core + "Cases.antt",
         SEQUENCE_CASES,
@@ -186,6 +165,5 @@ def write_known():
         core + "Known.antt",
         SEQUENCE_KNOWN,
         names=", ".join("SequenceCases%d" % n for n in some),
-        family="\n\n".join("-- %s children\n%s\n\n%s\n\n%s" % (NUMBER[n], known_ok(n), known_err(n), known_told(n)) for n in some),
-        lemmas=", ".join("sequence%d_%s" % (n, way) for n in some for way in ("ok", "err", "told")),
+        family="\n\n".join("-- %s children\n%s\n\n%s" % (NUMBER[n], known_ok(n), known_err(n)) for n in some),
     )

@@ -110,7 +110,7 @@ def leaves(n):
 
 
 # Lemmas stand for the lengths that something cites.
-CITED = (2, 4, 5)
+CITED = (4, 5)
 
 SEQUENCES = """-- A sequence of parsers that read does so: its output shows what theirs show, in order.
 -- {head}

@@ -203,8 +203,10 @@ ghost use Rattle.grammars.specs.Grammar.Unique.{{made_of_takes}};
 ghost use Rattle.winnow_core.specs.Agrees.{{agrees_plain}};
 ghost use Rattle.winnow_core.specs.Agrees.Sizes.{{{agreements}}};
 ghost use Rattle.winnow_core.specs.Ends.{{same_ends}};
-ghost use Rattle.winnow_core.specs.Exact.Nothing.{{unit_exact, unit_soft}};
-ghost use Rattle.winnow_core.specs.InOrder.Exact.{{OneTuple, tuple1_exact, tuple1_soft}};
+ghost use Rattle.winnow_core.specs.Exact.Allowed.{{backs}};
+ghost use Rattle.winnow_core.specs.Exact.Nothing.{{unit_decided, unit_exact, unit_fails}};
+ghost use Rattle.winnow_core.specs.InOrder.Decided.{{AlikeOne, tuple1_decided}};
+ghost use Rattle.winnow_core.specs.InOrder.Exact.{{OneTuple, tuple1_exact, tuple1_fails}};
 ghost use Rattle.winnow_core.specs.SameMeaning.{{same_refl}};
 ghost use Rattle.winnow_core.specs.Sequence.{{{names}}};
 {claims}

@@ -56,6 +56,18 @@ def items_of(path, kinds="fn|struct|trait|enum|const|type"):
     return sorted(set(names), key=in_order)
 
 
+def split(text):
+    """The parts of a list with commas, where those within brackets divide nothing."""
+    depth, parts = 0, [""]
+    for at, sign in enumerate(text):
+        depth += (sign in "<([") - (sign in ">)]" and text[at - 1] != "-")
+        if sign == "," and not depth:
+            parts.append("")
+        else:
+            parts[-1] += sign
+    return [it.strip() for it in parts if it.strip()]
+
+
 def imports(module, names):
     """A line that makes items of a module public, or more lines where it is long."""
     if len(names) == 1:

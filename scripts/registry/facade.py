@@ -57,21 +57,8 @@ def write_specs():
     write(path, text + "".join(lines))
 
 
-def write_rules():
-    """The rulesets for callers, whose names begin with `known_`."""
-    path = FACADE / "specs/Rules.antt"
-    lines = []
-    for crate in below_winnow():
-        for file in sorted((CRATES / crate / "specs").rglob("*.antt")):
-            names = re.findall(r"^pub ruleset (known_\w+)", read(file), re.MULTILINE)
-            module = ".".join(file.relative_to(CRATES / crate / "specs").with_suffix("").parts)
-            lines += [f"pub use Rattle.{crate}.specs.{module}.{{{it}}}\n" for it in names]
-    write(path, by_hand(path, "--") + "".join(lines))
-
-
 def write_facade():
     for path in sorted((FACADE / "src").rglob("*.rt")):
         if has_mark(path):
             write_module(path)
     write_specs()
-    write_rules()

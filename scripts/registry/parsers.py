@@ -4,7 +4,7 @@ nom's names."""
 import re
 
 from registry.common import CRATES, TOP, below_winnow, by_hand, camel, in_order, items_of
-from registry.common import read, write
+from registry.common import read, split, write
 from registry.facade import title
 from registry.purposes import PURPOSES, SAME, in_nom, others
 
@@ -32,18 +32,6 @@ def closing(text, at, opened, closed):
         if not depth:
             return place + 1
     raise SystemExit(f"{text[at:at + 40]} is not closed")
-
-
-def split(text):
-    """The parts of a list with commas, where those within brackets divide nothing."""
-    depth, parts = 0, [""]
-    for at, sign in enumerate(text):
-        depth += (sign in "<([") - (sign in ">)]" and text[at - 1] != "-")
-        if sign == "," and not depth:
-            parts.append("")
-        else:
-            parts[-1] += sign
-    return [it.strip() for it in parts if it.strip()]
 
 
 def header(path):
@@ -127,7 +115,7 @@ def definition(crate, path):
     raise SystemExit(f"{path}: no definition is found")
 
 
-def row(crate, path, said):
+def row(crate, path, said, reference):
     of = definition(crate, path)
     if path.stem not in said:
         raise SystemExit(f"{path}: {crate} has no documented function {path.stem}")
@@ -135,7 +123,7 @@ def row(crate, path, said):
     nom = ", ".join(f"`{it}`" for it in in_nom(called))
     link = f"[{of.stem}](../{of.relative_to(TOP)})"
     bounds, types, struct = block(path)
-    cells = [f"`{path.stem}`", f"`{called}`", goes(bounds, types), f"`{struct}`", nom, link, about]
+    cells = [reference.of_parser(crate, path.stem), f"`{called}`", goes(bounds, types), f"`{struct}`", nom, link, about]
     return "| " + " | ".join(it.replace("|", "\\|") for it in cells) + " |\n"
 
 
@@ -152,7 +140,7 @@ def table(head, rows):
     return f"\n## {head}\n\n{columns}{''.join(rows)}" if rows else ""
 
 
-def tables():
+def tables(reference):
     """The tables by purpose. What has none stands last, by its crate."""
     left = {path: crate for crate, path in parsers()}
     said = {crate: functions(crate) for crate in below_winnow()}
@@ -163,24 +151,13 @@ def tables():
             for name in names.split() or sorted(mine, key=in_order):
                 if name not in mine:
                     raise SystemExit(f"{crate} has no parser {name}, or it has a purpose already")
-                rows.append(row(crate, mine[name], said[crate]))
+                rows.append(row(crate, mine[name], said[crate], reference))
                 del left[mine[name]]
         yield table(purpose, rows)
     for crate in below_winnow():
-        rows = [row(crate, path, said[crate]) for path, of in left.items() if of == crate]
+        mine = [path for path, of in left.items() if of == crate]
+        rows = [row(crate, path, said[crate], reference) for path in mine]
         yield table(title(crate).rstrip("."), rows)
-
-
-def modules():
-    """The modules of the crate `winnow`, each with what it has."""
-    rows = []
-    for path in sorted((CRATES / "winnow/src").rglob("*.rt")):
-        module = "::".join(path.relative_to(CRATES / "winnow/src").with_suffix("").parts)
-        if module != "lib":
-            rows.append(f"| `winnow::{module}` | {header(path)} |\n")
-    rows.append(f"| `winnow::token` | {header(CRATES / 'winnow_token/src/token.rt')} |\n")
-    rows.append(f"| `winnow::binary::bits` | {header(CRATES / 'winnow_bits/src/bits.rt')} |\n")
-    return f"\n## The modules\n\n| Module | Has |\n|---|---|\n{''.join(sorted(rows))}"
 
 
 def index():
@@ -196,5 +173,6 @@ def index():
     return text
 
 
-def write_parsers():
-    write(PAGE, by_hand(PAGE, "<!--", " -->") + modules() + "".join(tables()) + index())
+def write_parsers(reference):
+    rows = "".join(tables(reference))
+    write(PAGE, by_hand(PAGE, "<!--", " -->") + rows + index())

@@ -4,6 +4,8 @@
 #[cfg(test)]
 mod integers;
 #[cfg(test)]
+mod level;
+#[cfg(test)]
 mod refused;
 #[cfg(test)]
 mod values;

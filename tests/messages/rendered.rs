@@ -92,6 +92,52 @@ fn excerpts(rt: HostRuntime) {
     assert_eq!(rt; position_in(b"\xFF\n\xFFa", 3), Position { line: 2, column: 2 });
 }
 
+/// Bytes, a place, and the line that is shown of it: without the carriage return of `"\r\n"`, and
+/// with every other one. Rust's `str::lines` has the same lines.
+const LINES: &[(&[u8], usize, &[u8])] = &[
+    (b"", 0, b""),
+    (b"\n", 0, b""),
+    (b"\n", 1, b""),
+    (b"ab\ncd", 0, b"ab"),
+    (b"ab\ncd", 2, b"ab"),
+    (b"ab\ncd", 3, b"cd"),
+    (b"ab\ncd", 5, b"cd"),
+    (b"ab\ncd", 9, b"cd"),
+    (b"ab\r\ncd", 0, b"ab"),
+    (b"ab\r\ncd", 2, b"ab"),
+    (b"ab\r\ncd", 3, b"ab"),
+    (b"ab\r\ncd", 4, b"cd"),
+    (b"ab\r", 0, b"ab\r"),
+    (b"ab\r", 2, b"ab\r"),
+    (b"ab\r", 3, b"ab\r"),
+    (b"\r", 1, b"\r"),
+    (b"\r\n", 0, b""),
+    (b"\r\n", 1, b""),
+    (b"\r\n", 2, b""),
+    (b"ab\rcd\n", 4, b"ab\rcd"),
+    (b"ab\r\r\ncd", 1, b"ab\r"),
+    (b"ab\n\rcd", 3, b"\rcd"),
+    (b"ab\ncd\r", 4, b"cd\r"),
+    (b"\xFF\r\n\xFF\r", 0, b"\xFF"),
+    (b"\xFF\r\n\xFF\r", 4, b"\xFF\r"),
+];
+
+#[test]
+fn lines_of_places(rt: HostRuntime) {
+    for (text, at, line) in LINES {
+        assert_eq!(rt; Excerpt::new(*text, *at).line(), *line, "{text:?} at {at}");
+    }
+    let text = "ab\r";
+    assert_eq!(rt; Excerpt::new(text.as_bytes(), 3).position(), Position { line: 1, column: 4 });
+    same(&rt, rt.alloc(), Excerpt::new(text.as_bytes(), 3), "ab\r\n   ^");
+    same(
+        &rt,
+        rt.alloc(),
+        Excerpt::new(b"a=1\r\nb=\r", 8),
+        "parse error at line 2, column 4\n  |\n2 | b=\r\n  |    ^",
+    );
+}
+
 #[test]
 fn other_inputs(rt: HostRuntime) {
     let bytes = Parser::<&[u8], _, EmptyError>::parse(&mut Digit1, b"12a".as_slice());
@@ -161,4 +207,17 @@ fn what_each_branch_expected(rt: HostRuntime) {
     same(&rt, rt.alloc(), three, "expected on, off or auto");
     let none: ExpectedError<&str> = ExpectedError::new();
     same(&rt, rt.alloc(), none, "");
+}
+
+#[test]
+fn joined_lets_go_in_what(rt: HostRuntime) {
+    let alloc = rt.alloc();
+    let mut number = ExpectedError::new();
+    number.push(alloc, "a number");
+    number.push(alloc, "a width");
+    assert_eq!(rt; number.within(), ["a width"].as_slice());
+    let mut word = ExpectedError::new();
+    word.push(alloc, "a word");
+    word.push(alloc, "a name");
+    same(&rt, alloc, number.joined(word), "expected a number or a word");
 }

@@ -1,8 +1,12 @@
-//! Lines of a large file, read one at a time into one buffer.
+//! Lines of a large file, read one at a time into one buffer, and the line of a place.
 
 use super::numbers::read_temperature;
 use std::alloc::Global;
 use std::io::{self, BufRead};
+use winnow::error::{EmptyError, ErrMode};
+use winnow::prelude::*;
+use winnow::stream::{Excerpt, Position};
+use winnow::token::take_while;
 
 /// How many lines of a reader are temperatures, and how many are not.
 fn count_lines_of<R: BufRead>(alloc: Global, reader: &mut R) -> io::Result<(u64, u64)> {
@@ -29,4 +33,31 @@ fn lines_of_a_reader(rt: HostRuntime) -> io::Result<()> {
     let mut reader = b"".as_slice();
     assert_eq!(rt; count_lines_of(rt.alloc(), &mut reader)?, (0, 0));
     Ok(())
+}
+
+/// The place of the first character that is no digit and no line feed.
+fn first_stray(text: &str) -> Option<Excerpt<'_>> {
+    let mut input = text;
+    let passed: Result<&str, ErrMode<EmptyError>> =
+        take_while(Range::from(0..), ('0'..='9', '\n')).parse_next(&mut input);
+    let offset = passed.ok()?.len();
+    if offset == text.len() {
+        return None;
+    }
+    Some(Excerpt::new(text.as_bytes(), offset))
+}
+
+#[test]
+fn place_of_a_stray(rt: HostRuntime) {
+    assert!(rt; first_stray("12\n7\n").is_none());
+    match first_stray("12\n7 8\r\n") {
+        None => assert!(rt; false),
+        Some(stray) => {
+            assert_eq!(rt; stray.position(), Position { line: 2, column: 2 });
+            assert_eq!(rt; stray.line(), b"7 8".as_slice());
+            let text = format!(in rt.alloc(); "{stray}");
+            let lines = "parse error at line 2, column 2\n  |\n2 | 7 8\n  |  ^";
+            assert!(rt; matches!(text, Ok(text) if text.as_str() == lines));
+        }
+    }
 }

@@ -1,6 +1,6 @@
 //! An error that wants memory to keep another.
 ghost use Rattle.std.specs.Prelude.{true};
-ghost use Rattle.stream_errors.specs.Form.{marked_kind, plain, inner_kind_of-marked_kind};
+ghost use Rattle.stream_errors.specs.Form.{marked_kind, plain};
 ghost use Rattle.stream_errors.specs.Form.{marked_kind-cases};
 ghost use Rattle.stream_errors.specs.Given.{kept_or_refused};
 

@@ -1,6 +1,6 @@
 -- What becomes of the bits of a table.
-use Rattle.std.specs.Prelude.{◌≡◌, ◌<◌, ◌-◌, ◌/◌, ◌%◌, ◌||◌, ◌==◌, ℕ, suc, zero, max, Bool, true}
-use Rattle.std.specs.Prelude.{false, not}
+use Rattle.std.specs.Prelude.{◌≡◌, ◌<◌, ◌/◌, ◌%◌, ◌||◌, ◌==◌, ℕ, suc, zero, max, Bool, true}
+use Rattle.std.specs.Prelude.{false}
 use Rattle.std.specs.Prelude.{◌+◌, ◌*◌, ◌^◌, ◌≤◌}
 use Rattle.std.specs.Prelude.{List, [], ◌∷◌, slice_index_or}
 use Rattle.std.proofs.Common.{arith, refl, sym, subst, inl, inr, ◌∙◌, ap}
@@ -18,12 +18,6 @@ each_word P a b c d (suc zero) within = b
 each_word P a b c d (suc (suc zero)) within = c
 each_word P a b c d (suc (suc (suc zero))) within = d
 each_word P a b c d (suc (suc (suc (suc n)))) within = absurd (omega arith)
-
--- a bit and the other one
-pub other_bit : (x : ℕ) → x < 2 → (1 - x == 1) ≡ not (x == 1)
-other_bit zero below = refl
-other_bit (suc zero) below = refl
-other_bit (suc (suc n)) below = absurd (omega arith)
 
 -- the greater of two bits
 pub either_bit : (x y : ℕ) → x < 2 → y < 2 → (max x y == 1) ≡ ((x == 1) || (y == 1))

@@ -274,12 +274,6 @@ module _ (message : List ℕ) where
       let P : NameFault → Type 0 = λ f. HasNoName message level start f in
       told_fault level start y (subst P (sym is) h)
 
-  -- a place past the end
-  pub past_end : (level start : ℕ) → length message < start
-      → HasNoName message level start (Ends start)
-  past_end zero start past = inl (refl, past)
-  past_end (suc level) start past = inl (refl, past)
-
   module _ {start end : ℕ} {here : List Label} {rest : List ℕ}
       (a : AreLabels message start here end rest) where
     -- the root

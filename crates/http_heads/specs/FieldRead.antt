@@ -3,7 +3,6 @@ use Rattle.std.specs.Prelude.{◌≡◌, ◌<◌, ℕ, List, [], ◌∷◌, ◌+
 use Rattle.std.specs.Borrow.{Bor}
 use Rattle.std.specs.List.{All}
 use Rattle.std.proofs.Common.{refl, sym, ap, subst, inl, inr, ◌∙◌, arith, append_assoc}
-use Rattle.std.proofs.Common.{length-append}
 use Rattle.std.proofs.lemmas.List.Elements.{All-append, All-cons, All-head, All-nil, All-tail}
 use Rattle.std.proofs.lemmas.List.Elements.{All-weaker}
 use Rattle.winnow.specs.Equal.{same_first, same_rest}
@@ -13,7 +12,7 @@ use Rattle.http_heads.specs.FieldLine.{IsTrimmed}
 use Rattle.http_heads.specs.Parts.{EndStands, Run, run_back, run_there, run_unique}
 use Rattle.http_heads.specs.declared.field_line.Field.{Field}
 use Rattle.winnow.specs.Steps.{Steps}
-use Rattle.winnow.specs.Grammar.{Both, Grammar, IsUnique, Takes}
+use Rattle.winnow.specs.Grammar.{Both, Grammar, IsUnique}
 use Rattle.winnow.specs.Grammar.Known.{Byte, byte_stands, byte_unique, stands_byte}
 use Rattle.winnow.specs.Grammar.Unique.{both_unique, unique_by}
 use Rattle.winnow.specs.Texts.{NotFirst}
@@ -226,20 +225,6 @@ end_unique = record {
 pub field_unique : IsUnique FieldLineStands
 field_unique = unique_by field_back
     (both_unique {O = Texts × Unit {0}} (λ parts u. (parts, u)) pair_unique end_unique)
-
-pub field_takes : Takes FieldLineStands
-field_takes = record {
-  fewer = λ bytes field rest is.
-      let end = line_end ++ rest in
-      let value = field.value.now ++ (is.behind ++ end) in omega (
-        arith,
-        ap (λ l. length l) is.splits,
-        length-append field.name.now (58 ∷ (is.before ++ value)),
-        length-append is.before value,
-        length-append field.value.now (is.behind ++ end),
-        length-append is.behind end,
-      );
-}
 
 -- no field line begins with a carriage return
 pub none_returns : (bytes : List ℕ) (field : Field) (rest more : List ℕ)

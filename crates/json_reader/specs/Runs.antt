@@ -146,9 +146,6 @@ more_held text next cs ds bytes held is e =
     ∙ sym (encodes-append cs ds)
 
 module _ {A : Type 0} {start : List ℕ} where
-  pub read_none : {text : String A} → string_bytes text ≡ [] → HasRead start text start
-  read_none empty = record { characters = []; each = refl; held = empty }
-
   -- a run, and what the string holds with it
   pub run_read : {text next : String A} {mid rest : List ℕ} (slice : Bor (List ℕ))
       → HasRead start text mid → PlainRun mid slice rest

@@ -4,7 +4,7 @@ use Rattle.std.proofs.Common.{sym, ap, ◌∙◌, arith, length-append}
 use Rattle.winnow.specs.Equal.{same_rest}
 use Rattle.winnow.specs.Text.{text_reading}
 use Rattle.json_texts.specs.Words.{Char, RunOf, Word}
-use Rattle.winnow.specs.Class.Laws.{class_takes, class_unique, one_is_some}
+use Rattle.winnow.specs.Class.Laws.{class_unique}
 use Rattle.winnow.specs.Grammar.{IsUnique, Takes}
 use Rattle.winnow.specs.Grammar.Unique.{literally_takes, literally_unique}
 
@@ -22,9 +22,6 @@ char_takes c =
 
 pub run_unique : (class : ℕ → Type 0) (least : ℕ) → IsUnique (RunOf class least)
 run_unique class least = class_unique class least (λ c. c) (λ c. c) text_reading (λ c d e. e)
-
-pub run_takes : (class : ℕ → Type 0) → Takes (RunOf class 1)
-run_takes class = class_takes class 1 (λ c. c) (λ c. c) text_reading one_is_some
 
 pub word_unique : {O : Type 0} (word : List ℕ) (output : O) → IsUnique (Word word output)
 unfolding Word

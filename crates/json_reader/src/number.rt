@@ -2,7 +2,7 @@
 ghost use Rattle.json_reader.specs.Numbers.{NumberOf};
 ghost use Rattle.json_texts.specs.Number.{GoesOn, IsLeading, Number, NumberText};
 ghost use Rattle.std.specs.Prelude.{◌≡◌};
-ghost use Rattle.winnow.specs.Exact.{Reads};
+ghost use Rattle.winnow.specs.Exact.{IsSpared, Reads};
 ghost use Rattle.winnow.specs.Grammar.{InClass, Literally};
 ghost use Rattle.winnow.specs.Once.{SeesApart, holds_once};
 ghost use Rattle.winnow.specs.Text.{text_input, text_reading};
@@ -47,8 +47,9 @@ where
     I::Token: AsChar + Copy,
     E: ParserError<I>,
     requires seen { SeesApart I.seen_as }
-    ensures { Reads I.reading E.kind (NumberOf I.reading I.seen_as I.Token.code
+    ensures reads { Reads I.reading E.kind (NumberOf I.reading I.seen_as I.Token.code
         (Literally I.reading I.spells (λ s _. s))) (I.view input.old) result (I.view input.new) }
+    ensures spared { IsSpared E.kind (I.view input.old) result }
 {
     let whole = alt(('0'.take(), (one_of(LeadingDigits), Digit0).take()));
     let fraction = preceded('.', Digit1);
@@ -73,6 +74,8 @@ pub fn read_number<'i>(input: &mut &'i str) -> Result<&'i str, ErrMode<EmptyErro
         (text_input input.old.now) result (text_input input.new.now) }
     ensures text { ReadsText text_reading ⟦<ErrMode<EmptyError> as HasKind>⟧.kind NumberText
         (NotFirst GoesOn) (text_input input.old.now) result (text_input input.new.now) }
+    ensures spared { IsSpared ⟦<ErrMode<EmptyError> as HasKind>⟧.kind (text_input input.old.now)
+        result }
 {
     number(input)
 }

@@ -24,6 +24,18 @@ use winnow::ascii::impls::Multispace0;
 use winnow::error::{EmptyError, ErrMode, HasKind, ParseFault, ParserError};
 use winnow::exact::Rule;
 
+/// A level that is safe on a stack of two megabytes: reading a value calls itself once for each
+/// array and object that stands in another, and so does letting the value go. At a higher level a
+/// text can nest so deep that the stack ends, which stops the program: the stack, too, is to be
+/// larger then.
+///
+/// ```
+/// use json_values::value::{SAFE_LEVEL, parse_value};
+///
+/// assert!(rt; parse_value(alloc, SAFE_LEVEL, "[[1], {\"a\": [2]}]").is_ok());
+/// ```
+pub const SAFE_LEVEL: usize = 128;
+
 /// Whether a bracket is first.
 fn begins_array(input: &str) -> bool
     ensures yes { IsTrue result → Begins (λ c. c ≡ 91) (chars input.now) }
@@ -81,9 +93,10 @@ impl<'i, A: Allocator> Rule<&'i str, Value<A>> for Nested<A> {
 /// The value that stands first, in which no more than so many arrays and objects stand in one
 /// another.
 ///
-/// White space inside of arrays and objects is read, and none before or behind the value. The input
-/// is left behind the value. An error backtracks where no value of the level stands first, and
-/// wants memory where a request was refused; what of the input is left then is an end of it.
+/// White space inside of arrays and objects is read, and none before or behind the value. Each
+/// level takes some of the stack: up to [`SAFE_LEVEL`] two megabytes suffice. The input is left
+/// behind the value. An error backtracks where no value of the level stands first, and wants memory
+/// where a request was refused; what of the input is left then is an end of it.
 ///
 /// ```
 /// use json_texts::value::Value;
@@ -145,7 +158,8 @@ pub fn read_value<'i, A: Allocator + Copy>(
 }
 
 /// The value of a text of JSON, where all of the text is one: a value, in which no more than so
-/// many arrays and objects stand in one another, with white space before it and behind it.
+/// many arrays and objects stand in one another, with white space before it and behind it. Each
+/// level takes some of the stack, as of [`read_value`].
 ///
 /// Else a fault: it says that the text is none, and at which byte reading stopped; or that a
 /// request for memory was refused. In an array or an object reading stops behind the last item that
@@ -153,11 +167,11 @@ pub fn read_value<'i, A: Allocator + Copy>(
 ///
 /// ```
 /// use json_texts::value::Value;
-/// use json_values::value::parse_value;
+/// use json_values::value::{SAFE_LEVEL, parse_value};
 ///
 /// let value = parse_value(alloc, 1, " {\"a\": 1, \"a\": [2]} ");
 /// assert!(rt; value.is_err());
-/// let value = parse_value(alloc, 2, " {\"a\": 1, \"a\": [2]} ");
+/// let value = parse_value(alloc, SAFE_LEVEL, " {\"a\": 1, \"a\": [2]} ");
 /// assert!(rt; matches!(value, Ok(Value::Object(members)) if members.len() == 2));
 /// assert!(rt; parse_value(alloc, 2, "[1, 2,]").is_err());
 /// ```

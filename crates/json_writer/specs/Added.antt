@@ -17,9 +17,6 @@ pub record Adds {O : Type 0} (text : Text ℕ O) (o : O) (before after : List �
   pub is : text o tokens
   pub behind : after ≡ before ++ encode_utf8_all tokens
 
-pub keeps_refl : (bytes : List ℕ) → Keeps bytes bytes
-keeps_refl bytes = record { more = []; behind = sym (append-nil bytes) }
-
 pub keeps_trans : {before between after : List ℕ} → Keeps before between → Keeps between after
     → Keeps before after
 keeps_trans {before} first second = record {
@@ -31,10 +28,6 @@ keeps_trans {before} first second = record {
 pub keeps_more : {before after : List ℕ} (more : List ℕ) → after ≡ before ++ more
     → Keeps before after
 keeps_more more e = record { more = more; behind = e }
-
-pub adds_keep : {O : Type 0} {text : Text ℕ O} {o : O} {before after : List ℕ}
-    → Adds text o before after → Keeps before after
-adds_keep added = record { more = encode_utf8_all added.tokens; behind = added.behind }
 
 -- what is added in two parts
 pub both_behind : (before between after xs ys : List ℕ)

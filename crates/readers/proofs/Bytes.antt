@@ -4,7 +4,7 @@ use Rattle.std.proofs.Common.{append_assoc, take-append-drop, arith}
 use Rattle.std.proofs.lemmas.List.{take_rest}
 use Rattle.std.specs.Prelude.{Option}
 use Rattle.std.specs.Io.KnownBytes.{Appends, Keeps, Consumes}
-use Rattle.std.proofs.KnownBytes.{Appends-trans, Appends-nil, Keeps-refl, Consumes-nil}
+use Rattle.std.proofs.KnownBytes.{Appends-nil, Keeps-refl, Consumes-nil}
 use Rattle.readers.specs.Program.{ConsumesAtMost}
 
 -- n bytes more are gone from the rest
@@ -14,10 +14,6 @@ moves_front all done rest n e =
     e ∙ ap (λ l. done ++ l) (sym (take-append-drop n rest))
     ∙ sym (append_assoc done (take n rest) (drop n rest))
     ∙ ap (λ l. (done ++ take n rest) ++ l) (sym (take_rest rest n))
-
-pub appends_trans : (a b c : Option (List ℕ)) (bs cs : List ℕ) → Appends a b bs → Appends b c cs
-    → Appends a c (bs ++ cs)
-appends_trans = Appends-trans
 
 pub appends_nil : (a : Option (List ℕ)) → Appends a a []
 appends_nil = Appends-nil

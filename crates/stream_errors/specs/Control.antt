@@ -1,8 +1,7 @@
 -- The kinds of the errors of controls.
-use Rattle.std.specs.Prelude.{◌≡◌, ◌⊎◌, Some}
+use Rattle.std.specs.Prelude.{◌≡◌, ◌⊎◌}
 use Rattle.std.proofs.Common.{refl, inl, inr}
 use Rattle.streams.specs.Kind.{Kind, backtrack, memory}
-use Rattle.stream_errors.specs.Form.{inner_kind_of}
 use Rattle.stream_errors.specs.declared.control.ControlError.{ControlError}
 use Rattle.stream_errors.specs.declared.control.ControlError.TheVariants.{NoMemory, Refused}
 
@@ -16,8 +15,3 @@ pub control_kind-cases : (e : ControlError)
     → (control_kind e ≡ backtrack) ⊎ (control_kind e ≡ memory)
 control_kind-cases Refused = inl refl
 control_kind-cases NoMemory = inr refl
-
-pub inner_kind_of-control_kind : (e : ControlError)
-    → inner_kind_of (control_kind e) ≡ Some (control_kind e)
-inner_kind_of-control_kind Refused = refl
-inner_kind_of-control_kind NoMemory = refl

@@ -43,11 +43,6 @@ abbrev pub answer_by : {O E : Type 0} → (E → Kind) → Result O E → Answer
 answer_by kind (Ok o) = Ok o
 answer_by kind (Err e) = Err (kind e)
 
-pub inner_kind_of-marked_kind : (mark : Bool)
-    → inner_kind_of (marked_kind mark) ≡ Some (marked_kind mark)
-inner_kind_of-marked_kind true = refl
-inner_kind_of-marked_kind false = refl
-
 -- a marked error backtracks or wants memory
 pub marked_kind-cases : (mark : Bool) → (marked_kind mark ≡ backtrack) ⊎ (marked_kind mark ≡ memory)
 marked_kind-cases true = inr refl

@@ -1,9 +1,8 @@
 -- The kinds of errors with a mode.
-use Rattle.std.specs.Prelude.{◌≡◌, Some, refl}
+use Rattle.std.specs.Prelude.{◌≡◌, refl}
 use Rattle.streams.specs.Kind.{Kind, backtrack, cut, incomplete, memory}
 use Rattle.streams.specs.Needed.{need_of}
 use Rattle.streams.specs.declared.needed.Needed.{Needed}
-use Rattle.stream_errors.specs.Form.{inner_kind_of}
 use Rattle.stream_errors.specs.declared.mode.ErrMode.{ErrMode}
 use Rattle.stream_errors.specs.declared.mode.ErrMode.TheVariants.{Backtrack, Cut, Incomplete}
 
@@ -43,19 +42,6 @@ abbrev pub MapsMode : {E F N : Type 0} → (E → F → Type 0) → ErrMode E N 
 MapsMode {E} {F} {N} step (Backtrack e) new = (f : F) × step e f × (new ≡ Backtrack f)
 MapsMode {E} {F} {N} step (Cut e) new = (f : F) × step e f × (new ≡ Cut f)
 MapsMode {E} {F} {N} step (Incomplete n) new = new ≡ Incomplete n
-
-pub inner_kind_of-mode_round_backtrack : (k : Kind)
-    → inner_kind_of (mode_round backtrack k) ≡ Some (as_inner k)
-inner_kind_of-mode_round_backtrack memory = refl
-inner_kind_of-mode_round_backtrack backtrack = refl
-inner_kind_of-mode_round_backtrack cut = refl
-inner_kind_of-mode_round_backtrack (incomplete need) = refl
-
-pub inner_kind_of-mode_round_cut : (k : Kind) → inner_kind_of (mode_round cut k) ≡ Some (as_inner k)
-inner_kind_of-mode_round_cut memory = refl
-inner_kind_of-mode_round_cut backtrack = refl
-inner_kind_of-mode_round_cut cut = refl
-inner_kind_of-mode_round_cut (incomplete need) = refl
 
 pub cut_of-mode_round_backtrack : (k : Kind) → cut_of (mode_round backtrack k) ≡ mode_round cut k
 cut_of-mode_round_backtrack memory = refl

@@ -1,7 +1,7 @@
 //! An error with its contexts.
 ghost use Rattle.std.specs.Prelude.{◌≡◌, [], false, true, refl, if◌then◌else◌};
 ghost use Rattle.stream_errors.specs.ContextError.{IsPushed, contexts_of, wants_memory};
-ghost use Rattle.stream_errors.specs.Form.{marked_kind, plain, inner_kind_of-marked_kind};
+ghost use Rattle.stream_errors.specs.Form.{marked_kind, plain};
 ghost use Rattle.stream_errors.specs.Form.{marked_kind-cases};
 ghost use Rattle.stream_errors.specs.Given.{always_kept, kept_or_refused};
 

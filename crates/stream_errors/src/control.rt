@@ -2,7 +2,6 @@
 ghost use Rattle.std.specs.Prelude.{◌≡◌, false};
 ghost use Rattle.streams.specs.Kind.{Kind};
 ghost use Rattle.stream_errors.specs.Control.{control_kind, control_kind-cases};
-ghost use Rattle.stream_errors.specs.Control.{inner_kind_of-control_kind};
 ghost use Rattle.stream_errors.specs.Form.{plain};
 ghost use Rattle.stream_errors.specs.Given.{always_kept};
 

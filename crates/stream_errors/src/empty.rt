@@ -1,7 +1,7 @@
 //! An error that says nothing.
 ghost use Rattle.std.specs.Prelude.{◌≡◌, if◌then◌else◌};
 ghost use Rattle.streams.specs.Kind.{Kind};
-ghost use Rattle.stream_errors.specs.Form.{marked_kind, plain, inner_kind_of-marked_kind};
+ghost use Rattle.stream_errors.specs.Form.{marked_kind, plain};
 ghost use Rattle.stream_errors.specs.Form.{marked_kind-cases};
 
 use crate::has_kind::HasKind;

@@ -1,7 +1,7 @@
 //! An error with the input at its place.
 ghost use Rattle.std.specs.Prelude.{◌≡◌, false, refl, if◌then◌else◌};
 ghost use Rattle.streams.specs.Kind.{Kind};
-ghost use Rattle.stream_errors.specs.Form.{marked_kind, plain, inner_kind_of-marked_kind};
+ghost use Rattle.stream_errors.specs.Form.{marked_kind, plain};
 ghost use Rattle.stream_errors.specs.Form.{marked_kind-cases};
 
 use crate::convert::{ConvertInput, ErrorConvert};

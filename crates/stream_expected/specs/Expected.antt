@@ -1,6 +1,6 @@
 -- Errors that keep what each branch of a choice expected.
 use Rattle.std.specs.Prelude.{◌≡◌, ◌⊎◌, Bool, true, false, List, [], ◌∷◌, ◌++◌, ⊤}
-use Rattle.std.proofs.Common.{refl, inl, inr}
+use Rattle.std.proofs.Common.{ap, refl, inl, inr}
 use Rattle.stream_errors.specs.ContextError.{listed}
 use Rattle.stream_errors.specs.Form.{marked_kind}
 use Rattle.stream_errors.specs.Join.{IsOrMemory, joint_kind}
@@ -18,33 +18,64 @@ within_of e = listed e.within
 abbrev pub refused_memory : {C A : Type 0} → ExpectedError C A → Bool
 refused_memory e = e.is_memory
 
--- Of two errors what either expected is kept, in order; or a request for memory was refused, by one
--- of them or by the joining.
+-- Of two errors what either expected is kept, in order, and in what it was is let go; or a request
+-- for memory was refused by the joining. Where one of them was refused memory, the first that was
+-- is
+-- left as it is.
 abbrev pub KeepsBoth : {C A : Type 0} → ExpectedError C A → ExpectedError C A → ExpectedError C A
     → Type 0
 KeepsBoth first second joined =
-    ((expected_of joined ≡ expected_of first ++ expected_of second)
-    × (refused_memory first ≡ false) × (refused_memory second ≡ false)
+    ((refused_memory first ≡ true) × (joined ≡ first))
+    ⊎ ((refused_memory first ≡ false) × (refused_memory second ≡ true) × (joined ≡ second))
+    ⊎ ((refused_memory first ≡ false) × (refused_memory second ≡ false)
+    × (within_of joined ≡ [])
+    × (((expected_of joined ≡ expected_of first ++ expected_of second)
     × (refused_memory joined ≡ false))
-    ⊎ (refused_memory joined ≡ true)
+    ⊎ (refused_memory joined ≡ true)))
 
 -- The first context that an error is given is what was expected, and each further one says in what;
--- or a request for memory was refused.
+-- or a request for memory was refused, and what was said before is kept.
 abbrev pub IsGiven : {C A : Type 0} → ExpectedError C A → C → ExpectedError C A → Type 0
 IsGiven old context new =
     ((expected_of old ≡ []) × (expected_of new ≡ context ∷ []) × (within_of new ≡ within_of old)
     × (refused_memory new ≡ refused_memory old))
-    ⊎ ((expected_of new ≡ expected_of old) × (within_of new ≡ within_of old ++ context ∷ [])
+    ⊎ ((expected_of old ≡ [] → ⊥) × (expected_of new ≡ expected_of old)
+    × (within_of new ≡ within_of old ++ context ∷ [])
     × (refused_memory new ≡ refused_memory old))
-    ⊎ (refused_memory new ≡ true)
+    ⊎ ((expected_of new ≡ expected_of old) × (within_of new ≡ within_of old)
+    × (refused_memory new ≡ true))
+
+-- the kind of two errors that are joined, by their marks: where the first was refused memory, ...
+first_kind : (first second joined : Bool) → first ≡ true → joined ≡ first
+    → IsOrMemory (joint_kind (marked_kind first) (marked_kind second)) ⊤ (marked_kind joined)
+first_kind true second true is same = inl refl
+first_kind true second false is same = absurd (cc)
+first_kind false second joined is same = absurd (cc)
+
+-- ... where the second was, ...
+second_kind : (first second joined : Bool) → first ≡ false → second ≡ true → joined ≡ second
+    → IsOrMemory (joint_kind (marked_kind first) (marked_kind second)) ⊤ (marked_kind joined)
+second_kind false true true none is same = inl refl
+second_kind false true false none is same = absurd (cc)
+second_kind false false joined none is same = absurd (cc)
+second_kind true second joined none is same = absurd (cc)
+
+-- ... and where neither was
+new_kind : (first second joined : Bool) → first ≡ false → second ≡ false
+    → IsOrMemory (joint_kind (marked_kind first) (marked_kind second)) ⊤ (marked_kind joined)
+new_kind false false false none neither = inl refl
+new_kind false false true none neither = inr (refl, tt)
+new_kind false true joined none neither = absurd (cc)
+new_kind true second joined none neither = absurd (cc)
 
 -- the kind of two errors that are joined
-pub joined_kind : (first second joined : Bool)
-    → ((first ≡ false) × (second ≡ false) × (joined ≡ false)) ⊎ (joined ≡ true)
-    → IsOrMemory (joint_kind (marked_kind first) (marked_kind second)) ⊤ (marked_kind joined)
-joined_kind false false false (inl (_, _, _)) = inl refl
-joined_kind false false true (inl (_, _, is)) = absurd (cc)
-joined_kind false true joined (inl (_, is, _)) = absurd (cc)
-joined_kind true second joined (inl (is, _, _)) = absurd (cc)
-joined_kind first second true (inr is) = inr (refl, tt)
-joined_kind first second false (inr is) = absurd (cc)
+pub joined_kind : {C A : Type 0} (first second joined : ExpectedError C A)
+    → KeepsBoth first second joined
+    → IsOrMemory (joint_kind (marked_kind first.is_memory) (marked_kind second.is_memory)) ⊤
+    (marked_kind joined.is_memory)
+joined_kind first second joined (inl (is, same)) =
+    first_kind _ _ _ is (ap (λ e. refused_memory e) same)
+joined_kind first second joined (inr (inl (none, is, same))) =
+    second_kind _ _ _ none is (ap (λ e. refused_memory e) same)
+joined_kind first second joined (inr (inr (none, neither, _, _))) =
+    new_kind _ _ _ none neither

@@ -1,7 +1,7 @@
 //! Errors that keep what several branches of a choice expected.
-ghost use Rattle.std.specs.Prelude.{◌≡◌, ◌⊎◌, ◌++◌, [], false, true, refl, ⊤};
+ghost use Rattle.std.specs.Prelude.{◌≡◌, ◌⊎◌, ◌++◌, [], Ok, false, true, refl, ⊤};
 ghost use Rattle.stream_errors.specs.ContextError.{listed};
-ghost use Rattle.stream_errors.specs.Form.{marked_kind, plain, inner_kind_of-marked_kind};
+ghost use Rattle.stream_errors.specs.Form.{marked_kind, plain};
 ghost use Rattle.stream_errors.specs.Form.{marked_kind-cases};
 ghost use Rattle.stream_errors.specs.Given.{always_kept, kept_or_refused};
 ghost use Rattle.stream_expected.specs.Expected.{IsGiven, KeepsBoth, expected_of, refused_memory};
@@ -80,7 +80,7 @@ impl<C, A: Allocator> ExpectedError<C, A> {
     }
 
     /// Says what was expected, or in what where that is said already. Where a request for memory
-    /// is refused the kind of the error is memory from then on.
+    /// is refused what was said before stays, and the kind of the error is memory from then on.
     pub fn push(&mut self, alloc: A, context: C)
     where
         C: Drop,
@@ -105,7 +105,8 @@ impl<C, A: Allocator> ExpectedError<C, A> {
     }
 
     /// The error of two branches, with what either expected, as `or` makes it. In what only one
-    /// of them stood is let go.
+    /// of them stood is let go. Where one of them was refused memory, the first that was is
+    /// answered as it is.
     pub fn joined(self, other: ExpectedError<C, A>) -> ExpectedError<C, A>
     where
         C: Drop,
@@ -118,9 +119,10 @@ impl<C, A: Allocator> ExpectedError<C, A> {
             return other;
         }
         let (expected, is_memory) = listed_behind(self.expected, other.expected);
+        let within = None;
         ExpectedError {
             expected,
-            within: None,
+            within,
             is_memory,
         }
     }
@@ -218,7 +220,9 @@ impl<I: Stream, C: Drop, A: Allocator> ParserError<I> for ExpectedError<C, A> {
     }
 
     #[inline(always)]
-    fn into_inner(self) -> Result<ExpectedError<C, A>, ExpectedError<C, A>> {
+    fn into_inner(self) -> Result<ExpectedError<C, A>, ExpectedError<C, A>>
+        ensures { result ≡ Ok self }
+    {
         Ok(self)
     }
 
@@ -263,7 +267,9 @@ impl<I: Stream, C: Drop, A: Allocator, E: Drop> FromExternalError<I, E> for Expe
 
 impl<C, A: Allocator> ErrorConvert<ExpectedError<C, A>> for ExpectedError<C, A> {
     #[inline(always)]
-    fn convert(self) -> ExpectedError<C, A> {
+    fn convert(self) -> ExpectedError<C, A>
+        ensures { result ≡ self }
+    {
         self
     }
 

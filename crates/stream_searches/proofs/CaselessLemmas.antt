@@ -2,7 +2,6 @@
 use Rattle.std.proofs.Common.{◌≡◌, ◌≤◌, ◌<◌, ℕ, List, [], ◌∷◌, ◌++◌, length, take, drop, refl, sym}
 use Rattle.std.proofs.Common.{ap, ◌∙◌, arith}
 use Rattle.std.proofs.lemmas.List.{length-append, length-take-le, take-append-drop}
-use Rattle.std.proofs.Math.Seq.{take-append_seam}
 use Rattle.stream_searches.specs.Caseless.{IsCaseless, lower_case, lower_case-append}
 use Rattle.stream_searches.specs.Caseless.{first_lower_case}
 use Rattle.stream_searches.specs.Caseless.{same_lengths}
@@ -19,14 +18,6 @@ module _ (all lit : List ℕ) where
         length-append front rest,
       )
 
-  short_length : IsShort (IsCaseless lit) all → length all < length lit
-  short_length (x, more, same) =
-      omega (
-        arith,
-        same_lengths lit (all ++ x ∷ more) lit same refl,
-        length-append all (x ∷ more),
-      )
-
   -- the literal stands first
   pub caseless_first : length lit ≤ length all
       → lower_case (take (length lit) all) ≡ lower_case lit
@@ -34,20 +25,6 @@ module _ (all lit : List ℕ) where
   caseless_first le same =
       let n = length lit in
       (take n all, drop n all, same, sym (take-append-drop n all), sym (length-take-le n all le))
-
-  -- it does not
-  pub caseless_other : length lit ≤ length all
-      → (lower_case (take (length lit) all) ≡ lower_case lit → ⊥)
-      → ComparesAs length (IsCaseless lit) all Error
-  caseless_other le other = (
-    (λ short. let longer = short_length short in absurd (omega (arith, longer, le))),
-    (λ first.
-        let (front, rest, same, split) = first in
-        let is_front : take (length lit) all ≡ front =
-        ap (λ n. take n all) (sym (same_lengths lit front lit same refl))
-        ∙ ap (λ l. take (length front) l) split ∙ take-append_seam front rest in
-        other (ap lower_case is_front ∙ same)),
-  )
 
   -- all bytes begin the literal
   pub caseless_begins : length all < length lit

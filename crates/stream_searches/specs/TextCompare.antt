@@ -16,16 +16,6 @@ use Rattle.stream_searches.specs.declared.compare.CompareResult.TheVariants.{Ok,
 abbrev pub IsList : {T : Type 0} → List T → List T → Type 0
 IsList t xs = xs ≡ t
 
--- what a text begins with, by its bytes and by its characters
-chars_first : (all lit : List ℕ) → IsUtf8 lit → StandsFirst (IsList lit) all
-    → StandsFirst (IsList (chars lit)) (chars all)
-chars_first all lit utf8 (front, rest, e, split) = (
-  chars lit,
-  chars rest,
-  refl,
-  ap chars (split ∙ ap (λ l. l ++ rest) e) ∙ chars-append lit rest utf8,
-)
-
 bytes_first : (all lit : List ℕ) → IsUtf8 all → IsUtf8 lit
     → StandsFirst (IsList (chars lit)) (chars all) → StandsFirst (IsList lit) all
 bytes_first all lit all_utf8 lit_utf8 (front, rest, e, split) = (

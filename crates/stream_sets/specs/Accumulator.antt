@@ -1,7 +1,9 @@
 -- What a repetition puts its outputs into.
-use Rattle.std.specs.Prelude.{◌≡◌, ◌≤◌, ◌<◌, ◌+◌, ◌-◌, ◌^◌, ℕ, min, List, [], ◌∷◌, ◌++◌, length}
+use Rattle.std.specs.Prelude.{◌≡◌, ◌⊎◌, ◌≤◌, ◌<◌, ◌+◌, ◌-◌, ◌^◌, ℕ, min, List, [], ◌∷◌, ◌++◌}
+use Rattle.std.specs.Prelude.{length}
 use Rattle.std.specs.Prelude.{Option, None, ⊤, vec_capacity, vec_len}
 use Rattle.std.specs.Prelude.{string_bytes, string_capacity, string_len}
+use Rattle.std.proofs.Common.{inl, inr}
 use Rattle.std.specs.BTreeMap.{BTreeMap, get, insert_entry}
 use Rattle.std.specs.Borrow.{Bor}
 use Rattle.std.specs.Char.{encode_utf8}
@@ -22,6 +24,12 @@ pub record Accumulator (C O : Type 0) : Type 1 where
   pub start_grows : Option ℕ → Type 0
   -- the ones for which one may be refused where they take this output
   pub grows : C → O → Type 0
+
+-- A request for memory may be refused: where an empty one is made, or where one takes an output.
+abbrev pub Wants : {C O : Type 0} → Accumulator C O → Type 0
+Wants {C} {O} into =
+    ((capacity : Option ℕ) × into.start_grows capacity)
+    ⊎ ((all : C) × (o : O) × into.grows all o)
 
 -- what it is to keep nothing
 abbrev pub nothing_kept : {O : Type 0} → Accumulator ⊤ O
@@ -49,6 +57,15 @@ number_kept = record {
   start_grows = λ _. ⊥;
   grows = λ _ _. ⊥;
 }
+
+-- none is refused by what keeps nothing, or a number
+pub nothing_wants : {O : Type 0} → Wants (nothing_kept {O = O}) → ⊥
+nothing_wants (inl (capacity, never)) = never
+nothing_wants (inr (all, o, never)) = never
+
+pub number_wants : {O : Type 0} → Wants (number_kept {O = O}) → ⊥
+number_wants (inl (capacity, never)) = never
+number_wants (inr (all, o, never)) = never
 
 -- what it is to keep the outputs as one text, in order, where `spell` gives the bytes of each;
 -- memory is wanted for those that there is no room for

@@ -1,8 +1,9 @@
 //! What repetition puts its outputs into.
 ghost use Rattle.std.specs.BTreeMap.{IsEmpty};
 ghost use Rattle.std.specs.Prelude.{List, ◌≡◌, [], MatchResult, string_bytes, ⊤};
-ghost use Rattle.stream_sets.specs.Accumulator.{Accumulator, characters_kept, entries_kept};
-ghost use Rattle.stream_sets.specs.Accumulator.{list_kept, nothing_kept, number_kept, texts_kept};
+ghost use Rattle.stream_sets.specs.Accumulator.{Accumulator, Wants, characters_kept, entries_kept};
+ghost use Rattle.stream_sets.specs.Accumulator.{list_kept, nothing_kept, nothing_wants};
+ghost use Rattle.stream_sets.specs.Accumulator.{number_kept, number_wants, texts_kept};
 ghost use Rattle.stream_sets.specs.Accumulator.Holds.{Holds, HasCharacters, HasEntries, HasNumber};
 ghost use Rattle.stream_sets.specs.Accumulator.Holds.{HasTexts, characters_hold, entries_hold};
 ghost use Rattle.stream_sets.specs.Accumulator.Holds.{list_holds, nothing_holds, number_holds};
@@ -27,6 +28,9 @@ pub trait Accumulate<O, A>: Drop {
     // The outputs that it took since it was empty.
     ghost holds: { Self → List O → Type 0 };
 
+    // When it asks for no memory.
+    ghost spares_memory: { Type 0 };
+
     /// An empty one, for `capacity` outputs if that is known. It fails only where a request for
     /// memory was refused.
     fn initial(alloc: A, capacity: Option<usize>) -> Result<Self, AllocError>
@@ -42,6 +46,9 @@ pub trait Accumulate<O, A>: Drop {
 
     // It took these.
     ghost gathers: { Holds accumulator holds };
+
+    // It is refused none.
+    ghost never_wants: { spares_memory → Wants accumulator → ⊥ };
 }
 
 /// Nothing is kept, and no memory is taken.
@@ -51,6 +58,10 @@ impl<O: Drop, A: Drop> Accumulate<O, A> for () {
     ghost holds = { λ _ _. ⊤ };
 
     ghost gathers = { nothing_holds };
+
+    ghost spares_memory = { ⊤ };
+
+    ghost never_wants = { λ spares. nothing_wants };
 
     #[inline(always)]
     fn initial(_alloc: A, _capacity: Option<usize>) -> Result<(), AllocError>
@@ -72,6 +83,10 @@ impl<O: Drop, A: Allocator> Accumulate<O, A> for Vec<O, A> {
     ghost holds = { λ list os. list.items ≡ os };
 
     ghost gathers = { list_holds };
+
+    ghost spares_memory = { ⊥ };
+
+    ghost never_wants = { λ never. absurd never };
 
     #[inline(always)]
     fn initial(alloc: A, _capacity: Option<usize>) -> Result<Vec<O, A>, AllocError>
@@ -100,6 +115,10 @@ impl<O: Drop, A: Drop> Accumulate<O, A> for usize {
     ghost holds = { HasNumber };
 
     ghost gathers = { number_holds };
+
+    ghost spares_memory = { ⊤ };
+
+    ghost never_wants = { λ spares. number_wants };
 
     #[inline(always)]
     fn initial(_alloc: A, _capacity: Option<usize>) -> Result<usize, AllocError>
@@ -130,6 +149,10 @@ impl<A: Allocator> Accumulate<char, A> for String<A> {
 
     ghost gathers = { characters_hold };
 
+    ghost spares_memory = { ⊥ };
+
+    ghost never_wants = { λ never. absurd never };
+
     #[inline(always)]
     fn initial(alloc: A, _capacity: Option<usize>) -> Result<String<A>, AllocError>
         ensures { MatchResult result (λ text. string_bytes text ≡ []) (λ _. ⊥) }
@@ -157,6 +180,10 @@ impl<'i, A: Allocator> Accumulate<&'i str, A> for String<A> {
     ghost holds = { HasTexts };
 
     ghost gathers = { texts_hold };
+
+    ghost spares_memory = { ⊥ };
+
+    ghost never_wants = { λ never. absurd never };
 
     #[inline(always)]
     fn initial(alloc: A, _capacity: Option<usize>) -> Result<String<A>, AllocError>
@@ -187,6 +214,10 @@ impl<K: Ord + Drop, V: Drop, A: Allocator + Clone> Accumulate<(K, V), A> for BTr
     ghost holds = { HasEntries K.cmp };
 
     ghost gathers = { entries_hold K.total };
+
+    ghost spares_memory = { ⊥ };
+
+    ghost never_wants = { λ never. absurd never };
 
     #[inline(always)]
     fn initial(alloc: A, _capacity: Option<usize>) -> Result<BTreeMap<K, V, A>, AllocError>

@@ -1,11 +1,10 @@
 -- Streams whose tokens are counted one by one, and whose slices show their own.
-use Rattle.std.specs.Prelude.{◌≡◌, ℕ, ◌<◌, ◌≤◌, List, ◌∷◌, length, take, drop}
+use Rattle.std.specs.Prelude.{◌≡◌, ◌<◌, List, ◌∷◌, length}
 use Rattle.std.specs.Borrow.{Bor}
 use Rattle.std.proofs.Common.{refl, sym, ap, ◌∙◌, arith}
-use Rattle.std.proofs.lemmas.List.{take-append-drop, length-take-le, length-append}
+use Rattle.std.proofs.lemmas.List.{length-append}
 use Rattle.streams.specs.Input.{Input, at_start, no_status}
 use Rattle.streams.specs.Reading.{Reading, ShowsOneList}
-use Rattle.streams.specs.Stream.{IsBoundary}
 
 pub length-positive : {T : Type 0} (x : T) (xs : List T) → 0 < length (x ∷ xs)
 length-positive x xs = omega arith
@@ -31,13 +30,3 @@ counted_reading = record {
 -- which are one list
 pub one_counted : {T : Type 0} → ShowsOneList (counted_reading {T = T})
 one_counted s xs ys p q = sym p ∙ q
-
--- each place up to the end is between two tokens, or at an end
-pub counted_boundary : {T : Type 0} (n : ℕ) (tokens : List T) → n ≤ length tokens
-    → IsBoundary length tokens n
-counted_boundary n tokens h = (
-  take n tokens,
-  drop n tokens,
-  sym (take-append-drop n tokens),
-  sym (length-take-le n tokens h),
-)

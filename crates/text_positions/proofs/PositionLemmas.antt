@@ -7,18 +7,6 @@ use Rattle.std.proofs.lemmas.List.{append-nil, flat_map_more, length_push}
 use Rattle.std.proofs.lemmas.List.Elements.{All-head, All-nil, All-push, All-tail}
 use Rattle.text_positions.specs.Position.{IsPosition, IsWithinLine, ended}
 
--- the place before all characters
-pub at_start : IsPosition [] 1 1
-at_start = record {
-  lines = [];
-  begun = [];
-  splits = refl;
-  are_lines = All-nil (All IsWithinLine);
-  is_one = All-nil IsWithinLine;
-  line_is = refl;
-  column_is = refl;
-}
-
 -- behind one more character of the line
 pub within_line : (before : List ℕ) (line column c : ℕ) → IsWithinLine c
     → IsPosition before line column → IsPosition (before ++ c ∷ []) line (column + 1)

@@ -1,2 +1,3 @@
 -- Written by scripts/registries.py: do not edit.
+pub mod Excerpt
 pub mod Position

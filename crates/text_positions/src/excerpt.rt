@@ -1,13 +1,18 @@
 //! The line of a place, with a caret under the place.
-ghost use Rattle.std.specs.Prelude.{take};
+ghost use Rattle.std.specs.Prelude.{◌≡◌, ◌≤◌, ◌⊎◌, ◌-◌, length, take, drop};
+ghost use Rattle.std.specs.List.{AllWithin, slice_index};
 ghost use Rattle.std.specs.Str.{IsCharBoundary, IsUtf8, chars};
-ghost use Rattle.text_positions.specs.Position.{IsPosition};
+ghost use Rattle.text_positions.specs.Excerpt.{IsLineShown};
+ghost use Rattle.text_positions.specs.Position.{IsPosition, IsWithinLine};
 
 use crate::{Position, position_of};
 use std::fmt;
 
 /// A place in a text or in bytes, shown as compilers do: its line and column, the line itself, and
 /// a caret under the place. Of a text with no line feed it shows the text and the caret alone.
+///
+/// Lines end as [`position_of`] counts them, with their line feeds. A carriage return is a
+/// character of its line, under which the caret can stand; before a line feed it is not shown.
 ///
 /// ```
 /// use text_positions::Position;
@@ -30,22 +35,36 @@ pub struct Excerpt<'t> {
 impl<'t> Excerpt<'t> {
     /// The place that lies `offset` bytes behind the start of these bytes; one behind their end is
     /// their end.
-    pub fn new(text: &'t [u8], offset: usize) -> Excerpt<'t> {
+    pub fn new(text: &'t [u8], offset: usize) -> Excerpt<'t>
+        ensures text { result.text.now ≡ text.now }
+        ensures place { result.offset ≡ offset }
+    {
         Excerpt { text, offset }
     }
 
     /// The line and the column, both counted from 1.
-    pub fn position(&self) -> Position {
+    pub fn position(&self) -> Position
+        ensures place { IsUtf8 self.now.text.now → IsCharBoundary self.now.text.now self.now.offset
+            → IsPosition (chars (take self.now.offset self.now.text.now)) result.line
+            result.column }
+        ensures end { IsUtf8 self.now.text.now → length self.now.text.now ≤ self.now.offset
+            → IsPosition (chars self.now.text.now) result.line result.column }
+    {
         position_in(self.text, self.offset)
     }
 
-    /// The line, without the line feed that ends it, and without a carriage return before that.
-    pub fn line(&self) -> &'t [u8] {
+    /// The line, without the line feed that ends it, and without a carriage return before that. A
+    /// carriage return before anything else, or before the end, ends no line: it stays.
+    pub fn line(&self) -> &'t [u8]
+        ensures { IsLineShown self.now.text.now self.now.offset result.now }
+    {
         let (before, behind) = parted(self.text, self.offset);
-        let start = line_start(before);
-        let end = before.len().saturating_add(line_length(behind));
-        let line = self.text.get(start..end).unwrap_or(&[]);
-        line.strip_suffix(b"\r").unwrap_or(line)
+        let length = line_length(behind);
+        let line = &self.text[line_start(before)..before.len() + length];
+        match line.split_last() {
+            Some((last, shown)) if *last == b'\r' && length < behind.len() => shown,
+            _ => line,
+        }
     }
 }
 
@@ -81,11 +100,13 @@ impl fmt::Display for Excerpt<'_> {
 /// Bytes that are no text count as the characters do that stand for them where they are printed.
 /// A place behind the end is the end.
 pub fn position_in(bytes: &[u8], offset: usize) -> Position
-    ensures { IsUtf8 bytes.now → IsCharBoundary bytes.now offset
+    ensures place { IsUtf8 bytes.now → IsCharBoundary bytes.now offset
         → IsPosition (chars (take offset bytes.now)) result.line result.column }
+    ensures end { IsUtf8 bytes.now → length bytes.now ≤ offset
+        → IsPosition (chars bytes.now) result.line result.column }
 {
     let whole = match str::from_utf8(bytes) {
-        Ok(text) => position_of(text, offset),
+        Ok(text) => position_of(text, offset.min(bytes.len())),
         Err(_) => None,
     };
     match whole {
@@ -114,24 +135,37 @@ fn place_behind(before: &[u8]) -> Position {
 }
 
 /// What stands before a place, and what behind it.
-fn parted(bytes: &[u8], offset: usize) -> (&[u8], &[u8]) {
+fn parted(bytes: &[u8], offset: usize) -> (&[u8], &[u8])
+    ensures before { result.0.now ≡ take offset bytes.now }
+    ensures behind { result.1.now ≡ drop offset bytes.now }
+{
     bytes.split_at_checked(offset).unwrap_or((bytes, &[]))
 }
 
 /// Where the last line of some bytes begins.
-fn line_start(before: &[u8]) -> usize {
-    match before.iter().rposition(|byte| *byte == b'\n') {
-        Some(feed) => feed + 1,
-        None => 0,
+fn line_start(before: &[u8]) -> usize
+    ensures bound { result ≤ length before.now }
+    ensures begins { (result ≡ 0) ⊎ (slice_index before.now (result - 1) ≡ 10) }
+    ensures is_one { AllWithin IsWithinLine before.now result (length before.now) }
+{
+    let mut start = before.len();
+    while start > 0 && before[start - 1] != b'\n' {
+        start -= 1;
     }
+    start
 }
 
 /// How many bytes stand before the first line feed, or the end.
-fn line_length(behind: &[u8]) -> usize {
-    match behind.iter().position(|byte| *byte == b'\n') {
-        Some(feed) => feed,
-        None => behind.len(),
+fn line_length(behind: &[u8]) -> usize
+    ensures bound { result ≤ length behind.now }
+    ensures ends { (result ≡ length behind.now) ⊎ (slice_index behind.now result ≡ 10) }
+    ensures is_one { AllWithin IsWithinLine behind.now 0 result }
+{
+    let mut length = 0;
+    while length < behind.len() && behind[length] != b'\n' {
+        length += 1;
     }
+    length
 }
 
 /// How many digits a number is written with.

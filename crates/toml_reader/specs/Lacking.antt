@@ -116,10 +116,6 @@ module _ (A : Type 0) (level : ℕ) where
 
   -- ---- items
 
-  pub no_white_lacks : (line : List ℕ) → NoneStands Ws line
-      → LacksNothing (ItemLacks A level line)
-  no_white_lacks line none what rest (text, (o, x), it) = none o text x
-
   module _ (line text : List ℕ) (white : Stands Ws line text) where
     item_lacks : LacksNothing (TableLacks text) → LacksNothing (EntryLacks A level text)
         → LacksNothing (ItemLacks A level line)

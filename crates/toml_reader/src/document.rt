@@ -20,7 +20,8 @@ pub enum Fault<'i> {
 }
 
 /// What the lines of a document of TOML say, in order, where all of the text is one: nothing where
-/// one is blank. In values no more than so many arrays stand in one another.
+/// one is blank. In values no more than so many arrays stand in one another. Each level takes some
+/// of the stack: up to [`SAFE_LEVEL`](crate::lines::SAFE_LEVEL) two megabytes suffice.
 ///
 /// Else why it is none: it is not lines of TOML, at this byte; or this line is the first that says
 /// again what a line before it does, a key of the same table, or a table, or as a table what is a
@@ -28,9 +29,10 @@ pub enum Fault<'i> {
 ///
 /// ```
 /// use toml_reader::document::{Fault, parse_document};
+/// use toml_reader::lines::SAFE_LEVEL;
 /// use toml_reader::value::{Item, Value};
 ///
-/// let lines = parse_document(alloc, 1, "# who\n[server]\nport = 80 # of it\n");
+/// let lines = parse_document(alloc, SAFE_LEVEL, "# who\n[server]\nport = 80 # of it\n");
 /// assert!(rt; matches!(lines, Ok(lines)
 ///     if matches!(&lines[2], Some(Item::Entry(_, Value::Integer(80))))));
 /// let lines = parse_document(alloc, 1, "a = 1\na = 2");

@@ -344,7 +344,8 @@ fn line_of<'i, A: Allocator + Copy>(
 /// end of the line, behind what stands of it.
 ///
 /// `None` where all are lines of TOML. An error is for a request for memory that was refused, which
-/// no clause says.
+/// no clause says. Each level takes some of the stack, as of
+/// [`read_value`](crate::lines::read_value).
 ///
 /// ```
 /// use toml_reader::expected::{Expected, Lack, first_lack};

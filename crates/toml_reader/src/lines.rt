@@ -25,6 +25,17 @@ use winnow::exact::Rule;
 use winnow::stream::Range;
 use winnow::token::{one_of, take_while};
 
+/// A level that is safe on a stack of two megabytes: reading a value calls itself once for each
+/// array that stands in another, and so does letting the value go. At a higher level a text can
+/// nest so deep that the stack ends, which stops the program: the stack, too, is to be larger then.
+///
+/// ```
+/// use toml_reader::lines::{SAFE_LEVEL, read_value};
+///
+/// assert!(rt; read_value(alloc, SAFE_LEVEL, &mut "[[1], [2]]").is_ok());
+/// ```
+pub const SAFE_LEVEL: usize = 128;
+
 /// Whether arrays are read at the level, and a bracket is first.
 fn opens(level: usize, input: &str) -> bool
     ensures yes { IsTrue result → (0 < level) × Begins (λ c. c ≡ 91) (chars input.now) }
@@ -52,7 +63,8 @@ impl<'i, A: Allocator> Rule<&'i str, Value<A>> for Nested<A> {
     ghost takes = { λ _ never. absurd never };
 }
 
-/// The value that stands first, in which no more than so many arrays stand in one another.
+/// The value that stands first, in which no more than so many arrays stand in one another. Each
+/// level takes some of the stack: up to [`SAFE_LEVEL`] two megabytes suffice.
 ///
 /// The input is left behind the value. An error backtracks where no value of the level stands
 /// first, and wants memory where a request was refused; what of the input is left then is an end of
@@ -223,7 +235,8 @@ pub(crate) fn read_line<'i, A: Allocator + Copy>(
 
 /// What the lines of a document say, where all of the text is lines of TOML, with a line feed
 /// between each two, or a carriage return and a line feed; nothing where one is blank. In values no
-/// more than so many arrays stand in one another. Lines may say a key or a table again.
+/// more than so many arrays stand in one another, and each level takes some of the stack, as of
+/// [`read_value`]. Lines may say a key or a table again.
 ///
 /// Else a fault: it says that the text is no such lines, and at which byte reading stopped, at the
 /// first line that is none, which is tested and not proved; or that a request for memory was

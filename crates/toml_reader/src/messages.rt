@@ -71,7 +71,9 @@ fn first_place<'i, A: Allocator + Copy>(
     Some((position, lack.expected))
 }
 
-/// The message for a fault of a text that was read as a document of this level.
+/// The message for a fault of a text that was read as a document of this level, which is read
+/// again: each level takes some of the stack, as of
+/// [`parse_document`](crate::document::parse_document).
 ///
 /// Of a text that is not lines of TOML it says what the first line lacks that is none, with the
 /// line and the column behind the text before the place. Of a line that says a key or a table again

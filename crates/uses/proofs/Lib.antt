@@ -1,9 +1,3 @@
-pub mod ColumnLines
-pub mod EntryRuns
-pub mod FieldLines
-pub mod HeaderRuns
 pub mod ItemLemmas
-pub mod PortFails
-pub mod PortRuns
-pub mod RequestLines
+pub mod PremiseLemmas
 pub mod WordRuns

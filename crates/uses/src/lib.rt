@@ -2,11 +2,8 @@
 #![tactic(auto)]
 
 pub mod choices;
-pub mod columns;
 pub mod complete_streams;
-pub mod csv;
-pub mod entries;
-pub mod first_word;
+pub mod first_line;
 pub mod functions;
 pub mod identifiers;
 pub mod items;
@@ -15,6 +12,5 @@ pub mod numbers;
 pub mod numerals;
 pub mod percentages;
 pub mod pieces;
-pub mod ports;
-pub mod request_line;
+pub mod premises;
 pub mod words;

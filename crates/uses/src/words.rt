@@ -3,7 +3,7 @@
 
 ghost use Rattle.uses.specs.Words.{Assignment, Mark, MarkedWord, Word};
 ghost use Rattle.winnow.specs.Bytes.{bytes_input, bytes_reading};
-ghost use Rattle.winnow.specs.Exact.{Reads};
+ghost use Rattle.winnow.specs.Exact.{IsSpared, Reads};
 
 use winnow::Parser;
 use winnow::ascii::impls::Alpha1;
@@ -22,8 +22,9 @@ use winnow::error::{EmptyError, HasKind};
 /// assert!(rt; front_word(&mut input).is_err());
 /// ```
 pub fn front_word<'i>(input: &mut &'i [u8]) -> Result<&'i [u8], EmptyError>
-    ensures { Reads bytes_reading ⟦<EmptyError as HasKind>⟧.kind Word
+    ensures reads { Reads bytes_reading ⟦<EmptyError as HasKind>⟧.kind Word
         (bytes_input input.old.now) result (bytes_input input.new.now) }
+    ensures spared { IsSpared ⟦<EmptyError as HasKind>⟧.kind (bytes_input input.old.now) result }
 {
     Alpha1.read(input)
 }
@@ -31,16 +32,18 @@ pub fn front_word<'i>(input: &mut &'i [u8]) -> Result<&'i [u8], EmptyError>
 /// The mark `=`, which stands first in bytes where it is answered; it fails, by a backtrack, where
 /// it does not.
 pub fn mark<'i>(input: &mut &'i [u8]) -> Result<u8, EmptyError>
-    ensures { Reads bytes_reading ⟦<EmptyError as HasKind>⟧.kind Mark
+    ensures reads { Reads bytes_reading ⟦<EmptyError as HasKind>⟧.kind Mark
         (bytes_input input.old.now) result (bytes_input input.new.now) }
+    ensures spared { IsSpared ⟦<EmptyError as HasKind>⟧.kind (bytes_input input.old.now) result }
 {
     b'='.read(input)
 }
 
 /// A word, `=` and a word. It fails, by a backtrack, where these do not stand first.
 pub fn assignment<'i>(input: &mut &'i [u8]) -> Result<(&'i [u8], u8, &'i [u8]), EmptyError>
-    ensures { Reads bytes_reading ⟦<EmptyError as HasKind>⟧.kind Assignment
+    ensures reads { Reads bytes_reading ⟦<EmptyError as HasKind>⟧.kind Assignment
         (bytes_input input.old.now) result (bytes_input input.new.now) }
+    ensures spared { IsSpared ⟦<EmptyError as HasKind>⟧.kind (bytes_input input.old.now) result }
 {
     (Alpha1, b'=', Alpha1).read(input)
 }
@@ -48,8 +51,9 @@ pub fn assignment<'i>(input: &mut &'i [u8]) -> Result<(&'i [u8], u8, &'i [u8]), 
 /// A word behind a mark: `=` and the word, which is answered. It fails, by a backtrack, where these
 /// do not stand first.
 pub fn marked_word<'i>(input: &mut &'i [u8]) -> Result<&'i [u8], EmptyError>
-    ensures { Reads bytes_reading ⟦<EmptyError as HasKind>⟧.kind MarkedWord
+    ensures reads { Reads bytes_reading ⟦<EmptyError as HasKind>⟧.kind MarkedWord
         (bytes_input input.old.now) result (bytes_input input.new.now) }
+    ensures spared { IsSpared ⟦<EmptyError as HasKind>⟧.kind (bytes_input input.old.now) result }
 {
     preceded(b'=', Alpha1).read(input)
 }

@@ -17,16 +17,15 @@ use Rattle.uses_csv.specs.Csv.{QuotedText, RecordText, line_end}
 use Rattle.uses_csv.specs.declared.LineEnd.{LineEnd}
 use Rattle.uses_csv.specs.declared.LineEnd.TheVariants.{CrLf, Lf}
 use Rattle.winnow.specs.Grammar.Same.{Same, unique_as}
-use Rattle.winnow.specs.OneOf.Laws.{token_of_takes}
 use Rattle.winnow.specs.Exact.Whole.{ReadsAll, reads_all_as}
 use Rattle.winnow.specs.Grammar.{Ahead, Both, Either, Gathered, Grammar, IsUnique, Literally}
 use Rattle.winnow.specs.Grammar.{Made, Many, NoTokens, NoneStands, Parted}
 use Rattle.winnow.specs.Once.{Others}
 use Rattle.winnow.specs.Grammar.{Takes, Three, Token, TokenOf}
-use Rattle.winnow.specs.Grammar.Known.{Byte, byte_stands, byte_takes, byte_unique}
+use Rattle.winnow.specs.Grammar.Known.{Byte, byte_stands, byte_unique}
 use Rattle.winnow.specs.Grammar.Known.{repeated_list, slice_for}
 use Rattle.winnow.specs.Grammar.Sequences.{three_unique}
-use Rattle.winnow.specs.Grammar.Unique.{ahead_unique, both_take, both_unique, either_takes}
+use Rattle.winnow.specs.Grammar.Unique.{ahead_unique, both_unique}
 use Rattle.winnow.specs.Grammar.Unique.{either_unique, gathered_unique, literally_unique}
 use Rattle.winnow.specs.Grammar.Unique.{made_unique, many_unique}
 use Rattle.winnow.specs.Grammar.Unique.{parted_unique, token_of_unique}
@@ -62,11 +61,6 @@ in_quotes = either_apart (both_of (λ _ b. b) (byte_of 34) (byte_of 34) front_an
 pub in_quotes_unique : IsUnique InQuotesRead
 in_quotes_unique = either_unique (both_unique (λ _ b. b) (byte_unique 34) (byte_unique 34))
     (token_of_unique (λ b. b) (Others Tells) 34)
-
-pub in_quotes_takes : Takes InQuotesRead
-in_quotes_takes = either_takes
-    (both_take (λ _ b. b) (byte_unique 34) (byte_unique 34) (inl (byte_takes 34)))
-    (token_of_takes (λ b. b) (Others Tells) 34)
 
 -- a closing quote, behind which no other one stands
 abbrev pub IsClosed : List ℕ → Type 0

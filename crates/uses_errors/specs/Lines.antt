@@ -2,7 +2,6 @@
 use Rattle.std.specs.Prelude.{◌≡◌, ◌⊎◌, ℕ, List, ◌∷◌, Option, None, Some, nat_eq, if◌then◌else◌}
 use Rattle.std.proofs.Common.{refl, inl, inr}
 use Rattle.winnow.specs.Kind.{Kind, backtrack, memory}
-use Rattle.winnow.specs.Form.{inner_kind_of}
 use Rattle.uses_errors.specs.declared.Level.{Level}
 use Rattle.uses_errors.specs.declared.Level.TheVariants.{Error, Info, Warning}
 use Rattle.uses_errors.specs.declared.error.LineError.{LineError}
@@ -51,12 +50,6 @@ chosen NoMemory second = NoMemory
 chosen Other second = second
 chosen (Expected part) second = second
 chosen (UnknownLevel letter) second = second
-
-pub inner_kind_of-line_kind : (e : LineError) → inner_kind_of (line_kind e) ≡ Some (line_kind e)
-inner_kind_of-line_kind Other = refl
-inner_kind_of-line_kind (Expected part) = refl
-inner_kind_of-line_kind (UnknownLevel letter) = refl
-inner_kind_of-line_kind NoMemory = refl
 
 -- an error backtracks or wants memory
 pub line_kind-cases : (e : LineError) → (line_kind e ≡ backtrack) ⊎ (line_kind e ≡ memory)

@@ -2,7 +2,7 @@
 ghost use Rattle.std.specs.Prelude.{◌≡◌, false};
 ghost use Rattle.winnow.specs.Form.{plain};
 ghost use Rattle.winnow.specs.Given.{always_kept};
-ghost use Rattle.uses_errors.specs.Lines.{chosen, inner_kind_of-line_kind, line_kind};
+ghost use Rattle.uses_errors.specs.Lines.{chosen, line_kind};
 ghost use Rattle.uses_errors.specs.Lines.{line_kind-cases, told};
 ghost use Rattle.uses_errors.specs.declared.error.LineError.TheVariants.{UnknownLevel};
 

@@ -1,3 +1,2 @@
 -- Written by scripts/registries.py: do not edit.
-pub mod Decided
 pub mod Sizes

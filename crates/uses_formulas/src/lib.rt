@@ -4,5 +4,4 @@
 //! one input decide the parts, each by its own type, is all that the law asks.
 #![tactic(auto)]
 
-pub mod laws;
 pub mod sizes;

@@ -13,16 +13,16 @@ ghost use Rattle.winnow.specs.Items.{Gives};
 ghost use Rattle.winnow.specs.Items.Premises.{gives_ends};
 ghost use Rattle.winnow.specs.OneTree.{IsExact};
 
-use crate::laws::{
-    a_byte_consumes, a_choice_consumes, a_decided_part_is_stateless, a_value_consumes,
-};
 use std::alloc::Allocator;
 use winnow::Parser;
 use winnow::ascii::impls::DecUint;
 use winnow::combinator::impls::{AltParser, Fail, Value};
 use winnow::combinator::{FoldBinary, FoldUnary, Infix, NoFold, Postfix, Prefix, alt, expression};
 use winnow::error::{EmptyError, HasKind, ParserError};
-use winnow::laws::{Likeness, expression_reads_the_one_tree};
+use winnow::laws::{
+    Likeness, a_byte_consumes, a_choice_consumes, a_decided_part_is_stateless, a_value_consumes,
+    expression_reads_the_one_tree,
+};
 use winnow::stream::Stream;
 
 /// A unit behind a size.

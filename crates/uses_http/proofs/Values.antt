@@ -9,7 +9,7 @@ use Rattle.std.proofs.lemmas.List.Elements.{All-weaker}
 use Rattle.std.proofs.lemmas.List.{same_from_push}
 use Rattle.http_heads.specs.Bytes.{IsTokenByte, IsValueByte, IsWhite, line_end}
 use Rattle.http_heads.specs.FieldLine.{BeginsBare, EndsBare, IsFieldLine, IsTrimmed}
-use Rattle.http_heads.specs.FieldRead.{all_front, field_takes, none_returns, white_is_value}
+use Rattle.http_heads.specs.FieldRead.{all_front, none_returns, white_is_value}
 use Rattle.http_heads.specs.declared.field_line.Field.{Field}
 use Rattle.winnow.specs.Equal.{same_first, same_others}
 use Rattle.uses_http.proofs.Texts.{in_middle, one_stranger, one_text}
@@ -112,12 +112,6 @@ pub field_line_begins : (name value bytes rest more : List ℕ) → IsFieldLine 
     → bytes ≡ 13 ∷ more → ⊥
 field_line_begins name value bytes rest more line =
     none_returns bytes (field_of name value) rest more line
-
--- each takes bytes
-pub field_line_takes : (name value bytes rest : List ℕ) → IsFieldLine name value bytes rest
-    → length rest < length bytes
-field_line_takes name value bytes rest line =
-    field_takes.fewer bytes (field_of name value) rest line
 
 -- ---- a field line as it is read: its text is the value, and white space behind that
 

@@ -26,7 +26,7 @@ use Rattle.winnow.specs.Grammar.{Token}
 use Rattle.winnow.specs.Grammar.Known.{slice_for}
 use Rattle.winnow.specs.Numeral.Grammar.{SignedDecimal}
 use Rattle.winnow.specs.Grammar.Searches as searches
-use Rattle.winnow.specs.Texts.{Anything, IsGrammarOf, Members, NotFirst, Text}
+use Rattle.winnow.specs.Texts.{IsGrammarOf, Members, NotFirst, Text}
 use Rattle.winnow.specs.Texts.Tokens.{counted_of, divides_either, divides_others}
 use Rattle.winnow.specs.Texts.Tokens.{divides_seen}
 use Rattle.winnow.specs.Texts.Tokens.{divides_where, longest_of}
@@ -36,16 +36,6 @@ use Rattle.uses_resp.specs.declared.leaves.Mark.TheVariants.{Colon, Dollar, Minu
 use Rattle.uses_resp.specs.Resp.{DataText, Ended, IntegerText, LineText, MarkText, SignedText}
 use Rattle.uses_resp.specs.Resp.{InLine, IsSize, SizeText, byte_of, line_end}
 use Rattle.uses_resp.specs.declared.leaves.Mark.{Mark}
-
--- what stands by the grammar of a text that anything may follow
-first_same : {T O : Type 0} {g : Grammar T O} {text : Text T O} → IsGrammarOf g text Anything
-    → Same g (First text)
-unfolding First
-first_same {T} {O} {g} is = record {
-  there = λ tokens o rest x. let (front, e, a) = is.there tokens o rest x in (front, a, e);
-  back = λ tokens o rest (front, a, e).
-      let P : List T → Type 0 = λ l. g l o rest in subst P (sym e) (is.back o front rest a tt);
-}
 
 -- the end of a line, as it is read
 abbrev pub EndRead : Grammar ℕ (Bor (List ℕ))

@@ -47,6 +47,19 @@ fn read_bulk<'i, A: Allocator>(
     }
 }
 
+/// A level that is safe on a stack of two megabytes: reading a reply calls itself once for each
+/// array that stands in another, and so does letting the reply go. At a higher level replies can
+/// nest so deep that the stack ends, which stops the program: the stack, too, is to be larger then.
+///
+/// ```
+/// use uses_resp::read::{SAFE_LEVEL, read_reply};
+/// use winnow::stream::Partial;
+///
+/// let mut input = Partial::new(b"*1\r\n*1\r\n:7\r\n".as_slice());
+/// assert!(rt; read_reply(alloc, SAFE_LEVEL, &mut input).is_ok());
+/// ```
+pub const SAFE_LEVEL: usize = 128;
+
 /// For how many elements an array has room before one is read, at most: its size is what the bytes
 /// say, and they may state one that they do not have.
 const ROOM_AT_FIRST: usize = 64;
@@ -80,7 +93,8 @@ fn read_array<'i, A: Allocator + Copy>(
 }
 
 /// The reply that the bytes begin with, with no more than `level` arrays in one another; what is
-/// left is behind it.
+/// left is behind it. Each level takes some of the stack: up to [`SAFE_LEVEL`] two megabytes
+/// suffice.
 ///
 /// On a whole input (a stream that is marked complete) it answers exactly where such a reply stands
 /// first: an error backtracks and says that none does, or wants memory. On a cut one an answer
@@ -90,12 +104,12 @@ fn read_array<'i, A: Allocator + Copy>(
 /// those of a bulk string are wanting, is tested.
 ///
 /// ```
-/// use uses_resp::read::read_reply;
+/// use uses_resp::read::{SAFE_LEVEL, read_reply};
 /// use uses_resp::reply::Reply;
 /// use winnow::stream::Partial;
 ///
 /// let mut input = Partial::new(b"*2\r\n$3\r\nfoo\r\n:7\r\n+".as_slice());
-/// let reply = read_reply(alloc, 1, &mut input);
+/// let reply = read_reply(alloc, SAFE_LEVEL, &mut input);
 /// assert!(rt; matches!(reply, Ok(Reply::Array(replies)) if replies.len() == 2));
 /// assert_eq!(rt; *input.as_inner(), b"+".as_slice());
 /// assert!(rt; read_reply(alloc, 0, &mut Partial::new(b"$6\r\nfoo".as_slice())).is_err());

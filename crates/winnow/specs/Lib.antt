@@ -33,7 +33,6 @@ pub use Rattle.winnow_core.specs.Take as TakeAdapter
 pub use Rattle.winnow_core.specs.Laws as ParserLaws
 pub use Rattle.winnow_token.specs.Literal as LiteralParser
 pub use Rattle.winnow_expression.specs.Grammar as OperatorGrammar
-pub use Rattle.winnow_comb.specs.Laws as CombinatorLaws
 pub use Rattle.winnow_meanings.specs.Laws as MeaningLaws
 pub use Rattle.winnow_expression_trees.specs.Reading as ReadingOfParts
 pub use Rattle.winnow_expression_trees.specs.Value as ValueOfTree
@@ -76,6 +75,7 @@ pub use Rattle.stream_sets.specs.Sets
 -- Sets of bytes as a table of bits.
 pub use Rattle.byte_sets.specs.ByteSet
 -- Lines and columns of a text.
+pub use Rattle.text_positions.specs.Excerpt
 pub use Rattle.text_positions.specs.Position
 -- Grammars over tokens, and texts that stand for values: the words, and what holds of them.
 pub use Rattle.grammars.specs.Grammar
@@ -143,7 +143,6 @@ pub use Rattle.winnow_core.specs.Sequence
 pub use Rattle.winnow_core.specs.Settles
 pub use Rattle.winnow_core.specs.Short
 pub use Rattle.winnow_core.specs.Span
-pub use Rattle.winnow_core.specs.Splits
 pub use Rattle.winnow_core.specs.Stable
 pub use Rattle.winnow_core.specs.States
 pub use Rattle.winnow_core.specs.TryMap
@@ -190,6 +189,7 @@ pub use Rattle.winnow_comb.specs.CutErr
 pub use Rattle.winnow_comb.specs.Delimited
 pub use Rattle.winnow_comb.specs.Empty
 pub use Rattle.winnow_comb.specs.Fail
+pub use Rattle.winnow_comb.specs.Laws
 pub use Rattle.winnow_comb.specs.Not
 pub use Rattle.winnow_comb.specs.Opt
 pub use Rattle.winnow_comb.specs.Peek

@@ -15,9 +15,8 @@ pub use winnow_comb::laws::items::{
 pub use winnow_comb::laws::{not_goes_back, opt_goes_back_on_none, peek_goes_back};
 pub use winnow_core::laws::{
     a_complete_stream_is_answered_as_the_plain_one, a_cut_input_is_answered_as_each_longer_one,
-    a_longer_input_gets_no_other_answer, and_then_goes_back,
-    bytes_with_the_output_and_the_rest_are_the_input, eof_is_not_stable, leaves_an_end,
-    parse_to_goes_back, taken_bytes_and_the_rest_are_the_input,
+    and_then_goes_back, bytes_with_the_output_and_the_rest_are_the_input, eof_is_not_stable,
+    leaves_an_end, parse_to_goes_back, taken_bytes_and_the_rest_are_the_input,
     taken_text_and_the_rest_are_the_input, taken_tokens_and_the_rest_are_the_input,
     text_with_the_output_and_the_rest_are_the_input, the_slice_taken_and_the_rest_are_the_input,
     the_slice_with_the_output_and_the_rest_are_the_input,
@@ -25,14 +24,12 @@ pub use winnow_core::laws::{
     verify_map_goes_back,
 };
 pub use winnow_escapes::laws::{
-    escaped_bytes_and_the_rest_are_the_input, escaped_leaves_an_end,
-    escaped_text_and_the_rest_are_the_input, take_escaped_leaves_an_end,
+    escaped_bytes_and_the_rest_are_the_input, escaped_text_and_the_rest_are_the_input,
     the_escaped_slice_and_the_rest_are_the_input,
 };
 pub use winnow_exact::laws::a_decided_answer_stays_on_longer_inputs;
 pub use winnow_expression_trees::laws::parts::{
-    a_byte_is_stateless, a_choice_is_stateless, a_number_is_stateless, a_value_is_stateless,
-    an_unset_parser_is_stateless,
+    a_byte_consumes, a_choice_consumes, a_decided_part_is_stateless, a_value_consumes,
 };
 pub use winnow_expression_trees::laws::{
     Likeness, at_most_one_tree_keeps_the_powers, expression_reads_the_one_tree,
@@ -52,10 +49,6 @@ pub use winnow_meanings::laws::memory::{
     a_repetition_never_hides_want_of_memory, a_separated_list_never_hides_want_of_memory,
     a_sequence_never_hides_want_of_memory, an_option_never_hides_want_of_memory,
     repeat_till_never_hides_want_of_memory,
-};
-pub use winnow_numbers::laws::{
-    dec_int_passes_its_digits, dec_int_reads_one_number, dec_uint_passes_its_digits,
-    dec_uint_reads_one_number, hex_uint_reads_one_number,
 };
 pub use winnow_recovery::laws::{
     no_error_is_a_whole_parse, resume_after_is_answered_alike, resume_after_leaves_an_end,

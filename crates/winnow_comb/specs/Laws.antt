@@ -1,5 +1,5 @@
 -- Laws of the combinators.
-use Rattle.std.specs.Prelude.{◌≡◌, Option, None, Ok, Err, ◌⊎◌, List, [], ◌∷◌}
+use Rattle.std.specs.Prelude.{ℕ, ◌≡◌, Option, None, Ok, Err, ◌⊎◌, List, [], ◌∷◌}
 use Rattle.streams.specs.Input.{Input, Remaining, back_at}
 use Rattle.streams.specs.Kind.{Kind, backtrack}
 use Rattle.stream_errors.specs.Form.{Answer}
@@ -42,3 +42,7 @@ ChoosesFirstItem {S} {T} {O} run assert_kind chooses =
     → chooses s i answer t j
     → ((s ≡ []) × (answer ≡ Err assert_kind) × (j ≡ i))
     ⊎ AnswersAsFirst i.left (branch_runs run s t) i answer j
+
+-- Runs behind some reference.
+abbrev pub WithoutName : {S T O : Type 0} → Runs (S × ℕ) T O → Runs S T O
+WithoutName {S} {T} {O} run s i answer t j = (x : ℕ) × (y : ℕ) × run (s, x) i answer (t, y) j

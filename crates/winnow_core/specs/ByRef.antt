@@ -16,7 +16,3 @@ by_ref_name s = s.parser.ghost_name
 -- parser, and which reference it is.
 abbrev pub ByRefRuns : {S T O : Type 0} → Runs S T O → Runs (S × ℕ) T O
 ByRefRuns run s i answer t j = run s.0 i answer t.0 j × (t.1 ≡ s.1)
-
--- Runs behind some reference.
-abbrev pub WithoutName : {S T O : Type 0} → Runs (S × ℕ) T O → Runs S T O
-WithoutName {S} {T} {O} run s i answer t j = (x : ℕ) × (y : ℕ) × run (s, x) i answer (t, y) j

@@ -4,7 +4,8 @@ use Rattle.std.specs.Prelude.{◌≡◌}
 use Rattle.grammars.specs.Grammar.{Grammar, Never, Takes}
 use Rattle.stream_errors.specs.Form.{ErrorForm}
 use Rattle.winnow_core.specs.Decided.{IsDecided}
-use Rattle.winnow_core.specs.Exact.{IsExact, IsSoft}
+use Rattle.winnow_core.specs.Exact.{FailsBy, IsExact}
+use Rattle.winnow_core.specs.Exact.Allowed.{Allowed}
 use Rattle.winnow_core.specs.Runs.{Meaning}
 
 -- What is claimed of runs from a state.
@@ -13,6 +14,8 @@ pub record Claim (T O : Type 0) : Type 1 where
   pub premise : Type 0
   -- when each of its failures lets others be tried
   pub backtracks : Type 0
+  -- when no failure of it is for want of memory
+  pub spares_memory : Type 0
   -- when what it reads takes tokens
   pub consumes : Type 0
   -- which outputs stand first in some tokens, and what is left behind each
@@ -27,8 +30,10 @@ pub record Claimed {S T O : Type 0} (claim : Claim T O) (s : S) (meaning : Meani
     : Type 0 where
   -- on a whole input each run reads by the grammar
   pub exact : (form : ErrorForm) → claim.premise → IsExact s (meaning form) claim.grammar
-  -- a failure lets others be tried
-  pub soft : (form : ErrorForm) → claim.premise → claim.backtracks → IsSoft s (meaning form)
+  -- on a whole input no failure asks for more; it lets others be tried, and none is for want of
+  -- memory, where that is claimed
+  pub fails : (form : ErrorForm) → claim.premise
+      → FailsBy (Allowed claim.backtracks claim.spares_memory) s (meaning form)
   -- what is read takes tokens
   pub takes : claim.premise → claim.consumes → Takes claim.grammar
   -- one state and one input decide the runs
@@ -39,6 +44,7 @@ abbrev pub no_claim : {T O : Type 0} → Claim T O
 no_claim = record {
   premise = ⊥;
   backtracks = ⊥;
+  spares_memory = ⊥;
   consumes = ⊥;
   grammar = Never;
   decides = ⊥;
@@ -50,7 +56,7 @@ pub nothing_claimed : {S T O : Type 0} {s : S} {meaning : Meaning S T O}
     → Claimed no_claim s meaning
 nothing_claimed = record {
   exact = λ form never. absurd never;
-  soft = λ form never backtracks. absurd never;
+  fails = λ form never. absurd never;
   takes = λ never consumes. absurd never;
   decided = λ form never. absurd never;
 }

@@ -8,6 +8,7 @@ use Rattle.grammars.specs.Grammar.{Grammar, IsUnique, NoneStands}
 use Rattle.stream_errors.specs.Form.{Answer, answer_by}
 use Rattle.winnow_core.specs.Runs.{Runs}
 pub mod Adapters
+pub mod Allowed
 pub mod Along
 pub mod Errors
 pub mod Failed
@@ -29,10 +30,24 @@ pub record IsExact {S T O : Type 0} (s : S) (run : Runs S T O)
       → run s i (Err k) t j → (k ≡ memory) ⊎ NoneStands grammar i.left.tokens
   pub unique : IsUnique grammar
 
+-- On a whole input it fails with such kinds alone.
+pub record FailsBy {S T O : Type 0} (allowed : Kind → Type 0) (s : S) (run : Runs S T O) : Type 0
+  where
+    pub fails : (i : Input T) (k : Kind) (t : S) (j : Input T) → i.status.cut ≡ false
+        → run s i (Err k) t j → allowed k
+
+-- it fails with those of a wider choice
+pub fails_wider : {S T O : Type 0} {s : S} {run : Runs S T O} {allowed also : Kind → Type 0}
+    → ((k : Kind) → allowed k → also k) → FailsBy allowed s run → FailsBy also s run
+fails_wider wider f = record { fails = λ i k t j is ran. wider k (f.fails i k t j is ran) }
+
 -- On a whole input it fails so that others are tried, or for want of memory.
-pub record IsSoft {S T O : Type 0} (s : S) (run : Runs S T O) : Type 0 where
-  pub soft : (i : Input T) (k : Kind) (t : S) (j : Input T) → i.status.cut ≡ false
-      → run s i (Err k) t j → (k ≡ memory) ⊎ (k ≡ backtrack)
+abbrev pub IsSoft : {S T O : Type 0} → S → Runs S T O → Type 0
+IsSoft s run = FailsBy (λ k. (k ≡ memory) ⊎ (k ≡ backtrack)) s run
+
+-- On a whole input it fails so that others are tried.
+abbrev pub Backtracks : {S T O : Type 0} → S → Runs S T O → Type 0
+Backtracks s run = FailsBy (λ k. k ≡ backtrack) s run
 
 -- What a call tells by a grammar. It leaves an end of its input. On a whole one an output stands,
 -- with what is left; an error backtracks and says that none stands, or wants memory.
@@ -42,6 +57,17 @@ pub record Reads {T L O E : Type 0} (reading : Reading T L) (kind : E → Kind)
   pub stands : i.status.cut ≡ false → IfOk result (λ o. grammar i.left.tokens o j.left.tokens)
   pub none : i.status.cut ≡ false → IfErr result (λ e. (kind e ≡ memory)
       ⊎ ((kind e ≡ backtrack) × NoneStands grammar i.left.tokens))
+
+-- On a whole input an error lets others be tried: none is for want of memory.
+abbrev pub IsSpared : {T O E : Type 0} → (E → Kind) → Input T → Result O E → Type 0
+IsSpared kind i result = i.status.cut ≡ false → IfErr result (λ e. kind e ≡ backtrack)
+
+-- so it is of a call
+pub spared_told : {S T O E : Type 0} {s : S} {run : Runs S T O} (kind : E → Kind)
+    → Backtracks s run → (i : Input T) (result : Result O E) (t : S) (j : Input T)
+    → run s i (answer_by kind result) t j → IsSpared kind i result
+spared_told kind f i (Ok o) t j ran is = tt
+spared_told kind f i (Err e) t j ran is = f.fails i (kind e) t j is ran
 
 -- what a call tells
 pub exact_told : {S T L O E : Type 0} {s : S} {run : Runs S T O} {grammar : Grammar T O}
@@ -55,7 +81,7 @@ exact_told reading kind c f i (Err e) t j ends ran = record {
   stands = λ is. tt;
   none = λ is. elim (c.none i (kind e) t j is ran) [
     | inl m ↦ inl m
-    | inr nothing ↦ elim (f.soft i (kind e) t j is ran) [
+    | inr nothing ↦ elim (f.fails i (kind e) t j is ran) [
       | inl m ↦ inl m
       | inr b ↦ inr (b, nothing)
     ]

@@ -38,7 +38,6 @@ pub mod Sequence
 pub mod Settles
 pub mod Short
 pub mod Span
-pub mod Splits
 pub mod Stable
 pub mod States
 pub mod Take

@@ -4,7 +4,6 @@ use Rattle.streams.specs.Input.{Input}
 use Rattle.streams.specs.Kind.{Kind}
 use Rattle.stream_errors.specs.Form.{Answer}
 use Rattle.winnow_core.specs.Runs.{Runs}
-pub mod Known
 pub mod Laws
 
 -- A run of the child, and what is made of its output and of where it began and ended.

@@ -5,7 +5,6 @@ use Rattle.streams.specs.Input.{Input, with_more}
 use Rattle.streams.specs.Kind.{Kind, backtrack, cut, incomplete, memory}
 use Rattle.stream_errors.specs.Form.{Answer}
 use Rattle.winnow_core.specs.Runs.{Runs}
-pub mod Decided
 pub mod Grows
 pub mod Known
 pub mod Longer

@@ -6,7 +6,6 @@ use Rattle.streams.specs.Reading.{Reading}
 use Rattle.stream_errors.specs.Form.{Answer}
 use Rattle.winnow_core.specs.Runs.{Runs}
 use Rattle.winnow_core.specs.declared.combinator.impls.take.Take.{Take}
-pub mod Known
 pub mod Laws
 
 -- the parser whose slice is answered

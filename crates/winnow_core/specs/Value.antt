@@ -5,7 +5,6 @@ use Rattle.streams.specs.Kind.{Kind, memory}
 use Rattle.stream_errors.specs.Form.{Answer}
 use Rattle.winnow_core.specs.Runs.{Runs}
 use Rattle.winnow_core.specs.declared.combinator.impls.value.Value.{Value}
-pub mod Known
 pub mod Laws
 
 -- the parser whose output is replaced

@@ -5,7 +5,6 @@ use Rattle.streams.specs.Kind.{Kind, backtrack}
 use Rattle.stream_errors.specs.Form.{Answer}
 use Rattle.winnow_core.specs.Runs.{Runs}
 use Rattle.winnow_core.specs.declared.combinator.impls.verify_map.VerifyMap.{VerifyMap}
-pub mod Known
 pub mod Laws
 
 -- the parser whose output is mapped or refused

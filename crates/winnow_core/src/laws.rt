@@ -2,12 +2,10 @@
 ghost use Rattle.std.specs.Prelude.{◌≡◌, List, [], ◌∷◌};
 ghost use Rattle.std.specs.Str.{chars};
 ghost use Rattle.stream_errors.specs.Form.{modal};
-ghost use Rattle.winnow_core.specs.Decides.{Decides, DecidesOutputs};
 ghost use Rattle.winnow_core.specs.Laws.{AnswersAlike, GoesBackOnFailure, ShowsOne};
 ghost use Rattle.winnow_core.specs.Laws.{TakesFromTheFront};
 ghost use Rattle.winnow_core.specs.Runs.{LeaveEnds};
 ghost use Rattle.winnow_core.specs.Stable.{EachSettlesOnCut, IsStable};
-ghost use Rattle.winnow_core.specs.Stable.Decided.{NoOtherOnLonger, SameOutputOnLonger};
 
 use crate::agrees_with::AgreesWith;
 use crate::combinator::impls::{AndThen, Eof, ParseTo, Take, TryMap, Verify, VerifyMap, WithTaken};
@@ -221,16 +219,6 @@ pub fn a_cut_input_is_answered_as_each_longer_one<
     E: ParserError<I>,
 >()
     ensures { E.form ≡ modal → EachSettlesOnCut I.following (P.meaning E.form) }
-{}
-
-/// Where one state and one input decide how a stable parser ends, want of memory aside, a longer
-/// input gets no other answer than the cut one: an output or the same kind, the same new state, and
-/// the rest with what was added; and the same output, where they decide that too.
-pub fn a_longer_input_gets_no_other_answer<P: Stable<I, O, E>, I: Stream, O, E: ParserError<I>>()
-    ensures outcome { E.form ≡ modal → Decides (P.meaning E.form)
-        → NoOtherOnLonger I.following (P.meaning E.form) }
-    ensures output { E.form ≡ modal → DecidesOutputs (P.meaning E.form)
-        → SameOutputOnLonger I.following (P.meaning E.form) }
 {}
 
 /// [`Eof`](crate::combinator::impls::Eof) is not stable, and no block can say that it is: what is

@@ -1,7 +1,7 @@
 //! The trait of parsers.
 #![tactic(auto, using(streams::specs::Ends::ends_follow))]
 
-ghost use Rattle.std.specs.Prelude.{⊤, ◌≡◌, false};
+ghost use Rattle.std.specs.Prelude.{⊤, ◌≡◌, false, IfErr};
 ghost use Rattle.stream_errors.specs.Form.{ErrorForm, answer_by};
 ghost use Rattle.streams.specs.Input.{IsEndOf};
 ghost use Rattle.winnow_core.specs.AndThen.{and_then_inner, and_then_outer};
@@ -12,8 +12,8 @@ ghost use Rattle.winnow_core.specs.Context.{context_parser, context_told};
 ghost use Rattle.winnow_core.specs.ContextWith.{context_with_closure, context_with_parser};
 ghost use Rattle.winnow_core.specs.DefaultValue.{default_value_parser};
 ghost use Rattle.winnow_core.specs.ErrInto.{err_into_parser};
-ghost use Rattle.winnow_core.specs.Exact.{Reads};
-ghost use Rattle.winnow_core.specs.Exact.Whole.{ReadsAll};
+ghost use Rattle.winnow_core.specs.Exact.{IsSpared, Reads};
+ghost use Rattle.winnow_core.specs.Exact.Whole.{IsWant, ReadsAll};
 ghost use Rattle.winnow_core.specs.FlatMap.{flat_map_closure, flat_map_parser};
 ghost use Rattle.winnow_core.specs.Map.{map_closure, map_parser};
 ghost use Rattle.winnow_core.specs.MapErr.{map_err_closure, map_err_parser};
@@ -130,8 +130,9 @@ pub trait Parser<I: Stream, O, E: ParserError<I>>: Sized {
 
     /// As [`parse_next`](Parser::parse_next), and the parser's grammar says what it answers: on a
     /// whole input an output stands first, and an error backtracks and says that none does, or
-    /// wants memory. The caller owes what the parser asks for (`premise`), and that its failures
-    /// let others be tried (`backtracks`).
+    /// wants memory; and none wants memory where the parser asks for none (`spared`). The caller
+    /// owes what the parser asks for (`premise`), and that its failures let others be tried
+    /// (`backtracks`).
     #[inline(always)]
     final fn read(&mut self, input: &mut I) -> Result<O, E>
         requires callable { can_parse self.old }
@@ -143,13 +144,16 @@ pub trait Parser<I: Stream, O, E: ParserError<I>>: Sized {
         ensures kept { (I.view input.old).status.cut ≡ false → state self.new ≡ state self.old }
         ensures reads { Reads I.reading E.kind (claim (state self.old)).grammar
             (I.view input.old) result (I.view input.new) }
+        ensures spared { (claim (state self.old)).spares_memory
+            → IsSpared E.kind (I.view input.old) result }
     {
         self.parse_next(input)
     }
 
     /// As [`parse`](Parser::parse), and the parser's grammar says what it answers: an output stands
-    /// first in the tokens and leaves nothing, and a fault says that none does, or wants memory.
-    /// The caller owes what the parser asks for (`premise`), and a stream type that is not partial.
+    /// first in the tokens and leaves nothing, and a fault says that none does, or wants memory. It
+    /// asks for no more tokens, and for no memory where the parser asks for none (`spared`). The
+    /// caller owes what the parser asks for (`premise`), and a stream type that is not partial.
     #[inline(always)]
     final fn read_all(&mut self, input: I) -> Result<O, ParseFault<I, E::Inner>>
     where
@@ -164,6 +168,8 @@ pub trait Parser<I: Stream, O, E: ParserError<I>>: Sized {
             (state self.new) j) result }
         ensures reads { ReadsAll E.inner_kind (claim (state self.old)).grammar
             (I.view input).left.tokens result }
+        ensures spared { (claim (state self.old)).spares_memory
+            → IfErr result (λ fault. IsWant E.inner_kind fault → ⊥) }
     {
         self.parse(input)
     }

@@ -9,7 +9,6 @@ use Rattle.winnow_escapes.specs.Escaped.{EscapedRuns, escaped_control, escaped_e
 use Rattle.winnow_escapes.specs.Escaped.{escaped_normal, turns_kept}
 use Rattle.winnow_escapes.specs.declared.ascii.impls.take_escaped.TakeEscaped.{TakeEscaped}
 use Rattle.winnow_escapes.specs.declared.ascii.turns.Turn.{Turn}
-pub mod Known
 pub mod Laws
 
 -- the parser of what stands for itself

@@ -2,48 +2,12 @@
 ghost use Rattle.std.specs.Prelude.{List};
 ghost use Rattle.std.specs.Str.{chars};
 ghost use Rattle.winnow_core.specs.Laws.{ShowsOne, TakesFromTheFront};
-ghost use Rattle.winnow_core.specs.Runs.{LeaveEnds};
 
-use crate::ascii::impls::{Escaped, TakeEscaped};
+use crate::ascii::impls::TakeEscaped;
 use stream_errors::control::ControlError;
 use stream_errors::parser_error::ParserError;
-use stream_sets::accumulate::Accumulate;
 use streams::stream::StreamIsPartial;
 use winnow_core::parser::Parser;
-
-/// After [`escaped`](crate::ascii::escaped) the input is an end of the input before, whatever it
-/// answers.
-pub fn escaped_leaves_an_end<
-    N: Parser<I, O, E>,
-    K: Parser<I, D, ControlError>,
-    X: Parser<I, P, E>,
-    I: StreamIsPartial,
-    O: Drop,
-    D: Drop,
-    P: Drop,
-    C: Accumulate<O, A> + Accumulate<P, A>,
-    E: ParserError<I>,
-    A: Copy,
->()
-    ensures { LeaveEnds I.reading
-        (⟦<Escaped<N, K, X, I, O, D, P, C, E, A> as Parser<I, C, E>>⟧.meaning E.form) }
-{}
-
-/// After [`take_escaped`](crate::ascii::take_escaped) the input is an end of the input before,
-/// whatever it answers.
-pub fn take_escaped_leaves_an_end<
-    N: Parser<I, O, E>,
-    K: Parser<I, D, ControlError>,
-    X: Parser<I, P, E>,
-    I: StreamIsPartial,
-    O: Drop,
-    D: Drop,
-    P: Drop,
-    E: ParserError<I>,
->()
-    ensures { LeaveEnds I.reading
-        (⟦<TakeEscaped<N, K, X, I, O, D, P, E> as Parser<I, I::Slice, E>>⟧.meaning E.form) }
-{}
 
 /// Over bytes, the slice that [`take_escaped`](crate::ascii::take_escaped) answers and then the
 /// rest are the input before.

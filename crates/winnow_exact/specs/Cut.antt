@@ -59,7 +59,7 @@ module _ {S T O : Type 0} {following : Following T} {s : S} {run : Runs S T O}
         (stable more false s i (Err backtrack) t j is follows tt r),
   )))
   cut_fails i cut t j is r = inr (inr (λ more follows. cut_is_none
-      (f.soft (with_more i more false) cut t (with_more j more false) refl
+      (f.fails (with_more i more false) cut t (with_more j more false) refl
       (stable more false s i (Err cut) t j is follows tt r))))
 
   pub cut_told : {E : Type 0} (kind : E → Kind) (i : Input T) (result : Result O E) (t : S)

@@ -7,7 +7,9 @@ use Rattle.streams.specs.Reading.{Reading}
 use Rattle.stream_errors.specs.Form.{Answer, answer_by}
 use Rattle.stream_errors.specs.Form.Known.{ok_is_err, same_kind, same_output}
 use Rattle.winnow_core.specs.Func.{FuncRuns}
-use Rattle.winnow_core.specs.Exact.{IsExact, IsSoft, Reads}
+use Rattle.winnow_core.specs.Exact.{FailsBy, IsExact, IsSpared, Reads}
+use Rattle.winnow_core.specs.Exact.Allowed.{Allowed, back_allowed, memory_allowed}
+use Rattle.winnow_core.specs.Exact.Failed.{not_memory}
 use Rattle.winnow_core.specs.States.{pair_is}
 use Rattle.grammars.specs.Grammar.{Grammar, IsUnique, NoneStands}
 use Rattle.winnow_exact.specs.declared.rule.By.{By}
@@ -27,6 +29,12 @@ pub record CallsRead {F I T L O E : Type 0} (reading : Reading T L) (view : I �
   pub kept : (x : I) (r : Result O E) (g : F) (y : I) → called f x r g y → g ≡ f
   pub reads : (x : I) (r : Result O E) (g : F) (y : I) → called f x r g y
       → Reads reading kind grammar (view x) r (view y)
+
+-- No call of the function on a whole input wants memory.
+abbrev pub CallsSpared : {F I T O E : Type 0} → (I → Input T) → (E → Kind)
+    → (F → I → Result O E → F → I → Type 0) → F → Type 0
+CallsSpared {F} {I} {T} {O} {E} view kind called f =
+    (x : I) (r : Result O E) (g : F) (y : I) → called f x r g y → IsSpared kind (view x) r
 
 -- so calls of what a call leaves read too
 pub read_again : {F I T L O E : Type 0} (reading : Reading T L) (view : I → Input T)
@@ -63,6 +71,13 @@ call_fails {g = g} i j k (Err e) is reads told =
     let P : Kind → Type 0 = λ l. (l ≡ memory) ⊎ ((l ≡ backtrack) × NoneStands g i.left.tokens) in
     subst P (same_kind told) (reads.none is)
 
+-- one that asks for no memory wants none
+call_spared : {T O E : Type 0} (kind : E → Kind) (i : Input T) (k : Kind) (r : Result O E)
+    → i.status.cut ≡ false → IsSpared kind i r → answer_by kind r ≡ Err k → k ≡ memory → ⊥
+call_spared kind i k (Ok p) is spared told wanted = ok_is_err refl told
+call_spared kind i k (Err e) is spared told wanted =
+    not_memory (sym (spared is) ∙ same_kind told ∙ wanted)
+
 module _ {N F I T L O E : Type 0} {reading : Reading T L} {view : I → Input T} {kind : E → Kind}
     {called : F → I → Result O E → F → I → Type 0} {g : Grammar T O} (s : N × F)
     (reads : CallsRead reading view kind called g s.1) where
@@ -88,12 +103,15 @@ module _ {N F I T L O E : Type 0} {reading : Reading T L} {view : I → Input T}
     unique = unique;
   }
 
-  pub by_soft : IsSoft s (ByRuns reading view kind called)
-  by_soft = record {
-    soft = λ i k t j is (((x, r, y, call, seen, told, left), ends), same).
+  pub by_fails : {b : Type 0}
+      → FailsBy (Allowed b (CallsSpared view kind called s.1)) s (ByRuns reading view kind called)
+  by_fails = record {
+    fails = λ i k t j is (((x, r, y, call, seen, told, left), ends), same).
         elim (call_fails i j k r is (moved i j x r t.1 y call seen left) told) [
-          | inl m ↦ inl m
-          | inr (b, nothing) ↦ inr b
+          | inl m ↦ memory_allowed (λ spared.
+              let P : Input T → Type 0 = λ z. IsSpared kind z r in
+              call_spared kind i k r is (subst P seen (spared x r t.1 y call)) told m) m
+          | inr (b, nothing) ↦ back_allowed b
         ];
   }
 

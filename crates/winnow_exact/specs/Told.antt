@@ -10,13 +10,15 @@ use Rattle.grammars.specs.Grammar.{Grammar}
 use Rattle.grammars.specs.Texts.{IsGrammarOf, Text}
 use Rattle.stream_errors.specs.declared.fault.ParseFault.{ParseFault}
 use Rattle.winnow_core.specs.Exact.{Reads}
-use Rattle.winnow_core.specs.Exact.Whole.{IsWant, ReadsAll}
+use Rattle.winnow_core.specs.Exact.Whole.{IsRefused, IsWant, ReadsAll}
 
--- What all tokens are: a text of the output; a fault says that they are no text, or wants memory.
+-- What all tokens are: a text of the output; a fault says that they are no text, or wants memory,
+-- and asks for no more tokens.
 pub record IsTextOf {I T O X : Type 0} (inner_kind : X → Kind) (text : Text T O) (tokens : List T)
     (result : Result O (ParseFault I X Needed)) : Type 0 where
   pub stands : IfOk result (λ o. text o tokens)
   pub none : IfErr result (λ fault. IsWant inner_kind fault ⊎ ((o : O) → text o tokens → ⊥))
+  pub whole : IfErr result (λ fault. IsRefused fault)
 
 -- so it is where the parser's grammar is that of the text
 pub texts_told : {I T O X : Type 0} {inner_kind : X → Kind} {g : Grammar T O} {text : Text T O}
@@ -26,7 +28,7 @@ pub texts_told : {I T O X : Type 0} {inner_kind : X → Kind} {g : Grammar T O} 
 texts_told {T = T} {O = O} {g = g} {text} {tokens = tokens} {result = Ok o} is last r =
     let (front, e, a) = is.there tokens o [] r.stands in
     let P : List T → Type 0 = λ l. text o l in
-    record { stands = subst P (sym (append-nil front) ∙ sym e) a; none = tt }
+    record { stands = subst P (sym (append-nil front) ∙ sym e) a; none = tt; whole = tt }
 texts_told {T = T} {O = O} {g = g} {text} {tokens = tokens} {result = Err fault} is last r =
     record {
       stands = tt;
@@ -36,6 +38,7 @@ texts_told {T = T} {O = O} {g = g} {text} {tokens = tokens} {result = Err fault}
             let P : List T → Type 0 = λ l. g l o [] in
             nothing o (subst P (append-nil tokens) (is.back o tokens [] a last)))
       ];
+      whole = r.whole;
     }
 
 -- where they are a text of some value the fault, if there is one, wants memory

@@ -2,7 +2,8 @@
 ghost use Rattle.std.specs.Fn.{CalledAtMut};
 ghost use Rattle.std.specs.Prelude.{◌≡◌, ⊤};
 ghost use Rattle.grammars.specs.Grammar.{Grammar, IsUnique, Takes};
-ghost use Rattle.winnow_exact.specs.Rule.{ByRuns, CallsRead, by_exact, by_rule, by_run, by_soft};
+ghost use Rattle.winnow_exact.specs.Rule.{by_rule, by_run};
+ghost use Rattle.winnow_exact.specs.Rule.{ByRuns, CallsRead, CallsSpared, by_exact, by_fails};
 
 use stream_errors::parser_error::ParserError;
 use streams::stream::Stream;
@@ -60,6 +61,7 @@ impl<N: Rule<I, O>, F: FnMut(&mut I) -> Result<O, E>, I: Stream, O, E: ParserErr
     ghost claim = { λ s. record {
       premise = CallsRead I.reading I.view E.kind (CalledAtMut F.FnMut) (N.grammar s.0) s.1;
       backtracks = ⊤;
+      spares_memory = CallsSpared I.view E.kind (CalledAtMut F.FnMut) s.1;
       consumes = N.consumes s.0;
       grammar = N.grammar s.0;
       decides = ⊥;
@@ -70,7 +72,7 @@ impl<N: Rule<I, O>, F: FnMut(&mut I) -> Result<O, E>, I: Stream, O, E: ParserErr
 
     ghost claimed = { λ s. record {
       exact = λ form is. by_exact s is (N.unique s.0);
-      soft = λ form is soft. by_soft s is;
+      fails = λ form is. by_fails s is;
       takes = λ is some. N.takes s.0 some;
       decided = λ form never. absurd never;
     } };

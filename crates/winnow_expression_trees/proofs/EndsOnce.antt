@@ -96,10 +96,6 @@ module _ {V F G H P : Type 0} (av : V → V → Type 0) (af : F → F → Type 0
 
 module _ {S W T V F G H : Type 0} (g : Grammar S W T V F G H) (alike : V → V → Type 0) (s0 : S × W)
     (pr : Plain g alike s0) where
-  abbrev Reading : Bool → Input T → Bool → Input T → Type 0
-  Reading = Goes alike (FoldAlike alike g.folding.before) (FoldAlike alike g.behind)
-      (FoldsAlike alike g.folding.between) (FirstStep g s0) (NextStep g s0) (decided g alike s0 pr)
-
   abbrev Reads : Bool → Input T → Bool → Input T → Type 0
   Reads = Step alike (FoldAlike alike g.folding.before) (FoldAlike alike g.behind)
       (FoldsAlike alike g.folding.between) (FirstStep g s0) (NextStep g s0) (decided g alike s0 pr)

@@ -11,9 +11,8 @@ use Rattle.winnow_expression.specs.declared.combinator.operators.Infix.{Infix}
 use Rattle.winnow_expression.specs.declared.combinator.operators.Postfix.{Postfix}
 use Rattle.winnow_expression.specs.declared.combinator.operators.Prefix.{Prefix}
 use Rattle.winnow_expression_trees.specs.Alike.{AlikeInfix}
+pub mod Decided
 pub mod Laws
-pub mod Leaves
-pub mod Numbers
 
 -- The answer is no want of memory.
 abbrev pub NotMemory : {O : Type 0} → Answer O → Type 0

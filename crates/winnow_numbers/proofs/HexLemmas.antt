@@ -8,7 +8,7 @@ use Rattle.std.proofs.lemmas.Bool.{eqb-true}
 use Rattle.std.proofs.lemmas.Bool.Decides.{nat_tests}
 use Rattle.std.proofs.lemmas.Int.Digits.{digits_value-lt, digits_value_more}
 use Rattle.std.proofs.lemmas.List.{append-nil, length-take-le}
-use Rattle.std.proofs.lemmas.List.Elements.{All-from_recursion, All-get_or, All-weaker}
+use Rattle.std.proofs.lemmas.List.Elements.{All-weaker}
 use Rattle.std.specs.Bool.{MatchBool}
 use Rattle.std.specs.Char.{digit_value}
 use Rattle.std.specs.List.{All, AllByRecursion}
@@ -50,12 +50,6 @@ all_low zero [] all = tt
 all_low zero (c ∷ cs) all = tt
 all_low (suc i) [] all = tt
 all_low (suc i) (c ∷ cs) all = (hex_low c all.0, all_low i cs all.1)
-
--- each byte of hexadecimal digits is one
-pub hex_at : (bytes : List ℕ) (i : ℕ) → AllByRecursion IsHexDigit bytes → i < length bytes
-    → IsHexDigit (get_or bytes i 0)
-hex_at bytes i all below =
-    All-get_or IsHexDigit bytes i 0 below (All-from_recursion IsHexDigit bytes all)
 
 -- one digit more: the number, and that it fits
 pub hex_step : (bytes : List ℕ) (i n m nibbles : ℕ) → AllByRecursion IsHexDigit bytes

@@ -13,13 +13,6 @@ use Rattle.winnow_recovery.specs.RecoverableParse.{ComesBack, ComesBackWith, IsB
 use Rattle.winnow_recovery.specs.RecoverableParse.{RecoverableParses, no_memory_input}
 use Rattle.winnow_recovery.specs.declared.parser.NoMemory.{NoMemory}
 
--- an error for want of more input backtracks on a whole one ...
-pub needs_more : (k : Kind) → IsSome (need_of_kind k) → complete_kind k ≡ backtrack
-needs_more backtrack some = refl
-needs_more cut some = absurd (cc)
-needs_more (incomplete need) some = refl
-needs_more memory some = absurd (cc)
-
 -- ... and another stays
 pub needs_none : (k : Kind) → (IsSome (need_of_kind k) → IsTrue false) → complete_kind k ≡ k
 needs_none backtrack none = refl

@@ -1,6 +1,6 @@
 -- What is known while a buffer is filled.
 use Rattle.std.proofs.Common.{◌≡◌, ◌<◌, ◌+◌, ◌∙◌, ℕ, List, [], ◌∷◌, ◌++◌, length, Ok, Err, refl}
-use Rattle.std.proofs.Common.{sym, ap, inl, inr, arith, get_or, append_assoc, length-append}
+use Rattle.std.proofs.Common.{sym, ap, inr, arith, get_or, append_assoc, length-append}
 use Rattle.std.specs.Prelude.{slice_set}
 use Rattle.std.proofs.lemmas.List.{length_push}
 use Rattle.streams.specs.Input.{Input}
@@ -9,7 +9,7 @@ use Rattle.winnow_core.specs.Runs.{Runs}
 use Rattle.winnow_repeat.specs.Chain.{Successes}
 use Rattle.winnow_repeat.specs.Fill.{FillsElements}
 use Rattle.winnow_repeat.proofs.RepeatLemmas.{successes_more, successes_none}
-use Rattle.winnow_core.specs.Elements.{length-zero, rest_of, set_at}
+use Rattle.winnow_core.specs.Elements.{rest_of, set_at}
 
 -- The first k elements are outputs, and the others are as they were.
 pub record Filled {S T O : Type 0} (run : Runs S T O) (orig now : List O) (s : S) (i : Input T)
@@ -59,29 +59,6 @@ module _ {S T O : Type 0} (run : Runs S T O) (orig now : List O) (s : S) (i : In
         new = set_at p.outputs tail now k (get_or now k d) o p.count split
             ∙ sym (append_assoc p.outputs (o ∷ []) tail);
       }
-
-  -- each element is overwritten
-  pub filled_all : length now ≡ k → FillsElements run orig s i (Ok tt) now u m
-  filled_all whole =
-      let none : p.rest ≡ [] =
-      length-zero p.rest (omega (
-        arith,
-        whole,
-        p.count,
-        ap (λ l. length l) p.new,
-        length-append p.outputs p.rest,
-      )) in (
-        p.outputs,
-        p.before,
-        p.rest,
-        u,
-        m,
-        p.chain,
-        p.same_count,
-        p.old,
-        p.new,
-        inl (none, refl, refl, refl),
-      )
 
   -- the run for the next element fails
   pub filled_to : (e : Kind) (v : S) (n : Input T) → k < length now → run u m (Err e) v n

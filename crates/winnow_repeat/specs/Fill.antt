@@ -6,7 +6,6 @@ use Rattle.stream_errors.specs.Form.{Answer}
 use Rattle.winnow_core.specs.Runs.{Runs}
 use Rattle.winnow_repeat.specs.Chain.{Successes}
 use Rattle.winnow_repeat.specs.declared.combinator.impls.fill.Fill.{Fill}
-pub mod Known
 pub mod Laws
 
 -- the parser that is run

@@ -11,7 +11,6 @@ use Rattle.winnow_repeat.specs.Chain.{Chain}
 use Rattle.winnow_repeat.specs.Repeat.{ItemsRun}
 use Rattle.winnow_repeat.specs.declared.combinator.impls.fold.RepeatFold.{RepeatFold}
 pub mod Exact
-pub mod Known
 pub mod Laws
 
 -- how often the parser is run

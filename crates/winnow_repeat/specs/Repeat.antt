@@ -14,7 +14,6 @@ pub mod Decided
 pub mod Exact
 pub mod Known
 pub mod Laws
-pub mod Reads
 
 -- how often the parser is run
 abbrev pub repeat_occurrences : {P I O C E A : Type 0} → Repeat P I O C E A → Range

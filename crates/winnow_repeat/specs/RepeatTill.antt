@@ -13,8 +13,6 @@ use Rattle.winnow_repeat.specs.Chain.{Chain, Successes}
 use Rattle.winnow_repeat.specs.Repeat.{capacity_of}
 use Rattle.winnow_repeat.specs.declared.combinator.impls.repeat_till.RepeatTill.{RepeatTill}
 pub mod Exact
-pub mod Items
-pub mod Known
 pub mod Laws
 
 -- how many items are read before the terminator

@@ -17,7 +17,6 @@ pub mod Decided
 pub mod Exact
 pub mod Known
 pub mod Laws
-pub mod Reads
 
 -- how many elements are read
 abbrev pub separated_occurrences : {P S I O D C E A : Type 0} → Separated P S I O D C E A → Range

@@ -3,7 +3,6 @@ use Rattle.std.specs.Prelude.{◌≡◌, ℕ, [], Ok}
 use Rattle.streams.specs.Input.{Input, Takes}
 use Rattle.streams.specs.Reading.{Reading}
 use Rattle.stream_errors.specs.Form.{Answer}
-pub mod Known
 pub mod Laws
 
 -- A run that takes all that is left, whether more may come or not.

@@ -20,10 +20,10 @@ use Rattle.winnow.specs.Tree.{Tree}
 use Rattle.winnow.specs.Items.Premises.{item_ends}
 use Rattle.readers_calc.specs.Calculator.{AnswersItem, CharItem, GivesOption, HasFormula}
 use Rattle.readers_calc.specs.Calculator.{IsAnswerOf}
-use Rattle.readers_calc.specs.Calculator.{IsPower, IsUnitPower, IsValue, NumberItem, StopsAt}
+use Rattle.readers_calc.specs.Calculator.{IsPower, IsUnitPower, IsValue, NumberItem}
 use Rattle.readers_calc.specs.Calculator.{factorial}
 use Rattle.readers_calc.specs.Calculator.{TakesOne, behind, is_digit, is_white, mark_at, mark_value}
-use Rattle.readers_calc.specs.Calculator.{number_from, pair_at, pair_value, sign_at, sign_value}
+use Rattle.readers_calc.specs.Calculator.{pair_at, pair_value, sign_at, sign_value}
 use Rattle.readers_calc.specs.declared.calc.operators.Mark.{Mark}
 use Rattle.readers_calc.specs.declared.calc.operators.Mark.TheVariants.{Factorial}
 use Rattle.readers_calc.specs.declared.calc.operators.Pair.{Pair}
@@ -38,18 +38,6 @@ same_some e f = cc
 pub behind_takes : (test : ℕ → Bool) (c : ℕ) (cs : List ℕ) → test c ≡ true
     → behind test (c ∷ cs) ≡ behind test cs
 behind_takes test c cs e = ap (λ b. if b then behind test cs else c ∷ cs) e
-
-pub behind_stops : (test : ℕ → Bool) (cs : List ℕ) → StopsAt test cs → behind test cs ≡ cs
-behind_stops test [] stops = refl
-behind_stops test (c ∷ cs) stops = ap (λ b. if b then behind test cs else c ∷ cs) stops
-
-pub number_takes : (n c : ℕ) (cs : List ℕ) → is_digit c ≡ true
-    → number_from n (c ∷ cs) ≡ number_from (10 * n + (c - 48)) cs
-number_takes n c cs e = ap (λ b. if b then number_from (10 * n + (c - 48)) cs else n) e
-
-pub number_stops : (n : ℕ) (cs : List ℕ) → StopsAt is_digit cs → number_from n cs ≡ n
-number_stops n [] stops = refl
-number_stops n (c ∷ cs) stops = ap (λ b. if b then number_from (10 * n + (c - 48)) cs else n) stops
 
 -- what is behind is an end
 behind_splits : (test : ℕ → Bool) (cs : List ℕ) → (front : List ℕ) × (cs ≡ front ++ behind test cs)

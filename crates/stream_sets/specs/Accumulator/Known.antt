@@ -10,7 +10,6 @@ use Rattle.std.proofs.Common.{ap, arith, refl, sym, ◌∙◌, append_assoc}
 use Rattle.std.proofs.lemmas.List.{append-nil}
 use Rattle.stream_sets.specs.Accumulator.{Accumulator, characters_kept, list_kept, number_kept}
 use Rattle.stream_sets.specs.Accumulator.{spelled, texts_kept}
-use Rattle.stream_sets.specs.Accumulator.Entries.{key_of_outputs, value_of_outputs}
 
 -- ---- lists
 
@@ -90,12 +89,3 @@ pub text_of_texts : {A : Type 0} (outputs : List (Bor (List ℕ))) (empty all : 
 text_of_texts outputs empty all start taken =
     text_more (λ text. text.now) outputs empty all taken
     ∙ ap (λ l. l ++ flat_map (λ text. text.now) outputs) start
-
-pub ruleset known_accumulators = (
-  list_of_outputs,
-  number_of_outputs,
-  text_of_characters,
-  text_of_texts,
-  value_of_outputs,
-  key_of_outputs,
-)

@@ -17,8 +17,8 @@ use Rattle.winnow_core.specs.Decided.{IsDecided}
 use Rattle.winnow_core.specs.Literal.Laws.{ShowSame}
 use Rattle.winnow_token.specs.TakeWhile.Decided.{take_while_decided}
 use Rattle.grammars.specs.Grammar.{Class, InClass, IsUnique, Takes}
-use Rattle.winnow_core.specs.Exact.{IsExact, IsSoft}
-use Rattle.winnow_token.specs.TakeWhile.Exact.{longest_unique, take_while_exact, take_while_soft}
+use Rattle.winnow_core.specs.Exact.{Backtracks, IsExact}
+use Rattle.winnow_token.specs.TakeWhile.Exact.{longest_unique, take_while_exact, take_while_fails}
 use Rattle.winnow_token.specs.TakeWhile.Exact.{longest_takes}
 
 -- they leave an end
@@ -75,8 +75,8 @@ module _ {K T L : Type 0} (class : ℕ → Type 0) (least : ℕ) (code : K → �
       (λ _. from_to least None) tt tt
       (seen_once seen (InClass class code tt) apart (holds_once (λ k. class (code k))))
 
-  pub class_soft : IsSoft tt (Keeps (λ (_ : ⊤). ClassRuns class least code seen reading form))
-  class_soft = take_while_soft reading form seen (InClass class code) (λ s. s)
+  pub class_fails : Backtracks tt (Keeps (λ (_ : ⊤). ClassRuns class least code seen reading form))
+  class_fails = take_while_fails reading form seen (InClass class code) (λ s. s)
       (λ _. from_to least None) tt tt
 
 -- so many characters of a class leave one rest

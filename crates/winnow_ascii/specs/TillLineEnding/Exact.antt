@@ -11,7 +11,7 @@ use Rattle.grammars.specs.Grammar.Searches.Unique.{line_unique, match_before, on
 use Rattle.stream_searches.specs.Compare.{StandsFirst}
 use Rattle.stream_errors.specs.Form.{Answer, ErrorForm}
 use Rattle.stream_errors.specs.Form.Known.{ok_is_err, same_ok, same_kind}
-use Rattle.winnow_core.specs.Exact.{IsExact, IsSoft}
+use Rattle.winnow_core.specs.Exact.{Backtracks, IsExact}
 use Rattle.winnow_core.specs.Exact.Failed.{short_backtracks}
 use Rattle.winnow_core.specs.Literal.Laws.{SpellsByText}
 use Rattle.winnow_core.specs.Runs.{Keeps}
@@ -129,21 +129,21 @@ module _ {T L : Type 0} (reading : Reading T L) (form : ErrorForm)
       none i k j is (inr (inr (inr (inr (l, (never, kind, other, same), a))))) =
           absurd (other (short_backtracks form None i l is kind))
 
-  pub till_line_ending_soft : IsSoft tt
+  pub till_line_ending_fails : Backtracks tt
       (Keeps (λ (_ : ⊤). TillLineEndingRuns spells sought reading form))
-  till_line_ending_soft = record { soft = λ i k t j is (r, kept). soft i k j is r }
+  till_line_ending_fails = record { fails = λ i k t j is (r, kept). fails i k j is r }
     where
-      soft : (i : Input T) (k : Kind) (j : Input T) → i.status.cut ≡ false
+      fails : (i : Input T) (k : Kind) (j : Input T) → i.status.cut ≡ false
           → TillLineEndingRuns spells sought reading form i (Err k) j
-          → (k ≡ memory) ⊎ (k ≡ backtrack)
-      soft i k j is (inl (slice, return, here, ran, none, a)) = ok_is_err a refl
-      soft i k j is (inr (inl (slice, both, here, ran, first, a))) = ok_is_err a refl
-      soft i k j is
+          → k ≡ backtrack
+      fails i k j is (inl (slice, return, here, ran, none, a)) = ok_is_err a refl
+      fails i k j is (inr (inl (slice, both, here, ran, first, a))) = ok_is_err a refl
+      fails i k j is
           (inr (inr (inl (slice, return, both, l, here, there, ran, first, few, none, kind, a)))) =
           let whole = ap (λ z. z.cut) (taken i slice j ran).2.passed.status ∙ is in
-          inr (same_kind a ∙ short_backtracks form None j l whole kind)
-      soft i k j is
+          same_kind a ∙ short_backtracks form None j l whole kind
+      fails i k j is
           (inr (inr (inr (inl (slice, return, both, here, there, ran, first, long, none, a))))) =
-          inr (same_kind a)
-      soft i k j is (inr (inr (inr (inr (l, (none, kind, other, same), a))))) =
+          same_kind a
+      fails i k j is (inr (inr (inr (inr (l, (none, kind, other, same), a))))) =
           absurd (other (short_backtracks form None i l is kind))

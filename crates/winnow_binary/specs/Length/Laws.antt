@@ -12,7 +12,7 @@ use Rattle.grammars.specs.Grammar.{Grammar, NoneStands}
 use Rattle.grammars.specs.Grammar.Lengths.{SaysOne, Sized, sized_unique}
 use Rattle.stream_errors.specs.Form.{Answer}
 use Rattle.stream_errors.specs.Form.Known.{at_kind, ok_is_err}
-use Rattle.winnow_core.specs.Exact.{IsExact, IsSoft}
+use Rattle.winnow_core.specs.Exact.{FailsBy, IsExact}
 use Rattle.winnow_core.specs.States.{pair_is}
 
 -- they leave an end, where those of both do
@@ -102,15 +102,13 @@ module _ {S V T N O : Type 0} (number : N → ℕ) {count : Runs S T N} {followi
         | inr nothing ↦ inr (λ o rest (n, mid, x, y). nothing n mid x)
       ])
 
-  pub length_soft : IsSoft s.0 count → ((n : ℕ) → IsSoft s.1 (following n))
-      → IsSoft s (LengthRuns number count following)
-  length_soft f d = record { soft = soft }
+  pub length_fails : {allowed : Kind → Type 0} → FailsBy allowed s.0 count
+      → ((n : ℕ) → FailsBy allowed s.1 (following n))
+      → FailsBy allowed s (LengthRuns number count following)
+  length_fails {allowed} f d = record { fails = fails }
     where
-      Goal : Kind → Type 0
-      Goal k = (k ≡ memory) ⊎ (k ≡ backtrack)
-
-      soft : (i : Input T) (k : Kind) (t : S × V) (j : Input T) → i.status.cut ≡ false
-          → LengthRuns number count following s i (Err k) t j → Goal k
-      soft i k t j is (inl (n, a, r, q)) =
-          (d (number n)).soft a k t.1 j (c.kept i (Ok n) t.0 a is r).1 q
-      soft i k t j is (inr (l, r, same, e)) = at_kind Goal e (f.soft i l t.0 j is r)
+      fails : (i : Input T) (k : Kind) (t : S × V) (j : Input T) → i.status.cut ≡ false
+          → LengthRuns number count following s i (Err k) t j → allowed k
+      fails i k t j is (inl (n, a, r, q)) =
+          (d (number n)).fails a k t.1 j (c.kept i (Ok n) t.0 a is r).1 q
+      fails i k t j is (inr (l, r, same, e)) = at_kind allowed e (f.fails i l t.0 j is r)

@@ -22,9 +22,11 @@ use Rattle.grammars.specs.Grammar.{Grammar, NoneStands}
 use Rattle.grammars.specs.Grammar.Lengths.{Inside, SaysOne, Sized, inside_unique, same_beginnings}
 use Rattle.stream_errors.specs.Form.Known.{at_output, ok_is_err, same_kind}
 use Rattle.winnow_core.specs.CompleteErr.{CompleteErrRuns, complete_kind}
-use Rattle.winnow_core.specs.Exact.{IsExact, IsSoft}
+use Rattle.winnow_core.specs.Exact.{FailsBy, IsExact}
+use Rattle.winnow_core.specs.Exact.Allowed.{Allowed, back_allowed}
+use Rattle.winnow_core.specs.Exact.Errors.{complete_err_fails}
 use Rattle.winnow_core.specs.Exact.Failed.{short_backtracks}
-use Rattle.winnow_binary.specs.Length.Laws.{length_exact, length_soft}
+use Rattle.winnow_binary.specs.Length.Laws.{length_exact, length_fails}
 
 -- what is taken leaves an end
 pub taken_ends : {S T L O : Type 0} (reading : Reading T L) (form : ErrorForm) (counts : Bool)
@@ -193,27 +195,18 @@ module _ {S T L O : Type 0} (reading : Reading T L) (form : ErrorForm) (counts :
           inr (λ o rest (front, end, many, split, x). absurd
           (omega (arith, ap (λ l. length l) split, length-append front rest, many, few)))
 
--- it fails so that others are tried
-module _ {S T L O : Type 0} (reading : Reading T L) (form : ErrorForm) (counts : Bool)
-    {run : Runs S T O} {s : S} (f : IsSoft s run) (n : ℕ) where
-  pub inside_soft : IsSoft s (TakenRuns reading form counts run n)
-  inside_soft = record { soft = soft }
+-- it fails as what reads them does, or so that others are tried
+module _ {S T L O b m : Type 0} (reading : Reading T L) (form : ErrorForm) (counts : Bool)
+    {run : Runs S T O} {s : S} (f : FailsBy (Allowed b m) s run) (n : ℕ) where
+  inside_allowed : FailsBy (Allowed b m) s (TakenRuns reading form counts run n)
+  inside_allowed = record { fails = fails }
     where
       fails : (i : Input T) (k : Kind) (t : S) (j : Input T) → i.status.cut ≡ false
-          → CompleteErrRuns run s i (Err k) t j → (k ≡ memory) ⊎ (k ≡ backtrack)
-      fails i k t j is (inl (o, r, same, e)) = ok_is_err e refl
-      fails i k t j is (inr (l, m, r, became, e)) = elim (f.soft i l t j is r) [
-        | inl wanted ↦ inl (same_kind e ∙ became ∙ ap complete_kind wanted)
-        | inr back ↦ inr (same_kind e ∙ became ∙ ap complete_kind back)
-      ]
-
-      soft : (i : Input T) (k : Kind) (t : S) (j : Input T) → i.status.cut ≡ false
-          → TakenRuns reading form counts run n s i (Err k) t j
-          → (k ≡ memory) ⊎ (k ≡ backtrack)
-      soft i k t j is (inl (taken, rest, many, passes, r)) =
-          fails (only_first taken i) k t rest refl r
-      soft i k t j is (inr (l, few, short, e, same, back)) =
-          inr (same_kind e ∙ short_backtracks form _ i l is short)
+          → TakenRuns reading form counts run n s i (Err k) t j → Allowed b m k
+      fails i k t j is (inl (taken, rest, many, passes, r)) =
+          (complete_err_fails f).fails (only_first taken i) k t rest refl r
+      fails i k t j is (inr (l, few, short, e, same, back)) =
+          back_allowed (same_kind e ∙ short_backtracks form _ i l is short)
 
 module _ {S V T N L O : Type 0} (number : N → ℕ) (reading : Reading T L) (form : ErrorForm)
     (counts : Bool) {count : Runs S T N} {run : Runs V T O} {g : Grammar T N} {s : S × V} where
@@ -223,6 +216,7 @@ module _ {S V T N L O : Type 0} (number : N → ℕ) (reading : Reading T L) (fo
   length_and_then_exact {h} says c d =
       length_exact number c (Inside h) (inside_exact reading form counts d) says
 
-  pub length_and_then_soft : IsExact s.0 count g → IsSoft s.0 count → IsSoft s.1 run
-      → IsSoft s (LengthAndThenRuns number reading form counts count run)
-  length_and_then_soft c f h = length_soft number c f (inside_soft reading form counts h)
+  pub length_and_then_fails : {b m : Type 0} → IsExact s.0 count g
+      → FailsBy (Allowed b m) s.0 count → FailsBy (Allowed b m) s.1 run
+      → FailsBy (Allowed b m) s (LengthAndThenRuns number reading form counts count run)
+  length_and_then_fails c f h = length_fails number c f (inside_allowed reading form counts h)

@@ -1,16 +1,15 @@
 -- What holds of the runs of a length and so many items.
 use Rattle.std.specs.Prelude.{ℕ, Some, ◌≡◌, ◌⊎◌, false, List, Ok, Err}
 use Rattle.std.proofs.Common.{inr, sym, refl, ap, inl, ◌∙◌, arith}
-use Rattle.streams.specs.Equal.{none_is_some, same_some}
+use Rattle.streams.specs.Equal.{same_some}
 use Rattle.streams.specs.Input.{Input}
 use Rattle.streams.specs.Kind.{Kind, backtrack, memory}
 use Rattle.streams.specs.Reading.{Reading}
 use Rattle.stream_errors.specs.Form.{Answer}
-use Rattle.stream_sets.specs.Accumulator.{Accumulator}
+use Rattle.stream_sets.specs.Accumulator.{Accumulator, Wants}
 use Rattle.stream_sets.specs.Range.{from_to}
 use Rattle.streams.specs.Following.{Following}
 use Rattle.winnow_core.specs.Runs.{LeaveEnds, Runs}
-use Rattle.winnow_repeat.specs.Repeat.{RepeatRuns}
 use Rattle.winnow_repeat.specs.Repeat.Laws.{many_ends, many_grow}
 use Rattle.winnow_binary.specs.Length.Laws.{length_ends, length_grows}
 use Rattle.winnow_binary.specs.LengthRepeat.{ItemsBehind, LengthRepeatRuns}
@@ -18,10 +17,11 @@ use Rattle.winnow_core.specs.Stable.Grows.{Grows}
 use Rattle.stream_sets.specs.Accumulator.Holds.{Holds}
 use Rattle.grammars.specs.Grammar.{Grammar, Many, NoneStands, Takes}
 use Rattle.grammars.specs.Grammar.Lengths.{SaysOne, Sized, Times, times_unique}
-use Rattle.stream_errors.specs.Form.Known.{ok_is_err, same_kind}
-use Rattle.winnow_core.specs.Exact.{IsExact, IsSoft}
-use Rattle.winnow_repeat.specs.Repeat.Exact.{items_fail, items_keep, items_stand}
-use Rattle.winnow_binary.specs.Length.Laws.{length_exact, length_soft}
+use Rattle.stream_errors.specs.Form.Known.{at_kind, ok_is_err, same_kind}
+use Rattle.winnow_core.specs.Exact.{FailsBy, IsExact, IsSoft}
+use Rattle.winnow_repeat.specs.Repeat.Exact.{items_allowed, items_fail, items_keep}
+use Rattle.winnow_repeat.specs.Repeat.Exact.{items_stand}
+use Rattle.winnow_binary.specs.Length.Laws.{length_exact, length_fails}
 
 -- they leave an end, where those of both do
 pub length_repeat_ends : {S V T N L O C : Type 0} (reading : Reading T L) (number : N → ℕ)
@@ -32,14 +32,6 @@ length_repeat_ends reading number into assert_kind count run first second =
     length_ends reading number count (ItemsBehind run into assert_kind) first
     (λ n. many_ends reading run into assert_kind (from_to n (Some n)) second)
 
--- so many items are a repetition of exactly so many
-pub items_repeat : {S T O C : Type 0} (run : Runs S T O) (into : Accumulator C O)
-    (assert_kind : Kind) (n : ℕ) (s : S) (i : Input T) (answer : Answer C) (t : S) (j : Input T)
-    → ItemsBehind run into assert_kind n s i answer t j
-    → RepeatRuns run into assert_kind (from_to n (Some n)) s i answer t j
-items_repeat run into assert_kind n s i answer t j ran =
-    inr (λ h. none_is_some (sym h.1), ran)
-
 module _ {T : Type 0} {following : Following T} where
   -- so many items
   pub length_repeat_grows : {S V N O C : Type 0} (number : N → ℕ) (into : Accumulator C O)
@@ -47,8 +39,6 @@ module _ {T : Type 0} {following : Following T} where
       → Grows following run → Grows following (LengthRepeatRuns number into asserted count run)
   length_repeat_grows number into asserted run reads items =
       length_grows number _ reads (λ n. many_grow run into asserted (from_to n (Some n)) items)
-
--- ---- what it reads
 
 -- ---- so many items
 
@@ -105,19 +95,18 @@ module _ {S T O C : Type 0} {run : Runs S T O} {g : Grammar T O} (into : Accumul
                 let fewer = few os rest each in absurd (omega (arith, fewer, many)))
           ]
 
-  pub times_soft : IsSoft s (ItemsBehind run into asserted n)
-  times_soft = record { soft = soft }
+  pub times_fails : {allowed : Kind → Type 0} → FailsBy allowed s run
+      → (Wants into → allowed memory) → FailsBy allowed s (ItemsBehind run into asserted n)
+  times_fails {allowed} may wants = record { fails = fails }
     where
-      soft : (i : Input T) (k : Kind) (t : S) (j : Input T) → i.status.cut ≡ false
-          → ItemsBehind run into asserted n s i (Err k) t j → (k ≡ memory) ⊎ (k ≡ backtrack)
-      soft i k t j is (inl (most, full, below, e, same, back)) =
+      fails : (i : Input T) (k : Kind) (t : S) (j : Input T) → i.status.cut ≡ false
+          → ItemsBehind run into asserted n s i (Err k) t j → allowed k
+      fails i k t j is (inl (most, full, below, e, same, back)) =
           absurd (omega (arith, same_some full, below))
-      soft i k t j is (inr (inl (within, grows, e, same, back))) = inl (same_kind e)
-      soft i k t j is (inr (inr (empty, within, starts, ran))) =
-          elim (items_fail into asserted (from_to n (Some n)) c f takes empty i k t j is ran) [
-            | inl m ↦ inl m
-            | inr (b, few) ↦ inr b
-          ]
+      fails i k t j is (inr (inl (within, grows, e, same, back))) =
+          at_kind allowed e (wants (inl (_, grows)))
+      fails i k t j is (inr (inr (empty, within, starts, ran))) =
+          items_allowed into asserted (from_to n (Some n)) c may takes wants empty i k t j is ran
 
 module _ {S V T N O C : Type 0} (number : N → ℕ) (into : Accumulator C O) (asserted : Kind)
     {count : Runs S T N} {run : Runs V T O} {g : Grammar T N} {h : Grammar T O}
@@ -129,7 +118,8 @@ module _ {S V T N O C : Type 0} (number : N → ℕ) (into : Accumulator C O) (a
   length_repeat_exact says = length_exact number c (Times holds h)
       (times_exact into asserted holds keeps d soft takes) says
 
-  pub length_repeat_soft : IsSoft s.0 count
-      → IsSoft s (LengthRepeatRuns number into asserted count run)
-  length_repeat_soft f =
-      length_soft number c f (times_soft into asserted holds keeps d soft takes)
+  pub length_repeat_fails : {allowed : Kind → Type 0} → FailsBy allowed s.0 count
+      → FailsBy allowed s.1 run → (Wants into → allowed memory)
+      → FailsBy allowed s (LengthRepeatRuns number into asserted count run)
+  length_repeat_fails f e wants = length_fails number c f
+      (λ n. times_fails into asserted holds keeps d soft takes n e wants)

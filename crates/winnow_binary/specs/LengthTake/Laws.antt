@@ -15,10 +15,11 @@ use Rattle.winnow_core.specs.Stable.Grows.{Grows, grows, leaf_stays, stays_besid
 use Rattle.winnow_core.specs.Stable.{IsStable}
 use Rattle.grammars.specs.Grammar.{Counted, Grammar, Takes}
 use Rattle.grammars.specs.Grammar.Lengths.{SaysOne, Sized, sized_takes}
-use Rattle.winnow_core.specs.Exact.{IsExact, IsSoft}
-use Rattle.winnow_core.specs.Exact.Along.{exact_along, soft_along}
-use Rattle.winnow_token.specs.Take.Laws.{take_exact, take_soft}
-use Rattle.winnow_binary.specs.Length.Laws.{length_exact, length_soft}
+use Rattle.winnow_core.specs.Exact.{FailsBy, IsExact}
+use Rattle.winnow_core.specs.Exact.Allowed.{Allowed, backs}
+use Rattle.winnow_core.specs.Exact.Along.{exact_along, fails_along}
+use Rattle.winnow_token.specs.Take.Laws.{take_exact, take_fails}
+use Rattle.winnow_binary.specs.Length.Laws.{length_exact, length_fails}
 
 -- they leave an end, where those of the length do
 pub length_take_ends : {S T N L : Type 0} (number : N → ℕ) (reading : Reading T L)
@@ -70,9 +71,10 @@ module _ {T L : Type 0} (reading : Reading T L) (form : ErrorForm) (counts : Boo
   some_exact n = exact_along (λ (_ : ⊤). n) (λ t same. refl)
       (λ i answer t j r. (r.0, refl)) (take_exact reading form counts n)
 
-  some_soft : (n : ℕ) → IsSoft tt (Keeps (λ (_ : ⊤). TakeRuns reading form counts n))
-  some_soft n = soft_along (λ (_ : ⊤). n) (λ i answer t j r. (r.0, refl))
-      (take_soft reading form counts n)
+  some_fails : {b m : Type 0} (n : ℕ)
+      → FailsBy (Allowed b m) tt (Keeps (λ (_ : ⊤). TakeRuns reading form counts n))
+  some_fails n = fails_along (λ (_ : ⊤). n) (λ i answer t j r. (r.0, refl))
+      (backs (take_fails reading form counts n))
 
 module _ {S T N L : Type 0} (number : N → ℕ) (reading : Reading T L) (form : ErrorForm)
     (counts : Bool) {count : Runs S T N} {g : Grammar T N} {s : S} where
@@ -83,10 +85,10 @@ module _ {S T N L : Type 0} (number : N → ℕ) (reading : Reading T L) (form :
       (λ i answer t j r. r)
       (length_exact number c (Counted reading) (some_exact reading form counts) says)
 
-  pub length_take_soft : IsExact s count g → IsSoft s count
-      → IsSoft s (LengthTakeRuns number reading form counts count)
-  length_take_soft c f = soft_along (λ x. (x, tt)) (λ i answer t j r. r)
-      (length_soft number c f (some_soft reading form counts))
+  pub length_take_fails : {b m : Type 0} → IsExact s count g → FailsBy (Allowed b m) s count
+      → FailsBy (Allowed b m) s (LengthTakeRuns number reading form counts count)
+  length_take_fails c f = fails_along (λ x. (x, tt)) (λ i answer t j r. r)
+      (length_fails number c f (some_fails reading form counts))
 
 -- a length that takes tokens takes some with those behind it
 pub length_take_takes : {S T N L : Type 0} (number : N → ℕ) (reading : Reading T L)

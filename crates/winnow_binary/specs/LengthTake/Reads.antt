@@ -1,27 +1,15 @@
 -- Takes behind their length as parts of what a composition reads.
-use Rattle.std.specs.Prelude.{◌≡◌, ℕ, Bool, List, [], ◌∷◌, ◌++◌, length, Ok, Err}
+use Rattle.std.specs.Prelude.{◌≡◌, ℕ, Bool, List, ◌++◌, length, Ok, Err}
 use Rattle.std.specs.Borrow.{Bor}
-use Rattle.std.proofs.Common.{refl, sym, ap, subst, ◌∙◌, append_assoc, arith, inl, inr}
+use Rattle.std.proofs.Common.{refl, sym, ap, subst, ◌∙◌, append_assoc, inl, inr}
 use Rattle.streams.specs.Counted.{counted_reading}
-use Rattle.streams.specs.Equal.{same_others}
 use Rattle.streams.specs.Input.{Input}
-use Rattle.streams.specs.Kind.{Kind}
 use Rattle.stream_errors.specs.Form.{Answer, ErrorForm}
 use Rattle.stream_errors.specs.Form.Known.{ok_is_err}
-use Rattle.winnow_core.specs.Reads.{MustLeave, Reads}
+use Rattle.winnow_core.specs.Reads.{Reads}
 use Rattle.winnow_core.specs.Runs.{Runs}
-use Rattle.winnow_token.specs.Take.{TakeRuns}
-use Rattle.winnow_token.specs.Take.Known.{count_leaves, take_count_ok}
+use Rattle.winnow_token.specs.Take.Known.{take_count_ok}
 use Rattle.winnow_binary.specs.LengthTake.{LengthTakeRuns}
-
--- fronts of one length, of one list, are followed by the same
-followed_by : {T : Type 0} (front rest taken left : List T) → length front ≡ length taken
-    → front ++ rest ≡ taken ++ left → rest ≡ left
-followed_by [] rest [] left lengths same = same
-followed_by [] rest (y ∷ taken) left lengths same = absurd (omega (arith, lengths))
-followed_by (x ∷ front) rest [] left lengths same = absurd (omega (arith, lengths))
-followed_by (x ∷ front) rest (y ∷ taken) left lengths same =
-    followed_by front rest taken left (omega (arith, lengths)) (same_others same)
 
 module _ {S T N : Type 0} (number : N → ℕ) (form : ErrorForm) (counts : Bool) (count : Runs S T N)
   where
@@ -65,34 +53,3 @@ module _ {S T N : Type 0} (number : N → ℕ) (form : ErrorForm) (counts : Bool
             → known s → LengthTakeOf s i answer t j → known t
         keeps s i answer t j is (inl (n, a, r, q)) = reads.again s i (Ok n) t a is r
         keeps s i answer t j is (inr (k, r, same, e)) = reads.again s i (Err k) t j is r
-
-    -- where its length stands first, and then so many tokens, what follows them is left
-    pub length_take_leaves : (s : S) (front taken rest : List T)
-        → MustLeave count s (front ++ (taken ++ rest)) (taken ++ rest)
-        → ((i : Input T) (n : N) (t : S) (j : Input T) → i.left.tokens ≡ front ++ (taken ++ rest)
-        → count s i (Ok n) t j → number n ≡ length taken)
-        → MustLeave LengthTakeOf s (front ++ (taken ++ rest)) rest
-    length_take_leaves s front taken rest must gives = record {
-      leaves = λ i slice t j begins ran. left i slice t j begins ran;
-      answers = λ i k t j begins ran. fails i k t j begins ran;
-    }
-      where
-        left : (i : Input T) (slice : Bor (List T)) (t : S) (j : Input T)
-            → i.left.tokens ≡ front ++ (taken ++ rest) → LengthTakeOf s i (Ok slice) t j
-            → j.left.tokens ≡ rest
-        left i slice t j begins (inl (n, a, r, q)) =
-            let took = take_count_ok counted_reading form counts (number n) a slice j q.0 in
-            (followed_by took.taken j.left.tokens taken rest
-            (took.as_many ∙ gives i n t a begins r)
-            (sym took.takes.passed.tokens ∙ must.leaves i n t a begins r))
-        left i slice t j begins (inr (k, r, same, e)) = ok_is_err refl e
-
-        fails : (i : Input T) (k : Kind) (t : S) (j : Input T)
-            → i.left.tokens ≡ front ++ (taken ++ rest) → LengthTakeOf s i (Err k) t j → ⊥
-        fails i k t j begins (inl (n, a, r, q)) =
-            let At : ℕ → Type 0 =
-            λ m. TakeRuns {S = Bor (List T)} counted_reading form counts m a (Err k) j in
-            let so_many = subst At (gives i n t a begins r) q.0 in
-            (count_leaves form counts taken rest).answers a k (length taken) j
-            (must.leaves i n t a begins r) (so_many, refl)
-        fails i k t j begins (inr (l, r, same, e)) = must.answers i l t j begins r

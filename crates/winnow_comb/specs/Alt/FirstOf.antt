@@ -1,20 +1,26 @@
 -- What a choice among the items of an array or a slice reads.
-use Rattle.std.specs.Prelude.{◌≡◌, List, [], ◌∷◌, ◌++◌, Ok, Err}
+use Rattle.std.specs.Prelude.{◌≡◌, ◌⊎◌, ⊤, List, [], ◌∷◌, ◌++◌, Ok, Err}
 use Rattle.std.specs.List.{All}
 use Rattle.std.proofs.Common.{refl, sym, ap, subst, inl, inr, ◌∙◌}
 use Rattle.std.proofs.lemmas.List.Elements.{All-head, All-tail}
 use Rattle.streams.specs.Equal.{same_first, same_others}
 use Rattle.streams.specs.Input.{Input}
-use Rattle.streams.specs.Kind.{Kind, backtrack}
+use Rattle.streams.specs.Kind.{Kind, backtrack, cut}
 use Rattle.grammars.specs.Grammar.{Grammar, Never}
 use Rattle.grammars.specs.Grammar.FirstOf.{FirstFrom, FirstOf}
-use Rattle.stream_errors.specs.Form.{Answer}
-use Rattle.stream_errors.specs.Form.Known.{ok_is_err}
-use Rattle.winnow_core.specs.Exact.{IsExact, IsSoft}
+use Rattle.stream_errors.specs.Form.{Answer, ErrorForm, assert_kind, modal, plain}
+use Rattle.stream_errors.specs.Form.Known.{ok_is_err, same_kind}
+use Rattle.winnow_core.specs.Exact.{FailsBy, IsExact}
+use Rattle.winnow_core.specs.Exact.Allowed.{Allowed, back_allowed, cut_allowed, fails_as, softly}
 use Rattle.winnow_core.specs.Runs.{Runs}
 use Rattle.winnow_comb.specs.Alt.{OrElse}
-use Rattle.winnow_comb.specs.Alt.Laws.{or_else_exact, or_else_soft}
+use Rattle.winnow_comb.specs.Alt.Laws.{or_else_exact, or_else_fails}
 use Rattle.winnow_comb.specs.Alt.Slice.{AltSliceRuns}
+
+-- a broken assertion cuts where errors have a mode, and backtracks where they have none
+pub asserts : (form : ErrorForm) → (assert_kind form ≡ backtrack) ⊎ (assert_kind form ≡ cut)
+asserts plain = inl refl
+asserts modal = inr refl
 
 -- a list with an item is not empty
 some_is_none : {S P : Type 0} {x : S} {rest : List S} → x ∷ rest ≡ [] → P
@@ -111,19 +117,20 @@ module _ {S T O : Type 0} (run : Runs S T O) (assert_kind : Kind) where
     unique = c.unique;
   }
 
-  one_soft : {a : S} → IsSoft a run → IsSoft (a ∷ []) (AltSliceRuns run assert_kind)
-  one_soft {a = a} f = record {
-    soft = λ i k t j is ran.
-        let (y, e, r) = one_branch a i (Err k) t j ran in f.soft i k y j is r;
+  one_fails : {a : S} {allowed : Kind → Type 0} → FailsBy allowed a run
+      → FailsBy allowed (a ∷ []) (AltSliceRuns run assert_kind)
+  one_fails {a = a} f = record {
+    fails = λ i k t j is ran.
+        let (y, e, r) = one_branch a i (Err k) t j ran in f.fails i k y j is r;
   }
 
-  more_soft : {a b : S} {others : List S}
-      → IsSoft (a, b ∷ others) (OrElse run (AltSliceRuns run assert_kind))
-      → IsSoft (a ∷ b ∷ others) (AltSliceRuns run assert_kind)
-  more_soft {a = a} {b = b} {others = others} f = record {
-    soft = λ i k t j is ran.
+  more_fails : {a b : S} {others : List S} {allowed : Kind → Type 0}
+      → FailsBy allowed (a, b ∷ others) (OrElse run (AltSliceRuns run assert_kind))
+      → FailsBy allowed (a ∷ b ∷ others) (AltSliceRuns run assert_kind)
+  more_fails {a = a} {b = b} {others = others} f = record {
+    fails = λ i k t j is ran.
         let (y, ts, e, r) = more_branches a b others i (Err k) t j ran in
-        f.soft i k (y, ts) j is r;
+        f.fails i k (y, ts) j is r;
   }
 
   -- without a branch it fails by an assert error, and nothing stands
@@ -145,26 +152,30 @@ module _ {S T O : Type 0} (run : Runs S T O) (assert_kind : Kind) where
     };
   }
 
--- Branches of which each is exact and lets the next be tried.
+-- Branches of which each is exact and lets the next be tried, and asks for no memory where each is
+-- so spared.
 module _ {S T O : Type 0} (run : Runs S T O) (assert_kind : Kind)
-    (grammar : S → Grammar T O) (known : S → Type 0)
+    (grammar : S → Grammar T O) (known spares : S → Type 0)
     (exact : (p : S) → known p → IsExact p run (grammar p))
-    (soft : (p : S) → known p → IsSoft p run) where
+    (fails : (p : S) → known p → FailsBy (Allowed ⊤ (spares p)) p run) where
   from_exact : (p : S) (rest : List S) → All known (p ∷ rest)
       → IsExact (p ∷ rest) (AltSliceRuns run assert_kind) (FirstFrom grammar p rest)
   from_exact p [] each = one_exact run assert_kind (exact p (All-head known p [] each))
   from_exact p (q ∷ rest) each =
       let is = All-head known p (q ∷ rest) each in
-      more_exact run assert_kind (or_else_exact (exact p is) (soft p is)
+      more_exact run assert_kind (or_else_exact (exact p is) (softly tt (fails p is))
       (from_exact q rest (All-tail known p (q ∷ rest) each)))
 
-  from_soft : (p : S) (rest : List S) → All known (p ∷ rest)
-      → IsSoft (p ∷ rest) (AltSliceRuns run assert_kind)
-  from_soft p [] each = one_soft run assert_kind (soft p (All-head known p [] each))
-  from_soft p (q ∷ rest) each =
+  from_fails : (p : S) (rest : List S) → All known (p ∷ rest)
+      → FailsBy (Allowed ⊤ (All spares (p ∷ rest))) (p ∷ rest) (AltSliceRuns run assert_kind)
+  from_fails p [] each = one_fails run assert_kind
+      (fails_as (λ b. b) (λ m. All-head spares p [] m) (fails p (All-head known p [] each)))
+  from_fails p (q ∷ rest) each =
       let is = All-head known p (q ∷ rest) each in
-      more_soft run assert_kind (or_else_soft (exact p is) (soft p is)
-      (from_soft q rest (All-tail known p (q ∷ rest) each)))
+      more_fails run assert_kind (or_else_fails (exact p is)
+      (fails_as (λ b. b) (λ m. All-head spares p (q ∷ rest) m) (fails p is))
+      (fails_as (λ b. b) (λ m. All-tail spares p (q ∷ rest) m)
+      (from_fails q rest (All-tail known p (q ∷ rest) each))))
 
   pub first_of_exact : (branches : List S) → All known branches
       → IsExact branches (AltSliceRuns run assert_kind) (FirstOf grammar branches)
@@ -173,7 +184,17 @@ module _ {S T O : Type 0} (run : Runs S T O) (assert_kind : Kind)
   first_of_exact (p ∷ rest) each = from_exact p rest each
 
   -- it lets others be tried where it has a branch
-  pub first_of_soft : (branches : List S) → All known branches → (branches ≡ [] → ⊥)
-      → IsSoft branches (AltSliceRuns run assert_kind)
-  first_of_soft [] each some = absurd (some refl)
-  first_of_soft (p ∷ rest) each some = from_soft p rest each
+  pub first_of_fails : (assert_kind ≡ backtrack) ⊎ (assert_kind ≡ cut) → (branches : List S)
+      → All known branches
+      → FailsBy (Allowed (branches ≡ [] → ⊥) (All spares branches)) branches
+      (AltSliceRuns run assert_kind)
+  first_of_fails asserts [] each = record {
+    fails = λ i k t j is ran. elim ran [
+      | inl (none, kept, e, same) ↦ elim asserts [
+        | inl b ↦ back_allowed (same_kind e ∙ b)
+        | inr c ↦ cut_allowed (λ some. some refl) (same_kind e ∙ c)
+      ]
+      | inr (before, x, rest, ran, y, m, old, new, back, r, last) ↦ no_item before x rest old
+    ];
+  }
+  first_of_fails asserts (p ∷ rest) each = fails_as (λ some. tt) (λ m. m) (from_fails p rest each)

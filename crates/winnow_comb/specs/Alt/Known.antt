@@ -28,7 +28,3 @@ pub or_else_err : {T O : Type 0} {Ran Kept : Type 0} {Backtracked Others : Input
     → (Ran × (k ≡ backtrack → ⊥) × Kept) ⊎ ((a : Input T) × Backtracked a × Others a)
 or_else_err k (inl (r, other, kept)) = inl (r, (λ e. other (ap Err e)), kept)
 or_else_err k (inr (a, r, q)) = inr (a, r, q)
-
-pub ruleset known_choices = (or_else_ok, or_else_err)
-
--- ---- as a part of what a composition reads

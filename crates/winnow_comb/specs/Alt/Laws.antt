@@ -17,7 +17,7 @@ use Rattle.winnow_core.specs.Decided.Inputs.{widened, back_not_memory}
 use Rattle.winnow_core.specs.States.{pair_is}
 use Rattle.grammars.specs.Grammar.{Either, Grammar, NoneStands}
 use Rattle.grammars.specs.Grammar.Unique.{either_unique}
-use Rattle.winnow_core.specs.Exact.{IsExact, IsSoft}
+use Rattle.winnow_core.specs.Exact.{FailsBy, IsExact, IsSoft}
 use Rattle.winnow_core.specs.Exact.Failed.{none_at_backtrack}
 
 -- they leave an end, where those of the branches do
@@ -160,7 +160,7 @@ module _ {S1 S2 T O : Type 0} {run1 : Runs S1 T O} {run2 : Runs S2 T O}
       none : (i : Input T) (k : Kind) (t : S1 × S2) (j : Input T)
           → i.status.cut ≡ false → OrElse run1 run2 s i (Err k) t j
           → (k ≡ memory) ⊎ NoneStands (Either g1 g2) i.left.tokens
-      none i k t j is (inl (r, other, kept)) = elim (f1.soft i k t.0 j is r) [
+      none i k t j is (inl (r, other, kept)) = elim (f1.fails i k t.0 j is r) [
         | inl m ↦ inl m
         | inr b ↦ absurd (other (ap Err b))
       ]
@@ -175,14 +175,14 @@ module _ {S1 S2 T O : Type 0} {run1 : Runs S1 T O} {run2 : Runs S2 T O}
             ])
           ]
 
-pub or_else_soft : {S1 S2 T O : Type 0} {run1 : Runs S1 T O} {run2 : Runs S2 T O}
-    {g1 : Grammar T O} {s : S1 × S2} → IsExact s.0 run1 g1
-    → IsSoft s.0 run1 → IsSoft s.1 run2 → IsSoft s (OrElse run1 run2)
-or_else_soft {S1} {S2} {T} {O} {run1} {run2} {s = s} c1 f1 f2 = record { soft = soft }
+pub or_else_fails : {S1 S2 T O : Type 0} {run1 : Runs S1 T O} {run2 : Runs S2 T O}
+    {g1 : Grammar T O} {s : S1 × S2} {allowed : Kind → Type 0} → IsExact s.0 run1 g1
+    → FailsBy allowed s.0 run1 → FailsBy allowed s.1 run2 → FailsBy allowed s (OrElse run1 run2)
+or_else_fails {S1} {S2} {T} {O} {run1} {run2} {s = s} {allowed} c1 f1 f2 =
+    record { fails = fails }
   where
-    soft : (i : Input T) (k : Kind) (t : S1 × S2) (j : Input T)
-        → i.status.cut ≡ false → OrElse run1 run2 s i (Err k) t j
-        → (k ≡ memory) ⊎ (k ≡ backtrack)
-    soft i k t j is (inl (r, other, kept)) = f1.soft i k t.0 j is r
-    soft i k t j is (inr (a, r, others)) =
-        f2.soft (back_at i.left a) k t.1 j (c1.kept i (Err backtrack) t.0 a is r).1 others
+    fails : (i : Input T) (k : Kind) (t : S1 × S2) (j : Input T) → i.status.cut ≡ false
+        → OrElse run1 run2 s i (Err k) t j → allowed k
+    fails i k t j is (inl (r, other, kept)) = f1.fails i k t.0 j is r
+    fails i k t j is (inr (a, r, others)) =
+        f2.fails (back_at i.left a) k t.1 j (c1.kept i (Err backtrack) t.0 a is r).1 others

@@ -15,8 +15,9 @@ use Rattle.winnow_core.specs.Decided.{IsDecided, NotMemory}
 use Rattle.winnow_core.specs.Decided.Inputs.{both_err, both_ok}
 use Rattle.winnow_core.specs.Decided.Made.{Carries, made_decided}
 use Rattle.grammars.specs.Grammar.{Grammar, NoneStands}
-use Rattle.stream_errors.specs.Form.Known.{at_output, ok_is_err, same_kind}
-use Rattle.winnow_core.specs.Exact.{IsExact}
+use Rattle.stream_errors.specs.Form.Known.{at_kind, at_output, ok_is_err, same_kind}
+use Rattle.winnow_core.specs.Exact.{FailsBy, IsExact}
+use Rattle.winnow_core.specs.Exact.Allowed.{Allowed, cut_allowed, memory_allowed}
 
 -- they leave an end, where those of the child do
 pub cut_err_ends : {S T L O : Type 0} (reading : Reading T L) (run : Runs S T O)
@@ -102,3 +103,20 @@ module _ {S T O : Type 0} {run : Runs S T O} {s : S} where
         | inl wanted ↦ inl (same_kind e ∙ ap cut_of wanted)
         | inr nothing ↦ inr nothing
       ]
+
+  -- no error lets others be tried
+  pub cut_err_fails : {b m : Type 0} → FailsBy (Allowed b m) s run
+      → FailsBy (Allowed ⊥ m) s (CutErrRuns run)
+  cut_err_fails {b} {m} f = record { fails = fails }
+    where
+      cuts : (l : Kind) → Allowed b m l → Allowed ⊥ m (cut_of l)
+      cuts backtrack may = cut_allowed (λ never. never) refl
+      cuts cut may = cut_allowed (λ never. never) refl
+      cuts (incomplete need) may = absurd (may.asks_no_more need refl)
+      cuts memory may = memory_allowed (λ x. may.wants_none x refl) refl
+
+      fails : (i : Input T) (k : Kind) (t : S) (j : Input T) → i.status.cut ≡ false
+          → CutErrRuns run s i (Err k) t j → Allowed ⊥ m k
+      fails i k t j is (inl (p, r, e)) = ok_is_err e refl
+      fails i k t j is (inr (l, r, e)) =
+          at_kind (λ x. Allowed ⊥ m x) e (cuts l (f.fails i l t j is r))

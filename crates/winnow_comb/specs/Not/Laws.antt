@@ -15,8 +15,9 @@ use Rattle.winnow_core.specs.Decided.{AlikeAnswers, IsDecided, NotMemory}
 use Rattle.winnow_core.specs.Decided.Inputs.{both_err, both_ok, memory_backs}
 use Rattle.winnow_core.specs.Decided.Made.{Carries, made_decided}
 use Rattle.grammars.specs.Grammar.{Absent, Grammar, NoneStands}
-use Rattle.stream_errors.specs.Form.Known.{ok_is_err, same_kind}
-use Rattle.winnow_core.specs.Exact.{IsExact, IsSoft}
+use Rattle.stream_errors.specs.Form.Known.{at_kind, ok_is_err, same_kind}
+use Rattle.winnow_core.specs.Exact.{FailsBy, IsExact, IsSoft}
+use Rattle.winnow_core.specs.Exact.Allowed.{Allowed, back_allowed}
 use Rattle.winnow_core.specs.Exact.Failed.{none_at_backtrack}
 
 -- they leave an end, where those of the child do
@@ -143,19 +144,18 @@ module _ {S T O : Type 0} {run : Runs S T O} {s : S} where
       none i k t j is (inl (p, m, r, e, back)) =
           inr (λ u rest (nothing, same). nothing p m.left.tokens (c.stands i p t m is r))
       none i k t j is (inr (inl (m, r, e, back))) = ok_is_err e refl
-      none i k t j is (inr (inr (l, m, r, other, e, back))) = elim (f.soft i l t m is r) [
+      none i k t j is (inr (inr (l, m, r, other, e, back))) = elim (f.fails i l t m is r) [
         | inl wanted ↦ inl (same_kind e ∙ wanted)
         | inr b ↦ absurd (other b)
       ]
 
-  pub not_soft : IsSoft s run → IsSoft s (NotRuns run)
-  not_soft f = record { soft = soft }
+  pub not_fails : {b n : Type 0} → FailsBy (Allowed b n) s run
+      → FailsBy (Allowed b n) s (NotRuns run)
+  not_fails {b} {n} f = record { fails = fails }
     where
-      soft : (i : Input T) (k : Kind) (t : S) (j : Input T) → i.status.cut ≡ false
-          → NotRuns run s i (Err k) t j → (k ≡ memory) ⊎ (k ≡ backtrack)
-      soft i k t j is (inl (p, m, r, e, back)) = inr (same_kind e)
-      soft i k t j is (inr (inl (m, r, e, back))) = ok_is_err e refl
-      soft i k t j is (inr (inr (l, m, r, other, e, back))) = elim (f.soft i l t m is r) [
-        | inl wanted ↦ inl (same_kind e ∙ wanted)
-        | inr b ↦ absurd (other b)
-      ]
+      fails : (i : Input T) (k : Kind) (t : S) (j : Input T) → i.status.cut ≡ false
+          → NotRuns run s i (Err k) t j → Allowed b n k
+      fails i k t j is (inl (p, m, r, e, back)) = back_allowed (same_kind e)
+      fails i k t j is (inr (inl (m, r, e, back))) = ok_is_err e refl
+      fails i k t j is (inr (inr (l, m, r, other, e, back))) =
+          at_kind (λ x. Allowed b n x) e (f.fails i l t m is r)

@@ -1,10 +1,10 @@
 -- What a caller knows of one run of a child that may be left out, where it answered.
-use Rattle.std.specs.Prelude.{◌≡◌, Option, Some, None, Result, Ok, Err, IfOk, ◌⊎◌}
+use Rattle.std.specs.Prelude.{◌≡◌, Option, Some, None, Ok, Err, ◌⊎◌}
 use Rattle.std.specs.Prelude.{MatchOption}
 use Rattle.std.proofs.Common.{refl, inl, inr}
 use Rattle.streams.specs.Input.{Input}
 use Rattle.streams.specs.Kind.{Kind, backtrack}
-use Rattle.stream_errors.specs.Form.{Answer, answer_by}
+use Rattle.stream_errors.specs.Form.{Answer}
 use Rattle.stream_errors.specs.Form.Known.{at_kind, at_output, ok_is_err}
 
 -- the runs of OptRuns, by what the child's relate; Back is that the input is back at the start
@@ -34,18 +34,3 @@ opt_err k (inl (x, r, e)) = ok_is_err e refl
 opt_err k (inr (inl (m, r, e, back))) = ok_is_err e refl
 opt_err {Failed = Failed} k (inr (inr (l, r, other, e))) =
     at_kind (λ x. Failed x × (x ≡ backtrack → ⊥)) e (r, other)
-
--- so what is said of both outputs is said where a call answers one
-pub opt_told : {T O E : Type 0} {Ran : O → Type 0} {Backtracked Back : Input T → Type 0}
-    {Failed : Kind → Type 0} (kind : E → Kind) (P : Option O → Type 0)
-    (result : Result (Option O) E) → OptCases Ran Backtracked Back Failed (answer_by kind result)
-    → ((o : O) → Ran o → P (Some o)) → ((m : Input T) → Backtracked m → Back m → P None)
-    → IfOk result P
-opt_told kind P (Ok (Some o)) ran some none = some o (opt_ok (Some o) ran)
-opt_told kind P (Ok None) ran some none =
-    let (m, r, back) = opt_ok None ran in none m r back
-opt_told kind P (Err e) ran some none = tt
-
-pub ruleset known_options = (opt_ok, opt_err, opt_told)
-
--- ---- as a part of what a composition reads

@@ -17,7 +17,7 @@ use Rattle.winnow_core.specs.Decided.Made.{Carries, made_decided}
 use Rattle.grammars.specs.Grammar.{Grammar, Maybe, NoneStands}
 use Rattle.grammars.specs.Grammar.Unique.{maybe_unique}
 use Rattle.stream_errors.specs.Form.Known.{at_kind, ok_is_err, same_ok, same_kind}
-use Rattle.winnow_core.specs.Exact.{IsExact, IsSoft}
+use Rattle.winnow_core.specs.Exact.{FailsBy, IsExact, IsSoft}
 use Rattle.winnow_core.specs.Exact.Failed.{none_at_backtrack}
 
 -- they leave an end, where those of the child do
@@ -137,18 +137,17 @@ module _ {S T O : Type 0} {run : Runs S T O} {g : Grammar T O} {s : S} where
           → OptRuns run s i (Err k) t j → (k ≡ memory) ⊎ NoneStands (Maybe g) i.left.tokens
       none i k t j is (inl (o, r, e)) = ok_is_err e refl
       none i k t j is (inr (inl (m, r, e, back))) = ok_is_err e refl
-      none i k t j is (inr (inr (l, r, other, e))) = elim (f.soft i l t j is r) [
+      none i k t j is (inr (inr (l, r, other, e))) = elim (f.fails i l t j is r) [
         | inl m ↦ inl (same_kind e ∙ m)
         | inr b ↦ absurd (other b)
       ]
 
-pub opt_soft : {S T O : Type 0} {run : Runs S T O} {s : S} → IsSoft s run
-    → IsSoft s (OptRuns run)
-opt_soft {S} {T} {O} {run} {s} f = record { soft = soft }
+pub opt_fails : {S T O : Type 0} {run : Runs S T O} {s : S} {allowed : Kind → Type 0}
+    → FailsBy allowed s run → FailsBy allowed s (OptRuns run)
+opt_fails {S} {T} {O} {run} {s} {allowed} f = record { fails = fails }
   where
-    soft : (i : Input T) (k : Kind) (t : S) (j : Input T) → i.status.cut ≡ false
-        → OptRuns run s i (Err k) t j → (k ≡ memory) ⊎ (k ≡ backtrack)
-    soft i k t j is (inl (o, r, e)) = ok_is_err e refl
-    soft i k t j is (inr (inl (m, r, e, back))) = ok_is_err e refl
-    soft i k t j is (inr (inr (l, r, other, e))) =
-        at_kind (λ x. (x ≡ memory) ⊎ (x ≡ backtrack)) e (f.soft i l t j is r)
+    fails : (i : Input T) (k : Kind) (t : S) (j : Input T) → i.status.cut ≡ false
+        → OptRuns run s i (Err k) t j → allowed k
+    fails i k t j is (inl (o, r, e)) = ok_is_err e refl
+    fails i k t j is (inr (inl (m, r, e, back))) = ok_is_err e refl
+    fails i k t j is (inr (inr (l, r, other, e))) = at_kind allowed e (f.fails i l t j is r)

@@ -1,4 +1,5 @@
 -- What holds of the runs of a child whose run consumes nothing.
+use Rattle.streams.specs.Kind.{Kind}
 use Rattle.streams.specs.Reading.{Reading}
 use Rattle.streams.specs.Following.{Following}
 use Rattle.streams.specs.Input.{with_more, Input, back_at}
@@ -15,7 +16,7 @@ use Rattle.winnow_core.specs.Decided.Inputs.{both_err, both_ok}
 use Rattle.winnow_core.specs.Decided.Made.{Carries, made_decided}
 use Rattle.grammars.specs.Grammar.{Ahead, Grammar}
 use Rattle.grammars.specs.Grammar.Unique.{ahead_unique}
-use Rattle.winnow_core.specs.Exact.{IsExact, IsSoft}
+use Rattle.winnow_core.specs.Exact.{FailsBy, IsExact}
 
 -- they leave an end, where those of the child do
 pub peek_ends : {S T L O : Type 0} (reading : Reading T L) (run : Runs S T O)
@@ -81,5 +82,6 @@ module _ {S T O : Type 0} {run : Runs S T O} {s : S} where
     unique = ahead_unique g;
   }
 
-  pub peek_soft : IsSoft s run → IsSoft s (PeekRuns run)
-  peek_soft f = record { soft = λ i k t j is (m, r, back). f.soft i k t m is r }
+  pub peek_fails : {allowed : Kind → Type 0} → FailsBy allowed s run
+      → FailsBy allowed s (PeekRuns run)
+  peek_fails f = record { fails = λ i k t j is (m, r, back). f.fails i k t m is r }

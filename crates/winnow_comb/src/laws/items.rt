@@ -1,7 +1,6 @@
 //! Laws of choices among the items of an array or a slice.
 ghost use Rattle.stream_errors.specs.Form.{assert_kind};
-ghost use Rattle.winnow_comb.specs.Laws.{ChoosesFirstItem};
-ghost use Rattle.winnow_core.specs.ByRef.{WithoutName};
+ghost use Rattle.winnow_comb.specs.Laws.{ChoosesFirstItem, WithoutName};
 
 use crate::combinator::impls::Alt;
 use stream_errors::parser_error::ParserError;

@@ -1,4 +1,5 @@
 -- What holds of the runs of the parser behind a reference.
+use Rattle.streams.specs.Kind.{Kind}
 use Rattle.streams.specs.Reading.{Reading}
 use Rattle.streams.specs.Following.{Following}
 use Rattle.winnow_core.specs.ByRef.{ByRefRuns}
@@ -6,7 +7,7 @@ use Rattle.winnow_core.specs.Runs.{Runs, LeaveEnds}
 use Rattle.winnow_core.specs.Stable.Grows.{Grows}
 use Rattle.std.specs.Prelude.{ℕ}
 use Rattle.grammars.specs.Grammar.{Grammar}
-use Rattle.winnow_core.specs.Exact.{IsExact, IsSoft}
+use Rattle.winnow_core.specs.Exact.{FailsBy, IsExact}
 use Rattle.winnow_core.specs.States.{pair_is}
 
 -- they leave an end, where those of the parser do
@@ -35,5 +36,6 @@ module _ {S T O : Type 0} {run : Runs S T O} where
     unique = c.unique;
   }
 
-  pub by_ref_soft : {s : S × ℕ} → IsSoft s.0 run → IsSoft s (ByRefRuns run)
-  by_ref_soft f = record { soft = λ i k t j is (r, same). f.soft i k t.0 j is r }
+  pub by_ref_fails : {allowed : Kind → Type 0} {s : S × ℕ} → FailsBy allowed s.0 run
+      → FailsBy allowed s (ByRefRuns run)
+  by_ref_fails f = record { fails = λ i k t j is (r, same). f.fails i k t.0 j is r }

@@ -1,6 +1,7 @@
 -- Adapters that make another output are decided.
 use Rattle.std.specs.Prelude.{◌≡◌, ℕ, Bool, true, false, List, [], ◌∷◌, ◌++◌, length, Option, Some}
 use Rattle.std.specs.Prelude.{None, Ok, Err, ⊤}
+use Rattle.std.specs.declared.ops.Range.{Range}
 use Rattle.std.proofs.Common.{refl, sym, ap, subst, inl, inr, ◌∙◌, arith, length-append}
 use Rattle.streams.specs.Equal.{same_first, same_others}
 use Rattle.streams.specs.Input.{Input}
@@ -21,12 +22,14 @@ use Rattle.winnow_core.specs.Map.{MapRuns}
 use Rattle.winnow_core.specs.ParseTo.{ParseToRuns}
 use Rattle.winnow_core.specs.Runs.{Runs}
 use Rattle.winnow_core.specs.Settles.{Settles}
+use Rattle.winnow_core.specs.Span.{SpanRuns, places}
 use Rattle.winnow_core.specs.States.{pair_is}
 use Rattle.winnow_core.specs.Take.{TakeRuns}
 use Rattle.winnow_core.specs.Value.{ValueRuns}
 use Rattle.winnow_core.specs.Verify.{VerifyRuns, VerifySettles}
 use Rattle.winnow_core.specs.VerifyMap.{VerifyMapRuns}
 use Rattle.winnow_core.specs.Void.{VoidRuns}
+use Rattle.winnow_core.specs.WithSpan.{WithSpanRuns}
 use Rattle.winnow_core.specs.WithTaken.{WithTakenRuns}
 
 -- ---- an output of a closure
@@ -333,3 +336,23 @@ by_ref_decided {s = s} c = record {
       (pair_is same name, still);
   decided = λ i a b t u j k na nb (r, name) (q, name2). c.decided i a b t.0 u.0 j k na nb r q;
 }
+
+-- ---- places
+
+-- outputs that are alike, between the same places
+abbrev pub AlikeBetween : {O : Type 0} → (O → O → Type 0) → O × Range ℕ → O × Range ℕ → Type 0
+AlikeBetween alike u v = alike u.0 v.0 × (u.1 ≡ v.1)
+
+module _ {S T O : Type 0} {run : Runs S T O} {s : S} {alike : O → O → Type 0} where
+  pub span_decided : IsDecided s run alike → IsDecided s (SpanRuns run) (λ u v. u ≡ v)
+  span_decided c = output_decided (λ i (o : O) j span. span ≡ places i j)
+      (λ i a o p u v like x y. x ∙ sym y) c
+
+  pub with_span_decided : IsDecided s run alike
+      → IsDecided s (WithSpanRuns run) (AlikeBetween alike)
+  with_span_decided c =
+      output_decided (λ i (o : O) j (both : O × Range ℕ). (both.0 ≡ o) × (both.1 ≡ places i j))
+      (λ i a o p u v like x y.
+      let P : O → Type 0 = λ z. alike z v.0 in
+      let Q : O → Type 0 = λ z. alike o z in
+      (subst P (sym x.0) (subst Q (sym y.0) like), x.1 ∙ sym y.1)) c

@@ -1,14 +1,15 @@
 -- What decides where an input stands, and what answers are.
-use Rattle.std.specs.Prelude.{◌≡◌, Bool, List, [], ◌∷◌, ◌++◌, Ok, Err}
-use Rattle.std.proofs.Common.{refl, sym, ap, subst, ◌∙◌, arith}
-use Rattle.streams.specs.Equal.{same_first, same_others, same_rest}
+use Rattle.std.specs.Prelude.{◌≡◌, ℕ, Bool, List, [], ◌∷◌, ◌++◌, Option, Ok, Err}
+use Rattle.std.proofs.Common.{refl, sym, ap, subst, inl, inr, ◌∙◌, arith}
+use Rattle.streams.specs.Equal.{same_first, same_others, same_rest, true_is_false}
 use Rattle.streams.specs.Input.{Input, Passes, Status}
 use Rattle.streams.specs.Kind.{Kind, memory, backtrack}
 use Rattle.streams.specs.Place.{Place}
 use Rattle.streams.specs.Reading.{Reading, units-nil}
-use Rattle.stream_errors.specs.Form.{Answer}
+use Rattle.stream_errors.specs.Form.{Answer, ErrorForm}
 use Rattle.winnow_core.specs.Decided.{AlikeAnswers, IsDecided, NotMemory}
 use Rattle.winnow_core.specs.Runs.{Runs}
+use Rattle.winnow_core.specs.Short.{ShortKind}
 
 -- inputs that are the same in each part are the same
 same_parts : {T : Type 0} (a b : Input T) → a.left.tokens ≡ b.left.tokens
@@ -95,3 +96,11 @@ back_not_memory e = cc
 -- want of memory is no backtrack
 pub memory_backs : {P : Type 0} → memory ≡ backtrack → P
 memory_backs e = absurd (cc)
+
+-- the kind of an error for want of more input is one
+pub one_short : {T : Type 0} (form : ErrorForm) (need : Option ℕ) (i : Input T) (k l : Kind)
+    → ShortKind form need i k → ShortKind form need i l → k ≡ l
+one_short form need i k l (inl (cut, e)) (inl (cut2, f)) = e ∙ sym f
+one_short form need i k l (inl (cut, e)) (inr (whole, f)) = true_is_false (sym cut ∙ whole)
+one_short form need i k l (inr (whole, e)) (inl (cut, f)) = true_is_false (sym cut ∙ whole)
+one_short form need i k l (inr (whole, e)) (inr (whole2, f)) = e ∙ sym f

@@ -1,17 +1,17 @@
 -- What adapters read that make another output.
 use Rattle.std.specs.Prelude.{◌≡◌, ⊤, ℕ, List, ◌++◌}
 use Rattle.std.specs.declared.ops.Range.{Range}
-use Rattle.std.proofs.Common.{refl, subst, inl, inr}
+use Rattle.std.proofs.Common.{refl, subst, sym, inl, inr}
 use Rattle.streams.specs.Input.{Input}
-use Rattle.streams.specs.Kind.{memory}
+use Rattle.streams.specs.Kind.{Kind, memory}
 use Rattle.streams.specs.Reading.{Reading}
 use Rattle.grammars.specs.Grammar.{AndTaken, Grammar, Made, Takes, Taken}
 use Rattle.grammars.specs.Grammar.Unique.{made_takes}
 use Rattle.stream_errors.specs.Form.{Answer}
 use Rattle.winnow_core.specs.Closures.{Stays, Gives}
-use Rattle.winnow_core.specs.Exact.{IsExact, IsSoft}
-use Rattle.winnow_core.specs.Exact.Along.{exact_along, soft_along}
-use Rattle.winnow_core.specs.Exact.Made.{IsMade, Making, made_exact, made_soft}
+use Rattle.winnow_core.specs.Exact.{FailsBy, IsExact}
+use Rattle.winnow_core.specs.Exact.Along.{exact_along, fails_along}
+use Rattle.winnow_core.specs.Exact.Made.{IsMade, Making, made_exact, made_fails}
 use Rattle.winnow_core.specs.MakesOutput.{MakesOutput}
 use Rattle.winnow_core.specs.Map.{MapRuns}
 use Rattle.winnow_core.specs.Runs.{Runs}
@@ -48,29 +48,30 @@ unfolding Made
 map_exact {run = run} {s} step stays c = made_exact (map_made step run s stays)
     (λ tokens o rest k x never. absurd never) c
 
-pub map_soft : {S G T O U : Type 0} {run : Runs S T O} {s : S × G}
-    (step : G → O → U → G → Type 0) → Stays step s.1 → IsSoft s.0 run
-    → IsSoft s (MapRuns run step)
-map_soft {run = run} {s} step stays f =
-    made_soft (map_made step run s stays) (λ o k never. absurd never) f
+pub map_fails : {S G T O U : Type 0} {run : Runs S T O} {s : S × G} {allowed : Kind → Type 0}
+    (step : G → O → U → G → Type 0) → Stays step s.1 → FailsBy allowed s.0 run
+    → FailsBy allowed s (MapRuns run step)
+map_fails {run = run} {s} step stays f =
+    made_fails (map_made step run s stays) (λ o k never. absurd never) f
 
 -- ---- a clone of a value
 
 value_ran : {S T O U : Type 0} (is_clone : U → U → Type 0) (clones : U → Type 0)
     (run : Runs S T O) (s : S × U) (i : Input T) (answer : Answer U) (t : S × U) (j : Input T)
     → ValueRuns is_clone clones run s i answer t j
-    → Making (λ tokens o rest u. is_clone s.1 u) (λ o k. k ≡ memory) run s.0 s i answer t j
+    → Making (λ tokens o rest u. is_clone s.1 u) (λ o k. (k ≡ memory) × ¬ (clones s.1)) run s.0 s i
+    answer t j
 value_ran is_clone clones run s i answer t j (inl (o, u, x, same, cloned, e)) =
     (t.0, λ is. pair_is is same, inl (o, u, x, cloned, e))
 value_ran is_clone clones run s i answer t j (inr (inl (o, x, same, not, e))) =
-    (t.0, λ is. pair_is is same, inr (inl (o, memory, j, x, refl, refl, e)))
+    (t.0, λ is. pair_is is same, inr (inl (o, memory, j, x, (refl, not), refl, e)))
 value_ran is_clone clones run s i answer t j (inr (inr (k, x, same, e))) =
     (t.0, λ is. pair_is is same, inr (inr (k, x, e)))
 
 value_made : {S T O U : Type 0} (is_clone : U → U → Type 0) (clones : U → Type 0)
     (run : Runs S T O) (s : S × U)
-    → IsMade (λ (tokens : List T) o (rest : List T) u. is_clone s.1 u) (λ o k. k ≡ memory) run s.0
-    (ValueRuns is_clone clones run) s
+    → IsMade (λ (tokens : List T) o (rest : List T) u. is_clone s.1 u)
+    (λ o k. (k ≡ memory) × ¬ (clones s.1)) run s.0 (ValueRuns is_clone clones run) s
 value_made is_clone clones run s = record { ran = value_ran is_clone clones run s }
 
 pub value_exact : {S T O U : Type 0} {run : Runs S T O} {s : S × U} {g : Grammar T O}
@@ -78,13 +79,14 @@ pub value_exact : {S T O U : Type 0} {run : Runs S T O} {s : S × U} {g : Gramma
     → IsExact s (ValueRuns is_clone clones run) (Made (λ v o u. is_clone v u) s.1 g)
 unfolding Made
 value_exact {run = run} {s} is_clone clones c = made_exact (value_made is_clone clones run s)
-    (λ tokens o rest k x wanted. inl wanted) c
+    (λ tokens o rest k x wanted. inl wanted.0) c
 
-pub value_soft : {S T O U : Type 0} {run : Runs S T O} {s : S × U}
-    (is_clone : U → U → Type 0) (clones : U → Type 0) → IsSoft s.0 run
-    → IsSoft s (ValueRuns is_clone clones run)
-value_soft {run = run} {s} is_clone clones f =
-    made_soft (value_made is_clone clones run s) (λ o k wanted. inl wanted) f
+pub value_fails : {S T O U : Type 0} {run : Runs S T O} {s : S × U} {allowed : Kind → Type 0}
+    (is_clone : U → U → Type 0) (clones : U → Type 0) → (¬ (clones s.1) → allowed memory)
+    → FailsBy allowed s.0 run → FailsBy allowed s (ValueRuns is_clone clones run)
+value_fails {run = run} {s} {allowed} is_clone clones unless f =
+    made_fails (value_made is_clone clones run s)
+    (λ o k (wanted, not). subst allowed (sym wanted) (unless not)) f
 
 -- ---- an output made of another, and of the tokens between its start and its end
 
@@ -109,10 +111,11 @@ output_exact {run = run} {s} makes f c =
     made_exact (output_made (λ tokens o rest u. makes f o u) run s)
     (λ tokens o rest k x never. absurd never) c
 
-pub output_soft : {S T O U : Type 0} {run : Runs S T O} {s : S} (makes : O → U → Type 0)
-    → IsSoft s run → IsSoft s (MakesOutput (λ i o j u. makes o u) run)
-output_soft {run = run} {s} makes f =
-    made_soft (output_made (λ tokens o rest u. makes o u) run s) (λ o k never. absurd never) f
+pub output_fails : {S T O U : Type 0} {run : Runs S T O} {s : S} {allowed : Kind → Type 0}
+    (makes : O → U → Type 0) → FailsBy allowed s run
+    → FailsBy allowed s (MakesOutput (λ i o j u. makes o u) run)
+output_fails {run = run} {s} makes f =
+    made_fails (output_made (λ tokens o rest u. makes o u) run s) (λ o k never. absurd never) f
 
 -- ---- the tokens between the start and the end of an output
 
@@ -129,9 +132,9 @@ with_taken_exact {L = L} {O} {run} {s} reading c = made_exact (output_made
     (λ tokens o rest (both : O × L). (both.0 ≡ o) × Shows reading tokens rest both.1) run s)
     (λ tokens o rest k x never. absurd never) c
 
-pub with_taken_soft : {S T L O : Type 0} {run : Runs S T O} {s : S} (reading : Reading T L)
-    → IsSoft s run → IsSoft s (WithTakenRuns reading run)
-with_taken_soft {L = L} {O} {run} {s} reading f = made_soft (output_made
+pub with_taken_fails : {S T L O : Type 0} {run : Runs S T O} {s : S} {allowed : Kind → Type 0}
+    (reading : Reading T L) → FailsBy allowed s run → FailsBy allowed s (WithTakenRuns reading run)
+with_taken_fails {L = L} {O} {run} {s} reading f = made_fails (output_made
     (λ tokens o rest (both : O × L). (both.0 ≡ o) × Shows reading tokens rest both.1) run s)
     (λ o k never. absurd never) f
 
@@ -155,10 +158,10 @@ unfolding Taken
 take_exact {run = run} {s} reading c =
     made_exact (take_made reading run s) (λ tokens o rest k x never. absurd never) c
 
-pub take_soft : {S T L O : Type 0} {run : Runs S T O} {s : S} (reading : Reading T L)
-    → IsSoft s run → IsSoft s (TakeRuns reading run)
-take_soft {run = run} {s} reading f =
-    made_soft (take_made reading run s) (λ o k never. absurd never) f
+pub take_fails : {S T L O : Type 0} {run : Runs S T O} {s : S} {allowed : Kind → Type 0}
+    (reading : Reading T L) → FailsBy allowed s run → FailsBy allowed s (TakeRuns reading run)
+take_fails {run = run} {s} reading f =
+    made_fails (take_made reading run s) (λ o k never. absurd never) f
 
 pub taken_takes : {T L O : Type 0} {g : Grammar T O} (reading : Reading T L) → Takes g
     → Takes (Taken reading g)
@@ -189,9 +192,9 @@ unfolding Made
 void_exact {run = run} {s} c =
     made_exact (void_made run s) (λ tokens o rest k x never. absurd never) c
 
-pub void_soft : {S T O : Type 0} {run : Runs S T O} {s : S} → IsSoft s run
-    → IsSoft s (VoidRuns run)
-void_soft {run = run} {s} f = made_soft (void_made run s) (λ o k never. absurd never) f
+pub void_fails : {S T O : Type 0} {run : Runs S T O} {s : S} {allowed : Kind → Type 0}
+    → FailsBy allowed s run → FailsBy allowed s (VoidRuns run)
+void_fails {run = run} {s} f = made_fails (void_made run s) (λ o k never. absurd never) f
 
 -- ---- places, of which tokens tell nothing
 
@@ -214,8 +217,9 @@ module _ {S T O : Type 0} (run : Runs S T O) (s : S) where
       → IsExact s (SpanRuns run) (Made AnyPlaces tt g)
   span_exact c = exact_along (λ t. t) (λ t e. e) span_there (output_exact AnyPlaces tt c)
 
-  pub span_soft : IsSoft s run → IsSoft s (SpanRuns run)
-  span_soft f = soft_along (λ t. t) span_there (output_soft (λ o u. AnyPlaces tt o u) f)
+  pub span_fails : {allowed : Kind → Type 0} → FailsBy allowed s run
+      → FailsBy allowed s (SpanRuns run)
+  span_fails f = fails_along (λ t. t) span_there (output_fails (λ o u. AnyPlaces tt o u) f)
 
   with_span_there : (i : Input T) (answer : Answer (O × Range ℕ)) (t : S) (j : Input T)
       → WithSpanRuns run s i answer t j
@@ -228,6 +232,7 @@ module _ {S T O : Type 0} (run : Runs S T O) (s : S) where
   with_span_exact c =
       exact_along (λ t. t) (λ t e. e) with_span_there (output_exact WithPlaces tt c)
 
-  pub with_span_soft : IsSoft s run → IsSoft s (WithSpanRuns run)
-  with_span_soft f =
-      soft_along (λ t. t) with_span_there (output_soft (λ o u. WithPlaces tt o u) f)
+  pub with_span_fails : {allowed : Kind → Type 0} → FailsBy allowed s run
+      → FailsBy allowed s (WithSpanRuns run)
+  with_span_fails f =
+      fails_along (λ t. t) with_span_there (output_fails (λ o u. WithPlaces tt o u) f)

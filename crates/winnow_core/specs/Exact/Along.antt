@@ -2,9 +2,10 @@
 use Rattle.std.specs.Prelude.{◌≡◌, ◌⊎◌, Ok, Err}
 use Rattle.std.proofs.Common.{inl, inr}
 use Rattle.streams.specs.Input.{Input}
+use Rattle.streams.specs.Kind.{Kind}
 use Rattle.grammars.specs.Grammar.{Grammar}
 use Rattle.stream_errors.specs.Form.{Answer}
-use Rattle.winnow_core.specs.Exact.{IsExact, IsSoft}
+use Rattle.winnow_core.specs.Exact.{FailsBy, IsExact}
 use Rattle.winnow_core.specs.Runs.{Runs}
 
 module _ {S S2 T O : Type 0} {run : Runs S T O} {run2 : Runs S2 T O} {s : S} (to : S → S2) where
@@ -22,10 +23,11 @@ module _ {S S2 T O : Type 0} {run : Runs S T O} {run2 : Runs S2 T O} {s : S} (to
   }
 
   -- its failures
-  pub soft_along : ((i : Input T) (answer : Answer O) (t : S) (j : Input T) → run s i answer t j
-      → run2 (to s) i answer (to t) j) → IsSoft (to s) run2 → IsSoft s run
-  soft_along there f =
-      record { soft = λ i k t j is r. f.soft i k (to t) j is (there i (Err k) t j r) }
+  pub fails_along : {allowed : Kind → Type 0} → ((i : Input T) (answer : Answer O) (t : S)
+      (j : Input T) → run s i answer t j → run2 (to s) i answer (to t) j)
+      → FailsBy allowed (to s) run2 → FailsBy allowed s run
+  fails_along there f =
+      record { fails = λ i k t j is r. f.fails i k (to t) j is (there i (Err k) t j r) }
 
 -- one of two, each in another form
 pub either_way : {A B C D : Type 0} → (A → C) → (B → D) → A ⊎ B → C ⊎ D

@@ -2,12 +2,12 @@
 use Rattle.std.specs.Prelude.{◌≡◌, ◌⊎◌, false, List, Ok, Err}
 use Rattle.std.proofs.Common.{refl, sym, subst, inl, inr, ◌∙◌}
 use Rattle.streams.specs.Input.{Input}
-use Rattle.streams.specs.Kind.{Kind, backtrack, memory}
+use Rattle.streams.specs.Kind.{Kind, memory}
 use Rattle.grammars.specs.Grammar.{Grammar, NoneStands}
 use Rattle.grammars.specs.Grammar.Unique.{MadeBy}
 use Rattle.stream_errors.specs.Form.{Answer}
 use Rattle.stream_errors.specs.Form.Known.{at_kind, ok_is_err, same_ok}
-use Rattle.winnow_core.specs.Exact.{IsExact, IsSoft}
+use Rattle.winnow_core.specs.Exact.{FailsBy, IsExact}
 use Rattle.winnow_core.specs.Runs.{Runs}
 
 -- A run of a parser, and what is made of its output; or its output is refused, with an error of
@@ -93,19 +93,16 @@ module _ {S R T O U : Type 0} {makes : List T → O → List T → U → Type 0}
             ])
           ]
 
-  pub made_soft : IsMade makes refused run s made r
-      → ((o : O) (k : Kind) → refused o k → (k ≡ memory) ⊎ (k ≡ backtrack)) → IsSoft s run
-      → IsSoft r made
-  made_soft is refuses f = record { soft = soft }
+  pub made_fails : {allowed : Kind → Type 0} → IsMade makes refused run s made r
+      → ((o : O) (k : Kind) → refused o k → allowed k) → FailsBy allowed s run
+      → FailsBy allowed r made
+  made_fails {allowed} is refuses f = record { fails = fails }
     where
-      Goal : Kind → Type 0
-      Goal k = (k ≡ memory) ⊎ (k ≡ backtrack)
-
-      soft : (i : Input T) (k : Kind) (t : R) (j : Input T) → i.status.cut ≡ false
-          → made r i (Err k) t j → (k ≡ memory) ⊎ (k ≡ backtrack)
-      soft i k t j whole ran =
+      fails : (i : Input T) (k : Kind) (t : R) (j : Input T) → i.status.cut ≡ false
+          → made r i (Err k) t j → allowed k
+      fails i k t j whole ran =
           let (m, same, way) = is.ran i (Err k) t j ran in elim way [
             | inl (o, v, x, made, e) ↦ ok_is_err e refl
-            | inr (inl (o, l, a, x, refusal, cut, e)) ↦ at_kind Goal e (refuses o l refusal)
-            | inr (inr (l, x, e)) ↦ at_kind Goal e (f.soft i l m j whole x)
+            | inr (inl (o, l, a, x, refusal, cut, e)) ↦ at_kind allowed e (refuses o l refusal)
+            | inr (inr (l, x, e)) ↦ at_kind allowed e (f.fails i l m j whole x)
           ]

@@ -1,6 +1,6 @@
 -- What is read where an output is settled, accepted or refused.
-use Rattle.std.specs.Prelude.{◌≡◌, ◌⊎◌, Bool, true, false, List, Option, Some, None, Result, Ok}
-use Rattle.std.specs.Prelude.{Err}
+use Rattle.std.specs.Prelude.{◌≡◌, ◌⊎◌, Bool, true, false, IsTrue, List, Option, Some, None}
+use Rattle.std.specs.Prelude.{Result, Ok, Err}
 use Rattle.std.proofs.Common.{refl, ap, subst, inl, inr, ◌∙◌}
 use Rattle.streams.specs.Input.{Input}
 use Rattle.streams.specs.Kind.{Kind, backtrack, memory}
@@ -11,9 +11,10 @@ use Rattle.stream_errors.specs.Form.Known.{at_output, ok_is_err, same_kind, same
 use Rattle.stream_errors.specs.Given.{Keeping}
 use Rattle.winnow_core.specs.AndThen.{AndThenRuns, AndThenSettles, completed}
 use Rattle.winnow_core.specs.Closures.{Finds, GivesSome}
-use Rattle.winnow_core.specs.Exact.{IsExact, IsSoft}
-use Rattle.winnow_core.specs.Exact.Along.{exact_along, soft_along}
-use Rattle.winnow_core.specs.Exact.Made.{IsMade, Making, Refuses, made_exact, made_soft}
+use Rattle.winnow_core.specs.Exact.{FailsBy, IsExact, IsSoft}
+use Rattle.winnow_core.specs.Exact.Allowed.{Allowed, back_allowed, memory_allowed}
+use Rattle.winnow_core.specs.Exact.Along.{exact_along, fails_along}
+use Rattle.winnow_core.specs.Exact.Made.{IsMade, Making, Refuses, made_exact, made_fails}
 use Rattle.winnow_core.specs.ParseTo.{ParseToRuns, ParseToSettles}
 use Rattle.winnow_core.specs.Runs.{Runs}
 use Rattle.winnow_core.specs.Settles.{Settles}
@@ -75,13 +76,10 @@ module _ {S G T O U : Type 0} {settle : G → O → Answer U → G → Type 0}
   settled_exact settles all c =
       made_exact (settled_made settles) (settled_refuses settles all) c
 
-  pub settled_soft : Settler settle accepts rejects s.1 → IsSoft s.0 run
-      → IsSoft s (Settles settle run)
-  settled_soft settles f = made_soft (settled_made settles)
-      (λ o k refusal. elim (settles.rejected o k refusal) [
-        | inl m ↦ inl m
-        | inr (b, out) ↦ inr b
-      ]) f
+  pub settled_fails : {allowed : Kind → Type 0} → Settler settle accepts rejects s.1
+      → ((o : O) (k : Kind) → settle s.1 o (Err k) s.1 → allowed k) → FailsBy allowed s.0 run
+      → FailsBy allowed s (Settles settle run)
+  settled_fails settles may f = made_fails (settled_made settles) may f
 
 -- it finds it false
 abbrev pub Misses : {G O : Type 0} → (G → O → Bool → G → Type 0) → G → O → Type 0
@@ -105,6 +103,14 @@ verify_settler tests stays = record {
     | inr (found, e) ↦ inr (same_kind e, found)
   ];
 }
+
+pub verify_fails : {S G T O b m : Type 0} {run : Runs S T O} {s : S × G}
+    (tests : G → O → Bool → G → Type 0) → ((o : O) (b : Bool) (h : G) → tests s.1 o b h → h ≡ s.1)
+    → FailsBy (Allowed b m) s.0 run → FailsBy (Allowed b m) s (Settles (VerifySettles tests) run)
+verify_fails tests stays f = settled_fails (verify_settler tests stays) (λ o k is. elim is [
+  | inl (found, e) ↦ ok_is_err e refl
+  | inr (found, e) ↦ back_allowed (same_kind e)
+]) f
 
 -- it gives none
 abbrev pub GivesNone : {G O U : Type 0} → (G → O → Option U → G → Type 0) → G → O → Type 0
@@ -152,12 +158,16 @@ pub verify_map_exact : {S G T O U : Type 0} {run : Runs S T O} {s : S × G} {g :
 verify_map_exact {S} {G} {run = run} {s} step stays all c = exact_along (λ (t : S × G). t)
     (λ t e. e) (verify_map_there step run s) (settled_exact (verify_map_settler step stays) all c)
 
-pub verify_map_soft : {S G T O U : Type 0} {run : Runs S T O} {s : S × G}
+pub verify_map_fails : {S G T O U b m : Type 0} {run : Runs S T O} {s : S × G}
     (step : G → O → Option U → G → Type 0)
-    → ((o : O) (u : Option U) (h : G) → step s.1 o u h → h ≡ s.1) → IsSoft s.0 run
-    → IsSoft s (VerifyMapRuns run step)
-verify_map_soft {S} {G} {run = run} {s} step stays f = soft_along (λ (t : S × G). t)
-    (verify_map_there step run s) (settled_soft (verify_map_settler step stays) f)
+    → ((o : O) (u : Option U) (h : G) → step s.1 o u h → h ≡ s.1)
+    → FailsBy (Allowed b m) s.0 run → FailsBy (Allowed b m) s (VerifyMapRuns run step)
+verify_map_fails {S} {G} {run = run} {s} step stays f = fails_along (λ (t : S × G). t)
+    (verify_map_there step run s) (settled_fails (verify_map_settler step stays)
+    (λ o k is. elim is [
+      | inl (v, gives, e) ↦ ok_is_err e refl
+      | inr (gives, e) ↦ back_allowed (same_kind e)
+    ]) f)
 
 -- ---- a text that is read
 
@@ -189,10 +199,14 @@ pub parse_to_exact : {S T O U : Type 0} {run : Runs S T O} {s : S} {g : Grammar 
 parse_to_exact {S} reads all c = exact_along (λ (t : S). (t, tt)) (λ t e. ap (λ x. x.0) e)
     (λ i answer t j ran. ran) (settled_exact (parse_to_settler reads) all c)
 
-pub parse_to_soft : {S T O U : Type 0} {run : Runs S T O} {s : S} (reads : O → Option U → Type 0)
-    → IsSoft s run → IsSoft s (ParseToRuns reads run)
-parse_to_soft {S} reads f = soft_along (λ (t : S). (t, tt)) (λ i answer t j ran. ran)
-    (settled_soft (parse_to_settler reads) f)
+pub parse_to_fails : {S T O U b m : Type 0} {run : Runs S T O} {s : S}
+    (reads : O → Option U → Type 0) → FailsBy (Allowed b m) s run
+    → FailsBy (Allowed b m) s (ParseToRuns reads run)
+parse_to_fails {S} reads f = fails_along (λ (t : S). (t, tt)) (λ i answer t j ran. ran)
+    (settled_fails (parse_to_settler reads) (λ o k is. elim is [
+      | inl (v, read, e) ↦ ok_is_err e refl
+      | inr (read, e) ↦ back_allowed (same_kind e)
+    ]) f)
 
 -- ---- a closure that may fail
 
@@ -232,11 +246,22 @@ pub try_map_exact : {S G T O U R : Type 0} {run : Runs S T O} {s : S × (G × (R
 unfolding Made
 try_map_exact step stays all c = settled_exact (try_map_settler step stays) all c
 
-pub try_map_soft : {S G T O U R : Type 0} {run : Runs S T O} {s : S × (G × (R → Keeping))}
+-- No error is refused memory to be kept.
+abbrev pub ErrorsKept : {R : Type 0} → (R → Keeping) → Type 0
+ErrorsKept {R} keeping = (r : R) → IsTrue (keeping r).refused → ⊥
+
+pub try_map_fails : {S G T O U R b m : Type 0} {run : Runs S T O} {s : S × (G × (R → Keeping))}
     (step : G → O → Result U R → G → Type 0)
-    → ((o : O) (u : Result U R) (h : G) → step s.1.0 o u h → h ≡ s.1.0) → IsSoft s.0 run
-    → IsSoft s (TryMapRuns step run)
-try_map_soft step stays f = settled_soft (try_map_settler step stays) f
+    → ((o : O) (u : Result U R) (h : G) → step s.1.0 o u h → h ≡ s.1.0)
+    → (m → ErrorsKept s.1.1) → FailsBy (Allowed b m) s.0 run
+    → FailsBy (Allowed b m) s (TryMapRuns step run)
+try_map_fails step stays never f =
+    settled_fails (try_map_settler step stays) (λ o k (same, is). elim is [
+      | inl (v, gives, e) ↦ ok_is_err e refl
+      | inr (r, l, gives, inl (kept, back), e) ↦ back_allowed (same_kind e ∙ back)
+      | inr (r, l, gives, inr (refused, wanted), e) ↦
+          memory_allowed (λ x. never x r refused) (same_kind e ∙ wanted)
+    ]) f
 
 -- ---- an output that is read by another parser
 
@@ -258,7 +283,7 @@ and_then_settler {f = f} view c soft = record {
       (rest.left.tokens, c.stands (completed (view o)) u f rest refl ran);
   rejected = λ o k (rest, ran). elim (c.none (completed (view o)) k f rest refl ran) [
     | inl m ↦ inl m
-    | inr nothing ↦ elim (soft.soft (completed (view o)) k f rest refl ran) [
+    | inr nothing ↦ elim (soft.fails (completed (view o)) k f rest refl ran) [
       | inl m ↦ inl m
       | inr b ↦ inr (b, nothing)
     ]
@@ -273,7 +298,9 @@ pub and_then_exact : {S W T V O U : Type 0} {run : Runs S T O} {inner : Runs W V
 unfolding Made
 and_then_exact view all c d soft = settled_exact (and_then_settler view d soft) all c
 
-pub and_then_soft : {S W T V O U : Type 0} {run : Runs S T O} {inner : Runs W V U} {s : S × W}
-    {h : Grammar V U} (view : O → Input V) → IsSoft s.0 run → IsExact s.1 inner h
-    → IsSoft s.1 inner → IsSoft s (AndThenRuns view run inner)
-and_then_soft view f d soft = settled_soft (and_then_settler view d soft) f
+pub and_then_fails : {S W T V O U : Type 0} {run : Runs S T O} {inner : Runs W V U} {s : S × W}
+    {h : Grammar V U} {allowed : Kind → Type 0} (view : O → Input V) → IsExact s.1 inner h
+    → IsSoft s.1 inner → FailsBy allowed s.0 run → FailsBy allowed s.1 inner
+    → FailsBy allowed s (AndThenRuns view run inner)
+and_then_fails {s = s} view d soft f e = settled_fails (and_then_settler view d soft)
+    (λ o k (rest, ran). e.fails (completed (view o)) k s.1 rest refl ran) f

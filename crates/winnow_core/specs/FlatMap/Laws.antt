@@ -7,13 +7,13 @@ use Rattle.streams.specs.Following.{Following}
 use Rattle.winnow_core.specs.FlatMap.{FlatMapRuns}
 use Rattle.winnow_core.specs.Runs.{Runs, LeaveEnds}
 use Rattle.winnow_core.specs.Stable.Grows.{Grows, final_by}
-use Rattle.streams.specs.Kind.{Kind, backtrack, memory}
+use Rattle.streams.specs.Kind.{Kind, memory}
 use Rattle.grammars.specs.Grammar.{Grammar, NoneStands}
 use Rattle.grammars.specs.Grammar.Decided.{Decided, EachMade, MadeAlike, decided_unique}
 use Rattle.stream_errors.specs.Form.{Answer}
 use Rattle.stream_errors.specs.Form.Known.{at_kind, ok_is_err}
 use Rattle.winnow_core.specs.Closures.{Gives, Stays}
-use Rattle.winnow_core.specs.Exact.{IsExact, IsSoft}
+use Rattle.winnow_core.specs.Exact.{FailsBy, IsExact}
 use Rattle.winnow_core.specs.States.{pair_is}
 
 -- they leave an end, where those of the child and of the parsers made do
@@ -120,16 +120,14 @@ module _ {S G H V T O U : Type 0} {run : Runs S T O} {second : Runs V T U} {g : 
         | inr nothing ↦ inr (λ u rest (o, mid, made, x, m, y). nothing o mid x)
       ])
 
-  pub flat_map_soft : IsSoft s.0 run
-      → EachMade (Gives step) s.1 (λ made. IsSoft (state made) second)
-      → IsSoft s (FlatMapRuns step state run second)
-  flat_map_soft f d = record { soft = soft }
+  pub flat_map_fails : {allowed : Kind → Type 0} → FailsBy allowed s.0 run
+      → EachMade (Gives step) s.1 (λ made. FailsBy allowed (state made) second)
+      → FailsBy allowed s (FlatMapRuns step state run second)
+  flat_map_fails {allowed} f d = record { fails = fails }
     where
-      Goal : Kind → Type 0
-      Goal k = (k ≡ memory) ⊎ (k ≡ backtrack)
-
-      soft : (i : Input T) (k : Kind) (t : S × G) (j : Input T) → i.status.cut ≡ false
-          → FlatMapRuns step state run second s i (Err k) t j → Goal k
-      soft i k t j is (inl (o, a, made, v, r, called, q)) =
-          (d o made (given step o made stays called)).soft a k v j (c.kept i (Ok o) t.0 a is r).1 q
-      soft i k t j is (inr (l, r, same, e)) = at_kind Goal e (f.soft i l t.0 j is r)
+      fails : (i : Input T) (k : Kind) (t : S × G) (j : Input T) → i.status.cut ≡ false
+          → FlatMapRuns step state run second s i (Err k) t j → allowed k
+      fails i k t j is (inl (o, a, made, v, r, called, q)) =
+          (d o made (given step o made stays called)).fails a k v j (c.kept i (Ok o) t.0 a is r).1
+          q
+      fails i k t j is (inr (l, r, same, e)) = at_kind allowed e (f.fails i l t.0 j is r)

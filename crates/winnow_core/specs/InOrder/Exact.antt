@@ -2,13 +2,13 @@
 use Rattle.std.specs.Prelude.{◌≡◌, ◌⊎◌, false, List, Ok, Err}
 use Rattle.std.proofs.Common.{refl, ap, subst, inl, inr}
 use Rattle.streams.specs.Input.{Input}
-use Rattle.streams.specs.Kind.{Kind, backtrack, memory}
+use Rattle.streams.specs.Kind.{Kind, memory}
 use Rattle.grammars.specs.Grammar.{Both, Grammar, Made, NoneStands, Takes}
 use Rattle.grammars.specs.Grammar.Unique.{both_take, both_unique}
 use Rattle.stream_errors.specs.Form.{Answer}
 use Rattle.stream_errors.specs.Form.Known.{at_kind, ok_is_err, same_ok}
-use Rattle.winnow_core.specs.Exact.{IsExact, IsSoft}
-use Rattle.winnow_core.specs.Exact.Made.{IsMade, Making, made_exact, made_soft}
+use Rattle.winnow_core.specs.Exact.{FailsBy, IsExact}
+use Rattle.winnow_core.specs.Exact.Made.{IsMade, Making, made_exact, made_fails}
 use Rattle.winnow_core.specs.InOrder.{BothRuns}
 use Rattle.winnow_core.specs.Runs.{Runs}
 use Rattle.winnow_core.specs.Sequence.{SequenceRuns1}
@@ -86,21 +86,19 @@ module _ {S1 S2 T O1 O2 O : Type 0} {output : O1 → O2 → O} {run1 : Runs S1 T
                 ↦ inr (none_behind output g2 c1 i a o1 (c1.stands i o1 t.0 a is r1) nothing)
           ])
 
-pub both_soft : {S1 S2 T O1 O2 O : Type 0} {output : O1 → O2 → O} {run1 : Runs S1 T O1}
-    {run2 : Runs S2 T O2} {g1 : Grammar T O1} {s : S1 × S2} → IsExact s.0 run1 g1
-    → IsSoft s.0 run1 → IsSoft s.1 run2 → IsSoft s (BothRuns output run1 run2)
-both_soft {S1} {S2} {T} {O1} {O2} {O} {output} {run1} {run2} {s = s} c1 f1 f2 =
-    record { soft = soft }
+pub both_fails : {S1 S2 T O1 O2 O : Type 0} {output : O1 → O2 → O} {run1 : Runs S1 T O1}
+    {run2 : Runs S2 T O2} {g1 : Grammar T O1} {s : S1 × S2} {allowed : Kind → Type 0}
+    → IsExact s.0 run1 g1 → FailsBy allowed s.0 run1 → FailsBy allowed s.1 run2
+    → FailsBy allowed s (BothRuns output run1 run2)
+both_fails {S1} {S2} {T} {O1} {O2} {O} {output} {run1} {run2} {s = s} {allowed} c1 f1 f2 =
+    record { fails = fails }
   where
-    Goal : Kind → Type 0
-    Goal x = (x ≡ memory) ⊎ (x ≡ backtrack)
-
-    soft : (i : Input T) (k : Kind) (t : S1 × S2) (j : Input T) → i.status.cut ≡ false
-        → BothRuns output run1 run2 s i (Err k) t j → (k ≡ memory) ⊎ (k ≡ backtrack)
-    soft i k t j is (inl (o1, o2, a, r1, r2, e)) = ok_is_err e refl
-    soft i k t j is (inr (inl (l, r1, same, e))) = at_kind Goal e (f1.soft i l t.0 j is r1)
-    soft i k t j is (inr (inr (o1, l, a, r1, r2, e))) =
-        at_kind Goal e (f2.soft a l t.1 j (c1.kept i (Ok o1) t.0 a is r1).1 r2)
+    fails : (i : Input T) (k : Kind) (t : S1 × S2) (j : Input T) → i.status.cut ≡ false
+        → BothRuns output run1 run2 s i (Err k) t j → allowed k
+    fails i k t j is (inl (o1, o2, a, r1, r2, e)) = ok_is_err e refl
+    fails i k t j is (inr (inl (l, r1, same, e))) = at_kind allowed e (f1.fails i l t.0 j is r1)
+    fails i k t j is (inr (inr (o1, l, a, r1, r2, e))) =
+        at_kind allowed e (f2.fails a l t.1 j (c1.kept i (Ok o1) t.0 a is r1).1 r2)
 
 pub both_takes : {S1 S2 T O1 O2 O : Type 0} (output : O1 → O2 → O) {run1 : Runs S1 T O1}
     {run2 : Runs S2 T O2} {g1 : Grammar T O1} {g2 : Grammar T O2} {s1 : S1} {s2 : S2}
@@ -131,5 +129,6 @@ module _ {S T O : Type 0} (run : Runs S T O) (s : record { 0 : S }) where
   unfolding Made
   tuple1_exact c = made_exact tuple1_made (λ tokens o rest k x never. absurd never) c
 
-  pub tuple1_soft : IsSoft s.0 run → IsSoft s (SequenceRuns1 run)
-  tuple1_soft f = made_soft tuple1_made (λ o k never. absurd never) f
+  pub tuple1_fails : {allowed : Kind → Type 0} → FailsBy allowed s.0 run
+      → FailsBy allowed s (SequenceRuns1 run)
+  tuple1_fails f = made_fails tuple1_made (λ o k never. absurd never) f

@@ -2,14 +2,15 @@
 use Rattle.std.specs.Prelude.{◌⊎◌}
 use Rattle.std.proofs.Common.{refl, ap, inl, inr, ◌∙◌}
 use Rattle.streams.specs.Input.{Input}
+use Rattle.streams.specs.Kind.{Kind}
 use Rattle.grammars.specs.Grammar.{Both, Grammar, Takes, Three}
 use Rattle.grammars.specs.Grammar.Same.{takes_as, Same}
 use Rattle.stream_errors.specs.Form.{Answer}
-use Rattle.winnow_core.specs.Exact.{IsExact, IsSoft}
-use Rattle.winnow_core.specs.Exact.Along.{either_way, exact_along, soft_along}
+use Rattle.winnow_core.specs.Exact.{FailsBy, IsExact}
+use Rattle.winnow_core.specs.Exact.Along.{either_way, exact_along, fails_along}
 use Rattle.winnow_core.specs.Exact.Same.{exact_as}
 use Rattle.winnow_core.specs.InOrder.{BothRuns, ThreeRuns}
-use Rattle.winnow_core.specs.InOrder.Exact.{both_exact, both_soft, both_takes}
+use Rattle.winnow_core.specs.InOrder.Exact.{both_exact, both_fails, both_takes}
 use Rattle.winnow_core.specs.Runs.{Runs}
 
 -- three are two and one
@@ -52,12 +53,13 @@ module _ {S1 S2 S3 T O1 O2 O3 O : Type 0} {output : O1 → O2 → O3 → O} {run
       (there output run1 run2 run3 s)
       (exact_as (three_same output g1 g2 g3) (both_exact (both_exact c1 c2) c3))
 
-  pub three_soft : {g1 : Grammar T O1} {g2 : Grammar T O2} → IsExact s.0 run1 g1
-      → IsExact s.1 run2 g2 → IsSoft s.0 run1 → IsSoft s.1 run2 → IsSoft s.2 run3
-      → IsSoft s (ThreeRuns output run1 run2 run3)
-  three_soft c1 c2 f1 f2 f3 = soft_along (λ (t : S1 × S2 × S3). ((t.0, t.1), t.2))
+  pub three_fails : {g1 : Grammar T O1} {g2 : Grammar T O2} {allowed : Kind → Type 0}
+      → IsExact s.0 run1 g1 → IsExact s.1 run2 g2 → FailsBy allowed s.0 run1
+      → FailsBy allowed s.1 run2 → FailsBy allowed s.2 run3
+      → FailsBy allowed s (ThreeRuns output run1 run2 run3)
+  three_fails c1 c2 f1 f2 f3 = fails_along (λ (t : S1 × S2 × S3). ((t.0, t.1), t.2))
       (there output run1 run2 run3 s)
-      (both_soft (both_exact c1 c2) (both_soft c1 f1 f2) f3)
+      (both_fails (both_exact c1 c2) (both_fails c1 f1 f2) f3)
 
 pub three_takes : {S1 S2 S3 T O1 O2 O3 O : Type 0} (output : O1 → O2 → O3 → O)
     {run1 : Runs S1 T O1} {run2 : Runs S2 T O2} {run3 : Runs S3 T O3} {g1 : Grammar T O1}

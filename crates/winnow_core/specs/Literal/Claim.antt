@@ -4,9 +4,10 @@ use Rattle.streams.specs.Reading.{Reading}
 use Rattle.grammars.specs.Grammar.{Literally}
 use Rattle.grammars.specs.Grammar.Unique.{literally_takes}
 use Rattle.winnow_core.specs.Claim.{Claim, Claimed}
+use Rattle.winnow_core.specs.Exact.Allowed.{backs}
 use Rattle.winnow_core.specs.Literal.{LiteralRuns}
 use Rattle.winnow_core.specs.Literal.Laws.{ShowSame, literal_decided, literal_exact}
-use Rattle.winnow_core.specs.Literal.Laws.{literal_soft}
+use Rattle.winnow_core.specs.Literal.Laws.{literal_fails}
 use Rattle.winnow_core.specs.Runs.{Keeps}
 
 -- A literal that stands for the lists `spells`, of which the output is made by `output`.
@@ -15,6 +16,7 @@ abbrev pub literal_claim : {S T L O : Type 0} → Reading T L → (S → List T 
 literal_claim reading spells output alike s = record {
   premise = ⊤;
   backtracks = ⊤;
+  spares_memory = ⊤;
   consumes = spells s [] → ⊥;
   grammar = Literally reading spells output s;
   decides = ⊤;
@@ -30,7 +32,7 @@ pub literal_claimed : {S T L O : Type 0} (reading : Reading T L) (spells : S →
     (λ form. Keeps (λ y. LiteralRuns reading form (spells y) (output y)))
 literal_claimed reading spells output alike s same_units shown = record {
   exact = λ form is. literal_exact reading form spells output (λ y. y) s same_units;
-  soft = λ form is soft. literal_soft reading form spells output (λ y. y) s;
+  fails = λ form is. backs (literal_fails reading form spells output (λ y. y) s);
   takes = λ is some. literally_takes reading spells output s some;
   decided = λ form is.
       literal_decided reading form spells output (λ y. y) alike s same_units shown;

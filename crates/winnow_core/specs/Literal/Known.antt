@@ -1,11 +1,11 @@
 -- What a caller knows of one run of a literal that answered.
-use Rattle.std.specs.Prelude.{◌≡◌, false, List, [], ◌∷◌, ◌++◌, Result, Ok, Err, IfOk}
+use Rattle.std.specs.Prelude.{◌≡◌, false, List, [], ◌∷◌, ◌++◌, Ok, Err}
 use Rattle.std.proofs.Common.{refl, sym, ap, subst, ◌∙◌, inl, inr, arith, length, length-append}
 use Rattle.streams.specs.Equal.{same_rest, true_is_false}
 use Rattle.streams.specs.Input.{Input, Takes}
 use Rattle.streams.specs.Kind.{Kind, backtrack}
 use Rattle.streams.specs.Reading.{Reading}
-use Rattle.stream_errors.specs.Form.{Answer, ErrorForm, answer_by}
+use Rattle.stream_errors.specs.Form.{Answer, ErrorForm}
 use Rattle.stream_errors.specs.Form.Known.{ok_is_err, same_err, same_ok}
 use Rattle.stream_searches.specs.Compare.{StandsFirst}
 use Rattle.winnow_core.specs.Literal.{LiteralRuns}
@@ -69,15 +69,6 @@ token_taken reading form x output i o j ran =
       status = taken.takes.passed.status;
     }
 
--- so what is said of the input before and behind the token is said where a call answers an output
-pub token_told : {T S O E : Type 0} (kind : E → Kind) (reading : Reading T S) (form : ErrorForm)
-    (x : T) (output : S → O) (i j : Input T) (P : O → Type 0) (result : Result O E)
-    → LiteralRuns reading form (λ xs. xs ≡ x ∷ []) output i (answer_by kind result) j
-    → ((o : O) → TokenTaken x i j → P o) → IfOk result P
-token_told kind reading form x output i j P (Ok o) ran told =
-    told o (token_taken reading form x output i o j ran)
-token_told kind reading form x output i j P (Err e) ran told = tt
-
 -- One that does not stand first in a whole input, which stays.
 pub record TokenMissing {T : Type 0} (x : T) (i : Input T) (k : Kind) (j : Input T) : Type 0 where
   pub stays : j ≡ i
@@ -99,15 +90,6 @@ token_missing reading form x output i k j whole ran =
 pub token_whole : {T : Type 0} {x : T} {i j : Input T} → TokenTaken x i j
     → i.status.cut ≡ false → j.status.cut ≡ false
 token_whole taken whole = ap (λ s. s.cut) taken.status ∙ whole
-
-pub ruleset known_literals = (
-  literal_taken,
-  literal_missing,
-  token_taken,
-  token_told,
-  token_missing,
-  token_whole,
-)
 
 -- ---- what a run must answer, where it is known how the input begins
 

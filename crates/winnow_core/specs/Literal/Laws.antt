@@ -22,7 +22,7 @@ use Rattle.grammars.specs.Grammar.{Literally, NoneStands}
 use Rattle.grammars.specs.Grammar.Searches.{Text}
 use Rattle.grammars.specs.Grammar.Unique.{literally_unique, one_front}
 use Rattle.stream_errors.specs.Form.Known.{ok_is_err, same_ok, same_kind}
-use Rattle.winnow_core.specs.Exact.{IsExact, IsSoft}
+use Rattle.winnow_core.specs.Exact.{Backtracks, IsExact}
 
 -- it leaves an end
 pub literal_ends : {T L O : Type 0} (reading : Reading T L) (form : ErrorForm)
@@ -209,16 +209,16 @@ module _ {X S T L O : Type 0} (reading : Reading T L) (form : ErrorForm)
       none i k j is (inr (inr (nothing, cuts, e, same))) =
           λ o rest (front, slice, spells, shown, f, g). nothing (front, rest, spells, f)
 
-  pub literal_soft : IsSoft x
+  pub literal_fails : Backtracks x
       (Keeps (λ y. LiteralRuns reading form (spelled (literal y)) (output (literal y))))
-  literal_soft = record { soft = λ i k t j is (r, kept). soft i k j is r }
+  literal_fails = record { fails = λ i k t j is (r, kept). fails i k j is r }
     where
-      soft : (i : Input T) (k : Kind) (j : Input T) → i.status.cut ≡ false
+      fails : (i : Input T) (k : Kind) (j : Input T) → i.status.cut ≡ false
           → LiteralRuns reading form (spelled (literal x)) (output (literal x)) i (Err k) j
-          → (k ≡ memory) ⊎ (k ≡ backtrack)
-      soft i k j is (inl (front, slice, spells, takes, e)) = ok_is_err e refl
-      soft i k j is (inr (inl (short, cut, e, same))) = true_is_false (sym cut ∙ is)
-      soft i k j is (inr (inr (nothing, cuts, e, same))) = inr (same_kind e)
+          → k ≡ backtrack
+      fails i k j is (inl (front, slice, spells, takes, e)) = ok_is_err e refl
+      fails i k j is (inr (inl (short, cut, e, same))) = true_is_false (sym cut ∙ is)
+      fails i k j is (inr (inr (nothing, cuts, e, same))) = same_kind e
 
 -- What two texts of the same bytes stand for is the same.
 abbrev pub SpellsByText : {T : Type 0} → (Bor (List ℕ) → List T → Type 0) → Type 0
@@ -274,10 +274,40 @@ module _ {T L : Type 0} (reading : Reading T L) (form : ErrorForm)
     };
   }
 
-  pub text_soft : (bytes : List ℕ)
-      → IsSoft tt (Keeps (λ (_ : ⊤). TextRuns reading spells bytes form))
-  text_soft bytes = record {
-    soft = λ i k t j is ((text, here, r), same).
-        (literal_soft reading form spells (λ _ slice. slice) (λ y. y) text).soft i k text j is
+  -- a run by one text of some bytes is one by another text of them
+  by_other : (one other : Bor (List ℕ)) → one.now ≡ other.now → (i : Input T) (answer : Answer L)
+      (j : Input T) → LiteralRuns reading form (spells other) (λ slice. slice) i answer j
+      → LiteralRuns reading form (spells one) (λ slice. slice) i answer j
+  by_other one other same i answer j (inl (front, slice, is, takes, e)) =
+      inl (front, slice, alike other one front (sym same) is, takes, e)
+  by_other one other same i answer j (inr (inl ((y, more, is), cut, e, at))) =
+      inr (inl ((y, more, alike other one _ (sym same) is), cut, e, at))
+  by_other one other same i answer j (inr (inr (nothing, cuts, e, at))) = inr (inr (
+    λ (front, rest, is, split). nothing (front, rest, alike one other front same is, split),
+    λ (y, more, is). cuts (y, more, alike one other _ same is),
+    e,
+    at,
+  ))
+
+  pub text_decided : (bytes : List ℕ)
+      → IsDecided tt (Keeps (λ (_ : ⊤). TextRuns reading spells bytes form)) (ShowSame reading)
+  text_decided bytes = record {
+    kept = λ i answer t j free ((text, here, r), same).
+        (same, ((each text).kept i answer text j free (r, refl)).1);
+    decided = λ i a b t u j k na nb ((text, here, r), same) ((other, was, q), also).
+        (each text).decided i a b text text j k na nb (r, refl)
+        (by_other text other (here ∙ sym was) i b k q, refl);
+  }
+    where
+      each : (text : Bor (List ℕ)) → IsDecided text
+          (Keeps (λ y. LiteralRuns reading form (spells y) (λ slice. slice))) (ShowSame reading)
+      each text = literal_decided reading form spells (λ _ slice. slice) (λ y. y)
+          (ShowSame reading) text (same_units text) (λ v w shown. shown)
+
+  pub text_fails : (bytes : List ℕ)
+      → Backtracks tt (Keeps (λ (_ : ⊤). TextRuns reading spells bytes form))
+  text_fails bytes = record {
+    fails = λ i k t j is ((text, here, r), same).
+        (literal_fails reading form spells (λ _ slice. slice) (λ y. y) text).fails i k text j is
         (r, refl);
   }

@@ -1,9 +1,9 @@
 -- What a caller knows of one run that makes an error of another, where it answered: for `context`,
 -- `context_with`, `complete_err`, `map_err` and `err_into`.
-use Rattle.std.specs.Prelude.{◌≡◌, Result, Ok, Err, IfOk, ◌⊎◌}
+use Rattle.std.specs.Prelude.{◌≡◌, Ok, Err, ◌⊎◌}
 use Rattle.std.proofs.Common.{refl, inl, inr}
 use Rattle.streams.specs.Kind.{Kind}
-use Rattle.stream_errors.specs.Form.{Answer, answer_by}
+use Rattle.stream_errors.specs.Form.{Answer}
 use Rattle.stream_errors.specs.Form.Known.{at_kind, at_output, ok_is_err}
 
 -- the runs of MakesError, by what the child's relate; Became is what a kind became
@@ -27,13 +27,3 @@ pub makes_error_err : {O : Type 0} {Ran : O → Type 0} {Kept : Type 0} {Failed 
 makes_error_err l (inl (o, r, same, e)) = ok_is_err e refl
 makes_error_err {Became = Became} l (inr (k, m, r, became, e)) =
     (k, r, at_kind (λ y. Became k y) e became)
-
--- so what is said of an output is said where a call answers one
-pub makes_error_told : {O E : Type 0} {Ran : O → Type 0} {Kept : Type 0} {Failed : Kind → Type 0}
-    {Became : Kind → Kind → Type 0} (kind : E → Kind) (P : O → Type 0) (result : Result O E)
-    → MakesErrorCases Ran Kept Failed Became (answer_by kind result)
-    → ((o : O) → Ran o → P o) → IfOk result P
-makes_error_told kind P (Ok o) ran told = told o (makes_error_ok o ran).0
-makes_error_told kind P (Err e) ran told = tt
-
-pub ruleset known_errors = (makes_error_ok, makes_error_err, makes_error_told)

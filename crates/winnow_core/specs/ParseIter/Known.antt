@@ -1,12 +1,9 @@
 -- What a caller knows of the calls of an iterator over all of an input: its items so far are the
 -- outputs of a chain of runs that consume; behind them all is read, or the run that ended it has
 -- given its fault.
-use Rattle.std.specs.Prelude.{◌≡◌, List, [], ◌∷◌, ◌++◌, map, Option, Some, None, Ok, Err, Result}
-use Rattle.std.specs.Prelude.{◌⊎◌}
-use Rattle.std.specs.Iterator.{Drains}
-use Rattle.std.proofs.Common.{refl, sym, ap, subst, ◌∙◌, inl, inr, append_assoc}
+use Rattle.std.specs.Prelude.{◌≡◌, List, [], ◌∷◌, ◌++◌, Option, Some, None, Ok, Err, Result}
+use Rattle.std.proofs.Common.{sym, subst, inl, inr}
 use Rattle.std.proofs.lemmas.Fn.{FoldsTo-push}
-use Rattle.std.proofs.lemmas.List.{append-nil}
 use Rattle.streams.specs.Input.{Input, Remaining}
 use Rattle.streams.specs.Kind.{Kind}
 use Rattle.winnow_core.specs.Chain.{IsItem, Items}
@@ -63,25 +60,6 @@ parse_iter_none run assert_kind is_fault s t
     (inr (inl (start, i, j, k, f, from, some, ends, refuses, is, to))) = absurd (cc)
 parse_iter_none run assert_kind is_fault s t (inr (inr (nothing, is, same, to))) =
     (nothing, same, to)
-
-not_ended : {T P : Type 0} {standing : Standing T} {start : Remaining T} {i : Input T}
-    → standing ≡ reads start i → standing ≡ ended → P
-not_ended from off = absurd (cc)
-
--- one that has ended gives nothing more, and stays as it is
-pub parse_iter_stays : {S T O F : Type 0} (run : Runs S T O) (assert_kind : Kind)
-    (is_fault : Remaining T → Input T → Kind → F → Type 0) (s : ParseIterState S T)
-    (item : Option (Result O F)) (t : ParseIterState S T) → s.standing ≡ ended
-    → ParseIterNext run assert_kind is_fault s item t → (item ≡ None) × (t ≡ s)
-parse_iter_stays run assert_kind is_fault s item t off
-    (inl (start, i, j, x, from, one, is, to)) = not_ended from off
-parse_iter_stays run assert_kind is_fault s item t off
-    (inr (inl (start, i, j, k, f, from, some, ends, refuses, is, to))) = not_ended from off
-parse_iter_stays {S} {T} run assert_kind is_fault s item t off
-    (inr (inr (nothing, is, same, to))) =
-    let make : S → Standing T → ParseIterState S T =
-    λ p q. record { parser = p; standing = q } in
-    (is, ap (λ p. make p t.standing) same ∙ ap (λ q. make s.parser q) (to ∙ sym off))
 
 -- ---- the calls so far
 
@@ -167,96 +145,3 @@ parse_iter_refused {T = T} {O = O} {F = F} run assert_kind is_fault s i outputs 
       ends = ends;
       is = subst Q (sym same.0) refuses;
     }
-
--- ---- all items
-
--- Items in a chain behind which nothing is left.
-abbrev pub ReadAll : {S T O : Type 0} → Runs S T O → S → Input T → List O → Type 0
-ReadAll {S} {T} run s i outputs =
-    (t : S) × (m : Input T) × Items run s i outputs t m × (m.left.tokens ≡ [])
-
--- All items that an iterator gives behind those of a chain: more outputs of that chain, behind
--- which nothing is left, or which the fault of the run behind them follows.
-abbrev pub GivesBehind : {S T O F : Type 0} → Runs S T O → Kind
-    → (Remaining T → Input T → Kind → F → Type 0) → S → Input T → List O → List (Result O F)
-    → Type 0
-GivesBehind {O = O} {F = F} run assert_kind is_fault s i before items =
-    (outputs : List O)
-    × (((items ≡ map Ok outputs) × ReadAll run s i (before ++ outputs))
-    ⊎ ((fault : F) × (items ≡ map Ok outputs ++ Err fault ∷ [])
-    × IsRefused run assert_kind is_fault s i (before ++ outputs) fault))
-
--- an output before those that are given behind it
-one_before : {S T O F : Type 0} (run : Runs S T O) (assert_kind : Kind)
-    (is_fault : Remaining T → Input T → Kind → F → Type 0) (s : S) (i : Input T)
-    (before : List O) (o : O) (items : List (Result O F))
-    → GivesBehind run assert_kind is_fault s i (before ++ o ∷ []) items
-    → GivesBehind run assert_kind is_fault s i before (Ok o ∷ items)
-one_before {O = O} run assert_kind is_fault s i before o items (outputs, inl (is, all)) =
-    let P : List O → Type 0 = λ l. ReadAll run s i l in (
-      o ∷ outputs,
-      inl (
-        ap (λ l. Ok o ∷ l) is,
-        subst P (append_assoc before (o ∷ []) outputs) all,
-      ),
-    )
-one_before {O = O} run assert_kind is_fault s i before o items
-    (outputs, inr (fault, is, refused)) =
-    let P : List O → Type 0 = λ l. IsRefused run assert_kind is_fault s i l fault in (
-      o ∷ outputs,
-      inr (
-        fault,
-        ap (λ l. Ok o ∷ l) is,
-        subst P (append_assoc before (o ∷ []) outputs) refused,
-      ),
-    )
-
--- the items that calls gave, to the last one
-pub parse_iter_drained : {S T O F X : Type 0} (run : Runs S T O) (assert_kind : Kind)
-    (is_fault : Remaining T → Input T → Kind → F → Type 0) (state : X → ParseIterState S T)
-    (gives : X → Option (Result O F) → X → Type 0)
-    → ((a : X) (item : Option (Result O F)) (b : X) → gives a item b
-    → ParseIterNext run assert_kind is_fault (state a) item (state b))
-    → (s : S) (i : Input T) (items : List (Result O F)) (before : List O) (a : X)
-    → HasRead run s i before (state a) → Drains gives a items
-    → GivesBehind run assert_kind is_fault s i before items
-parse_iter_drained {O = O} {X = X} run assert_kind is_fault state gives steps s i [] before a
-    read (u, (t, same, last)) =
-    let P : X → Type 0 = λ x. gives x None u in
-    let all = parse_iter_all run assert_kind is_fault s i before (state a) (state u) read
-    (steps a None u (subst P (sym same) last)) in
-    let Q : List O → Type 0 = λ l. ReadAll run s i l in
-    ([], inl (refl, subst Q (sym (append-nil before)) ((state a).parser, all.0, all.1, all.2)))
-parse_iter_drained run assert_kind is_fault state gives steps s i (Ok o ∷ items) before a
-    read (u, (t, (c, step, more), last)) =
-    let longer = parse_iter_more run assert_kind is_fault s i before (state a) (Ok o) (state c)
-    read (steps a (Some (Ok o)) c step) o refl in
-    one_before run assert_kind is_fault s i before o items
-    (parse_iter_drained run assert_kind is_fault state gives steps s i items (before ++ o ∷ []) c
-    longer (u, (t, more, last)))
-parse_iter_drained {O = O} run assert_kind is_fault state gives steps s i (Err fault ∷ []) before a
-    read (u, (t, (c, step, more), last)) =
-    let refused = parse_iter_refused run assert_kind is_fault s i before (state a) (Err fault)
-    (state c) read (steps a (Some (Err fault)) c step) fault refl in
-    let Q : List O → Type 0 = λ l. IsRefused run assert_kind is_fault s i l fault in
-    ([], inr (fault, refl, subst Q (sym (append-nil before)) refused))
-parse_iter_drained run assert_kind is_fault state gives steps s i (Err fault ∷ item ∷ items)
-    before a read (u, (t, (c, step, (d, next, more)), last)) =
-    let to = (parse_iter_fault run assert_kind is_fault (state a) fault (state c)
-    (steps a (Some (Err fault)) c step)) in
-    none_more (parse_iter_stays run assert_kind is_fault (state c) (Some item) (state d)
-    to.8 (steps c (Some item) d next)).0
-  where
-    none_more : {A P : Type 0} {x : A} → Some x ≡ None → P
-    none_more e = absurd (cc)
-
-pub ruleset known_parse_iters = (
-  parse_iter_item,
-  parse_iter_fault,
-  parse_iter_none,
-  parse_iter_stays,
-  parse_iter_more,
-  parse_iter_all,
-  parse_iter_refused,
-  parse_iter_drained,
-)

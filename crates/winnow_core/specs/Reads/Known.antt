@@ -11,15 +11,6 @@ use Rattle.winnow_core.specs.Literal.Known.{token_taken}
 use Rattle.winnow_core.specs.Reads.{MustLeave, Reads}
 use Rattle.winnow_core.specs.Runs.{Keeps, Runs}
 
--- what is said of its outputs may say less
-pub reads_less : {S T O : Type 0} {run : Runs S T O} {known : S → Type 0} {shown : O → List T}
-    {P : O → Type 0} (Q : O → Type 0) → ((o : O) → P o → Q o) → Reads run known shown P
-    → Reads run known shown Q
-reads_less Q says reads = record {
-  reads = λ s i o t j is ran. let h = reads.reads s i o t j is ran in (h.0, says o h.1);
-  again = reads.again;
-}
-
 -- ---- literals by value
 
 -- by the text that a literal stands for, and the output that is made of it and its slice

@@ -4,33 +4,8 @@ use Rattle.std.specs.Prelude.{List, ◌++◌}
 use Rattle.std.proofs.Common.{ap, append_assoc, inl, inr, subst, sym, ◌∙◌}
 use Rattle.winnow_core.specs.Reads.{Reads}
 use Rattle.winnow_core.specs.Runs.{Runs}
-use Rattle.winnow_core.specs.Sequence.{SequenceRuns2, SequenceRuns4, SequenceRuns5}
-use Rattle.winnow_core.specs.Sequence.Known.{sequence2_ok, sequence4_ok, sequence5_ok}
-
--- two children
-pub sequence2_reads : {S1 S2 T O1 O2 : Type 0} {run1 : Runs S1 T O1} {run2 : Runs S2 T O2}
-    {known1 : S1 → Type 0} {known2 : S2 → Type 0} {shown1 : O1 → List T} {shown2 : O2 → List T}
-    {P1 : O1 → Type 0} {P2 : O2 → Type 0} → Reads run1 known1 shown1 P1
-    → Reads run2 known2 shown2 P2
-    → Reads (SequenceRuns2 run1 run2) (λ s. known1 s.0 × known2 s.1)
-    (λ o. shown1 o.0 ++ shown2 o.1) (λ o. P1 o.0 × P2 o.1)
-sequence2_reads {known2 = known2} {shown1 = shown1} reads1 reads2 = record {
-  reads = λ s i o t j is ran.
-      let (a, r1, r2) = sequence2_ok o ran in
-      let h1 = reads1.reads _ _ _ _ _ is.0 r1 in
-      let h2 = reads2.reads _ _ _ _ _ is.1 r2 in (
-        simp append_assoc (h1.0 ∙ ap (λ l. shown1 o.0 ++ l) h2.0),
-        (h1.1, h2.1),
-      );
-  again = λ s i answer t j is ran. elim ran [
-    | inl (o1, o2, a, r1, r2, told)
-        ↦ (reads1.again _ _ _ _ _ is.0 r1, reads2.again _ _ _ _ _ is.1 r2)
-    | inr (inl (k, r1, same2, told))
-        ↦ (reads1.again _ _ _ _ _ is.0 r1, subst known2 (sym same2) is.1)
-    | inr (inr (o1, k, a, r1, r2, told))
-        ↦ (reads1.again _ _ _ _ _ is.0 r1, reads2.again _ _ _ _ _ is.1 r2)
-  ];
-}
+use Rattle.winnow_core.specs.Sequence.{SequenceRuns4, SequenceRuns5}
+use Rattle.winnow_core.specs.Sequence.Known.{sequence4_ok, sequence5_ok}
 
 -- four children
 pub sequence4_reads : {S1 S2 S3 S4 T O1 O2 O3 O4 : Type 0} {run1 : Runs S1 T O1}

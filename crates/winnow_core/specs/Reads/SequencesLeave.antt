@@ -5,24 +5,9 @@ use Rattle.std.specs.Prelude.{List}
 use Rattle.std.proofs.Common.{inl, inr}
 use Rattle.winnow_core.specs.Reads.{MustLeave}
 use Rattle.winnow_core.specs.Runs.{Runs}
-use Rattle.winnow_core.specs.Sequence.{SequenceRuns2, SequenceRuns4, SequenceRuns5}
-use Rattle.winnow_core.specs.Sequence.Known.{sequence2_ok, sequence2_err}
+use Rattle.winnow_core.specs.Sequence.{SequenceRuns4, SequenceRuns5}
 use Rattle.winnow_core.specs.Sequence.Known.{sequence4_ok, sequence4_err}
 use Rattle.winnow_core.specs.Sequence.Known.{sequence5_ok, sequence5_err}
-
--- two children
-pub sequence2_leaves : {S1 S2 T O1 O2 : Type 0} {run1 : Runs S1 T O1} {run2 : Runs S2 T O2}
-    {s : S1 × S2} {before a after : List T} → MustLeave run1 s.0 before a
-    → MustLeave run2 s.1 a after → MustLeave (SequenceRuns2 run1 run2) s before after
-sequence2_leaves must1 must2 = record {
-  leaves = λ i o t j begins ran.
-      let (a, r1, r2) = sequence2_ok o ran in
-      must2.leaves _ _ _ _ (must1.leaves _ _ _ _ begins r1) r2;
-  answers = λ i k t j begins ran. elim (sequence2_err k ran) [
-    | inl (f, same2) ↦ must1.answers _ _ _ _ begins f
-    | inr (o1, a, r1, f) ↦ must2.answers _ _ _ _ (must1.leaves _ _ _ _ begins r1) f
-  ];
-}
 
 -- four children
 pub sequence4_leaves : {S1 S2 S3 S4 T O1 O2 O3 O4 : Type 0} {run1 : Runs S1 T O1}

@@ -7,15 +7,6 @@ use Rattle.streams.specs.Input.{Input}
 use Rattle.streams.specs.Kind.{Kind}
 use Rattle.stream_errors.specs.Form.{Answer}
 
--- two children
-abbrev pub SequenceCases2 : {T O1 O2 : Type 0} → (O1 → Input T → Type 0)
-    → (O2 → Input T → Type 0) → (Kind → Type 0) → (Kind → Input T → Type 0) → Type 0
-    → Answer (O1 × O2) → Type 0
-SequenceCases2 {T} {O1} {O2} Ran1 Ran2 Failed1 Failed2 Kept2 answer =
-    ((o1 : O1) × (o2 : O2) × (a : Input T) × Ran1 o1 a × Ran2 o2 a × (answer ≡ Ok (o1, o2)))
-    ⊎ (((l : Kind) × Failed1 l × Kept2 × (answer ≡ Err l))
-    ⊎ ((o1 : O1) × (l : Kind) × (a : Input T) × Ran1 o1 a × Failed2 l a × (answer ≡ Err l)))
-
 -- three children
 abbrev pub SequenceCases3 : {T O1 O2 O3 : Type 0} → (O1 → Input T → Type 0)
     → (O2 → Input T → Input T → Type 0) → (O3 → Input T → Type 0) → (Kind → Type 0)
@@ -73,33 +64,3 @@ SequenceCases5 {T} {O1} {O2} {O3} {O4} {O5} Ran1 Ran2 Ran3 Ran4 Ran5 Failed1 Fai
     ⊎ ((o1 : O1) × (o2 : O2) × (o3 : O3) × (o4 : O4) × (l : Kind) × (a : Input T)
     × (b : Input T) × (c : Input T) × (d : Input T) × Ran1 o1 a × Ran2 o2 a b
     × Ran3 o3 b c × Ran4 o4 c d × Failed5 l d × (answer ≡ Err l))))))
-
--- six children
-abbrev pub SequenceCases6 : {T O1 O2 O3 O4 O5 O6 : Type 0} → (O1 → Input T → Type 0)
-    → (O2 → Input T → Input T → Type 0) → (O3 → Input T → Input T → Type 0)
-    → (O4 → Input T → Input T → Type 0) → (O5 → Input T → Input T → Type 0)
-    → (O6 → Input T → Type 0) → (Kind → Type 0) → (Kind → Input T → Type 0)
-    → (Kind → Input T → Type 0) → (Kind → Input T → Type 0) → (Kind → Input T → Type 0)
-    → (Kind → Input T → Type 0) → Type 0 → Type 0 → Type 0 → Type 0 → Type 0
-    → Answer (O1 × O2 × O3 × O4 × O5 × O6) → Type 0
-SequenceCases6 {T} {O1} {O2} {O3} {O4} {O5} {O6} Ran1 Ran2 Ran3 Ran4 Ran5 Ran6 Failed1 Failed2
-    Failed3 Failed4 Failed5 Failed6 Kept2 Kept3 Kept4 Kept5 Kept6 answer =
-    ((o1 : O1) × (o2 : O2) × (o3 : O3) × (o4 : O4) × (o5 : O5) × (o6 : O6) × (a : Input T)
-    × (b : Input T) × (c : Input T) × (d : Input T) × (e : Input T) × Ran1 o1 a × Ran2 o2 a b
-    × Ran3 o3 b c × Ran4 o4 c d × Ran5 o5 d e × Ran6 o6 e
-    × (answer ≡ Ok (o1, o2, o3, o4, o5, o6)))
-    ⊎ (((l : Kind) × Failed1 l × Kept2 × Kept3 × Kept4 × Kept5 × Kept6 × (answer ≡ Err l))
-    ⊎ (((o1 : O1) × (l : Kind) × (a : Input T) × Ran1 o1 a × Failed2 l a × Kept3 × Kept4
-    × Kept5 × Kept6 × (answer ≡ Err l))
-    ⊎ (((o1 : O1) × (o2 : O2) × (l : Kind) × (a : Input T) × (b : Input T) × Ran1 o1 a
-    × Ran2 o2 a b × Failed3 l b × Kept4 × Kept5 × Kept6 × (answer ≡ Err l))
-    ⊎ (((o1 : O1) × (o2 : O2) × (o3 : O3) × (l : Kind) × (a : Input T) × (b : Input T)
-    × (c : Input T) × Ran1 o1 a × Ran2 o2 a b × Ran3 o3 b c × Failed4 l c × Kept5
-    × Kept6 × (answer ≡ Err l))
-    ⊎ (((o1 : O1) × (o2 : O2) × (o3 : O3) × (o4 : O4) × (l : Kind) × (a : Input T)
-    × (b : Input T) × (c : Input T) × (d : Input T) × Ran1 o1 a × Ran2 o2 a b
-    × Ran3 o3 b c × Ran4 o4 c d × Failed5 l d × Kept6 × (answer ≡ Err l))
-    ⊎ ((o1 : O1) × (o2 : O2) × (o3 : O3) × (o4 : O4) × (o5 : O5) × (l : Kind)
-    × (a : Input T) × (b : Input T) × (c : Input T) × (d : Input T) × (e : Input T)
-    × Ran1 o1 a × Ran2 o2 a b × Ran3 o3 b c × Ran4 o4 c d × Ran5 o5 d e × Failed6 l e
-    × (answer ≡ Err l)))))))

@@ -5,25 +5,27 @@ use Rattle.grammars.specs.Grammar.{Both, Three}
 use Rattle.grammars.specs.Grammar.Tuples.{Five, Four, Six}
 use Rattle.stream_errors.specs.Form.{modal}
 use Rattle.winnow_core.specs.Claim.{Claim, Claimed}
+use Rattle.winnow_core.specs.Exact.Allowed.{fails_as}
 use Rattle.winnow_core.specs.Exact.Along.{either_way}
 use Rattle.winnow_core.specs.InOrder.Decided.{AlikePairs, AlikeTriples, both_decided}
 use Rattle.winnow_core.specs.InOrder.Decided.{three_decided}
-use Rattle.winnow_core.specs.InOrder.Exact.{both_exact, both_soft, both_takes}
-use Rattle.winnow_core.specs.InOrder.Three.{three_exact, three_soft, three_takes}
+use Rattle.winnow_core.specs.InOrder.Exact.{both_exact, both_fails, both_takes}
+use Rattle.winnow_core.specs.InOrder.Three.{three_exact, three_fails, three_takes}
 use Rattle.winnow_core.specs.Runs.{Meaning}
 use Rattle.winnow_core.specs.Sequence.{SequenceRuns2, SequenceRuns3, SequenceRuns4, SequenceRuns5}
 use Rattle.winnow_core.specs.Sequence.{SequenceRuns6}
 use Rattle.winnow_core.specs.Sequence.Decided.{AlikeFour, AlikeFive, AlikeSix, tuple4_decided}
 use Rattle.winnow_core.specs.Sequence.Decided.{tuple5_decided, tuple6_decided}
-use Rattle.winnow_core.specs.Sequence.Exact.{tuple4_exact, tuple4_soft, tuple4_takes}
-use Rattle.winnow_core.specs.Sequence.Exact.{tuple5_exact, tuple5_soft, tuple5_takes}
-use Rattle.winnow_core.specs.Sequence.Exact.{tuple6_exact, tuple6_soft, tuple6_takes}
+use Rattle.winnow_core.specs.Sequence.Exact.{tuple4_exact, tuple4_fails, tuple4_takes}
+use Rattle.winnow_core.specs.Sequence.Exact.{tuple5_exact, tuple5_fails, tuple5_takes}
+use Rattle.winnow_core.specs.Sequence.Exact.{tuple6_exact, tuple6_fails, tuple6_takes}
 
 -- two
 abbrev pub sequence2_claim : {T O1 O2 : Type 0} → Claim T O1 → Claim T O2 → Claim T (O1 × O2)
 sequence2_claim c1 c2 = record {
   premise = c1.premise × c2.premise;
   backtracks = c1.backtracks × c2.backtracks;
+  spares_memory = c1.spares_memory × c2.spares_memory;
   consumes = c1.consumes ⊎ c2.consumes;
   grammar = Both (λ o1 o2. (o1, o2)) c1.grammar c2.grammar;
   decides = c1.decides × c2.decides;
@@ -37,8 +39,9 @@ pub sequence2_claimed : {S1 S2 T O1 O2 : Type 0} {c1 : Claim T O1} {c2 : Claim T
     → Claimed (sequence2_claim c1 c2) s (λ form. SequenceRuns2 (m1 form) (m2 form))
 sequence2_claimed {c1 = c1} {c2} h1 h2 = record {
   exact = λ form is. both_exact (h1.exact form is.0) (h2.exact form is.1);
-  soft = λ form is soft. both_soft (h1.exact form is.0) (h1.soft form is.0 soft.0)
-      (h2.soft form is.1 soft.1);
+  fails = λ form is. both_fails (h1.exact form is.0)
+      (fails_as (λ b. b.0) (λ m. m.0) (h1.fails form is.0))
+      (fails_as (λ b. b.1) (λ m. m.1) (h2.fails form is.1));
   takes = λ is some. both_takes (λ o1 o2. (o1, o2)) (h1.exact modal is.0) (h2.exact modal is.1)
       (either_way (h1.takes is.0) (h2.takes is.1) some);
   decided = λ form is. both_decided (AlikePairs c1.alike c2.alike) (λ o p q r a b. (a, b))
@@ -51,6 +54,7 @@ abbrev pub sequence3_claim : {T O1 O2 O3 : Type 0} → Claim T O1 → Claim T O2
 sequence3_claim c1 c2 c3 = record {
   premise = c1.premise × c2.premise × c3.premise;
   backtracks = c1.backtracks × c2.backtracks × c3.backtracks;
+  spares_memory = c1.spares_memory × c2.spares_memory × c3.spares_memory;
   consumes = (c1.consumes ⊎ c2.consumes) ⊎ c3.consumes;
   grammar = Three (λ o1 o2 o3. (o1, o2, o3)) c1.grammar c2.grammar c3.grammar;
   decides = c1.decides × c2.decides × c3.decides;
@@ -64,8 +68,10 @@ pub sequence3_claimed : {S1 S2 S3 T O1 O2 O3 : Type 0} {c1 : Claim T O1} {c2 : C
     → Claimed (sequence3_claim c1 c2 c3) s (λ form. SequenceRuns3 (m1 form) (m2 form) (m3 form))
 sequence3_claimed {c1 = c1} {c2} {c3} h1 h2 h3 = record {
   exact = λ form is. three_exact (h1.exact form is.0) (h2.exact form is.1) (h3.exact form is.2);
-  soft = λ form is soft. three_soft (h1.exact form is.0) (h2.exact form is.1)
-      (h1.soft form is.0 soft.0) (h2.soft form is.1 soft.1) (h3.soft form is.2 soft.2);
+  fails = λ form is. three_fails (h1.exact form is.0) (h2.exact form is.1)
+      (fails_as (λ b. b.0) (λ m. m.0) (h1.fails form is.0))
+      (fails_as (λ b. b.1) (λ m. m.1) (h2.fails form is.1))
+      (fails_as (λ b. b.2) (λ m. m.2) (h3.fails form is.2));
   takes = λ is some. three_takes (λ o1 o2 o3. (o1, o2, o3)) (h1.exact modal is.0)
       (h2.exact modal is.1) (h3.exact modal is.2)
       (either_way (either_way (h1.takes is.0) (h2.takes is.1)) (h3.takes is.2) some);
@@ -80,6 +86,7 @@ abbrev pub sequence4_claim : {T O1 O2 O3 O4 : Type 0} → Claim T O1 → Claim T
 sequence4_claim c1 c2 c3 c4 = record {
   premise = c1.premise × c2.premise × c3.premise × c4.premise;
   backtracks = c1.backtracks × c2.backtracks × c3.backtracks × c4.backtracks;
+  spares_memory = c1.spares_memory × c2.spares_memory × c3.spares_memory × c4.spares_memory;
   consumes = ((c1.consumes ⊎ c2.consumes) ⊎ c3.consumes) ⊎ c4.consumes;
   grammar = Four c1.grammar c2.grammar c3.grammar c4.grammar;
   decides = c1.decides × c2.decides × c3.decides × c4.decides;
@@ -96,9 +103,11 @@ pub sequence4_claimed : {S1 S2 S3 S4 T O1 O2 O3 O4 : Type 0} {c1 : Claim T O1} {
 sequence4_claimed h1 h2 h3 h4 = record {
   exact = λ form is. tuple4_exact (h1.exact form is.0) (h2.exact form is.1) (h3.exact form is.2)
       (h4.exact form is.3);
-  soft = λ form is soft. tuple4_soft (h1.exact form is.0) (h2.exact form is.1)
-      (h3.exact form is.2) (h1.soft form is.0 soft.0) (h2.soft form is.1 soft.1)
-      (h3.soft form is.2 soft.2) (h4.soft form is.3 soft.3);
+  fails = λ form is. tuple4_fails (h1.exact form is.0) (h2.exact form is.1) (h3.exact form is.2)
+      (fails_as (λ b. b.0) (λ m. m.0) (h1.fails form is.0))
+      (fails_as (λ b. b.1) (λ m. m.1) (h2.fails form is.1))
+      (fails_as (λ b. b.2) (λ m. m.2) (h3.fails form is.2))
+      (fails_as (λ b. b.3) (λ m. m.3) (h4.fails form is.3));
   takes = λ is some. tuple4_takes (h1.exact modal is.0) (h2.exact modal is.1)
       (h3.exact modal is.2) (h4.exact modal is.3)
       (either_way (either_way (either_way (h1.takes is.0) (h2.takes is.1)) (h3.takes is.2))
@@ -113,6 +122,8 @@ abbrev pub sequence5_claim : {T O1 O2 O3 O4 O5 : Type 0} → Claim T O1 → Clai
 sequence5_claim c1 c2 c3 c4 c5 = record {
   premise = c1.premise × c2.premise × c3.premise × c4.premise × c5.premise;
   backtracks = c1.backtracks × c2.backtracks × c3.backtracks × c4.backtracks × c5.backtracks;
+  spares_memory = c1.spares_memory × c2.spares_memory × c3.spares_memory × c4.spares_memory
+      × c5.spares_memory;
   consumes = (((c1.consumes ⊎ c2.consumes) ⊎ c3.consumes) ⊎ c4.consumes) ⊎ c5.consumes;
   grammar = Five c1.grammar c2.grammar c3.grammar c4.grammar c5.grammar;
   decides = c1.decides × c2.decides × c3.decides × c4.decides × c5.decides;
@@ -130,10 +141,12 @@ pub sequence5_claimed : {S1 S2 S3 S4 S5 T O1 O2 O3 O4 O5 : Type 0} {c1 : Claim T
 sequence5_claimed h1 h2 h3 h4 h5 = record {
   exact = λ form is. tuple5_exact (h1.exact form is.0) (h2.exact form is.1) (h3.exact form is.2)
       (h4.exact form is.3) (h5.exact form is.4);
-  soft = λ form is soft. tuple5_soft (h1.exact form is.0) (h2.exact form is.1)
-      (h3.exact form is.2) (h4.exact form is.3) (h1.soft form is.0 soft.0)
-      (h2.soft form is.1 soft.1) (h3.soft form is.2 soft.2) (h4.soft form is.3 soft.3)
-      (h5.soft form is.4 soft.4);
+  fails = λ form is. tuple5_fails (h1.exact form is.0) (h2.exact form is.1) (h3.exact form is.2)
+      (h4.exact form is.3) (fails_as (λ b. b.0) (λ m. m.0) (h1.fails form is.0))
+      (fails_as (λ b. b.1) (λ m. m.1) (h2.fails form is.1))
+      (fails_as (λ b. b.2) (λ m. m.2) (h3.fails form is.2))
+      (fails_as (λ b. b.3) (λ m. m.3) (h4.fails form is.3))
+      (fails_as (λ b. b.4) (λ m. m.4) (h5.fails form is.4));
   takes = λ is some. tuple5_takes (h1.exact modal is.0) (h2.exact modal is.1)
       (h3.exact modal is.2) (h4.exact modal is.3) (h5.exact modal is.4)
       (either_way (either_way
@@ -150,6 +163,8 @@ sequence6_claim c1 c2 c3 c4 c5 c6 = record {
   premise = c1.premise × c2.premise × c3.premise × c4.premise × c5.premise × c6.premise;
   backtracks = c1.backtracks × c2.backtracks × c3.backtracks × c4.backtracks × c5.backtracks
       × c6.backtracks;
+  spares_memory = c1.spares_memory × c2.spares_memory × c3.spares_memory × c4.spares_memory
+      × c5.spares_memory × c6.spares_memory;
   consumes = ((((c1.consumes ⊎ c2.consumes) ⊎ c3.consumes) ⊎ c4.consumes) ⊎ c5.consumes)
       ⊎ c6.consumes;
   grammar = Six c1.grammar c2.grammar c3.grammar c4.grammar c5.grammar c6.grammar;
@@ -169,10 +184,14 @@ pub sequence6_claimed : {S1 S2 S3 S4 S5 S6 T O1 O2 O3 O4 O5 O6 : Type 0} {c1 : C
 sequence6_claimed h1 h2 h3 h4 h5 h6 = record {
   exact = λ form is. tuple6_exact (h1.exact form is.0) (h2.exact form is.1) (h3.exact form is.2)
       (h4.exact form is.3) (h5.exact form is.4) (h6.exact form is.5);
-  soft = λ form is soft. tuple6_soft (h1.exact form is.0) (h2.exact form is.1)
-      (h3.exact form is.2) (h4.exact form is.3) (h5.exact form is.4)
-      (h1.soft form is.0 soft.0) (h2.soft form is.1 soft.1) (h3.soft form is.2 soft.2)
-      (h4.soft form is.3 soft.3) (h5.soft form is.4 soft.4) (h6.soft form is.5 soft.5);
+  fails = λ form is. tuple6_fails (h1.exact form is.0) (h2.exact form is.1) (h3.exact form is.2)
+      (h4.exact form is.3) (h5.exact form is.4)
+      (fails_as (λ b. b.0) (λ m. m.0) (h1.fails form is.0))
+      (fails_as (λ b. b.1) (λ m. m.1) (h2.fails form is.1))
+      (fails_as (λ b. b.2) (λ m. m.2) (h3.fails form is.2))
+      (fails_as (λ b. b.3) (λ m. m.3) (h4.fails form is.3))
+      (fails_as (λ b. b.4) (λ m. m.4) (h5.fails form is.4))
+      (fails_as (λ b. b.5) (λ m. m.5) (h6.fails form is.5));
   takes = λ is some. tuple6_takes (h1.exact modal is.0) (h2.exact modal is.1)
       (h3.exact modal is.2) (h4.exact modal is.3) (h5.exact modal is.4) (h6.exact modal is.5)
       (either_way (either_way

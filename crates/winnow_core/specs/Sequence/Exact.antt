@@ -3,16 +3,17 @@
 use Rattle.std.specs.Prelude.{◌⊎◌}
 use Rattle.std.proofs.Common.{refl, ap, inl, inr, ◌∙◌}
 use Rattle.streams.specs.Input.{Input}
+use Rattle.streams.specs.Kind.{Kind}
 use Rattle.grammars.specs.Grammar.{Both, Grammar, Takes, Three}
 use Rattle.grammars.specs.Grammar.Same.{Same, takes_as}
 use Rattle.grammars.specs.Grammar.Tuples.{Five, Four, Six}
 use Rattle.stream_errors.specs.Form.{Answer}
-use Rattle.winnow_core.specs.Exact.{IsExact, IsSoft}
-use Rattle.winnow_core.specs.Exact.Along.{either_way, exact_along, soft_along}
+use Rattle.winnow_core.specs.Exact.{FailsBy, IsExact}
+use Rattle.winnow_core.specs.Exact.Along.{either_way, exact_along, fails_along}
 use Rattle.winnow_core.specs.Exact.Same.{exact_as}
 use Rattle.winnow_core.specs.InOrder.{BothRuns, ThreeRuns}
-use Rattle.winnow_core.specs.InOrder.Exact.{both_exact, both_soft, both_takes}
-use Rattle.winnow_core.specs.InOrder.Three.{three_exact, three_soft, three_takes}
+use Rattle.winnow_core.specs.InOrder.Exact.{both_exact, both_fails, both_takes}
+use Rattle.winnow_core.specs.InOrder.Three.{three_exact, three_fails, three_takes}
 use Rattle.winnow_core.specs.Runs.{Runs}
 use Rattle.winnow_core.specs.Sequence.{SequenceRuns4, SequenceRuns5, SequenceRuns6}
 
@@ -73,14 +74,15 @@ module _ {S1 S2 S3 S4 T O1 O2 O3 O4 : Type 0} {run1 : Runs S1 T O1} {run2 : Runs
       (there4 run1 run2 run3 run4 s)
       (exact_as (same4 g1 g2 g3 g4) (both_exact (three_exact c1 c2 c3) c4))
 
-  pub tuple4_soft : {g1 : Grammar T O1} {g2 : Grammar T O2} {g3 : Grammar T O3}
-      → IsExact s.0 run1 g1 → IsExact s.1 run2 g2 → IsExact s.2 run3 g3 → IsSoft s.0 run1
-      → IsSoft s.1 run2 → IsSoft s.2 run3 → IsSoft s.3 run4
-      → IsSoft s (SequenceRuns4 run1 run2 run3 run4)
-  tuple4_soft c1 c2 c3 f1 f2 f3 f4 =
-      soft_along (λ (t : S1 × S2 × S3 × S4). ((t.0, t.1, t.2), t.3))
+  pub tuple4_fails : {g1 : Grammar T O1} {g2 : Grammar T O2} {g3 : Grammar T O3}
+      {allowed : Kind → Type 0} → IsExact s.0 run1 g1 → IsExact s.1 run2 g2
+      → IsExact s.2 run3 g3 → FailsBy allowed s.0 run1 → FailsBy allowed s.1 run2
+      → FailsBy allowed s.2 run3 → FailsBy allowed s.3 run4
+      → FailsBy allowed s (SequenceRuns4 run1 run2 run3 run4)
+  tuple4_fails c1 c2 c3 f1 f2 f3 f4 =
+      fails_along (λ (t : S1 × S2 × S3 × S4). ((t.0, t.1, t.2), t.3))
       (there4 run1 run2 run3 run4 s)
-      (both_soft (three_exact c1 c2 c3) (three_soft c1 c2 f1 f2 f3) f4)
+      (both_fails (three_exact c1 c2 c3) (three_fails c1 c2 f1 f2 f3) f4)
 
 pub tuple4_takes : {S1 S2 S3 S4 T O1 O2 O3 O4 : Type 0} {run1 : Runs S1 T O1}
     {run2 : Runs S2 T O2} {run3 : Runs S3 T O3} {run4 : Runs S4 T O4} {g1 : Grammar T O1}
@@ -185,14 +187,15 @@ module _ {S1 S2 S3 S4 S5 T O1 O2 O3 O4 O5 : Type 0} {run1 : Runs S1 T O1} {run2 
       (there5 run1 run2 run3 run4 run5 s)
       (exact_as (same5 g1 g2 g3 g4 g5) (both_exact (tuple4_exact c1 c2 c3 c4) c5))
 
-  pub tuple5_soft : {g1 : Grammar T O1} {g2 : Grammar T O2} {g3 : Grammar T O3}
-      {g4 : Grammar T O4} → IsExact s.0 run1 g1 → IsExact s.1 run2 g2 → IsExact s.2 run3 g3
-      → IsExact s.3 run4 g4 → IsSoft s.0 run1 → IsSoft s.1 run2 → IsSoft s.2 run3
-      → IsSoft s.3 run4 → IsSoft s.4 run5 → IsSoft s (SequenceRuns5 run1 run2 run3 run4 run5)
-  tuple5_soft c1 c2 c3 c4 f1 f2 f3 f4 f5 =
-      soft_along (λ (t : S1 × S2 × S3 × S4 × S5). ((t.0, t.1, t.2, t.3), t.4))
+  pub tuple5_fails : {g1 : Grammar T O1} {g2 : Grammar T O2} {g3 : Grammar T O3}
+      {g4 : Grammar T O4} {allowed : Kind → Type 0} → IsExact s.0 run1 g1 → IsExact s.1 run2 g2
+      → IsExact s.2 run3 g3 → IsExact s.3 run4 g4 → FailsBy allowed s.0 run1
+      → FailsBy allowed s.1 run2 → FailsBy allowed s.2 run3 → FailsBy allowed s.3 run4
+      → FailsBy allowed s.4 run5 → FailsBy allowed s (SequenceRuns5 run1 run2 run3 run4 run5)
+  tuple5_fails c1 c2 c3 c4 f1 f2 f3 f4 f5 =
+      fails_along (λ (t : S1 × S2 × S3 × S4 × S5). ((t.0, t.1, t.2, t.3), t.4))
       (there5 run1 run2 run3 run4 run5 s)
-      (both_soft (tuple4_exact c1 c2 c3 c4) (tuple4_soft c1 c2 c3 f1 f2 f3 f4) f5)
+      (both_fails (tuple4_exact c1 c2 c3 c4) (tuple4_fails c1 c2 c3 f1 f2 f3 f4) f5)
 
 pub tuple5_takes : {S1 S2 S3 S4 S5 T O1 O2 O3 O4 O5 : Type 0} {run1 : Runs S1 T O1}
     {run2 : Runs S2 T O2} {run3 : Runs S3 T O3} {run4 : Runs S4 T O4} {run5 : Runs S5 T O5}
@@ -334,15 +337,16 @@ module _ {S1 S2 S3 S4 S5 S6 T O1 O2 O3 O4 O5 O6 : Type 0} {run1 : Runs S1 T O1}
       (there6 run1 run2 run3 run4 run5 run6 s)
       (exact_as (same6 g1 g2 g3 g4 g5 g6) (both_exact (tuple5_exact c1 c2 c3 c4 c5) c6))
 
-  pub tuple6_soft : {g1 : Grammar T O1} {g2 : Grammar T O2} {g3 : Grammar T O3}
-      {g4 : Grammar T O4} {g5 : Grammar T O5} → IsExact s.0 run1 g1 → IsExact s.1 run2 g2
-      → IsExact s.2 run3 g3 → IsExact s.3 run4 g4 → IsExact s.4 run5 g5 → IsSoft s.0 run1
-      → IsSoft s.1 run2 → IsSoft s.2 run3 → IsSoft s.3 run4 → IsSoft s.4 run5 → IsSoft s.5 run6
-      → IsSoft s (SequenceRuns6 run1 run2 run3 run4 run5 run6)
-  tuple6_soft c1 c2 c3 c4 c5 f1 f2 f3 f4 f5 f6 =
-      soft_along (λ (t : S1 × S2 × S3 × S4 × S5 × S6). ((t.0, t.1, t.2, t.3, t.4), t.5))
+  pub tuple6_fails : {g1 : Grammar T O1} {g2 : Grammar T O2} {g3 : Grammar T O3}
+      {g4 : Grammar T O4} {g5 : Grammar T O5} {allowed : Kind → Type 0} → IsExact s.0 run1 g1
+      → IsExact s.1 run2 g2 → IsExact s.2 run3 g3 → IsExact s.3 run4 g4 → IsExact s.4 run5 g5
+      → FailsBy allowed s.0 run1 → FailsBy allowed s.1 run2 → FailsBy allowed s.2 run3
+      → FailsBy allowed s.3 run4 → FailsBy allowed s.4 run5 → FailsBy allowed s.5 run6
+      → FailsBy allowed s (SequenceRuns6 run1 run2 run3 run4 run5 run6)
+  tuple6_fails c1 c2 c3 c4 c5 f1 f2 f3 f4 f5 f6 =
+      fails_along (λ (t : S1 × S2 × S3 × S4 × S5 × S6). ((t.0, t.1, t.2, t.3, t.4), t.5))
       (there6 run1 run2 run3 run4 run5 run6 s)
-      (both_soft (tuple5_exact c1 c2 c3 c4 c5) (tuple5_soft c1 c2 c3 c4 f1 f2 f3 f4 f5) f6)
+      (both_fails (tuple5_exact c1 c2 c3 c4 c5) (tuple5_fails c1 c2 c3 c4 f1 f2 f3 f4 f5) f6)
 
 pub tuple6_takes : {S1 S2 S3 S4 S5 S6 T O1 O2 O3 O4 O5 O6 : Type 0} {run1 : Runs S1 T O1}
     {run2 : Runs S2 T O2} {run3 : Runs S3 T O3} {run4 : Runs S4 T O4} {run5 : Runs S5 T O5}

@@ -1,43 +1,13 @@
 -- What a caller knows of one run of a sequence that answered: where it succeeded all children did,
 -- each where the one before it stopped; where it failed one did, by that kind, and those before it
--- succeeded; and what is said of the children's outputs is said where a call answers one.
+-- succeeded.
 -- Written by scripts/families.py: do not edit.
-use Rattle.std.specs.Prelude.{Result, Ok, Err, IfOk, ◌⊎◌}
+use Rattle.std.specs.Prelude.{Ok, Err, ◌⊎◌}
 use Rattle.std.proofs.Common.{refl, inl, inr}
 use Rattle.streams.specs.Input.{Input}
 use Rattle.streams.specs.Kind.{Kind}
-use Rattle.stream_errors.specs.Form.{answer_by}
 use Rattle.stream_errors.specs.Form.Known.{at_kind, at_output, ok_is_err}
-use Rattle.winnow_core.specs.Sequence.Cases.{SequenceCases2, SequenceCases3, SequenceCases4}
-use Rattle.winnow_core.specs.Sequence.Cases.{SequenceCases5, SequenceCases6}
-
--- two children
-pub sequence2_ok : {T O1 O2 : Type 0} {Ran1 : O1 → Input T → Type 0}
-    {Ran2 : O2 → Input T → Type 0} {Failed1 : Kind → Type 0} {Failed2 : Kind → Input T → Type 0}
-    {Kept2 : Type 0} (o : O1 × O2) → SequenceCases2 Ran1 Ran2 Failed1 Failed2 Kept2 (Ok o)
-    → (a : Input T) × Ran1 o.0 a × Ran2 o.1 a
-sequence2_ok {O1 = O1} {O2 = O2} {Ran1 = Ran1} {Ran2 = Ran2} o (inl (o1, o2, a, h0, h1, is)) =
-    let rs = at_output (λ (p : O1 × O2). Ran1 p.0 a × Ran2 p.1 a) is (h0, h1)
-    in (a, rs.0, rs.1)
-sequence2_ok o (inr (inl (l, h0, h1, is))) = ok_is_err refl is
-sequence2_ok o (inr (inr (o1, l, a, h0, h1, is))) = ok_is_err refl is
-
-pub sequence2_err : {T O1 O2 : Type 0} {Ran1 : O1 → Input T → Type 0}
-    {Ran2 : O2 → Input T → Type 0} {Failed1 : Kind → Type 0} {Failed2 : Kind → Input T → Type 0}
-    {Kept2 : Type 0} (k : Kind) → SequenceCases2 Ran1 Ran2 Failed1 Failed2 Kept2 (Err k)
-    → (Failed1 k × Kept2) ⊎ ((o1 : O1) × (a : Input T) × Ran1 o1 a × Failed2 k a)
-sequence2_err k (inl (o1, o2, a, h0, h1, is)) = ok_is_err is refl
-sequence2_err {Failed1 = Failed1} k (inr (inl (l, h0, h1, is))) = inl (at_kind Failed1 is h0, h1)
-sequence2_err {Failed2 = Failed2} k (inr (inr (o1, l, a, h0, h1, is))) = inr
-    (o1, a, h0, at_kind (λ x. Failed2 x a) is h1)
-
-pub sequence2_told : {T O1 O2 E : Type 0} {Ran1 : O1 → Input T → Type 0}
-    {Ran2 : O2 → Input T → Type 0} {Failed1 : Kind → Type 0} {Failed2 : Kind → Input T → Type 0}
-    {Kept2 : Type 0} (kind : E → Kind) (P : O1 × O2 → Type 0) (result : Result (O1 × O2) E)
-    → SequenceCases2 Ran1 Ran2 Failed1 Failed2 Kept2 (answer_by kind result)
-    → ((o1 : O1) (o2 : O2) (a : Input T) → Ran1 o1 a → Ran2 o2 a → P (o1, o2)) → IfOk result P
-sequence2_told kind P (Ok o) ran told = let (a, r1, r2) = sequence2_ok o ran in told o.0 o.1 a r1 r2
-sequence2_told kind P (Err e) ran told = tt
+use Rattle.winnow_core.specs.Sequence.Cases.{SequenceCases3, SequenceCases4, SequenceCases5}
 
 -- three children
 pub sequence3_ok : {T O1 O2 O3 : Type 0} {Ran1 : O1 → Input T → Type 0}
@@ -68,17 +38,6 @@ sequence3_err {Failed2 = Failed2} k (inr (inr (inl (o1, l, a, h0, h1, h2, is))))
     (inl (o1, a, h0, at_kind (λ x. Failed2 x a) is h1, h2))
 sequence3_err {Failed3 = Failed3} k (inr (inr (inr (o1, o2, l, a, b, h0, h1, h2, is)))) = inr
     (inr (o1, o2, a, b, h0, h1, at_kind (λ x. Failed3 x b) is h2))
-
-pub sequence3_told : {T O1 O2 O3 E : Type 0} {Ran1 : O1 → Input T → Type 0}
-    {Ran2 : O2 → Input T → Input T → Type 0} {Ran3 : O3 → Input T → Type 0}
-    {Failed1 : Kind → Type 0} {Failed2 Failed3 : Kind → Input T → Type 0} {Kept2 Kept3 : Type 0}
-    (kind : E → Kind) (P : O1 × O2 × O3 → Type 0) (result : Result (O1 × O2 × O3) E)
-    → SequenceCases3 Ran1 Ran2 Ran3 Failed1 Failed2 Failed3 Kept2 Kept3 (answer_by kind result)
-    → ((o1 : O1) (o2 : O2) (o3 : O3) (a : Input T) (b : Input T) → Ran1 o1 a → Ran2 o2 a b
-    → Ran3 o3 b → P (o1, o2, o3)) → IfOk result P
-sequence3_told kind P (Ok o) ran told =
-    let (a, b, r1, r2, r3) = sequence3_ok o ran in told o.0 o.1 o.2 a b r1 r2 r3
-sequence3_told kind P (Err e) ran told = tt
 
 -- four children
 pub sequence4_ok : {T O1 O2 O3 O4 : Type 0} {Ran1 : O1 → Input T → Type 0}
@@ -121,19 +80,6 @@ sequence4_err {Failed3 = Failed3} k
 sequence4_err {Failed4 = Failed4} k
     (inr (inr (inr (inr (o1, o2, o3, l, a, b, c, h0, h1, h2, h3, is))))) = inr
     (inr (inr (o1, o2, o3, a, b, c, h0, h1, h2, at_kind (λ x. Failed4 x c) is h3)))
-
-pub sequence4_told : {T O1 O2 O3 O4 E : Type 0} {Ran1 : O1 → Input T → Type 0}
-    {Ran2 : O2 → Input T → Input T → Type 0} {Ran3 : O3 → Input T → Input T → Type 0}
-    {Ran4 : O4 → Input T → Type 0} {Failed1 : Kind → Type 0}
-    {Failed2 Failed3 Failed4 : Kind → Input T → Type 0} {Kept2 Kept3 Kept4 : Type 0}
-    (kind : E → Kind) (P : O1 × O2 × O3 × O4 → Type 0) (result : Result (O1 × O2 × O3 × O4) E)
-    → SequenceCases4 Ran1 Ran2 Ran3 Ran4 Failed1 Failed2 Failed3 Failed4 Kept2 Kept3 Kept4
-    (answer_by kind result)
-    → ((o1 : O1) (o2 : O2) (o3 : O3) (o4 : O4) (a : Input T) (b : Input T) (c : Input T)
-    → Ran1 o1 a → Ran2 o2 a b → Ran3 o3 b c → Ran4 o4 c → P (o1, o2, o3, o4)) → IfOk result P
-sequence4_told kind P (Ok o) ran told =
-    let (a, b, c, r1, r2, r3, r4) = sequence4_ok o ran in told o.0 o.1 o.2 o.3 a b c r1 r2 r3 r4
-sequence4_told kind P (Err e) ran told = tt
 
 -- five children
 pub sequence5_ok : {T O1 O2 O3 O4 O5 : Type 0} {Ran1 : O1 → Input T → Type 0}
@@ -203,173 +149,3 @@ sequence5_err {Failed5 = Failed5} k
       h3,
       at_kind (λ x. Failed5 x d) is h4,
     ))))
-
-pub sequence5_told : {T O1 O2 O3 O4 O5 E : Type 0} {Ran1 : O1 → Input T → Type 0}
-    {Ran2 : O2 → Input T → Input T → Type 0} {Ran3 : O3 → Input T → Input T → Type 0}
-    {Ran4 : O4 → Input T → Input T → Type 0} {Ran5 : O5 → Input T → Type 0}
-    {Failed1 : Kind → Type 0} {Failed2 Failed3 Failed4 Failed5 : Kind → Input T → Type 0}
-    {Kept2 Kept3 Kept4 Kept5 : Type 0} (kind : E → Kind) (P : O1 × O2 × O3 × O4 × O5 → Type 0)
-    (result : Result (O1 × O2 × O3 × O4 × O5) E)
-    → SequenceCases5 Ran1 Ran2 Ran3 Ran4 Ran5 Failed1 Failed2 Failed3 Failed4 Failed5 Kept2
-    Kept3 Kept4 Kept5 (answer_by kind result)
-    → ((o1 : O1) (o2 : O2) (o3 : O3) (o4 : O4) (o5 : O5) (a : Input T) (b : Input T)
-    (c : Input T) (d : Input T) → Ran1 o1 a → Ran2 o2 a b → Ran3 o3 b c → Ran4 o4 c d
-    → Ran5 o5 d → P (o1, o2, o3, o4, o5)) → IfOk result P
-sequence5_told kind P (Ok o) ran told =
-    let (a, b, c, d, r1, r2, r3, r4, r5) = sequence5_ok o ran
-    in told o.0 o.1 o.2 o.3 o.4 a b c d r1 r2 r3 r4 r5
-sequence5_told kind P (Err e) ran told = tt
-
--- six children
-pub sequence6_ok : {T O1 O2 O3 O4 O5 O6 : Type 0} {Ran1 : O1 → Input T → Type 0}
-    {Ran2 : O2 → Input T → Input T → Type 0} {Ran3 : O3 → Input T → Input T → Type 0}
-    {Ran4 : O4 → Input T → Input T → Type 0} {Ran5 : O5 → Input T → Input T → Type 0}
-    {Ran6 : O6 → Input T → Type 0} {Failed1 : Kind → Type 0}
-    {Failed2 Failed3 Failed4 Failed5 Failed6 : Kind → Input T → Type 0}
-    {Kept2 Kept3 Kept4 Kept5 Kept6 : Type 0} (o : O1 × O2 × O3 × O4 × O5 × O6)
-    → SequenceCases6 Ran1 Ran2 Ran3 Ran4 Ran5 Ran6 Failed1 Failed2 Failed3 Failed4 Failed5
-    Failed6 Kept2 Kept3 Kept4 Kept5 Kept6 (Ok o)
-    → (a : Input T) × (b : Input T) × (c : Input T) × (d : Input T) × (e : Input T) × Ran1 o.0 a
-    × Ran2 o.1 a b × Ran3 o.2 b c × Ran4 o.3 c d × Ran5 o.4 d e × Ran6 o.5 e
-sequence6_ok {O1 = O1} {O2 = O2} {O3 = O3} {O4 = O4} {O5 = O5} {O6 = O6} {Ran1 = Ran1}
-    {Ran2 = Ran2} {Ran3 = Ran3} {Ran4 = Ran4} {Ran5 = Ran5} {Ran6 = Ran6} o
-    (inl (o1, o2, o3, o4, o5, o6, a, b, c, d, e, h0, h1, h2, h3, h4, h5, is)) = let rs =
-    at_output (λ (p : O1 × O2 × O3 × O4 × O5 × O6). Ran1 p.0 a × Ran2 p.1 a b × Ran3 p.2 b c
-    × Ran4 p.3 c d × Ran5 p.4 d e × Ran6 p.5 e) is (h0, h1, h2, h3, h4, h5)
-    in (a, b, c, d, e, rs.0, rs.1, rs.2, rs.3, rs.4, rs.5)
-sequence6_ok o (inr (inl (l, h0, h1, h2, h3, h4, h5, is))) = ok_is_err refl is
-sequence6_ok o (inr (inr (inl (o1, l, a, h0, h1, h2, h3, h4, h5, is)))) = ok_is_err refl is
-sequence6_ok o (inr (inr (inr (inl (o1, o2, l, a, b, h0, h1, h2, h3, h4, h5, is))))) =
-    ok_is_err refl is
-sequence6_ok o (inr (inr
-    (inr (inr (inl (o1, o2, o3, l, a, b, c, h0, h1, h2, h3, h4, h5, is)))))) =
-    ok_is_err refl is
-sequence6_ok o (inr (inr
-    (inr (inr (inr (inl
-    (o1, o2, o3, o4, l, a, b, c, d, h0, h1, h2, h3, h4, h5, is))))))) =
-    ok_is_err refl is
-sequence6_ok o (inr (inr
-    (inr (inr (inr (inr
-    (o1, o2, o3, o4, o5, l, a, b, c, d, e, h0, h1, h2, h3, h4, h5, is))))))) =
-    ok_is_err refl is
-
-pub sequence6_err : {T O1 O2 O3 O4 O5 O6 : Type 0} {Ran1 : O1 → Input T → Type 0}
-    {Ran2 : O2 → Input T → Input T → Type 0} {Ran3 : O3 → Input T → Input T → Type 0}
-    {Ran4 : O4 → Input T → Input T → Type 0} {Ran5 : O5 → Input T → Input T → Type 0}
-    {Ran6 : O6 → Input T → Type 0} {Failed1 : Kind → Type 0}
-    {Failed2 Failed3 Failed4 Failed5 Failed6 : Kind → Input T → Type 0}
-    {Kept2 Kept3 Kept4 Kept5 Kept6 : Type 0} (k : Kind)
-    → SequenceCases6 Ran1 Ran2 Ran3 Ran4 Ran5 Ran6 Failed1 Failed2 Failed3 Failed4 Failed5
-    Failed6 Kept2 Kept3 Kept4 Kept5 Kept6 (Err k)
-    → (Failed1 k × Kept2 × Kept3 × Kept4 × Kept5 × Kept6)
-    ⊎ (((o1 : O1) × (a : Input T) × Ran1 o1 a × Failed2 k a × Kept3 × Kept4 × Kept5 × Kept6)
-    ⊎ (((o1 : O1) × (o2 : O2) × (a : Input T) × (b : Input T) × Ran1 o1 a × Ran2 o2 a b
-    × Failed3 k b × Kept4 × Kept5 × Kept6)
-    ⊎ (((o1 : O1) × (o2 : O2) × (o3 : O3) × (a : Input T) × (b : Input T) × (c : Input T)
-    × Ran1 o1 a × Ran2 o2 a b × Ran3 o3 b c × Failed4 k c × Kept5 × Kept6)
-    ⊎ (((o1 : O1) × (o2 : O2) × (o3 : O3) × (o4 : O4) × (a : Input T) × (b : Input T)
-    × (c : Input T) × (d : Input T) × Ran1 o1 a × Ran2 o2 a b × Ran3 o3 b c
-    × Ran4 o4 c d × Failed5 k d × Kept6)
-    ⊎ ((o1 : O1) × (o2 : O2) × (o3 : O3) × (o4 : O4) × (o5 : O5) × (a : Input T)
-    × (b : Input T) × (c : Input T) × (d : Input T) × (e : Input T) × Ran1 o1 a
-    × Ran2 o2 a b × Ran3 o3 b c × Ran4 o4 c d × Ran5 o5 d e × Failed6 k e)))))
-sequence6_err k (inl (o1, o2, o3, o4, o5, o6, a, b, c, d, e, h0, h1, h2, h3, h4, h5, is)) =
-    ok_is_err is refl
-sequence6_err {Failed1 = Failed1} k (inr (inl (l, h0, h1, h2, h3, h4, h5, is))) = inl
-    (at_kind Failed1 is h0, h1, h2, h3, h4, h5)
-sequence6_err {Failed2 = Failed2} k (inr (inr (inl (o1, l, a, h0, h1, h2, h3, h4, h5, is)))) =
-    inr (inl (o1, a, h0, at_kind (λ x. Failed2 x a) is h1, h2, h3, h4, h5))
-sequence6_err {Failed3 = Failed3} k
-    (inr (inr (inr (inl (o1, o2, l, a, b, h0, h1, h2, h3, h4, h5, is))))) = inr
-    (inr (inl (o1, o2, a, b, h0, h1, at_kind (λ x. Failed3 x b) is h2, h3, h4, h5)))
-sequence6_err {Failed4 = Failed4} k
-    (inr (inr (inr (inr (inl (o1, o2, o3, l, a, b, c, h0, h1, h2, h3, h4, h5, is)))))) = inr
-    (inr (inr (inl (
-      o1,
-      o2,
-      o3,
-      a,
-      b,
-      c,
-      h0,
-      h1,
-      h2,
-      at_kind (λ x. Failed4 x c) is h3,
-      h4,
-      h5,
-    ))))
-sequence6_err {Failed5 = Failed5} k
-    (inr (inr (inr (inr
-    (inr (inl (o1, o2, o3, o4, l, a, b, c, d, h0, h1, h2, h3, h4, h5, is))))))) = inr
-    (inr (inr (inr (inl (
-      o1,
-      o2,
-      o3,
-      o4,
-      a,
-      b,
-      c,
-      d,
-      h0,
-      h1,
-      h2,
-      h3,
-      at_kind (λ x. Failed5 x d) is h4,
-      h5,
-    )))))
-sequence6_err {Failed6 = Failed6} k
-    (inr (inr (inr (inr
-    (inr (inr (o1, o2, o3, o4, o5, l, a, b, c, d, e, h0, h1, h2, h3, h4, h5, is))))))) =
-    inr (inr (inr (inr (inr (
-      o1,
-      o2,
-      o3,
-      o4,
-      o5,
-      a,
-      b,
-      c,
-      d,
-      e,
-      h0,
-      h1,
-      h2,
-      h3,
-      h4,
-      at_kind (λ x. Failed6 x e) is h5,
-    )))))
-
-pub sequence6_told : {T O1 O2 O3 O4 O5 O6 E : Type 0} {Ran1 : O1 → Input T → Type 0}
-    {Ran2 : O2 → Input T → Input T → Type 0} {Ran3 : O3 → Input T → Input T → Type 0}
-    {Ran4 : O4 → Input T → Input T → Type 0} {Ran5 : O5 → Input T → Input T → Type 0}
-    {Ran6 : O6 → Input T → Type 0} {Failed1 : Kind → Type 0}
-    {Failed2 Failed3 Failed4 Failed5 Failed6 : Kind → Input T → Type 0}
-    {Kept2 Kept3 Kept4 Kept5 Kept6 : Type 0} (kind : E → Kind)
-    (P : O1 × O2 × O3 × O4 × O5 × O6 → Type 0) (result : Result (O1 × O2 × O3 × O4 × O5 × O6) E)
-    → SequenceCases6 Ran1 Ran2 Ran3 Ran4 Ran5 Ran6 Failed1 Failed2 Failed3 Failed4 Failed5
-    Failed6 Kept2 Kept3 Kept4 Kept5 Kept6 (answer_by kind result)
-    → ((o1 : O1) (o2 : O2) (o3 : O3) (o4 : O4) (o5 : O5) (o6 : O6) (a : Input T) (b : Input T)
-    (c : Input T) (d : Input T) (e : Input T) → Ran1 o1 a → Ran2 o2 a b → Ran3 o3 b c
-    → Ran4 o4 c d → Ran5 o5 d e → Ran6 o6 e → P (o1, o2, o3, o4, o5, o6)) → IfOk result P
-sequence6_told kind P (Ok o) ran told =
-    let (a, b, c, d, e, r1, r2, r3, r4, r5, r6) = sequence6_ok o ran
-    in told o.0 o.1 o.2 o.3 o.4 o.5 a b c d e r1 r2 r3 r4 r5 r6
-sequence6_told kind P (Err e) ran told = tt
-
-pub ruleset known_sequences = (
-  sequence2_ok,
-  sequence2_err,
-  sequence2_told,
-  sequence3_ok,
-  sequence3_err,
-  sequence3_told,
-  sequence4_ok,
-  sequence4_err,
-  sequence4_told,
-  sequence5_ok,
-  sequence5_err,
-  sequence5_told,
-  sequence6_ok,
-  sequence6_err,
-  sequence6_told,
-)

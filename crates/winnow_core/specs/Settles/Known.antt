@@ -1,10 +1,10 @@
 -- What a caller knows of one run that settles an output, where it answered: for `verify`,
 -- `parse_to`, `try_map` and `and_then`.
-use Rattle.std.specs.Prelude.{◌≡◌, Result, Ok, Err, IfOk, ◌⊎◌}
+use Rattle.std.specs.Prelude.{◌≡◌, Ok, Err, ◌⊎◌}
 use Rattle.std.proofs.Common.{refl, inl, inr}
 use Rattle.streams.specs.Input.{Input}
 use Rattle.streams.specs.Kind.{Kind}
-use Rattle.stream_errors.specs.Form.{Answer, answer_by}
+use Rattle.stream_errors.specs.Form.{Answer}
 use Rattle.stream_errors.specs.Form.Known.{at_kind, at_output, ok_is_err}
 
 -- the runs of Settles, by what the child's relate; Accepted and Refused are how an output was
@@ -40,15 +40,3 @@ settles_err k (inl (o, x, r, settled, e)) = ok_is_err e refl
 settles_err {Refused = Refused} k (inr (inl (o, l, a, r, settled, e, back))) =
     inl (o, a, r, at_kind (λ y. Refused o y) e settled, back)
 settles_err {Failed = Failed} k (inr (inr (l, r, same, e))) = inr (at_kind Failed e r, same)
-
--- so what is said of an output is said where a call answers one
-pub settles_told : {T O U E : Type 0} {Ran : O → Type 0} {RanTo : O → Input T → Type 0}
-    {Accepted : O → U → Type 0} {Refused : O → Kind → Type 0} {Back : Input T → Type 0}
-    {Failed : Kind → Type 0}
-    {Kept : Type 0} (kind : E → Kind) (P : U → Type 0) (result : Result U E)
-    → SettlesCases Ran RanTo Accepted Refused Back Failed Kept (answer_by kind result)
-    → ((o : O) (u : U) → Ran o → Accepted o u → P u) → IfOk result P
-settles_told kind P (Ok u) ran told = let (o, r, settled) = settles_ok u ran in told o u r settled
-settles_told kind P (Err e) ran told = tt
-
-pub ruleset known_settled = (settles_ok, settles_err, settles_told)

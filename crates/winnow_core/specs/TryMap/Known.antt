@@ -25,5 +25,3 @@ pub try_map_failed : {U R : Type 0} {Made : U → Type 0} {Failed : R → Type 0
 try_map_failed k (inl (x, made, e)) = ok_is_err e refl
 try_map_failed {Kinds = Kinds} k (inr (r, l, failed, kind, e)) =
     (r, failed, at_kind (Kinds r) e kind)
-
-pub ruleset known_tries = (try_map_made, try_map_failed)

@@ -1,8 +1,8 @@
 -- What a caller knows of one run of an output that is dropped, where it answered.
-use Rattle.std.specs.Prelude.{◌≡◌, Result, Ok, Err, IfOk, ◌⊎◌}
+use Rattle.std.specs.Prelude.{◌≡◌, Ok, Err, ◌⊎◌}
 use Rattle.std.proofs.Common.{refl, inl, inr}
 use Rattle.streams.specs.Kind.{Kind}
-use Rattle.stream_errors.specs.Form.{Answer, answer_by}
+use Rattle.stream_errors.specs.Form.{Answer}
 use Rattle.stream_errors.specs.Form.Known.{at_kind, ok_is_err}
 
 -- the runs of VoidRuns, by what the child's relate
@@ -21,12 +21,3 @@ pub void_err : {O : Type 0} {Ran : O → Type 0} {Failed : Kind → Type 0} (k :
     → VoidCases Ran Failed (Err k) → Failed k
 void_err k (inl (o, r, e)) = ok_is_err e refl
 void_err {Failed = Failed} k (inr (l, r, e)) = at_kind Failed e r
-
--- so what is said of an output is said where a call answers one
-pub void_told : {O E : Type 0} {Ran : O → Type 0} {Failed : Kind → Type 0} (kind : E → Kind)
-    (P : Unit {0} → Type 0) (result : Result (Unit {0}) E)
-    → VoidCases Ran Failed (answer_by kind result) → ((o : O) → Ran o → P tt) → IfOk result P
-void_told kind P (Ok u) ran told = let (o, r) = void_ok u ran in told o r
-void_told kind P (Err e) ran told = tt
-
-pub ruleset known_voids = (void_ok, void_err, void_told)

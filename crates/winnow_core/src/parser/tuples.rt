@@ -8,8 +8,10 @@ ghost use Rattle.winnow_core.specs.Agrees.{agrees_plain};
 ghost use Rattle.winnow_core.specs.Agrees.Sizes.{agrees2, agrees3, agrees4, agrees5, agrees6};
 ghost use Rattle.winnow_core.specs.Agrees.Sizes.{agrees_one};
 ghost use Rattle.winnow_core.specs.Ends.{same_ends};
-ghost use Rattle.winnow_core.specs.Exact.Nothing.{unit_exact, unit_soft};
-ghost use Rattle.winnow_core.specs.InOrder.Exact.{OneTuple, tuple1_exact, tuple1_soft};
+ghost use Rattle.winnow_core.specs.Exact.Allowed.{backs};
+ghost use Rattle.winnow_core.specs.Exact.Nothing.{unit_decided, unit_exact, unit_fails};
+ghost use Rattle.winnow_core.specs.InOrder.Decided.{AlikeOne, tuple1_decided};
+ghost use Rattle.winnow_core.specs.InOrder.Exact.{OneTuple, tuple1_exact, tuple1_fails};
 ghost use Rattle.winnow_core.specs.SameMeaning.{same_refl};
 ghost use Rattle.winnow_core.specs.Sequence.{SequenceRuns0, SequenceRuns1, SequenceRuns2};
 ghost use Rattle.winnow_core.specs.Sequence.{SequenceRuns3, SequenceRuns4, SequenceRuns5};
@@ -40,19 +42,20 @@ impl<I: Stream, E: ParserError<I>> Parser<I, (), E> for () {
     ghost claim = { λ s. record {
       premise = ⊤;
       backtracks = ⊤;
+      spares_memory = ⊤;
       consumes = ⊥;
       grammar = Nothing tt;
-      decides = ⊥;
-      alike = λ o p. o ≡ p;
+      decides = ⊤;
+      alike = λ (_ _ : ⊤). ⊤;
     } };
 
     ghost leaves_ends = { λ form s i answer t j r. same_ends I.reading i j r.1 };
 
     ghost claimed = { λ s. record {
       exact = λ form is. unit_exact;
-      soft = λ form is soft. unit_soft;
+      fails = λ form is. backs unit_fails;
       takes = λ is never. absurd never;
-      decided = λ form never. absurd never;
+      decided = λ form is. unit_decided;
     } };
 
     #[inline(always)]
@@ -86,10 +89,11 @@ impl<I: Stream, O1, E: ParserError<I>, P1: Parser<I, O1, E>> Parser<I, (O1,), E>
     ghost claim = { λ s. record {
       premise = (P1.claim s.0).premise;
       backtracks = (P1.claim s.0).backtracks;
+      spares_memory = (P1.claim s.0).spares_memory;
       consumes = (P1.claim s.0).consumes;
       grammar = Made OneTuple tt (P1.claim s.0).grammar;
-      decides = ⊥;
-      alike = λ o p. o ≡ p;
+      decides = (P1.claim s.0).decides;
+      alike = AlikeOne (P1.claim s.0).alike;
     } };
 
     ghost leaves_ends = { λ form. sequence1_ends I.reading (P1.meaning form)
@@ -98,10 +102,11 @@ impl<I: Stream, O1, E: ParserError<I>, P1: Parser<I, O1, E>> Parser<I, (O1,), E>
     ghost claimed = { λ s. record {
       exact = λ form is. tuple1_exact (P1.meaning form) (record { 0 = s.0 })
           ((P1.claimed s.0).exact form is);
-      soft = λ form is soft. tuple1_soft (P1.meaning form) (record { 0 = s.0 })
-          ((P1.claimed s.0).soft form is soft);
+      fails = λ form is. tuple1_fails (P1.meaning form) (record { 0 = s.0 })
+          ((P1.claimed s.0).fails form is);
       takes = λ is some. made_of_takes OneTuple tt ((P1.claimed s.0).takes is some);
-      decided = λ form never. absurd never;
+      decided = λ form is. tuple1_decided (P1.meaning form) (record { 0 = s.0 })
+          ((P1.claimed s.0).decided form is);
     } };
 
     #[inline(always)]

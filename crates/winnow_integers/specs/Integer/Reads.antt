@@ -1,13 +1,10 @@
 -- Integers as parts of what a composition reads.
-use Rattle.std.specs.Prelude.{◌≡◌, ℕ, List, [], ◌∷◌, ◌++◌, length, Ok, Err}
-use Rattle.std.proofs.Common.{refl, sym, ap, ◌∙◌, arith, inl, inr, length-append}
+use Rattle.std.specs.Prelude.{◌≡◌, ℕ, List, [], ◌∷◌, ◌++◌, length}
+use Rattle.std.proofs.Common.{refl, sym, ap, ◌∙◌, arith}
 use Rattle.streams.specs.Equal.{same_first, same_others}
-use Rattle.streams.specs.Input.{Input}
-use Rattle.streams.specs.Kind.{Kind}
 use Rattle.streams.specs.Reading.{Reading}
 use Rattle.stream_errors.specs.Form.{ErrorForm}
-use Rattle.stream_errors.specs.Form.Known.{ok_is_err}
-use Rattle.winnow_core.specs.Reads.{MustLeave, Reads}
+use Rattle.winnow_core.specs.Reads.{Reads}
 use Rattle.winnow_core.specs.Runs.{Keeps, Runs}
 use Rattle.winnow_integers.specs.Integer.{AreBytes, IntegerRuns}
 use Rattle.winnow_integers.specs.Integer.Known.{integer_ok}
@@ -48,31 +45,3 @@ module _ {X S O : Type 0} (width : ℕ) (value : X → List ℕ → O) (reading 
         );
     again = λ y i answer t j is ran. ran.1 ∙ is;
   }
-
-  -- where so many bytes stand first, it answers their value
-  pub integer_gives : (x : X) (front rest : List ℕ) → length front ≡ width
-      → (i : Input ℕ) (o : O) (t : X) (j : Input ℕ) → i.left.tokens ≡ front ++ rest
-      → IntegerOf x i (Ok o) t j → o ≡ value x front
-  integer_gives x front rest as_many i o t j begins ran =
-      let read = integer_ok width (value x) reading form i o j ran.0 in
-      let fronts = same_fronts front read.bytes rest j.left.tokens
-      (sym begins ∙ read.passes.tokens) (as_many ∙ sym read.as_many) in
-      read.value_is ∙ ap (value x) fronts.0
-
-  -- where so many bytes stand first, what follows them is left
-  pub integer_leaves : (x : X) (front rest : List ℕ) → length front ≡ width
-      → MustLeave IntegerOf x (front ++ rest) rest
-  integer_leaves x front rest as_many = record {
-    leaves = λ i o t j begins ran.
-        let read = integer_ok width (value x) reading form i o j ran.0 in
-        (same_fronts front read.bytes rest j.left.tokens (sym begins ∙ read.passes.tokens)
-        (as_many ∙ sym read.as_many)).1;
-    answers = λ i k t j begins ran. fails i k j begins ran.0;
-  }
-    where
-      fails : (i : Input ℕ) (k : Kind) (j : Input ℕ) → i.left.tokens ≡ front ++ rest
-          → IntegerRuns width (value x) reading form i (Err k) j → ⊥
-      fails i k j begins (inl (bytes, many, are, passes, e)) = ok_is_err e refl
-      fails i k j begins (inr (l, few, kind, e, same)) =
-          let total = length-append front rest in
-          absurd (omega (arith, few, as_many, ap (λ l. length l) begins, total))

@@ -1,19 +1,15 @@
 -- The bytes of an integer, as std's `to_be_bytes` and `to_le_bytes` write them.
-use Rattle.std.specs.Prelude.{◌≡◌, ◌<◌, ◌+◌, ◌-◌, ◌*◌, ◌/◌, ◌%◌, ◌^◌, ℕ, zero, suc, List, []}
-use Rattle.std.specs.Prelude.{◌∷◌, ◌++◌, length, reverse, ℤ}
-use Rattle.std.specs.Int.{Width, byte_at, byte_len, bytes_high_first, bytes_low_first}
-use Rattle.std.specs.Int.{cast_unsigned}
+use Rattle.std.specs.Prelude.{◌≡◌, ◌<◌, ◌+◌, ◌*◌, ◌/◌, ◌%◌, ◌^◌, ℕ, zero, suc, List, []}
+use Rattle.std.specs.Prelude.{◌∷◌, length}
+use Rattle.std.specs.Int.{byte_at, bytes_high_first}
 use Rattle.std.proofs.Common.{refl, sym, ap, ◌∙◌, arith}
-use Rattle.std.proofs.lemmas.Int.{of_z-to_z}
-use Rattle.std.proofs.lemmas.List.{length-reverse, reverse-append, reverse-reverse}
 use Rattle.std.proofs.lemmas.List.Elements.{All-head, All-tail}
 use Rattle.std.proofs.lemmas.Nat.{div-mul-add}
 use Rattle.std.proofs.Math.Nat.{div-add-mod', div-lt_iff_lt-mul, div-one, mod-eq_of_lt, mod-lt}
 use Rattle.std.proofs.Math.Nat.{mul-add-div_right, mul-add-mod_self_right, mul_assoc}
 use Rattle.std.proofs.Math.Nat.{one-le-pow, pow-succ'}
-use Rattle.winnow_integers.specs.Integer.{AreBytes, signed_of, value_of}
-use Rattle.winnow_integers.specs.Integer.Std.{fits_width, signed_value_of}
-use Rattle.winnow_integers.specs.Integer.Values.{reverse_are_bytes, value_of_fits}
+use Rattle.winnow_integers.specs.Integer.{AreBytes, value_of}
+use Rattle.winnow_integers.specs.Integer.Values.{value_of_fits}
 
 positive : (n : ℕ) → 0 < 256 ^ n
 positive n = omega (arith, one-le-pow n 256 (omega arith))
@@ -50,34 +46,12 @@ value_written (b ∷ bytes) are =
     ap (λ x. x ∷ bytes_high_first (length bytes) (value_of (b ∷ bytes))) first
     ∙ ap (λ l. b ∷ l) (lowest (length bytes) b (value_of bytes) ∙ value_written bytes others)
 
--- the lowest first are the highest first in the other order
-last_of : (i k n : ℕ)
-    → bytes_low_first i (suc k) n ≡ bytes_low_first i k n ++ byte_at (i + k) n ∷ []
-last_of i zero n = ap (λ p. byte_at p n ∷ []) (omega arith)
-last_of i (suc k) n =
-    ap (λ l. byte_at i n ∷ l) (last_of (suc i) k n
-    ∙ ap (λ p. bytes_low_first (suc i) k n ++ byte_at p n ∷ []) (omega arith))
-
-pub low_is_high : (k n : ℕ) → bytes_low_first 0 k n ≡ reverse (bytes_high_first k n)
-low_is_high zero n = refl
-low_is_high (suc k) n =
-    last_of 0 k n ∙ ap (λ p. bytes_low_first 0 k n ++ byte_at p n ∷ []) (omega arith)
-    ∙ ap (λ l. l ++ byte_at k n ∷ []) (low_is_high k n)
-    ∙ sym (reverse-append (byte_at k n ∷ []) (bytes_high_first k n))
-
 -- an unsigned number of so many bytes, the highest first, and the lowest first
 pub be_written : (width n : ℕ) (bytes : List ℕ) → n ≡ value_of bytes → length bytes ≡ width
     → AreBytes bytes → bytes_high_first width n ≡ bytes
 be_written width n bytes is as_many are =
     ap (λ w. bytes_high_first w n) (sym as_many) ∙ ap (bytes_high_first (length bytes)) is
     ∙ value_written bytes are
-
-pub le_written : (width n : ℕ) (bytes : List ℕ) → n ≡ value_of (reverse bytes)
-    → length bytes ≡ width → AreBytes bytes → bytes_low_first 0 width n ≡ bytes
-le_written width n bytes is as_many are =
-    low_is_high width n
-    ∙ ap reverse (be_written width n (reverse bytes) is (length-reverse bytes ∙ as_many)
-    (reverse_are_bytes bytes are)) ∙ reverse-reverse bytes
 
 -- so many bytes of a number that these hold stand for it
 pub length_written : (k n : ℕ) → length (bytes_high_first k n) ≡ k
@@ -99,22 +73,3 @@ written_value (suc k) n fits =
     ∙ ap (λ v. n / 256 ^ k * 256 ^ k + v) (ap value_of others
     ∙ written_value k (n % 256 ^ k) below)
     ∙ split
-
--- a signed number of a type of std
-pub signed_be_written : (w : Width) (z : ℤ) (bytes : List ℕ) → z ≡ signed_of bytes
-    → length bytes ≡ suc (byte_len w - 1) → AreBytes bytes
-    → bytes_high_first (suc (byte_len w - 1)) (cast_unsigned w z) ≡ bytes
-signed_be_written w z bytes is as_many are =
-    be_written (suc (byte_len w - 1)) (cast_unsigned w z) bytes
-    (ap (cast_unsigned w) (is ∙ sym (signed_value_of w bytes as_many are))
-    ∙ of_z-to_z w (value_of bytes) (fits_width w bytes as_many are)) as_many are
-
-pub signed_le_written : (w : Width) (z : ℤ) (bytes : List ℕ) → z ≡ signed_of (reverse bytes)
-    → length bytes ≡ suc (byte_len w - 1) → AreBytes bytes
-    → bytes_low_first 0 (suc (byte_len w - 1)) (cast_unsigned w z) ≡ bytes
-signed_le_written w z bytes is as_many are =
-    low_is_high (suc (byte_len w - 1)) (cast_unsigned w z)
-    ∙ ap reverse (signed_be_written w z (reverse bytes) is (length-reverse bytes ∙ as_many)
-    (reverse_are_bytes bytes are)) ∙ reverse-reverse bytes
-
-pub ruleset known_bytes = (be_written, le_written, signed_be_written, signed_le_written)

@@ -1,23 +1,19 @@
 -- What is known of the decimal digits of a number: they are one list, and the one that std writes.
-use Rattle.std.specs.Prelude.{◌≡◌, ◌<◌, ◌≤◌, ◌+◌, ◌*◌, ◌^◌, ℕ, ℤ, pos, neg_ℤ, List, [], ◌∷◌, ◌++◌}
-use Rattle.std.specs.Prelude.{length, negsuc, unsigned_abs, ◌/◌, ◌%◌, ◌⊎◌}
-use Rattle.std.specs.Prelude.{FitsSigned}
-use mir.Syntax.{Width}
-use mir.Val.{hbits}
+use Rattle.std.specs.Prelude.{◌≡◌, ◌<◌, ◌≤◌, ◌+◌, ◌*◌, ◌^◌, ℕ, List, [], ◌∷◌, ◌++◌}
+use Rattle.std.specs.Prelude.{length, ◌/◌, ◌%◌, ◌⊎◌}
 use Rattle.std.specs.Char.{digit_value}
-use Rattle.std.specs.Fmt.{decimal, signed_decimal}
+use Rattle.std.specs.Fmt.{decimal}
 use Rattle.std.specs.List.{AllByRecursion}
 use Rattle.std.specs.Str.Parse.{AllDigits}
-use Rattle.std.proofs.Common.{refl, sym, ap, subst, ◌∙◌, inl, inr, zero, suc, arith}
+use Rattle.std.proofs.Common.{refl, sym, ap, ◌∙◌, inl, inr, zero, suc, arith}
 use Rattle.std.proofs.Math.Nat.{mul-le-mul_right, one-le-pow, pow-le-pow_right, pow-suc, pow-zero}
-use Rattle.std.proofs.Math.Pow.{pow_mono}
 use Rattle.std.proofs.lemmas.Bool.{cases_order}
 use Rattle.std.proofs.lemmas.Fmt.{decimal_by_steps_wide, decimal_is_IsNumeral_wide}
 use Rattle.std.proofs.lemmas.Str.{digit_value_digit}
 use Rattle.std.proofs.lemmas.Str.Parse.{digit_from_value}
 use Rattle.streams.specs.Equal.{same_first, same_others}
 use Rattle.stream_sets.specs.AsChar.{IsDecDigit}
-use Rattle.winnow_numbers.specs.Decimal.{IsDecimalOf, IsSignedDecimalOf}
+use Rattle.winnow_numbers.specs.Decimal.{IsDecimalOf}
 use Rattle.winnow_numbers.specs.Digits.{value_in}
 use Rattle.winnow_numbers.specs.Digits.Known.{value_is}
 
@@ -197,35 +193,3 @@ decimal_digits n small =
 pub digits_written : (digits : List ℕ) (n : ℕ) → n < 10 ^ 64 → IsDecimalOf digits n
     → digits ≡ decimal n
 digits_written digits n small is = one_decimal digits (decimal n) n is (decimal_digits n small)
-
--- A signed number's digits with their sign are what is written of it, or that behind a '+'.
-abbrev AreWritten : List ℕ → List ℕ → ℤ → Type 0
-AreWritten sign digits z =
-    (sign ++ digits ≡ signed_decimal z) ⊎ (sign ++ digits ≡ 43 ∷ signed_decimal z)
-
-negative_written : (n : ℕ) (digits : List ℕ) → 0 < n → unsigned_abs (neg_ℤ (pos n)) < 10 ^ 64
-    → IsDecimalOf digits n → 45 ∷ digits ≡ signed_decimal (neg_ℤ (pos n))
-negative_written zero digits some small is = absurd (omega (arith, some))
-negative_written (suc m) digits some small is =
-    ap (λ l. 45 ∷ l) (digits_written digits (suc m) small is)
-
-pub signed_digits_written : (sign digits : List ℕ) (z : ℤ) → IsSignedDecimalOf sign digits z
-    → unsigned_abs z < 10 ^ 64 → AreWritten sign digits z
-signed_digits_written sign digits z (n, is, inl (none, e)) small =
-    let P : ℤ → Type 0 = λ y. unsigned_abs y < 10 ^ 64 in
-    let digits_are = digits_written digits n (subst P e small) is in
-    inl (ap (λ s. s ++ digits) none ∙ digits_are ∙ ap (λ y. signed_decimal y) (sym e))
-signed_digits_written sign digits z (n, is, inr (inl (plus, some, e))) small =
-    let P : ℤ → Type 0 = λ y. unsigned_abs y < 10 ^ 64 in
-    let digits_are = digits_written digits n (subst P e small) is in
-    inr (ap (λ s. s ++ digits) plus ∙ ap (λ l. 43 ∷ l) digits_are
-    ∙ ap (λ y. 43 ∷ signed_decimal y) (sym e))
-signed_digits_written sign digits z (n, is, inr (inr (minus, some, e))) small =
-    let P : ℤ → Type 0 = λ y. unsigned_abs y < 10 ^ 64 in
-    let written = negative_written n digits some (subst P e small) is in
-    inl (ap (λ s. s ++ digits) minus ∙ written ∙ ap (λ y. signed_decimal y) (sym e))
-
--- The numbers of a signed type of std are written so: they have at most 64 digits.
-pub fits_short : (w : Width) (z : ℤ) → hbits w ≤ 127 → FitsSigned w z → unsigned_abs z < 10 ^ 64
-fits_short w (pos n) narrow fits = omega (arith, fits.sfits, pow_mono narrow)
-fits_short w (negsuc n) narrow fits = omega (arith, fits.sfits, pow_mono narrow)

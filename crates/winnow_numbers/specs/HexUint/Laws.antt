@@ -18,7 +18,7 @@ use Rattle.streams.specs.Equal.{same_rest, true_is_false}
 use Rattle.stream_sets.specs.Once.{SeesApart}
 use Rattle.grammars.specs.Grammar.{IsUnique, Takes}
 use Rattle.stream_errors.specs.Form.Known.{ok_is_err, same_kind, same_ok}
-use Rattle.winnow_core.specs.Exact.{IsExact, IsSoft}
+use Rattle.winnow_core.specs.Exact.{Backtracks, IsExact}
 use Rattle.winnow_numbers.specs.Digits.{SeenOnce}
 use Rattle.winnow_numbers.specs.Digits.Known.{characters_length, one_front}
 use Rattle.winnow_numbers.specs.HexUint.Known.{hex_uint_must}
@@ -178,18 +178,18 @@ module _ {K T L : Type 0} (seen : K → T) (code : K → ℕ) (reading : Reading
             (inr (inr (inr (front, t, rest, split, all, many, member, e, same)))) =
             ok_is_err refl e
 
-    pub hex_uint_soft : IsSoft tt
+    pub hex_uint_fails : Backtracks tt
         (Keeps (λ (_ : ⊤). HexUintRuns number most seen code reading form))
-    hex_uint_soft = record { soft = λ i k t j is (r, kept). soft i k j is r }
+    hex_uint_fails = record { fails = λ i k t j is (r, kept). fails i k j is r }
       where
-        soft : (i : Input T) (k : Kind) (j : Input T) → i.status.cut ≡ false
+        fails : (i : Input T) (k : Kind) (j : Input T) → i.status.cut ≡ false
             → HexUintRuns number most seen code reading form i (Err k) j
-            → (k ≡ memory) ⊎ (k ≡ backtrack)
-        soft i k j is
+            → k ≡ backtrack
+        fails i k j is
             (inl (front, digits, n, passes, chars, are, some, few, stops, ended, value, e)) =
             ok_is_err e refl
-        soft i k j is (inr (inl (all, few, cut, e, same))) = true_is_false (sym cut ∙ is)
-        soft i k j is (inr (inr (inl (none, ended, e, same)))) = inr (same_kind e)
-        soft i k j is
+        fails i k j is (inr (inl (all, few, cut, e, same))) = true_is_false (sym cut ∙ is)
+        fails i k j is (inr (inr (inl (none, ended, e, same)))) = same_kind e
+        fails i k j is
             (inr (inr (inr (front, t, rest, split, all, many, member, e, same)))) =
-            inr (same_kind e)
+            same_kind e

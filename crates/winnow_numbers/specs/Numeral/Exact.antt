@@ -11,7 +11,7 @@ use Rattle.stream_sets.specs.Once.{SeesApart}
 use Rattle.grammars.specs.Grammar.{IsUnique, Takes}
 use Rattle.stream_errors.specs.Form.{Answer, ErrorForm, plain}
 use Rattle.stream_errors.specs.Form.Known.{ok_is_err, same_kind}
-use Rattle.winnow_core.specs.Exact.{IsExact, IsSoft}
+use Rattle.winnow_core.specs.Exact.{Backtracks, IsExact}
 use Rattle.winnow_core.specs.Runs.{Keeps}
 use Rattle.winnow_numbers.specs.DecInt.{DecIntRuns}
 use Rattle.winnow_numbers.specs.DecInt.Known.{dec_int_ok, numeral_run}
@@ -167,19 +167,19 @@ module _ {K T L : Type 0} (seen : K → T) (code : K → ℕ) (reading : Reading
               numeral_or_none seen code reading (seen_one seen code apart) form false i [] xs b l j
               p never
 
-      pub dec_uint_soft : IsSoft tt
+      pub dec_uint_fails : Backtracks tt
           (Keeps (λ (_ : ⊤). DecUintRuns number bound seen code reading form))
-      dec_uint_soft = record { soft = λ i k t j is (r, kept). soft i k j is r }
+      dec_uint_fails = record { fails = λ i k t j is (r, kept). fails i k j is r }
         where
-          soft : (i : Input T) (k : Kind) (j : Input T) → i.status.cut ≡ false
+          fails : (i : Input T) (k : Kind) (j : Input T) → i.status.cut ≡ false
               → DecUintRuns number bound seen code reading form i (Err k) j
-              → (k ≡ memory) ⊎ (k ≡ backtrack)
-          soft i k j is (inl (digits, n, runs, fit, value, e)) = ok_is_err e refl
-          soft i k j is (inr (inl (digits, a, runs, misfit, e, same))) = inr (same_kind e)
-          soft i k j is (inr (inr (l, (sign, a, first, inl (b, lacks, cut, kind, at)), e))) =
+              → k ≡ backtrack
+          fails i k j is (inl (digits, n, runs, fit, value, e)) = ok_is_err e refl
+          fails i k j is (inr (inl (digits, a, runs, misfit, e, same))) = same_kind e
+          fails i k j is (inr (inr (l, (sign, a, first, inl (b, lacks, cut, kind, at)), e))) =
               true_is_false (sym cut ∙ is)
-          soft i k j is (inr (inr (l, (sign, a, first, inr (never, kind, at)), e))) =
-              inr (same_kind e ∙ kind)
+          fails i k j is (inr (inr (l, (sign, a, first, inr (never, kind, at)), e))) =
+              same_kind e ∙ kind
 
   -- ---- signed numbers
 
@@ -341,16 +341,16 @@ module _ {K T L : Type 0} (seen : K → T) (code : K → ℕ) (reading : Reading
               numeral_or_none seen code reading (seen_one seen code apart) form true i s xs b l j
               p never
 
-      pub dec_int_soft : IsSoft tt
+      pub dec_int_fails : Backtracks tt
           (Keeps (λ (_ : ⊤). DecIntRuns number fits seen code reading form))
-      dec_int_soft = record { soft = λ i k t j is (r, kept). soft i k j is r }
+      dec_int_fails = record { fails = λ i k t j is (r, kept). fails i k j is r }
         where
-          soft : (i : Input T) (k : Kind) (j : Input T) → i.status.cut ≡ false
+          fails : (i : Input T) (k : Kind) (j : Input T) → i.status.cut ≡ false
               → DecIntRuns number fits seen code reading form i (Err k) j
-              → (k ≡ memory) ⊎ (k ≡ backtrack)
-          soft i k j is (inl (sign, digits, n, runs, fit, value, e)) = ok_is_err e refl
-          soft i k j is (inr (inl (sign, digits, a, runs, misfit, e, same))) = inr (same_kind e)
-          soft i k j is (inr (inr (l, (sign, a, first, inl (b, lacks, cut, kind, at)), e))) =
+              → k ≡ backtrack
+          fails i k j is (inl (sign, digits, n, runs, fit, value, e)) = ok_is_err e refl
+          fails i k j is (inr (inl (sign, digits, a, runs, misfit, e, same))) = same_kind e
+          fails i k j is (inr (inr (l, (sign, a, first, inl (b, lacks, cut, kind, at)), e))) =
               true_is_false (sym cut ∙ is)
-          soft i k j is (inr (inr (l, (sign, a, first, inr (never, kind, at)), e))) =
-              inr (same_kind e ∙ kind)
+          fails i k j is (inr (inr (l, (sign, a, first, inr (never, kind, at)), e))) =
+              same_kind e ∙ kind

@@ -25,5 +25,3 @@ no_error view kind start ran back output errors
 no_error view kind start ran back output errors
     (inr (inr (k, j, r, other, is, (earlier, last, split, l, comes)))) none =
     one_behind earlier last (sym split ∙ none)
-
-pub ruleset known_recoverable_parses = (no_error)

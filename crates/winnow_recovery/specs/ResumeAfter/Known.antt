@@ -51,5 +51,3 @@ resume_after_none run recover s i t j (kept, inr (not, inl (p, ran, e), same)) =
     none_is_some (same_output e)
 resume_after_none run recover s i t j (kept, inr (not, inr (k, ran, e), same)) =
     ok_is_err refl e
-
-pub ruleset known_resumes = (resume_after_some, resume_after_none)

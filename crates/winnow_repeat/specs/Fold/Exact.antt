@@ -5,7 +5,7 @@ use Rattle.std.specs.List.{FoldsTo}
 use Rattle.std.proofs.Common.{refl, sym, ap, subst, inl, inr, ◌∙◌, arith}
 use Rattle.streams.specs.Input.{Input}
 use Rattle.streams.specs.Kind.{Kind, backtrack}
-use Rattle.stream_sets.specs.Accumulator.{Accumulator, nothing_kept}
+use Rattle.stream_sets.specs.Accumulator.{Accumulator, Wants, nothing_kept}
 use Rattle.stream_sets.specs.Accumulator.Holds.{Accumulates, Holds}
 use Rattle.stream_sets.specs.Range.{Bounds, IsWithin, bounds_of, from_to}
 use Rattle.stream_sets.specs.declared.range.Range.{Range}
@@ -14,14 +14,14 @@ use Rattle.grammars.specs.Grammar.Folded.{FoldOf, Folded, StaysFolding, StaysMak
 use Rattle.stream_errors.specs.Form.{Answer}
 use Rattle.stream_errors.specs.Form.Known.{at_kind, at_output, ok_is_err, same_kind}
 use Rattle.winnow_core.specs.Chain.{IsItem}
-use Rattle.winnow_core.specs.Exact.{IsExact, IsSoft}
+use Rattle.winnow_core.specs.Exact.{FailsBy, IsExact, IsSoft}
 use Rattle.winnow_core.specs.Runs.{Runs}
 use Rattle.winnow_core.specs.States.{pair_is}
 use Rattle.winnow_repeat.specs.Fold.{FoldItemsRun, FoldManyRuns, FoldOneRuns, FoldTakes}
 use Rattle.winnow_repeat.specs.Fold.{FoldedRuns, RangedFolds}
 use Rattle.winnow_repeat.specs.Repeat.{ItemsRun, RangedRuns, RepeatEnds, RepeatManyRuns}
 use Rattle.winnow_repeat.specs.Repeat.{RepeatOneRuns}
-use Rattle.winnow_repeat.specs.Repeat.Exact.{repeat_exact, repeat_soft}
+use Rattle.winnow_repeat.specs.Repeat.Exact.{repeat_exact, repeat_fails}
 
 -- an accumulator that is the value so far
 abbrev fold_kept : {G R H O : Type 0} → (G → R → G → Type 0) → G
@@ -273,10 +273,15 @@ module _ {S G H T O R : Type 0} (run : Runs S T O) (starts : G → R → G → T
           repeats = repeat_exact (fold_kept starts init step op) asserted (s, range)
               (FoldOf starts init step op) (fold_holds starts init step op) c f takes within
 
-      pub fold_soft : IsSoft (s, (range, (init, op))) (RangedFolds starts step run asserted)
-      fold_soft = record {
-        soft = λ i k t j is r.
-            let repeats = repeat_soft (fold_kept starts init step op) asserted (s, range) c f
-            takes within in
-            repeats.soft i k (t.0, t.1.0) j is (ranged_fold range s i (Err k) t j r).0;
+      pub fold_fails : {allowed : Kind → Type 0} → FailsBy allowed s run
+          → FailsBy allowed (s, (range, (init, op))) (RangedFolds starts step run asserted)
+      fold_fails may = record {
+        fails = λ i k t j is r.
+            let repeats = repeat_fails (fold_kept starts init step op) asserted (s, range) c may
+            takes within (λ wants. absurd (fold_wants wants)) in
+            repeats.fails i k (t.0, t.1.0) j is (ranged_fold range s i (Err k) t j r).0;
       }
+        where
+          fold_wants : Wants (fold_kept starts init step op) → ⊥
+          fold_wants (inl (capacity, never)) = never
+          fold_wants (inr (all, o, never)) = never

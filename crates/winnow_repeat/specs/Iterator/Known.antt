@@ -1,8 +1,7 @@
 -- What a caller knows of the calls of an iterator: its items so far are the outputs of a chain of
 -- runs that consume, and the run behind them stopped it.
-use Rattle.std.specs.Prelude.{◌≡◌, List, [], ◌∷◌, ◌++◌, Option, Some, None, Ok, Err}
-use Rattle.std.specs.Iterator.{Drains, Yields}
-use Rattle.std.proofs.Common.{refl, sym, subst, inl, inr}
+use Rattle.std.specs.Prelude.{◌≡◌, List, [], ◌∷◌, ◌++◌, Some, None, Ok, Err}
+use Rattle.std.proofs.Common.{sym, subst, inl, inr}
 use Rattle.std.proofs.lemmas.Fn.{FoldsTo-push}
 use Rattle.streams.specs.Input.{Input, back_at}
 use Rattle.streams.specs.Kind.{Kind, backtrack}
@@ -35,15 +34,6 @@ iterator_stopped run assert_kind s t on (inl (o, also, r, consumes, is, goes)) =
 iterator_stopped run assert_kind s t on (inr (inl (also, stops, none))) = stops
 iterator_stopped run assert_kind s t on (inr (inr (off, none, same))) = absurd (off on)
 
--- one that was stopped stays as it is, and gives nothing more
-pub iterator_stays : {S T O : Type 0} (run : Runs S T O) (assert_kind : Kind)
-    (s : IteratorState S T) (item : Option O) (t : IteratorState S T)
-    → (s.standing ≡ running → ⊥) → IteratorNext run assert_kind s item t
-    → (item ≡ None) × (t ≡ s)
-iterator_stays run assert_kind s item t off (inl (o, on, r, consumes, is, goes)) = absurd (off on)
-iterator_stays run assert_kind s item t off (inr (inl (on, stops, none))) = absurd (off on)
-iterator_stays run assert_kind s item t off (inr (inr (also, none, same))) = (none, same)
-
 -- an item more behind those of a chain
 pub iterator_more : {S T O : Type 0} (run : Runs S T O) (assert_kind : Kind)
     (s : S) (i : Input T) (outputs : List O) (u : IteratorState S T) (o : O)
@@ -54,46 +44,6 @@ iterator_more run assert_kind s i outputs u o t chain step =
     let told = iterator_item run assert_kind u o t step in
     FoldsTo-push (λ p x q. IsItem run p x q) (s, i) outputs (u.parser, u.input) o
     (t.parser, t.input) chain told.2
-
--- The items that calls gave, in order: the outputs of a chain.
-pub iterator_yielded : {S T O X : Type 0} (run : Runs S T O) (assert_kind : Kind)
-    (state : X → IteratorState S T) (gives : X → Option O → X → Type 0)
-    → ((a : X) (item : Option O) (b : X) → gives a item b
-    → IteratorNext run assert_kind (state a) item (state b))
-    → (outputs : List O) (a b : X) → (state a).standing ≡ running → Yields gives a outputs b
-    → Items run (state a).parser (state a).input outputs (state b).parser (state b).input
-    × ((state b).standing ≡ running)
-iterator_yielded {X = X} run assert_kind state gives steps [] a b on e =
-    let P : X → Type 0 = λ x. Items run (state a).parser (state a).input [] (state x).parser
-    (state x).input × ((state x).standing ≡ running) in
-    subst P e (refl, on)
-iterator_yielded run assert_kind state gives steps (o ∷ os) a b on (c, step, more) =
-    let told = iterator_item run assert_kind (state a) o (state c) (steps a (Some o) c step) in
-    let behind = iterator_yielded run assert_kind state gives steps os c b told.1 more in
-    ((((state c).parser, (state c).input), told.2, behind.0), behind.1)
-
--- All items of an iterator that went on: those of a chain, and the run that stopped it.
-pub record Iterated {S T O : Type 0} (run : Runs S T O) (assert_kind : Kind)
-    (s : IteratorState S T) (outputs : List O) : Type 0 where
-  pub last : IteratorState S T
-  pub behind : IteratorState S T
-  pub chain : Items run s.parser s.input outputs last.parser last.input
-  pub stops : IteratorStops run assert_kind last behind
-
-pub iterator_drained : {S T O X : Type 0} (run : Runs S T O) (assert_kind : Kind)
-    (state : X → IteratorState S T) (gives : X → Option O → X → Type 0)
-    → ((a : X) (item : Option O) (b : X) → gives a item b
-    → IteratorNext run assert_kind (state a) item (state b))
-    → (outputs : List O) (a : X) → (state a).standing ≡ running → Drains gives a outputs
-    → Iterated run assert_kind (state a) outputs
-iterator_drained run assert_kind state gives steps outputs a on (u, (t, yields, ends)) =
-    let told = iterator_yielded run assert_kind state gives steps outputs a t on yields in
-    record {
-      last = state t;
-      behind = state u;
-      chain = told.0;
-      stops = iterator_stopped run assert_kind (state t) (state u) told.1 (steps t None u ends);
-    }
 
 -- one that answers an error at last was stopped by it
 pub finish_failed : (standing : Standing) (k : Kind) → Err k ≡ finish_answer standing
@@ -112,14 +62,3 @@ pub finish_succeeded : {S T O : Type 0} (run : Runs S T O) (assert_kind : Kind)
 finish_succeeded run assert_kind s t (inl stops) e = stops
 finish_succeeded run assert_kind s t (inr (inl (k, r, other, is))) e = absurd (cc)
 finish_succeeded run assert_kind s t (inr (inr (o, r, same, is))) e = absurd (cc)
-
-pub ruleset known_iterators = (
-  iterator_item,
-  iterator_stopped,
-  iterator_stays,
-  iterator_more,
-  iterator_yielded,
-  iterator_drained,
-  finish_failed,
-  finish_succeeded,
-)

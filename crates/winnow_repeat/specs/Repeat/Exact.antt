@@ -6,7 +6,7 @@ use Rattle.std.proofs.Common.{refl, sym, ap, subst, inl, inr, ◌∙◌, arith}
 use Rattle.streams.specs.Equal.{none_is_some}
 use Rattle.streams.specs.Input.{Input}
 use Rattle.streams.specs.Kind.{Kind, backtrack, memory}
-use Rattle.stream_sets.specs.Accumulator.{Accumulator}
+use Rattle.stream_sets.specs.Accumulator.{Accumulator, Wants}
 use Rattle.stream_sets.specs.Accumulator.Holds.{Accumulates, Holds}
 use Rattle.stream_sets.specs.Range.{Bounds, IsBelow, IsWithin, bounds_of, from_to}
 use Rattle.stream_sets.specs.declared.range.Range.{Range}
@@ -15,7 +15,7 @@ use Rattle.grammars.specs.Grammar.Unique.{no_more, repeated_take, repeated_uniqu
 use Rattle.stream_errors.specs.Form.{Answer}
 use Rattle.stream_errors.specs.Form.Known.{at_kind, ok_is_err, same_ok, same_kind}
 use Rattle.winnow_core.specs.Chain.{IsItem}
-use Rattle.winnow_core.specs.Exact.{IsExact, IsSoft}
+use Rattle.winnow_core.specs.Exact.{FailsBy, IsExact, IsSoft}
 use Rattle.winnow_core.specs.Exact.Failed.{none_at_backtrack}
 use Rattle.winnow_core.specs.Runs.{Runs}
 use Rattle.winnow_core.specs.States.{pair_is}
@@ -118,6 +118,30 @@ module _ {S T O C : Type 0} {run : Runs S T O} {g : Grammar T O} {s : S} (into :
       stand outputs m whole each
           (inr (inr (inr (inr (p, some, below, r, fewer, taken, grows, e))))) = ok_is_err refl e
 
+  -- they fail as the items do, or for want of memory
+  pub items_allowed : {allowed : Kind → Type 0} → IsExact s run g → FailsBy allowed s run
+      → Takes g → (Wants into → allowed memory) → (before : C) (i : Input T) (k : Kind) (t : S)
+      (j : Input T) → i.status.cut ≡ false
+      → ItemsRun run into asserted bounds before s i (Err k) t j → allowed k
+  items_allowed {allowed} c f takes wants before i k t j is ran =
+      let (outputs, m, still, each, ends) = at_end c before i (Err k) t j is ran in
+      fail outputs m still ends
+    where
+      fail : (outputs : List O) (m : Input T) → m.status.cut ≡ false
+          → RepeatEnds run into asserted bounds before outputs s m (Err k) t j → allowed k
+      fail outputs m whole (inl (all, full, taken, e, a, b)) = ok_is_err e refl
+      fail outputs m whole (inr (inl (all, x, below, enough, r, taken, e, back))) =
+          ok_is_err e refl
+      fail outputs m whole (inr (inr (inl (l, some, below, r, few, taken, e)))) =
+          at_kind allowed e (f.fails m l t j whole r)
+      fail outputs m whole (inr (inr (inr (inl (p, some, below, r, same, taken, e))))) =
+          let fewer = takes.fewer m.left.tokens p j.left.tokens (c.stands m p t j whole r) in
+          let as_many = ap length same in
+          absurd (omega (arith, fewer, as_many))
+      fail outputs m whole
+          (inr (inr (inr (inr (p, some, below, r, fewer, taken, grows, e))))) =
+          at_kind allowed e (wants (inr (some, p, grows)))
+
   -- where they fail, there are not enough of them
   pub items_fail : IsExact s run g → IsSoft s run → Takes g → (before : C)
       (i : Input T) (k : Kind) (t : S) (j : Input T) → i.status.cut ≡ false
@@ -139,7 +163,7 @@ module _ {S T O C : Type 0} {run : Runs S T O} {g : Grammar T O} {s : S} (into :
       fail outputs m whole each (inr (inl (all, x, below, enough, r, taken, e, back))) =
           ok_is_err e refl
       fail outputs m whole each (inr (inr (inl (l, some, below, r, few, taken, e)))) =
-          at_kind Fails e (elim (f.soft m l t j whole r) [
+          at_kind Fails e (elim (f.fails m l t j whole r) [
             | inl is ↦ inl is
             | inr is ↦
                 let Q : Kind → Type 0 = λ z. run s m (Err z) t j in
@@ -162,12 +186,18 @@ module _ {S T O C : Type 0} {run : Runs S T O} {g : Grammar T O} {s : S} (into :
           (inr (inr (inr (inr (p, some, below, r, fewer, taken, grows, e))))) =
           inl (same_kind e)
 
+-- there is no memory for an accumulator, or for the first item in it
+wants_one : {C O : Type 0} (into : Accumulator C O) (o : O) → into.start_grows None
+    ⊎ ((empty : C) × into.starts None empty × into.grows empty o) → Wants into
+wants_one into o (inl grows) = inl (None, grows)
+wants_one into o (inr (empty, starts, grows)) = inr (empty, o, grows)
+
 -- how a repetition begins: with no item taken yet, or, in the form of one or more, with one
 abbrev Begins : {S T O C : Type 0} → Runs S T O → Accumulator C O → Kind → Bounds → S → Input T
     → Answer C → S → Input T → Type 0
 Begins {S} {T} {O} {C} run into asserted bounds s i answer t j =
     ((k : Kind) × (answer ≡ Err k) × run s i (Err k) t j × (bounds.least ≡ 1))
-    ⊎ (((answer ≡ Err memory) × (t ≡ s) × (j.status.cut ≡ false))
+    ⊎ (((answer ≡ Err memory) × (t ≡ s) × (j.status.cut ≡ false) × Wants into)
     ⊎ ((empty : C) × into.starts (capacity_of bounds.least bounds.greatest) empty
     × ItemsRun run into asserted bounds empty s i answer t j))
 
@@ -179,7 +209,8 @@ module _ {S T O C : Type 0} {run : Runs S T O} {g : Grammar T O} {s : S} (into :
       → Begins run into asserted bounds s i answer t j
   one_begins c takes least greatest i answer t j is (inl (k, r, e)) = inl (k, e, r, least)
   one_begins c takes least greatest i answer t j is (inr (inr (o, r, grows, e))) =
-      let (same, still) = c.kept i (Ok o) t j is r in inr (inl (e, same, still))
+      let (same, still) = c.kept i (Ok o) t j is r in
+      inr (inl (e, same, still, wants_one into o grows))
   one_begins c takes least greatest i answer t j is
       (inr (inl (o, v, n, empty, one, r, starts, took, (outputs, u, m, chain, ends)))) =
       let P : Option ℕ → Type 0 = λ x. into.starts (capacity_of bounds.least x) empty in
@@ -234,7 +265,7 @@ module _ {S T O C : Type 0} {run : Runs S T O} {g : Grammar T O} {s : S} (into :
       let P : Option ℕ → Type 0 = λ x. IsWithin x bounds.least in
       let enough : bounds.least ≤ most = subst P full within in absurd (omega arith)
   begins c takes within i answer t j is (inr (other, inr (inl (some, grows, e, a, b)))) =
-      inr (inl (e, a, ap (λ x. x.status.cut) b ∙ is))
+      inr (inl (e, a, ap (λ x. x.status.cut) b ∙ is, inl (_, grows)))
   begins c takes within i answer t j is (inr (other, inr (inr (empty, some, starts, ran)))) =
       inr (inr (empty, starts, ran))
 
@@ -266,7 +297,7 @@ module _ {S T O C : Type 0} {run : Runs S T O} {g : Grammar T O} (into : Accumul
           → Begins run into asserted bounds s.0 i answer t j
           → (t ≡ s.0) × (j.status.cut ≡ false)
       kept i answer t j is (inl (k, e, r, one)) = c.kept i (Err k) t j is r
-      kept i answer t j is (inr (inl (e, same, still))) = (same, still)
+      kept i answer t j is (inr (inl (e, same, still, wants))) = (same, still)
       kept i answer t j is (inr (inr (empty, starts, ran))) =
           items_keep into asserted bounds c empty i answer t j is ran
 
@@ -274,7 +305,7 @@ module _ {S T O C : Type 0} {run : Runs S T O} {g : Grammar T O} (into : Accumul
           → Begins run into asserted bounds s.0 i (Ok o) t j
           → Repeated holds s.1 g i.left.tokens o j.left.tokens
       stands i o t j is (inl (k, e, r, one)) = ok_is_err refl e
-      stands i o t j is (inr (inl (e, same, still))) = ok_is_err refl e
+      stands i o t j is (inr (inl (e, same, still, wants))) = ok_is_err refl e
       stands i o t j is (inr (inr (empty, starts, ran))) =
           let (os, taken, many) =
           items_stand into asserted bounds c within empty i o t j is ran in
@@ -296,7 +327,7 @@ module _ {S T O C : Type 0} {run : Runs S T O} {g : Grammar T O} (into : Accumul
             | inr nothing ↦ inr (λ all rest (os, held, (each, enough, stops)).
                 none_of_one os rest one nothing each enough)
           ])
-      none i k t j is (inr (inl (e, same, still))) = inl (same_kind e)
+      none i k t j is (inr (inl (e, same, still, wants))) = inl (same_kind e)
       none i k t j is (inr (inr (empty, starts, ran))) =
           elim (items_fail into asserted bounds c f takes empty i k t j is ran) [
             | inl m ↦ inl m
@@ -311,24 +342,18 @@ module _ {S T O C : Type 0} {run : Runs S T O} {g : Grammar T O} (into : Accumul
 
 module _ {S T O C : Type 0} {run : Runs S T O} {g : Grammar T O} (into : Accumulator C O)
     (asserted : Kind) (s : S × Range) where
-  pub repeat_soft : IsExact s.0 run g → IsSoft s.0 run → Takes g
-      → IsWithin (bounds_of s.1).greatest (bounds_of s.1).least
-      → IsSoft s (RangedRuns run into asserted)
-  repeat_soft c f takes within = record {
-    soft = λ i k t j is (ran, same).
-        soft i k t.0 j is
+  pub repeat_fails : {allowed : Kind → Type 0} → IsExact s.0 run g → FailsBy allowed s.0 run
+      → Takes g → IsWithin (bounds_of s.1).greatest (bounds_of s.1).least
+      → (Wants into → allowed memory) → FailsBy allowed s (RangedRuns run into asserted)
+  repeat_fails {allowed} c f takes within wants = record {
+    fails = λ i k t j is (ran, same).
+        fails i k t.0 j is
         (begins into asserted (bounds_of s.1) c takes within i (Err k) t.0 j is ran);
   }
     where
-      Goal : Kind → Type 0
-      Goal x = (x ≡ memory) ⊎ (x ≡ backtrack)
-
-      soft : (i : Input T) (k : Kind) (t : S) (j : Input T) → i.status.cut ≡ false
-          → Begins run into asserted (bounds_of s.1) s.0 i (Err k) t j → Goal k
-      soft i k t j is (inl (l, e, r, one)) = at_kind Goal e (f.soft i l t j is r)
-      soft i k t j is (inr (inl (e, same, still))) = inl (same_kind e)
-      soft i k t j is (inr (inr (empty, starts, ran))) =
-          elim (items_fail into asserted (bounds_of s.1) c f takes empty i k t j is ran) [
-            | inl m ↦ inl m
-            | inr (b, few) ↦ inr b
-          ]
+      fails : (i : Input T) (k : Kind) (t : S) (j : Input T) → i.status.cut ≡ false
+          → Begins run into asserted (bounds_of s.1) s.0 i (Err k) t j → allowed k
+      fails i k t j is (inl (l, e, r, one)) = at_kind allowed e (f.fails i l t j is r)
+      fails i k t j is (inr (inl (e, same, still, wanted))) = at_kind allowed e (wants wanted)
+      fails i k t j is (inr (inr (empty, starts, ran))) =
+          items_allowed into asserted (bounds_of s.1) c f takes wants empty i k t j is ran

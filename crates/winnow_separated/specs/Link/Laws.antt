@@ -2,7 +2,7 @@
 use Rattle.std.specs.Prelude.{Ok, Err, Bool, List, ◌≡◌, ◌⊎◌, false}
 use Rattle.std.proofs.Common.{inl, inr, refl}
 use Rattle.streams.specs.Input.{Input, IsEndOf, is_end_of_trans, with_more}
-use Rattle.streams.specs.Kind.{Kind, backtrack, memory}
+use Rattle.streams.specs.Kind.{Kind, memory}
 use Rattle.streams.specs.Reading.{Reading}
 use Rattle.streams.specs.Following.{Following}
 use Rattle.winnow_core.specs.Runs.{Runs, LeaveEnds}
@@ -13,7 +13,7 @@ use Rattle.winnow_core.specs.Stable.Longer.{still_fewer}
 use Rattle.grammars.specs.Grammar.{Both, Grammar, NoneStands}
 use Rattle.grammars.specs.Grammar.Unique.{both_unique}
 use Rattle.stream_errors.specs.Form.{Answer}
-use Rattle.winnow_core.specs.Exact.{IsExact, IsSoft}
+use Rattle.winnow_core.specs.Exact.{FailsBy, IsExact}
 use Rattle.winnow_core.specs.InOrder.Exact.{none_behind}
 use Rattle.winnow_core.specs.States.{pair_is}
 
@@ -132,13 +132,15 @@ module _ {S W T O D : Type 0} {run : Runs S T O} {separator : Runs W T D} {g : G
                 inr (none_behind (λ d o. o) g b i m d (b.stands i d t.1 m is r) nothing)
           ]
 
-pub link_soft : {S W T O D : Type 0} {run : Runs S T O} {separator : Runs W T D} {h : Grammar T D}
-    {s : S × W} → IsSoft s.0 run → IsExact s.1 separator h → IsSoft s.1 separator
-    → IsSoft s (LinkRuns run separator)
-link_soft {S} {W} {T} {O} {run = run} {separator} {s = s} f b fb = record { soft = soft }
+pub link_fails : {S W T O D : Type 0} {run : Runs S T O} {separator : Runs W T D}
+    {h : Grammar T D} {s : S × W} {allowed : Kind → Type 0} → FailsBy allowed s.0 run
+    → IsExact s.1 separator h → FailsBy allowed s.1 separator
+    → FailsBy allowed s (LinkRuns run separator)
+link_fails {S} {W} {T} {O} {run = run} {separator} {s = s} {allowed} f b fb =
+    record { fails = fails }
   where
-    soft : (i : Input T) (k : Kind) (t : S × W) (j : Input T) → i.status.cut ≡ false
-        → LinkRuns run separator s i (Err k) t j → (k ≡ memory) ⊎ (k ≡ backtrack)
-    soft i k t j is (inl (r, same)) = fb.soft i k t.1 j is r
-    soft i k t j is (inr (d, m, r, fewer, x)) =
-        f.soft m k t.0 j (b.kept i (Ok d) t.1 m is r).1 x
+    fails : (i : Input T) (k : Kind) (t : S × W) (j : Input T) → i.status.cut ≡ false
+        → LinkRuns run separator s i (Err k) t j → allowed k
+    fails i k t j is (inl (r, same)) = fb.fails i k t.1 j is r
+    fails i k t j is (inr (d, m, r, fewer, x)) =
+        f.fails m k t.0 j (b.kept i (Ok d) t.1 m is r).1 x

@@ -5,7 +5,7 @@ use Rattle.std.proofs.Common.{refl, sym, ap, subst, inl, inr, ◌∙◌, arith}
 use Rattle.streams.specs.Equal.{none_is_some, same_some}
 use Rattle.streams.specs.Input.{Input}
 use Rattle.streams.specs.Kind.{Kind, backtrack, memory}
-use Rattle.stream_sets.specs.Accumulator.{Accumulator}
+use Rattle.stream_sets.specs.Accumulator.{Accumulator, Wants}
 use Rattle.stream_sets.specs.Accumulator.Holds.{Accumulates, Holds}
 use Rattle.stream_sets.specs.Range.{Bounds, IsBelow, IsWithin, bounds_of}
 use Rattle.stream_sets.specs.declared.range.Range.{Range}
@@ -15,14 +15,15 @@ use Rattle.grammars.specs.Grammar.Unique.{both_take, gathered_takes, gathered_un
 use Rattle.grammars.specs.Grammar.Unique.{parted_unique}
 use Rattle.stream_errors.specs.Form.{Answer}
 use Rattle.stream_errors.specs.Form.Known.{at_kind, ok_is_err, same_ok, same_kind}
-use Rattle.winnow_core.specs.Exact.{IsExact, IsSoft}
+use Rattle.winnow_core.specs.Exact.{FailsBy, IsExact, IsSoft}
 use Rattle.winnow_core.specs.Exact.Failed.{none_at_backtrack}
 use Rattle.winnow_core.specs.Runs.{Runs}
 use Rattle.winnow_core.specs.States.{pair_is}
 use Rattle.winnow_repeat.specs.Repeat.{ItemsRun}
-use Rattle.winnow_repeat.specs.Repeat.Exact.{chain_stands, items_fail, items_keep, items_stand}
+use Rattle.winnow_repeat.specs.Repeat.Exact.{chain_stands, items_allowed, items_fail}
+use Rattle.winnow_repeat.specs.Repeat.Exact.{items_keep, items_stand}
 use Rattle.winnow_separated.specs.Link.{LinkRuns}
-use Rattle.winnow_separated.specs.Link.Laws.{link_exact, link_soft}
+use Rattle.winnow_separated.specs.Link.Laws.{link_exact, link_fails}
 use Rattle.winnow_separated.specs.Separated.{ElementsRun, LinksRun, RangedElements, links_within}
 use Rattle.winnow_separated.specs.Separated.{one_less}
 
@@ -175,7 +176,7 @@ module _ {S W T O D C : Type 0} {run : Runs S T O} {separator : Runs W T D} {g :
   elements_fail f fb empty i k t j is (inr (inr (inl (l, below, r, kept, few, e)))) =
       let Goal : Kind → Type 0 =
       λ x. (x ≡ memory) ⊎ ((x ≡ backtrack) × NoneStands (Parted g h bounds) i.left.tokens) in
-      at_kind Goal e (elim (f.soft i l t.0 j is r) [
+      at_kind Goal e (elim (f.fails i l t.0 j is r) [
         | inl m ↦ inl m
         | inr back ↦
             let Q : Kind → Type 0 = λ z. run a i (Err z) t.0 j in
@@ -188,7 +189,7 @@ module _ {S W T O D C : Type 0} {run : Runs S T O} {separator : Runs W T D} {g :
   elements_fail f fb empty i k t j is
       (inr (inr (inr (inr (o, v, n, one, below, r, took, links))))) =
       let (same, on) = element.kept i (Ok o) v n is r in
-      elim (items_fail into asserted (links_within bounds) link (link_soft f between fb)
+      elim (items_fail into asserted (links_within bounds) link (link_fails f between fb)
       (both_take (λ d o. o) between.unique element.unique (inl takes)) one n k t j on
       (links_items one v n (Err k) t j on same links)) [
         | inl m ↦ inl m
@@ -198,6 +199,26 @@ module _ {S W T O D C : Type 0} {run : Runs S T O} {separator : Runs W T D} {g :
               too_few i.left.tokens n.left.tokens o (element.stands i o v n is r) few,
             )
       ]
+
+  -- they fail as the elements and the separators do, or for want of memory
+  elements_allowed : {allowed : Kind → Type 0} → FailsBy allowed a run
+      → FailsBy allowed b separator → (Wants into → allowed memory) → (empty : C) (i : Input T)
+      (k : Kind) (t : S × W) (j : Input T) → i.status.cut ≡ false
+      → ElementsRun run separator into asserted bounds empty (a, b) i (Err k) t j → allowed k
+  elements_allowed f fb wants empty i k t j is (inl (full, e, same, back)) = ok_is_err e refl
+  elements_allowed f fb wants empty i k t j is
+      (inr (inl (x, below, least, r, kept, e, back))) = ok_is_err e refl
+  elements_allowed {allowed} f fb wants empty i k t j is
+      (inr (inr (inl (l, below, r, kept, few, e)))) = at_kind allowed e (f.fails i l t.0 j is r)
+  elements_allowed {allowed} f fb wants empty i k t j is
+      (inr (inr (inr (inl (o, below, r, kept, grows, e))))) =
+      at_kind allowed e (wants (inr (empty, o, grows)))
+  elements_allowed f fb wants empty i k t j is
+      (inr (inr (inr (inr (o, v, n, one, below, r, took, links))))) =
+      let (same, on) = element.kept i (Ok o) v n is r in
+      items_allowed into asserted (links_within bounds) link (link_fails f between fb)
+      (both_take (λ d o. o) between.unique element.unique (inl takes)) wants one n k t j on
+      (links_items one v n (Err k) t j on same links)
 
 -- triples of which the parts are the same
 triple_is : {A B X : Type 0} {t s : A × B × X} → t.0 ≡ s.0 → t.1 ≡ s.1 → t.2 ≡ s.2 → t ≡ s
@@ -239,15 +260,23 @@ module _ {S W T O D C : Type 0} {run : Runs S T O} {separator : Runs W T D} {g :
       elements_fail into asserted (bounds_of s.2) element between takes f fb empty i k (t.0, t.1) j
       is ran
 
-  pub separated_soft : IsSoft s.0 run → IsSoft s.1 separator
+  pub separated_fails : {allowed : Kind → Type 0} → FailsBy allowed s.0 run
+      → FailsBy allowed s.1 separator → (Wants into → allowed memory)
       → IsWithin (bounds_of s.2).greatest (bounds_of s.2).least
-      → IsSoft s (RangedElements run separator into asserted)
-  separated_soft f fb within = record {
-    soft = λ i k t j is ran. elim (fail_all f fb within i k t j is ran) [
-      | inl m ↦ inl m
-      | inr (back, nothing) ↦ inr back
-    ];
-  }
+      → FailsBy allowed s (RangedElements run separator into asserted)
+  separated_fails {allowed} f fb wants within = record { fails = fails }
+    where
+      fails : (i : Input T) (k : Kind) (t : S × W × Range) (j : Input T) → i.status.cut ≡ false
+          → RangedElements run separator into asserted s i (Err k) t j → allowed k
+      fails i k t j is (inl (most, full, below, e, same, all), range) =
+          let P : Option ℕ → Type 0 = λ x. IsWithin x (bounds_of s.2).least in
+          let enough : (bounds_of s.2).least ≤ most = subst P full within in
+          absurd (omega (arith, enough, below))
+      fails i k t j is (inr (inl (bounded, grows, e, same, all)), range) =
+          at_kind allowed e (wants (inl (_, grows)))
+      fails i k t j is (inr (inr (empty, bounded, starts, ran)), range) =
+          elements_allowed into asserted (bounds_of s.2) element between takes f fb wants empty i k
+          (t.0, t.1) j is ran
 
   pub separated_exact : (holds : C → List O → Type 0) → Holds into holds → IsSoft s.0 run
       → IsSoft s.1 separator → IsWithin (bounds_of s.2).greatest (bounds_of s.2).least

@@ -1,10 +1,10 @@
 -- What a caller knows of one run of the parser of one token that answered.
-use Rattle.std.specs.Prelude.{◌≡◌, false, [], ◌∷◌, Some, Result, Ok, Err, IfOk}
+use Rattle.std.specs.Prelude.{◌≡◌, false, [], ◌∷◌, Some, Ok, Err}
 use Rattle.std.proofs.Common.{refl, sym, subst, ◌∙◌, inl, inr}
 use Rattle.streams.specs.Input.{Input, Passes}
 use Rattle.streams.specs.Kind.{Kind, backtrack}
 use Rattle.streams.specs.Reading.{Reading}
-use Rattle.stream_errors.specs.Form.{ErrorForm, answer_by}
+use Rattle.stream_errors.specs.Form.{ErrorForm}
 use Rattle.stream_errors.specs.Form.Known.{ok_is_err, same_err, same_ok}
 use Rattle.winnow_core.specs.Short.Known.{short_whole}
 use Rattle.winnow_token.specs.Any.{AnyRuns, NoTokenRuns}
@@ -39,14 +39,3 @@ pub any_err : {K T S : Type 0} (seen : K → T) (reading : Reading T S) (form : 
     → AnyRuns seen reading form i (Err k) j → NoToken i k j
 any_err seen reading form i k j whole (inl (y, passes, e)) = ok_is_err e refl
 any_err {K} seen reading form i k j whole (inr none) = no_token {O = K} form i k j whole none
-
--- so what is said of the first token is said where a call answers one
-pub any_told : {K T S E : Type 0} (kind : E → Kind) (seen : K → T) (reading : Reading T S)
-    (form : ErrorForm) (i j : Input T) (P : K → Type 0) (result : Result K E)
-    → AnyRuns seen reading form i (answer_by kind result) j
-    → ((x : K) → Passes reading (seen x ∷ []) i j → P x) → IfOk result P
-any_told kind seen reading form i j P (Ok x) ran told =
-    told x (any_ok seen reading form i x j ran)
-any_told kind seen reading form i j P (Err e) ran told = tt
-
-pub ruleset known_tokens = (any_ok, any_err, any_told, no_token)

@@ -16,12 +16,12 @@ use Rattle.winnow_core.specs.Stable.Grows.{final_by, Stays}
 use Rattle.streams.specs.Equal.{same_first, true_is_false}
 use Rattle.streams.specs.Kind.{Kind, backtrack, memory}
 use Rattle.winnow_core.specs.Decided.{AlikeAnswers, IsDecided}
-use Rattle.winnow_core.specs.Decided.Inputs.{both_err, both_ok, same_passed}
+use Rattle.winnow_core.specs.Decided.Inputs.{one_short, both_err, both_ok, same_passed}
 use Rattle.winnow_core.specs.Short.{ShortKind}
 use Rattle.grammars.specs.Grammar.{NoneStands, Takes, Token}
 use Rattle.grammars.specs.Grammar.Unique.{token_unique}
 use Rattle.stream_errors.specs.Form.Known.{ok_is_err, same_ok, same_kind}
-use Rattle.winnow_core.specs.Exact.{IsExact, IsSoft}
+use Rattle.winnow_core.specs.Exact.{Backtracks, IsExact}
 use Rattle.winnow_core.specs.Exact.Failed.{short_backtracks}
 
 -- it leaves an end
@@ -88,14 +88,14 @@ module _ {K T L : Type 0} (seen : K → T) (reading : Reading T L) (form : Error
       none i k j (inl (x, passes, e)) = ok_is_err e refl
       none i k j (inr (l, nothing, short, e, same)) = λ o rest f. first_of_none nothing f
 
-  pub any_soft : IsSoft tt (Keeps (λ (_ : ⊤). AnyRuns seen reading form))
-  any_soft = record { soft = λ i k t j is (r, kept). soft i k j is r }
+  pub any_fails : Backtracks tt (Keeps (λ (_ : ⊤). AnyRuns seen reading form))
+  any_fails = record { fails = λ i k t j is (r, kept). fails i k j is r }
     where
-      soft : (i : Input T) (k : Kind) (j : Input T) → i.status.cut ≡ false
-          → AnyRuns seen reading form i (Err k) j → (k ≡ memory) ⊎ (k ≡ backtrack)
-      soft i k j is (inl (x, passes, e)) = ok_is_err e refl
-      soft i k j is (inr (l, nothing, short, e, same)) =
-          inr (same_kind e ∙ short_backtracks form (Some 1) i l is short)
+      fails : (i : Input T) (k : Kind) (j : Input T) → i.status.cut ≡ false
+          → AnyRuns seen reading form i (Err k) j → k ≡ backtrack
+      fails i k j is (inl (x, passes, e)) = ok_is_err e refl
+      fails i k j is (inr (l, nothing, short, e, same)) =
+          same_kind e ∙ short_backtracks form (Some 1) i l is short
 
 pub token_takes : {K T : Type 0} (seen : K → T) → Takes (Token seen)
 unfolding Token
@@ -106,14 +106,6 @@ token_takes seen = record { fewer = λ tokens k rest e. omega (arith, ap (λ l. 
 -- Tokens that are seen as the same.
 abbrev pub SeenSame : {K T : Type 0} → (K → T) → K → K → Type 0
 SeenSame seen k l = seen k ≡ seen l
-
--- the kind of an error for want of more input is one
-pub one_short : {T : Type 0} (form : ErrorForm) (need : Option ℕ) (i : Input T) (k l : Kind)
-    → ShortKind form need i k → ShortKind form need i l → k ≡ l
-one_short form need i k l (inl (cut, e)) (inl (cut2, f)) = e ∙ sym f
-one_short form need i k l (inl (cut, e)) (inr (whole, f)) = true_is_false (sym cut ∙ whole)
-one_short form need i k l (inr (whole, e)) (inl (cut, f)) = true_is_false (sym cut ∙ whole)
-one_short form need i k l (inr (whole, e)) (inr (whole2, f)) = e ∙ sym f
 
 module _ {K T L : Type 0} (seen : K → T) (reading : Reading T L) (form : ErrorForm) where
   -- two first tokens that are taken

@@ -23,7 +23,7 @@ use Rattle.streams.specs.Kind.{Kind, backtrack, memory}
 use Rattle.grammars.specs.Grammar.{NoneStands, Takes, TokenOf}
 use Rattle.grammars.specs.Grammar.Unique.{token_of_unique}
 use Rattle.stream_errors.specs.Form.Known.{ok_is_err, same_ok, same_kind}
-use Rattle.winnow_core.specs.Exact.{IsExact, IsSoft}
+use Rattle.winnow_core.specs.Exact.{Backtracks, IsExact}
 use Rattle.winnow_core.specs.Exact.Failed.{short_backtracks}
 
 -- it leaves an end
@@ -139,15 +139,15 @@ module _ {X K T L : Type 0} (seen : K → T) (reading : Reading T L) (form : Err
       none i k j (inr (inr (l, nothing, short, e, same))) =
           λ y more (has, f). first_of_none nothing f
 
-  pub one_of_soft : IsSoft set (Keeps (λ x. OneOfRuns seen reading form (tells x)))
-  one_of_soft = record { soft = λ i k t j is (r, kept). soft i k j is r }
+  pub one_of_fails : Backtracks set (Keeps (λ x. OneOfRuns seen reading form (tells x)))
+  one_of_fails = record { fails = λ i k t j is (r, kept). fails i k j is r }
     where
-      soft : (i : Input T) (k : Kind) (j : Input T) → i.status.cut ≡ false
-          → OneOfRuns seen reading form (tells set) i (Err k) j → (k ≡ memory) ⊎ (k ≡ backtrack)
-      soft i k j is (inl (x, passes, has, e)) = ok_is_err e refl
-      soft i k j is (inr (inl (x, rest, was, lacks, e, same))) = inr (same_kind e)
-      soft i k j is (inr (inr (l, nothing, short, e, same))) =
-          inr (same_kind e ∙ short_backtracks form (Some 1) i l is short)
+      fails : (i : Input T) (k : Kind) (j : Input T) → i.status.cut ≡ false
+          → OneOfRuns seen reading form (tells set) i (Err k) j → k ≡ backtrack
+      fails i k j is (inl (x, passes, has, e)) = ok_is_err e refl
+      fails i k j is (inr (inl (x, rest, was, lacks, e, same))) = same_kind e
+      fails i k j is (inr (inr (l, nothing, short, e, same))) =
+          same_kind e ∙ short_backtracks form (Some 1) i l is short
 
 pub token_of_takes : {X K T : Type 0} (seen : K → T) (tells : X → K → Bool → Type 0) (set : X)
     → Takes (TokenOf seen tells set)

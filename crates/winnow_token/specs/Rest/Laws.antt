@@ -11,7 +11,7 @@ use Rattle.std.proofs.Common.{refl, sym, ap, subst, ◌∙◌}
 use Rattle.std.proofs.lemmas.List.{append-nil}
 use Rattle.grammars.specs.Grammar.{AllTokens, UnitsLeft}
 use Rattle.stream_errors.specs.Form.Known.{ok_is_err, same_ok}
-use Rattle.winnow_core.specs.Exact.{IsExact, IsSoft}
+use Rattle.winnow_core.specs.Exact.{Backtracks, IsExact}
 
 -- it leaves an end
 pub rest_ends : {T L : Type 0} (reading : Reading T L) (i : Input T) (answer : Answer L)
@@ -47,9 +47,9 @@ module _ {T L : Type 0} (reading : Reading T L) where
     };
   }
 
-  pub rest_soft : IsSoft tt (Keeps (λ (_ : ⊤). RestRuns reading))
-  rest_soft = record {
-    soft = λ i k t j is ((slice, takes, nothing, e), same). ok_is_err e refl;
+  pub rest_fails : Backtracks tt (Keeps (λ (_ : ⊤). RestRuns reading))
+  rest_fails = record {
+    fails = λ i k t j is ((slice, takes, nothing, e), same). ok_is_err e refl;
   }
 
   pub rest_len_exact : IsExact tt (Keeps (λ (_ : ⊤). RestLenRuns reading)) (UnitsLeft reading)
@@ -64,5 +64,5 @@ module _ {T L : Type 0} (reading : Reading T L) where
     };
   }
 
-  pub rest_len_soft : IsSoft tt (Keeps (λ (_ : ⊤). RestLenRuns reading))
-  rest_len_soft = record { soft = λ i k t j is ((e, back), same). ok_is_err e refl }
+  pub rest_len_fails : Backtracks tt (Keeps (λ (_ : ⊤). RestLenRuns reading))
+  rest_len_fails = record { fails = λ i k t j is ((e, back), same). ok_is_err e refl }

@@ -13,14 +13,13 @@ use Rattle.winnow_core.specs.Stable.Longer.{takes_more, short_final}
 use Rattle.winnow_core.specs.Stable.Grows.{Stays, final_by}
 use Rattle.winnow_core.specs.Decided.{AlikeAnswers, IsDecided}
 use Rattle.winnow_core.specs.Decided.Adapters.{as_long_front}
-use Rattle.winnow_core.specs.Decided.Inputs.{both_err, both_ok, same_passed}
+use Rattle.winnow_core.specs.Decided.Inputs.{both_err, both_ok, same_passed, one_short}
 use Rattle.winnow_core.specs.Literal.Laws.{ShowSame}
-use Rattle.winnow_token.specs.Any.Laws.{one_short}
 use Rattle.streams.specs.Equal.{same_others}
 use Rattle.streams.specs.Kind.{Kind, backtrack, memory}
 use Rattle.grammars.specs.Grammar.{Counted, NoneStands, Takes as TakesSome}
 use Rattle.stream_errors.specs.Form.Known.{ok_is_err, same_ok, same_kind}
-use Rattle.winnow_core.specs.Exact.{IsExact, IsSoft}
+use Rattle.winnow_core.specs.Exact.{Backtracks, IsExact}
 use Rattle.winnow_core.specs.Exact.Failed.{short_backtracks}
 
 -- they leave an end
@@ -132,14 +131,14 @@ module _ {T L : Type 0} (reading : Reading T L) (form : ErrorForm) (counts : Boo
       none i k j (inr (l, few, short, e, same)) = λ o rest (front, many, shown, f). absurd
           (omega (arith, ap (λ l. length l) f, length-append front rest, many, few))
 
-  pub take_soft : IsSoft n (Keeps (λ x. TakeRuns reading form counts x))
-  take_soft = record { soft = λ i k t j is (r, kept). soft i k j is r }
+  pub take_fails : Backtracks n (Keeps (λ x. TakeRuns reading form counts x))
+  take_fails = record { fails = λ i k t j is (r, kept). fails i k j is r }
     where
-      soft : (i : Input T) (k : Kind) (j : Input T) → i.status.cut ≡ false
-          → TakeRuns reading form counts n i (Err k) j → (k ≡ memory) ⊎ (k ≡ backtrack)
-      soft i k j is (inl (front, slice, many, takes, e)) = ok_is_err e refl
-      soft i k j is (inr (l, few, short, e, same)) =
-          inr (same_kind e ∙ short_backtracks form _ i l is short)
+      fails : (i : Input T) (k : Kind) (j : Input T) → i.status.cut ≡ false
+          → TakeRuns reading form counts n i (Err k) j → k ≡ backtrack
+      fails i k j is (inl (front, slice, many, takes, e)) = ok_is_err e refl
+      fails i k j is (inr (l, few, short, e, same)) =
+          same_kind e ∙ short_backtracks form _ i l is short
 
 pub counted_takes : {T L : Type 0} (reading : Reading T L) (n : ℕ) → 0 < n
     → TakesSome (Counted reading n)

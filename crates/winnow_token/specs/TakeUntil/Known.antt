@@ -4,7 +4,7 @@ use Rattle.std.specs.Prelude.{Option, None, Ok, Err, false}
 use Rattle.std.specs.List.{All}
 use Rattle.std.proofs.Common.{refl, sym, ap, subst, ◌∙◌, inl, inr, arith}
 use Rattle.std.proofs.lemmas.List.Elements.{All-cons, All-nil, All-weaker}
-use Rattle.streams.specs.Equal.{none_is_some, same_first, same_rest}
+use Rattle.streams.specs.Equal.{none_is_some, same_rest}
 use Rattle.streams.specs.Input.{Input, Takes}
 use Rattle.streams.specs.Kind.{Kind, backtrack}
 use Rattle.streams.specs.Reading.{Reading}
@@ -15,7 +15,6 @@ use Rattle.stream_errors.specs.Form.{ErrorForm}
 use Rattle.stream_errors.specs.Form.Known.{ok_is_err, same_err, same_ok}
 use Rattle.winnow_core.specs.Short.Known.{short_whole}
 use Rattle.winnow_token.specs.TakeUntil.{TakeUntilRuns}
-use Rattle.winnow_token.specs.TakeWhile.Known.{same_front}
 
 -- nothing that is sought stands in the tokens
 abbrev pub StandsNowhere : {T : Type 0} → (List T → Type 0) → List T → Type 0
@@ -115,21 +114,6 @@ nothing_stands reading sought i k j none =
     elim none.why
     [ inl nowhere ↦ nowhere | inr (start, end, m, few) ↦ absurd (omega (arith, few)) ]
 
--- as it does too where the input is not known to be whole
-pub nowhere_before : {T S : Type 0} (reading : Reading T S) (form : ErrorForm)
-    (sought : List T → Type 0) (i : Input T) (k : Kind) (j : Input T)
-    → TakeUntilRuns reading form sought (from_to 0 None) i (Err k) j
-    → StandsNowhere sought i.left.tokens
-nowhere_before reading form sought i k j (inl (most, is, below, e, same)) = none_is_some is
-nowhere_before reading form sought i k j (inr (inl (k', within, nowhere, kind, e, same))) = nowhere
-nowhere_before reading form sought i k j
-    (inr (inr (inl (start, end, m, s, enough, within, takes, e)))) = ok_is_err e refl
-nowhere_before reading form sought i k j
-    (inr (inr (inr (inl (start, end, m, k', within, few, why, e, same))))) =
-    absurd (omega (arith, few))
-nowhere_before reading form sought i k j
-    (inr (inr (inr (inr (start, end, m, most, is, le, many, e, same))))) = none_is_some is
-
 -- where one token is sought, none of those that were taken is one
 pub none_taken : {T S : Type 0} (reading : Reading T S) (sought : List T → Type 0)
     (taken rest : List T)
@@ -202,24 +186,3 @@ nothing_before_by reading form sought range least i k j e few whole ran =
     λ g. TakeUntilRuns reading form sought (from_to least g) i (Err k) j in
     nothing_before reading form sought least i k j whole
     (subst Q (sym (greatest_of-few least few)) (subst P e ran))
-
-pub ruleset known_searches = (
-  took_before,
-  nothing_before,
-  nothing_stands,
-  nowhere_before,
-  none_taken,
-  none_there,
-  before_all,
-  there_all,
-)
-
--- ---- takes up to one token as parts of what a composition reads
-
--- tokens without the mark, before one, are what stands before the first
-same_before : {T : Type 0} (mark : T) (front rest taken left more : List T)
-    → All (λ t. t ≡ mark → ⊥) front → All (λ t. t ≡ mark → ⊥) taken → left ≡ mark ∷ more
-    → front ++ mark ∷ rest ≡ taken ++ left → front ≡ taken
-same_before mark front rest taken left more all all_taken is same =
-    same_front (λ t. t ≡ mark → ⊥) front taken mark rest left all (λ h. h refl) all_taken
-    (λ y others e other. other (same_first (sym e ∙ is))) same

@@ -23,7 +23,7 @@ use Rattle.grammars.specs.Grammar.Searches.{Before, IsBefore}
 use Rattle.grammars.specs.Grammar.Searches.Unique.{as_long, before_unique, match_before}
 use Rattle.grammars.specs.Grammar.Searches.Unique.{stands_behind}
 use Rattle.stream_errors.specs.Form.Known.{ok_is_err, same_ok, same_kind}
-use Rattle.winnow_core.specs.Exact.{IsExact, IsSoft}
+use Rattle.winnow_core.specs.Exact.{Backtracks, IsExact}
 use Rattle.winnow_core.specs.Exact.Failed.{short_backtracks}
 
 -- they leave an end
@@ -227,22 +227,23 @@ module _ {X T L : Type 0} (reading : Reading T L) (form : ErrorForm)
           let long = as_long before (found_before m).1 in
           absurd (omega (arith, long, many, within_is e fits))
 
-  pub take_until_soft : IsSoft x (Keeps (λ y. TakeUntilRuns reading form (sought y) (bounds y)))
-  take_until_soft = record { soft = λ i k t j is (r, kept). soft i k j is r }
+  pub take_until_fails : Backtracks x
+      (Keeps (λ y. TakeUntilRuns reading form (sought y) (bounds y)))
+  take_until_fails = record { fails = λ i k t j is (r, kept). fails i k j is r }
     where
-      soft : (i : Input T) (k : Kind) (j : Input T) → i.status.cut ≡ false
+      fails : (i : Input T) (k : Kind) (j : Input T) → i.status.cut ≡ false
           → TakeUntilRuns reading form (sought x) (bounds x) i (Err k) j
-          → (k ≡ memory) ⊎ (k ≡ backtrack)
-      soft i k j is (inl (most, e, below, a, same)) = not_below most e below
-      soft i k j is (inr (inl (l, within, nowhere, short, a, same))) =
-          inr (same_kind a ∙ short_backtracks form None i l is short)
-      soft i k j is (inr (inr (inl (start, end, m, slice, enough, within, takes, a)))) =
+          → k ≡ backtrack
+      fails i k j is (inl (most, e, below, a, same)) = not_below most e below
+      fails i k j is (inr (inl (l, within, nowhere, short, a, same))) =
+          same_kind a ∙ short_backtracks form None i l is short
+      fails i k j is (inr (inr (inl (start, end, m, slice, enough, within, takes, a)))) =
           ok_is_err a refl
-      soft i k j is
+      fails i k j is
           (inr (inr (inr (inl (start, end, m, l, within, few, inl (none, back), a, same))))) =
-          inr (same_kind a ∙ back)
-      soft i k j is
+          same_kind a ∙ back
+      fails i k j is
           (inr (inr (inr (inl (start, end, m, l, within, few, inr (most, e, short), a, same))))) =
-          inr (same_kind a ∙ short_backtracks form None i l is short)
-      soft i k j is (inr (inr (inr (inr (start, end, m, most, e, le, many, a, same))))) =
-          inr (same_kind a)
+          same_kind a ∙ short_backtracks form None i l is short
+      fails i k j is (inr (inr (inr (inr (start, end, m, most, e, le, many, a, same))))) =
+          same_kind a

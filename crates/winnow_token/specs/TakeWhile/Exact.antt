@@ -13,7 +13,7 @@ use Rattle.stream_sets.specs.Range.{Bounds, IsWithin}
 use Rattle.grammars.specs.Grammar.{IsUnique, Longest, NoneStands, Takes}
 use Rattle.stream_errors.specs.Form.{Answer, ErrorForm}
 use Rattle.stream_errors.specs.Form.Known.{ok_is_err, same_ok, same_kind}
-use Rattle.winnow_core.specs.Exact.{IsExact, IsSoft}
+use Rattle.winnow_core.specs.Exact.{Backtracks, IsExact}
 use Rattle.winnow_core.specs.Runs.{Keeps}
 use Rattle.winnow_token.specs.TakeWhile.{TakeWhileRuns}
 
@@ -101,20 +101,20 @@ module _ {X S K T L : Type 0} (reading : Reading T L) (form : ErrorForm) (seen :
           too in
           absurd (omega (arith, as_many front g longest.splits too.splits left, few, enough))
 
-  pub take_while_soft : IsSoft x (Keeps (λ y. TakeWhileRuns reading form
+  pub take_while_fails : Backtracks x (Keeps (λ y. TakeWhileRuns reading form
       (AnswersSeen seen (tells (set y))) (bounds y)))
-  take_while_soft = record { soft = λ i k t j is (r, kept). soft i k j is r }
+  take_while_fails = record { fails = λ i k t j is (r, kept). fails i k j is r }
     where
-      soft : (i : Input T) (k : Kind) (j : Input T) → i.status.cut ≡ false
+      fails : (i : Input T) (k : Kind) (j : Input T) → i.status.cut ≡ false
           → TakeWhileRuns reading form (AnswersSeen seen (tells (set x))) (bounds x) i (Err k) j
-          → (k ≡ memory) ⊎ (k ≡ backtrack)
-      soft i k j is (inl (most, e, below, a, same)) = not_below most e below
-      soft i k j is (inr (inl (within, more, cut, a, same))) = true_is_false (sym cut ∙ is)
-      soft i k j is
+          → k ≡ backtrack
+      fails i k j is (inl (most, e, below, a, same)) = not_below most e below
+      fails i k j is (inr (inl (within, more, cut, a, same))) = true_is_false (sym cut ∙ is)
+      fails i k j is
           (inr (inr (inl (front, rest, slice, within, longest, ended, enough, takes, a)))) =
           ok_is_err a refl
-      soft i k j is (inr (inr (inr (front, rest, within, longest, ended, few, a, same)))) =
-          inr (same_kind a)
+      fails i k j is (inr (inr (inr (front, rest, within, longest, ended, few, a, same)))) =
+          same_kind a
 
 -- where one is the least, or more, tokens are taken
 pub longest_takes : {S K T L : Type 0} (reading : Reading T L) (seen : K → T)

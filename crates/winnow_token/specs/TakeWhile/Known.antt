@@ -1,6 +1,6 @@
 -- What a caller knows of one run of a take of members that answered.
 use Rattle.std.specs.Prelude.{◌≡◌, ◌<◌, ◌≤◌, ℕ, Bool, true, false, List, [], ◌∷◌, ◌++◌, length}
-use Rattle.std.specs.Prelude.{Option, None, Result, Ok, Err, IfOk, IsTrue, ◌⊎◌, ◌↔◌}
+use Rattle.std.specs.Prelude.{Option, None, Ok, Err, IsTrue, ◌⊎◌, ◌↔◌}
 use Rattle.std.specs.Borrow.{Bor}
 use Rattle.std.specs.List.{All}
 use Rattle.std.proofs.Common.{refl, sym, ap, subst, ◌∙◌, inl, inr, arith}
@@ -14,7 +14,7 @@ use Rattle.streams.specs.Reading.{Reading}
 use Rattle.streams.specs.Stream.{AnswersSeen}
 use Rattle.stream_sets.specs.Range.{IsWithin, bounds_of, from_to, greatest_of}
 use Rattle.stream_sets.specs.declared.range.Range.{Range}
-use Rattle.stream_errors.specs.Form.{Answer, ErrorForm, answer_by}
+use Rattle.stream_errors.specs.Form.{Answer, ErrorForm}
 use Rattle.stream_errors.specs.Form.Known.{ok_is_err, same_err, same_ok}
 use Rattle.winnow_core.specs.Reads.{MustLeave, Reads}
 use Rattle.winnow_core.specs.Runs.{Keeps, Runs}
@@ -69,17 +69,6 @@ took_counted {T} form member least greatest i slice j ran =
     let (taken, takes, all) = took counted_reading form member least greatest i slice j ran in
     let P : List T → Type 0 = λ l. Took member least greatest i l j in
     subst P (sym takes.shown) all
-
--- so what is said of the tokens that were taken is said of the slice that a call answers
-pub took_told : {T E : Type 0} (kind : E → Kind) (form : ErrorForm) (member : T → Bool → Type 0)
-    (least : ℕ) (greatest : Option ℕ) (i j : Input T) (P : Bor (List T) → Type 0)
-    (result : Result (Bor (List T)) E)
-    → TakeWhileRuns counted_reading form member (from_to least greatest) i (answer_by kind result) j
-    → ((slice : Bor (List T)) → Took member least greatest i slice.now j → P slice)
-    → IfOk result P
-took_told kind form member least greatest i j P (Ok slice) ran told =
-    told slice (took_counted form member least greatest i slice j ran)
-took_told kind form member least greatest i j P (Err e) ran told = tt
 
 -- A take of a whole input that failed: it stays, and too few members stand first.
 pub record TooFew {T : Type 0} (member : T → Bool → Type 0) (least : ℕ) (greatest : Option ℕ)
@@ -180,19 +169,6 @@ none_first {T} Q member i k j other none x more e =
         [ inl stranger ↦ other x stranger | inr full ↦ none_is_some full ]
     at_first (y ∷ ys) short splits = absurd (omega (arith, short))
 
-pub ruleset known_takes = (
-  took,
-  took_counted,
-  took_told,
-  too_few,
-  by_range,
-  took_by,
-  too_few_by,
-  took_all,
-  took_stops,
-  none_first,
-)
-
 -- ---- what a run must answer, where it is known how the input begins
 
 -- A set by its members: what is told true is of P, and what is told false is not.
@@ -222,15 +198,6 @@ same_front P (z ∷ xs) (y ∷ ys) x more rest a not_p b stops e =
     ap (λ w. w ∷ xs) (same_first e)
     ∙ ap (λ l. y ∷ l) (same_front P xs ys x more rest (All-tail P z xs a) not_p (All-tail P y ys b)
     stops (same_others e))
-
--- and so is what stands behind it
-pub same_behind : {X : Type 0} (P : X → Type 0) (xs ys : List X) (x : X) (more rest : List X)
-    → All P xs → (P x → ⊥) → All P ys
-    → ((y : X) (others : List X) → rest ≡ y ∷ others → P y → ⊥)
-    → xs ++ x ∷ more ≡ ys ++ rest → rest ≡ x ∷ more
-same_behind P xs ys x more rest a not_p b stops e =
-    let same = same_front P xs ys x more rest a not_p b stops e in
-    sym (same_rest xs (x ∷ more) rest (e ∙ ap (λ l. l ++ rest) (sym same)))
 
 in_middle : {X : Type 0} (P : X → Type 0) (xs : List X) (y : X) (ys : List X)
     → All P (xs ++ y ∷ ys) → P y

@@ -2,8 +2,11 @@ use Rattle.std.proofs.Common.{rules}
 use Rattle.winnow.specs.Read.{reads_by}
 use Rattle.json_reader.proofs.number.number.Goals as goal
 
-pub returns : goal.returns
-returns g c = reads_by c.read.ensures.reads (rw (
+pub returns-clause-spared : goal.returns-clause-spared
+returns-clause-spared g c = c.read.ensures.spared (search rules)
+
+pub returns-clause-reads : goal.returns-clause-reads
+returns-clause-reads g c = reads_by c.read.ensures.reads (rw (
   c.take-3.ensures,
   c.opt-2.ensures,
   c.alt-whole.ensures,

@@ -5,7 +5,10 @@ use Rattle.winnow.specs.Told.{text_told}
 use Rattle.json_reader.proofs.number.read_number.Goals as goal
 
 pub returns-clause-grammar : goal.returns-clause-grammar
-returns-clause-grammar c = reads_as number_same c.number.ensures
+returns-clause-grammar c = reads_as number_same c.number.ensures.reads
 
 pub returns-clause-text : goal.returns-clause-text
-returns-clause-text c = text_told number_of (reads_as number_same c.number.ensures)
+returns-clause-text c = text_told number_of (reads_as number_same c.number.ensures.reads)
+
+pub returns-clause-spared : goal.returns-clause-spared
+returns-clause-spared c = c.number.ensures.spared

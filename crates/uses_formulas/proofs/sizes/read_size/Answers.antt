@@ -1,7 +1,7 @@
 use Rattle.std.proofs.Common.{◌≡◌, ◌∙◌, ap, inl, inr, pos, rules}
 use Rattle.winnow.specs.Expression.{infix_of, postfix_of}
 use Rattle.winnow.specs.Premises.Laws.{fail_plain, keeps_stateless}
-use Rattle.uses_formulas.specs.Decided.{stateless_wider}
+use Rattle.winnow.specs.Premises.Decided.{stateless_wider}
 use Rattle.uses_formulas.specs.Sizes.{SizeStates, exact_at, marks_of, same_signs, same_units}
 use Rattle.uses_formulas.specs.Sizes.{sign_marks, unit_marks}
 use Rattle.uses_formulas.proofs.sizes.read_size.Goals as goal

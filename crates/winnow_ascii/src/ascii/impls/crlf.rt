@@ -4,7 +4,9 @@ ghost use Rattle.grammars.specs.Grammar.{SpelledBy};
 ghost use Rattle.grammars.specs.Grammar.Searches.{Text};
 ghost use Rattle.grammars.specs.Grammar.Unique.{literally_takes};
 ghost use Rattle.winnow_core.specs.Agrees.{agrees_plain};
-ghost use Rattle.winnow_core.specs.Literal.Laws.{SpellsByText, text_exact, text_soft};
+ghost use Rattle.winnow_core.specs.Exact.Allowed.{backs};
+ghost use Rattle.winnow_core.specs.Literal.Laws.{ShowSame, text_decided};
+ghost use Rattle.winnow_core.specs.Literal.Laws.{SpellsByText, text_exact, text_fails};
 ghost use Rattle.winnow_core.specs.Runs.{Keeps};
 ghost use Rattle.winnow_core.specs.Stable.Grows.{leaf_stays};
 ghost use Rattle.winnow_ascii.specs.Crlf.{CrlfRuns};
@@ -38,10 +40,11 @@ impl<I: StreamIsPartial + Compare<&'static str>, E: ParserError<I>> Parser<I, I:
     ghost claim = { λ s. record {
       premise = SpellsByText I.spells;
       backtracks = ⊤;
+      spares_memory = ⊤;
       consumes = SpelledBy I.spells (13 ∷ 10 ∷ []) [] → ⊥;
       grammar = Text I.reading I.spells (13 ∷ 10 ∷ []);
-      decides = ⊥;
-      alike = λ o p. o ≡ p;
+      decides = SpellsByText I.spells;
+      alike = ShowSame I.reading;
     } };
 
     ghost leaves_ends = { λ form x i answer y j r. crlf_ends I.spells I.reading form i answer j
@@ -49,10 +52,11 @@ impl<I: StreamIsPartial + Compare<&'static str>, E: ParserError<I>> Parser<I, I:
 
     ghost claimed = { λ s. record {
       exact = λ form is. text_exact I.reading form I.spells is I.same_units (13 ∷ 10 ∷ []);
-      soft = λ form is soft. text_soft I.reading form I.spells is I.same_units (13 ∷ 10 ∷ []);
+      fails = λ form is. backs (text_fails I.reading form I.spells is I.same_units (13 ∷ 10 ∷ []));
       takes = λ is some. literally_takes I.reading (SpelledBy I.spells) (λ _ slice. slice)
           (13 ∷ 10 ∷ []) some;
-      decided = λ form never. absurd never;
+      decided = λ form is. text_decided I.reading form I.spells is I.same_units
+          (13 ∷ 10 ∷ []);
     } };
 
     #[inline(always)]

@@ -3,12 +3,15 @@ ghost use Rattle.std.specs.Prelude.{⊤, ◌<◌, ◌∷◌, [], ◌≡◌};
 ghost use Rattle.grammars.specs.Grammar.{SpelledBy};
 ghost use Rattle.grammars.specs.Grammar.Searches.{LineEnd};
 ghost use Rattle.grammars.specs.Grammar.Unique.{either_takes, literally_takes};
+ghost use Rattle.winnow_ascii.specs.LineEnding.Laws.{line_ending_decided};
 ghost use Rattle.winnow_core.specs.Agrees.{agrees_plain};
+ghost use Rattle.winnow_core.specs.Exact.Allowed.{backs};
+ghost use Rattle.winnow_core.specs.Literal.Laws.{ShowSame};
 ghost use Rattle.winnow_core.specs.Literal.Laws.{SpellsByText};
 ghost use Rattle.winnow_core.specs.Runs.{Keeps};
 ghost use Rattle.winnow_core.specs.Stable.Grows.{leaf_stays};
 ghost use Rattle.winnow_ascii.specs.LineEnding.{LineEndingRuns};
-ghost use Rattle.winnow_ascii.specs.LineEnding.Laws.{line_ending_exact, line_ending_soft};
+ghost use Rattle.winnow_ascii.specs.LineEnding.Laws.{line_ending_exact, line_ending_fails};
 ghost use Rattle.winnow_ascii.specs.LineEnding.Laws.{line_ending_alike, line_ending_ends};
 ghost use Rattle.winnow_ascii.specs.LineEnding.Laws.{line_ending_stays};
 
@@ -40,11 +43,12 @@ impl<I: StreamIsPartial + Compare<&'static str>, E: ParserError<I>> Parser<I, I:
     ghost claim = { λ s. record {
       premise = SpellsByText I.spells;
       backtracks = ⊤;
+      spares_memory = ⊤;
       consumes = (SpelledBy I.spells (10 ∷ []) [] → ⊥)
           × (SpelledBy I.spells (13 ∷ 10 ∷ []) [] → ⊥);
       grammar = LineEnd I.reading I.spells;
-      decides = ⊥;
-      alike = λ o p. o ≡ p;
+      decides = SpellsByText I.spells;
+      alike = ShowSame I.reading;
     } };
 
     ghost leaves_ends = { λ form x i answer y j r. line_ending_ends I.spells I.reading form i
@@ -52,12 +56,12 @@ impl<I: StreamIsPartial + Compare<&'static str>, E: ParserError<I>> Parser<I, I:
 
     ghost claimed = { λ s. record {
       exact = λ form is. line_ending_exact I.reading form I.spells is I.same_units;
-      soft = λ form is soft. line_ending_soft I.reading form I.spells is I.same_units;
+      fails = λ form is. backs (line_ending_fails I.reading form I.spells is I.same_units);
       takes = λ is some. either_takes
           (literally_takes I.reading (SpelledBy I.spells) (λ _ slice. slice) (10 ∷ [])
           some.0) (literally_takes I.reading (SpelledBy I.spells) (λ _ slice. slice)
           (13 ∷ 10 ∷ []) some.1);
-      decided = λ form never. absurd never;
+      decided = λ form is. line_ending_decided I.reading form I.spells is I.same_units;
     } };
 
     #[inline(always)]

@@ -7,9 +7,10 @@ ghost use Rattle.stream_sets.specs.Once.{SeesApart};
 ghost use Rattle.stream_sets.specs.Range.{from_to};
 ghost use Rattle.grammars.specs.Grammar.{Class};
 ghost use Rattle.winnow_ascii.specs.Class.{ClassRuns};
-ghost use Rattle.winnow_ascii.specs.Class.Laws.{SeenOnce, class_decided, class_exact, class_soft};
+ghost use Rattle.winnow_ascii.specs.Class.Laws.{SeenOnce, class_decided, class_exact, class_fails};
 ghost use Rattle.winnow_ascii.specs.Class.Laws.{class_alike, class_ends};
 ghost use Rattle.winnow_core.specs.Agrees.{agrees_plain};
+ghost use Rattle.winnow_core.specs.Exact.Allowed.{backs};
 ghost use Rattle.winnow_core.specs.Literal.Laws.{ShowSame};
 ghost use Rattle.winnow_core.specs.Runs.{Keeps};
 ghost use Rattle.winnow_core.specs.Stable.Grows.{leaf_stays};
@@ -46,6 +47,7 @@ where
     ghost claim = { λ s. record {
       premise = SeesApart I.seen_as;
       backtracks = ⊤;
+      spares_memory = ⊤;
       consumes = ⊥;
       grammar = Class IsOctDigit 0 I.Token.code I.seen_as I.reading;
       decides = SeenOnce I.seen_as I.Token.code;
@@ -57,7 +59,7 @@ where
 
     ghost claimed = { λ s. record {
       exact = λ form is. class_exact IsOctDigit 0 I.Token.code I.seen_as I.reading form is;
-      soft = λ form is soft. class_soft IsOctDigit 0 I.Token.code I.seen_as I.reading form;
+      fails = λ form is. backs (class_fails IsOctDigit 0 I.Token.code I.seen_as I.reading form);
       takes = λ is never. absurd never;
       decided = λ form is. class_decided IsOctDigit 0 I.Token.code I.seen_as I.reading form is;
     } };

@@ -4,7 +4,8 @@ ghost use Rattle.std.proofs.Common.{refl};
 ghost use Rattle.grammars.specs.Grammar.{Literally};
 ghost use Rattle.grammars.specs.Grammar.Unique.{literally_takes};
 ghost use Rattle.winnow_core.specs.Agrees.{agrees_plain};
-ghost use Rattle.winnow_core.specs.Literal.Laws.{literal_decided, literal_exact, literal_soft};
+ghost use Rattle.winnow_core.specs.Exact.Allowed.{backs};
+ghost use Rattle.winnow_core.specs.Literal.Laws.{literal_decided, literal_exact, literal_fails};
 ghost use Rattle.winnow_core.specs.Literal.Laws.{literal_stays};
 ghost use Rattle.winnow_core.specs.Runs.{Keeps};
 ghost use Rattle.winnow_core.specs.Stable.Grows.{leaf_stays};
@@ -38,6 +39,7 @@ impl<I: StreamIsPartial + Compare<char>, E: ParserError<I>> Parser<I, char, E> f
     ghost claim = { λ s. record {
       premise = ⊤;
       backtracks = ⊤;
+      spares_memory = ⊤;
       consumes = I.spells 9 [] → ⊥;
       grammar = Literally I.reading I.spells (λ s _. s) 9;
       decides = ⊤;
@@ -50,7 +52,7 @@ impl<I: StreamIsPartial + Compare<char>, E: ParserError<I>> Parser<I, char, E> f
     ghost claimed = { λ s. record {
       exact = λ form is. literal_exact I.reading form I.spells (λ s _. s) (λ _. 9) tt
           (I.same_units 9);
-      soft = λ form is soft. literal_soft I.reading form I.spells (λ s _. s) (λ _. 9) tt;
+      fails = λ form is. backs (literal_fails I.reading form I.spells (λ s _. s) (λ _. 9) tt);
       takes = λ is some. literally_takes I.reading I.spells (λ s _. s) 9 some;
       decided = λ form is. literal_decided I.reading form I.spells (λ s _. s) (λ _. 9)
           (λ o q. o ≡ q) tt (I.same_units 9) (λ slice other shown. refl);

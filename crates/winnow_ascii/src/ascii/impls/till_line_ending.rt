@@ -2,12 +2,13 @@
 ghost use Rattle.std.specs.Prelude.{⊤, ◌<◌, ◌≡◌};
 ghost use Rattle.grammars.specs.Grammar.Searches.{Line};
 ghost use Rattle.winnow_core.specs.Agrees.{agrees_plain};
+ghost use Rattle.winnow_core.specs.Exact.Allowed.{backs};
 ghost use Rattle.winnow_core.specs.Literal.Laws.{SpellsByText};
 ghost use Rattle.winnow_core.specs.Runs.{Keeps};
 ghost use Rattle.winnow_core.specs.Stable.Grows.{leaf_stays};
 ghost use Rattle.winnow_ascii.specs.TillLineEnding.{TillLineEndingRuns};
 ghost use Rattle.winnow_ascii.specs.TillLineEnding.Exact.{till_line_ending_exact};
-ghost use Rattle.winnow_ascii.specs.TillLineEnding.Exact.{till_line_ending_soft};
+ghost use Rattle.winnow_ascii.specs.TillLineEnding.Exact.{till_line_ending_fails};
 ghost use Rattle.winnow_ascii.specs.TillLineEnding.Laws.{till_line_ending_alike};
 ghost use Rattle.winnow_ascii.specs.TillLineEnding.Laws.{till_line_ending_ends};
 ghost use Rattle.winnow_ascii.specs.TillLineEnding.Laws.{till_line_ending_stays};
@@ -45,6 +46,7 @@ impl<
     ghost claim = { λ s. record {
       premise = SpellsByText I.spells;
       backtracks = ⊤;
+      spares_memory = ⊤;
       consumes = ⊥;
       grammar = Line I.reading I.spells I.sought;
       decides = ⊥;
@@ -56,7 +58,7 @@ impl<
 
     ghost claimed = { λ s. record {
       exact = λ form is. till_line_ending_exact I.reading form I.spells is I.sought;
-      soft = λ form is soft. till_line_ending_soft I.reading form I.spells is I.sought;
+      fails = λ form is. backs (till_line_ending_fails I.reading form I.spells is I.sought);
       takes = λ is never. absurd never;
       decided = λ form never. absurd never;
     } };

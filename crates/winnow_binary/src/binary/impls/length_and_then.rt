@@ -3,10 +3,11 @@ ghost use Rattle.streams.specs.Input.{IsEndOf};
 ghost use Rattle.grammars.specs.Grammar.Lengths.{Inside, SaysOne, Sized, sized_inside_takes};
 ghost use Rattle.stream_errors.specs.Form.{answer_by, modal};
 ghost use Rattle.winnow_core.specs.CompleteErr.{CompleteErrRuns};
+ghost use Rattle.winnow_core.specs.Exact.Allowed.{fails_as};
 ghost use Rattle.winnow_core.specs.Stable.Grows.{grows, stays};
 ghost use Rattle.winnow_binary.specs.LengthAndThen.{LengthAndThenRuns, TakenRuns};
 ghost use Rattle.winnow_binary.specs.LengthAndThen.Laws.{length_and_then_exact};
-ghost use Rattle.winnow_binary.specs.LengthAndThen.Laws.{length_and_then_soft};
+ghost use Rattle.winnow_binary.specs.LengthAndThen.Laws.{length_and_then_fails};
 ghost use Rattle.winnow_binary.specs.LengthAndThen.Laws.{length_and_then_agrees};
 ghost use Rattle.winnow_binary.specs.LengthAndThen.Laws.{length_and_then_ends};
 ghost use Rattle.winnow_binary.specs.LengthAndThen.Laws.{length_and_then_grows};
@@ -57,6 +58,7 @@ impl<
       premise = (P.claim s.0).premise × SaysOne N.number (P.claim s.0).grammar
           × (G.claim s.1).premise;
       backtracks = (P.claim s.0).backtracks × (G.claim s.1).backtracks;
+      spares_memory = (P.claim s.0).spares_memory × (G.claim s.1).spares_memory;
       consumes = (P.claim s.0).consumes;
       grammar = Sized N.number (Inside (G.claim s.1).grammar) (P.claim s.0).grammar;
       decides = ⊥;
@@ -69,9 +71,10 @@ impl<
     ghost claimed = { λ s. record {
       exact = λ form is. length_and_then_exact N.number I.reading form I.counts_missing is.1
           ((P.claimed s.0).exact form is.0) ((G.claimed s.1).exact form is.2);
-      soft = λ form is soft. length_and_then_soft N.number I.reading form I.counts_missing
-          ((P.claimed s.0).exact form is.0) ((P.claimed s.0).soft form is.0 soft.0)
-          ((G.claimed s.1).soft form is.2 soft.1);
+      fails = λ form is. length_and_then_fails N.number I.reading form I.counts_missing
+          ((P.claimed s.0).exact form is.0)
+          (fails_as (λ b. b.0) (λ m. m.0) ((P.claimed s.0).fails form is.0))
+          (fails_as (λ b. b.1) (λ m. m.1) ((G.claimed s.1).fails form is.2));
       takes = λ is some. sized_inside_takes N.number (G.claim s.1).grammar
           ((P.claimed s.0).exact modal is.0).unique ((P.claimed s.0).takes is.0 some);
       decided = λ form never. absurd never;

@@ -2,9 +2,10 @@
 ghost use Rattle.grammars.specs.Grammar.Lengths.{SaysOne, Sized, Times, sized_times_takes};
 ghost use Rattle.stream_errors.specs.Form.{assert_kind, modal};
 ghost use Rattle.winnow_core.specs.Agrees.Sizes.{agrees2};
+ghost use Rattle.winnow_core.specs.Exact.Allowed.{fails_as, wanted, softly};
 ghost use Rattle.winnow_core.specs.Stable.Grows.{grows, stays};
 ghost use Rattle.winnow_binary.specs.LengthRepeat.{LengthRepeatRuns};
-ghost use Rattle.winnow_binary.specs.LengthRepeat.Laws.{length_repeat_exact, length_repeat_soft};
+ghost use Rattle.winnow_binary.specs.LengthRepeat.Laws.{length_repeat_exact, length_repeat_fails};
 ghost use Rattle.winnow_binary.specs.LengthRepeat.Laws.{length_repeat_ends, length_repeat_grows};
 ghost use Rattle.std.specs.Prelude.{◌≡◌};
 
@@ -57,6 +58,8 @@ impl<
       premise = (P.claim s.0).premise × SaysOne N.number (P.claim s.0).grammar
           × (G.claim s.1).premise × (G.claim s.1).backtracks × (G.claim s.1).consumes;
       backtracks = (P.claim s.0).backtracks;
+      spares_memory =
+          (P.claim s.0).spares_memory × (G.claim s.1).spares_memory × C.spares_memory;
       consumes = (P.claim s.0).consumes;
       grammar = Sized N.number (Times C.holds (G.claim s.1).grammar) (P.claim s.0).grammar;
       decides = ⊥;
@@ -70,12 +73,14 @@ impl<
     ghost claimed = { λ s. record {
       exact = λ form is. length_repeat_exact N.number C.accumulator (assert_kind form) s
           ((P.claimed s.0).exact form is.0) ((G.claimed s.1).exact form is.2)
-          ((G.claimed s.1).soft form is.2 is.3) ((G.claimed s.1).takes is.2 is.4) C.holds
+          (softly is.3 ((G.claimed s.1).fails form is.2)) ((G.claimed s.1).takes is.2 is.4) C.holds
           C.gathers is.1;
-      soft = λ form is soft. length_repeat_soft N.number C.accumulator (assert_kind form) s
+      fails = λ form is. length_repeat_fails N.number C.accumulator (assert_kind form) s
           ((P.claimed s.0).exact form is.0) ((G.claimed s.1).exact form is.2)
-          ((G.claimed s.1).soft form is.2 is.3) ((G.claimed s.1).takes is.2 is.4) C.holds
-          C.gathers ((P.claimed s.0).soft form is.0 soft);
+          (softly is.3 ((G.claimed s.1).fails form is.2)) ((G.claimed s.1).takes is.2 is.4) C.holds
+          C.gathers (fails_as (λ b. b) (λ m. m.0) ((P.claimed s.0).fails form is.0))
+          (fails_as (λ b. is.3) (λ m. m.1) ((G.claimed s.1).fails form is.2))
+          (λ w. wanted (λ m. C.never_wants m.2 w));
       takes = λ is some. sized_times_takes N.number C.holds
           ((G.claimed s.1).exact modal is.2).unique
           ((P.claimed s.0).exact modal is.0).unique ((P.claimed s.0).takes is.0 some);

@@ -4,7 +4,7 @@ ghost use Rattle.grammars.specs.Grammar.Lengths.{SaysOne, Sized};
 ghost use Rattle.stream_errors.specs.Form.{modal};
 ghost use Rattle.winnow_core.specs.Stable.Grows.{grows};
 ghost use Rattle.winnow_binary.specs.LengthTake.{LengthTakeRuns};
-ghost use Rattle.winnow_binary.specs.LengthTake.Laws.{length_take_exact, length_take_soft};
+ghost use Rattle.winnow_binary.specs.LengthTake.Laws.{length_take_exact, length_take_fails};
 ghost use Rattle.winnow_binary.specs.LengthTake.Laws.{length_take_takes, length_take_agrees};
 ghost use Rattle.winnow_binary.specs.LengthTake.Laws.{length_take_ends, length_take_stays};
 ghost use Rattle.std.specs.Prelude.{◌≡◌};
@@ -49,6 +49,7 @@ impl<P: Parser<I, N, E>, I: StreamIsPartial, N: ToUsize + Drop, E: ParserError<I
     ghost claim = { λ s. record {
       premise = (P.claim s).premise × SaysOne N.number (P.claim s).grammar;
       backtracks = (P.claim s).backtracks;
+      spares_memory = (P.claim s).spares_memory;
       consumes = (P.claim s).consumes;
       grammar = Sized N.number (Counted I.reading) (P.claim s).grammar;
       decides = ⊥;
@@ -61,8 +62,8 @@ impl<P: Parser<I, N, E>, I: StreamIsPartial, N: ToUsize + Drop, E: ParserError<I
     ghost claimed = { λ s. record {
       exact = λ form is. length_take_exact N.number I.reading form I.counts_missing is.1
           ((P.claimed s).exact form is.0);
-      soft = λ form is soft. length_take_soft N.number I.reading form I.counts_missing
-          ((P.claimed s).exact form is.0) ((P.claimed s).soft form is.0 soft);
+      fails = λ form is. length_take_fails N.number I.reading form I.counts_missing
+          ((P.claimed s).exact form is.0) ((P.claimed s).fails form is.0);
       takes = λ is some. length_take_takes N.number I.reading ((P.claimed s).exact modal is.0)
           ((P.claimed s).takes is.0 some);
       decided = λ form never. absurd never;

@@ -6,9 +6,11 @@ ghost use Rattle.winnow_binary.specs.Chosen.{ChosenRuns};
 ghost use Rattle.winnow_integers.specs.Integer.{unsigned_value};
 ghost use Rattle.winnow_integers.specs.Integer.Grammar.{Integer, integer_takes};
 ghost use Rattle.winnow_integers.specs.Integer.Laws.{integer_alike, integer_ends, integer_exact};
-ghost use Rattle.winnow_integers.specs.Integer.Laws.{integer_soft, integer_stays, some_bytes};
+ghost use Rattle.winnow_integers.specs.Integer.Laws.{integer_decided, integer_fails, integer_stays};
+ghost use Rattle.winnow_integers.specs.Integer.Laws.{some_bytes};
 ghost use Rattle.winnow_integers.specs.declared.binary.endianness.Endianness.{Endianness};
 ghost use Rattle.winnow_core.specs.Agrees.{agrees_by};
+ghost use Rattle.winnow_core.specs.Exact.Allowed.{backs};
 ghost use Rattle.winnow_core.specs.Stable.Grows.{leaf_stays};
 
 use std::marker::PhantomData;
@@ -45,9 +47,10 @@ impl<I: StreamIsPartial + ByteStream, E: ParserError<I>> Parser<I, u32, E> for U
     ghost claim = { λ s. record {
       premise = ⊤;
       backtracks = ⊤;
+      spares_memory = ⊤;
       consumes = ⊤;
       grammar = Integer 3 (unsigned_value s);
-      decides = ⊥;
+      decides = ⊤;
       alike = λ o p. o ≡ p;
     } };
 
@@ -56,9 +59,9 @@ impl<I: StreamIsPartial + ByteStream, E: ParserError<I>> Parser<I, u32, E> for U
 
     ghost claimed = { λ s. record {
       exact = λ form is. integer_exact 3 unsigned_value I.reading form s;
-      soft = λ form is soft. integer_soft 3 unsigned_value I.reading form s;
+      fails = λ form is. backs (integer_fails 3 unsigned_value I.reading form s);
       takes = λ is some. integer_takes 3 (unsigned_value s) (some_bytes 2);
-      decided = λ form never. absurd never;
+      decided = λ form is. integer_decided 3 unsigned_value I.reading form s;
     } };
 
     #[inline(always)]

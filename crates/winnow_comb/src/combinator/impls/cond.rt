@@ -2,10 +2,12 @@
 ghost use Rattle.std.specs.Prelude.{◌≡◌, Bool};
 ghost use Rattle.grammars.specs.Grammar.{When};
 ghost use Rattle.stream_errors.specs.Form.{modal};
+ghost use Rattle.winnow_comb.specs.Cond.Laws.{cond_decided};
+ghost use Rattle.winnow_comb.specs.Opt.Laws.{AlikeOptions};
 ghost use Rattle.winnow_core.specs.Agrees.{agrees_with};
 ghost use Rattle.winnow_core.specs.Stable.Grows.{grows, stays};
 ghost use Rattle.winnow_comb.specs.Cond.{CondRuns};
-ghost use Rattle.winnow_comb.specs.Cond.Laws.{cond_exact, cond_soft, cond_ends, cond_grows};
+ghost use Rattle.winnow_comb.specs.Cond.Laws.{cond_exact, cond_fails, cond_ends, cond_grows};
 
 use std::marker::PhantomData;
 use stream_errors::parser_error::ParserError;
@@ -42,19 +44,20 @@ impl<P: Parser<I, O, E>, I: Stream, O, E: ParserError<I>> Parser<I, Option<O>, E
     ghost claim = { λ s. record {
       premise = (P.claim s.0).premise;
       backtracks = (P.claim s.0).backtracks;
+      spares_memory = (P.claim s.0).spares_memory;
       consumes = ⊥;
       grammar = When s.1 (P.claim s.0).grammar;
-      decides = ⊥;
-      alike = λ o p. o ≡ p;
+      decides = (P.claim s.0).decides;
+      alike = AlikeOptions (P.claim s.0).alike;
     } };
 
     ghost leaves_ends = { λ form. cond_ends I.reading (P.meaning form) (P.leaves_ends form) };
 
     ghost claimed = { λ s. record {
       exact = λ form is. cond_exact ((P.claimed s.0).exact form is);
-      soft = λ form is soft. cond_soft ((P.claimed s.0).soft form is soft);
+      fails = λ form is. cond_fails ((P.claimed s.0).fails form is);
       takes = λ is never. absurd never;
-      decided = λ form never. absurd never;
+      decided = λ form is. cond_decided ((P.claimed s.0).decided form is);
     } };
 
     #[inline(always)]

@@ -3,7 +3,8 @@ ghost use Rattle.stream_errors.specs.Form.{modal};
 ghost use Rattle.winnow_core.specs.Agrees.{agrees1};
 ghost use Rattle.winnow_core.specs.Stable.Grows.{grows, stays};
 ghost use Rattle.winnow_comb.specs.CutErr.{CutErrRuns};
-ghost use Rattle.winnow_comb.specs.CutErr.Laws.{cut_err_decided, cut_err_exact, cut_err_ends};
+ghost use Rattle.winnow_comb.specs.CutErr.Laws.{cut_err_decided, cut_err_exact, cut_err_fails};
+ghost use Rattle.winnow_comb.specs.CutErr.Laws.{cut_err_ends};
 ghost use Rattle.winnow_comb.specs.CutErr.Laws.{cut_err_grows};
 
 use std::marker::PhantomData;
@@ -41,6 +42,7 @@ impl<P: Parser<I, O, E>, I: Stream, O, E: ParserError<I> + ModalError> Parser<I,
     ghost claim = { λ s. record {
       premise = (P.claim s).premise;
       backtracks = ⊥;
+      spares_memory = (P.claim s).spares_memory;
       consumes = (P.claim s).consumes;
       grammar = (P.claim s).grammar;
       decides = (P.claim s).decides;
@@ -51,7 +53,7 @@ impl<P: Parser<I, O, E>, I: Stream, O, E: ParserError<I> + ModalError> Parser<I,
 
     ghost claimed = { λ s. record {
       exact = λ form is. cut_err_exact ((P.claimed s).exact form is);
-      soft = λ form is never. absurd never;
+      fails = λ form is. cut_err_fails ((P.claimed s).fails form is);
       takes = λ is some. (P.claimed s).takes is some;
       decided = λ form is. cut_err_decided ((P.claimed s).decided form is);
     } };

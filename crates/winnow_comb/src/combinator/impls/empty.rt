@@ -1,13 +1,15 @@
 //! The parser that takes nothing.
 ghost use Rattle.std.specs.Prelude.{⊤, ◌<◌, ◌≡◌};
 ghost use Rattle.grammars.specs.Grammar.{Nothing};
+ghost use Rattle.winnow_comb.specs.Empty.Laws.{empty_decided};
 ghost use Rattle.winnow_core.specs.Agrees.{agrees_plain};
 ghost use Rattle.winnow_core.specs.Ends.{same_ends};
+ghost use Rattle.winnow_core.specs.Exact.Allowed.{backs};
 ghost use Rattle.winnow_core.specs.Runs.{Keeps};
 ghost use Rattle.winnow_core.specs.SameMeaning.{same_refl};
 ghost use Rattle.winnow_core.specs.Stable.Grows.{leaf_stays};
 ghost use Rattle.winnow_comb.specs.Empty.{EmptyRuns};
-ghost use Rattle.winnow_comb.specs.Empty.Laws.{empty_exact, empty_soft, empty_stays};
+ghost use Rattle.winnow_comb.specs.Empty.Laws.{empty_exact, empty_fails, empty_stays};
 
 use crate::combinator::basic::empty;
 use stream_errors::parser_error::ParserError;
@@ -35,19 +37,20 @@ impl<I: Stream, E: ParserError<I>> Parser<I, (), E> for Empty {
     ghost claim = { λ s. record {
       premise = ⊤;
       backtracks = ⊤;
+      spares_memory = ⊤;
       consumes = ⊥;
       grammar = Nothing tt;
-      decides = ⊥;
-      alike = λ o p. o ≡ p;
+      decides = ⊤;
+      alike = λ (_ _ : ⊤). ⊤;
     } };
 
     ghost leaves_ends = { λ form x i answer y j r. same_ends I.reading i j r.0.1 };
 
     ghost claimed = { λ s. record {
       exact = λ form is. empty_exact;
-      soft = λ form is soft. empty_soft;
+      fails = λ form is. backs (empty_fails);
       takes = λ is never. absurd never;
-      decided = λ form never. absurd never;
+      decided = λ form is. empty_decided;
     } };
 
     #[inline(always)]

@@ -1,13 +1,15 @@
 //! The parser that fails.
 ghost use Rattle.std.specs.Prelude.{⊤, ◌<◌, ◌≡◌};
 ghost use Rattle.grammars.specs.Grammar.{Never};
+ghost use Rattle.winnow_comb.specs.Fail.Laws.{fail_decided};
 ghost use Rattle.winnow_core.specs.Agrees.{agrees_plain};
 ghost use Rattle.winnow_core.specs.Ends.{same_ends};
+ghost use Rattle.winnow_core.specs.Exact.Allowed.{backs};
 ghost use Rattle.winnow_core.specs.Runs.{Keeps};
 ghost use Rattle.winnow_core.specs.SameMeaning.{same_refl};
 ghost use Rattle.winnow_core.specs.Stable.Grows.{leaf_stays};
 ghost use Rattle.winnow_comb.specs.Fail.{FailRuns};
-ghost use Rattle.winnow_comb.specs.Fail.Laws.{fail_exact, fail_soft, never_takes, fail_stays};
+ghost use Rattle.winnow_comb.specs.Fail.Laws.{fail_exact, fail_backs, never_takes, fail_stays};
 
 use crate::combinator::basic::fail;
 use stream_errors::parser_error::ParserError;
@@ -35,9 +37,10 @@ impl<I: Stream, O, E: ParserError<I>> Parser<I, O, E> for Fail {
     ghost claim = { λ s. record {
       premise = ⊤;
       backtracks = ⊤;
+      spares_memory = ⊤;
       consumes = ⊤;
       grammar = Never;
-      decides = ⊥;
+      decides = ⊤;
       alike = λ o p. o ≡ p;
     } };
 
@@ -45,9 +48,9 @@ impl<I: Stream, O, E: ParserError<I>> Parser<I, O, E> for Fail {
 
     ghost claimed = { λ s. record {
       exact = λ form is. fail_exact;
-      soft = λ form is soft. fail_soft;
+      fails = λ form is. backs (fail_backs);
       takes = λ is some. never_takes;
-      decided = λ form never. absurd never;
+      decided = λ form is. fail_decided;
     } };
 
     #[inline(always)]

@@ -3,9 +3,11 @@ ghost use Rattle.std.specs.Prelude.{⊤};
 ghost use Rattle.grammars.specs.Grammar.{Absent};
 ghost use Rattle.stream_errors.specs.Form.{modal};
 ghost use Rattle.winnow_core.specs.Agrees.{agrees1};
+ghost use Rattle.winnow_core.specs.Exact.Allowed.{fails_as, softly};
 ghost use Rattle.winnow_core.specs.Stable.Grows.{grows, stays};
 ghost use Rattle.winnow_comb.specs.Not.{NotRuns};
-ghost use Rattle.winnow_comb.specs.Not.Laws.{not_decided, not_exact, not_soft, not_ends, not_grows};
+ghost use Rattle.winnow_comb.specs.Not.Laws.{not_decided, not_exact, not_fails, not_ends};
+ghost use Rattle.winnow_comb.specs.Not.Laws.{not_grows};
 
 use std::marker::PhantomData;
 use stream_errors::parser_error::ParserError;
@@ -41,6 +43,7 @@ impl<P: Parser<I, O, E>, I: Stream, O: Drop, E: ParserError<I>> Parser<I, (), E>
     ghost claim = { λ s. record {
       premise = (P.claim s).premise × (P.claim s).backtracks;
       backtracks = ⊤;
+      spares_memory = (P.claim s).spares_memory;
       consumes = ⊥;
       grammar = Absent (P.claim s).grammar;
       decides = (P.claim s).decides;
@@ -51,8 +54,8 @@ impl<P: Parser<I, O, E>, I: Stream, O: Drop, E: ParserError<I>> Parser<I, (), E>
 
     ghost claimed = { λ s. record {
       exact = λ form is. not_exact ((P.claimed s).exact form is.0)
-          ((P.claimed s).soft form is.0 is.1);
-      soft = λ form is soft. not_soft ((P.claimed s).soft form is.0 is.1);
+          (softly is.1 ((P.claimed s).fails form is.0));
+      fails = λ form is. not_fails (fails_as (λ b. is.1) (λ m. m) ((P.claimed s).fails form is.0));
       takes = λ is never. absurd never;
       decided = λ form is. not_decided ((P.claimed s).decided form is);
     } };

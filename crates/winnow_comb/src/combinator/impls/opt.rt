@@ -2,9 +2,10 @@
 ghost use Rattle.grammars.specs.Grammar.{Maybe};
 ghost use Rattle.stream_errors.specs.Form.{modal};
 ghost use Rattle.winnow_core.specs.Agrees.{agrees1};
+ghost use Rattle.winnow_core.specs.Exact.Allowed.{fails_as, softly};
 ghost use Rattle.winnow_core.specs.Stable.Grows.{grows, stays};
 ghost use Rattle.winnow_comb.specs.Opt.{OptRuns};
-ghost use Rattle.winnow_comb.specs.Opt.Laws.{AlikeOptions, opt_decided, opt_exact, opt_soft};
+ghost use Rattle.winnow_comb.specs.Opt.Laws.{AlikeOptions, opt_decided, opt_exact, opt_fails};
 ghost use Rattle.winnow_comb.specs.Opt.Laws.{opt_ends, opt_grows};
 ghost use Rattle.std.specs.Prelude.{⊤};
 
@@ -42,6 +43,7 @@ impl<P: Parser<I, O, E>, I: Stream, O, E: ParserError<I>> Parser<I, Option<O>, E
     ghost claim = { λ s. record {
       premise = (P.claim s).premise × (P.claim s).backtracks;
       backtracks = ⊤;
+      spares_memory = (P.claim s).spares_memory;
       consumes = ⊥;
       grammar = Maybe (P.claim s).grammar;
       decides = (P.claim s).decides;
@@ -52,8 +54,8 @@ impl<P: Parser<I, O, E>, I: Stream, O, E: ParserError<I>> Parser<I, Option<O>, E
 
     ghost claimed = { λ s. record {
       exact = λ form is. opt_exact ((P.claimed s).exact form is.0)
-          ((P.claimed s).soft form is.0 is.1);
-      soft = λ form is soft. opt_soft ((P.claimed s).soft form is.0 is.1);
+          (softly is.1 ((P.claimed s).fails form is.0));
+      fails = λ form is. opt_fails (fails_as (λ b. is.1) (λ m. m) ((P.claimed s).fails form is.0));
       takes = λ is never. absurd never;
       decided = λ form is. opt_decided ((P.claimed s).decided form is);
     } };

@@ -4,7 +4,7 @@ ghost use Rattle.stream_errors.specs.Form.{modal};
 ghost use Rattle.winnow_core.specs.Agrees.{agrees1};
 ghost use Rattle.winnow_core.specs.Stable.Grows.{grows, stays};
 ghost use Rattle.winnow_comb.specs.Peek.{PeekRuns};
-ghost use Rattle.winnow_comb.specs.Peek.Laws.{peek_decided, peek_exact, peek_soft, peek_ends};
+ghost use Rattle.winnow_comb.specs.Peek.Laws.{peek_decided, peek_exact, peek_fails, peek_ends};
 ghost use Rattle.winnow_comb.specs.Peek.Laws.{peek_grows};
 
 use std::marker::PhantomData;
@@ -40,6 +40,7 @@ impl<P: Parser<I, O, E>, I: Stream, O, E: ParserError<I>> Parser<I, O, E> for Pe
     ghost claim = { λ s. record {
       premise = (P.claim s).premise;
       backtracks = (P.claim s).backtracks;
+      spares_memory = (P.claim s).spares_memory;
       consumes = ⊥;
       grammar = Ahead (P.claim s).grammar;
       decides = (P.claim s).decides;
@@ -50,7 +51,7 @@ impl<P: Parser<I, O, E>, I: Stream, O, E: ParserError<I>> Parser<I, O, E> for Pe
 
     ghost claimed = { λ s. record {
       exact = λ form is. peek_exact ((P.claimed s).exact form is);
-      soft = λ form is soft. peek_soft ((P.claimed s).soft form is soft);
+      fails = λ form is. peek_fails ((P.claimed s).fails form is);
       takes = λ is never. absurd never;
       decided = λ form is. peek_decided ((P.claimed s).decided form is);
     } };

@@ -3,10 +3,11 @@ ghost use Rattle.std.specs.Prelude.{◌⊎◌};
 ghost use Rattle.grammars.specs.Grammar.{Three};
 ghost use Rattle.stream_errors.specs.Form.{modal};
 ghost use Rattle.winnow_core.specs.Agrees.Sizes.{agrees3};
+ghost use Rattle.winnow_core.specs.Exact.Allowed.{fails_as};
 ghost use Rattle.winnow_core.specs.Exact.Along.{either_way};
 ghost use Rattle.winnow_core.specs.InOrder.Decided.{AlikePairs, three_decided};
 ghost use Rattle.winnow_core.specs.InOrder.Laws.{three_ends, three_grow};
-ghost use Rattle.winnow_core.specs.InOrder.Three.{three_exact, three_soft, three_takes};
+ghost use Rattle.winnow_core.specs.InOrder.Three.{three_exact, three_fails, three_takes};
 ghost use Rattle.winnow_core.specs.Stable.Grows.{grows, stays};
 ghost use Rattle.winnow_comb.specs.SeparatedPair.{SeparatedPairRuns};
 
@@ -59,6 +60,9 @@ impl<
       premise = (P1.claim s.0).premise × (P2.claim s.1).premise × (P3.claim s.2).premise;
       backtracks =
           (P1.claim s.0).backtracks × (P2.claim s.1).backtracks × (P3.claim s.2).backtracks;
+      spares_memory =
+          (P1.claim s.0).spares_memory × (P2.claim s.1).spares_memory
+          × (P3.claim s.2).spares_memory;
       consumes = ((P1.claim s.0).consumes ⊎ (P2.claim s.1).consumes) ⊎ (P3.claim s.2).consumes;
       grammar = Three (λ o1 o2 o3. (o1, o3)) (P1.claim s.0).grammar (P2.claim s.1).grammar
           (P3.claim s.2).grammar;
@@ -73,9 +77,11 @@ impl<
     ghost claimed = { λ s. record {
       exact = λ form is. three_exact ((P1.claimed s.0).exact form is.0)
           ((P2.claimed s.1).exact form is.1) ((P3.claimed s.2).exact form is.2);
-      soft = λ form is soft. three_soft ((P1.claimed s.0).exact form is.0)
-          ((P2.claimed s.1).exact form is.1) ((P1.claimed s.0).soft form is.0 soft.0)
-          ((P2.claimed s.1).soft form is.1 soft.1) ((P3.claimed s.2).soft form is.2 soft.2);
+      fails = λ form is. three_fails ((P1.claimed s.0).exact form is.0)
+          ((P2.claimed s.1).exact form is.1)
+          (fails_as (λ b. b.0) (λ m. m.0) ((P1.claimed s.0).fails form is.0))
+          (fails_as (λ b. b.1) (λ m. m.1) ((P2.claimed s.1).fails form is.1))
+          (fails_as (λ b. b.2) (λ m. m.2) ((P3.claimed s.2).fails form is.2));
       takes = λ is some. three_takes (λ o1 o2 o3. (o1, o3))
           ((P1.claimed s.0).exact modal is.0) ((P2.claimed s.1).exact modal is.1)
           ((P3.claimed s.2).exact modal is.2)

@@ -3,9 +3,10 @@ ghost use Rattle.std.specs.Prelude.{◌⊎◌};
 ghost use Rattle.grammars.specs.Grammar.{Both};
 ghost use Rattle.stream_errors.specs.Form.{modal};
 ghost use Rattle.winnow_core.specs.Agrees.Sizes.{agrees2};
+ghost use Rattle.winnow_core.specs.Exact.Allowed.{fails_as};
 ghost use Rattle.winnow_core.specs.Exact.Along.{either_way};
 ghost use Rattle.winnow_core.specs.InOrder.Decided.{both_decided};
-ghost use Rattle.winnow_core.specs.InOrder.Exact.{both_exact, both_soft, both_takes};
+ghost use Rattle.winnow_core.specs.InOrder.Exact.{both_exact, both_fails, both_takes};
 ghost use Rattle.winnow_core.specs.InOrder.Laws.{both_ends, both_grows};
 ghost use Rattle.winnow_core.specs.Stable.Grows.{grows, stays};
 ghost use Rattle.winnow_comb.specs.Terminated.{TerminatedRuns};
@@ -52,6 +53,7 @@ impl<
     ghost claim = { λ s. record {
       premise = (P1.claim s.0).premise × (P2.claim s.1).premise;
       backtracks = (P1.claim s.0).backtracks × (P2.claim s.1).backtracks;
+      spares_memory = (P1.claim s.0).spares_memory × (P2.claim s.1).spares_memory;
       consumes = (P1.claim s.0).consumes ⊎ (P2.claim s.1).consumes;
       grammar = Both (λ o1 o2. o1) (P1.claim s.0).grammar (P2.claim s.1).grammar;
       decides = (P1.claim s.0).decides × (P2.claim s.1).decides;
@@ -64,8 +66,9 @@ impl<
     ghost claimed = { λ s. record {
       exact = λ form is. both_exact ((P1.claimed s.0).exact form is.0)
           ((P2.claimed s.1).exact form is.1);
-      soft = λ form is soft. both_soft ((P1.claimed s.0).exact form is.0)
-          ((P1.claimed s.0).soft form is.0 soft.0) ((P2.claimed s.1).soft form is.1 soft.1);
+      fails = λ form is. both_fails ((P1.claimed s.0).exact form is.0)
+          (fails_as (λ b. b.0) (λ m. m.0) ((P1.claimed s.0).fails form is.0))
+          (fails_as (λ b. b.1) (λ m. m.1) ((P2.claimed s.1).fails form is.1));
       takes = λ is some. both_takes (λ o1 o2. o1) ((P1.claimed s.0).exact modal is.0)
           ((P2.claimed s.1).exact modal is.1)
           (either_way ((P1.claimed s.0).takes is.0) ((P2.claimed s.1).takes is.1) some);

@@ -7,8 +7,9 @@ ghost use Rattle.stream_errors.specs.Form.{modal};
 ghost use Rattle.winnow_core.specs.Agrees.{agrees_with};
 ghost use Rattle.winnow_core.specs.AndThen.{AndThenSettles, AndThenRuns, and_then_inner};
 ghost use Rattle.winnow_core.specs.AndThen.{and_then_outer};
+ghost use Rattle.winnow_core.specs.Exact.Allowed.{fails_as, softly};
 ghost use Rattle.winnow_core.specs.Exact.Settled.{NoneWithin, ReadsWithin, and_then_exact};
-ghost use Rattle.winnow_core.specs.Exact.Settled.{and_then_soft};
+ghost use Rattle.winnow_core.specs.Exact.Settled.{and_then_fails};
 ghost use Rattle.winnow_core.specs.Settles.Laws.{settles_ends, settles_grows};
 ghost use Rattle.winnow_core.specs.Stable.Grows.{grows, stays};
 
@@ -67,6 +68,7 @@ impl<
           × RejectsAll (ReadsWithin O.view (G.claim s.1).grammar)
           (NoneWithin O.view (G.claim s.1).grammar) tt (F.claim s.0).grammar;
       backtracks = (F.claim s.0).backtracks;
+      spares_memory = (F.claim s.0).spares_memory × (G.claim s.1).spares_memory;
       consumes = (F.claim s.0).consumes;
       grammar = Made (ReadsWithin O.view (G.claim s.1).grammar) tt (F.claim s.0).grammar;
       decides = ⊥;
@@ -79,9 +81,11 @@ impl<
 
     ghost claimed = { λ s. record {
       exact = λ form is. and_then_exact O.view is.3 ((F.claimed s.0).exact form is.0)
-          ((G.claimed s.1).exact form is.1) ((G.claimed s.1).soft form is.1 is.2);
-      soft = λ form is soft. and_then_soft O.view ((F.claimed s.0).soft form is.0 soft)
-          ((G.claimed s.1).exact form is.1) ((G.claimed s.1).soft form is.1 is.2);
+          ((G.claimed s.1).exact form is.1) (softly is.2 ((G.claimed s.1).fails form is.1));
+      fails = λ form is. and_then_fails O.view ((G.claimed s.1).exact form is.1)
+          (softly is.2 ((G.claimed s.1).fails form is.1))
+          (fails_as (λ b. b) (λ m. m.0) ((F.claimed s.0).fails form is.0))
+          (fails_as (λ b. is.2) (λ m. m.1) ((G.claimed s.1).fails form is.1));
       takes = λ is some. made_of_takes (ReadsWithin O.view (G.claim s.1).grammar) tt
           ((F.claimed s.0).takes is.0 some);
       decided = λ form never. absurd never;

@@ -3,7 +3,7 @@ ghost use Rattle.std.specs.Prelude.{◌≡◌, ℕ};
 ghost use Rattle.stream_errors.specs.Form.{modal};
 ghost use Rattle.winnow_core.specs.Agrees.{agrees_with};
 ghost use Rattle.winnow_core.specs.ByRef.{ByRefRuns};
-ghost use Rattle.winnow_core.specs.ByRef.Laws.{by_ref_exact, by_ref_soft, by_ref_grows};
+ghost use Rattle.winnow_core.specs.ByRef.Laws.{by_ref_exact, by_ref_fails, by_ref_grows};
 ghost use Rattle.winnow_core.specs.Decided.Adapters.{by_ref_decided};
 ghost use Rattle.winnow_core.specs.Stable.Grows.{grows, stays};
 
@@ -40,6 +40,7 @@ impl<'p, P: Parser<I, O, E>, I: Stream, O, E: ParserError<I>> Parser<I, O, E>
     ghost claim = { λ s. record {
       premise = (P.claim s.0).premise;
       backtracks = (P.claim s.0).backtracks;
+      spares_memory = (P.claim s.0).spares_memory;
       consumes = (P.claim s.0).consumes;
       grammar = (P.claim s.0).grammar;
       decides = (P.claim s.0).decides;
@@ -50,7 +51,7 @@ impl<'p, P: Parser<I, O, E>, I: Stream, O, E: ParserError<I>> Parser<I, O, E>
 
     ghost claimed = { λ s. record {
       exact = λ form is. by_ref_exact ((P.claimed s.0).exact form is);
-      soft = λ form is soft. by_ref_soft ((P.claimed s.0).soft form is soft);
+      fails = λ form is. by_ref_fails ((P.claimed s.0).fails form is);
       takes = λ is some. (P.claimed s.0).takes is some;
       decided = λ form is. by_ref_decided ((P.claimed s.0).decided form is);
     } };

@@ -3,7 +3,8 @@ ghost use Rattle.std.specs.Prelude.{◌≡◌};
 ghost use Rattle.winnow_core.specs.Agrees.{agrees1};
 ghost use Rattle.winnow_core.specs.CompleteErr.{CompleteErrBecomes, CompleteErrRuns};
 ghost use Rattle.winnow_core.specs.CompleteErr.{complete_err_parser};
-ghost use Rattle.winnow_core.specs.Exact.Errors.{complete_err_exact, complete_err_soft};
+ghost use Rattle.winnow_core.specs.Decided.Errors.{complete_err_decided};
+ghost use Rattle.winnow_core.specs.Exact.Errors.{complete_err_exact, complete_err_fails};
 ghost use Rattle.winnow_core.specs.MakesError.Laws.{makes_error_ends};
 
 use crate::agrees_with::AgreesWith;
@@ -50,10 +51,11 @@ impl<F: Parser<I, O, E>, I: Stream, O, E: ParserError<I>> Parser<I, O, E>
     ghost claim = { λ s. record {
       premise = (F.claim s).premise;
       backtracks = (F.claim s).backtracks;
+      spares_memory = (F.claim s).spares_memory;
       consumes = (F.claim s).consumes;
       grammar = (F.claim s).grammar;
-      decides = ⊥;
-      alike = λ o p. o ≡ p;
+      decides = (F.claim s).decides;
+      alike = (F.claim s).alike;
     } };
 
     ghost leaves_ends = { λ form s i answer t j ran. makes_error_ends I.reading
@@ -62,9 +64,9 @@ impl<F: Parser<I, O, E>, I: Stream, O, E: ParserError<I>> Parser<I, O, E>
 
     ghost claimed = { λ s. record {
       exact = λ form is. complete_err_exact ((F.claimed s).exact form is);
-      soft = λ form is soft. complete_err_soft ((F.claimed s).soft form is soft);
+      fails = λ form is. complete_err_fails ((F.claimed s).fails form is);
       takes = λ is some. (F.claimed s).takes is some;
-      decided = λ form never. absurd never;
+      decided = λ form is. complete_err_decided ((F.claimed s).decided form is);
     } };
 
     #[inline]

@@ -6,7 +6,10 @@ ghost use Rattle.winnow_core.specs.Agrees.{agrees_with};
 ghost use Rattle.winnow_core.specs.Context.{ContextBecomes, ContextRuns, context_parser};
 ghost use Rattle.winnow_core.specs.Context.{context_told};
 ghost use Rattle.winnow_core.specs.Context.Laws.{context_keeps};
-ghost use Rattle.winnow_core.specs.Exact.Errors.{context_keeps_kinds, errors_exact, errors_soft};
+ghost use Rattle.winnow_core.specs.Decided.Errors.{context_decided};
+ghost use Rattle.winnow_core.specs.Exact.Allowed.{fails_as, wanted};
+ghost use Rattle.winnow_core.specs.Exact.Errors.{NeverRefused, context_fails};
+ghost use Rattle.winnow_core.specs.Exact.Errors.{context_keeps_kinds, errors_exact};
 ghost use Rattle.winnow_core.specs.MakesError.Laws.{makes_error_ends, makes_error_grows};
 ghost use Rattle.winnow_core.specs.Stable.Grows.{grows, stays};
 
@@ -71,10 +74,12 @@ impl<
     ghost claim = { λ s. record {
       premise = (F.claim s.0).premise;
       backtracks = (F.claim s.0).backtracks;
+      spares_memory =
+          (F.claim s.0).spares_memory × C.is_infallible s.1.0 × NeverRefused C.is_clone s.1;
       consumes = (F.claim s.0).consumes;
       grammar = (F.claim s.0).grammar;
-      decides = ⊥;
-      alike = λ o p. o ≡ p;
+      decides = (F.claim s.0).decides;
+      alike = (F.claim s.0).alike;
     } };
 
     ghost leaves_ends = { λ form. makes_error_ends I.reading
@@ -84,10 +89,13 @@ impl<
     ghost claimed = { λ s. record {
       exact = λ form is. errors_exact (context_keeps_kinds C.is_clone C.is_infallible)
           ((F.claimed s.0).exact form is);
-      soft = λ form is soft. errors_soft (context_keeps_kinds C.is_clone C.is_infallible)
-          ((F.claimed s.0).soft form is soft);
+      fails = λ form is. context_fails C.is_clone C.is_infallible
+          (λ not. wanted (λ m. not m.1))
+          (λ copy cloned refused. wanted (λ m. m.2 copy cloned refused))
+          (fails_as (λ b. b) (λ m. m.0) ((F.claimed s.0).fails form is));
       takes = λ is some. (F.claimed s.0).takes is some;
-      decided = λ form never. absurd never;
+      decided = λ form is. context_decided C.is_clone C.is_infallible
+          ((F.claimed s.0).decided form is);
     } };
 
     #[inline]

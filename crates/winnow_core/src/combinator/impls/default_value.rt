@@ -4,8 +4,9 @@ ghost use Rattle.grammars.specs.Grammar.{Made};
 ghost use Rattle.grammars.specs.Grammar.Unique.{made_of_takes};
 ghost use Rattle.stream_errors.specs.Form.{modal};
 ghost use Rattle.winnow_core.specs.Agrees.{agrees1};
+ghost use Rattle.winnow_core.specs.Decided.Adapters.{output_decided};
 ghost use Rattle.winnow_core.specs.DefaultValue.{DefaultValueRuns, default_value_parser};
-ghost use Rattle.winnow_core.specs.Exact.Adapters.{output_exact, output_soft};
+ghost use Rattle.winnow_core.specs.Exact.Adapters.{output_exact, output_fails};
 ghost use Rattle.winnow_core.specs.MakesOutput.Laws.{makes_output_ends, made_of_output};
 ghost use Rattle.winnow_core.specs.MakesOutput.Laws.{makes_output_grows};
 ghost use Rattle.winnow_core.specs.Stable.Grows.{grows, stays};
@@ -54,10 +55,11 @@ impl<F: Parser<I, O, E>, I: Stream, O: Drop, O2: Default, E: ParserError<I>> Par
     ghost claim = { λ s. record {
       premise = (F.claim s).premise;
       backtracks = (F.claim s).backtracks;
+      spares_memory = (F.claim s).spares_memory;
       consumes = (F.claim s).consumes;
       grammar = Made (λ (_ : Unit {0}) o u. O2.is_default u) tt (F.claim s).grammar;
-      decides = ⊥;
-      alike = λ o p. o ≡ p;
+      decides = (F.claim s).decides;
+      alike = λ u v. O2.is_default u × O2.is_default v;
     } };
 
     ghost leaves_ends = { λ form. makes_output_ends I.reading _ (F.meaning form)
@@ -66,11 +68,12 @@ impl<F: Parser<I, O, E>, I: Stream, O: Drop, O2: Default, E: ParserError<I>> Par
     ghost claimed = { λ s. record {
       exact = λ form is. output_exact (λ (_ : Unit {0}) o u. O2.is_default u) tt
           ((F.claimed s).exact form is);
-      soft = λ form is soft. output_soft (λ o u. O2.is_default u)
-          ((F.claimed s).soft form is soft);
+      fails = λ form is. output_fails (λ o u. O2.is_default u)
+          ((F.claimed s).fails form is);
       takes = λ is some. made_of_takes (λ (_ : Unit {0}) o u. O2.is_default u) tt
           ((F.claimed s).takes is some);
-      decided = λ form never. absurd never;
+      decided = λ form is. output_decided (λ i o j u. O2.is_default u)
+          (λ i a o p u v like x y. (x, y)) ((F.claimed s).decided form is);
     } };
 
     #[inline]

@@ -3,7 +3,10 @@ ghost use Rattle.std.specs.Prelude.{⊤, ◌<◌, ◌≡◌};
 ghost use Rattle.grammars.specs.Grammar.{NoTokens};
 ghost use Rattle.winnow_core.specs.Agrees.{agrees_plain};
 ghost use Rattle.winnow_core.specs.Eof.{EofRuns};
-ghost use Rattle.winnow_core.specs.Eof.Laws.{eof_exact, eof_soft, eof_alike, eof_ends};
+ghost use Rattle.winnow_core.specs.Eof.Laws.{eof_alike, eof_decided, eof_ends, eof_exact};
+ghost use Rattle.winnow_core.specs.Eof.Laws.{eof_fails};
+ghost use Rattle.winnow_core.specs.Exact.Allowed.{backs};
+ghost use Rattle.winnow_core.specs.Literal.Laws.{ShowSame};
 ghost use Rattle.winnow_core.specs.Runs.{Keeps};
 
 use crate::agrees_with::AgreesWith;
@@ -32,19 +35,20 @@ impl<I: Stream, E: ParserError<I>> Parser<I, I::Slice, E> for Eof {
     ghost claim = { λ s. record {
       premise = ⊤;
       backtracks = ⊤;
+      spares_memory = ⊤;
       consumes = ⊥;
       grammar = NoTokens I.reading;
-      decides = ⊥;
-      alike = λ o p. o ≡ p;
+      decides = ⊤;
+      alike = ShowSame I.reading;
     } };
 
     ghost leaves_ends = { λ form x i answer y j r. eof_ends I.reading i answer j r.0 };
 
     ghost claimed = { λ s. record {
       exact = λ form is. eof_exact I.reading;
-      soft = λ form is soft. eof_soft I.reading;
+      fails = λ form is. backs (eof_fails I.reading);
       takes = λ is never. absurd never;
-      decided = λ form never. absurd never;
+      decided = λ form is. eof_decided I.reading;
     } };
 
     #[inline(always)]

@@ -1,9 +1,11 @@
 //! Errors that are converted.
 ghost use Rattle.std.specs.Prelude.{◌≡◌};
 ghost use Rattle.winnow_core.specs.Agrees.{agrees1};
+ghost use Rattle.winnow_core.specs.Decided.Errors.{err_into_decided};
 ghost use Rattle.winnow_core.specs.ErrInto.{ErrIntoBecomes, ErrIntoRuns, err_into_parser};
 ghost use Rattle.winnow_core.specs.ErrInto.Laws.{err_into_keeps};
-ghost use Rattle.winnow_core.specs.Exact.Errors.{SameKinds, err_into_exact, err_into_soft};
+ghost use Rattle.winnow_core.specs.Exact.Errors.{ConvertsSparing, SameKinds, err_into_exact};
+ghost use Rattle.winnow_core.specs.Exact.Errors.{err_into_fails};
 ghost use Rattle.winnow_core.specs.MakesError.Laws.{makes_error_ends, makes_error_grows};
 ghost use Rattle.winnow_core.specs.Stable.Grows.{grows_at, stays_beside};
 
@@ -54,10 +56,12 @@ impl<F: Parser<I, O, E>, I: Stream, O, E: ParserError<I>, E2: ParserError<I> + F
     ghost claim = { λ s. record {
       premise = (F.claim s).premise × SameKinds E.kind E2.kind E2.from_gives;
       backtracks = (F.claim s).backtracks;
+      spares_memory =
+          (F.claim s).spares_memory × ConvertsSparing E.kind E2.kind E2.from_gives;
       consumes = (F.claim s).consumes;
       grammar = (F.claim s).grammar;
-      decides = ⊥;
-      alike = λ o p. o ≡ p;
+      decides = (F.claim s).decides × SameKinds E.kind E2.kind E2.from_gives;
+      alike = (F.claim s).alike;
     } };
 
     ghost leaves_ends = { λ _ s i answer t j ran. makes_error_ends I.reading
@@ -67,10 +71,11 @@ impl<F: Parser<I, O, E>, I: Stream, O, E: ParserError<I>, E2: ParserError<I> + F
     ghost claimed = { λ s. record {
       exact = λ form is. err_into_exact E.kind E2.kind E2.from_gives is.1
           ((F.claimed s).exact E.form is.0);
-      soft = λ form is soft. err_into_soft E.kind E2.kind E2.from_gives is.1
-          ((F.claimed s).soft E.form is.0 soft);
+      fails = λ form is. err_into_fails E.kind E2.kind E2.from_gives is.1 (λ m. m.0)
+          (λ m. m.1) ((F.claimed s).fails E.form is.0);
       takes = λ is some. (F.claimed s).takes is.0 some;
-      decided = λ form never. absurd never;
+      decided = λ form is. err_into_decided E.kind E2.kind E2.from_gives is.1
+          ((F.claimed s).decided E.form is.0);
     } };
 
     #[inline]

@@ -3,10 +3,11 @@ ghost use Rattle.std.specs.Prelude.{◌≡◌, ◌⊎◌};
 ghost use Rattle.grammars.specs.Grammar.Decided.{Decided, EachMade, MadeAlike, decided_takes};
 ghost use Rattle.stream_errors.specs.Form.{modal};
 ghost use Rattle.winnow_core.specs.Closures.{Gives, Stays};
+ghost use Rattle.winnow_core.specs.Exact.Allowed.{fails_as};
 ghost use Rattle.winnow_core.specs.Exact.Along.{either_way};
 ghost use Rattle.winnow_core.specs.FlatMap.{FlatMapRuns, MakesParsers, flat_map_closure};
 ghost use Rattle.winnow_core.specs.FlatMap.{flat_map_parser};
-ghost use Rattle.winnow_core.specs.FlatMap.Laws.{flat_map_exact, flat_map_soft, flat_map_ends};
+ghost use Rattle.winnow_core.specs.FlatMap.Laws.{flat_map_exact, flat_map_fails, flat_map_ends};
 ghost use Rattle.winnow_core.specs.FlatMap.Laws.{flat_map_grows};
 ghost use Rattle.winnow_core.specs.Stable.Grows.{grows, stays};
 
@@ -70,6 +71,9 @@ impl<
       backtracks =
           (F.claim s.0).backtracks
           × EachMade (Gives G.step) s.1 (λ m. (H.claim (H.state m)).backtracks);
+      spares_memory =
+          (F.claim s.0).spares_memory
+          × EachMade (Gives G.step) s.1 (λ m. (H.claim (H.state m)).spares_memory);
       consumes = (F.claim s.0).consumes
           ⊎ EachMade (Gives G.step) s.1 (λ m. (H.claim (H.state m)).consumes);
       grammar = Decided (Gives G.step) s.1 (λ m. (H.claim (H.state m)).grammar)
@@ -85,10 +89,11 @@ impl<
       exact = λ form is. flat_map_exact G.step H.state (λ m. (H.claim (H.state m)).grammar)
           is.1 ((F.claimed s.0).exact form is.0)
           (λ o made m. (H.claimed (H.state made)).exact form (is.2 o made m)) is.3;
-      soft = λ form is soft. flat_map_soft G.step H.state (λ m. (H.claim (H.state m)).grammar)
-          is.1 ((F.claimed s.0).exact form is.0) ((F.claimed s.0).soft form is.0 soft.0)
-          (λ o made m. (H.claimed (H.state made)).soft form (is.2 o made m)
-          (soft.1 o made m));
+      fails = λ form is. flat_map_fails G.step H.state (λ m. (H.claim (H.state m)).grammar)
+          is.1 ((F.claimed s.0).exact form is.0)
+          (fails_as (λ b. b.0) (λ m. m.0) ((F.claimed s.0).fails form is.0))
+          (λ o made m. fails_as (λ b. b.1 o made m) (λ x. x.1 o made m)
+          ((H.claimed (H.state made)).fails form (is.2 o made m)));
       takes = λ is some. decided_takes (Gives G.step) s.1 (λ m. (H.claim (H.state m)).grammar)
           ((F.claimed s.0).exact modal is.0).unique
           (λ o made m. ((H.claimed (H.state made)).exact modal (is.2 o made m)).unique)

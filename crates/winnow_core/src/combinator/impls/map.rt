@@ -7,7 +7,7 @@ ghost use Rattle.winnow_core.specs.Agrees.{agrees_with};
 ghost use Rattle.winnow_core.specs.Closures.{Gives, Stays};
 ghost use Rattle.winnow_core.specs.Decided.Adapters.{map_decided};
 ghost use Rattle.winnow_core.specs.Decided.Made.{MadeAlike};
-ghost use Rattle.winnow_core.specs.Exact.Adapters.{map_exact, map_soft};
+ghost use Rattle.winnow_core.specs.Exact.Adapters.{map_exact, map_fails};
 ghost use Rattle.winnow_core.specs.Map.{MapRuns, map_parser, map_closure};
 ghost use Rattle.winnow_core.specs.Map.Laws.{map_ends, map_grows};
 ghost use Rattle.winnow_core.specs.Stable.Grows.{grows, stays};
@@ -59,6 +59,7 @@ impl<F: Parser<I, O, E>, G: FnMut(O) -> O2, I: Stream, O, O2, E: ParserError<I>>
     ghost claim = { λ s. record {
       premise = (F.claim s.0).premise × Stays G.step s.1;
       backtracks = (F.claim s.0).backtracks;
+      spares_memory = (F.claim s.0).spares_memory;
       consumes = (F.claim s.0).consumes;
       grammar = Made (Gives G.step) s.1 (F.claim s.0).grammar;
       decides = (F.claim s.0).decides × Stays G.step s.1;
@@ -69,7 +70,7 @@ impl<F: Parser<I, O, E>, G: FnMut(O) -> O2, I: Stream, O, O2, E: ParserError<I>>
 
     ghost claimed = { λ s. record {
       exact = λ form is. map_exact G.step is.1 ((F.claimed s.0).exact form is.0);
-      soft = λ form is soft. map_soft G.step is.1 ((F.claimed s.0).soft form is.0 soft);
+      fails = λ form is. map_fails G.step is.1 ((F.claimed s.0).fails form is.0);
       takes = λ is some. made_of_takes (Gives G.step) s.1 ((F.claimed s.0).takes is.0 some);
       decided = λ form is. map_decided G.step is.1 ((F.claimed s.0).decided form is.0);
     } };

@@ -2,7 +2,8 @@
 ghost use Rattle.std.specs.Prelude.{◌≡◌};
 ghost use Rattle.winnow_core.specs.Agrees.{agrees_with};
 ghost use Rattle.winnow_core.specs.Closures.{Stays};
-ghost use Rattle.winnow_core.specs.Exact.Errors.{map_err_exact, map_err_soft};
+ghost use Rattle.winnow_core.specs.Decided.Errors.{map_err_decided};
+ghost use Rattle.winnow_core.specs.Exact.Errors.{map_err_exact, map_err_fails};
 ghost use Rattle.winnow_core.specs.MakesError.Laws.{makes_error_ends};
 ghost use Rattle.winnow_core.specs.MapErr.{MapErrBecomes, MapErrRuns, map_err_closure};
 ghost use Rattle.winnow_core.specs.MapErr.{map_err_parser};
@@ -61,10 +62,11 @@ impl<
     ghost claim = { λ s. record {
       premise = (F.claim s.0).premise × Stays G.step s.1 × KeepsEachKind E.kind E2.kind G.step;
       backtracks = (F.claim s.0).backtracks;
+      spares_memory = (F.claim s.0).spares_memory;
       consumes = (F.claim s.0).consumes;
       grammar = (F.claim s.0).grammar;
-      decides = ⊥;
-      alike = λ o p. o ≡ p;
+      decides = (F.claim s.0).decides × Stays G.step s.1 × KeepsEachKind E.kind E2.kind G.step;
+      alike = (F.claim s.0).alike;
     } };
 
     ghost leaves_ends = { λ _. makes_error_ends I.reading (MapErrBecomes E.kind E2.kind G.step)
@@ -74,10 +76,11 @@ impl<
     ghost claimed = { λ s. record {
       exact = λ form is. map_err_exact E.kind E2.kind G.step is.2 is.1
           ((F.claimed s.0).exact E.form is.0);
-      soft = λ form is soft. map_err_soft E.kind E2.kind G.step is.2 is.1
-          ((F.claimed s.0).soft E.form is.0 soft);
+      fails = λ form is. map_err_fails E.kind E2.kind G.step is.2
+          ((F.claimed s.0).fails E.form is.0);
       takes = λ is some. (F.claimed s.0).takes is.0 some;
-      decided = λ form never. absurd never;
+      decided = λ form is. map_err_decided E.kind E2.kind G.step is.2 is.1
+          ((F.claimed s.0).decided E.form is.0);
     } };
 
     #[inline]

@@ -3,7 +3,8 @@ ghost use Rattle.std.specs.Prelude.{◌≡◌};
 ghost use Rattle.stream_errors.specs.Form.{modal};
 ghost use Rattle.winnow_core.specs.Agrees.{agrees_with};
 ghost use Rattle.winnow_core.specs.Closures.{Stays};
-ghost use Rattle.winnow_core.specs.Exact.Errors.{map_err_kept_exact, map_err_kept_soft};
+ghost use Rattle.winnow_core.specs.Decided.Errors.{map_err_kept_decided};
+ghost use Rattle.winnow_core.specs.Exact.Errors.{map_err_kept_exact, map_err_kept_fails};
 ghost use Rattle.winnow_core.specs.MakesError.Laws.{makes_error_ends, makes_error_grows};
 ghost use Rattle.winnow_core.specs.MapErrKept.{KeepsEachKind, MapErrKeptBecomes, MapErrKeptRuns};
 ghost use Rattle.winnow_core.specs.MapErrKept.{map_err_kept_closure, map_err_kept_keeps};
@@ -68,10 +69,11 @@ impl<
     ghost claim = { λ s. record {
       premise = (F.claim s.0).premise × Stays G.step s.1;
       backtracks = (F.claim s.0).backtracks;
+      spares_memory = (F.claim s.0).spares_memory;
       consumes = (F.claim s.0).consumes;
       grammar = (F.claim s.0).grammar;
-      decides = ⊥;
-      alike = λ o p. o ≡ p;
+      decides = (F.claim s.0).decides × Stays G.step s.1;
+      alike = (F.claim s.0).alike;
     } };
 
     ghost leaves_ends = { λ form. makes_error_ends I.reading
@@ -80,10 +82,11 @@ impl<
     ghost claimed = { λ s. record {
       exact = λ form is. map_err_kept_exact E.kind E2.kind G.step is.1
           ((F.claimed s.0).exact form is.0);
-      soft = λ form is soft. map_err_kept_soft E.kind E2.kind G.step is.1
-          ((F.claimed s.0).soft form is.0 soft);
+      fails = λ form is. map_err_kept_fails E.kind E2.kind G.step
+          ((F.claimed s.0).fails form is.0);
       takes = λ is some. (F.claimed s.0).takes is.0 some;
-      decided = λ form never. absurd never;
+      decided = λ form is. map_err_kept_decided E.kind E2.kind G.step is.1
+          ((F.claimed s.0).decided form is.0);
     } };
 
     #[inline]

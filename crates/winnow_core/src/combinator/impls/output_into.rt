@@ -4,7 +4,9 @@ ghost use Rattle.grammars.specs.Grammar.{Made};
 ghost use Rattle.grammars.specs.Grammar.Unique.{made_of_takes};
 ghost use Rattle.stream_errors.specs.Form.{modal};
 ghost use Rattle.winnow_core.specs.Agrees.{agrees1};
-ghost use Rattle.winnow_core.specs.Exact.Adapters.{output_exact, output_soft};
+ghost use Rattle.winnow_core.specs.Decided.Adapters.{output_decided};
+ghost use Rattle.winnow_core.specs.Decided.Made.{MadeAlike};
+ghost use Rattle.winnow_core.specs.Exact.Adapters.{output_exact, output_fails};
 ghost use Rattle.winnow_core.specs.MakesOutput.Laws.{makes_output_ends, made_of_output};
 ghost use Rattle.winnow_core.specs.MakesOutput.Laws.{makes_output_grows};
 ghost use Rattle.winnow_core.specs.OutputInto.{OutputIntoRuns, output_into_parser};
@@ -54,10 +56,11 @@ impl<F: Parser<I, O, E>, I: Stream, O, O2: From<O>, E: ParserError<I>> Parser<I,
     ghost claim = { λ s. record {
       premise = (F.claim s).premise;
       backtracks = (F.claim s).backtracks;
+      spares_memory = (F.claim s).spares_memory;
       consumes = (F.claim s).consumes;
       grammar = Made (λ (_ : Unit {0}) o u. O2.from_gives o u) tt (F.claim s).grammar;
-      decides = ⊥;
-      alike = λ o p. o ≡ p;
+      decides = (F.claim s).decides;
+      alike = MadeAlike (F.claim s).alike (λ o u. O2.from_gives o u);
     } };
 
     ghost leaves_ends = { λ form. makes_output_ends I.reading _ (F.meaning form)
@@ -66,11 +69,12 @@ impl<F: Parser<I, O, E>, I: Stream, O, O2: From<O>, E: ParserError<I>> Parser<I,
     ghost claimed = { λ s. record {
       exact = λ form is. output_exact (λ (_ : Unit {0}) o u. O2.from_gives o u) tt
           ((F.claimed s).exact form is);
-      soft = λ form is soft. output_soft (λ o u. O2.from_gives o u)
-          ((F.claimed s).soft form is soft);
+      fails = λ form is. output_fails (λ o u. O2.from_gives o u)
+          ((F.claimed s).fails form is);
       takes = λ is some. made_of_takes (λ (_ : Unit {0}) o u. O2.from_gives o u) tt
           ((F.claimed s).takes is some);
-      decided = λ form never. absurd never;
+      decided = λ form is. output_decided (λ i o j u. O2.from_gives o u)
+          (λ i a o p u v like x y. (o, p, like, x, y)) ((F.claimed s).decided form is);
     } };
 
     #[inline]

@@ -8,7 +8,7 @@ ghost use Rattle.winnow_core.specs.Agrees.{agrees1};
 ghost use Rattle.winnow_core.specs.Decided.Adapters.{ReadsSame, parse_to_decided};
 ghost use Rattle.winnow_core.specs.Decided.Made.{MadeAlike};
 ghost use Rattle.winnow_core.specs.Exact.Settled.{ReadsNone, ReadsSome, parse_to_exact};
-ghost use Rattle.winnow_core.specs.Exact.Settled.{parse_to_soft};
+ghost use Rattle.winnow_core.specs.Exact.Settled.{parse_to_fails};
 ghost use Rattle.winnow_core.specs.ParseTo.{ParseToSettles, ParseToRuns, parse_to_parser};
 ghost use Rattle.winnow_core.specs.Settles.Laws.{settles_ends, settles_grows};
 ghost use Rattle.winnow_core.specs.Stable.Grows.{grows, stays_beside};
@@ -62,6 +62,7 @@ impl<F: Parser<I, O, E>, I: Stream, O: ParseSlice<O2> + Drop, O2, E: ParserError
       premise = (F.claim s).premise
           × RejectsAll (ReadsSome O.reads) (ReadsNone O.reads) tt (F.claim s).grammar;
       backtracks = (F.claim s).backtracks;
+      spares_memory = (F.claim s).spares_memory;
       consumes = (F.claim s).consumes;
       grammar = Made (ReadsSome O.reads) tt (F.claim s).grammar;
       decides = (F.claim s).decides × ReadsSame O.reads (F.claim s).alike;
@@ -74,7 +75,7 @@ impl<F: Parser<I, O, E>, I: Stream, O: ParseSlice<O2> + Drop, O2, E: ParserError
 
     ghost claimed = { λ s. record {
       exact = λ form is. parse_to_exact O.reads is.1 ((F.claimed s).exact form is.0);
-      soft = λ form is soft. parse_to_soft O.reads ((F.claimed s).soft form is.0 soft);
+      fails = λ form is. parse_to_fails O.reads ((F.claimed s).fails form is.0);
       takes = λ is some. made_of_takes (ReadsSome O.reads) tt ((F.claimed s).takes is.0 some);
       decided = λ form is. parse_to_decided O.reads is.1 ((F.claimed s).decided form is.0);
     } };

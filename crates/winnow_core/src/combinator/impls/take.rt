@@ -4,7 +4,7 @@ ghost use Rattle.streams.specs.Input.{Ends};
 ghost use Rattle.grammars.specs.Grammar.{Taken};
 ghost use Rattle.stream_errors.specs.Form.{modal};
 ghost use Rattle.winnow_core.specs.Decided.Adapters.{take_decided};
-ghost use Rattle.winnow_core.specs.Exact.Adapters.{take_exact, take_soft, taken_takes};
+ghost use Rattle.winnow_core.specs.Exact.Adapters.{take_exact, take_fails, taken_takes};
 ghost use Rattle.winnow_core.specs.Literal.Laws.{ShowSame};
 ghost use Rattle.winnow_core.specs.Stable.Grows.{grows, stays};
 ghost use Rattle.winnow_core.specs.Take.{TakeRuns, take_parser};
@@ -55,6 +55,7 @@ impl<F: Parser<I, O, E>, I: Stream, O: Drop, E: ParserError<I>> Parser<I, I::Sli
     ghost claim = { λ s. record {
       premise = (F.claim s).premise;
       backtracks = (F.claim s).backtracks;
+      spares_memory = (F.claim s).spares_memory;
       consumes = (F.claim s).consumes;
       grammar = Taken I.reading (F.claim s).grammar;
       decides = (F.claim s).decides;
@@ -65,7 +66,7 @@ impl<F: Parser<I, O, E>, I: Stream, O: Drop, E: ParserError<I>> Parser<I, I::Sli
 
     ghost claimed = { λ s. record {
       exact = λ form is. take_exact I.reading ((F.claimed s).exact form is);
-      soft = λ form is soft. take_soft I.reading ((F.claimed s).soft form is soft);
+      fails = λ form is. take_fails I.reading ((F.claimed s).fails form is);
       takes = λ is some. taken_takes I.reading ((F.claimed s).takes is some);
       decided = λ form is. take_decided I.reading ((F.claimed s).decided form is);
     } };

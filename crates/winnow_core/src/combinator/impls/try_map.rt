@@ -7,7 +7,9 @@ ghost use Rattle.stream_errors.specs.Form.{modal};
 ghost use Rattle.stream_errors.specs.Given.{Keeping};
 ghost use Rattle.winnow_core.specs.Agrees.{agrees_with};
 ghost use Rattle.winnow_core.specs.Closures.{Stays};
-ghost use Rattle.winnow_core.specs.Exact.Settled.{GivesErr, GivesOk, try_map_exact, try_map_soft};
+ghost use Rattle.winnow_core.specs.Exact.Allowed.{fails_as};
+ghost use Rattle.winnow_core.specs.Exact.Settled.{ErrorsKept, GivesErr, GivesOk, try_map_exact};
+ghost use Rattle.winnow_core.specs.Exact.Settled.{try_map_fails};
 ghost use Rattle.winnow_core.specs.Settles.Laws.{settles_ends, settles_grows};
 ghost use Rattle.winnow_core.specs.Stable.Grows.{grows, stays};
 ghost use Rattle.winnow_core.specs.TryMap.{TryMapSettles, TryMapRuns, try_map_closure};
@@ -69,6 +71,7 @@ impl<
       premise = (F.claim s.0).premise × Stays G.step s.1.0
           × RejectsAll (GivesOk G.step) (GivesErr G.step) s.1.0 (F.claim s.0).grammar;
       backtracks = (F.claim s.0).backtracks;
+      spares_memory = (F.claim s.0).spares_memory × ErrorsKept s.1.1;
       consumes = (F.claim s.0).consumes;
       grammar = Made (GivesOk G.step) s.1.0 (F.claim s.0).grammar;
       decides = ⊥;
@@ -81,7 +84,8 @@ impl<
 
     ghost claimed = { λ s. record {
       exact = λ form is. try_map_exact G.step is.1 is.2 ((F.claimed s.0).exact form is.0);
-      soft = λ form is soft. try_map_soft G.step is.1 ((F.claimed s.0).soft form is.0 soft);
+      fails = λ form is. try_map_fails G.step is.1 (λ m. m.1)
+          (fails_as (λ b. b) (λ m. m.0) ((F.claimed s.0).fails form is.0));
       takes = λ is some. made_of_takes (GivesOk G.step) s.1.0 ((F.claimed s.0).takes is.0 some);
       decided = λ form never. absurd never;
     } };

@@ -5,7 +5,8 @@ ghost use Rattle.grammars.specs.Grammar.Unique.{made_of_takes};
 ghost use Rattle.stream_errors.specs.Form.{modal};
 ghost use Rattle.winnow_core.specs.Agrees.{agrees_with};
 ghost use Rattle.winnow_core.specs.Decided.Adapters.{BothClones, value_decided};
-ghost use Rattle.winnow_core.specs.Exact.Adapters.{value_exact, value_soft};
+ghost use Rattle.winnow_core.specs.Exact.Adapters.{value_exact, value_fails};
+ghost use Rattle.winnow_core.specs.Exact.Allowed.{fails_as, wanted};
 ghost use Rattle.winnow_core.specs.Stable.Grows.{grows, stays};
 ghost use Rattle.winnow_core.specs.Value.{ValueRuns, value_kept, value_parser};
 ghost use Rattle.winnow_core.specs.Value.Laws.{value_ends, value_grows};
@@ -56,6 +57,7 @@ impl<F: Parser<I, O, E>, I: Stream, O: Drop, O2: Clone, E: ParserError<I>> Parse
     ghost claim = { λ s. record {
       premise = (F.claim s.0).premise;
       backtracks = (F.claim s.0).backtracks;
+      spares_memory = (F.claim s.0).spares_memory × O2.is_infallible s.1;
       consumes = (F.claim s.0).consumes;
       grammar = Made (λ v o u. O2.is_clone v u) s.1 (F.claim s.0).grammar;
       decides = (F.claim s.0).decides;
@@ -67,8 +69,9 @@ impl<F: Parser<I, O, E>, I: Stream, O: Drop, O2: Clone, E: ParserError<I>> Parse
 
     ghost claimed = { λ s. record {
       exact = λ form is. value_exact O2.is_clone O2.is_infallible ((F.claimed s.0).exact form is);
-      soft = λ form is soft. value_soft O2.is_clone O2.is_infallible
-          ((F.claimed s.0).soft form is soft);
+      fails = λ form is. value_fails O2.is_clone O2.is_infallible
+          (λ not. wanted (λ m. not m.1))
+          (fails_as (λ b. b) (λ m. m.0) ((F.claimed s.0).fails form is));
       takes = λ is some. made_of_takes (λ v o u. O2.is_clone v u) s.1
           ((F.claimed s.0).takes is some);
       decided = λ form is. value_decided O2.is_clone O2.is_infallible

@@ -8,7 +8,7 @@ ghost use Rattle.stream_errors.specs.Form.{modal};
 ghost use Rattle.winnow_core.specs.Agrees.{agrees_with};
 ghost use Rattle.winnow_core.specs.Closures.{Stays, Finds};
 ghost use Rattle.winnow_core.specs.Decided.Adapters.{FindsSame, verify_decided};
-ghost use Rattle.winnow_core.specs.Exact.Settled.{Misses, settled_exact, settled_soft};
+ghost use Rattle.winnow_core.specs.Exact.Settled.{Misses, settled_exact, verify_fails};
 ghost use Rattle.winnow_core.specs.Exact.Settled.{verify_settler};
 ghost use Rattle.winnow_core.specs.Settles.Laws.{settles_ends, settles_grows};
 ghost use Rattle.winnow_core.specs.Stable.Grows.{grows, stays};
@@ -67,6 +67,7 @@ impl<F: Parser<I, O, E>, G: FnMut(&O) -> bool, I: Stream, O: Drop, E: ParserErro
           × RejectsAll (Finds (CalledAt G.FnMut)) (Misses (CalledAt G.FnMut)) s.1
           (F.claim s.0).grammar;
       backtracks = (F.claim s.0).backtracks;
+      spares_memory = (F.claim s.0).spares_memory;
       consumes = (F.claim s.0).consumes;
       grammar = Made (Finds (CalledAt G.FnMut)) s.1 (F.claim s.0).grammar;
       decides = (F.claim s.0).decides × Stays (CalledAt G.FnMut) s.1
@@ -81,8 +82,8 @@ impl<F: Parser<I, O, E>, G: FnMut(&O) -> bool, I: Stream, O: Drop, E: ParserErro
     ghost claimed = { λ s. record {
       exact = λ form is. settled_exact (verify_settler (CalledAt G.FnMut) is.1) is.2
           ((F.claimed s.0).exact form is.0);
-      soft = λ form is soft. settled_soft (verify_settler (CalledAt G.FnMut) is.1)
-          ((F.claimed s.0).soft form is.0 soft);
+      fails = λ form is. verify_fails (CalledAt G.FnMut) is.1
+          ((F.claimed s.0).fails form is.0);
       takes = λ is some. made_of_takes (Finds (CalledAt G.FnMut)) s.1
           ((F.claimed s.0).takes is.0 some);
       decided = λ form is. verify_decided (CalledAt G.FnMut) is.1 is.2

@@ -8,7 +8,7 @@ ghost use Rattle.winnow_core.specs.Agrees.{agrees_with};
 ghost use Rattle.winnow_core.specs.Closures.{Stays, GivesSome};
 ghost use Rattle.winnow_core.specs.Decided.Adapters.{RefusesSame, verify_map_decided};
 ghost use Rattle.winnow_core.specs.Decided.Made.{MadeAlike};
-ghost use Rattle.winnow_core.specs.Exact.Settled.{GivesNone, verify_map_exact, verify_map_soft};
+ghost use Rattle.winnow_core.specs.Exact.Settled.{GivesNone, verify_map_exact, verify_map_fails};
 ghost use Rattle.winnow_core.specs.Stable.Grows.{grows, stays};
 ghost use Rattle.winnow_core.specs.VerifyMap.{VerifyMapRuns, verify_map_parser, verify_map_closure};
 ghost use Rattle.winnow_core.specs.VerifyMap.Laws.{verify_map_ends, verify_map_grows};
@@ -64,6 +64,7 @@ impl<F: Parser<I, O, E>, G: FnMut(O) -> Option<O2>, I: Stream, O, O2, E: ParserE
       premise = (F.claim s.0).premise × Stays G.step s.1
           × RejectsAll (GivesSome G.step) (GivesNone G.step) s.1 (F.claim s.0).grammar;
       backtracks = (F.claim s.0).backtracks;
+      spares_memory = (F.claim s.0).spares_memory;
       consumes = (F.claim s.0).consumes;
       grammar = Made (GivesSome G.step) s.1 (F.claim s.0).grammar;
       decides = (F.claim s.0).decides × Stays G.step s.1
@@ -76,7 +77,7 @@ impl<F: Parser<I, O, E>, G: FnMut(O) -> Option<O2>, I: Stream, O, O2, E: ParserE
 
     ghost claimed = { λ s. record {
       exact = λ form is. verify_map_exact G.step is.1 is.2 ((F.claimed s.0).exact form is.0);
-      soft = λ form is soft. verify_map_soft G.step is.1 ((F.claimed s.0).soft form is.0 soft);
+      fails = λ form is. verify_map_fails G.step is.1 ((F.claimed s.0).fails form is.0);
       takes = λ is some. made_of_takes (GivesSome G.step) s.1 ((F.claimed s.0).takes is.0 some);
       decided = λ form is. verify_map_decided G.step is.1 is.2
           ((F.claimed s.0).decided form is.0);

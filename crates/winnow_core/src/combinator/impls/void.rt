@@ -5,7 +5,7 @@ ghost use Rattle.grammars.specs.Grammar.Unique.{made_of_takes};
 ghost use Rattle.stream_errors.specs.Form.{modal};
 ghost use Rattle.winnow_core.specs.Agrees.{agrees1};
 ghost use Rattle.winnow_core.specs.Decided.Adapters.{void_decided};
-ghost use Rattle.winnow_core.specs.Exact.Adapters.{void_exact, void_soft};
+ghost use Rattle.winnow_core.specs.Exact.Adapters.{void_exact, void_fails};
 ghost use Rattle.winnow_core.specs.Stable.Grows.{grows, stays};
 ghost use Rattle.winnow_core.specs.Void.{VoidRuns, void_parser};
 ghost use Rattle.winnow_core.specs.Void.Laws.{void_ends, void_grows};
@@ -53,6 +53,7 @@ impl<F: Parser<I, O, E>, I: Stream, O: Drop, E: ParserError<I>> Parser<I, (), E>
     ghost claim = { λ s. record {
       premise = (F.claim s).premise;
       backtracks = (F.claim s).backtracks;
+      spares_memory = (F.claim s).spares_memory;
       consumes = (F.claim s).consumes;
       grammar = Made (λ (_ : Unit {0}) o (u : Unit {0}). ⊤) tt (F.claim s).grammar;
       decides = (F.claim s).decides;
@@ -63,7 +64,7 @@ impl<F: Parser<I, O, E>, I: Stream, O: Drop, E: ParserError<I>> Parser<I, (), E>
 
     ghost claimed = { λ s. record {
       exact = λ form is. void_exact ((F.claimed s).exact form is);
-      soft = λ form is soft. void_soft ((F.claimed s).soft form is soft);
+      fails = λ form is. void_fails ((F.claimed s).fails form is);
       takes = λ is some. made_of_takes (λ (_ : Unit {0}) o (u : Unit {0}). ⊤) tt
           ((F.claimed s).takes is some);
       decided = λ form is. void_decided ((F.claimed s).decided form is);

@@ -4,7 +4,8 @@ ghost use Rattle.grammars.specs.Grammar.{Made};
 ghost use Rattle.grammars.specs.Grammar.Unique.{made_of_takes};
 ghost use Rattle.stream_errors.specs.Form.{modal};
 ghost use Rattle.winnow_core.specs.Agrees.{agrees1};
-ghost use Rattle.winnow_core.specs.Exact.Adapters.{WithPlaces, with_span_exact, with_span_soft};
+ghost use Rattle.winnow_core.specs.Decided.Adapters.{AlikeBetween, with_span_decided};
+ghost use Rattle.winnow_core.specs.Exact.Adapters.{WithPlaces, with_span_exact, with_span_fails};
 ghost use Rattle.winnow_core.specs.MakesOutput.Laws.{makes_output_ends, makes_output_grows};
 ghost use Rattle.winnow_core.specs.Span.{places};
 ghost use Rattle.winnow_core.specs.Stable.Grows.{grows, stays};
@@ -56,10 +57,11 @@ impl<F: Parser<I, O, E>, I: Location, O, E: ParserError<I>> Parser<I, (O, Range<
     ghost claim = { λ s. record {
       premise = (F.claim s).premise;
       backtracks = (F.claim s).backtracks;
+      spares_memory = (F.claim s).spares_memory;
       consumes = (F.claim s).consumes;
       grammar = Made WithPlaces tt (F.claim s).grammar;
-      decides = ⊥;
-      alike = λ o p. o ≡ p;
+      decides = (F.claim s).decides;
+      alike = AlikeBetween (F.claim s).alike;
     } };
 
     ghost leaves_ends = { λ form. makes_output_ends I.reading _ (F.meaning form)
@@ -67,10 +69,10 @@ impl<F: Parser<I, O, E>, I: Location, O, E: ParserError<I>> Parser<I, (O, Range<
 
     ghost claimed = { λ s. record {
       exact = λ form is. with_span_exact (F.meaning form) (s) ((F.claimed s).exact form is);
-      soft = λ form is soft. with_span_soft (F.meaning form) (s)
-          ((F.claimed s).soft form is soft);
+      fails = λ form is. with_span_fails (F.meaning form) (s)
+          ((F.claimed s).fails form is);
       takes = λ is some. made_of_takes WithPlaces tt ((F.claimed s).takes is some);
-      decided = λ form never. absurd never;
+      decided = λ form is. with_span_decided ((F.claimed s).decided form is);
     } };
 
     #[inline]

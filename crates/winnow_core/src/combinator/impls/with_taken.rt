@@ -4,7 +4,7 @@ ghost use Rattle.grammars.specs.Grammar.{AndTaken};
 ghost use Rattle.stream_errors.specs.Form.{modal};
 ghost use Rattle.winnow_core.specs.Decided.Adapters.{with_taken_decided};
 ghost use Rattle.winnow_core.specs.Exact.Adapters.{and_taken_takes, with_taken_exact};
-ghost use Rattle.winnow_core.specs.Exact.Adapters.{with_taken_soft};
+ghost use Rattle.winnow_core.specs.Exact.Adapters.{with_taken_fails};
 ghost use Rattle.winnow_core.specs.InOrder.Decided.{AlikePairs};
 ghost use Rattle.winnow_core.specs.Literal.Laws.{ShowSame};
 ghost use Rattle.winnow_core.specs.MakesOutput.Laws.{makes_output_ends, makes_output_grows};
@@ -58,6 +58,7 @@ impl<F: Parser<I, O, E>, I: Stream, O, E: ParserError<I>> Parser<I, (O, I::Slice
     ghost claim = { λ s. record {
       premise = (F.claim s).premise;
       backtracks = (F.claim s).backtracks;
+      spares_memory = (F.claim s).spares_memory;
       consumes = (F.claim s).consumes;
       grammar = AndTaken I.reading (F.claim s).grammar;
       decides = (F.claim s).decides;
@@ -69,7 +70,7 @@ impl<F: Parser<I, O, E>, I: Stream, O, E: ParserError<I>> Parser<I, (O, I::Slice
 
     ghost claimed = { λ s. record {
       exact = λ form is. with_taken_exact I.reading ((F.claimed s).exact form is);
-      soft = λ form is soft. with_taken_soft I.reading ((F.claimed s).soft form is soft);
+      fails = λ form is. with_taken_fails I.reading ((F.claimed s).fails form is);
       takes = λ is some. and_taken_takes I.reading ((F.claimed s).takes is some);
       decided = λ form is. with_taken_decided I.reading ((F.claimed s).decided form is);
     } };

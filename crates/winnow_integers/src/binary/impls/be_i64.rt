@@ -5,9 +5,11 @@ ghost use Rattle.std.specs.Prelude.{◌≡◌, ⊤};
 ghost use Rattle.winnow_integers.specs.Integer.{IntegerRuns, signed_value};
 ghost use Rattle.winnow_integers.specs.Integer.Grammar.{Integer, integer_takes};
 ghost use Rattle.winnow_integers.specs.Integer.Laws.{integer_alike, integer_ends, integer_exact};
-ghost use Rattle.winnow_integers.specs.Integer.Laws.{integer_soft, integer_stays, some_bytes};
+ghost use Rattle.winnow_integers.specs.Integer.Laws.{integer_decided, integer_fails, integer_stays};
+ghost use Rattle.winnow_integers.specs.Integer.Laws.{some_bytes};
 ghost use Rattle.winnow_integers.specs.declared.binary.endianness.Endianness.TheVariants.{Big};
 ghost use Rattle.winnow_core.specs.Agrees.{agrees_plain};
+ghost use Rattle.winnow_core.specs.Exact.Allowed.{backs};
 ghost use Rattle.winnow_core.specs.Runs.{Keeps};
 ghost use Rattle.winnow_core.specs.Stable.Grows.{leaf_stays};
 
@@ -39,9 +41,10 @@ impl<I: StreamIsPartial + ByteStream, E: ParserError<I>> Parser<I, i64, E> for B
     ghost claim = { λ s. record {
       premise = ⊤;
       backtracks = ⊤;
+      spares_memory = ⊤;
       consumes = ⊤;
       grammar = Integer 8 (signed_value Big);
-      decides = ⊥;
+      decides = ⊤;
       alike = λ o p. o ≡ p;
     } };
 
@@ -50,9 +53,9 @@ impl<I: StreamIsPartial + ByteStream, E: ParserError<I>> Parser<I, i64, E> for B
 
     ghost claimed = { λ s. record {
       exact = λ form is. integer_exact 8 (λ (_ : ⊤). signed_value Big) I.reading form tt;
-      soft = λ form is soft. integer_soft 8 (λ (_ : ⊤). signed_value Big) I.reading form tt;
+      fails = λ form is. backs (integer_fails 8 (λ (_ : ⊤). signed_value Big) I.reading form tt);
       takes = λ is some. integer_takes 8 (signed_value Big) (some_bytes 7);
-      decided = λ form never. absurd never;
+      decided = λ form is. integer_decided 8 (λ (_ : ⊤). signed_value Big) I.reading form tt;
     } };
 
     #[inline(always)]

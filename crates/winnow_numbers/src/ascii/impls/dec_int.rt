@@ -2,11 +2,12 @@
 ghost use Rattle.std.specs.Prelude.{⊤, ◌≡◌};
 ghost use Rattle.stream_sets.specs.Once.{SeesApart};
 ghost use Rattle.winnow_core.specs.Agrees.{agrees_plain};
+ghost use Rattle.winnow_core.specs.Exact.Allowed.{backs};
 ghost use Rattle.winnow_core.specs.Runs.{Keeps};
 ghost use Rattle.winnow_core.specs.Stable.Grows.{leaf_stays};
 ghost use Rattle.winnow_numbers.specs.DecInt.{DecIntRuns};
 ghost use Rattle.winnow_numbers.specs.DecInt.Laws.{dec_int_alike, dec_int_ends, dec_int_stays};
-ghost use Rattle.winnow_numbers.specs.Numeral.Exact.{dec_int_exact, dec_int_soft, signed_takes};
+ghost use Rattle.winnow_numbers.specs.Numeral.Exact.{dec_int_exact, dec_int_fails, signed_takes};
 ghost use Rattle.winnow_numbers.specs.Numeral.Grammar.{SignedDecimal};
 
 use crate::ascii::{Int, dec_int};
@@ -42,6 +43,7 @@ where
     ghost claim = { λ s. record {
       premise = SeesApart I.seen_as;
       backtracks = ⊤;
+      spares_memory = ⊤;
       consumes = ⊤;
       grammar = SignedDecimal O.number O.fits I.seen_as I.Token.code;
       decides = ⊥;
@@ -53,7 +55,8 @@ where
 
     ghost claimed = { λ s. record {
       exact = λ form is. dec_int_exact I.seen_as I.Token.code I.reading O.number O.fits form is;
-      soft = λ form is soft. dec_int_soft I.seen_as I.Token.code I.reading O.number O.fits form;
+      fails = λ form is. backs
+          (dec_int_fails I.seen_as I.Token.code I.reading O.number O.fits form);
       takes = λ is some. signed_takes I.seen_as I.Token.code I.reading O.number O.fits;
       decided = λ form never. absurd never;
     } };

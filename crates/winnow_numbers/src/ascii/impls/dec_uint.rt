@@ -2,12 +2,13 @@
 ghost use Rattle.std.specs.Prelude.{⊤};
 ghost use Rattle.stream_sets.specs.Once.{SeesApart};
 ghost use Rattle.winnow_core.specs.Agrees.{agrees_plain};
+ghost use Rattle.winnow_core.specs.Exact.Allowed.{backs};
 ghost use Rattle.winnow_core.specs.Runs.{Keeps};
 ghost use Rattle.winnow_core.specs.Stable.Grows.{leaf_stays};
 ghost use Rattle.winnow_numbers.specs.DecUint.{DecUintRuns};
 ghost use Rattle.winnow_numbers.specs.DecUint.Laws.{OneNumber, dec_uint_decided, dec_uint_alike};
 ghost use Rattle.winnow_numbers.specs.DecUint.Laws.{dec_uint_ends, dec_uint_stays};
-ghost use Rattle.winnow_numbers.specs.Numeral.Exact.{dec_uint_exact, dec_uint_soft, decimal_takes};
+ghost use Rattle.winnow_numbers.specs.Numeral.Exact.{dec_uint_exact, dec_uint_fails, decimal_takes};
 ghost use Rattle.winnow_numbers.specs.Numeral.Grammar.{Decimal};
 
 use crate::ascii::{Uint, dec_uint};
@@ -43,6 +44,7 @@ where
     ghost claim = { λ s. record {
       premise = SeesApart I.seen_as;
       backtracks = ⊤;
+      spares_memory = ⊤;
       consumes = ⊤;
       grammar = Decimal O.number O.bound I.seen_as I.Token.code;
       decides = ⊤;
@@ -54,7 +56,8 @@ where
 
     ghost claimed = { λ s. record {
       exact = λ form is. dec_uint_exact I.seen_as I.Token.code I.reading O.number O.bound form is;
-      soft = λ form is soft. dec_uint_soft I.seen_as I.Token.code I.reading O.number O.bound form;
+      fails = λ form is. backs
+          (dec_uint_fails I.seen_as I.Token.code I.reading O.number O.bound form);
       takes = λ is some. decimal_takes I.seen_as I.Token.code I.reading O.number O.bound;
       decided = λ form is. dec_uint_decided O.number O.bound I.seen_as I.Token.code I.reading
           form I.one_code;

@@ -3,10 +3,11 @@ ghost use Rattle.std.specs.Prelude.{◌≡◌, ◌+◌, ◌*◌, ◌^◌, ◌<�
 ghost use Rattle.std.proofs.Common.{arith};
 ghost use Rattle.stream_sets.specs.Once.{SeesApart};
 ghost use Rattle.winnow_core.specs.Agrees.{agrees_plain};
+ghost use Rattle.winnow_core.specs.Exact.Allowed.{backs};
 ghost use Rattle.winnow_core.specs.Runs.{Keeps};
 ghost use Rattle.winnow_core.specs.Stable.Grows.{leaf_stays};
 ghost use Rattle.winnow_numbers.specs.HexUint.{HexUintRuns};
-ghost use Rattle.winnow_numbers.specs.HexUint.Laws.{hex_uint_exact, hex_uint_soft};
+ghost use Rattle.winnow_numbers.specs.HexUint.Laws.{hex_uint_exact, hex_uint_fails};
 ghost use Rattle.winnow_numbers.specs.HexUint.Laws.{hexadecimal_takes, hex_uint_alike};
 ghost use Rattle.winnow_numbers.specs.HexUint.Laws.{hex_uint_ends, hex_uint_stays};
 ghost use Rattle.winnow_numbers.specs.Numeral.Grammar.{Hexadecimal};
@@ -202,6 +203,7 @@ where
     ghost claim = { λ s. record {
       premise = SeesApart I.seen_as;
       backtracks = ⊤;
+      spares_memory = ⊤;
       consumes = ⊤;
       grammar = Hexadecimal O.number O.nibbles I.seen_as I.Token.code;
       decides = ⊥;
@@ -214,8 +216,8 @@ where
     ghost claimed = { λ s. record {
       exact = λ form is. hex_uint_exact I.seen_as I.Token.code I.reading O.number O.nibbles
           form is;
-      soft = λ form is soft. hex_uint_soft I.seen_as I.Token.code I.reading O.number O.nibbles
-          form;
+      fails = λ form is. backs (hex_uint_fails I.seen_as I.Token.code I.reading O.number O.nibbles
+          form);
       takes = λ is some. hexadecimal_takes I.seen_as I.Token.code I.reading O.number O.nibbles;
       decided = λ form never. absurd never;
     } };

@@ -8,10 +8,11 @@ ghost use Rattle.grammars.specs.Grammar.Folded.{FoldOf, Folded, StaysFolding, St
 ghost use Rattle.grammars.specs.Grammar.Unique.{repeated_take};
 ghost use Rattle.stream_errors.specs.Form.{answer_by, assert_kind, modal};
 ghost use Rattle.winnow_core.specs.Agrees.{agrees_with};
+ghost use Rattle.winnow_core.specs.Exact.Allowed.{fails_as, softly};
 ghost use Rattle.winnow_core.specs.Stable.Grows.{grows, stays};
 ghost use Rattle.winnow_repeat.specs.Fold.{FoldOneRuns, FoldTakes, RangedFolds, fold_closure};
 ghost use Rattle.winnow_repeat.specs.Fold.{fold_init, fold_occurrences, fold_parser};
-ghost use Rattle.winnow_repeat.specs.Fold.Exact.{fold_exact, fold_soft};
+ghost use Rattle.winnow_repeat.specs.Fold.Exact.{fold_exact, fold_fails};
 ghost use Rattle.winnow_repeat.specs.Fold.Laws.{ranged_folds_end, fold_grows};
 
 use crate::combinator::folding::{Folding, fold_items, fold_range};
@@ -115,6 +116,7 @@ impl<
           × IsWithin (bounds_of s.1.0).greatest (bounds_of s.1.0).least
           × StaysMaking G.step s.1.1.0 × StaysFolding H.step s.1.1.1;
       backtracks = ⊤;
+      spares_memory = (P.claim s.0).spares_memory;
       consumes = 0 < (bounds_of s.1.0).least;
       grammar = Folded G.step s.1.1.0 H.step s.1.1.1 s.1.0 (P.claim s.0).grammar;
       decides = ⊥;
@@ -127,10 +129,11 @@ impl<
     ghost claimed = { λ s. record {
       exact = λ form is. fold_exact (P.meaning form) G.step s.1.1.0 is.4 H.step s.1.1.1 is.5
           (assert_kind form) s.1.0 ((P.claimed s.0).exact form is.0)
-          ((P.claimed s.0).soft form is.0 is.1) ((P.claimed s.0).takes is.0 is.2) is.3;
-      soft = λ form is soft. fold_soft (P.meaning form) G.step s.1.1.0 is.4 H.step s.1.1.1
+          (softly is.1 ((P.claimed s.0).fails form is.0)) ((P.claimed s.0).takes is.0 is.2) is.3;
+      fails = λ form is. fold_fails (P.meaning form) G.step s.1.1.0 is.4 H.step s.1.1.1
           is.5 (assert_kind form) s.1.0 ((P.claimed s.0).exact form is.0)
-          ((P.claimed s.0).soft form is.0 is.1) ((P.claimed s.0).takes is.0 is.2) is.3;
+          (softly is.1 ((P.claimed s.0).fails form is.0)) ((P.claimed s.0).takes is.0 is.2) is.3
+          (fails_as (λ b. is.1) (λ m. m) ((P.claimed s.0).fails form is.0));
       takes = λ is some. repeated_take (FoldOf G.step s.1.1.0 H.step s.1.1.1) s.1.0
           ((P.claimed s.0).exact modal is.0).unique ((P.claimed s.0).takes is.0 is.2) some;
       decided = λ form never. absurd never;

@@ -6,12 +6,13 @@ ghost use Rattle.stream_sets.specs.declared.range.Range.{Range};
 ghost use Rattle.grammars.specs.Grammar.{Repeated};
 ghost use Rattle.stream_errors.specs.Form.{answer_by, assert_kind, modal};
 ghost use Rattle.winnow_core.specs.Agrees.{agrees_with};
+ghost use Rattle.winnow_core.specs.Exact.Allowed.{fails_as, wanted, softly};
 ghost use Rattle.winnow_core.specs.Stable.Grows.{grows, stays};
 ghost use Rattle.winnow_repeat.specs.Fold.{fold_closure, fold_init, fold_occurrences, fold_parser};
 ghost use Rattle.winnow_repeat.specs.Repeat.{RangedRuns, RepeatOneRuns, repeat_occurrences};
 ghost use Rattle.winnow_repeat.specs.Repeat.{repeat_parser};
 ghost use Rattle.winnow_repeat.specs.Repeat.Decided.{HeldAlike, repeat_decided};
-ghost use Rattle.winnow_repeat.specs.Repeat.Exact.{repeat_exact, repeat_soft, repeat_takes};
+ghost use Rattle.winnow_repeat.specs.Repeat.Exact.{repeat_exact, repeat_fails, repeat_takes};
 ghost use Rattle.winnow_repeat.specs.Repeat.Laws.{ranged_ends, repeat_grows};
 ghost use Rattle.winnow_repeat.specs.TryFold.{try_fold_closure, try_fold_init};
 ghost use Rattle.winnow_repeat.specs.TryFold.{try_fold_occurrences, try_fold_parser};
@@ -147,6 +148,7 @@ impl<
       premise = (P.claim s.0).premise × (P.claim s.0).backtracks × (P.claim s.0).consumes
           × IsWithin (bounds_of s.1).greatest (bounds_of s.1).least;
       backtracks = ⊤;
+      spares_memory = (P.claim s.0).spares_memory × C.spares_memory;
       consumes = 0 < (bounds_of s.1).least;
       grammar = Repeated C.holds s.1 (P.claim s.0).grammar;
       decides = (P.claim s.0).decides;
@@ -158,11 +160,13 @@ impl<
 
     ghost claimed = { λ s. record {
       exact = λ form is. repeat_exact C.accumulator (assert_kind form) s C.holds C.gathers
-          ((P.claimed s.0).exact form is.0) ((P.claimed s.0).soft form is.0 is.1)
+          ((P.claimed s.0).exact form is.0) (softly is.1 ((P.claimed s.0).fails form is.0))
           ((P.claimed s.0).takes is.0 is.2) is.3;
-      soft = λ form is soft. repeat_soft C.accumulator (assert_kind form) s
-          ((P.claimed s.0).exact form is.0) ((P.claimed s.0).soft form is.0 is.1)
-          ((P.claimed s.0).takes is.0 is.2) is.3;
+      fails = λ form is. repeat_fails C.accumulator (assert_kind form) s
+          ((P.claimed s.0).exact form is.0)
+          (fails_as (λ b. is.1) (λ m. m.0) ((P.claimed s.0).fails form is.0))
+          ((P.claimed s.0).takes is.0 is.2) is.3
+          (λ w. wanted (λ m. C.never_wants m.1 w));
       takes = λ is some. repeat_takes C.accumulator (assert_kind modal) s C.holds
           ((P.claimed s.0).exact modal is.0) ((P.claimed s.0).takes is.0 is.2) some;
       decided = λ form is. repeat_decided C.accumulator (assert_kind form) C.holds C.gathers s

@@ -6,9 +6,10 @@ ghost use Rattle.stream_sets.specs.declared.range.Range.{Range};
 ghost use Rattle.grammars.specs.Grammar.Till.{Till, till_takes};
 ghost use Rattle.stream_errors.specs.Form.{answer_by, assert_kind, modal};
 ghost use Rattle.winnow_core.specs.Agrees.Beside.{agrees2_with};
+ghost use Rattle.winnow_core.specs.Exact.Allowed.{fails_as, wanted, softly};
 ghost use Rattle.winnow_core.specs.Stable.Grows.{grows, stays};
 ghost use Rattle.winnow_repeat.specs.RepeatTill.{LeastItemsRun, RangedTillRuns, TurnsRun};
-ghost use Rattle.winnow_repeat.specs.RepeatTill.Exact.{repeat_till_exact, repeat_till_soft};
+ghost use Rattle.winnow_repeat.specs.RepeatTill.Exact.{repeat_till_exact, repeat_till_fails};
 ghost use Rattle.winnow_repeat.specs.RepeatTill.Laws.{repeat_till_ends, repeat_till_grows};
 
 use crate::combinator::items::is_descending;
@@ -61,6 +62,8 @@ impl<
           × (G.claim s.1).premise × (G.claim s.1).backtracks
           × IsWithin (bounds_of s.2).greatest (bounds_of s.2).least;
       backtracks = ⊤;
+      spares_memory =
+          (P.claim s.0).spares_memory × (G.claim s.1).spares_memory × C.spares_memory;
       consumes = (G.claim s.1).consumes;
       grammar = Till C.holds s.2 (P.claim s.0).grammar (G.claim s.1).grammar;
       decides = ⊥;
@@ -73,12 +76,14 @@ impl<
     ghost claimed = { λ s. record {
       exact = λ form is. repeat_till_exact C.accumulator (assert_kind form) s C.holds
           C.gathers is.5 ((P.claimed s.0).exact form is.0)
-          ((P.claimed s.0).soft form is.0 is.1) ((P.claimed s.0).takes is.0 is.2)
-          ((G.claimed s.1).exact form is.3) ((G.claimed s.1).soft form is.3 is.4);
-      soft = λ form is soft. repeat_till_soft C.accumulator (assert_kind form) s C.holds
-          C.gathers is.5 ((P.claimed s.0).exact form is.0)
-          ((P.claimed s.0).soft form is.0 is.1) ((P.claimed s.0).takes is.0 is.2)
-          ((G.claimed s.1).exact form is.3) ((G.claimed s.1).soft form is.3 is.4);
+          (softly is.1 ((P.claimed s.0).fails form is.0)) ((P.claimed s.0).takes is.0 is.2)
+          ((G.claimed s.1).exact form is.3) (softly is.4 ((G.claimed s.1).fails form is.3));
+      fails = λ form is. repeat_till_fails C.accumulator (assert_kind form) s is.5
+          ((P.claimed s.0).exact form is.0) ((P.claimed s.0).takes is.0 is.2)
+          ((G.claimed s.1).exact form is.3)
+          (fails_as (λ b. is.1) (λ m. m.0) ((P.claimed s.0).fails form is.0))
+          (fails_as (λ b. is.4) (λ m. m.1) ((G.claimed s.1).fails form is.3))
+          (λ w. wanted (λ m. C.never_wants m.2 w));
       takes = λ is some. till_takes (P.claim s.0).grammar (G.claim s.1).grammar
           ((P.claimed s.0).exact modal is.0).unique C.holds s.2
           ((G.claimed s.1).takes is.3 some);

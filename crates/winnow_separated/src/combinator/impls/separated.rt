@@ -6,12 +6,13 @@ ghost use Rattle.stream_sets.specs.declared.range.Range.{Range};
 ghost use Rattle.grammars.specs.Grammar.{Apart};
 ghost use Rattle.stream_errors.specs.Form.{answer_by, assert_kind, modal};
 ghost use Rattle.winnow_core.specs.Agrees.Beside.{agrees2_with};
+ghost use Rattle.winnow_core.specs.Exact.Allowed.{fails_as, wanted, softly};
 ghost use Rattle.winnow_core.specs.Stable.Grows.{grows, stays};
 ghost use Rattle.winnow_repeat.specs.Repeat.Decided.{HeldAlike};
 ghost use Rattle.winnow_separated.specs.Separated.{ElementsRun, LinksRun, RangedElements};
 ghost use Rattle.winnow_separated.specs.Separated.{SeparatedRuns};
 ghost use Rattle.winnow_separated.specs.Separated.Decided.{separated_decided};
-ghost use Rattle.winnow_separated.specs.Separated.Exact.{separated_exact, separated_soft};
+ghost use Rattle.winnow_separated.specs.Separated.Exact.{separated_exact, separated_fails};
 ghost use Rattle.winnow_separated.specs.Separated.Exact.{separated_takes};
 ghost use Rattle.winnow_separated.specs.Separated.Laws.{separated_ends, separated_grows};
 
@@ -65,6 +66,8 @@ impl<
           × (S.claim s.1).backtracks × (S.claim s.1).consumes
           × IsWithin (bounds_of s.2).greatest (bounds_of s.2).least;
       backtracks = ⊤;
+      spares_memory =
+          (P.claim s.0).spares_memory × (S.claim s.1).spares_memory × C.spares_memory;
       consumes = (P.claim s.0).consumes × (0 < (bounds_of s.2).least);
       grammar = Apart C.holds s.2 (P.claim s.0).grammar (S.claim s.1).grammar;
       decides = (P.claim s.0).decides × (S.claim s.1).decides;
@@ -78,11 +81,14 @@ impl<
       exact = λ form is. separated_exact C.accumulator (assert_kind form) s
           ((P.claimed s.0).exact form is.0) ((S.claimed s.1).exact form is.2)
           ((S.claimed s.1).takes is.2 is.4) C.holds C.gathers
-          ((P.claimed s.0).soft form is.0 is.1) ((S.claimed s.1).soft form is.2 is.3) is.5;
-      soft = λ form is soft. separated_soft C.accumulator (assert_kind form) s
+          (softly is.1 ((P.claimed s.0).fails form is.0))
+          (softly is.3 ((S.claimed s.1).fails form is.2)) is.5;
+      fails = λ form is. separated_fails C.accumulator (assert_kind form) s
           ((P.claimed s.0).exact form is.0) ((S.claimed s.1).exact form is.2)
-          ((S.claimed s.1).takes is.2 is.4) ((P.claimed s.0).soft form is.0 is.1)
-          ((S.claimed s.1).soft form is.2 is.3) is.5;
+          ((S.claimed s.1).takes is.2 is.4)
+          (fails_as (λ b. is.1) (λ m. m.0) ((P.claimed s.0).fails form is.0))
+          (fails_as (λ b. is.3) (λ m. m.1) ((S.claimed s.1).fails form is.2))
+          (λ w. wanted (λ m. C.never_wants m.2 w)) is.5;
       takes = λ is some. separated_takes C.holds s.2 ((P.claimed s.0).exact modal is.0).unique
           ((S.claimed s.1).exact modal is.2).unique ((P.claimed s.0).takes is.0 some.0)
           some.1;

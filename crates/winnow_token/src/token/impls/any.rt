@@ -2,10 +2,11 @@
 ghost use Rattle.std.specs.Prelude.{⊤};
 ghost use Rattle.grammars.specs.Grammar.{Token};
 ghost use Rattle.winnow_core.specs.Agrees.{agrees_plain};
+ghost use Rattle.winnow_core.specs.Exact.Allowed.{backs};
 ghost use Rattle.winnow_core.specs.Runs.{Keeps};
 ghost use Rattle.winnow_core.specs.Stable.Grows.{leaf_stays};
 ghost use Rattle.winnow_token.specs.Any.{AnyRuns};
-ghost use Rattle.winnow_token.specs.Any.Laws.{any_exact, any_soft, token_takes, any_alike};
+ghost use Rattle.winnow_token.specs.Any.Laws.{any_exact, any_fails, token_takes, any_alike};
 ghost use Rattle.winnow_token.specs.Any.Laws.{any_ends, any_stays, SeenSame, any_decided};
 
 use crate::token::any;
@@ -35,6 +36,7 @@ impl<I: StreamIsPartial, E: ParserError<I>> Parser<I, I::Token, E> for Any {
     ghost claim = { λ s. record {
       premise = ⊤;
       backtracks = ⊤;
+      spares_memory = ⊤;
       consumes = ⊤;
       grammar = Token I.seen_as;
       decides = ⊤;
@@ -46,7 +48,7 @@ impl<I: StreamIsPartial, E: ParserError<I>> Parser<I, I::Token, E> for Any {
 
     ghost claimed = { λ s. record {
       exact = λ form is. any_exact I.seen_as I.reading form;
-      soft = λ form is soft. any_soft I.seen_as I.reading form;
+      fails = λ form is. backs (any_fails I.seen_as I.reading form);
       takes = λ is some. token_takes I.seen_as;
       decided = λ form is. any_decided I.seen_as I.reading form;
     } };

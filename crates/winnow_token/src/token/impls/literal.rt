@@ -3,9 +3,10 @@ ghost use Rattle.std.specs.Prelude.{◌≡◌, [], ⊤};
 ghost use Rattle.grammars.specs.Grammar.{Literally};
 ghost use Rattle.grammars.specs.Grammar.Unique.{literally_takes};
 ghost use Rattle.winnow_core.specs.Agrees.{agrees_by};
+ghost use Rattle.winnow_core.specs.Exact.Allowed.{backs};
 ghost use Rattle.winnow_core.specs.Literal.{LiteralRuns};
 ghost use Rattle.winnow_core.specs.Literal.Laws.{ShowSame, literal_decided, literal_exact};
-ghost use Rattle.winnow_core.specs.Literal.Laws.{literal_soft, literal_alike, literal_ends};
+ghost use Rattle.winnow_core.specs.Literal.Laws.{literal_fails, literal_alike, literal_ends};
 ghost use Rattle.winnow_core.specs.Literal.Laws.{literal_stays};
 ghost use Rattle.winnow_core.specs.Runs.{Keeps};
 ghost use Rattle.winnow_core.specs.Stable.Grows.{leaf_stays};
@@ -45,6 +46,7 @@ impl<T: Copy, I: StreamIsPartial + Compare<T>, E: ParserError<I>> Parser<I, I::S
     ghost claim = { λ s. record {
       premise = ⊤;
       backtracks = ⊤;
+      spares_memory = ⊤;
       consumes = I.spells s [] → ⊥;
       grammar = Literally I.reading I.spells (λ _ slice. slice) s;
       decides = ⊤;
@@ -57,7 +59,8 @@ impl<T: Copy, I: StreamIsPartial + Compare<T>, E: ParserError<I>> Parser<I, I::S
     ghost claimed = { λ s. record {
       exact = λ form is. literal_exact I.reading form I.spells (λ _ slice. slice) (λ s. s) s
           (I.same_units s);
-      soft = λ form is soft. literal_soft I.reading form I.spells (λ _ slice. slice) (λ s. s) s;
+      fails = λ form is. backs
+          (literal_fails I.reading form I.spells (λ _ slice. slice) (λ s. s) s);
       takes = λ is some. literally_takes I.reading I.spells (λ _ slice. slice) s some;
       decided = λ form is. literal_decided I.reading form I.spells (λ _ slice. slice) (λ s. s)
           (ShowSame I.reading) s (I.same_units s) (λ slice other shown. shown);

@@ -4,11 +4,12 @@ ghost use Rattle.streams.specs.Stream.{AnswersSeen};
 ghost use Rattle.stream_sets.specs.Once.{SeesApart, seen_once, TellsOnce};
 ghost use Rattle.grammars.specs.Grammar.{Token, TokenOf};
 ghost use Rattle.winnow_core.specs.Agrees.{agrees_by};
+ghost use Rattle.winnow_core.specs.Exact.Allowed.{backs};
 ghost use Rattle.winnow_core.specs.Runs.{Keeps};
 ghost use Rattle.winnow_core.specs.Stable.Grows.{leaf_stays};
 ghost use Rattle.winnow_token.specs.OneOf.{OneOfRuns};
 ghost use Rattle.winnow_token.specs.Any.Laws.{SeenSame};
-ghost use Rattle.winnow_token.specs.OneOf.Laws.{one_of_decided, one_of_exact, one_of_soft};
+ghost use Rattle.winnow_token.specs.OneOf.Laws.{one_of_decided, one_of_exact, one_of_fails};
 ghost use Rattle.winnow_token.specs.OneOf.Laws.{token_of_takes, one_of_alike, one_of_ends};
 ghost use Rattle.winnow_token.specs.OneOf.Laws.{one_of_stays};
 
@@ -51,6 +52,7 @@ where
     ghost claim = { λ s. record {
       premise = S.decides s × SeesApart I.seen_as;
       backtracks = ⊤;
+      spares_memory = ⊤;
       consumes = ⊤;
       grammar = TokenOf I.seen_as S.tells s;
       decides = TellsOnce (AnswersSeen I.seen_as (S.tells s));
@@ -63,7 +65,7 @@ where
     ghost claimed = { λ s. record {
       exact = λ form is. one_of_exact I.seen_as I.reading form S.tells s
           (seen_once I.seen_as (S.tells s) is.1 (S.once s is.0));
-      soft = λ form is soft. one_of_soft I.seen_as I.reading form S.tells s;
+      fails = λ form is. backs (one_of_fails I.seen_as I.reading form S.tells s);
       takes = λ is some. token_of_takes I.seen_as S.tells s;
       decided = λ form is. one_of_decided I.seen_as I.reading form S.tells s is;
     } };

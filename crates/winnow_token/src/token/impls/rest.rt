@@ -2,9 +2,10 @@
 ghost use Rattle.std.specs.Prelude.{⊤, ◌<◌, ◌≡◌};
 ghost use Rattle.grammars.specs.Grammar.{AllTokens};
 ghost use Rattle.winnow_core.specs.Agrees.{agrees_plain};
+ghost use Rattle.winnow_core.specs.Exact.Allowed.{backs};
 ghost use Rattle.winnow_core.specs.Runs.{Keeps};
 ghost use Rattle.winnow_token.specs.Rest.{RestRuns};
-ghost use Rattle.winnow_token.specs.Rest.Laws.{rest_exact, rest_soft, rest_alike, rest_ends};
+ghost use Rattle.winnow_token.specs.Rest.Laws.{rest_exact, rest_fails, rest_alike, rest_ends};
 
 use crate::token::rest;
 use stream_errors::parser_error::ParserError;
@@ -32,6 +33,7 @@ impl<I: Stream, E: ParserError<I>> Parser<I, I::Slice, E> for Rest {
     ghost claim = { λ s. record {
       premise = ⊤;
       backtracks = ⊤;
+      spares_memory = ⊤;
       consumes = ⊥;
       grammar = AllTokens I.reading;
       decides = ⊥;
@@ -42,7 +44,7 @@ impl<I: Stream, E: ParserError<I>> Parser<I, I::Slice, E> for Rest {
 
     ghost claimed = { λ s. record {
       exact = λ form is. rest_exact I.reading;
-      soft = λ form is soft. rest_soft I.reading;
+      fails = λ form is. backs (rest_fails I.reading);
       takes = λ is never. absurd never;
       decided = λ form never. absurd never;
     } };

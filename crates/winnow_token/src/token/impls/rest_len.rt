@@ -3,9 +3,10 @@ ghost use Rattle.std.specs.Prelude.{⊤, ◌<◌, ◌≡◌};
 ghost use Rattle.grammars.specs.Grammar.{UnitsLeft};
 ghost use Rattle.winnow_core.specs.Agrees.{agrees_plain};
 ghost use Rattle.winnow_core.specs.Ends.{same_ends};
+ghost use Rattle.winnow_core.specs.Exact.Allowed.{backs};
 ghost use Rattle.winnow_core.specs.Runs.{Keeps};
 ghost use Rattle.winnow_token.specs.Rest.{RestLenRuns};
-ghost use Rattle.winnow_token.specs.Rest.Laws.{rest_len_exact, rest_len_soft, rest_len_alike};
+ghost use Rattle.winnow_token.specs.Rest.Laws.{rest_len_exact, rest_len_fails, rest_len_alike};
 
 use crate::token::rest_len;
 use stream_errors::parser_error::ParserError;
@@ -33,6 +34,7 @@ impl<I: Stream, E: ParserError<I>> Parser<I, usize, E> for RestLen {
     ghost claim = { λ s. record {
       premise = ⊤;
       backtracks = ⊤;
+      spares_memory = ⊤;
       consumes = ⊥;
       grammar = UnitsLeft I.reading;
       decides = ⊥;
@@ -43,7 +45,7 @@ impl<I: Stream, E: ParserError<I>> Parser<I, usize, E> for RestLen {
 
     ghost claimed = { λ s. record {
       exact = λ form is. rest_len_exact I.reading;
-      soft = λ form is soft. rest_len_soft I.reading;
+      fails = λ form is. backs (rest_len_fails I.reading);
       takes = λ is never. absurd never;
       decided = λ form never. absurd never;
     } };

@@ -2,12 +2,13 @@
 ghost use Rattle.std.specs.Prelude.{◌≡◌, ℕ, ◌<◌, ⊤};
 ghost use Rattle.grammars.specs.Grammar.{Counted};
 ghost use Rattle.winnow_core.specs.Agrees.{agrees_by};
+ghost use Rattle.winnow_core.specs.Exact.Allowed.{backs};
 ghost use Rattle.winnow_core.specs.Literal.Laws.{ShowSame};
 ghost use Rattle.winnow_core.specs.Runs.{Keeps};
 ghost use Rattle.winnow_core.specs.Stable.Grows.{leaf_stays};
 ghost use Rattle.winnow_token.specs.Take.{TakeRuns};
 ghost use Rattle.winnow_token.specs.Take.Laws.{take_count_decided, counted_takes, take_exact};
-ghost use Rattle.winnow_token.specs.Take.Laws.{take_soft, take_alike, take_ends, take_stays};
+ghost use Rattle.winnow_token.specs.Take.Laws.{take_fails, take_alike, take_ends, take_stays};
 
 use std::marker::PhantomData;
 use stream_errors::parser_error::ParserError;
@@ -41,6 +42,7 @@ impl<I: StreamIsPartial, E: ParserError<I>> Parser<I, I::Slice, E> for Take<I, E
     ghost claim = { λ s. record {
       premise = ⊤;
       backtracks = ⊤;
+      spares_memory = ⊤;
       consumes = 0 < s;
       grammar = Counted I.reading s;
       decides = ⊤;
@@ -52,7 +54,7 @@ impl<I: StreamIsPartial, E: ParserError<I>> Parser<I, I::Slice, E> for Take<I, E
 
     ghost claimed = { λ s. record {
       exact = λ form is. take_exact I.reading form I.counts_missing s;
-      soft = λ form is soft. take_soft I.reading form I.counts_missing s;
+      fails = λ form is. backs (take_fails I.reading form I.counts_missing s);
       takes = λ is some. counted_takes I.reading s some;
       decided = λ form is. take_count_decided I.reading form I.counts_missing s;
     } };

@@ -5,10 +5,11 @@ ghost use Rattle.stream_sets.specs.declared.range.Range.{Range};
 ghost use Rattle.grammars.specs.Grammar.Searches.{Before};
 ghost use Rattle.grammars.specs.Grammar.Searches.Unique.{before_takes};
 ghost use Rattle.winnow_core.specs.Agrees.{agrees_by_parts};
+ghost use Rattle.winnow_core.specs.Exact.Allowed.{backs};
 ghost use Rattle.winnow_core.specs.Runs.{Keeps};
 ghost use Rattle.winnow_core.specs.Stable.Grows.{leaf_stays};
 ghost use Rattle.winnow_token.specs.TakeUntil.{TakeUntilRuns};
-ghost use Rattle.winnow_token.specs.TakeUntil.Laws.{take_until_exact, take_until_soft};
+ghost use Rattle.winnow_token.specs.TakeUntil.Laws.{take_until_exact, take_until_fails};
 ghost use Rattle.winnow_token.specs.TakeUntil.Laws.{take_until_alike, take_until_ends};
 ghost use Rattle.winnow_token.specs.TakeUntil.Laws.{take_until_stays};
 
@@ -49,6 +50,7 @@ impl<T: Copy, I: StreamIsPartial + FindSlice<T>, E: ParserError<I>> Parser<I, I:
     ghost claim = { λ s. record {
       premise = IsWithin (bounds_of s.0).greatest (bounds_of s.0).least;
       backtracks = ⊤;
+      spares_memory = ⊤;
       consumes = 0 < (bounds_of s.0).least;
       grammar = Before I.reading (I.sought s.1) (bounds_of s.0);
       decides = ⊥;
@@ -62,8 +64,8 @@ impl<T: Copy, I: StreamIsPartial + FindSlice<T>, E: ParserError<I>> Parser<I, I:
     ghost claimed = { λ s. record {
       exact = λ form is. take_until_exact I.reading form (λ x. I.sought x.1)
           (λ x. bounds_of x.0) s is;
-      soft = λ form is soft. take_until_soft I.reading form (λ x. I.sought x.1)
-          (λ x. bounds_of x.0) s is;
+      fails = λ form is. backs (take_until_fails I.reading form (λ x. I.sought x.1)
+          (λ x. bounds_of x.0) s is);
       takes = λ is some. before_takes I.reading (I.sought s.1) (bounds_of s.0) some;
       decided = λ form never. absurd never;
     } };

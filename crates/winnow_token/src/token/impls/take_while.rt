@@ -6,13 +6,14 @@ ghost use Rattle.stream_sets.specs.Range.{bounds_of, IsWithin};
 ghost use Rattle.stream_sets.specs.declared.range.Range.{Range};
 ghost use Rattle.grammars.specs.Grammar.{Longest};
 ghost use Rattle.winnow_core.specs.Agrees.{agrees_by_parts};
+ghost use Rattle.winnow_core.specs.Exact.Allowed.{backs};
 ghost use Rattle.winnow_core.specs.Literal.Laws.{ShowSame};
 ghost use Rattle.winnow_core.specs.Runs.{Keeps};
 ghost use Rattle.winnow_core.specs.Stable.Grows.{leaf_stays};
 ghost use Rattle.winnow_token.specs.TakeWhile.{TakeWhileRuns};
 ghost use Rattle.winnow_token.specs.TakeWhile.Decided.{take_while_decided};
 ghost use Rattle.winnow_token.specs.TakeWhile.Exact.{longest_takes, take_while_exact};
-ghost use Rattle.winnow_token.specs.TakeWhile.Exact.{take_while_soft};
+ghost use Rattle.winnow_token.specs.TakeWhile.Exact.{take_while_fails};
 ghost use Rattle.winnow_token.specs.TakeWhile.Laws.{take_while_alike, take_while_ends};
 ghost use Rattle.winnow_token.specs.TakeWhile.Laws.{take_while_stays};
 
@@ -57,6 +58,7 @@ impl<S: ContainsToken<I::Token>, I: StreamIsPartial, E: ParserError<I>> Parser<I
       premise = S.decides s.1 × SeesApart I.seen_as
           × IsWithin (bounds_of s.0).greatest (bounds_of s.0).least;
       backtracks = ⊤;
+      spares_memory = ⊤;
       consumes = 0 < (bounds_of s.0).least;
       grammar = Longest I.reading I.seen_as S.tells s.1 (bounds_of s.0);
       decides = TellsOnce (AnswersSeen I.seen_as (S.tells s.1));
@@ -70,8 +72,8 @@ impl<S: ContainsToken<I::Token>, I: StreamIsPartial, E: ParserError<I>> Parser<I
       exact = λ form is. take_while_exact I.reading form I.seen_as S.tells (λ x. x.1)
           (λ x. bounds_of x.0) s is.2
           (seen_once I.seen_as (S.tells s.1) is.1 (S.once s.1 is.0));
-      soft = λ form is soft. take_while_soft I.reading form I.seen_as S.tells (λ x. x.1)
-          (λ x. bounds_of x.0) s is.2;
+      fails = λ form is. backs (take_while_fails I.reading form I.seen_as S.tells (λ x. x.1)
+          (λ x. bounds_of x.0) s is.2);
       takes = λ is some. longest_takes I.reading I.seen_as S.tells s.1 (bounds_of s.0) some;
       decided = λ form is. take_while_decided I.reading form
           (λ x. AnswersSeen I.seen_as (S.tells x.1)) (λ x. bounds_of x.0) s is;

@@ -6,10 +6,11 @@ ghost use Rattle.grammars.specs.Grammar.FirstOf.{FirstOf, first_of_takes};
 ghost use Rattle.stream_errors.specs.Form.{answer_by, assert_kind, modal};
 ghost use Rattle.winnow_core.specs.Agrees.{AllAlike, agrees_list};
 ghost use Rattle.winnow_core.specs.ByRef.{ByRefRuns};
-ghost use Rattle.winnow_core.specs.ByRef.Laws.{by_ref_exact, by_ref_soft, by_ref_ends};
+ghost use Rattle.winnow_core.specs.ByRef.Laws.{by_ref_exact, by_ref_fails, by_ref_ends};
 ghost use Rattle.winnow_core.specs.ByRef.Laws.{by_ref_grows};
+ghost use Rattle.winnow_core.specs.Exact.Allowed.{fails_as};
 ghost use Rattle.winnow_core.specs.Stable.Grows.{grows, stays};
-ghost use Rattle.winnow_comb.specs.Alt.FirstOf.{first_of_exact, first_of_soft};
+ghost use Rattle.winnow_comb.specs.Alt.FirstOf.{asserts, first_of_exact, first_of_fails};
 ghost use Rattle.winnow_comb.specs.Alt.Slice.{AltSliceRuns};
 ghost use Rattle.winnow_comb.specs.Alt.Slice.Laws.{alt_slice_ends, slice_agrees, alt_slice_grows};
 
@@ -32,6 +33,7 @@ impl<const N: usize, I: Stream, O, E: ParserError<I>, P: Parser<I, O, E>> Alt<I,
     ghost claim = { λ s. record {
       premise = All (λ x. (P.claim x).premise × (P.claim x).backtracks) s;
       backtracks = s ≡ [] → ⊥;
+      spares_memory = All (λ x. (P.claim x).spares_memory) s;
       consumes = All (λ x. (P.claim x).consumes) s;
       grammar = FirstOf (λ x. (P.claim x).grammar) s;
       decides = ⊥;
@@ -44,12 +46,14 @@ impl<const N: usize, I: Stream, O, E: ParserError<I>, P: Parser<I, O, E>> Alt<I,
     ghost claimed = { λ s. record {
       exact = λ form is. first_of_exact (P.meaning form) (assert_kind form)
           (λ x. (P.claim x).grammar)
-          (λ x. (P.claim x).premise × (P.claim x).backtracks) (λ x k. (P.claimed x).exact form k.0)
-          (λ x k. (P.claimed x).soft form k.0 k.1) s is;
-      soft = λ form is some. first_of_soft (P.meaning form) (assert_kind form)
+          (λ x. (P.claim x).premise × (P.claim x).backtracks) (λ x. (P.claim x).spares_memory)
+          (λ x k. (P.claimed x).exact form k.0)
+          (λ x k. fails_as (λ b. k.1) (λ m. m) ((P.claimed x).fails form k.0)) s is;
+      fails = λ form is. first_of_fails (P.meaning form) (assert_kind form)
           (λ x. (P.claim x).grammar)
-          (λ x. (P.claim x).premise × (P.claim x).backtracks) (λ x k. (P.claimed x).exact form k.0)
-          (λ x k. (P.claimed x).soft form k.0 k.1) s is some;
+          (λ x. (P.claim x).premise × (P.claim x).backtracks) (λ x. (P.claim x).spares_memory)
+          (λ x k. (P.claimed x).exact form k.0)
+          (λ x k. fails_as (λ b. k.1) (λ m. m) ((P.claimed x).fails form k.0)) (asserts form) s is;
       takes = λ is some. first_of_takes (λ x. (P.claim x).grammar)
           (λ x. (P.claim x).premise) (λ x. (P.claim x).backtracks)
           (λ x. (P.claim x).consumes) (λ x. (P.claimed x).takes) s is some;
@@ -110,6 +114,7 @@ impl<'a, I: Stream, O, E: ParserError<I>, P: Parser<I, O, E>> Alt<I, O, E> for &
     ghost claim = { λ s. record {
       premise = All (λ x. (P.claim x).premise × (P.claim x).backtracks) s.0;
       backtracks = s.0 ≡ [] → ⊥;
+      spares_memory = All (λ x. (P.claim x).spares_memory) s.0;
       consumes = All (λ x. (P.claim x).consumes) s.0;
       grammar = FirstOf (λ x. (P.claim x).grammar) s.0;
       decides = ⊥;
@@ -123,12 +128,15 @@ impl<'a, I: Stream, O, E: ParserError<I>, P: Parser<I, O, E>> Alt<I, O, E> for &
     ghost claimed = { λ s. record {
       exact = λ form is. by_ref_exact (first_of_exact (P.meaning form) (assert_kind form)
           (λ x. (P.claim x).grammar)
-          (λ x. (P.claim x).premise × (P.claim x).backtracks) (λ x k. (P.claimed x).exact form k.0)
-          (λ x k. (P.claimed x).soft form k.0 k.1) s.0 is);
-      soft = λ form is some. by_ref_soft (first_of_soft (P.meaning form) (assert_kind form)
+          (λ x. (P.claim x).premise × (P.claim x).backtracks) (λ x. (P.claim x).spares_memory)
+          (λ x k. (P.claimed x).exact form k.0)
+          (λ x k. fails_as (λ b. k.1) (λ m. m) ((P.claimed x).fails form k.0)) s.0 is);
+      fails = λ form is. by_ref_fails (first_of_fails (P.meaning form) (assert_kind form)
           (λ x. (P.claim x).grammar)
-          (λ x. (P.claim x).premise × (P.claim x).backtracks) (λ x k. (P.claimed x).exact form k.0)
-          (λ x k. (P.claimed x).soft form k.0 k.1) s.0 is some);
+          (λ x. (P.claim x).premise × (P.claim x).backtracks) (λ x. (P.claim x).spares_memory)
+          (λ x k. (P.claimed x).exact form k.0)
+          (λ x k. fails_as (λ b. k.1) (λ m. m) ((P.claimed x).fails form k.0)) (asserts form)
+          s.0 is);
       takes = λ is some. first_of_takes (λ x. (P.claim x).grammar)
           (λ x. (P.claim x).premise) (λ x. (P.claim x).backtracks)
           (λ x. (P.claim x).consumes) (λ x. (P.claimed x).takes) s.0 is some;

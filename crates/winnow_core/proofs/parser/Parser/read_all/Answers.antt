@@ -1,9 +1,17 @@
-use Rattle.winnow_core.specs.Exact.Whole.{all_told}
+use Rattle.winnow_core.specs.Exact.Whole.{all_spared, all_told}
 use Rattle.winnow_core.proofs.parser.Parser.read_all.Goals as goal
 
 pub returns-clause-reads : goal.returns-clause-reads
 returns-clause-reads g c =
     let claimed = g.met.Self.Parser.claimed (g.Self.Parser.state c.args.self.now) in
     all_told g.I.Stream.view g.I.Stream.reading.units g.E.ParserError.inner_kind
-    (claimed.exact g.E.HasKind.form c.requires.premise) _ _ c.parse.result
+    (claimed.exact g.E.HasKind.form c.requires.premise)
+    (claimed.fails g.E.HasKind.form c.requires.premise) _ _ c.parse.result
+    (g.met.I.StreamIsPartial.whole c.requires.whole c.args.input) c.parse.ensures.ran
+
+pub returns-clause-spared : goal.returns-clause-spared
+returns-clause-spared g c spares =
+    let claimed = g.met.Self.Parser.claimed (g.Self.Parser.state c.args.self.now) in
+    all_spared g.I.Stream.view g.I.Stream.reading.units g.E.ParserError.inner_kind
+    (claimed.fails g.E.HasKind.form c.requires.premise) spares _ _ c.parse.result
     (g.met.I.StreamIsPartial.whole c.requires.whole c.args.input) c.parse.ensures.ran

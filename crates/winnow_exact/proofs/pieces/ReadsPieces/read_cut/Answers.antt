@@ -1,3 +1,4 @@
+use Rattle.winnow_core.specs.Exact.Allowed.{softly}
 use Rattle.winnow_exact.specs.Cut.{told_or_asked}
 use Rattle.winnow_exact.proofs.pieces.ReadsPieces.read_cut.Goals as goal
 
@@ -7,6 +8,6 @@ returns-clause-reads g c =
     let form = g.E.HasKind.form in
     told_or_asked g.I.Stream.reading g.E.HasKind.kind g.Self.Parser.meaning form
     c.requires.modal (claimed.exact form c.requires.premise)
-    (claimed.soft form c.requires.premise c.requires.backtracks)
+    (softly c.requires.backtracks (claimed.fails form c.requires.premise))
     g.met.Self.Stable.stable _ c.parse_next.result _ _ c.parse_next.ensures.ends
     c.parse_next.ensures.ran

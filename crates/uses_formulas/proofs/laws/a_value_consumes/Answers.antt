@@ -1,7 +1,0 @@
-use Rattle.uses_formulas.specs.Decided.{value_moves}
-use Rattle.uses_formulas.proofs.laws.a_value_consumes.Goals as goal
-
-pub returns : goal.returns
-returns g c s x moves =
-    value_moves g.I.Stream.reading.units g.U.Clone.is_clone g.U.Clone.is_infallible
-    (g.P.Parser.meaning g.E.HasKind.form) s x moves

@@ -1,0 +1,5 @@
+use Rattle.winnow_expression_trees.specs.Premises.Decided.{byte_moves}
+use Rattle.winnow_expression_trees.proofs.laws.parts.a_byte_consumes.Goals as goal
+
+pub returns : goal.returns
+returns g c b = byte_moves g.E.HasKind.form b

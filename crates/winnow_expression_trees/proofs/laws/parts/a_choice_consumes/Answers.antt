@@ -1,0 +1,7 @@
+use Rattle.winnow_expression_trees.specs.Premises.Decided.{choice_moves}
+use Rattle.winnow_expression_trees.proofs.laws.parts.a_choice_consumes.Goals as goal
+
+pub returns : goal.returns
+returns g c s u one two =
+    choice_moves g.I.Stream.reading.units (g.P1.Parser.meaning g.E.HasKind.form)
+    (g.P2.Parser.meaning g.E.HasKind.form) s u one two

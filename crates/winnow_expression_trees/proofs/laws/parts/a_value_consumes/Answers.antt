@@ -1,0 +1,7 @@
+use Rattle.winnow_expression_trees.specs.Premises.Decided.{value_moves}
+use Rattle.winnow_expression_trees.proofs.laws.parts.a_value_consumes.Goals as goal
+
+pub returns : goal.returns
+returns g c s x moves =
+    value_moves g.I.Stream.reading.units g.U.Clone.is_clone g.U.Clone.is_infallible
+    (g.P.Parser.meaning g.E.HasKind.form) s x moves

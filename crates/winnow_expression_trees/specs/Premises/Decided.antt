@@ -1,0 +1,93 @@
+-- Parts of an expression that one state and one input decide are as the laws of trees ask.
+use Rattle.std.specs.Prelude.{◌≡◌, ◌<◌, ℕ, List, [], ◌∷◌, length, Ok, Err}
+use Rattle.std.proofs.Common.{refl, ap, inl, inr, arith}
+use Rattle.streams.specs.Bytes.{bytes_reading}
+use Rattle.streams.specs.Input.{Input}
+use Rattle.stream_errors.specs.Form.{Answer, ErrorForm}
+use Rattle.stream_errors.specs.Form.Known.{ok_is_err, same_kind}
+use Rattle.winnow_comb.specs.Alt.{OrElse}
+use Rattle.winnow_core.specs.Literal.{LiteralRuns}
+use Rattle.winnow_core.specs.Literal.Known.{token_taken}
+use Rattle.winnow_core.specs.Runs.{Keeps, Runs}
+use Rattle.winnow_core.specs.Value.{ValueRuns}
+use Rattle.winnow_core.specs.Decided.{AlikeAnswers, IsDecided}
+use Rattle.winnow_core.specs.Decided.{NotMemory as NotWantOfMemory}
+use Rattle.winnow_expression.specs.Units.{units_left}
+use Rattle.winnow_expression_trees.specs.Premises.{IsStateless, NotMemory, Same}
+
+-- an answer that is no want of memory, in the words of both crates
+no_memory : {O : Type 0} (a : Answer O) → NotMemory a → NotWantOfMemory a
+no_memory (Ok o) other e = ok_is_err refl e
+no_memory (Err k) other e = other (same_kind e)
+
+-- and answers that are alike
+same_answers : {O : Type 0} (alike : O → O → Type 0) (a b : Answer O) → AlikeAnswers alike a b
+    → Same alike a b
+same_answers alike (Ok o) (Ok p) like = like
+same_answers alike (Ok o) (Err l) like = like
+same_answers alike (Err k) (Ok p) like = like
+same_answers alike (Err k) (Err l) like = like
+
+-- what one state and one input decide is decided by the input, in that state
+pub decided_stateless : {S T O : Type 0} {s : S} {run : Runs S T O} {alike : O → O → Type 0}
+    → IsDecided s run alike → IsStateless alike run s
+decided_stateless {alike = alike} c = record {
+  keeps = λ i j a t r other. c.kept i a t j (no_memory a other) r;
+  decided = λ i j k a b t u r q na nb.
+      let told = c.decided i a b t u j k (no_memory a na) (no_memory b nb) r q in
+      (same_answers alike a b told.0, told.1);
+}
+
+wider_answers : {O : Type 0} (one other : O → O → Type 0) → ((o p : O) → one o p → other o p)
+    → (a b : Answer O) → Same one a b → Same other a b
+wider_answers one other wider (Ok o) (Ok p) like = wider o p like
+wider_answers one other wider (Ok o) (Err l) like = like
+wider_answers one other wider (Err k) (Ok p) like = like
+wider_answers one other wider (Err k) (Err l) like = like
+
+-- as far as more outputs are alike
+pub stateless_wider : {S T O : Type 0} {s : S} {run : Runs S T O} {one other : O → O → Type 0}
+    → ((o p : O) → one o p → other o p) → IsStateless one run s → IsStateless other run s
+stateless_wider {one = one} {other} wider c = record {
+  keeps = c.keeps;
+  decided = λ i j k a b t u r q na nb.
+      let told = c.decided i j k a b t u r q na nb in
+      (wider_answers one other wider a b told.0, told.1);
+}
+
+-- ---- operators that consume
+
+-- Where it answers an output it consumes, in this state.
+abbrev pub Moves : {S T O : Type 0} → (List T → ℕ) → Runs S T O → S → Type 0
+Moves {S} {T} {O} units run s =
+    (i j : Input T) (o : O) (t : S) → run s i (Ok o) t j
+    → units_left units j < units_left units i
+
+-- a byte does
+pub byte_moves : (form : ErrorForm) (b : ℕ)
+    → Moves bytes_reading.units
+    (Keeps (λ x. LiteralRuns bytes_reading form (λ xs. xs ≡ x ∷ []) (λ _. x)))
+    b
+byte_moves form b i j o t (ran, kept) =
+    omega (
+      arith,
+      ap (λ l. length l) (token_taken bytes_reading form b (λ _. b) i o j ran).splits,
+    )
+
+-- a value in the place of what consumes does
+pub value_moves : {S T O U : Type 0} (units : List T → ℕ) (is_clone : U → U → Type 0)
+    (clones : U → Type 0) (run : Runs S T O) (s : S) (x : U) → Moves units run s
+    → Moves units (ValueRuns is_clone clones run) (s, x)
+value_moves units is_clone clones run s x moves i j o t (inl (p, u, ran, same, clone, e)) =
+    moves i j p t.0 ran
+value_moves units is_clone clones run s x moves i j o t (inr (inl (p, ran, same, refused, e))) =
+    ok_is_err refl e
+value_moves units is_clone clones run s x moves i j o t (inr (inr (k, ran, same, e))) =
+    ok_is_err refl e
+
+-- a choice of two that consume does
+pub choice_moves : {S1 S2 T O : Type 0} (units : List T → ℕ) (run1 : Runs S1 T O)
+    (run2 : Runs S2 T O) (s1 : S1) (s2 : S2) → Moves units run1 s1 → Moves units run2 s2
+    → Moves units (OrElse run1 run2) (s1, s2)
+choice_moves units run1 run2 s1 s2 one two i j o t (inl (ran, other, same)) = one i j o t.0 ran
+choice_moves units run1 run2 s1 s2 one two i j o t (inr (a, failed, ran)) = two _ j o t.1 ran

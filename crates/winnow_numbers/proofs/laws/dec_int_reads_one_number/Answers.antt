@@ -1,7 +1,0 @@
-use Rattle.winnow_numbers.specs.DecInt.Known.{dec_int_once}
-use Rattle.winnow_numbers.proofs.laws.dec_int_reads_one_number.Goals as goal
-
-pub returns : goal.returns
-returns g c = λ s i answer other t u j k ran also. dec_int_once g.O.Int.number g.O.Int.fits
-    g.I.Stream.seen_as g.I.Token.AsChar.code g.I.Stream.reading g.E.HasKind.form
-    g.met.I.SlicesAsBytes.one_code i answer other j k ran.0 also.0

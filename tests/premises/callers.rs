@@ -1,0 +1,184 @@
+//! Each caller where it answers and where it fails, and what it leaves.
+use std::fmt::Debug;
+use std::process::Abort;
+use uses::premises::closures::{
+    digit_of_bytes, digit_of_text, mapped_byte, mapped_character, verified_byte, verified_character,
+};
+use uses::premises::errors::{
+    converted_over_bytes, converted_over_text, kept_over_bytes, kept_over_text, mode_over_bytes,
+    mode_over_text,
+};
+use uses::premises::lengths::{bytes_behind_length, letters_behind_length};
+use uses::premises::outputs::{
+    byte_twice, character_twice, letters_of_two, letters_of_two_characters, number_of_three,
+    number_of_three_characters,
+};
+use uses::premises::repeats::{
+    bytes_up_to_mark, characters_up_to_mark, greatest_byte, greatest_code,
+};
+
+/// What a reader answers, and what it leaves.
+fn same<T: PartialEq + Debug + Drop, I: PartialEq + Debug + Copy>(
+    rt: &impl Abort,
+    got: Option<T>,
+    left: I,
+    want: Option<T>,
+    rest: I,
+) {
+    assert_eq!(rt; got, want);
+    assert_eq!(rt; left, rest);
+}
+
+#[test]
+fn closures_over_bytes(rt: HostRuntime) {
+    for (text, number, rest) in [
+        (b"a1".as_slice(), Some(97), b"1".as_slice()),
+        (b"\xFF", Some(255), b""),
+        (b"", None, b""),
+    ] {
+        let mut input = text;
+        same(&rt, mapped_byte(&mut input).ok(), input, number, rest);
+    }
+    for (text, byte, rest) in [
+        (b"!a".as_slice(), Some(b'!'), b"a".as_slice()),
+        (b" a", None, b" a"),
+        (b"\n", None, b"\n"),
+        (b"", None, b""),
+    ] {
+        let mut input = text;
+        same(&rt, verified_byte(&mut input).ok(), input, byte, rest);
+    }
+    for (text, digit, rest) in [
+        (b"0".as_slice(), Some(0), b"".as_slice()),
+        (b"9a", Some(9), b"a"),
+        (b"/", None, b"/"),
+        (b":", None, b":"),
+        (b"", None, b""),
+    ] {
+        let mut input = text;
+        same(&rt, digit_of_bytes(&mut input).ok(), input, digit, rest);
+    }
+}
+
+#[test]
+fn closures_over_text(rt: HostRuntime) {
+    for (text, code, rest) in [("é1", Some(233), "1"), ("€", Some(8364), ""), ("", None, "")] {
+        let mut input = text;
+        same(&rt, mapped_character(&mut input).ok(), input, code, rest);
+    }
+    for (text, c, rest) in [("éa", Some('é'), "a"), (" a", None, " a"), ("", None, "")] {
+        let mut input = text;
+        same(&rt, verified_character(&mut input).ok(), input, c, rest);
+    }
+    for (text, digit, rest) in [("7é", Some(7), "é"), ("é", None, "é"), ("", None, "")] {
+        let mut input = text;
+        same(&rt, digit_of_text(&mut input).ok(), input, digit, rest);
+    }
+}
+
+#[test]
+fn errors(rt: HostRuntime) {
+    for (text, byte, rest) in [
+        (b"ab".as_slice(), Some(b'a'), b"b".as_slice()),
+        (b"", None, b""),
+    ] {
+        let mut input = text;
+        same(&rt, mode_over_bytes(&mut input).ok(), input, byte, rest);
+        let mut input = text;
+        same(&rt, kept_over_bytes(&mut input).ok(), input, byte, rest);
+        let mut input = text;
+        same(&rt, converted_over_bytes(&mut input).ok(), input, byte, rest);
+    }
+    for (text, c, rest) in [("éb", Some('é'), "b"), ("", None, "")] {
+        let mut input = text;
+        same(&rt, mode_over_text(&mut input).ok(), input, c, rest);
+        let mut input = text;
+        same(&rt, kept_over_text(&mut input).ok(), input, c, rest);
+        let mut input = text;
+        same(&rt, converted_over_text(&mut input).ok(), input, c, rest);
+    }
+}
+
+#[test]
+fn lengths(rt: HostRuntime) {
+    for (text, letters, rest) in [
+        (b"\x02a1b".as_slice(), Some(b"a".as_slice()), b"b".as_slice()),
+        (b"\x03abcd", Some(b"abc"), b"d"),
+        (b"\x001", None, b"\x001"),
+        (b"\x021a", None, b"\x021a"),
+        (b"\x03ab", None, b"\x03ab"),
+        (b"", None, b""),
+    ] {
+        let mut input = text;
+        let got = letters_behind_length(&mut input).ok();
+        assert_eq!(rt; got, letters, "{text:?}");
+        if got.is_some() {
+            assert_eq!(rt; input, rest, "{text:?}");
+        }
+    }
+    for (text, bytes) in [
+        (b"\x02abc".as_slice(), Some(b"ab".as_slice())),
+        (b"\x00a", Some(b"")),
+        (b"\x03ab", None),
+        (b"", None),
+    ] {
+        let got = bytes_behind_length(rt.alloc(), &mut &*text);
+        match (&got, bytes) {
+            (Ok(list), Some(bytes)) => assert_eq!(rt; list.as_slice(), bytes, "{text:?}"),
+            (Err(_), None) => {}
+            _ => assert!(rt; false, "{text:?}"),
+        }
+    }
+}
+
+#[test]
+fn outputs(rt: HostRuntime) {
+    for (text, number) in [
+        ("0423", Some(42)),
+        ("999", Some(999)),
+        ("+42", Some(42)),
+        ("4a2", None),
+        ("-42", None),
+        ("42", None),
+        ("", None),
+    ] {
+        assert_eq!(rt; number_of_three(&mut text.as_bytes()).ok(), number, "{text}");
+        assert_eq!(rt; number_of_three_characters(&mut &*text).ok(), number, "{text}");
+    }
+    assert!(rt; number_of_three_characters(&mut "4é2").is_err());
+    for (text, letters) in [("a1bc", Some("a")), ("abc", Some("ab")), ("1a", None), ("a", None)] {
+        let bytes = letters_of_two(&mut text.as_bytes()).ok();
+        assert_eq!(rt; bytes, letters.map(|it: &str| it.as_bytes()), "{text}");
+        assert_eq!(rt; letters_of_two_characters(&mut &*text).ok(), letters, "{text}");
+    }
+    assert_eq!(rt; letters_of_two_characters(&mut "aé"), Ok("a"));
+    for (text, byte) in [("aab", Some(b'a')), ("ab", None), ("a", None), ("", None)] {
+        assert_eq!(rt; byte_twice(&mut text.as_bytes()).ok(), byte, "{text}");
+    }
+    for (text, c) in [("ééa", Some('é')), ("éa", None), ("", None)] {
+        assert_eq!(rt; character_twice(&mut &*text).ok(), c, "{text}");
+    }
+}
+
+#[test]
+fn repeats(rt: HostRuntime) {
+    let alloc = rt.alloc();
+    for (text, byte, code) in [("acb", b'c', 99), ("", 0, 0), ("aéb", 0xC3, 233)] {
+        assert_eq!(rt; greatest_byte(alloc, &mut text.as_bytes()), Ok(byte), "{text}");
+        assert_eq!(rt; greatest_code(alloc, &mut &*text), Ok(code), "{text}");
+    }
+    let mut input = b"ab;c;".as_slice();
+    match bytes_up_to_mark(alloc, &mut input) {
+        Ok((list, mark)) => assert!(rt; list.as_slice() == b"ab".as_slice() && mark == b';'),
+        Err(_) => assert!(rt; false),
+    }
+    assert_eq!(rt; input, b"c;".as_slice());
+    assert!(rt; bytes_up_to_mark(alloc, &mut b"ab".as_slice()).is_err());
+    let mut input = "é;c";
+    match characters_up_to_mark(alloc, &mut input) {
+        Ok((list, mark)) => assert!(rt; list.as_slice() == ['é'].as_slice() && mark == ';'),
+        Err(_) => assert!(rt; false),
+    }
+    assert_eq!(rt; input, "c");
+    assert!(rt; characters_up_to_mark(alloc, &mut "é").is_err());
+}

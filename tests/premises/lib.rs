@@ -1,0 +1,5 @@
+//! The tests of callers that meet the premises of their parsers.
+#![tactic(auto)]
+
+#[cfg(test)]
+mod callers;
