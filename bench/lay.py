@@ -16,8 +16,8 @@ TOP = HERE.parent
 sys.path.insert(0, str(TOP / "scripts"))
 from laid import copy_crate, library  # noqa: E402
 
-READERS = ("readers", "json_values", "uses_csv", "uses_resp")
-TIMED = f"timed staticlib: winnow json_texts {' '.join(READERS)}"
+READERS = ("readers", "format_json_values", "format_csv", "format_resp")
+TIMED = f"timed staticlib: winnow format_json_texts {' '.join(READERS)}"
 
 
 def lay(room):

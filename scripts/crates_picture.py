@@ -68,7 +68,7 @@ def reduced(on):
 
 
 def kind_of(name, on):
-    if name.startswith(("uses", "readers", "json_", "http_", "dns_", "toml_", "exported")):
+    if name.startswith(("example", "readers", "format_", "uses_json", "exported")):
         return "callers"
     if name.startswith("winnow_expression"):
         return "expressions"

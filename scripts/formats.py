@@ -6,15 +6,15 @@ from registry.common import TOP, read
 
 # The crates of each format. What they stand on is found in `crates.txt`.
 FORMATS = {
-    "calculator": ["readers_calc"],
-    "csv": ["uses_csv"],
-    "dns": ["uses_dns", "dns_names"],
-    "http": ["http_heads", "http_chunks", "uses_http"],
+    "calculator": ["format_calculator"],
+    "csv": ["format_csv"],
+    "dns": ["format_dns"],
+    "http": ["format_http"],
     "ini": ["readers"],
-    "json": ["json_values", "json_pieces", "json_writer"],
+    "json": ["format_json_values", "format_json_pieces", "format_json_writer"],
     "json_extents": ["uses_json"],
-    "resp": ["uses_resp"],
-    "toml": ["toml_reader"],
+    "resp": ["format_resp"],
+    "toml": ["format_toml"],
 }
 
 

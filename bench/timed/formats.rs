@@ -2,13 +2,13 @@
 //! formats.
 
 use crate::outcome::Outcome;
-use json_texts::value::Value;
-use json_values::value::parse_value;
+use format_json_texts::value::Value;
+use format_json_values::value::parse_value;
 use std::alloc::Global;
 use std::str;
-use uses_csv::{LineEnd, Record, parse_document};
-use uses_resp::read::read_reply;
-use uses_resp::reply::Reply;
+use format_csv::{LineEnd, Record, parse_document};
+use format_resp::read::read_reply;
+use format_resp::reply::Reply;
 use winnow::stream::{Partial, Stream};
 
 /// How many bytes a text or a number has.

@@ -10,62 +10,68 @@ README, COUNTED = TOP / "README.md", TOP / "docs/READERS.md"
 GUARANTEES = TOP / "docs/GUARANTEES.md"
 # Formats, the crate of the reader, whether it is made of grammars, and what is proved of it.
 READERS = [
-    ("lines of one letter", "uses_lines", "yes",
+    ("lines of one letter", "examples/lines", "yes",
         "`Ok` exactly where the bytes are these lines; they read back"),
-    ("trees of numbers in brackets", "uses_nested", "yes",
+    ("trees of numbers in brackets", "examples/nested", "yes",
         "the tree to a level that bytes begin with, and none where none stands"),
-    ("options in brackets", "uses_options", "yes",
+    ("options in brackets", "examples/options", "yes",
         "the options that bytes begin with, whole and in pieces, by one composition"),
-    ("CSV (RFC 4180)", "uses_csv", "yes",
+    ("CSV (RFC 4180)", "format_csv", "yes",
         "`Ok` exactly where the bytes are a document of these records, or a table; one record, "
         "whole and in pieces"),
-    ("RESP2", "uses_resp", "yes",
+    ("RESP2", "format_resp", "yes",
         "the reply that bytes begin with, nested to a level, whole and in pieces"),
-    ("JSON (RFC 8259): numbers, strings, words", "json_reader", "yes",
+    ("JSON (RFC 8259): numbers, strings, words", "format_json_scalars", "yes",
         "the number, string or word that a text begins with, its escapes undone"),
-    ("JSON: values", "json_values", "yes",
+    ("JSON: values", "format_json_values", "yes",
         "`Ok` exactly where the text is one of this value, nested to a level"),
-    ("JSON: values from bytes", "json_pieces", "no",
+    ("JSON: values from bytes", "format_json_pieces", "no",
         "the value whose text the bytes begin with, whole and in pieces, one by one; `Ok` exactly "
         "where the bytes are a text of this value"),
-    ("JSON: written", "json_writer", "no",
+    ("JSON: written", "format_json_writer", "no",
         "the text of a value, exactly where it has one, nested to a level; it reads back"),
     ("JSON: extents", "uses_json", "no", "where a value ends, and whether bytes are a text"),
-    ("TOML 1.0, a subset", "toml_reader", "yes",
+    ("TOML 1.0, a subset", "format_toml", "yes",
         "`Ok` exactly where the text is lines of this document; the first line that says a key or "
         "a table again, and what the first one lacks that is no line"),
-    ("HTTP/1.1 heads (RFC 9112)", "http_heads", "yes",
+    ("HTTP/1.1 heads (RFC 9112)", "format_http/heads", "yes",
         "the request line, field line and head that bytes begin with"),
-    ("HTTP/1.1 size lines of chunks", "http_chunks", "yes",
+    ("HTTP/1.1 size lines of chunks", "format_http/chunks", "yes",
         "the size line that bytes begin with, with its extensions, whole and in pieces"),
-    ("HTTP/1.1 heads, in pieces", "uses_http", "no",
+    ("HTTP/1.1 heads, in pieces", "format_http/pieces", "no",
         "request lines, field lines and heads in pieces, and when more bytes are asked for"),
-    ("DNS headers", "uses_dns", "no", "the header, and which part is missing"),
-    ("DNS names, compressed", "dns_names", "yes", "the name at a place, or why and where none is"),
+    ("DNS: headers, and compressed names", "format_dns", "names",
+        "the header, and which part is missing; the name at a place, or why and where none is"),
     ("INI", "readers", "no", "`Ok` exactly where the bytes are a document of these sections"),
-    ("formulas", "readers_calc", "no", "`Ok(v)` exactly where the one tree has this value"),
+    ("formulas", "format_calculator", "no", "`Ok(v)` exactly where the one tree has this value"),
 ]
 # What README.md says of formats: the crates of their readers, and what is proved, in the words that
 # it explains.
 BRIEF = [
-    ("CSV (RFC 4180)", ["uses_csv"], "exactly; first, in pieces"),
-    ("DNS", ["uses_dns", "dns_names"], "the header of 12 bytes; the name at a place"),
-    ("formulas", ["readers_calc"], "exactly"),
-    ("HTTP/1.1 heads", ["http_heads", "uses_http"], "first, in pieces"),
-    ("HTTP/1.1 chunk sizes", ["http_chunks"], "first, in pieces"),
+    ("CSV (RFC 4180)", ["format_csv"], "exactly; first, in pieces"),
+    ("DNS", ["format_dns"], "the header of 12 bytes; the name at a place"),
+    ("formulas", ["format_calculator"], "exactly"),
+    ("HTTP/1.1 heads, chunk sizes", ["format_http"], "first, in pieces"),
     ("INI", ["readers"], "exactly"),
-    ("JSON", ["json_values", "json_pieces", "json_writer"],
+    ("JSON", ["format_json_values", "format_json_pieces", "format_json_writer"],
         "exactly; first, in pieces; written values read back"),
     ("JSON extents", ["uses_json"], "where the first value ends"),
-    ("RESP2", ["uses_resp"], "first, in pieces"),
-    ("TOML 1.0, a subset", ["toml_reader"], "exactly"),
+    ("RESP2", ["format_resp"], "first, in pieces"),
+    ("TOML 1.0, a subset", ["format_toml"], "exactly"),
 ]
 
 
-def lines(crate, part, ending):
-    """How many lines a part of a crate has, of files that are not written by a script."""
-    files = sorted((CRATES / crate / part).rglob(f"*{ending}"))
-    return sum(len(read(it).splitlines()) for it in files if it.name != "Lib.antt")
+def lines(place, part, ending):
+    """How many lines a part of a crate has, or of one of its modules, of files that are not written
+    by a script."""
+    crate, _, module = place.partition("/")
+    top = CRATES / crate / part
+    files = [it for it in sorted(top.rglob(f"*{ending}")) if it.name != "Lib.antt"]
+    if module:
+        name = module.title()
+        of_module = {module, module + ending, name, name + ending, f"{name}Lemmas"}
+        files = [it for it in files if it.relative_to(top).parts[0] in of_module]
+    return sum(len(read(it).splitlines()) for it in files)
 
 
 def exported():
@@ -102,7 +108,7 @@ def write_readers():
             lines(crate, "specs", ".antt"),
             lines(crate, "proofs", ".antt"),
         ]
-        link = f"[{crate}](../crates/{crate})"
+        link = f"[{crate.replace('/', '::')}](../crates/{crate.partition('/')[0]})"
         counted.append([what, link, is_by_grammars, *(f"{it:,}" for it in counts), proved])
     for what, crates, proved in BRIEF:
         links = ", ".join(f"[{it}](crates/{it})" for it in crates)

@@ -1,5 +1,5 @@
 //! Values as text, for rows of tests.
-use json_texts::value::Value;
+use format_json_texts::value::Value;
 use std::alloc::{AllocError, Allocator, Global};
 
 /// Writes a text between quotes, as it is.

@@ -1,19 +1,19 @@
 //! Each caller where it answers and where it fails, and what it leaves.
 use std::fmt::Debug;
 use std::process::Abort;
-use uses::premises::closures::{
+use example_callers::premises::closures::{
     digit_of_bytes, digit_of_text, mapped_byte, mapped_character, verified_byte, verified_character,
 };
-use uses::premises::errors::{
+use example_callers::premises::errors::{
     converted_over_bytes, converted_over_text, kept_over_bytes, kept_over_text, mode_over_bytes,
     mode_over_text,
 };
-use uses::premises::lengths::{bytes_behind_length, letters_behind_length};
-use uses::premises::outputs::{
+use example_callers::premises::lengths::{bytes_behind_length, letters_behind_length};
+use example_callers::premises::outputs::{
     byte_twice, character_twice, letters_of_two, letters_of_two_characters, number_of_three,
     number_of_three_characters,
 };
-use uses::premises::repeats::{
+use example_callers::premises::repeats::{
     bytes_up_to_mark, characters_up_to_mark, greatest_byte, greatest_code,
 };
 

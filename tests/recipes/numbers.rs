@@ -1,7 +1,7 @@
 //! Numbers, with white space, signs and bounds.
 
 use test_support::rows::Modal;
-use uses::percentages::read_percentage;
+use example_callers::percentages::read_percentage;
 use winnow::ascii::impls::{DecInt, DecUint, Space0};
 use winnow::combinator::delimited;
 use winnow::error::{EmptyError, ErrMode};

@@ -1,6 +1,6 @@
 //! Texts with escapes, as they stand and as what they stand for.
 
-use uses_strings::strings::{as_it_stands, unescaped};
+use examples::strings::{as_it_stands, unescaped};
 
 #[test]
 fn escapes(rt: HostRuntime) {

@@ -1,7 +1,7 @@
 //! Comments and names.
 
 use test_support::rows::Modal;
-use uses::identifiers::read_identifier;
+use example_callers::identifiers::read_identifier;
 use winnow::ascii::impls::TillLineEnding;
 use winnow::combinator::{delimited, preceded};
 use winnow::prelude::*;

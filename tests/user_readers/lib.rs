@@ -2,7 +2,7 @@
 //! them, with their tests.
 //!
 //! The readers promise nothing: what they show is forms of code, at text, at bytes and in pieces,
-//! with lifetimes and without. Those of the crate `uses` have exact contracts.
+//! with lifetimes and without. Those of the crate `example_callers` have exact contracts.
 //!
 //! - Parsers as functions, a statement each, into a struct: `read_entry`, `read_version`; over
 //!   input in pieces: `read_head`.

@@ -6,8 +6,8 @@ use Rattle.std.specs.List.{All}
 use Rattle.std.proofs.Math.Seq.{drop-append-add, drop-append_seam}
 use Rattle.std.proofs.lemmas.List.{take-append-drop}
 use Rattle.std.proofs.lemmas.List.Elements.{All-append, All-cons, All-head, All-nil, All-tail}
-use Rattle.http_heads.specs.Bytes.{IsWhite}
-use Rattle.http_heads.specs.FieldLine.{BeginsBare, IsFieldLine}
+use Rattle.format_http.specs.Heads.Bytes.{IsWhite}
+use Rattle.format_http.specs.Heads.FieldLine.{BeginsBare, IsFieldLine}
 use Rattle.exported.specs.Http.{IsBehindGap, ShowsField}
 use Rattle.exported.specs.Span.{EndsWith, StandsAt}
 use Rattle.exported.specs.declared.http.Field.{Field}

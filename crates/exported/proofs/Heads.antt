@@ -6,12 +6,12 @@ use Rattle.std.proofs.Math.Seq.{take-append_seam}
 use Rattle.std.proofs.lemmas.List.{length-map}
 use Rattle.std.specs.Borrow.{Bor}
 use Rattle.winnow.specs.Grammar.{NoneStands}
-use Rattle.http_heads.specs.Bytes.{line_end}
-use Rattle.http_heads.specs.FieldLine.{IsFieldLine}
-use Rattle.http_heads.specs.Head.{AreFieldLines, HeadStands, IsHead, Pair, Request, pair}
-use Rattle.http_heads.specs.RequestLine.{IsRequestLine}
-use Rattle.http_heads.specs.declared.field_line.Field.{Field as Found}
-use Rattle.http_heads.specs.declared.head.Head.{Head}
+use Rattle.format_http.specs.Heads.Bytes.{line_end}
+use Rattle.format_http.specs.Heads.FieldLine.{IsFieldLine}
+use Rattle.format_http.specs.Heads.Head.{AreFieldLines, HeadStands, IsHead, Pair, Request, pair}
+use Rattle.format_http.specs.Heads.RequestLine.{IsRequestLine}
+use Rattle.format_http.specs.declared.heads.field_line.Field.{Field as Found}
+use Rattle.format_http.specs.declared.heads.head.Head.{Head}
 use Rattle.exported.specs.Http.{AreShown, version_on}
 use Rattle.exported.specs.declared.http.Field.{Field}
 

@@ -3,7 +3,7 @@ use Rattle.std.proofs.Common.{◌≡◌, ◌∙◌, ◌+◌, ◌≤◌, ◌++◌
 use Rattle.std.proofs.Common.{drop}
 use Rattle.std.proofs.Common.{length, length-append, refl}
 use Rattle.std.proofs.Math.Seq.{drop-append-add}
-use Rattle.http_heads.specs.RequestLine.{IsRequestLine}
+use Rattle.format_http.specs.Heads.RequestLine.{IsRequestLine}
 use Rattle.exported.specs.Http.{version_on}
 use Rattle.exported.specs.Span.{EndsWith}
 

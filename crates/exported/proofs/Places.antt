@@ -2,9 +2,9 @@
 use Rattle.std.proofs.Common.{◌≡◌, ◌∙◌, ◌+◌, ◌<◌, ◌++◌, ◌∷◌, [], ℕ, List, ap, arith, drop}
 use Rattle.std.proofs.Common.{length, map, refl, slice_index_or, slice_set, subst, sym, take}
 use Rattle.std.proofs.lemmas.List.{drop_more, get_or-map, length-map, take_more, take_more_set}
-use Rattle.http_heads.specs.FieldLine.{IsFieldLine}
-use Rattle.http_heads.specs.Head.{AreFieldLines, Pair, pair}
-use Rattle.http_heads.specs.declared.field_line.Field.{Field as Found}
+use Rattle.format_http.specs.Heads.FieldLine.{IsFieldLine}
+use Rattle.format_http.specs.Heads.Head.{AreFieldLines, Pair, pair}
+use Rattle.format_http.specs.declared.heads.field_line.Field.{Field as Found}
 use Rattle.exported.specs.Http.{AreShown, ShowsField}
 use Rattle.exported.specs.declared.http.Field.{Field}
 

@@ -3,8 +3,8 @@ use Rattle.std.proofs.Common.{◌≡◌, ◌∙◌, ◌+◌, ◌≤◌, ◌++◌
 use Rattle.std.proofs.Common.{append-nil, inl, inr, length, length-append, subst, sym}
 use Rattle.std.specs.declared.vec.Vec.{Vec}
 use Rattle.winnow.specs.Following.{most_bytes}
-use Rattle.uses_csv.specs.Csv.{FieldText, InQuotes, IsPlain, IsRecord, RecordText, line_end}
-use Rattle.uses_csv.specs.declared.LineEnd.{LineEnd}
+use Rattle.format_csv.specs.Csv.{FieldText, InQuotes, IsPlain, IsRecord, RecordText, line_end}
+use Rattle.format_csv.specs.declared.LineEnd.{LineEnd}
 use Rattle.winnow.specs.Texts.{Among, InList, Itself, Joined, OneOf, Row, Spelled, Text}
 use Rattle.winnow.specs.Texts.{Then}
 use Rattle.exported.specs.Csv.{CountsRecord, Fields, IsRecordForGood}

@@ -5,13 +5,13 @@ use Rattle.std.proofs.Common.{sym, ℤ}
 use Rattle.std.specs.Borrow.{Bor}
 use Rattle.std.specs.declared.vec.Vec.{Vec}
 use Rattle.winnow.specs.Equal.{same_first, same_others}
-use Rattle.uses_resp.specs.Parts.{IsBehindFeed, IsLine, NoFeed, Opened, StandsBy, array_is}
-use Rattle.uses_resp.specs.Parts.{bulk_is, error_is, integer_is, null_array_is, null_bulk_is}
-use Rattle.uses_resp.specs.Parts.{simple_is, stands_as}
-use Rattle.uses_resp.specs.Resp.{line_end}
-use Rattle.uses_resp.specs.declared.reply.Reply as made
-use Rattle.uses_resp.specs.declared.reply.Reply.{out-Reply}
-use Rattle.uses_resp.specs.declared.reply.Reply.TheOpen.{Reply-F}
+use Rattle.format_resp.specs.Parts.{IsBehindFeed, IsLine, NoFeed, Opened, StandsBy, array_is}
+use Rattle.format_resp.specs.Parts.{bulk_is, error_is, integer_is, null_array_is, null_bulk_is}
+use Rattle.format_resp.specs.Parts.{simple_is, stands_as}
+use Rattle.format_resp.specs.Resp.{line_end}
+use Rattle.format_resp.specs.declared.reply.Reply as made
+use Rattle.format_resp.specs.declared.reply.Reply.{out-Reply}
+use Rattle.format_resp.specs.declared.reply.Reply.TheOpen.{Reply-F}
 use Rattle.winnow.specs.InTurn.{First}
 use Rattle.exported.specs.Pieces.{MayFollow}
 use Rattle.exported.specs.Resp.{AreElements, Found, IsReply, IsReplyForGood, IsShown}

@@ -2,10 +2,10 @@
 use Rattle.std.specs.Prelude.{◌≡◌, ◌+◌, ℕ, List, ◌++◌, length, zero, suc}
 use Rattle.std.specs.declared.alloc.Global.{Global}
 use Rattle.std.specs.declared.vec.Vec.{Vec}
-use Rattle.uses_csv.specs.Csv.{IsRecord}
-use Rattle.uses_csv.specs.Pieces.{IsLine}
-use Rattle.uses_csv.specs.declared.LineEnd.{LineEnd}
-use Rattle.uses_csv.specs.declared.LineEnd.TheVariants.{CrLf, Lf}
+use Rattle.format_csv.specs.Csv.{IsRecord}
+use Rattle.format_csv.specs.Pieces.{IsLine}
+use Rattle.format_csv.specs.declared.LineEnd.{LineEnd}
+use Rattle.format_csv.specs.declared.LineEnd.TheVariants.{CrLf, Lf}
 use Rattle.exported.specs.Pieces.{MayFollow}
 use Rattle.exported.specs.Texts.{AreFields, text_of}
 use Rattle.exported.specs.declared.csv.Record.{Record}

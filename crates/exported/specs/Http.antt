@@ -1,10 +1,10 @@
 -- Where the parts of a head stand.
 use Rattle.std.specs.Prelude.{◌≡◌, ◌+◌, ℕ, List, [], ◌∷◌, ◌++◌, length}
 use Rattle.std.specs.List.{All}
-use Rattle.http_heads.specs.Bytes.{IsWhite, line_end}
-use Rattle.http_heads.specs.FieldLine.{BeginsBare, IsFieldLine}
-use Rattle.http_heads.specs.Head.{IsHead, Pair, Request}
-use Rattle.http_heads.specs.RequestLine.{digits, protocol}
+use Rattle.format_http.specs.Heads.Bytes.{IsWhite, line_end}
+use Rattle.format_http.specs.Heads.FieldLine.{BeginsBare, IsFieldLine}
+use Rattle.format_http.specs.Heads.Head.{IsHead, Pair, Request}
+use Rattle.format_http.specs.Heads.RequestLine.{digits, protocol}
 use Rattle.exported.specs.Span.{StandsAt}
 use Rattle.exported.specs.declared.http.Field.{Field}
 use Rattle.exported.specs.declared.http.Head.{Head}

@@ -2,10 +2,10 @@
 use Rattle.std.specs.Prelude.{◌≡◌, ◌+◌, ℕ, ℤ, pos, List, ◌++◌, length, suc}
 use Rattle.std.specs.Borrow.{Bor}
 use Rattle.std.specs.declared.alloc.Global.{Global}
-use Rattle.uses_resp.specs.Parts.{IsBehindFeed, Opened}
-use Rattle.uses_resp.specs.Resp.{Replies, ReplyText, line_end}
-use Rattle.uses_resp.specs.declared.reply.Reply.{out-Reply}
-use Rattle.uses_resp.specs.declared.reply.Reply.TheOpen.{Reply-F}
+use Rattle.format_resp.specs.Parts.{IsBehindFeed, Opened}
+use Rattle.format_resp.specs.Resp.{Replies, ReplyText, line_end}
+use Rattle.format_resp.specs.declared.reply.Reply.{out-Reply}
+use Rattle.format_resp.specs.declared.reply.Reply.TheOpen.{Reply-F}
 use Rattle.winnow.specs.InTurn.{First}
 use Rattle.winnow.specs.Texts.{Row}
 use Rattle.exported.specs.Pieces.{MayFollow}

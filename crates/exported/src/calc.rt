@@ -2,13 +2,13 @@
 
 ghost use Rattle.std.specs.Prelude.{◌≡◌, ◌⊎◌, pos};
 ghost use Rattle.std.specs.Str.{IsUtf8};
-ghost use Rattle.readers_calc.specs.Calculator.{IsFormulaFault, IsValue};
-ghost use Rattle.readers_calc.specs.declared.fault.Fault.TheVariants.{Refused};
+ghost use Rattle.format_calculator.specs.Calculator.{IsFormulaFault, IsValue};
+ghost use Rattle.format_calculator.specs.declared.fault.Fault.TheVariants.{Refused};
 ghost use Rattle.exported.specs.Code.{done, no_memory, no_text, refused};
 
 use crate::code::{DONE, NO_MEMORY, NO_TEXT, REFUSED};
-use readers_calc::calc;
-use readers_calc::fault::Fault;
+use format_calculator::calc;
+use format_calculator::fault::Fault;
 use std::alloc::Global;
 
 /// What a formula comes to.

@@ -1,7 +1,7 @@
 //! Records of comma separated values.
 
 ghost use Rattle.std.specs.Prelude.{◌≡◌, ◌≤◌, ◌+◌, ◌<◌, ◌⊎◌, length, take};
-ghost use Rattle.uses_csv.specs.Csv.{IsRecord};
+ghost use Rattle.format_csv.specs.Csv.{IsRecord};
 ghost use Rattle.exported.specs.Code.{done, incomplete, no_memory, refused, too_small};
 ghost use Rattle.exported.specs.Csv.{IsRecordForGood, NoLine, NoRecord, NoRecordForGood};
 ghost use Rattle.exported.specs.Csv.{ShowsRecord, WantsRecord, ends_of};
@@ -12,9 +12,9 @@ pub mod texts;
 use crate::code::{DONE, INCOMPLETE, NO_MEMORY, REFUSED, TOO_SMALL};
 use crate::csv::texts::{bytes_of, copy_fields, place_fields};
 use crate::span::{MOST_IN_PIECES, Span};
+use format_csv::pieces::read_record_in_pieces;
+use format_csv::{LineEnd, read_record};
 use std::alloc::Global;
-use uses_csv::pieces::read_record_in_pieces;
-use uses_csv::{LineEnd, read_record};
 use winnow::error::ParserError;
 use winnow::stream::Partial;
 

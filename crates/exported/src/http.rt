@@ -1,8 +1,8 @@
 //! The heads of requests.
 
 ghost use Rattle.std.specs.Prelude.{◌≡◌, ◌⊎◌, ◌<◌, List, length, map, take, ℕ};
-ghost use Rattle.http_heads.specs.Head.{IsHead, Pair, Request, pair, request};
-ghost use Rattle.uses_http.specs.Head.{BeginsHead, NoHead};
+ghost use Rattle.format_http.specs.Heads.Head.{IsHead, Pair, Request, pair, request};
+ghost use Rattle.format_http.specs.Pieces.Head.{BeginsHead, NoHead};
 ghost use Rattle.exported.specs.Code.{done, incomplete, no_memory, refused, too_small};
 ghost use Rattle.exported.specs.Http.{IsWanted, ShowsHead};
 
@@ -11,10 +11,10 @@ pub mod places;
 use crate::code::{DONE, INCOMPLETE, NO_MEMORY, REFUSED, TOO_SMALL};
 use crate::http::places::{place_fields, request_at};
 use crate::span::{NOWHERE, Span};
-use http_heads::head;
-use http_heads::head::read_head;
+use format_http::heads::head;
+use format_http::heads::head::read_head;
+use format_http::pieces::head::read_head_in_pieces;
 use std::alloc::Global;
-use uses_http::head::read_head_in_pieces;
 use winnow::error::ParserError;
 use winnow::stream::Partial;
 

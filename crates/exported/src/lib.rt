@@ -5,7 +5,7 @@
 //! bytes, so nothing that it takes memory for outlives the call.
 //!
 //! Values of JSON are those of the grammar of its standard: `exported_json_check` and its like take
-//! a surrogate that is escaped alone, as `\ud800`, which the crate `json_values` refuses.
+//! a surrogate that is escaped alone, as `\ud800`, which the crate `format_json_values` refuses.
 #![tactic(auto)]
 
 pub mod calc;

@@ -2,7 +2,7 @@
 
 ghost use Rattle.std.specs.Prelude.{◌≡◌, ◌<◌, ◌⊎◌, ◌↔◌, List, length, ℕ};
 ghost use Rattle.winnow.specs.InTurn.{First};
-ghost use Rattle.uses_resp.specs.Resp.{ReplyText};
+ghost use Rattle.format_resp.specs.Resp.{ReplyText};
 ghost use Rattle.exported.specs.Code.{done, incomplete, most_levels, no_memory, refused, too_deep};
 ghost use Rattle.exported.specs.Resp.{IsReply, IsReplyForGood, NoReply, NoReplyForGood, ShowsReply};
 ghost use Rattle.exported.specs.Resp.{no_reply};
@@ -13,8 +13,8 @@ use crate::code::{DONE, INCOMPLETE, NO_MEMORY, REFUSED, TOO_DEEP};
 use crate::json::MOST_LEVELS;
 use crate::resp::places::reply_at;
 use crate::span::{MOST_IN_PIECES, NOWHERE, Span};
+use format_resp::read::read_reply;
 use std::alloc::Global;
-use uses_resp::read::read_reply;
 use winnow::error::ParserError;
 use winnow::stream::{Partial, StreamIsPartial};
 

@@ -6,8 +6,8 @@ use Rattle.readers.specs.declared.program.Verdict.{Verdict}
 use Rattle.readers.specs.declared.program.Verdict.TheVariants.{Accepted, Refused}
 use Rattle.readers.specs.declared.program.Format.TheVariants.{Calc}
 use Rattle.readers.specs.Program.{IsAnswerText, IsRefusedFormula, number_line, refused_line}
-use Rattle.readers_calc.specs.Calculator.{IsFormulaFault, IsValue}
-use Rattle.readers_calc.specs.declared.fault.Fault.TheVariants.{Refused as refused_at}
+use Rattle.format_calculator.specs.Calculator.{IsFormulaFault, IsValue}
+use Rattle.format_calculator.specs.declared.fault.Fault.TheVariants.{Refused as refused_at}
 
 pub formula_value : (bytes text : List ℕ) (v : ℤ) (line : List ℕ) → text ≡ bytes → IsUtf8 bytes
     → IsValue text v → line ≡ number_line v → IsAnswerText Calc bytes Accepted line

@@ -2,8 +2,8 @@
 use Rattle.std.specs.Prelude.{◌≡◌, ◌≢◌, ℕ, ◌<◌, ◌≤◌, ◌+◌, List, [], ◌∷◌, ◌++◌, length, All, ◌⊎◌, ⊤}
 use Rattle.std.specs.Str.{IsUtf8}
 use Rattle.readers.specs.Pair.{IsKeyByte}
-use Rattle.readers_calc.specs.declared.fault.Fault.{Fault}
-use Rattle.readers_calc.specs.declared.fault.Fault.TheVariants.{Refused, NoMemory}
+use Rattle.format_calculator.specs.declared.fault.Fault.{Fault}
+use Rattle.format_calculator.specs.declared.fault.Fault.TheVariants.{Refused, NoMemory}
 
 -- a space or a tab
 abbrev pub IsBlank : ℕ → Type 0

@@ -1,7 +1,7 @@
 -- The line of one pair.
 use Rattle.std.specs.Prelude.{◌≡◌, ◌≢◌, ℕ, ◌<◌, ◌≤◌, List, [], ◌∷◌, ◌++◌, length, All, ◌⊎◌}
-use Rattle.readers_calc.specs.declared.fault.Fault.{Fault}
-use Rattle.readers_calc.specs.declared.fault.Fault.TheVariants.{Refused, NoMemory}
+use Rattle.format_calculator.specs.declared.fault.Fault.{Fault}
+use Rattle.format_calculator.specs.declared.fault.Fault.TheVariants.{Refused, NoMemory}
 
 -- an ASCII letter or digit
 abbrev pub IsKeyByte : ℕ → Type 0

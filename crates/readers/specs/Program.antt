@@ -14,8 +14,8 @@ use Rattle.readers.specs.declared.program.Format.{Format}
 use Rattle.readers.specs.declared.program.Format.TheVariants.{Pair, Ini, Calc}
 use Rattle.readers.specs.Pair.{IsPairLine, IsRefusedPair}
 use Rattle.readers.specs.Document.{SectionText, HasSections, IsRefusedDocument}
-use Rattle.readers_calc.specs.Calculator.{IsFormulaFault, IsValue}
-use Rattle.readers_calc.specs.declared.fault.Fault.TheVariants.{Refused as refused_at}
+use Rattle.format_calculator.specs.Calculator.{IsFormulaFault, IsValue}
+use Rattle.format_calculator.specs.declared.fault.Fault.TheVariants.{Refused as refused_at}
 
 -- at most n of the known bytes were taken
 abbrev pub ConsumesAtMost : Option (List ℕ) → Option (List ℕ) → ℕ → Type 0

@@ -7,4 +7,4 @@
 //! assert_eq!(rt; calc::value(alloc, "-3!"), Ok(-6));
 //! assert_eq!(rt; calc::value(alloc, "1 2"), Err(Fault::Refused(2)));
 //! ```
-pub use readers_calc::calc::value;
+pub use format_calculator::calc::value;

@@ -6,4 +6,4 @@
 //!
 //! assert_eq!(rt; ini::pair(b"key"), Err(Fault::Refused(3)));
 //! ```
-pub use readers_calc::fault::Fault;
+pub use format_calculator::fault::Fault;

@@ -1,16 +1,16 @@
 //! Where the parts of a head stand.
 
 ghost use Rattle.std.specs.Prelude.{◌≡◌, ◌≤◌, ◌∷◌, ◌++◌, List, drop, length, map, ℕ};
-ghost use Rattle.http_heads.specs.FieldLine.{IsFieldLine};
-ghost use Rattle.http_heads.specs.Head.{AreFieldLines, pair};
+ghost use Rattle.format_http.specs.Heads.FieldLine.{IsFieldLine};
+ghost use Rattle.format_http.specs.Heads.Head.{AreFieldLines, pair};
 ghost use Rattle.exported.specs.Http.{AreShown, IsBehindGap, ShowsField, version_on};
-ghost use Rattle.http_heads.specs.RequestLine.{IsRequestLine};
+ghost use Rattle.format_http.specs.Heads.RequestLine.{IsRequestLine};
 ghost use Rattle.exported.specs.Span.{EndsWith, StandsAt};
 
 use crate::http::Field;
 use crate::span::{Span, first_of};
-use http_heads::field_line::Field as Found;
-use http_heads::request_line::RequestLine;
+use format_http::heads::field_line::Field as Found;
+use format_http::heads::request_line::RequestLine;
 
 /// What stands behind the first bytes.
 fn behind<'i>(count: usize, bytes: &'i [u8]) -> &'i [u8]

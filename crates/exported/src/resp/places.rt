@@ -1,7 +1,7 @@
 //! Where the parts of a reply stand.
 
 ghost use Rattle.std.specs.Prelude.{◌≡◌, ◌+◌, ◌++◌, ◌∷◌, List, length, ℕ};
-ghost use Rattle.uses_resp.specs.Parts.{NoFeed};
+ghost use Rattle.format_resp.specs.Parts.{NoFeed};
 ghost use Rattle.exported.specs.Resp.{IsReply, IsShown};
 
 use crate::resp::{
@@ -9,8 +9,8 @@ use crate::resp::{
     RESP_SIMPLE, Reply,
 };
 use crate::span::{Span, first_of};
+use format_resp::reply;
 use std::alloc::Global;
-use uses_resp::reply;
 
 /// What stands behind the first line feed.
 fn behind_feed<'i>(bytes: &'i [u8]) -> &'i [u8]

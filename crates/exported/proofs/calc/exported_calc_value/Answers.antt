@@ -1,6 +1,6 @@
 use Rattle.std.proofs.Common.{List, subst, ℕ}
-use Rattle.readers_calc.specs.Calculator.{IsFormulaFault, IsValue}
-use Rattle.readers_calc.specs.declared.fault.Fault.TheVariants.{Refused}
+use Rattle.format_calculator.specs.Calculator.{IsFormulaFault, IsValue}
+use Rattle.format_calculator.specs.declared.fault.Fault.TheVariants.{Refused}
 use Rattle.exported.proofs.calc.exported_calc_value.Goals as goal
 
 pub returns-in-Ok-clause-value : goal.returns-in-Ok-clause-value

@@ -1,7 +1,7 @@
 use Rattle.std.proofs.Common.{◌∙◌, inl, inr, refl, subst, sym, take}
 use Rattle.std.proofs.lemmas.Bool.{true≢false}
-use Rattle.uses_csv.specs.Csv.{IsRecord}
-use Rattle.uses_csv.specs.declared.LineEnd.{LineEnd}
+use Rattle.format_csv.specs.Csv.{IsRecord}
+use Rattle.format_csv.specs.declared.LineEnd.{LineEnd}
 use Rattle.exported.specs.Csv.{NoRecord, ShowsRecord, WantsRecord}
 use Rattle.exported.proofs.Records.{counted, counted_long, fields_as}
 use Rattle.exported.proofs.csv.exported_csv_record.Goals as goal

@@ -1,8 +1,8 @@
 use Rattle.std.proofs.Common.{◌∙◌, ap, arith, length, List, subst, sym, take, ℕ}
 use Rattle.std.proofs.lemmas.Bool.{true≢false}
 use Rattle.winnow.specs.Input.{Input}
-use Rattle.uses_csv.specs.Csv.{IsRecord}
-use Rattle.uses_csv.specs.declared.LineEnd.{LineEnd}
+use Rattle.format_csv.specs.Csv.{IsRecord}
+use Rattle.format_csv.specs.declared.LineEnd.{LineEnd}
 use Rattle.exported.specs.Csv.{IsRecordForGood, NoLine, NoRecordForGood, ShowsRecord}
 use Rattle.exported.specs.Csv.{WantsRecord}
 use Rattle.exported.proofs.ErrorKinds.{asked}

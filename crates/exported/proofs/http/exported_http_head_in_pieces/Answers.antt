@@ -1,8 +1,8 @@
 use Rattle.std.proofs.Common.{◌∙◌, List, ap, subst, sym, ℕ}
 use Rattle.std.proofs.lemmas.Bool.{true≢false}
 use Rattle.winnow.specs.Input.{Input}
-use Rattle.http_heads.specs.Head.{IsHead}
-use Rattle.uses_http.specs.Head.{BeginsHead, NoHead}
+use Rattle.format_http.specs.Heads.Head.{IsHead}
+use Rattle.format_http.specs.Pieces.Head.{BeginsHead, NoHead}
 use Rattle.exported.proofs.ErrorKinds.{asked, final}
 use Rattle.exported.proofs.http.exported_http_head_in_pieces.Goals as goal
 

@@ -1,6 +1,6 @@
 use Rattle.std.proofs.Common.{◌≡◌, ap, arith, drop, length, map, refl, sym}
 use Rattle.std.proofs.lemmas.List.{length-map}
-use Rattle.http_heads.specs.Head.{pair}
+use Rattle.format_http.specs.Heads.Head.{pair}
 use Rattle.exported.proofs.Heads.{head_shown, head_within}
 use Rattle.exported.proofs.http.write_head.Goals as goal
 

@@ -2,7 +2,7 @@ use Rattle.std.proofs.Common.{◌∙◌, ap, false, length, sym, ℕ}
 use Rattle.std.proofs.lemmas.Bool.{true≢false}
 use Rattle.winnow.specs.Input.{Input}
 use Rattle.winnow.specs.Partial.{with_flag}
-use Rattle.uses_resp.specs.Resp.{ReplyText}
+use Rattle.format_resp.specs.Resp.{ReplyText}
 use Rattle.winnow.specs.InTurn.{First}
 use Rattle.exported.specs.Resp.{IsReply}
 use Rattle.exported.proofs.Pieces.{none_whole, stands_whole}

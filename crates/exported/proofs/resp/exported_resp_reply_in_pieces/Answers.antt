@@ -1,7 +1,7 @@
 use Rattle.std.proofs.Common.{◌∙◌, ap, arith, length, sym, ℕ}
 use Rattle.std.proofs.lemmas.Bool.{true≢false}
 use Rattle.winnow.specs.Input.{Input}
-use Rattle.uses_resp.specs.Resp.{ReplyText}
+use Rattle.format_resp.specs.Resp.{ReplyText}
 use Rattle.winnow.specs.InTurn.{First}
 use Rattle.exported.specs.Resp.{IsReplyForGood}
 use Rattle.exported.proofs.Pieces.{none_for_good, nothing_follows, stands_for_good}

@@ -1,5 +1,5 @@
 use Rattle.std.proofs.Common.{List, arith, map, sym, subst, ℕ, drop, ◌+◌}
-use Rattle.http_heads.specs.Head.{AreFieldLines, pair}
+use Rattle.format_http.specs.Heads.Head.{AreFieldLines, pair}
 use Rattle.exported.proofs.Places.{next_line, shown_more}
 use Rattle.exported.proofs.http.places.place_fields.Goals as goal
 

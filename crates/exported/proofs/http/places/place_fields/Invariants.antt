@@ -1,6 +1,6 @@
 -- The lines of the fields that are left, and the places of the others.
 use Rattle.std.proofs.Common.{ℕ, List, drop, map, take}
-use Rattle.http_heads.specs.Head.{AreFieldLines, pair}
+use Rattle.format_http.specs.Heads.Head.{AreFieldLines, pair}
 use Rattle.exported.specs.Http.{AreShown}
 use Rattle.exported.specs.Span.{EndsWith}
 use Rattle.exported.proofs.http.places.place_fields.Given as goal

@@ -1,6 +1,6 @@
 -- What stands behind the first line feed is what stands behind the first that is left.
 use Rattle.std.proofs.Common.{◌≡◌, ◌++◌, ◌∷◌, ℕ, List, length}
-use Rattle.uses_resp.specs.Parts.{NoFeed}
+use Rattle.format_resp.specs.Parts.{NoFeed}
 use Rattle.exported.proofs.resp.places.behind_feed.Given as goal
 
 abbrev pub invariant-bytes : goal.invariant-bytes

@@ -1,3 +1,0 @@
--- Written by scripts/registries.py: do not edit.
-pub mod Laws
-pub mod Names

@@ -1,0 +1,52 @@
+-- Boolean formulas: which bytes are operands and operators, and what operators compute.
+use Rattle.std.specs.Prelude.{◌≡◌, ℕ, ℤ, pos, Bool, true, false, List, ◌∷◌, Option, Some, None}
+use Rattle.std.specs.Prelude.{nat_eq, if◌then◌else◌}
+use Rattle.example_booleans.specs.declared.booleans.Logic.{Logic}
+use Rattle.example_booleans.specs.declared.booleans.Logic.TheVariants.{And, Or, Same}
+use Rattle.example_booleans.specs.declared.booleans.Not.{Not}
+use Rattle.winnow_expression.specs.declared.combinator.operators.Infix.{Infix}
+use Rattle.winnow_expression.specs.declared.combinator.operators.Infix.TheVariants.{Left, Neither}
+use Rattle.winnow_expression.specs.declared.combinator.operators.Postfix.{Postfix}
+use Rattle.winnow_expression.specs.declared.combinator.operators.Prefix.{Prefix}
+use Rattle.winnow_expression_trees.specs.Failure.{Comes}
+use Rattle.winnow_expression_trees.specs.Items.{FirstItems, Items, NextItems, NoItem}
+pub mod Laws
+
+-- One byte that is read so.
+abbrev pub ByteItem : {O : Type 0} → (ℕ → Option O) → Items ℕ O
+ByteItem meant tokens o rest = (b : ℕ) × (tokens ≡ b ∷ rest) × (meant b ≡ Some o)
+
+-- `t` and `f`
+abbrev pub operand_at : ℕ → Option Bool
+operand_at b = if nat_eq b 116 then Some true else (if nat_eq b 102 then Some false else None)
+
+-- `!` before an operand, of power 7
+abbrev pub prefix_at : ℕ → Option (Prefix Not)
+prefix_at b = if nat_eq b 33 then Some (pos 7, Not.Not) else None
+
+-- `'` behind an operand, of power 9
+abbrev pub postfix_at : ℕ → Option (Postfix Not)
+postfix_at b = if nat_eq b 39 then Some (pos 9, Not.Not) else None
+
+-- `&` of power 5 and `|` of power 3, joined from the left, and `=` of power 1, not joined
+abbrev pub infix_at : ℕ → Option (Infix Logic)
+infix_at b = if nat_eq b 38 then Some (Left (pos 5) And)
+    else (if nat_eq b 124 then Some (Left (pos 3) Or)
+    else (if nat_eq b 61 then Some (Neither (pos 1) Same) else None))
+
+-- what the operators compute
+abbrev pub not_value : Not → Bool → Bool → Type 0
+not_value f v x = x ≡ (if v then false else true)
+
+abbrev pub logic_value : Logic → Bool → Bool → Bool → Type 0
+logic_value And v w x = x ≡ (if v then w else false)
+logic_value Or v w x = x ≡ (if v then true else w)
+logic_value Same v w x = x ≡ (if v then w else (if w then false else true))
+
+-- The reading of a formula comes to a place where an operand is due, and there is none, nor a
+-- prefix.
+abbrev pub LacksOperand : List ℕ → List ℕ → Type 0
+LacksOperand start place =
+    Comes (FirstItems (ByteItem operand_at) (ByteItem prefix_at))
+    (NextItems (ByteItem postfix_at) (ByteItem infix_at)) start true place
+    × NoItem (ByteItem operand_at) place × NoItem (ByteItem prefix_at) place

@@ -1,0 +1,54 @@
+-- What holds of bytes that are items.
+use Rattle.std.specs.Prelude.{◌≡◌, ◌<◌, ℕ, Bool, true, false, if◌then◌else◌}
+use Rattle.std.specs.Prelude.{List, [], ◌∷◌, ◌++◌, length, Option, Some, None}
+use Rattle.std.specs.Prelude.{Ok, Err}
+use Rattle.std.proofs.Common.{refl, sym, ◌∙◌, ap, subst, inl, inr, arith}
+use Rattle.streams.specs.Bytes.{bytes_reading}
+use Rattle.streams.specs.Equal.{same_first, same_others}
+use Rattle.streams.specs.Input.{Input, IsEndOf}
+use Rattle.stream_errors.specs.Form.{Answer}
+use Rattle.winnow_expression_trees.specs.Items.{AreItems, GivesOne, ItemRuns}
+use Rattle.winnow_expression_trees.specs.Items.Premises.{item_ends}
+use Rattle.example_booleans.specs.Booleans.{ByteItem, logic_value, not_value}
+use Rattle.example_booleans.specs.declared.booleans.Logic.{Logic}
+use Rattle.example_booleans.specs.declared.booleans.Logic.TheVariants.{And, Or, Same}
+use Rattle.example_booleans.specs.declared.booleans.Not.{Not}
+
+-- they leave an end
+pub byte_ends : {O : Type 0} (meant : ℕ → Option O) (i j : Input ℕ) (a : Answer O)
+    → ItemRuns (ByteItem meant) i a j → IsEndOf bytes_reading j i
+byte_ends meant i j a r =
+    item_ends bytes_reading (ByteItem meant) (λ p n. refl)
+    (λ tokens rest o is. (is.0 ∷ [], is.1)) i j a r
+
+same_some : {O : Type 0} {x : Option O} {o p : O} → x ≡ Some o → x ≡ Some p → o ≡ p
+same_some e f = cc
+
+-- one begins at a place, and it takes a byte
+pub byte_items : {O : Type 0} (meant : ℕ → Option O) → AreItems length (ByteItem meant)
+byte_items meant = record {
+  one = λ tokens o p r q (b, splits, is) (c, splits2, was).
+      let same : b ≡ c = same_first (sym splits ∙ splits2) in (
+        same_some is (subst (λ z. meant z ≡ Some p) (sym same) was),
+        same_others (sym splits ∙ splits2),
+      );
+  some = λ tokens o r (b, splits, is). omega (arith, ap (λ l. length l) splits);
+}
+
+-- an operator gives one value
+pub one_not : (f : Not) (v : Bool) → GivesOne (not_value f v)
+one_not f v x y e g = e ∙ sym g
+
+pub one_logic : (f : Logic) (v w : Bool) → GivesOne (logic_value f v w)
+one_logic And v w x y e g = e ∙ sym g
+one_logic Or v w x y e g = e ∙ sym g
+one_logic Same v w x y e g = e ∙ sym g
+
+-- and it always gives one
+pub some_not : (f : Not) (v : Bool) → (x : Bool) × not_value f v x
+some_not f v = (if v then false else true, refl)
+
+pub some_logic : (f : Logic) (v w : Bool) → (x : Bool) × logic_value f v w x
+some_logic And v w = (if v then w else false, refl)
+some_logic Or v w = (if v then true else w, refl)
+some_logic Same v w = (if v then w else (if w then false else true), refl)

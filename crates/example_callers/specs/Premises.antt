@@ -1,0 +1,80 @@
+-- What the callers of `premises` read: words of grammars over bytes and characters.
+use Rattle.std.specs.Prelude.{◌≡◌, ◌+◌, ◌<◌, ℕ, List, [], ◌∷◌, None, max}
+use Rattle.std.specs.Borrow.{Bor}
+use Rattle.std.specs.List.{fold}
+use Rattle.std.specs.Str.{chars}
+use Rattle.std.specs.declared.vec.Vec.{Vec}
+use Rattle.example_callers.specs.Words.{Word}
+use Rattle.winnow.specs.AsChar.{IsAlpha}
+use Rattle.winnow.specs.Counted.{counted_reading}
+use Rattle.winnow.specs.EndiannessCases.{Big}
+use Rattle.winnow.specs.Grammar.{Class, Counted, Gathered, Grammar, Literally, Many, Token}
+use Rattle.winnow.specs.Grammar.Decided.{Decided}
+use Rattle.winnow.specs.Grammar.Lengths.{Inside, Sized, Times}
+use Rattle.winnow.specs.Grammar.Meaning.{Meaning}
+use Rattle.winnow.specs.Grammar.Till.{UpTo}
+use Rattle.winnow.specs.Integer.{unsigned_value}
+use Rattle.winnow.specs.Integer.Grammar.{Integer}
+use Rattle.winnow.specs.Range.{from_to}
+use Rattle.winnow.specs.Text.{text_reading}
+
+-- a token, which stands for itself
+abbrev pub One : Grammar ℕ ℕ
+One = Token (λ x. x)
+
+-- a token behind the space
+abbrev pub Dark : Grammar ℕ ℕ
+Dark = Meaning (λ o u. (32 < o) × (u ≡ o)) One
+
+-- a decimal digit has this value
+abbrev pub IsValue : ℕ → ℕ → Type 0
+IsValue c n = (n < 10) × (c ≡ n + 48)
+
+-- a decimal digit: its value
+abbrev pub Digit : Grammar ℕ ℕ
+Digit = Meaning IsValue One
+
+-- two bytes that begin with letters: these
+abbrev pub LettersOfTwo : Grammar ℕ (Bor (List ℕ))
+LettersOfTwo =
+    Meaning (λ (two : Bor (List ℕ)) u. (rest : List ℕ) × Word two.now u rest)
+    (Counted counted_reading 2)
+
+-- as many letters of a text as stand first, at least one
+abbrev pub TextLetters : Grammar ℕ (Bor (List ℕ))
+TextLetters = Class IsAlpha 1 (λ c. c) (λ c. c) text_reading
+
+-- two characters that begin with letters: these
+abbrev pub TextLettersOfTwo : Grammar ℕ (Bor (List ℕ))
+TextLettersOfTwo =
+    Meaning (λ (two : Bor (List ℕ)) u. (rest : List ℕ) × TextLetters (chars two.now) u rest)
+    (Counted text_reading 2)
+
+-- a character that stands for itself
+abbrev pub Character : ℕ → Grammar ℕ ℕ
+Character = Literally text_reading (λ c xs. xs ≡ c ∷ []) (λ c _. c)
+
+-- a token, and the same once more
+abbrev pub Twice : (ℕ → Grammar ℕ ℕ) → Grammar ℕ ℕ
+Twice token = Decided (λ (_ : Unit {0}) (o made : ℕ). made ≡ o) tt token One
+
+-- the greatest of all tokens, and 0 where there are none
+abbrev pub Greatest : Grammar ℕ ℕ
+Greatest = Gathered (λ most os. most ≡ fold (λ m o. max m o) 0 os) (Many One (from_to 0 None))
+
+-- the tokens up to the first mark, and that
+abbrev pub UpToMark : {A : Type 0} → Grammar ℕ ℕ → Grammar ℕ (Vec ℕ A × ℕ)
+UpToMark mark tokens both rest =
+    UpTo One mark (from_to 0 None) tokens (both.0.items, both.1) rest
+
+-- a byte
+abbrev pub Octet : Grammar ℕ ℕ
+Octet = Integer 1 (unsigned_value Big)
+
+-- a byte, and as many behind it as it says, which begin with letters: these
+abbrev pub SizedLetters : Grammar ℕ (Bor (List ℕ))
+SizedLetters = Sized (λ n. n) (Inside Word) Octet
+
+-- a byte, and as many behind it as it says
+abbrev pub SizedBytes : {A : Type 0} → Grammar ℕ (Vec ℕ A)
+SizedBytes = Sized (λ n. n) (Times (λ list os. list.items ≡ os) One) Octet

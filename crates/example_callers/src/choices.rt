@@ -1,0 +1,63 @@
+//! Choices in use: what the owner of borrowed branches knows behind a choice, and what one reads.
+#![tactic(auto)]
+
+ghost use Rattle.std.specs.Prelude.{◌≡◌, [], map};
+ghost use Rattle.std.specs.List.{All};
+ghost use Rattle.example_callers.specs.Words.{Sign};
+ghost use Rattle.winnow.specs.Bytes.{bytes_input, bytes_reading};
+ghost use Rattle.winnow.specs.Form.{answer_by, assert_kind};
+ghost use Rattle.winnow.specs.Alt.Slice.{AltSliceRuns};
+ghost use Rattle.winnow.specs.Exact.{Reads};
+ghost use Rattle.winnow.specs.Grammar.FirstOf.{FirstOf};
+
+use winnow::Parser;
+use winnow::combinator::alt;
+use winnow::error::{EmptyError, HasKind, ParserError};
+use winnow::stream::Stream;
+
+/// Chooses among branches that stay with their owner, who learns the new state of each.
+pub fn choose_among<P: Parser<I, O, E>, I: Stream, O, E: ParserError<I>>(
+    branches: &mut [P],
+    input: &mut I,
+) -> Result<O, E>
+    requires { All P.can_parse branches.old }
+    ensures { AltSliceRuns (P.meaning E.form) (assert_kind E.form) (map P.state branches.old)
+        (I.view input.old) (answer_by E.kind result) (map P.state branches.new)
+        (I.view input.new) }
+{
+    alt(&mut *branches).parse_next(input)
+}
+
+/// What the first of some branches reads by which something stands first. It fails where nothing
+/// does by any, by a backtrack, or for want of memory.
+pub fn read_among<P: Parser<I, O, E>, I: Stream, O, E: ParserError<I>>(
+    branches: &mut [P],
+    input: &mut I,
+) -> Result<O, E>
+    requires callable { All P.can_parse branches.old }
+    requires known { All (λ s. (P.claim s).premise × (P.claim s).backtracks)
+        (map P.state branches.old) }
+    requires some { map P.state branches.old ≡ [] → ⊥ }
+    ensures { Reads I.reading E.kind (FirstOf (λ s. (P.claim s).grammar)
+        (map P.state branches.old)) (I.view input.old) result (I.view input.new) }
+{
+    alt(&mut *branches).read(input)
+}
+
+/// A sign, `+` or `-`, which stands first where it is answered. It fails, by a backtrack, where
+/// neither does.
+///
+/// ```
+/// use example_callers::choices::sign;
+///
+/// let mut input = b"-7".as_slice();
+/// assert_eq!(rt; sign(&mut input), Ok(b'-'));
+/// assert_eq!(rt; input, b"7".as_slice());
+/// assert!(rt; sign(&mut input).is_err());
+/// ```
+pub fn sign<'i>(input: &mut &'i [u8]) -> Result<u8, EmptyError>
+    ensures { Reads bytes_reading ⟦<EmptyError as HasKind>⟧.kind Sign (bytes_input input.old.now)
+        result (bytes_input input.new.now) }
+{
+    alt([b'+', b'-']).read(input)
+}

@@ -1,0 +1,71 @@
+//! Iterators in use: what is known of the items of a loop, and of the input behind it.
+#![tactic(auto)]
+
+ghost use Rattle.std.specs.Prelude.{◌≡◌, false, List, [], IfErr, IfOk};
+ghost use Rattle.winnow.specs.Form.{assert_kind};
+ghost use Rattle.winnow.specs.Input.{Input, IsEndOf};
+ghost use Rattle.winnow.specs.Parse.{IsFaultAt};
+ghost use Rattle.winnow.specs.ParseIter.Known.{IsRefused};
+ghost use Rattle.winnow.specs.Repeat.Known.{Items};
+ghost use Rattle.example_callers.specs.Items.{EndsBehind, FailsBehind, IsLastOf};
+
+use winnow::Parser;
+use winnow::combinator::impls::ParseIter;
+use winnow::combinator::{ParserIterator, iterator};
+use winnow::error::{ParseFault, ParserError};
+use winnow::stream::{Stream, StreamIsPartial};
+
+/// The last of the outputs of a chain of runs that consume, to one that backtracks, before which
+/// the
+/// input is left. A run that fails otherwise, or that consumes nothing, is its error, whatever
+/// outputs there were.
+pub fn last_item<P: Parser<I, O, E> + Drop, I: Stream, O: Drop, E: ParserError<I>>(
+    input: &mut I,
+    parser: P,
+) -> Result<Option<O>, E>
+    requires { P.can_parse parser }
+    ensures last { IfOk result (λ last. (outputs : List O)
+        × EndsBehind (P.meaning E.form) (P.state parser) (I.view input.old) outputs
+        (I.view input.new)
+        × IsLastOf outputs last) }
+    ensures fails { IfErr result (λ error. (outputs : List O)
+        × FailsBehind (P.meaning E.form) (assert_kind E.form) (P.state parser)
+        (I.view input.old) outputs (E.kind error) (I.view input.new)) }
+    ensures ends { IsEndOf I.reading (I.view input.new) (I.view input.old) }
+{
+    let mut items: ParserIterator<'_, P, I, O, E> = iterator(input, parser);
+    let mut last = None;
+    while let Some(item) = items.next() {
+        last = Some(item);
+    }
+    match items.finish() {
+        Ok(()) => Ok(last),
+        Err(error) => Err(error),
+    }
+}
+
+/// The last item of an input that items are all of; else the fault of what stands behind them.
+pub fn last_of_all<P: Parser<I, O, E>, I: StreamIsPartial, O: Drop, E: ParserError<I>>(
+    parser: &mut P,
+    input: I,
+) -> Result<Option<O>, ParseFault<I, E::Inner>>
+    requires callable { P.can_parse parser.old }
+    requires whole { I.supports_partial ≡ false }
+    ensures last { IfOk result (λ last. (outputs : List O) × (u : P.State) × (m : Input I.Seen)
+        × Items (P.meaning E.form) (P.state parser.old) (I.view input) outputs u m
+        × (m.left.tokens ≡ []) × IsLastOf outputs last) }
+    ensures refused { IfErr result (λ fault. (outputs : List O)
+        × IsRefused (P.meaning E.form) (assert_kind E.form)
+        (IsFaultAt I.view I.reading.units E.inner_kind) (P.state parser.old) (I.view input)
+        outputs fault) }
+{
+    let mut items: ParseIter<'_, P, I, O, E> = parser.parse_iter(input);
+    let mut last = None;
+    while let Some(item) = items.next() {
+        match item {
+            Ok(output) => last = Some(output),
+            Err(fault) => return Err(fault),
+        }
+    }
+    Ok(last)
+}

@@ -1,0 +1,37 @@
+//! Numerals in use: what a number is written as.
+#![tactic(auto)]
+
+ghost use Rattle.winnow.specs.Bytes.{bytes_input, bytes_reading};
+ghost use Rattle.winnow.specs.Exact.{Reads};
+ghost use Rattle.example_callers.specs.Numerals.{IsOffset, IsPortNumber};
+
+use winnow::Parser;
+use winnow::ascii::impls::{DecInt, DecUint};
+use winnow::error::{EmptyError, HasKind};
+
+/// A port at the front of bytes: what `{}` writes of it, all digits that stand there, or a lone
+/// '0'. It fails, by a backtrack, where no digit is first, or the number is 65536 or more.
+///
+/// ```
+/// use example_callers::numerals::port;
+///
+/// let mut input = b"8080/".as_slice();
+/// assert_eq!(rt; port(&mut input), Ok(8080));
+/// assert_eq!(rt; input, b"/".as_slice());
+/// assert!(rt; port(&mut input).is_err());
+/// ```
+pub fn port<'i>(input: &mut &'i [u8]) -> Result<u16, EmptyError>
+    ensures { Reads bytes_reading ⟦<EmptyError as HasKind>⟧.kind IsPortNumber
+        (bytes_input input.old.now) result (bytes_input input.new.now) }
+{
+    DecUint.read(input)
+}
+
+/// An offset at the front of bytes: a sign or none, and all digits that stand there, or a lone '0'.
+/// It fails, by a backtrack, where no such number is first, or it does not fit 16 bits.
+pub fn offset<'i>(input: &mut &'i [u8]) -> Result<i16, EmptyError>
+    ensures { Reads bytes_reading ⟦<EmptyError as HasKind>⟧.kind IsOffset
+        (bytes_input input.old.now) result (bytes_input input.new.now) }
+{
+    DecInt.read(input)
+}

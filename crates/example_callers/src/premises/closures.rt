@@ -1,0 +1,158 @@
+//! `map`, `verify`, `try_map`: the closure stays as it is, and refuses all outputs or none.
+ghost use Rattle.example_callers.specs.Premises.{Dark, Digit, IsValue, One};
+ghost use Rattle.std.specs.Prelude.{◌≡◌, ◌<◌, ◌↔◌, ℕ, IsTrue, MatchResult};
+ghost use Rattle.winnow.specs.Bytes.{bytes_input, bytes_reading};
+ghost use Rattle.winnow.specs.Exact.{Reads};
+ghost use Rattle.winnow.specs.Grammar.Meaning.{Meaning};
+ghost use Rattle.winnow.specs.Text.{text_input, text_reading};
+
+use winnow::Parser;
+use winnow::error::{EmptyError, HasKind};
+use winnow::token::impls::Any;
+
+/// A byte as a longer number.
+fn number_of(byte: u8) -> u32
+    ensures { result ≡ byte }
+{
+    u32::from(byte)
+}
+
+/// The number of the first byte, by `map`. It fails, by a backtrack, where there is none.
+///
+/// ```
+/// use example_callers::premises::closures::mapped_byte;
+///
+/// let mut input = b"a1".as_slice();
+/// assert_eq!(rt; mapped_byte(&mut input), Ok(97));
+/// assert_eq!(rt; input, b"1".as_slice());
+/// ```
+pub fn mapped_byte<'i>(input: &mut &'i [u8]) -> Result<u32, EmptyError>
+    ensures { Reads bytes_reading ⟦<EmptyError as HasKind>⟧.kind (Meaning (λ o u. u ≡ o) One)
+        (bytes_input input.old.now) result (bytes_input input.new.now) }
+{
+    Any.map(number_of).read(input)
+}
+
+/// The code of a character.
+fn code_of(character: char) -> u32
+    ensures { result ≡ character }
+{
+    u32::from(character)
+}
+
+/// The code of the first character, by `map`. It fails, by a backtrack, where there is none.
+///
+/// ```
+/// use example_callers::premises::closures::mapped_character;
+///
+/// let mut input = "é1";
+/// assert_eq!(rt; mapped_character(&mut input), Ok(233));
+/// assert_eq!(rt; input, "1");
+/// ```
+pub fn mapped_character<'i>(input: &mut &'i str) -> Result<u32, EmptyError>
+    ensures { Reads text_reading ⟦<EmptyError as HasKind>⟧.kind (Meaning (λ o u. u ≡ o) One)
+        (text_input input.old.now) result (text_input input.new.now) }
+{
+    Any.map(code_of).read(input)
+}
+
+/// Whether a byte is above the space.
+fn is_dark(byte: &u8) -> bool
+    ensures { IsTrue result ↔ (32 < byte.now) }
+{
+    *byte > 32
+}
+
+/// The first byte, where `verify` finds it above the space. It fails, by a backtrack, where there
+/// is no byte or another one, which then is left.
+///
+/// ```
+/// use example_callers::premises::closures::verified_byte;
+///
+/// let mut input = b" a".as_slice();
+/// assert!(rt; verified_byte(&mut input).is_err());
+/// assert_eq!(rt; verified_byte(&mut b"a".as_slice()), Ok(b'a'));
+/// ```
+pub fn verified_byte<'i>(input: &mut &'i [u8]) -> Result<u8, EmptyError>
+    ensures { Reads bytes_reading ⟦<EmptyError as HasKind>⟧.kind Dark (bytes_input input.old.now)
+        result (bytes_input input.new.now) }
+{
+    Any.verify(is_dark).read(input)
+}
+
+/// Whether a character is behind the space.
+fn is_behind_space(character: &char) -> bool
+    ensures { IsTrue result ↔ (32 < character.now) }
+{
+    *character > ' '
+}
+
+/// The first character, where `verify` finds it behind the space. It fails, by a backtrack, where
+/// there is no character or another one, which then is left.
+///
+/// ```
+/// use example_callers::premises::closures::verified_character;
+///
+/// let mut input = " é";
+/// assert!(rt; verified_character(&mut input).is_err());
+/// assert_eq!(rt; verified_character(&mut "é"), Ok('é'));
+/// ```
+pub fn verified_character<'i>(input: &mut &'i str) -> Result<char, EmptyError>
+    ensures { Reads text_reading ⟦<EmptyError as HasKind>⟧.kind Dark (text_input input.old.now)
+        result (text_input input.new.now) }
+{
+    Any.verify(is_behind_space).read(input)
+}
+
+/// The value of a digit.
+fn value_of(byte: u8) -> Result<u8, ()>
+    ensures { MatchResult result (λ n. IsValue byte n) (λ _. (n : ℕ) → IsValue byte n → ⊥) }
+{
+    match byte {
+        b'0'..=b'9' => Ok(byte - 48),
+        _ => Err(()),
+    }
+}
+
+/// The value of the decimal digit that the bytes begin with, by `try_map`. It fails, by a
+/// backtrack, where none does.
+///
+/// ```
+/// use example_callers::premises::closures::digit_of_bytes;
+///
+/// assert_eq!(rt; digit_of_bytes(&mut b"7a".as_slice()), Ok(7));
+/// assert!(rt; digit_of_bytes(&mut b"a".as_slice()).is_err());
+/// ```
+pub fn digit_of_bytes<'i>(input: &mut &'i [u8]) -> Result<u8, EmptyError>
+    ensures { Reads bytes_reading ⟦<EmptyError as HasKind>⟧.kind Digit (bytes_input input.old.now)
+        result (bytes_input input.new.now) }
+{
+    Any.try_map(value_of).read(input)
+}
+
+/// The value of a digit of a text.
+fn value_of_character(character: char) -> Result<u8, ()>
+    ensures { MatchResult result (λ n. IsValue character n)
+        (λ _. (n : ℕ) → IsValue character n → ⊥) }
+{
+    match character {
+        '0'..='9' => Ok(character as u8 - 48),
+        _ => Err(()),
+    }
+}
+
+/// The value of the decimal digit that the text begins with, by `try_map`. It fails, by a
+/// backtrack, where none does.
+///
+/// ```
+/// use example_callers::premises::closures::digit_of_text;
+///
+/// assert_eq!(rt; digit_of_text(&mut "7a"), Ok(7));
+/// assert!(rt; digit_of_text(&mut "a").is_err());
+/// ```
+pub fn digit_of_text<'i>(input: &mut &'i str) -> Result<u8, EmptyError>
+    ensures { Reads text_reading ⟦<EmptyError as HasKind>⟧.kind Digit (text_input input.old.now)
+        result (text_input input.new.now) }
+{
+    Any.try_map(value_of_character).read(input)
+}

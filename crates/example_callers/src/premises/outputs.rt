@@ -1,0 +1,136 @@
+//! `parse_to`, `and_then`, `flat_map`: what stands in an output, or behind it.
+ghost use Rattle.example_callers.specs.Premises.{Character, LettersOfTwo, TextLettersOfTwo, Twice};
+ghost use Rattle.std.specs.Prelude.{◌≡◌, Some};
+ghost use Rattle.winnow.specs.Bytes.{bytes_input, bytes_reading};
+ghost use Rattle.winnow.specs.Counted.{counted_reading};
+ghost use Rattle.winnow.specs.Exact.{Reads};
+ghost use Rattle.winnow.specs.Grammar.{Counted};
+ghost use Rattle.winnow.specs.Grammar.Known.{Byte};
+ghost use Rattle.winnow.specs.Grammar.Meaning.{Meaning};
+ghost use Rattle.winnow.specs.Text.{text_input, text_reading};
+
+use winnow::Parser;
+use winnow::ascii::impls::Alpha1;
+use winnow::error::{EmptyError, HasKind};
+use winnow::stream::ParseSlice;
+use winnow::token::impls::Any;
+use winnow::token::take;
+
+/// The number that the first three bytes are as `FromStr` reads them, by `parse_to`. It fails, by a
+/// backtrack, where there are fewer, or they are no number.
+///
+/// ```
+/// use example_callers::premises::outputs::number_of_three;
+///
+/// assert_eq!(rt; number_of_three(&mut b"0423".as_slice()), Ok(42));
+/// assert!(rt; number_of_three(&mut b"4a2".as_slice()).is_err());
+/// ```
+pub fn number_of_three<'i>(input: &mut &'i [u8]) -> Result<u16, EmptyError>
+    ensures { Reads bytes_reading ⟦<EmptyError as HasKind>⟧.kind
+        (Meaning (λ three n. ⟦<&'i [u8] as ParseSlice<u16>>⟧.reads three (Some n))
+        (Counted counted_reading 3)) (bytes_input input.old.now) result
+        (bytes_input input.new.now) }
+{
+    take(3usize).parse_to::<u16>().read(input)
+}
+
+/// The number that the first three characters are as `FromStr` reads them, by `parse_to`. It fails,
+/// by a backtrack, where there are fewer, or they are no number.
+///
+/// ```
+/// use example_callers::premises::outputs::number_of_three_characters;
+///
+/// assert_eq!(rt; number_of_three_characters(&mut "0423"), Ok(42));
+/// assert!(rt; number_of_three_characters(&mut "4é2").is_err());
+/// ```
+pub fn number_of_three_characters<'i>(input: &mut &'i str) -> Result<u16, EmptyError>
+    ensures { Reads text_reading ⟦<EmptyError as HasKind>⟧.kind
+        (Meaning (λ three n. ⟦<&'i str as ParseSlice<u16>>⟧.reads three (Some n))
+        (Counted text_reading 3)) (text_input input.old.now) result (text_input input.new.now) }
+{
+    take(3usize).parse_to::<u16>().read(input)
+}
+
+/// The letters that the first two bytes begin with, by `and_then`; what is behind these letters in
+/// the two bytes is dropped. It fails, by a backtrack, where there are fewer bytes, or the first is
+/// no letter.
+///
+/// ```
+/// use example_callers::premises::outputs::letters_of_two;
+///
+/// let mut input = b"a1bc".as_slice();
+/// assert_eq!(rt; letters_of_two(&mut input), Ok(b"a".as_slice()));
+/// assert_eq!(rt; input, b"bc".as_slice());
+/// ```
+pub fn letters_of_two<'i>(input: &mut &'i [u8]) -> Result<&'i [u8], EmptyError>
+    ensures { Reads bytes_reading ⟦<EmptyError as HasKind>⟧.kind LettersOfTwo
+        (bytes_input input.old.now) result (bytes_input input.new.now) }
+{
+    take(2usize).and_then(Alpha1).read(input)
+}
+
+/// The letters that the first two characters begin with, by `and_then`; what is behind these
+/// letters in the two is dropped. It fails, by a backtrack, where there are fewer characters, or
+/// the first is no letter of ASCII.
+///
+/// ```
+/// use example_callers::premises::outputs::letters_of_two_characters;
+///
+/// let mut input = "aébc";
+/// assert_eq!(rt; letters_of_two_characters(&mut input), Ok("a"));
+/// assert_eq!(rt; input, "bc");
+/// ```
+pub fn letters_of_two_characters<'i>(input: &mut &'i str) -> Result<&'i str, EmptyError>
+    ensures { Reads text_reading ⟦<EmptyError as HasKind>⟧.kind TextLettersOfTwo
+        (text_input input.old.now) result (text_input input.new.now) }
+{
+    take(2usize).and_then(Alpha1).read(input)
+}
+
+/// The parser of a byte: the byte itself.
+fn itself(byte: u8) -> u8
+    ensures { result ≡ byte }
+{
+    byte
+}
+
+/// A byte that stands twice, by `flat_map`: what is read behind it is the parser that is made of
+/// it. It fails, by a backtrack, where the first byte does not stand twice.
+///
+/// ```
+/// use example_callers::premises::outputs::byte_twice;
+///
+/// let mut input = b"aab".as_slice();
+/// assert_eq!(rt; byte_twice(&mut input), Ok(b'a'));
+/// assert!(rt; byte_twice(&mut b"ab".as_slice()).is_err());
+/// ```
+pub fn byte_twice<'i>(input: &mut &'i [u8]) -> Result<u8, EmptyError>
+    ensures { Reads bytes_reading ⟦<EmptyError as HasKind>⟧.kind (Twice Byte)
+        (bytes_input input.old.now) result (bytes_input input.new.now) }
+{
+    Any.flat_map(itself).read(input)
+}
+
+/// The parser of a character: the character itself.
+fn same_character(character: char) -> char
+    ensures { result ≡ character }
+{
+    character
+}
+
+/// A character that stands twice, by `flat_map`: what is read behind it is the parser that is made
+/// of it. It fails, by a backtrack, where the first character does not stand twice.
+///
+/// ```
+/// use example_callers::premises::outputs::character_twice;
+///
+/// let mut input = "ééa";
+/// assert_eq!(rt; character_twice(&mut input), Ok('é'));
+/// assert!(rt; character_twice(&mut "éa").is_err());
+/// ```
+pub fn character_twice<'i>(input: &mut &'i str) -> Result<char, EmptyError>
+    ensures { Reads text_reading ⟦<EmptyError as HasKind>⟧.kind (Twice Character)
+        (text_input input.old.now) result (text_input input.new.now) }
+{
+    Any.flat_map(same_character).read(input)
+}

@@ -1,0 +1,124 @@
+//! `fold`, `repeat_till`: the item backtracks and takes tokens, and the closures stay as they are.
+ghost use Rattle.example_callers.specs.Premises.{Character, Greatest, UpToMark};
+ghost use Rattle.std.specs.Prelude.{◌≡◌, max};
+ghost use Rattle.winnow.specs.Bytes.{bytes_input, bytes_reading};
+ghost use Rattle.winnow.specs.Exact.{Reads};
+ghost use Rattle.winnow.specs.Grammar.Known.{Byte};
+ghost use Rattle.winnow.specs.Text.{text_input, text_reading};
+
+use std::alloc::Allocator;
+use winnow::Parser;
+use winnow::combinator::{repeat, repeat_till};
+use winnow::error::{EmptyError, HasKind};
+use winnow::stream::Range;
+use winnow::token::impls::Any;
+
+/// The byte to begin with.
+fn least() -> u8
+    ensures { result ≡ 0 }
+{
+    0
+}
+
+/// The greater of two bytes.
+fn greater(most: u8, byte: u8) -> u8
+    ensures { result ≡ max most byte }
+{
+    most.max(byte)
+}
+
+/// The greatest of all bytes, and 0 where there are none, by `fold`. No input makes it
+/// fail.
+///
+/// ```
+/// use example_callers::premises::repeats::greatest_byte;
+///
+/// assert_eq!(rt; greatest_byte(alloc, &mut b"acb".as_slice()), Ok(b'c'));
+/// assert_eq!(rt; greatest_byte(alloc, &mut b"".as_slice()), Ok(0));
+/// ```
+pub fn greatest_byte<'i, A: Allocator + Copy>(
+    alloc: A,
+    input: &mut &'i [u8],
+) -> Result<u8, EmptyError>
+    ensures { Reads bytes_reading ⟦<EmptyError as HasKind>⟧.kind Greatest
+        (bytes_input input.old.now) result (bytes_input input.new.now) }
+{
+    repeat(alloc, Range::from(0..), Any)
+        .fold(least, greater)
+        .read(input)
+}
+
+/// The code to begin with.
+fn least_code() -> u32
+    ensures { result ≡ 0 }
+{
+    0
+}
+
+/// The greater of a code and that of a character.
+fn greater_code(most: u32, character: char) -> u32
+    ensures { result ≡ max most character }
+{
+    most.max(u32::from(character))
+}
+
+/// The greatest code of all characters, and 0 where there are none, by `fold`. No input
+/// makes it fail.
+///
+/// ```
+/// use example_callers::premises::repeats::greatest_code;
+///
+/// assert_eq!(rt; greatest_code(alloc, &mut "aéb"), Ok(233));
+/// assert_eq!(rt; greatest_code(alloc, &mut ""), Ok(0));
+/// ```
+pub fn greatest_code<'i, A: Allocator + Copy>(
+    alloc: A,
+    input: &mut &'i str,
+) -> Result<u32, EmptyError>
+    ensures { Reads text_reading ⟦<EmptyError as HasKind>⟧.kind Greatest
+        (text_input input.old.now) result (text_input input.new.now) }
+{
+    repeat(alloc, Range::from(0..), Any)
+        .fold(least_code, greater_code)
+        .read(input)
+}
+
+/// The bytes before the first semicolon, and that, by `repeat_till`. It fails, by a backtrack,
+/// where there is none, or for want of memory.
+///
+/// ```
+/// use example_callers::premises::repeats::bytes_up_to_mark;
+///
+/// let mut input = b"ab;c".as_slice();
+/// assert!(rt; bytes_up_to_mark(alloc, &mut input).is_ok());
+/// assert_eq!(rt; input, b"c".as_slice());
+/// ```
+pub fn bytes_up_to_mark<'i, A: Allocator + Copy>(
+    alloc: A,
+    input: &mut &'i [u8],
+) -> Result<(Vec<u8, A>, u8), EmptyError>
+    ensures { Reads bytes_reading ⟦<EmptyError as HasKind>⟧.kind (UpToMark (Byte 59))
+        (bytes_input input.old.now) result (bytes_input input.new.now) }
+{
+    repeat_till(alloc, Range::from(0..), Any, b';').read(input)
+}
+
+/// The characters before the first semicolon, and that, by `repeat_till`. It fails, by a backtrack,
+/// where there is none, or for want of memory.
+///
+/// ```
+/// use example_callers::premises::repeats::characters_up_to_mark;
+///
+/// let mut input = "aé;c";
+/// assert!(rt; characters_up_to_mark(alloc, &mut input).is_ok());
+/// assert_eq!(rt; input, "c");
+/// ```
+pub fn characters_up_to_mark<'i, A: Allocator + Copy>(
+    alloc: A,
+    input: &mut &'i str,
+) -> Result<(Vec<char, A>, char), EmptyError>
+    ensures { Reads text_reading ⟦<EmptyError as HasKind>⟧.kind (UpToMark (Character 59))
+        (text_input input.old.now) result (text_input input.new.now) }
+{
+    repeat_till(alloc, Range::from(0..), Any, ';').read(input)
+}

@@ -1,0 +1,41 @@
+use Rattle.std.proofs.Common.{◌≡◌, ◌∙◌, ap, inl, inr, pos, rules}
+use Rattle.winnow.specs.Expression.{infix_of, postfix_of}
+use Rattle.winnow.specs.Premises.Laws.{fail_plain, keeps_stateless}
+use Rattle.winnow.specs.Premises.Decided.{stateless_wider}
+use Rattle.example_formulas.specs.Sizes.{SizeStates, exact_at, marks_of, same_signs, same_units}
+use Rattle.example_formulas.specs.Sizes.{sign_marks, unit_marks}
+use Rattle.example_formulas.proofs.sizes.read_size.Goals as goal
+
+pub returns-clause-reads : goal.returns-clause-reads
+returns-clause-reads g c =
+    let parser = c.infix-parser.result in
+    let units : marks_of (postfix_of parser) ≡ unit_marks =
+    ap marks_of (c.infix-parser.ensures.postfix ∙ c.postfix.ensures.postfix) ∙ c.units.ensures in
+    let signs : marks_of (infix_of parser) ≡ sign_marks =
+    ap marks_of c.infix-parser.ensures.infixes ∙ c.signs.ensures in
+    let states : SizeStates = ((tt, tt), (marks_of (postfix_of parser), marks_of (infix_of parser)))
+    in
+    let zero : parser.level ≡ pos 0 = c.infix-parser.ensures.level ∙ c.postfix.ensures.level
+    ∙ c.expression.ensures.level in
+    exact_at
+    (c.expression_reads_the_one_tree.ensures.exact (states.0, states.1, parser.level)
+    (record {
+      operands = stateless_wider (λ o p like. like)
+          (c.a_decided_part_is_stateless.ensures _ tt);
+      prefixes = keeps_stateless _ _ tt (fail_plain _);
+      postfixes = stateless_wider (λ o p like. same_units o p (elim like [
+        | inl (a, b) ↦ search rules
+        | inr (a, b) ↦ search rules
+      ])) (c.a_decided_part_is_stateless-2.ensures _ (tt, tt));
+      infixes = stateless_wider (λ o p like. same_signs o p (elim like [
+        | inl (a, b) ↦ search rules
+        | inr (a, b) ↦ search rules
+      ])) (c.a_decided_part_is_stateless-3.ensures _ (tt, tt));
+      neither_moves = λ i j o p t r e. c.a_choice_consumes.ensures _ _
+          (c.a_value_consumes.ensures _ _ (c.a_byte_consumes.ensures _))
+          (c.a_value_consumes.ensures _ _ (c.a_byte_consumes.ensures _)) i j o t r;
+    })
+    _ _ _ _ c.parse_next.ensures.ran)
+    (ap (λ u. ((tt, tt), (u, marks_of (infix_of parser)))) units
+    ∙ ap (λ v. ((tt, tt), (unit_marks, v))) signs)
+    zero

@@ -1,0 +1,195 @@
+//! Sizes: numbers with units, sums and products.
+#![tactic(auto, using(winnow::specs::Rules::ends_follow))]
+
+ghost use Rattle.std.specs.Prelude.{◌≡◌, MatchOption, pos, ℕ};
+ghost use Rattle.winnow.specs.Form.{answer_by, plain};
+ghost use Rattle.winnow.specs.Bytes.{bytes_input, bytes_reading};
+ghost use Rattle.winnow.specs.Input.{IsEndOf};
+ghost use Rattle.winnow.specs.Kind.{backtrack};
+ghost use Rattle.example_formulas.specs.Sizes.{SizeStates, marks_of, sign_marks, sign_value};
+ghost use Rattle.example_formulas.specs.Sizes.{size_states, unit_marks, unit_value};
+ghost use Rattle.winnow.specs.Parts.{parts_grammar};
+ghost use Rattle.winnow.specs.Items.{Gives};
+ghost use Rattle.winnow.specs.Items.Premises.{gives_ends};
+ghost use Rattle.winnow.specs.OneTree.{IsExact};
+
+use std::alloc::Allocator;
+use winnow::Parser;
+use winnow::ascii::impls::DecUint;
+use winnow::combinator::impls::{AltParser, Fail, Value};
+use winnow::combinator::{FoldBinary, FoldUnary, Infix, NoFold, Postfix, Prefix, alt, expression};
+use winnow::error::{EmptyError, HasKind, ParserError};
+use winnow::laws::{
+    Likeness, a_byte_consumes, a_choice_consumes, a_decided_part_is_stateless, a_value_consumes,
+    expression_reads_the_one_tree,
+};
+use winnow::stream::Stream;
+
+/// A unit behind a size.
+#[derive(Clone, Copy, Debug, PartialEq, Eq)]
+pub enum Scale {
+    /// `k`, 1024 bytes.
+    Kilo,
+    /// `m`, 1024 times as many.
+    Mega,
+}
+
+/// A sign between two sizes.
+#[derive(Clone, Copy, Debug, PartialEq, Eq)]
+pub enum Sign {
+    /// `+`, their sum.
+    Plus,
+    /// `*`, their product.
+    Times,
+}
+
+/// Numbers are alike where they are equal.
+struct Equal;
+
+impl Likeness<u32> for Equal {
+    ghost alike = { λ v w. v ≡ w };
+}
+
+/// What a unit makes of a size: none where it does not fit.
+fn scaled(unit: Scale, size: u32) -> Option<u32>
+    ensures { MatchOption result ((x : ℕ) → unit_value unit size x → ⊥)
+        (λ x. unit_value unit size x) }
+{
+    match unit {
+        Scale::Kilo => size.checked_mul(1024),
+        Scale::Mega => size.checked_mul(1_048_576),
+    }
+}
+
+/// What a sign makes of two sizes: none where it does not fit.
+fn joined(sign: Sign, left: u32, right: u32) -> Option<u32>
+    ensures { MatchOption result ((x : ℕ) → sign_value sign left right x → ⊥)
+        (λ x. sign_value sign left right x) }
+{
+    match sign {
+        Sign::Plus => left.checked_add(right),
+        Sign::Times => left.checked_mul(right),
+    }
+}
+
+impl<I: Stream, E: ParserError<I>> FoldUnary<I, u32, E> for Scale {
+    ghost folds = { λ form f i v a j. Gives (unit_value f v) i a j };
+
+    ghost leaves_ends = { λ form f i v a j r. gives_ends I.reading (unit_value f v) i j a r };
+
+    fn apply(&self, input: &mut I, operand: u32) -> Result<u32, E> {
+        match scaled(*self, operand) {
+            Some(value) => Ok(value),
+            None => Err(E::from_input(input)),
+        }
+    }
+}
+
+impl<I: Stream, E: ParserError<I>> FoldBinary<I, u32, E> for Sign {
+    ghost folds = { λ form f i v w a j. Gives (sign_value f v w) i a j };
+
+    ghost leaves_ends = { λ form f i v w a j r. gives_ends I.reading (sign_value f v w) i j a r };
+
+    fn apply(&self, input: &mut I, left: u32, right: u32) -> Result<u32, E> {
+        match joined(*self, left, right) {
+            Some(value) => Ok(value),
+            None => Err(E::from_input(input)),
+        }
+    }
+}
+
+/// The stream of bytes, as clauses name it.
+type Bytes = &'static [u8];
+
+/// A byte that stands for an operator.
+type Mark<I, O> = Value<u8, I, u8, O, EmptyError>;
+
+/// A choice of two such bytes.
+type Marks<I, O> = AltParser<(Mark<I, O>, Mark<I, O>), I, O, EmptyError>;
+
+/// The parser of units.
+fn units<'i>() -> Marks<&'i [u8], Postfix<Scale>>
+    ensures { marks_of result ≡ unit_marks }
+{
+    alt((
+        b'k'.value(Postfix(5, Scale::Kilo)),
+        b'm'.value(Postfix(5, Scale::Mega)),
+    ))
+}
+
+/// The parser of signs.
+fn signs<'i>() -> Marks<&'i [u8], Infix<Sign>>
+    ensures { marks_of result ≡ sign_marks }
+{
+    alt((
+        b'+'.value(Infix::Left(1, Sign::Plus)),
+        b'*'.value(Infix::Left(3, Sign::Times)),
+    ))
+}
+
+/// The size that the bytes begin with: a number, `k` and `m` behind a size, of power 5, and between
+/// two `*`, of power 3, and `+`, of power 1, joined from the left.
+///
+/// The answer is the value of the one tree over what the parts read that keeps the powers, and what
+/// is behind it is left. It fails where there is none, where a number does not fit in 32 bits, and
+/// for want of memory.
+///
+/// ```
+/// use example_formulas::sizes::read_size;
+///
+/// let mut input = b"2k+3*4;".as_slice();
+/// assert_eq!(rt; read_size(alloc, &mut input), Ok(2060));
+/// assert_eq!(rt; input, b";".as_slice());
+/// ```
+pub fn read_size<'i, A: Allocator + Copy>(alloc: A, input: &mut &'i [u8]) -> Result<u32, EmptyError>
+    ensures reads { (t : SizeStates) × IsExact (parts_grammar bytes_reading.units backtrack
+        (⟦<DecUint as Parser<Bytes, u32, EmptyError>>⟧.meaning plain)
+        (⟦<Fail as Parser<Bytes, Prefix<NoFold>, EmptyError>>⟧.meaning plain)
+        (⟦<Marks<Bytes, Postfix<Scale>> as Parser<Bytes, Postfix<Scale>, EmptyError>>⟧.meaning
+        plain)
+        (⟦<Marks<Bytes, Infix<Sign>> as Parser<Bytes, Infix<Sign>, EmptyError>>⟧.meaning plain)
+        (⟦<NoFold as FoldUnary<Bytes, u32, EmptyError>>⟧.folds plain)
+        (⟦<Scale as FoldUnary<Bytes, u32, EmptyError>>⟧.folds plain)
+        (⟦<Sign as FoldBinary<Bytes, u32, EmptyError>>⟧.folds plain)) (λ v w. v ≡ w) size_states
+        (pos 0) (bytes_input input.old.now) (answer_by ⟦<EmptyError as HasKind>⟧.kind result) t
+        (bytes_input input.new.now) }
+    ensures ends { IsEndOf bytes_reading (bytes_input input.new.now) (bytes_input input.old.now) }
+{
+    a_decided_part_is_stateless::<DecUint, &'i [u8], u32, EmptyError>();
+    a_decided_part_is_stateless::<
+        Marks<&'i [u8], Postfix<Scale>>,
+        &'i [u8],
+        Postfix<Scale>,
+        EmptyError,
+    >();
+    a_decided_part_is_stateless::<
+        Marks<&'i [u8], Infix<Sign>>,
+        &'i [u8],
+        Infix<Sign>,
+        EmptyError,
+    >();
+    a_byte_consumes::<EmptyError>();
+    a_value_consumes::<&'i [u8], u8, Infix<Sign>, u8, EmptyError>();
+    a_choice_consumes::<
+        &'i [u8],
+        Infix<Sign>,
+        Mark<&'i [u8], Infix<Sign>>,
+        Mark<&'i [u8], Infix<Sign>>,
+        EmptyError,
+    >();
+    expression_reads_the_one_tree::<
+        &'i [u8],
+        u32,
+        DecUint,
+        Fail,
+        Marks<&'i [u8], Postfix<Scale>>,
+        Marks<&'i [u8], Infix<Sign>>,
+        NoFold,
+        Scale,
+        Sign,
+        EmptyError,
+        Equal,
+    >();
+    let mut parser = expression(alloc, DecUint).postfix(units()).infix(signs());
+    parser.parse_next(input)
+}

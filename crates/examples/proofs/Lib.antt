@@ -1,0 +1,3 @@
+pub mod ErrorsLemmas
+pub mod FramesLemmas
+pub mod SettingsLemmas

@@ -1,0 +1,33 @@
+-- What a fault says of the bytes that are held, of the room for them, and of what the source has
+-- left.
+use Rattle.std.specs.Prelude.{◌⊎◌, ◌+◌, ◌≤◌, ◌<◌, ℕ, List, length, Option}
+use Rattle.std.specs.Io.KnownBytes.{IsAtEnd}
+use Rattle.examples.specs.Frames.Frame.{BeginsFrameOf, IsFrame}
+use Rattle.examples.specs.declared.frames.fault.FrameFault.{FrameFault}
+use Rattle.examples.specs.declared.frames.fault.FrameFault.TheVariants.{EndsWithin, NoMemory}
+use Rattle.examples.specs.declared.frames.fault.FrameFault.TheVariants.{TooLong}
+use Rattle.examples.specs.declared.frames.fault.FrameFault.TheVariants.{Unreadable}
+
+-- why no frame is held
+abbrev pub Stops : FrameFault → List ℕ → ℕ → Option (List ℕ) → Type 0
+-- the frame that they begin is longer than the room
+Stops TooLong held room left = (least : ℕ) × (room < least) × BeginsFrameOf held least
+-- they begin a frame that is not whole, and the source has ended
+Stops EndsWithin held room left =
+    (0 < length held) × BeginsFrameOf held (length held + 1) × IsAtEnd left
+-- they begin a frame of which bytes are missing that the room has a place for; a reader says no
+-- more of its failures
+Stops Unreadable held room left =
+    (least : ℕ) × (length held < least) × (least ≤ room) × BeginsFrameOf held least
+-- reading wants no memory
+Stops NoMemory held room left = ⊥
+
+-- why no more frames are read and kept; IsFull is that the list of payloads has no room left of
+-- that
+-- which it had
+abbrev pub Explains : FrameFault → List ℕ → ℕ → Option (List ℕ) → Type 0 → Type 0
+Explains TooLong held room left IsFull = Stops TooLong held room left
+Explains EndsWithin held room left IsFull = Stops EndsWithin held room left
+Explains Unreadable held room left IsFull = Stops Unreadable held room left
+-- a frame is held whose payload needs memory: that has bytes, or the list has no room for it
+Explains NoMemory held room left IsFull = IsFrame held × ((2 < length held) ⊎ IsFull)

@@ -1,0 +1,8 @@
+-- Written by scripts/registries.py: do not edit.
+pub mod Errors
+pub mod Frames
+pub mod Lines
+pub mod Nested
+pub mod Options
+pub mod Pieces
+pub mod Settings

@@ -1,0 +1,20 @@
+//! The library in use, in small: each module is a reader of a page or two, proved.
+//!
+//! - `lines`: lines of one letter, by their grammar and in the words of a standard.
+//! - `options`: options in brackets, by one composition, whole and in pieces.
+//! - `nested`: trees of numbers in brackets, nested to a level.
+//! - `pieces`: a setting that comes in pieces, answered for good.
+//! - `frames`: frames in pieces, by a loop that refills a buffer.
+//! - `errors`: lines of a log, with an error type of their own.
+//! - `settings`: lists of lines that are read as far as they can be.
+//! - `strings`: texts with escapes.
+#![tactic(auto)]
+
+pub mod errors;
+pub mod frames;
+pub mod lines;
+pub mod nested;
+pub mod options;
+pub mod pieces;
+pub mod settings;
+pub mod strings;

@@ -1,0 +1,102 @@
+//! Lines that are each a `y` or an `n`, by a grammar in their own words.
+//!
+//! A reader is made of parsers, and its clause says what it reads: on a whole input it answers what
+//! stands first by the grammar, with what is left, and fails only where none stands, or for want of
+//! memory.
+ghost use Rattle.std.specs.Prelude.{⊤, ℕ};
+ghost use Rattle.std.specs.declared.vec.Vec.{Vec};
+ghost use Rattle.winnow.specs.Bytes.{bytes_input, bytes_reading};
+ghost use Rattle.examples.specs.Lines.InWords.{IsLetter, LetterLines, SameLetters};
+ghost use Rattle.examples.specs.Lines.Lines.{AreLines, IsLine, line_takes, unique_line};
+ghost use Rattle.winnow.specs.Exact.{Reads};
+ghost use Rattle.winnow.specs.Exact.Whole.{ReadsAll};
+ghost use Rattle.winnow.specs.Texts.{NotFirst};
+ghost use Rattle.winnow.specs.Back.{ReadsBack};
+ghost use Rattle.winnow.specs.Told.{IsTextOf, ReadsText};
+
+use std::alloc::Allocator;
+use winnow::Parser;
+use winnow::combinator::{alt, repeat, terminated};
+use winnow::error::{EmptyError, ErrMode, HasKind, ParseFault, ParserError};
+use winnow::exact::Rule;
+use winnow::stream::Range;
+
+/// A line: a `y` or an `n`, and a line feed. It answers the letter.
+///
+/// ```
+/// use examples::lines::read_line;
+///
+/// let mut input = b"y\nn\n".as_slice();
+/// assert_eq!(rt; read_line(&mut input), Ok(b'y'));
+/// assert_eq!(rt; input, b"n\n".as_slice());
+/// ```
+pub fn read_line<'i>(input: &mut &'i [u8]) -> Result<u8, ErrMode<EmptyError>>
+    ensures { Reads bytes_reading ⟦<ErrMode<EmptyError> as HasKind>⟧.kind IsLine
+        (bytes_input input.old.now) result (bytes_input input.new.now) }
+{
+    terminated(alt((b'y', b'n')), b'\n').read(input)
+}
+
+/// The name of what [`read_line`] reads.
+#[derive(Clone, Copy, Drop)]
+pub struct Line;
+
+impl<'i> Rule<&'i [u8], u8> for Line {
+    ghost grammar = { λ _. IsLine };
+
+    ghost consumes = { λ _. ⊤ };
+
+    fn name() {}
+
+    ghost unique = { λ _. unique_line };
+
+    ghost takes = { λ _ _. line_takes };
+}
+
+/// Lines, as many as stand one behind the other: their letters, in order.
+///
+/// ```
+/// use examples::lines::read_lines;
+///
+/// let mut input = b"y\nn\n-".as_slice();
+/// let letters = read_lines(alloc, &mut input);
+/// assert!(rt; matches!(letters, Ok(letters) if letters.as_slice() == b"yn".as_slice()));
+/// assert_eq!(rt; input, b"-".as_slice());
+/// ```
+pub fn read_lines<'i, A: Allocator + Copy>(
+    alloc: A,
+    input: &mut &'i [u8],
+) -> Result<Vec<u8, A>, ErrMode<EmptyError>>
+    ensures grammar { Reads bytes_reading ⟦<ErrMode<EmptyError> as HasKind>⟧.kind AreLines
+        (bytes_input input.old.now) result (bytes_input input.new.now) }
+    ensures text { ReadsText bytes_reading ⟦<ErrMode<EmptyError> as HasKind>⟧.kind LetterLines
+        (NotFirst IsLetter) (bytes_input input.old.now) result (bytes_input input.new.now) }
+{
+    repeat(alloc, Range::from(0..), Line.by(read_line)).read(input)
+}
+
+/// Lines, where all of the bytes are lines: their letters, in order. Else a fault, which says where
+/// the lines ended; or want of memory. So of what is written for some letters it answers these, or
+/// memory is wanting.
+///
+/// ```
+/// use examples::lines::parse_lines;
+///
+/// let letters = parse_lines(alloc, b"y\nn\n".as_slice());
+/// assert!(rt; matches!(letters, Ok(letters) if letters.as_slice() == b"yn".as_slice()));
+/// assert!(rt; parse_lines(alloc, b"y\nn".as_slice()).is_err());
+/// ```
+pub fn parse_lines<'i, A: Allocator + Copy>(
+    alloc: A,
+    input: &'i [u8],
+) -> Result<Vec<u8, A>, ParseFault<&'i [u8], EmptyError>>
+    ensures grammar { ReadsAll ⟦<ErrMode<EmptyError> as ParserError<&'i [u8]>>⟧.inner_kind
+        AreLines input.now result }
+    ensures text { IsTextOf ⟦<ErrMode<EmptyError> as ParserError<&'i [u8]>>⟧.inner_kind
+        LetterLines input.now result }
+    ensures back { (letters : Vec ℕ A) → LetterLines letters input.now
+        → ReadsBack ⟦<ErrMode<EmptyError> as ParserError<&'i [u8]>>⟧.inner_kind SameLetters
+        letters result }
+{
+    repeat(alloc, Range::from(0..), Line.by(read_line)).read_all(input)
+}

@@ -1,0 +1,82 @@
+//! Options in brackets, as `[mode=fast,debug]`: a composition of eleven parsers that reads by its
+//! grammar, on a whole input and in pieces.
+ghost use Rattle.std.specs.Prelude.{◌≡◌, []};
+ghost use Rattle.winnow.specs.Form.{modal};
+ghost use Rattle.winnow.specs.Bytes.{bytes_follow, bytes_input, bytes_reading};
+ghost use Rattle.examples.specs.Options.Options.{AreOptions, OptionsOf};
+ghost use Rattle.winnow.specs.Exact.{Reads};
+ghost use Rattle.winnow.specs.Cut.{ReadsOrAsks};
+ghost use Rattle.winnow.specs.Once.{SeesApart};
+ghost use Rattle.winnow.specs.Grammar.{Literally};
+
+use std::alloc::Allocator;
+use winnow::Parser;
+use winnow::ascii::impls::{Alpha1, Alphanumeric1};
+use winnow::combinator::{delimited, opt, preceded, separated};
+use winnow::error::{EmptyError, ErrMode, HasKind, ParserError};
+use winnow::exact::ReadsPieces;
+use winnow::stream::{AsChar, Compare, Partial, Range, Stream, StreamIsPartial};
+
+/// Options in brackets, from any stream of bytes.
+fn options<I, E, A>(alloc: A, input: &mut I) -> Result<Vec<(I::Slice, Option<I::Slice>), A>, E>
+where
+    I: StreamIsPartial + Compare<u8>,
+    I::Token: AsChar,
+    E: ParserError<I>,
+    A: Allocator + Copy,
+    requires modal { E.form ≡ modal }
+    requires seen { SeesApart I.seen_as }
+    requires comma { I.spells 44 [] → ⊥ }
+    ensures { ReadsOrAsks I.reading I.following E.kind (OptionsOf I.reading I.seen_as
+        I.Token.code (Literally I.reading I.spells (λ s _. s))) (I.view input.old) result
+        (I.view input.new) }
+{
+    let option = (Alpha1, opt(preceded(b'=', Alphanumeric1)));
+    delimited(b'[', separated(alloc, Range::from(0..), option, b','), b']').read_cut(input)
+}
+
+/// Options in brackets: names of letters, each with a value of letters and digits behind an equals
+/// sign, or without one, and commas between them. What stands first is read, and what is behind the
+/// bracket that closes is left. An error leaves an end of the input, and backtracks: no options
+/// stand first. Else it wants memory.
+///
+/// ```
+/// use examples::options::read_options;
+///
+/// let mut input = b"[mode=fast,debug];".as_slice();
+/// let options = read_options(alloc, &mut input);
+/// assert!(rt; matches!(options, Ok(list) if list[1] == (b"debug".as_slice(), None)));
+/// assert_eq!(rt; input, b";".as_slice());
+/// ```
+pub fn read_options<'i, A: Allocator + Copy>(
+    alloc: A,
+    input: &mut &'i [u8],
+) -> Result<Vec<(&'i [u8], Option<&'i [u8]>), A>, ErrMode<EmptyError>>
+    ensures { Reads bytes_reading ⟦<ErrMode<EmptyError> as HasKind>⟧.kind AreOptions
+        (bytes_input input.old.now) result (bytes_input input.new.now) }
+{
+    options(alloc, input)
+}
+
+/// As [`read_options`], from an input to which more may come: what it answers there, it answers
+/// whatever follows. Else it asks for more, by `Incomplete`.
+///
+/// ```
+/// use examples::options::read_options_in_pieces;
+/// use winnow::error::ErrMode;
+/// use winnow::stream::Partial;
+///
+/// let mut piece = Partial::new(b"[mode=fast".as_slice());
+/// let asks = read_options_in_pieces(alloc, &mut piece);
+/// assert!(rt; matches!(asks, Err(ErrMode::Incomplete(_))));
+/// ```
+pub fn read_options_in_pieces<'i, A: Allocator + Copy>(
+    alloc: A,
+    input: &mut Partial<&'i [u8]>,
+) -> Result<Vec<(&'i [u8], Option<&'i [u8]>), A>, ErrMode<EmptyError>>
+    ensures { ReadsOrAsks bytes_reading bytes_follow ⟦<ErrMode<EmptyError> as HasKind>⟧.kind
+        AreOptions (⟦<Partial<&'static [u8]> as Stream>⟧.view input.old) result
+        (⟦<Partial<&'static [u8]> as Stream>⟧.view input.new) }
+{
+    options(alloc, input)
+}

@@ -1,0 +1,48 @@
+//! Readers of input that comes in pieces: what each answers to a piece it answers for good.
+//!
+//! An answer other than a call for more, or for memory, is what every longer input is answered, as
+//! far as outputs show the same; so where the input is cut does not matter. Each is made of parsers
+//! of the library, with no proof about them.
+ghost use Rattle.std.specs.Prelude.{◌≡◌, true};
+ghost use Rattle.winnow.specs.Form.{answer_by, modal};
+ghost use Rattle.examples.specs.Pieces.Pieces.{SameSettings};
+ghost use Rattle.winnow.specs.ForGood.{IsForGood};
+
+use winnow::Parser;
+use winnow::ascii::impls::{Alpha1, Digit1};
+use winnow::decided::parse_for_good;
+use winnow::error::{EmptyError, ErrMode, HasKind, ParserError};
+use winnow::stream::{Partial, Stream};
+
+/// A piece of bytes, as clauses name it.
+type Bytes = Partial<&'static [u8]>;
+
+/// The errors of the readers.
+type Error = ErrMode<EmptyError>;
+
+/// A setting, as clauses name it.
+type Setting = (&'static [u8], u8, &'static [u8]);
+
+/// A name, an equals sign and digits, at the beginning of a cut input of bytes.
+///
+/// ```
+/// use examples::pieces::read_setting;
+/// use winnow::stream::Partial;
+///
+/// let mut input = Partial::new(b"width=12;".as_slice());
+/// let answer = read_setting(&mut input);
+/// assert_eq!(rt; answer, Ok((b"width".as_slice(), b'=', b"12".as_slice())));
+/// assert!(rt; read_setting(&mut Partial::new(b"width=1".as_slice())).is_err());
+/// ```
+pub fn read_setting<'i>(
+    input: &mut Partial<&'i [u8]>,
+) -> Result<(&'i [u8], u8, &'i [u8]), ErrMode<EmptyError>>
+    requires is_cut { (⟦<Bytes as Stream>⟧.view input.old).status.cut ≡ true }
+    ensures for_good { IsForGood ⟦<Bytes as Stream>⟧.following (tt, 61, tt)
+        (⟦<(Alpha1, u8, Digit1) as Parser<Bytes, Setting, Error>>⟧.meaning modal) SameSettings
+        (⟦<Bytes as Stream>⟧.view input.old) (answer_by ⟦<Error as HasKind>⟧.kind result)
+        (⟦<Bytes as Stream>⟧.view input.new) }
+{
+    let mut setting = (Alpha1, b'=', Digit1);
+    parse_for_good(&mut setting, input)
+}

@@ -1,0 +1,102 @@
+//! Lines by a parser of one line and one of what is skipped where that fails.
+#![tactic(auto)]
+
+ghost use Rattle.std.specs.Prelude.{◌≡◌, ◌++◌, List, IfOk, IfSome, IsSome, [], false, true, Ok};
+ghost use Rattle.winnow.specs.Accumulator.{list_kept};
+ghost use Rattle.winnow.specs.Form.{answer_by, assert_kind};
+ghost use Rattle.winnow.specs.Input.{Input};
+ghost use Rattle.winnow.specs.Kind.{Kind};
+ghost use Rattle.winnow.specs.RecoverableParse.{RecoverableParses};
+ghost use Rattle.winnow.specs.Recovery.{Recovery, recovery_of};
+ghost use Rattle.winnow.specs.Repeat.{RangedRuns};
+ghost use Rattle.winnow.specs.ResumeAfter.{ResumeAfterRuns};
+ghost use Rattle.winnow.specs.RetryAfter.{RetryAfterRuns};
+ghost use Rattle.winnow.specs.RetryAfter.Known.{RecordNothing};
+ghost use Rattle.winnow.specs.{Range};
+ghost use Rattle.examples.specs.Settings.Lines.{LinesAnswer, any_number};
+
+use std::alloc::Allocator;
+use winnow::combinator::repeat;
+use winnow::error::{FromRecoverableError, NoMemory, ParserError};
+use winnow::prelude::*;
+use winnow::stream::{Range, Recover, Recoverable};
+
+/// One line by `line`. Where that backtracks or cuts, `skip` is run from there: where it succeeds,
+/// the fault is recorded, and there is no output.
+pub fn line_or_fault<
+    P: Parser<I, O, E> + Drop,
+    S: Parser<I, (), E> + Drop,
+    I: Recover<E>,
+    O,
+    E: ParserError<I> + FromRecoverableError<I, E>,
+>(line: P, skip: S, input: &mut I) -> Result<Option<O>, E>
+    requires line { P.can_parse line }
+    requires skip { S.can_parse skip }
+    ensures ran { (t : P.State × S.State × Recovery)
+        × ResumeAfterRuns (P.meaning E.form) (S.meaning E.form)
+        (P.state line, S.state skip, recovery_of I.supports_recovery E.recoverable_grows)
+        (I.view input.old) (answer_by E.kind result) t (I.view input.new) }
+{
+    line.resume_after(skip).parse_next(input)
+}
+
+/// The first line that `line` reads. Behind one where it backtracks or cuts, `skip` is run: where
+/// it succeeds and consumes, the fault is recorded, and the next line is tried.
+pub fn first_line<
+    P: Parser<I, O, E> + Drop,
+    S: Parser<I, (), E> + Drop,
+    I: Recover<E>,
+    O,
+    E: ParserError<I> + FromRecoverableError<I, E>,
+>(line: P, skip: S, input: &mut I) -> Result<O, E>
+    requires line { P.can_parse line }
+    requires skip { S.can_parse skip }
+    ensures ran { (t : P.State × S.State × Recovery)
+        × RetryAfterRuns (P.meaning E.form) (S.meaning E.form)
+        (P.state line, S.state skip, recovery_of I.supports_recovery E.recoverable_grows)
+        (I.view input.old) (answer_by E.kind result) t (I.view input.new) }
+{
+    line.retry_after(skip).parse_next(input)
+}
+
+/// Reads all of `input` as lines by `line`: an output for each, and none where it failed, `skip`
+/// succeeded behind that, and the fault was recorded.
+///
+/// It answers the input, back at its start, the outputs, and the faults in order: as many as there
+/// are lines without an output, where neither parser records anything itself. Where something is
+/// left behind the lines, an error that backtracks is the last. There are no outputs where the list
+/// itself fails: that error is the last. Where memory is refused, the input alone comes back. The
+/// stream is one that is never partial.
+pub fn read_lines<
+    P: Parser<Recoverable<I, R, A>, O, E> + Drop,
+    S: Parser<Recoverable<I, R, A>, (), E> + Drop,
+    I: StreamIsPartial,
+    O: Drop,
+    R: ParserError<Recoverable<I, R, A>> + FromRecoverableError<Recoverable<I, R, A>, E>,
+    E: ParserError<Recoverable<I, R, A>> + FromRecoverableError<Recoverable<I, R, A>, E>,
+    A: Allocator + Copy,
+>(
+    line: P,
+    skip: S,
+    alloc: A,
+    input: I,
+) -> Result<(I, Option<Vec<Option<O>, A>>, Vec<R, A>), NoMemory<I>>
+    requires line { P.can_parse line }
+    requires skip { S.can_parse skip }
+    requires whole { I.supports_partial ≡ false }
+    ensures ran { RecoverableParses I.view R.kind (I.view input)
+        (λ answer j. (t : (P.State × S.State × Recovery) × Range)
+        × RangedRuns (ResumeAfterRuns (P.meaning E.form) (S.meaning E.form)) list_kept
+        (assert_kind E.form)
+        ((P.state line, S.state skip, recovery_of true E.recoverable_grows), any_number)
+        (I.view input) answer t j) result }
+    ensures lines { RecordNothing (P.meaning E.form) → RecordNothing (S.meaning E.form)
+        → IfOk result (λ all. IfSome all.1 (λ lines. LinesAnswer I.view R.kind
+        (ResumeAfterRuns (P.meaning E.form) (S.meaning E.form))
+        (P.state line, S.state skip, recovery_of true E.recoverable_grows) (I.view input)
+        all.0 lines.items all.2.items)) }
+    ensures whole { IfOk result (λ all. all.2.items ≡ [] → IsSome all.1) }
+{
+    let mut lines = repeat(alloc, Range::from(0..), line.resume_after(skip));
+    lines.recoverable_parse(alloc, input)
+}

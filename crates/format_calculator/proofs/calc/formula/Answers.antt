@@ -1,0 +1,35 @@
+use Rattle.std.proofs.Common.{◌≡◌, ◌∙◌, ℤ, pos, subst, ap}
+use Rattle.std.specs.Prelude.{⊤}
+use Rattle.winnow.specs.Text.{text_input, text_reading}
+use Rattle.winnow.specs.Kind.{backtrack}
+use Rattle.winnow.specs.Form.{answer_by, marked_kind}
+use Rattle.winnow.specs.Items.{ReadsItems}
+use Rattle.winnow.specs.Items.Laws.{items_exact, items_premises}
+use Rattle.format_calculator.specs.Calculator.{CharItem, NumberItem, mark_at, mark_value, pair_at}
+use Rattle.format_calculator.specs.Calculator.{pair_value}
+use Rattle.format_calculator.specs.Calculator.{sign_at, sign_value}
+use Rattle.format_calculator.specs.Calculator.Laws.{char_items, number_items, one_mark, one_pair}
+use Rattle.format_calculator.specs.Calculator.Laws.{one_sign}
+use Rattle.format_calculator.proofs.calc.formula.Goals as goal
+
+pub returns-clause-reads : goal.returns-clause-reads
+returns-clause-reads g c =
+    let level : ℤ = c.infix-parser.result.level in
+    let states : (⊤ × ⊤) × (⊤ × ⊤) = ((tt, tt), (tt, tt)) in
+    let state : (⊤ × ⊤) × (⊤ × ⊤) × ℤ = ((tt, tt), (tt, tt), level) in
+    let later : (⊤ × ⊤) × (⊤ × ⊤) × ℤ = ((tt, tt), (tt, tt), c.parse_next.new.self.level) in
+    let zero : level ≡ pos 0 = c.infix-parser.ensures.level ∙ c.postfix.ensures.level
+    ∙ c.prefix.ensures.level ∙ c.expression.ensures.level in
+    subst (λ l. ReadsItems NumberItem (CharItem sign_at) (CharItem mark_at) (CharItem pair_at)
+    sign_value mark_value pair_value l (text_input c.args.input.now.now)
+    (answer_by (λ e. marked_kind e.is_memory) c.parse_next.result)
+    (text_input c.parse_next.new.input.now)) zero
+    (items_exact text_reading backtrack NumberItem (CharItem sign_at) (CharItem mark_at)
+    (CharItem pair_at) sign_value mark_value pair_value tt tt tt tt number_items
+    (char_items sign_at) (char_items mark_at) (char_items pair_at) one_sign one_mark one_pair level
+    (text_input c.args.input.now.now) _ _ states
+    (c.expression_reads_the_one_tree.ensures.exact state
+    (items_premises text_reading backtrack NumberItem (CharItem sign_at) (CharItem mark_at)
+    (CharItem pair_at) sign_value mark_value pair_value tt tt tt tt number_items
+    (char_items sign_at) (char_items mark_at) (char_items pair_at) one_sign one_mark one_pair)
+    _ _ later _ c.parse_next.ensures.ran))

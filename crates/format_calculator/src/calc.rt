@@ -1,0 +1,108 @@
+//! The calculator: formulas of whole numbers.
+#![tactic(auto, using(winnow::specs::Rules::ends_follow))]
+
+ghost use Rattle.std.specs.Prelude.{◌≡◌, pos, IfErr, IfOk};
+ghost use Rattle.winnow.specs.Form.{answer_by};
+ghost use Rattle.winnow.specs.Input.{IsEndOf};
+ghost use Rattle.winnow.specs.Text.{text_input, text_reading};
+ghost use Rattle.winnow.specs.Items.{ReadsItems};
+ghost use Rattle.format_calculator.specs.Calculator.{CharItem, IsFormulaFault, IsValue, NumberItem};
+ghost use Rattle.format_calculator.specs.Calculator.{mark_at, mark_value, pair_at, pair_value};
+ghost use Rattle.format_calculator.specs.Calculator.{sign_at, sign_value};
+
+mod items;
+mod numbers;
+mod operators;
+mod parts;
+
+use crate::calc::items::white;
+use crate::calc::operators::{Mark, Pair, Sign};
+use crate::calc::parts::{BeforeIt, BehindIt, BetweenThem, Number};
+use crate::fault::Fault;
+use std::alloc::Allocator;
+use winnow::Parser;
+use winnow::combinator::expression;
+use winnow::error::{EmptyError, HasKind, ParserError};
+use winnow::laws::{Likeness, expression_reads_the_one_tree};
+use winnow::stream::Stream;
+
+/// Numbers are alike where they are equal.
+struct Equal;
+
+impl Likeness<i64> for Equal {
+    ghost alike = { λ v w. v ≡ w };
+}
+
+/// Reads a formula that comes first.
+fn formula<'i, A: Allocator + Copy>(alloc: A, input: &mut &'i str) -> Result<i64, EmptyError>
+    ensures reads { ReadsItems NumberItem (CharItem sign_at) (CharItem mark_at) (CharItem pair_at)
+        sign_value mark_value pair_value (pos 0) (text_input input.old.now)
+        (answer_by ⟦<EmptyError as HasKind>⟧.kind result) (text_input input.new.now) }
+    ensures ends { IsEndOf text_reading (text_input input.new.now) (text_input input.old.now) }
+{
+    expression_reads_the_one_tree::<
+        &'i str,
+        i64,
+        Number,
+        BeforeIt,
+        BehindIt,
+        BetweenThem,
+        Sign,
+        Mark,
+        Pair,
+        EmptyError,
+        Equal,
+    >();
+    let mut parser = expression(alloc, Number)
+        .prefix(BeforeIt)
+        .postfix(BehindIt)
+        .infix(BetweenThem);
+    parser.parse_next(input)
+}
+
+/// The value of a text that is a formula of whole numbers.
+///
+/// White space (spaces, tabs, line feeds and carriage returns) may stand before the formula and
+/// behind each number and operator. Operators are, the strongest first: `!` behind a number, its
+/// factorial, of power 13; `+` and `-` before one, of power 12; `^`, a power, of 9, joined from the
+/// right; `*`, `/` and `%` of 7 and `+` and `-` of 5, joined from the left; and `=` of 3, which is
+/// 1 where both sides are equal and else 0, and is not joined with another one. `/` cuts towards 0,
+/// and `%` has the sign of its left side. `0^0` is 1.
+///
+/// Other texts are refused, and so is a number or a result outside `i64`, a divisor of 0, a
+/// negative exponent and the factorial of a negative number. The place of a refusal is in bytes
+/// from the start, never inside a character; where an operator refuses, it is behind what was read.
+/// A formula with an operator before an operand or between two asks for memory; a refused request
+/// is the fault `NoMemory`.
+///
+/// ```
+/// use format_calculator::calc;
+/// use format_calculator::fault::Fault;
+///
+/// assert_eq!(rt; calc::value(alloc, " 2 + 3 * 4 "), Ok(14));
+/// assert_eq!(rt; calc::value(alloc, "1/0"), Err(Fault::Refused(3)));
+/// ```
+pub fn value<A: Allocator + Copy>(alloc: A, text: &str) -> Result<i64, Fault>
+    ensures ok { IfOk result (λ v. IsValue text.now v) }
+    ensures refused { IfErr result (λ f. IsFormulaFault text.now f) }
+{
+    let mut input = text;
+    white(&mut input);
+    match formula(alloc, &mut input) {
+        Ok(value) => {
+            let left = input.eof_offset();
+            if left == 0 {
+                Ok(value)
+            } else {
+                Err(Fault::Refused(text.eof_offset().saturating_sub(left)))
+            }
+        }
+        Err(error) => {
+            if ParserError::<&str>::is_memory(&error) {
+                Err(Fault::NoMemory)
+            } else {
+                Err(Fault::Refused(text.eof_offset().saturating_sub(input.eof_offset())))
+            }
+        }
+    }
+}

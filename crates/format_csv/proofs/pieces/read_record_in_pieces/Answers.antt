@@ -1,0 +1,23 @@
+use Rattle.std.proofs.Common.{◌≡◌, ℕ, List, ap, inl, inr, rules, subst, sym, true, ◌∙◌}
+use Rattle.winnow.specs.Bytes.{bytes_input}
+use Rattle.winnow.specs.Equal.{true_is_false}
+use Rattle.winnow.specs.Partial.{with_flag}
+use Rattle.format_csv.specs.Pieces.{IsLine, line_reads}
+use Rattle.format_csv.proofs.pieces.read_record_in_pieces.Goals as goal
+
+pub returns-in-Ok-clause-record : goal.returns-in-Ok-clause-record
+returns-in-Ok-clause-record g c =
+    let bytes = c.as_inner.result.now.now in
+    let goes_on : c.args.input.now.partial ≡ true = search rules in
+    line_reads c.args.end _ bytes _ c.in-Ok.record _
+    (sym c.as_inner.ensures ∙ ap (λ b. with_flag (bytes_input bytes) b) goes_on)
+    c.new-in-Ok.ensures c.in-Ok.ensures.ends c.in-Ok.ensures.line
+
+pub returns-in-Err-2-clause-asks : goal.returns-in-Err-2-clause-asks
+returns-in-Err-2-clause-asks g c asks list rest line =
+    let P : List ℕ → Type 0 = λ l. IsLine c.args.end l list rest in
+    let here = subst P (ap (λ i. i.left.tokens) (sym c.as_inner.ensures)) line in
+    elim c.in-Err.ensures.none [
+      | inl wants ↦ true_is_false (sym (c.is_memory.ensures.1 wants) ∙ c.if-is_memory.false)
+      | inr none ↦ none list rest here
+    ]

@@ -1,0 +1,17 @@
+use Rattle.std.proofs.Common.{rules}
+use Rattle.format_csv.specs.Table.{all_of, first_at, one_more, OtherName}
+use Rattle.format_csv.proofs.table.column_of.Goals as goal
+
+pub returns-then-eq : goal.returns-then-eq
+returns-then-eq g c =
+    first_at _ _ _ _ c.index-header-place.is c.loop-place-test.true c.loop-place.invariant
+    (search rules)
+
+pub loop-place-preserved : goal.loop-place-preserved
+loop-place-preserved g c =
+    one_more (OtherName c.args.name.now) _ _ _ c.index-header-place.is c.loop-place-test.true
+    c.loop-place.invariant
+    (search rules)
+
+pub returns : goal.returns
+returns g c = all_of (OtherName c.args.name.now) _ _ c.loop-place-test.false c.loop-place.invariant

@@ -1,0 +1,21 @@
+use Rattle.std.proofs.Common.{refl, rules}
+use Rattle.format_csv.specs.Table.{all_of, first_at, one_more, HasWidth}
+use Rattle.format_csv.proofs.table.first_odd.Goals as goal
+
+pub returns-then-has-wants : goal.returns-then-has-wants
+returns-then-has-wants g c = (
+  refl,
+  _,
+  refl,
+  first_at _ _ _ _ c.index-records-place.is c.loop-place-test.true c.loop-place.invariant
+      (search rules, c.if-has-wants.true),
+)
+
+pub loop-place-preserved : goal.loop-place-preserved
+loop-place-preserved g c =
+    one_more (HasWidth c.args.wants) _ _ _ c.index-records-place.is c.loop-place-test.true
+    c.loop-place.invariant
+    (search rules)
+
+pub returns : goal.returns
+returns g c = all_of (HasWidth c.args.wants) _ _ c.loop-place-test.false c.loop-place.invariant

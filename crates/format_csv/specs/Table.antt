@@ -1,0 +1,144 @@
+-- Tables (RFC 4180, section 2, item 3): a document whose first record is a header, with as many
+-- fields in each other record.
+use Rattle.std.specs.Prelude.{◌≡◌, ◌+◌, ◌⊎◌, ◌<◌, ◌≤◌, ℕ, List, [], ◌∷◌, ◌++◌, length}
+use Rattle.std.specs.Prelude.{Option, Some, None, Result, Ok, Err}
+use Rattle.std.specs.Borrow.{Bor}
+use Rattle.std.specs.List.{All}
+use Rattle.std.specs.Slice.{IsItemAt}
+use Rattle.std.specs.declared.vec.Vec.{Vec}
+use Rattle.std.proofs.Common.{sym, subst, ap, ◌∙◌, arith, append_assoc, take, drop, get_or}
+use Rattle.std.proofs.Common.{length-take}
+use Rattle.std.proofs.lemmas.List.{take_more, take-append-drop, take_all}
+use Rattle.std.proofs.lemmas.List.Elements.{All-more}
+use Rattle.winnow.specs.Kind.{Kind}
+use Rattle.winnow.specs.{Needed}
+use Rattle.winnow.specs.{ParseFault}
+use Rattle.format_csv.specs.Csv.{AreRecords, IsRecord}
+use Rattle.format_csv.specs.declared.LineEnd.{LineEnd}
+use Rattle.format_csv.specs.declared.table.Ragged.{Ragged}
+use Rattle.format_csv.specs.declared.table.Table.{Table}
+use Rattle.format_csv.specs.declared.table.TableFault.{TableFault}
+use Rattle.format_csv.specs.declared.table.TableFault.TheVariants.{Document, Empty, Width}
+use Rattle.winnow.specs.Exact.Whole.{IsWant, ReadsAll}
+use Rattle.winnow.specs.Grammar.{Each}
+use Rattle.winnow.specs.Grammar.Known.{Listed}
+
+-- All before this place are such, and what stands there is one of those.
+pub record IsFirst {X : Type 0} (such those : X → Type 0) (xs : List X) (place : ℕ) : Type 0 where
+  pub before : List X
+  pub found : X
+  pub behind : List X
+  pub whole : xs ≡ before ++ (found ∷ behind)
+  pub place_is : length before ≡ place
+  pub all_such : All such before
+  pub is_one : those found
+
+-- A record of so many fields.
+abbrev pub HasWidth : {A : Type 0} → ℕ → Vec (Vec ℕ A) A → Type 0
+HasWidth width fields = length fields.items ≡ width
+
+-- A record of so many fields, which are not as many as are wanted.
+abbrev pub IsOdd : {A : Type 0} → ℕ → ℕ → Vec (Vec ℕ A) A → Type 0
+IsOdd wants has fields = HasWidth has fields × (has ≡ wants → ⊥)
+
+-- This record, counted from 1, is the first that has not this width.
+abbrev pub IsFirstOdd : {A : Type 0} → ℕ → List (Vec (Vec ℕ A) A) → Ragged → Type 0
+IsFirstOdd width records ragged = (ragged.wants ≡ width) × (place : ℕ)
+    × (ragged.number ≡ place + 1)
+    × IsFirst (HasWidth width) (IsOdd width ragged.has) records place
+
+-- Behind the header, this record is the first that has not as many fields.
+abbrev pub IsRagged : {A : Type 0} → List (Vec (Vec ℕ A) A) → Ragged → Type 0
+IsRagged [] ragged = ⊥
+IsRagged (header ∷ records) ragged = IsFirstOdd (length header.items) records ragged
+
+-- A header, and records of as many fields.
+abbrev pub IsHeaded : {A : Type 0} → List (Vec (Vec ℕ A) A) → Table A → Type 0
+IsHeaded all table = (all ≡ table.header ∷ table.records.items)
+    × All (HasWidth (length table.header.items)) table.records.items
+
+-- What all of the bytes are: a document of these records; or, but for want of memory, no document;
+-- or none at all; or a document of which this record is the first that the header does not fit.
+abbrev pub TableTold : {A I X : Type 0} → (X → Kind) → LineEnd → List ℕ
+    → Result (Table A) (TableFault (ParseFault I X Needed)) → Type 0
+TableTold {A} inner_kind ends bytes (Ok table) = (document : Vec (Vec (Vec ℕ A) A) A)
+    × AreRecords ends bytes document [] × IsHeaded document.items table
+TableTold {A} inner_kind ends bytes (Err (Document fault)) = IsWant inner_kind fault
+    ⊎ ((document : Vec (Vec (Vec ℕ A) A) A) → AreRecords ends bytes document [] → ⊥)
+TableTold {A} inner_kind ends bytes (Err Empty) = bytes ≡ []
+TableTold {A} inner_kind ends bytes (Err (Width ragged)) = (document : Vec (Vec (Vec ℕ A) A) A)
+    × AreRecords ends bytes document [] × IsRagged document.items ragged
+
+-- A field of this name, and another.
+abbrev pub IsNamed : {A : Type 0} → List ℕ → Vec ℕ A → Type 0
+IsNamed name field = field.items ≡ name
+
+abbrev pub OtherName : {A : Type 0} → List ℕ → Vec ℕ A → Type 0
+OtherName name field = field.items ≡ name → ⊥
+
+-- The field of a record under the first column of this name, if there are both.
+abbrev pub FieldTold : {A : Type 0} → List (Vec ℕ A) → List (Vec ℕ A) → List ℕ
+    → Option (Bor (Vec ℕ A)) → Type 0
+FieldTold header fields name field = (All (OtherName name) header × (field ≡ None))
+    ⊎ ((place : ℕ) × IsFirst (OtherName name) (IsNamed name) header place
+    × IsItemAt fields place field)
+
+-- ---- what the parts answer
+
+-- the first record that has not this width, if there is one
+abbrev pub FirstOdd : {A : Type 0} → ℕ → List (Vec (Vec ℕ A) A) → Option Ragged → Type 0
+FirstOdd width records None = All (HasWidth width) records
+FirstOdd width records (Some ragged) = IsFirstOdd width records ragged
+
+-- what the records of a document are
+abbrev pub HeadTold : {F A : Type 0} → List (Vec (Vec ℕ A) A) → Result (Table A) (TableFault F)
+    → Type 0
+HeadTold all (Ok table) = IsHeaded all table
+HeadTold all (Err (Document fault)) = ⊥
+HeadTold all (Err Empty) = all ≡ []
+HeadTold all (Err (Width ragged)) = IsRagged all ragged
+
+-- the first column of this name, if there is one
+abbrev pub FirstNamed : {A : Type 0} → List (Vec ℕ A) → List ℕ → Option ℕ → Type 0
+FirstNamed header name None = All (OtherName name) header
+FirstNamed header name (Some place) = IsFirst (OtherName name) (IsNamed name) header place
+
+module _ {X : Type 0} (such : X → Type 0) (xs : List X) (place : ℕ) where
+  -- what stands at this place is one, and all before it are such
+  pub first_at : {those : X → Type 0} (x : X) → x ≡ get_or xs place x → place < length xs
+      → All such (take place xs) → those x → IsFirst such those xs place
+  first_at x is within all one = record {
+    before = take place xs;
+    found = x;
+    behind = drop (place + 1) xs;
+    whole = sym (take-append-drop (place + 1) xs)
+        ∙ ap (λ l. l ++ drop (place + 1) xs) (take_more xs place x within)
+        ∙ append_assoc (take place xs) (get_or xs place x ∷ []) (drop (place + 1) xs)
+        ∙ ap (λ y. take place xs ++ (y ∷ drop (place + 1) xs)) (sym is);
+    place_is = omega (arith, length-take place xs, within);
+    all_such = all;
+    is_one = one;
+  }
+
+  -- so is this one
+  pub one_more : (x : X) → x ≡ get_or xs place x → place < length xs → All such (take place xs)
+      → such x → All such (take (place + 1) xs)
+  one_more x is within all it = All-more such xs place x within all (subst such is it)
+
+  -- none is left
+  pub all_of : length xs ≤ place → All such (take place xs) → All such xs
+  all_of past all = subst (All such) (take_all place xs past) all
+
+-- what a document's records are, the document is
+pub table_told : {A I X : Type 0} {inner_kind : X → Kind} {bytes : List ℕ}
+    {document : Vec (Vec (Vec ℕ A) A) A} (ends : LineEnd)
+    (result : Result (Table A) (TableFault (ParseFault I X Needed)))
+    → ReadsAll {I = I} inner_kind (AreRecords ends) bytes (Ok document)
+    → HeadTold document.items result → TableTold inner_kind ends bytes result
+unfolding Listed
+table_told {document} ends (Ok table) r told = (document, r.stands, told)
+table_told ends (Err (Document fault)) r told = absurd told
+table_told {A} {bytes} ends (Err Empty) r none =
+    let P : List (Vec (Vec ℕ A) A) → Type 0 = λ l. Each (IsRecord ends) bytes l [] in
+    sym (subst P none r.stands.0)
+table_told {document} ends (Err (Width ragged)) r told = (document, r.stands, told)

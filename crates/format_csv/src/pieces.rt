@@ -1,0 +1,83 @@
+//! Records from pieces: one at a time, as their bytes come in.
+
+ghost use Rattle.std.specs.Prelude.{◌≡◌, ◌⊎◌, IfErr, IfOk};
+ghost use Rattle.winnow.specs.Bytes.{bytes_follow, bytes_input, bytes_reading};
+ghost use Rattle.winnow.specs.Grammar.{NoneStands};
+ghost use Rattle.winnow.specs.Input.{IsEndOf};
+ghost use Rattle.winnow.specs.Kind.{memory};
+ghost use Rattle.format_csv.specs.Csv.{IsRecord};
+ghost use Rattle.format_csv.specs.Pieces.{IsLine};
+ghost use Rattle.winnow.specs.Cut.{Asks, ReadsOrAsks};
+
+use crate::{Fields, LineEnd, Record, read_fields, read_record};
+use std::alloc::Allocator;
+use winnow::Parser;
+use winnow::combinator::terminated;
+use winnow::error::{EmptyError, ErrMode, HasKind, Needed, ParserError};
+use winnow::exact::Rule;
+use winnow::stream::{Partial, Stream, StreamIsPartial};
+use winnow::token::literal;
+
+/// Fields with a line end behind them.
+fn read_line<'i, A: Allocator + Copy>(
+    alloc: A,
+    end: LineEnd,
+    input: &mut &'i [u8],
+) -> Result<Record<A>, ErrMode<EmptyError>>
+    ensures ends { IsEndOf bytes_reading (bytes_input input.new.now) (bytes_input input.old.now) }
+    ensures line { IfOk result (λ fields. IsLine end input.old.now fields input.new.now) }
+    ensures none { IfErr result (λ e. (⟦<ErrMode<EmptyError> as HasKind>⟧.kind e ≡ memory)
+        ⊎ NoneStands (IsLine {A = A} end) input.old.now) }
+{
+    let fields = Fields(alloc).by(|input: &mut &[u8]| read_fields(alloc, input));
+    terminated(fields, literal(end.bytes())).read(input)
+}
+
+/// As [`read_record`](crate::read_record), from an input to which more may come. A record is read
+/// there once its line end is: it is that of every longer input, and where this backtracks none of
+/// them begins with one. Else more is asked for, by `Incomplete`, where no record with its line end
+/// stands first; in bytes that no longer input makes a record too, so a caller bounds how many it
+/// holds. A complete input is read as by `read_record`.
+///
+/// ```
+/// use format_csv::LineEnd;
+/// use format_csv::pieces::read_record_in_pieces;
+/// use winnow::error::ErrMode;
+/// use winnow::stream::Partial;
+///
+/// let mut piece = Partial::new(b"a,\"b\n".as_slice());
+/// let asks = read_record_in_pieces(alloc, LineEnd::Lf, &mut piece);
+/// assert!(rt; matches!(asks, Err(ErrMode::Incomplete(_))));
+/// let mut more = Partial::new(b"a,\"b\nc\"\nd".as_slice());
+/// let record = read_record_in_pieces(alloc, LineEnd::Lf, &mut more);
+/// assert!(rt; matches!(record, Ok(fields) if fields[1].as_slice() == b"b\nc".as_slice()));
+/// assert_eq!(rt; *more.as_inner(), b"d".as_slice());
+/// ```
+pub fn read_record_in_pieces<'i, A: Allocator + Copy>(
+    alloc: A,
+    end: LineEnd,
+    input: &mut Partial<&'i [u8]>,
+) -> Result<Record<A>, ErrMode<EmptyError>>
+    ensures record { ReadsOrAsks bytes_reading bytes_follow ⟦<ErrMode<EmptyError> as HasKind>⟧.kind
+        (IsRecord end) (⟦<Partial<&'static [u8]> as Stream>⟧.view input.old) result
+        (⟦<Partial<&'static [u8]> as Stream>⟧.view input.new) }
+    ensures asks { IfErr result (λ e. Asks (⟦<ErrMode<EmptyError> as HasKind>⟧.kind e)
+        → NoneStands (IsLine {A = A} end)
+        (⟦<Partial<&'static [u8]> as Stream>⟧.view input.old).left.tokens) }
+{
+    let mut left = *input.as_inner();
+    if !input.is_partial() {
+        let answer = read_record(alloc, end, &mut left);
+        *input = Partial::new(left);
+        input.complete();
+        return answer;
+    }
+    match read_line(alloc, end, &mut left) {
+        Ok(record) => {
+            *input = Partial::new(left);
+            Ok(record)
+        }
+        Err(error) if ParserError::<&[u8]>::is_memory(&error) => Err(error),
+        Err(_) => Err(ErrMode::Incomplete(Needed::Unknown)),
+    }
+}

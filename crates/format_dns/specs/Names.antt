@@ -1,0 +1,117 @@
+-- Names in a message of the Domain Name System (RFC 1035, sections 3.1 and 4.1.4).
+use Rattle.std.specs.Prelude.{◌≡◌, ◌⊎◌, ◌≤◌, ◌<◌, ◌+◌, ◌*◌, ◌++◌, ℕ, zero, suc, List, [], ◌∷◌}
+use Rattle.std.specs.Prelude.{length, None, Result, Ok, Err, ⊤}
+use Rattle.std.specs.Borrow.{Bor}
+use Rattle.winnow.specs.Range.{from_to}
+use Rattle.winnow.specs.Grammar.{Grammar, Many}
+use Rattle.format_dns.specs.declared.name.Name.{Name}
+use Rattle.format_dns.specs.declared.name.NameFault.{NameFault}
+use Rattle.format_dns.specs.declared.name.NameFault.TheVariants.{Ends, NoMemory, NotPrior}
+use Rattle.format_dns.specs.declared.name.NameFault.TheVariants.{Reserved, TooMany}
+use Rattle.format_dns.specs.declared.name.Ending.{Ending}
+use Rattle.format_dns.specs.declared.name.Ending.TheVariants.{Pointer, Root}
+
+-- A label of a name, which a slice shows.
+abbrev pub Label : Type 0
+Label = Bor (List ℕ)
+
+-- A label: its length, from 1 to 63, in a byte, and so many bytes.
+abbrev pub IsLabel : Grammar ℕ Label
+IsLabel tokens label rest =
+    (1 ≤ length label.now) × (length label.now ≤ 63)
+    × (tokens ≡ length label.now ∷ (label.now ++ rest))
+
+-- The root: a label of no bytes.
+abbrev pub IsRoot : List ℕ → Type 0
+IsRoot tokens = (rest : List ℕ) × (tokens ≡ 0 ∷ rest)
+
+-- A pointer: two bits that are set, and a place in fourteen bits.
+pub record IsPointer (tokens : List ℕ) (to : ℕ) : Type 0 where
+  pub high : ℕ
+  pub low : ℕ
+  pub rest : List ℕ
+  pub splits : tokens ≡ (192 + high) ∷ low ∷ rest
+  pub number : to ≡ high * 256 + low
+
+-- The message ends within a label or a pointer, or before one.
+abbrev pub IsCut : List ℕ → Type 0
+IsCut [] = ⊤
+IsCut (b ∷ bytes) = ((1 ≤ b) × (b ≤ 63) × (length bytes < b)) ⊎ ((192 ≤ b) × (bytes ≡ []))
+
+-- One alone of the two highest bits is set.
+abbrev pub IsReserved : List ℕ → Type 0
+IsReserved tokens =
+    (b : ℕ) × (rest : List ℕ) × (tokens ≡ b ∷ rest) × (64 ≤ b) × (b < 192)
+
+-- Why labels, a pointer or the root do not go on behind labels, at a place.
+abbrev pub NoEnding : List ℕ → ℕ → NameFault → Type 0
+NoEnding tokens place fault =
+    ((fault ≡ Ends place) × IsCut tokens) ⊎ ((fault ≡ Reserved place) × IsReserved tokens)
+
+-- what is told of some bytes that begin with no label
+abbrev pub EndingTold : List ℕ → ℕ → Result Ending NameFault → Type 0
+EndingTold tokens place (Ok Root) = IsRoot tokens
+EndingTold tokens place (Ok (Pointer to)) = IsPointer tokens to
+EndingTold tokens place (Err fault) = NoEnding tokens place fault
+
+-- Behind labels stands the root, which ends a name; or a pointer to an earlier place than that of
+-- the labels, at which others stand, and the name is both.
+abbrev pub GoesOn : (ℕ → List Label → Type 0) → ℕ → List Label → ℕ → List ℕ → List Label
+    → ℕ → Type 0
+GoesOn others start here end rest labels behind =
+    (IsRoot rest × (labels ≡ here) × (behind ≡ end + 1))
+    ⊎ ((to : ℕ) × IsPointer rest to × (to < start)
+    × ((more : List Label) × others to more × (labels ≡ here ++ more) × (behind ≡ end + 2)))
+
+-- Behind labels is no ending, or a pointer to no earlier place, or one to where no name begins.
+abbrev pub GoesNot : (ℕ → ℕ → NameFault → Type 0) → ℕ → ℕ → List ℕ → NameFault → Type 0
+GoesNot faults start end rest fault =
+    NoEnding rest end fault
+    ⊎ ((to : ℕ) × IsPointer rest to
+    × (((fault ≡ NotPrior end) × (start ≤ to)) ⊎ ((to < start) × faults end to fault)))
+
+module _ (message : List ℕ) where
+  -- So many bytes of the message stand before these.
+  abbrev pub At : ℕ → List ℕ → Type 0
+  At place tokens = (front : List ℕ) × (length front ≡ place) × (message ≡ front ++ tokens)
+
+  -- From a place on labels stand, one behind the other. Behind them, at `end`, are these bytes,
+  -- which begin with none.
+  pub record AreLabels (start : ℕ) (labels : List Label) (end : ℕ) (behind : List ℕ) : Type 0 where
+    pub tokens : List ℕ
+    pub starts : At start tokens
+    pub each : Many IsLabel (from_to 0 None) tokens labels behind
+    pub ends : At end behind
+
+  -- labels, and what a name has behind them
+  abbrev pub NameBy : (ℕ → List Label → Type 0) → ℕ → List Label → ℕ → Type 0
+  NameBy others start labels behind =
+      (here : List Label) × (end : ℕ) × (rest : List ℕ) × AreLabels start here end rest
+      × GoesOn others start here end rest labels behind
+
+  -- The labels of the name that begins at a place, by no more than so many pointers, one after the
+  -- other; and the place behind what is written for it there.
+  abbrev pub IsName : ℕ → ℕ → List Label → ℕ → Type 0
+  IsName zero = NameBy (λ to more. ⊥)
+  IsName (suc level) = NameBy (λ to more. (behind : ℕ) × IsName level to more behind)
+
+  -- the place is past the end, or behind the labels at it is nothing that a name has there
+  abbrev pub FaultBy : (ℕ → ℕ → NameFault → Type 0) → ℕ → NameFault → Type 0
+  FaultBy faults start fault =
+      ((fault ≡ Ends start) × (length message < start))
+      ⊎ ((here : List Label) × (end : ℕ) × (rest : List ℕ) × AreLabels start here end rest
+      × GoesNot faults start end rest fault)
+
+  -- Why no name begins at a place, by no more than so many pointers.
+  abbrev pub HasNoName : ℕ → ℕ → NameFault → Type 0
+  HasNoName zero = FaultBy (λ end to fault. fault ≡ TooMany end)
+  HasNoName (suc level) = FaultBy (λ end to fault. HasNoName level to fault)
+
+  -- What is told of the name that begins at a place: it is that; or why there is none, and there is
+  -- none; or memory is wanting.
+  abbrev pub NameTold : {A : Type 0} → ℕ → ℕ → Result (Name A) NameFault → Type 0
+  NameTold level start (Ok name) = IsName level start name.labels.items name.behind
+  NameTold level start (Err fault) =
+      (fault ≡ NoMemory)
+      ⊎ (HasNoName level start fault
+      × ((labels : List Label) (behind : ℕ) → IsName level start labels behind → ⊥))

@@ -1,0 +1,47 @@
+//! Labels, one behind the other.
+ghost use Rattle.format_dns.specs.Names.{IsLabel};
+ghost use Rattle.std.specs.Prelude.{◌≡◌, None};
+ghost use Rattle.winnow.specs.Range.{from_to};
+ghost use Rattle.winnow.specs.Bytes.{bytes_input, bytes_reading};
+ghost use Rattle.winnow.specs.Exact.{Reads};
+ghost use Rattle.winnow.specs.Grammar.{Counted, Gathered, Many};
+ghost use Rattle.winnow.specs.Grammar.Lengths.{SaysOne, Sized};
+
+use std::alloc::Allocator;
+use winnow::Parser;
+use winnow::binary::length_take;
+use winnow::combinator::repeat;
+use winnow::error::{EmptyError, ErrMode, HasKind, ParserError};
+use winnow::stream::{Range, StreamIsPartial, ToUsize};
+use winnow::token::one_of;
+
+/// Tokens behind their number, as often as they stand one behind the other.
+fn read_sized<I, E, N, P, A>(alloc: A, count: P, input: &mut I) -> Result<Vec<I::Slice, A>, E>
+where
+    I: StreamIsPartial,
+    E: ParserError<I>,
+    N: ToUsize + Drop,
+    P: Parser<I, N, E> + Drop,
+    A: Allocator + Copy,
+    requires count { P.can_parse count × (P.claim (P.state count)).premise
+        × (P.claim (P.state count)).backtracks × (P.claim (P.state count)).consumes }
+    requires says { SaysOne N.number (P.claim (P.state count)).grammar }
+    ensures { Reads I.reading E.kind
+        (Gathered (λ list parts. list.items ≡ parts)
+        (Many (Sized N.number (Counted I.reading) (P.claim (P.state count)).grammar)
+        (from_to 0 None))) (I.view input.old) result (I.view input.new) }
+{
+    repeat(alloc, Range::from(0..), length_take(count)).read(input)
+}
+
+/// The labels that the bytes begin with, each behind its length from 1 to 63.
+pub fn read_labels<'i, A: Allocator + Copy>(
+    alloc: A,
+    input: &mut &'i [u8],
+) -> Result<Vec<&'i [u8], A>, ErrMode<EmptyError>>
+    ensures { Reads bytes_reading ⟦<ErrMode<EmptyError> as HasKind>⟧.kind
+        (Gathered (λ list labels. list.items ≡ labels) (Many IsLabel (from_to 0 None)))
+        (bytes_input input.old.now) result (bytes_input input.new.now) }
+{
+    read_sized(alloc, one_of(1..=63), input)
+}

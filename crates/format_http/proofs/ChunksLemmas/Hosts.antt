@@ -1,0 +1,50 @@
+-- The Host fields of what is left of some fields.
+use Rattle.std.proofs.Common.{◌+◌, ◌<◌, ◌≤◌, ℕ, List, drop, get_or, inl, inr, length}
+use Rattle.std.proofs.Common.{map, refl, subst, suc, sym}
+use Rattle.std.proofs.lemmas.List.{drop_all, drop_more}
+use Rattle.std.specs.Prelude.{Option, Some, None}
+use Rattle.format_http.specs.Chunks.Refusals.{AreHosts, IsFault, IsHost, IsRefusal, MayHave}
+use Rattle.format_http.specs.declared.chunks.refusals.Refusal.{Refusal}
+use Rattle.format_http.specs.declared.chunks.refusals.Refusal.TheVariants.{LengthBesideCoding}
+use Rattle.format_http.specs.declared.chunks.refusals.Refusal.TheVariants.{LengthIsNoNumber}
+use Rattle.format_http.specs.declared.chunks.refusals.Refusal.TheVariants.{LengthsDiffer}
+use Rattle.format_http.specs.declared.chunks.refusals.Refusal.TheVariants.{ManyHosts, NoHost}
+use Rattle.format_http.specs.declared.chunks.refusals.Refusal.TheVariants.{NotChunked}
+use Rattle.format_http.specs.Heads.Head.{Pair, pair}
+use Rattle.format_http.specs.declared.heads.request_line.RequestLine.{RequestLine}
+use Rattle.format_http.specs.declared.heads.field_line.Field.{Field}
+
+module _ (fields : List Field) (i : ℕ) where
+  -- none are in nothing
+  pub none_left : length fields ≤ i → AreHosts (map pair (drop i fields)) 0
+  none_left all =
+      let P : List Field → Type 0 = λ l. AreHosts (map pair l) 0 in
+      subst P (sym (drop_all i fields all)) refl
+
+  module _ (d : Field) (below : i < length fields) (more : ℕ)
+      (are : AreHosts (map pair (drop (i + 1) fields)) more) where
+    -- one more, where the next is one
+    pub host_next : IsHost (get_or fields i d).name.now
+        → AreHosts (map pair (drop i fields)) (suc more)
+    host_next is =
+        let P : List Field → Type 0 = λ l. AreHosts (map pair l) (suc more) in
+        subst P (sym (drop_more fields i d below)) (inl (is, more, refl, are))
+
+    -- as many, where it is none
+    pub other_next : (IsHost (get_or fields i d).name.now → ⊥)
+        → AreHosts (map pair (drop i fields)) more
+    other_next not =
+        let P : List Field → Type 0 = λ l. AreHosts (map pair l) more in
+        subst P (sym (drop_more fields i d below)) (inr (not, are))
+
+-- where the Host fields are no reason, what else is wrong is the reason
+pub fault_refused : (line : RequestLine) (hosts : ℕ) (fields : List Pair)
+    (refusal : Option Refusal) → MayHave line hosts → IsFault fields refusal
+    → IsRefusal line hosts fields refusal
+fault_refused line hosts fields None may fault = (may, fault)
+fault_refused line hosts fields (Some NoHost) may fault = absurd fault
+fault_refused line hosts fields (Some ManyHosts) may fault = absurd fault
+fault_refused line hosts fields (Some LengthBesideCoding) may fault = (may, fault)
+fault_refused line hosts fields (Some NotChunked) may fault = (may, fault)
+fault_refused line hosts fields (Some LengthsDiffer) may fault = (may, fault)
+fault_refused line hosts fields (Some LengthIsNoNumber) may fault = (may, fault)

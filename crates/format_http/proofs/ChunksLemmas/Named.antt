@@ -1,0 +1,41 @@
+-- What is so of the fields that are left, one step on.
+use Rattle.std.specs.Prelude.{◌≡◌, ◌<◌, ℕ, List, [], ◌∷◌, map, length}
+use Rattle.std.proofs.Common.{◌+◌, ◌∙◌, drop, get_or, inl, inr, subst, sym}
+use Rattle.std.proofs.lemmas.List.{drop_more}
+use Rattle.format_http.specs.Chunks.Framing.{HasValue, HaveValue}
+use Rattle.format_http.specs.Heads.Head.{Pair, pair}
+use Rattle.format_http.specs.declared.heads.field_line.Field.{Field}
+
+-- what stands where no field does
+abbrev pub no_field : Field
+no_field = record {
+  name = record { ref_ptr = (0, 0); now = [] };
+  value = record { ref_ptr = (0, 0); now = [] };
+}
+
+module _ (P : List Pair → Type 0) (fields : List Field) (i : ℕ) where
+  -- what is so of what is left, by the next field and those behind it
+  pub at_next : i < length fields → P (map pair (drop i fields))
+      → P (pair (get_or fields i no_field) ∷ map pair (drop (i + 1) fields))
+  at_next below x =
+      let Q : List Field → Type 0 = λ l. P (map pair l) in
+      subst Q (drop_more fields i no_field below) x
+
+  pub of_next : i < length fields
+      → P (pair (get_or fields i no_field) ∷ map pair (drop (i + 1) fields))
+      → P (map pair (drop i fields))
+  of_next below x =
+      let Q : List Field → Type 0 = λ l. P (map pair l) in
+      subst Q (sym (drop_more fields i no_field below)) x
+
+-- where all have one value, that of any is it
+pub agree : (name value other : List ℕ) (fields : List Pair) → HaveValue name value fields
+    → HasValue name other fields → HaveValue name other fields
+agree name value other fields all has =
+    let P : List ℕ → Type 0 = λ v. HaveValue name v fields in subst P (same fields all has) all
+  where
+    same : (fields : List Pair) → HaveValue name value fields → HasValue name other fields
+        → value ≡ other
+    same [] all has = absurd has
+    same (field ∷ fields) all (inl (named, is)) = sym (all.0 named) ∙ is
+    same (field ∷ fields) all (inr has) = same fields all.1 has

@@ -1,0 +1,3 @@
+pub mod ChunksLemmas
+pub mod HeadsLemmas
+pub mod PiecesLemmas

@@ -1,0 +1,12 @@
+use Rattle.std.proofs.Common.{refl}
+use Rattle.winnow.specs.InTurn.{failed, failed_as, passed, stood, stood_as, told_ok}
+use Rattle.format_http.specs.Chunks.Written.{line_stands, no_line}
+use Rattle.format_http.proofs.chunks.size_line.read_size_line_in_pieces.Goals as goal
+
+pub returns-in_err-digits : goal.returns-in_err-digits
+returns-in_err-digits g c = passed _ c.from_residual.result c.from_residual.ensures.1
+    (failed_as no_line (failed c.in_err-digits.ensures))
+
+pub returns : goal.returns
+returns g c = told_ok (stood_as (line_stands _ _ (c.size_of.ensures, refl))
+    (stood c.in_ok-digits.ensures))

@@ -1,0 +1,27 @@
+use Rattle.format_http.specs.Heads.Bytes.{IsValueByte, IsWhite}
+use Rattle.format_http.specs.Heads.FieldRead.{ValueRead, value_back, value_there}
+use Rattle.format_http.specs.Heads.Parts.{run_is}
+use Rattle.winnow.specs.Read.{err_as, ok_as, reads_by}
+use Rattle.format_http.proofs.heads.field_line.read_value.Goals as goal
+
+pub returns-in-Ok : goal.returns-in-Ok
+returns-in-Ok c = ok_as (reads_by {h = ValueRead} c.in-Ok.ensures.reads (rw (
+  c.preceded.ensures.ignored,
+  c.preceded.ensures.parser,
+  c.take_while-white.ensures.occurrences,
+  c.take_while-text.ensures.occurrences,
+  c.from-any.ensures,
+  run_is IsWhite 0 c.take_while-white.result.set,
+  run_is IsValueByte 0 c.take_while-text.result.set,
+))) (value_there _ _ c.trimmed.ensures)
+
+pub returns-in-Err : goal.returns-in-Err
+returns-in-Err c = err_as (reads_by {h = ValueRead} c.in-Err.ensures.reads (rw (
+  c.preceded.ensures.ignored,
+  c.preceded.ensures.parser,
+  c.take_while-white.ensures.occurrences,
+  c.take_while-text.ensures.occurrences,
+  c.from-any.ensures,
+  run_is IsWhite 0 c.take_while-white.result.set,
+  run_is IsValueByte 0 c.take_while-text.result.set,
+))) value_back

@@ -1,0 +1,16 @@
+-- Field lines were read, one behind the other, and an end of the input is left.
+use Rattle.std.proofs.Common.{length}
+use Rattle.winnow.specs.Bytes.{bytes_input, bytes_reading}
+use Rattle.winnow.specs.Input.{IsEndOf}
+use Rattle.format_http.specs.Heads.FieldLine.{FieldLineStands}
+use Rattle.winnow.specs.Grammar.{Each}
+use Rattle.format_http.proofs.heads.head.read_field_lines.Given as goal
+
+abbrev pub invariant-lines : goal.invariant-lines
+invariant-lines g l = record {
+  each : Each FieldLineStands l.fn.input.now l.fields.items l.input.now;
+  ends : IsEndOf bytes_reading (bytes_input l.input.now) (bytes_input l.fn.input.now);
+}
+
+abbrev pub decreases-lines : goal.decreases-lines
+decreases-lines g l = length l.input.now

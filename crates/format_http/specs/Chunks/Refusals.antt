@@ -1,0 +1,85 @@
+-- Which requests of HTTP/1.1 a server must refuse by their heads (RFC 9112, sections 3.2 and 6).
+use Rattle.std.specs.Prelude.{◌≡◌, ◌<◌, ◌≤◌, ◌⊎◌, ℕ, List, [], ◌∷◌, map, Option, Some, None}
+use Rattle.std.specs.Prelude.{suc}
+use Rattle.std.specs.Char.{to_ascii_lowercase}
+use Rattle.format_http.specs.Chunks.Framing.{EndChunked, HasNone, HasOne, HasValue, HaveValue}
+use Rattle.format_http.specs.Chunks.Framing.{IsNumber}
+use Rattle.format_http.specs.Chunks.Framing.{content_length, transfer_encoding}
+use Rattle.format_http.specs.declared.chunks.refusals.Refusal.{Refusal}
+use Rattle.format_http.specs.declared.chunks.refusals.Refusal.TheVariants.{LengthBesideCoding}
+use Rattle.format_http.specs.declared.chunks.refusals.Refusal.TheVariants.{LengthIsNoNumber}
+use Rattle.format_http.specs.declared.chunks.refusals.Refusal.TheVariants.{LengthsDiffer}
+use Rattle.format_http.specs.declared.chunks.refusals.Refusal.TheVariants.{ManyHosts, NoHost}
+use Rattle.format_http.specs.declared.chunks.refusals.Refusal.TheVariants.{NotChunked}
+use Rattle.format_http.specs.Heads.Head.{Pair}
+use Rattle.format_http.specs.declared.heads.request_line.RequestLine.{RequestLine}
+
+-- The name is Host, in letters of either case (RFC 9110, section 5.1).
+abbrev pub IsHost : List ℕ → Type 0
+IsHost name = map to_ascii_lowercase name ≡ 104 ∷ 111 ∷ 115 ∷ 116 ∷ []
+
+-- So many of the fields are named Host.
+abbrev pub AreHosts : List Pair → ℕ → Type 0
+AreHosts [] hosts = hosts ≡ 0
+AreHosts (field ∷ fields) hosts =
+    (IsHost field.0 × (others : ℕ) × (hosts ≡ suc others) × AreHosts fields others)
+    ⊎ ((IsHost field.0 → ⊥) × AreHosts fields hosts)
+
+-- The version is 1.1, or a later one that begins with 1.
+abbrev pub NeedsHost : RequestLine → Type 0
+NeedsHost line = (line.major ≡ 1) × (1 ≤ line.minor)
+
+-- A request of this line may have so many Host fields.
+abbrev pub MayHave : RequestLine → ℕ → Type 0
+MayHave line hosts = (hosts ≡ 1) ⊎ ((hosts ≡ 0) × (NeedsHost line → ⊥))
+
+-- Why a request of this line with so many Host fields is refused for them, or that it is not.
+abbrev pub IsHostRefusal : RequestLine → ℕ → Option Refusal → Type 0
+IsHostRefusal line hosts (Some NoHost) = NeedsHost line × (hosts ≡ 0)
+IsHostRefusal line hosts (Some ManyHosts) = 1 < hosts
+IsHostRefusal line hosts (Some LengthBesideCoding) = ⊥
+IsHostRefusal line hosts (Some NotChunked) = ⊥
+IsHostRefusal line hosts (Some LengthsDiffer) = ⊥
+IsHostRefusal line hosts (Some LengthIsNoNumber) = ⊥
+IsHostRefusal line hosts None = MayHave line hosts
+
+-- No field is a length, and none a coding; or the last coding is `chunked`, and none is a length;
+-- or all lengths are one number, and none is a coding.
+abbrev pub IsFramed : List Pair → Type 0
+IsFramed fields =
+    (HasNone content_length fields × HasNone transfer_encoding fields)
+    ⊎ ((HasNone content_length fields × EndChunked fields)
+    ⊎ (HasNone transfer_encoding fields × (length : List ℕ)
+    × HasValue content_length length fields × HaveValue content_length length fields
+    × IsNumber length))
+
+-- Why a request of these fields is refused, or that it is not, where its Host fields are no reason.
+abbrev pub IsFault : List Pair → Option Refusal → Type 0
+IsFault fields (Some NoHost) = ⊥
+IsFault fields (Some ManyHosts) = ⊥
+IsFault fields (Some LengthBesideCoding) =
+    HasOne content_length fields × HasOne transfer_encoding fields
+IsFault fields (Some NotChunked) =
+    HasNone content_length fields × HasOne transfer_encoding fields × (EndChunked fields → ⊥)
+IsFault fields (Some LengthsDiffer) =
+    HasNone transfer_encoding fields
+    × ((length : List ℕ) → HaveValue content_length length fields → ⊥)
+IsFault fields (Some LengthIsNoNumber) =
+    HasNone transfer_encoding fields × (length : List ℕ) × HasValue content_length length fields
+    × HaveValue content_length length fields × (IsNumber length → ⊥)
+IsFault fields None = IsFramed fields
+
+-- Why a request of this line, with so many Host fields among these fields, is refused, or that it
+-- is not. The Host fields come first.
+abbrev pub IsRefusal : RequestLine → ℕ → List Pair → Option Refusal → Type 0
+IsRefusal line hosts fields (Some NoHost) = NeedsHost line × (hosts ≡ 0)
+IsRefusal line hosts fields (Some ManyHosts) = 1 < hosts
+IsRefusal line hosts fields (Some LengthBesideCoding) =
+    MayHave line hosts × IsFault fields (Some LengthBesideCoding)
+IsRefusal line hosts fields (Some NotChunked) =
+    MayHave line hosts × IsFault fields (Some NotChunked)
+IsRefusal line hosts fields (Some LengthsDiffer) =
+    MayHave line hosts × IsFault fields (Some LengthsDiffer)
+IsRefusal line hosts fields (Some LengthIsNoNumber) =
+    MayHave line hosts × IsFault fields (Some LengthIsNoNumber)
+IsRefusal line hosts fields None = MayHave line hosts × IsFault fields None

@@ -1,0 +1,338 @@
+-- That what the parsers read is what is written.
+use Rattle.std.specs.Prelude.{◌≡◌, ◌<◌, ◌≤◌, ◌⊎◌, ℕ, List, [], ◌∷◌, ◌++◌, Option, Some, None, ⊤}
+use Rattle.std.specs.List.{AllByRecursion}
+use Rattle.std.proofs.Common.{refl, sym, ap, subst, inl, inr, ◌∙◌, arith, append_assoc}
+use Rattle.std.proofs.lemmas.List.Elements.{recursion_from_All}
+use Rattle.format_http.specs.Chunks.Lines.{Extension, Extensions, IsQuotedByte, Line, QuotedByte}
+use Rattle.format_http.specs.Chunks.Lines.{QuotedText, RunOf, Spaced, TextOrToken}
+use Rattle.format_http.specs.Chunks.SizeLine.{ExtensionText, ExtensionsText, LineText, Means, Named}
+use Rattle.format_http.specs.Chunks.SizeLine.{QuotedByteText, SizeLineText, Slice, SpacedText}
+use Rattle.format_http.specs.Chunks.SizeLine.{StringText}
+use Rattle.format_http.specs.Chunks.SizeLine.{TokenText, ValueText}
+use Rattle.format_http.specs.declared.chunks.size_line.SizeLine.{SizeLine}
+use Rattle.format_http.specs.Heads.Bytes.{IsTokenByte, IsValueByte}
+use Rattle.winnow.specs.AsChar.{IsHexDigit, IsSpace}
+use Rattle.winnow.specs.Range.{from_to}
+use Rattle.winnow.specs.Counted.{counted_reading}
+use Rattle.winnow.specs.Equal.{same_first, same_others}
+use Rattle.winnow.specs.Grammar.{Both, Grammar, InClass, NoneStands}
+use Rattle.winnow.specs.Grammar.Known.{Byte}
+use Rattle.winnow.specs.InTurn.{First}
+use Rattle.winnow.specs.Texts.{Anything, AtLeast, Begins, BeginsIn, Holding, InFront}
+use Rattle.winnow.specs.Texts.{IsGrammarOf, Itself, MayBegin, Members, NotFirst, Of, Perhaps}
+use Rattle.winnow.specs.Texts.{Row, Spelled, Text, Then}
+use Rattle.winnow.specs.Texts.Fronts.{among_front, begins_wider, front_any, front_begins}
+use Rattle.winnow.specs.Texts.Fronts.{front_whole, in_list_front, may_begin, members_begin}
+use Rattle.winnow.specs.Texts.Fronts.{none_begins, one_of_begins, row_front, shown_front}
+use Rattle.winnow.specs.Texts.Fronts.{spelled_begins, then_front}
+use Rattle.winnow.specs.Texts.Parts.{behind_less, both_of, either_apart, maybe_of, taken_of}
+use Rattle.winnow.specs.Texts.Parts.{three_of}
+use Rattle.winnow.specs.Texts.Rows.{gathered_of, list_of, many_of}
+use Rattle.winnow.specs.Texts.Tokens.{byte_of, class_of, divides_where, token_of}
+
+-- ---- bytes
+
+space_most : (b : ℕ) → IsSpace b → b < 33
+space_most b (inl is) = omega (arith, is)
+space_most b (inr is) = omega (arith, is)
+
+-- a byte of a token is no control, no white space, no quote, no colon, no semicolon and no equals
+-- sign
+abbrev IsPlain : ℕ → Type 0
+IsPlain b = (33 ≤ b) × (b ≡ 34 → ⊥) × ((b ≤ 57) ⊎ (62 ≤ b))
+
+between_plain : (first last b : ℕ) → 35 ≤ first → (last ≤ 57) ⊎ (62 ≤ first) → first ≤ b
+    → b ≤ last → IsPlain b
+between_plain first last b least (inl most) above below = (
+  omega (arith, least, above),
+  (λ e. omega (arith, e, least, above)),
+  inl (omega (arith, most, below)),
+)
+between_plain first last b least (inr more) above below = (
+  omega (arith, least, above),
+  (λ e. omega (arith, e, least, above)),
+  inr (omega (arith, more, above)),
+)
+
+token_plain : (b : ℕ) → IsTokenByte b → IsPlain b
+token_plain b (inl is) = between_plain 48 57 b (omega arith) (inl (omega arith)) is.0 is.1
+token_plain b (inr (inl is)) =
+    between_plain 65 90 b (omega arith) (inr (omega arith)) is.0 is.1
+token_plain b (inr (inr (inl is))) =
+    between_plain 94 122 b (omega arith) (inr (omega arith)) is.0 is.1
+token_plain b (inr (inr (inr (inl is)))) =
+    (omega (arith, is), (λ e. omega (arith, is, e)), inl (omega (arith, is)))
+token_plain b (inr (inr (inr (inr (inl is))))) =
+    between_plain 35 39 b (omega arith) (inl (omega arith)) is.0 is.1
+token_plain b (inr (inr (inr (inr (inr (inl is)))))) =
+    between_plain 42 43 b (omega arith) (inl (omega arith)) is.0 is.1
+token_plain b (inr (inr (inr (inr (inr (inr (inl is))))))) =
+    between_plain 45 46 b (omega arith) (inl (omega arith)) is.0 is.1
+token_plain b (inr (inr (inr (inr (inr (inr (inr (inl is)))))))) =
+    (omega (arith, is), (λ e. omega (arith, is, e)), inr (omega (arith, is)))
+token_plain b (inr (inr (inr (inr (inr (inr (inr (inr is)))))))) =
+    (omega (arith, is), (λ e. omega (arith, is, e)), inr (omega (arith, is)))
+
+-- so none of the marks round names and values
+pub token_no_mark : (b : ℕ) → (57 < b) → (b < 62) → IsTokenByte b → ⊥
+token_no_mark b above below is = elim (token_plain b is).2 [
+  | inl most ↦ omega (arith, most, above)
+  | inr least ↦ omega (arith, least, below)
+]
+
+pub token_least : (b : ℕ) → IsTokenByte b → 33 ≤ b
+token_least b token = (token_plain b token).0
+
+pub token_no_space : (b : ℕ) → IsTokenByte b → IsSpace b → ⊥
+token_no_space b token space = omega (arith, (token_plain b token).0, space_most b space)
+
+bare_61 : IsSpace 61 → ⊥
+bare_61 space = omega (arith, space_most 61 space)
+
+bare_59 : IsSpace 59 → ⊥
+bare_59 space = omega (arith, space_most 59 space)
+
+bare_13 : IsSpace 13 → ⊥
+bare_13 (inl is) = omega (arith, is)
+bare_13 (inr is) = omega (arith, is)
+
+-- a byte that stands for itself in quotes is no quote and no backslash
+quoted_plain : (b : ℕ) → IsQuotedByte b → (b ≡ 34 → ⊥) × (b ≡ 92 → ⊥)
+quoted_plain b (inl is) = ((λ e. omega (arith, is, e)), (λ e. omega (arith, is, e)))
+quoted_plain b (inr (inl is)) = ((λ e. omega (arith, is, e)), (λ e. omega (arith, is, e)))
+quoted_plain b (inr (inr (inl is))) = ((λ e. omega (arith, is, e)), (λ e. omega (arith, is, e)))
+quoted_plain b (inr (inr (inr (inl is)))) =
+    ((λ e. omega (arith, is.0, e)), (λ e. omega (arith, is.1, e)))
+quoted_plain b (inr (inr (inr (inr (inl is))))) =
+    ((λ e. omega (arith, is.0, e)), (λ e. omega (arith, is.0, e)))
+quoted_plain b (inr (inr (inr (inr (inr is))))) =
+    ((λ e. omega (arith, is, e)), (λ e. omega (arith, is, e)))
+
+hex_least : (b : ℕ) → IsHexDigit b → (48 ≤ b) × (b ≡ 59 → ⊥)
+hex_least b (inl is) = (omega (arith, is.0), (λ e. omega (arith, is.1, e)))
+hex_least b (inr (inl is)) = (omega (arith, is.0), (λ e. omega (arith, is.0, e)))
+hex_least b (inr (inr is)) = (omega (arith, is.0), (λ e. omega (arith, is.0, e)))
+
+-- ---- a byte behind white space
+
+-- White space is first, and this byte behind it.
+abbrev Marked : ℕ → List ℕ → Type 0
+Marked mark tokens = (white : List ℕ) × (more : List ℕ) × AllByRecursion IsSpace white
+    × (tokens ≡ white ++ mark ∷ more)
+
+begins_marked : (mark : ℕ) (tokens : List ℕ) → Begins (λ b. b ≡ mark) tokens
+    → Marked mark tokens
+begins_marked mark [] e = absurd e
+begins_marked mark (b ∷ bs) e = ([], bs, tt, ap (λ c. c ∷ bs) e)
+
+-- then that byte is first, or white space
+marked_begins : (these : ℕ → Type 0) (mark : ℕ) → ((b : ℕ) → IsSpace b → these b) → these mark
+    → (tokens : List ℕ) → Marked mark tokens → MayBegin these tokens
+marked_begins these mark space is tokens ([], more, all, e) =
+    let P : List ℕ → Type 0 = λ l. MayBegin these l in subst P (sym e) is
+marked_begins these mark space is tokens (w ∷ ws, more, all, e) =
+    let P : List ℕ → Type 0 = λ l. MayBegin these l in subst P (sym e) (space w all.0)
+
+-- and it is one
+one_mark : (a b : ℕ) → (IsSpace a → ⊥) → (IsSpace b → ⊥) → (white others more rest : List ℕ)
+    → AllByRecursion IsSpace white → AllByRecursion IsSpace others
+    → white ++ a ∷ more ≡ others ++ b ∷ rest → a ≡ b
+one_mark a b bare other [] [] more rest all each e = same_first e
+one_mark a b bare other [] (o ∷ os) more rest all each e =
+    absurd (bare (subst IsSpace (sym (same_first e)) each.0))
+one_mark a b bare other (w ∷ ws) [] more rest all each e =
+    absurd (other (subst IsSpace (same_first e) all.0))
+one_mark a b bare other (w ∷ ws) (o ∷ os) more rest all each e =
+    one_mark a b bare other ws os more rest all.1 each.1 (same_others e)
+
+spaced_marks : (mark : ℕ) → InFront (SpacedText mark) Anything (Marked mark)
+unfolding Then Spelled Members
+spaced_marks mark = record {
+  makes = λ o tokens rest
+      (o1, p, xs, ys, (all, enough, shown), (b, w, zs, ws, (is, f), white, g, made), e, out) any. (
+        xs,
+        ws ++ rest,
+        recursion_from_All IsSpace xs all,
+        ap (λ l. l ++ rest) (e ∙ ap (λ l. xs ++ l) (g ∙ ap (λ l. l ++ ws) f))
+            ∙ append_assoc xs (mark ∷ ws) rest,
+      );
+}
+
+-- so nothing stands that begins with another
+none_marked : {O : Type 0} {g : Grammar ℕ O} {text : Text ℕ O} {follow : List ℕ → Type 0}
+    (a b : ℕ) → (IsSpace a → ⊥) → (IsSpace b → ⊥) → (a ≡ b → ⊥) → IsGrammarOf g text follow
+    → InFront text Anything (Marked a) → (tokens : List ℕ) → Marked b tokens → NoneStands g tokens
+none_marked a b bare other differ is front tokens (others, more, each, f) o rest x =
+    let (xs, e, t) = is.there tokens o rest x in
+    let (white, behind, all, d) = front.makes o xs rest t tt in
+    differ (one_mark a b bare other white others behind more all each (sym d ∙ sym e ∙ f))
+
+-- ---- parts
+
+spaced_of : (mark : ℕ) → (IsSpace mark → ⊥)
+    → IsGrammarOf (Spaced counted_reading (λ b. b) Byte mark) (SpacedText mark) (NotFirst IsSpace)
+spaced_of mark bare = three_of {P = ℕ × Slice} {O = Slice × ℕ × Slice}
+    (λ before p. (before, p.0, p.1)) (λ b behind. (b, behind))
+    (class_of counted_reading IsSpace (λ b. b) 0) (byte_of mark)
+    (class_of counted_reading IsSpace (λ b. b) 0)
+    (front_begins (λ b e is. bare (subst IsSpace e is)) (spelled_begins mark [] mark)) front_any
+
+token_text : IsGrammarOf (RunOf counted_reading (λ b. b) IsTokenByte 1) TokenText
+    (NotFirst IsTokenByte)
+token_text = class_of counted_reading IsTokenByte (λ b. b) 1
+
+token_begins : BeginsIn IsTokenByte TokenText
+token_begins = members_begin counted_reading IsTokenByte 1 (omega arith)
+
+quoted_byte_of : IsGrammarOf (QuotedByte counted_reading (λ b. b) Byte) QuotedByteText Anything
+quoted_byte_of = either_apart
+    (token_of (λ b. b) (InClass IsQuotedByte (λ b. b)) tt (divides_where IsQuotedByte))
+    (both_of (λ _ b. b) (byte_of 92)
+    (token_of (λ b. b) (InClass IsValueByte (λ b. b)) tt (divides_where IsValueByte)) front_any)
+    (begins_wider {those = IsQuotedByte} (λ b (k, e, is). subst IsQuotedByte e is)
+    (one_of_begins (λ b. b) IsQuotedByte))
+    (then_front (λ _ b. b)
+    (front_begins (λ b e is. (quoted_plain b is).1 e) (spelled_begins 92 [] 92)) front_any)
+
+-- no quote begins one
+none_quoted : (rest : List ℕ) → Begins (λ b. b ≡ 34) rest
+    → NoneStands (QuotedByte counted_reading (λ b. b) Byte) rest
+none_quoted rest b = none_begins {these = λ b. IsQuotedByte b ⊎ (b ≡ 92)} quoted_byte_of
+    (among_front
+    (begins_wider (λ b (k, e, is). inl (subst IsQuotedByte e is))
+    (one_of_begins (λ b. b) IsQuotedByte))
+    (then_front (λ _ b. b) (begins_wider (λ b e. inr e) (spelled_begins 92 [] 92)) front_any))
+    rest (may_begin (λ b. b ≡ 34) (λ b. IsQuotedByte b ⊎ (b ≡ 92) → ⊥) no_quote rest b)
+  where
+    no_quote : (b : ℕ) → b ≡ 34 → IsQuotedByte b ⊎ (b ≡ 92) → ⊥
+    no_quote b e (inl is) = (quoted_plain b is).0 e
+    no_quote b e (inr is) = omega (arith, is, e)
+
+quoted_text_of : IsGrammarOf (QuotedText counted_reading (λ b. b) Byte)
+    (Holding (λ (u : Unit {0}) (bytes : List ℕ). ⊤) (AtLeast 0 (Row QuotedByteText)))
+    (Begins (λ b. b ≡ 34))
+quoted_text_of = gathered_of (λ (u : Unit {0}) (bytes : List ℕ). ⊤)
+    (many_of quoted_byte_of (from_to 0 None) 0 refl front_any (λ rest b. tt) none_quoted)
+
+-- a quoted string begins outside of a set in which no quote is
+string_front : {behind : List ℕ → Type 0} (these : ℕ → Type 0) → these 34
+    → InFront StringText behind (MayBegin these)
+string_front these is = shown_front counted_reading (then_front (λ _ u. u)
+    (front_begins (λ b e. subst these (sym e) is) (spelled_begins 34 [] 34)) front_any)
+
+value_of : IsGrammarOf (TextOrToken counted_reading (λ b. b) Byte
+    (QuotedText counted_reading (λ b. b) Byte)) ValueText (NotFirst IsTokenByte)
+value_of = either_apart token_text
+    (behind_less (λ rest x. tt) (taken_of counted_reading (three_of (λ _ u. u) (λ u _. u)
+    (byte_of 34) quoted_text_of (byte_of 34) front_any (spelled_begins 34 [] 34)))) token_begins
+    (string_front (λ b. IsTokenByte b → ⊥) (λ is. (token_plain 34 is).1 refl))
+
+-- ---- extensions
+
+abbrev Value : Grammar ℕ Slice
+Value = TextOrToken counted_reading (λ b. b) Byte (QuotedText counted_reading (λ b. b) Byte)
+
+abbrev GivenText : Text ℕ Slice
+GivenText = Then (λ _ value. value) (SpacedText 61) ValueText
+
+given_of : IsGrammarOf (Both (λ _ v. v) (Spaced counted_reading (λ b. b) Byte 61) Value) GivenText
+    (NotFirst IsTokenByte)
+given_of = both_of (λ _ v. v) (spaced_of 61 bare_61) value_of
+    (among_front (front_begins token_no_space token_begins)
+    (string_front (λ b. IsSpace b → ⊥) (λ is. omega (arith, space_most 34 is))))
+
+given_marks : InFront GivenText Anything (Marked 61)
+given_marks = then_front (λ _ v. v) (spaced_marks 61) front_any
+
+-- What may stand behind an extension: another, or the line end.
+abbrev Clear : List ℕ → Type 0
+Clear rest = Marked 59 rest ⊎ Marked 13 rest
+
+clear_begins : (these : ℕ → Type 0) → ((b : ℕ) → IsSpace b → these b) → these 59 → these 13
+    → (rest : List ℕ) → Clear rest → MayBegin these rest
+clear_begins these space semicolon return rest (inl m) =
+    marked_begins these 59 space semicolon rest m
+clear_begins these space semicolon return rest (inr m) =
+    marked_begins these 13 space return rest m
+
+clear_no_token : (rest : List ℕ) → Clear rest → NotFirst IsTokenByte rest
+clear_no_token = clear_begins (λ b. IsTokenByte b → ⊥)
+    (λ b space token. token_no_space b token space)
+    (token_no_mark 59 (omega arith) (omega arith)) (λ is. omega (arith, (token_plain 13 is).0))
+
+clear_no_digit : (rest : List ℕ) → Clear rest → NotFirst IsHexDigit rest
+clear_no_digit = clear_begins (λ b. IsHexDigit b → ⊥)
+    (λ b space is. omega (arith, (hex_least b is).0, space_most b space))
+    (λ is. (hex_least 59 is).1 refl) (λ is. omega (arith, (hex_least 13 is).0))
+
+none_given : (rest : List ℕ) → Clear rest
+    → NoneStands (Both (λ _ v. v) (Spaced counted_reading (λ b. b) Byte 61) Value) rest
+none_given rest (inl m) =
+    none_marked 61 59 bare_61 bare_59 (λ e. omega (arith, e)) given_of given_marks rest m
+none_given rest (inr m) =
+    none_marked 61 13 bare_61 bare_13 (λ e. omega (arith, e)) given_of given_marks rest m
+
+given_front : InFront (Perhaps GivenText) Clear (NotFirst IsTokenByte)
+unfolding Perhaps
+given_front = record { makes = makes }
+  where
+    makes : (o : Option Slice) (xs rest : List ℕ) → Perhaps GivenText o xs → Clear rest
+        → NotFirst IsTokenByte (xs ++ rest)
+    makes None xs rest e clear =
+        let P : List ℕ → Type 0 = λ l. NotFirst IsTokenByte (l ++ rest) in
+        subst P (sym e) (clear_no_token rest clear)
+    makes (Some v) xs rest x clear = marked_begins (λ b. IsTokenByte b → ⊥) 61
+        (λ b space token. token_no_space b token space)
+        (token_no_mark 61 (omega arith) (omega arith)) (xs ++ rest)
+        (given_marks.makes v xs rest x tt)
+
+extension_of : IsGrammarOf (Extension counted_reading (λ b. b) Byte Value) ExtensionText Clear
+extension_of = both_of {O = Slice × Option Slice} (λ name v. (name, v))
+    (both_of (λ _ name. name) (spaced_of 59 bare_59) token_text
+    (front_begins token_no_space token_begins))
+    (maybe_of (behind_less clear_no_token given_of) none_given) given_front
+
+extension_marks : {behind : List ℕ → Type 0} → InFront ExtensionText behind (Marked 59)
+extension_marks = then_front {O = Slice × Option Slice} (λ name v. (name, v))
+    (then_front (λ _ name. name) (spaced_marks 59) front_any) front_any
+
+again : InFront ExtensionText Clear Clear
+again = front_whole (λ rest m. inl m) extension_marks
+
+end_begins : BeginsIn (λ b. b ≡ 13)
+    (Then {O = ℕ × ℕ} (λ r f. (r, f)) (Itself 13) (Itself 10))
+end_begins = then_front {O = ℕ × ℕ} (λ r f. (r, f)) (spelled_begins 13 [] 13) front_any
+
+module _ {A : Type 0} where
+  extensions_of : IsGrammarOf (Extensions counted_reading (λ b. b) Byte {A = A} Value)
+      ExtensionsText (Begins (λ b. b ≡ 13))
+  extensions_of = list_of (many_of extension_of (from_to 0 None) 0 refl again
+      (λ rest b. inr (begins_marked 13 rest b))
+      (λ rest b. none_marked 59 13 bare_59 bare_13 (λ e. omega (arith, e)) extension_of
+      extension_marks rest (begins_marked 13 rest b)))
+
+  -- ---- a line
+
+  line_of : IsGrammarOf (Line counted_reading (λ b. b) Byte {A = A}) LineText Anything
+  line_of = both_of {O = Slice × Named A} (λ digits list. (digits, list))
+      (class_of counted_reading IsHexDigit (λ b. b) 1)
+      (both_of (λ list _. list) extensions_of
+      (both_of {O = ℕ × ℕ} (λ r f. (r, f)) (byte_of 13) (byte_of 10) front_any) end_begins)
+      (front_whole clear_no_digit (then_front (λ list _. list) (in_list_front (row_front again))
+      (front_whole (λ rest b. inr (begins_marked 13 rest b)) end_begins)))
+
+  -- what is read is first
+  pub line_stands : (parts : Slice × Named A) (line : SizeLine A) → Means parts line
+      → (tokens rest : List ℕ) → Line counted_reading (λ b. b) Byte tokens parts rest
+      → First SizeLineText tokens line rest
+  unfolding First Of
+  line_stands parts line is tokens rest x =
+      let (front, e, a) = line_of.there tokens parts rest x in (front, (parts, a, is), e)
+
+  -- and where nothing is read nothing is
+  pub no_line : (tokens : List ℕ) → NoneStands (Line counted_reading (λ b. b) Byte {A = A}) tokens
+      → NoneStands (First (SizeLineText {A = A})) tokens
+  unfolding First Of
+  no_line tokens none line rest (front, (parts, a, is), e) =
+      let P : List ℕ → Type 0 = λ l. Line counted_reading (λ b. b) Byte l parts rest in
+      none parts rest (subst P (sym e) (line_of.back parts front rest a tt))

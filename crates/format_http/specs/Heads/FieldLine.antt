@@ -1,0 +1,39 @@
+-- A header field line of HTTP/1.1 (RFC 9112, section 5).
+use Rattle.std.specs.Prelude.{◌≡◌, ◌<◌, ℕ, List, [], ◌∷◌, ◌++◌, length}
+use Rattle.std.specs.List.{All}
+use Rattle.format_http.specs.Heads.Bytes.{IsTokenByte, IsValueByte, IsWhite, line_end}
+use Rattle.format_http.specs.declared.heads.field_line.Field.{Field}
+use Rattle.winnow.specs.Grammar.{Grammar}
+
+-- No white space stands at the end.
+abbrev pub EndsBare : List ℕ → Type 0
+EndsBare text = (b : ℕ) (front : List ℕ) → text ≡ front ++ b ∷ [] → IsWhite b → ⊥
+
+-- No white space stands at the beginning.
+abbrev pub BeginsBare : List ℕ → Type 0
+BeginsBare text = (b : ℕ) (more : List ℕ) → text ≡ b ∷ more → IsWhite b → ⊥
+
+-- The bytes are a field line with this name and this value, and then the rest: white space may
+-- stand before the value and behind it, and is no part of it.
+pub record IsFieldLine (name value bytes rest : List ℕ) : Type 0 where
+  pub before : List ℕ
+  pub behind : List ℕ
+  pub splits : bytes ≡ name ++ 58 ∷ (before ++ (value ++ (behind ++ (line_end ++ rest))))
+  pub some_name : 0 < length name
+  pub is_name : All IsTokenByte name
+  pub white_before : All IsWhite before
+  pub white_behind : All IsWhite behind
+  pub is_value : All IsValueByte value
+  pub begins_bare : BeginsBare value
+  pub ends_bare : EndsBare value
+
+-- What is left of a text without the white space at its end.
+pub record IsTrimmed (value text : List ℕ) : Type 0 where
+  pub behind : List ℕ
+  pub splits : text ≡ value ++ behind
+  pub white_behind : All IsWhite behind
+  pub ends_bare : EndsBare value
+
+-- The field line of this field stands first.
+abbrev pub FieldLineStands : Grammar ℕ Field
+FieldLineStands bytes field rest = IsFieldLine field.name.now field.value.now bytes rest

@@ -1,0 +1,4 @@
+-- Written by scripts/registries.py: do not edit.
+pub mod Chunks
+pub mod Heads
+pub mod Pieces

@@ -1,0 +1,116 @@
+//! Size lines over any stream of bytes: each function puts a few parsers round one that its caller
+//! makes, and the last runs them all.
+#![tactic(auto)]
+
+ghost use Rattle.format_http.specs.Chunks.Lines.{Ended, Extensions, Line, TextOrToken};
+ghost use Rattle.std.specs.Prelude.{◌≡◌};
+ghost use Rattle.winnow.specs.Form.{modal};
+ghost use Rattle.winnow.specs.Cut.{ReadsOrAsks};
+ghost use Rattle.winnow.specs.Once.{SeesApart};
+ghost use Rattle.winnow.specs.Grammar.{Literally};
+
+use crate::chunks::sets::QuotedBytes;
+use crate::heads::sets::{TokenBytes, ValueBytes};
+use std::alloc::Allocator;
+use winnow::Parser;
+use winnow::ascii::impls::{HexDigit1, Space0};
+use winnow::combinator::impls::Repeat;
+use winnow::combinator::{alt, delimited, opt, preceded, repeat, terminated};
+use winnow::error::ParserError;
+use winnow::exact::ReadsPieces;
+use winnow::stable::Stable;
+use winnow::stream::{Compare, Range, StreamIsPartial};
+use winnow::token::{one_of, take_while};
+
+/// Hexadecimal digits, what `behind` reads, and a line end.
+fn ended<I, E, O, P>(behind: P, input: &mut I) -> Result<(I::Slice, O), E>
+where
+    I: StreamIsPartial<Token = u8> + Compare<u8>,
+    E: ParserError<I>,
+    O: Drop,
+    P: Stable<I, O, E> + Drop,
+    requires modal { E.form ≡ modal }
+    requires seen { SeesApart I.seen_as }
+    requires behind { P.can_parse behind × (P.claim (P.state behind)).premise
+        × (P.claim (P.state behind)).backtracks }
+    ensures { ReadsOrAsks I.reading I.following E.kind
+        (Ended I.reading I.seen_as (Literally I.reading I.spells (λ s _. s))
+        (P.claim (P.state behind)).grammar) (I.view input.old) result (I.view input.new) }
+{
+    (HexDigit1, terminated(behind, (b'\r', b'\n'))).read_cut(input)
+}
+
+/// A size line. What `value` reads is the value of an extension.
+fn extended<I, E, A, P>(
+    alloc: A,
+    value: P,
+    input: &mut I,
+) -> Result<(I::Slice, Vec<(I::Slice, Option<I::Slice>), A>), E>
+where
+    I: StreamIsPartial<Token = u8> + Compare<u8>,
+    E: ParserError<I>,
+    A: Allocator + Copy,
+    P: Stable<I, I::Slice, E> + Drop,
+    requires modal { E.form ≡ modal }
+    requires seen { SeesApart I.seen_as }
+    requires value { P.can_parse value × (P.claim (P.state value)).premise
+        × (P.claim (P.state value)).backtracks }
+    ensures { ReadsOrAsks I.reading I.following E.kind
+        (Ended I.reading I.seen_as (Literally I.reading I.spells (λ s _. s))
+        (Extensions I.reading I.seen_as (Literally I.reading I.spells (λ s _. s))
+        (P.claim (P.state value)).grammar)) (I.view input.old) result (I.view input.new) }
+{
+    let token = take_while(Range::from(1..), TokenBytes);
+    let name = preceded((Space0, b';', Space0), token);
+    let given = opt(preceded((Space0, b'=', Space0), value));
+    ended(repeat(alloc, Range::from(0..), (name, given)), input)
+}
+
+/// A size line. What `text` reads stands in the quotes of a quoted string.
+fn quoted<I, E, A, P>(
+    alloc: A,
+    text: P,
+    input: &mut I,
+) -> Result<(I::Slice, Vec<(I::Slice, Option<I::Slice>), A>), E>
+where
+    I: StreamIsPartial<Token = u8> + Compare<u8>,
+    E: ParserError<I>,
+    A: Allocator + Copy,
+    P: Stable<I, (), E> + Drop,
+    requires modal { E.form ≡ modal }
+    requires seen { SeesApart I.seen_as }
+    requires text { P.can_parse text × (P.claim (P.state text)).premise
+        × (P.claim (P.state text)).backtracks }
+    ensures { ReadsOrAsks I.reading I.following E.kind
+        (Ended I.reading I.seen_as (Literally I.reading I.spells (λ s _. s))
+        (Extensions I.reading I.seen_as (Literally I.reading I.spells (λ s _. s))
+        (TextOrToken I.reading I.seen_as (Literally I.reading I.spells (λ s _. s))
+        (P.claim (P.state text)).grammar))) (I.view input.old) result
+        (I.view input.new) }
+{
+    let token = take_while(Range::from(1..), TokenBytes);
+    extended(
+        alloc,
+        alt((token, delimited(b'"', text, b'"').take())),
+        input,
+    )
+}
+
+/// A size line: the digits of its size, and its extensions, each a name and perhaps a value.
+pub(crate) fn line<I, E, A>(
+    alloc: A,
+    input: &mut I,
+) -> Result<(I::Slice, Vec<(I::Slice, Option<I::Slice>), A>), E>
+where
+    I: StreamIsPartial<Token = u8> + Compare<u8>,
+    E: ParserError<I>,
+    A: Allocator + Copy,
+    requires modal { E.form ≡ modal }
+    requires seen { SeesApart I.seen_as }
+    ensures { ReadsOrAsks I.reading I.following E.kind (Line I.reading I.seen_as
+        (Literally I.reading I.spells (λ s _. s))) (I.view input.old) result (I.view input.new) }
+{
+    let byte = alt((one_of(QuotedBytes), preceded(b'\\', one_of(ValueBytes))));
+    let text: Repeat<_, I, u8, (), E, A> = repeat(alloc, Range::from(0..), byte);
+    quoted(alloc, text, input)
+}

@@ -1,0 +1,132 @@
+//! A header field line of HTTP/1.1 (RFC 9112, section 5): a name, a colon, a value, and a line end
+//! (a carriage return and a line feed). White space may stand before the value and behind it.
+#![tactic(auto)]
+
+ghost use Rattle.winnow.specs.Bytes.{bytes_input, bytes_reading};
+ghost use Rattle.format_http.specs.Heads.FieldLine.{FieldLineStands, IsTrimmed};
+ghost use Rattle.format_http.specs.Heads.FieldRead.{NameRead, NameValue, ValueStands};
+ghost use Rattle.format_http.specs.Heads.Parts.{EndStands};
+ghost use Rattle.winnow.specs.Exact.{Reads};
+
+use crate::heads::sets::{TokenBytes, ValueBytes, White};
+use winnow::Parser;
+use winnow::combinator::{preceded, terminated};
+use winnow::error::{EmptyError, ErrMode, HasKind};
+use winnow::stream::Range;
+use winnow::token::take_while;
+
+/// A field: its name and its value, as slices of the input.
+///
+/// ```
+/// use format_http::heads::field_line::Field;
+///
+/// let field = Field { name: b"Host".as_slice(), value: b"example.org".as_slice() };
+/// assert_eq!(rt; field.name.len(), 4);
+/// ```
+#[derive(Clone, Copy, Debug, PartialEq, Drop)]
+pub struct Field<'i> {
+    /// The name, a token of one byte or more.
+    pub name: &'i [u8],
+    /// The value, without the white space around it. It may have no bytes.
+    pub value: &'i [u8],
+}
+
+/// A text without the spaces and tabs at its end.
+///
+/// ```
+/// use format_http::heads::field_line::trimmed;
+///
+/// assert_eq!(rt; trimmed(b"a b \t".as_slice()), b"a b".as_slice());
+/// ```
+pub fn trimmed<'i>(text: &'i [u8]) -> &'i [u8]
+    ensures { IsTrimmed result.now text.now }
+{
+    let mut value = text;
+    'bytes: while let Some((last, front)) = value.split_last() {
+        if *last != b' ' && *last != b'\t' {
+            return value;
+        }
+        value = front;
+    }
+    value
+}
+
+/// A value, and the white space around it.
+fn read_value<'i>(input: &mut &'i [u8]) -> Result<&'i [u8], ErrMode<EmptyError>>
+    ensures { Reads bytes_reading ⟦<ErrMode<EmptyError> as HasKind>⟧.kind ValueStands
+        (bytes_input input.old.now) result (bytes_input input.new.now) }
+{
+    let any = Range::from(0..);
+    let white = take_while(any, White);
+    let text = take_while(any, ValueBytes);
+    match preceded(white, text).read(input) {
+        Ok(text) => Ok(trimmed(text)),
+        Err(error) => Err(error),
+    }
+}
+
+/// A name and a colon.
+fn read_name<'i>(input: &mut &'i [u8]) -> Result<&'i [u8], ErrMode<EmptyError>>
+    ensures { Reads bytes_reading ⟦<ErrMode<EmptyError> as HasKind>⟧.kind NameRead
+        (bytes_input input.old.now) result (bytes_input input.new.now) }
+{
+    let name = take_while(Range::from(1..), TokenBytes);
+    terminated(name, b':').read(input)
+}
+
+/// A name and a colon, and a value behind them.
+fn read_name_and_value<'i>(
+    input: &mut &'i [u8],
+) -> Result<(&'i [u8], &'i [u8]), ErrMode<EmptyError>>
+    ensures { Reads bytes_reading ⟦<ErrMode<EmptyError> as HasKind>⟧.kind NameValue
+        (bytes_input input.old.now) result (bytes_input input.new.now) }
+{
+    match read_name(input) {
+        Ok(name) => match read_value(input) {
+            Ok(value) => Ok((name, value)),
+            Err(error) => Err(error),
+        },
+        Err(error) => Err(error),
+    }
+}
+
+/// A line end: a carriage return and a line feed.
+pub(crate) fn read_line_end<'i>(input: &mut &'i [u8]) -> Result<(), ErrMode<EmptyError>>
+    ensures { Reads bytes_reading ⟦<ErrMode<EmptyError> as HasKind>⟧.kind EndStands
+        (bytes_input input.old.now) result (bytes_input input.new.now) }
+{
+    match b"\r\n".as_slice().read(input) {
+        Ok(_) => Ok(()),
+        Err(error) => Err(error),
+    }
+}
+
+/// The field of the field line with which the bytes begin.
+///
+/// The name is a token of one byte or more. The value is of visible bytes, spaces, tabs and bytes
+/// of 128 and above; it may have no bytes. Spaces and tabs may stand before it and behind it, and
+/// are no part of it. An error that backtracks says that no field line stands there; some bytes may
+/// then have been passed.
+///
+/// ```
+/// use format_http::heads::field_line::read_field_line;
+///
+/// let mut input = b"Host: example.org \r\n\r\n".as_slice();
+/// let field = read_field_line(&mut input);
+/// assert!(rt; matches!(field, Ok(field) if field.name == b"Host".as_slice()));
+/// assert!(rt; matches!(field, Ok(field) if field.value == b"example.org".as_slice()));
+/// assert_eq!(rt; input, b"\r\n".as_slice());
+/// assert!(rt; read_field_line(&mut b"Host : example.org\r\n".as_slice()).is_err());
+/// ```
+pub fn read_field_line<'i>(input: &mut &'i [u8]) -> Result<Field<'i>, ErrMode<EmptyError>>
+    ensures { Reads bytes_reading ⟦<ErrMode<EmptyError> as HasKind>⟧.kind FieldLineStands
+        (bytes_input input.old.now) result (bytes_input input.new.now) }
+{
+    match read_name_and_value(input) {
+        Ok((name, value)) => match read_line_end(input) {
+            Ok(()) => Ok(Field { name, value }),
+            Err(error) => Err(error),
+        },
+        Err(error) => Err(error),
+    }
+}

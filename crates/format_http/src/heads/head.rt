@@ -1,0 +1,125 @@
+//! The head of a request of HTTP/1.1 (RFC 9112, section 2.1): a request line, field lines one
+//! behind the other, and an empty line.
+//!
+//! An empty line before the request line, which a server should pass over (section 2.2), is no part
+//! of it, and a line that goes on behind white space, which senders must not write, is no field
+//! line.
+#![tactic(auto)]
+
+ghost use Rattle.std.specs.Prelude.{◌≡◌, IfErr};
+ghost use Rattle.winnow.specs.Bytes.{bytes_input, bytes_reading};
+ghost use Rattle.format_http.specs.Heads.Head.{HeadStands, FieldsStand};
+ghost use Rattle.format_http.specs.Heads.HeadRead.{LinesStand};
+ghost use Rattle.winnow.specs.Exact.{Reads};
+
+use crate::heads::field_line::{Field, read_field_line, read_line_end};
+use crate::heads::request_line::{RequestLine, read_request_line};
+use std::alloc::Allocator;
+use winnow::error::{EmptyError, ErrMode, HasKind, ParserError};
+
+/// A head: its request line, and its fields in order. `A` is the allocator of their list.
+///
+/// ```
+/// use format_http::heads::head::read_head;
+///
+/// let head = read_head(alloc, &mut b"GET / HTTP/1.1\r\nA: b\r\n\r\n".as_slice());
+/// assert!(rt; matches!(head, Ok(head) if head.fields[0].value == b"b".as_slice()));
+/// ```
+#[derive(Debug, Drop)]
+pub struct Head<'i, A: Allocator> {
+    /// The request line.
+    pub line: RequestLine<'i>,
+    /// The fields, those of one name too, as they stand.
+    pub fields: Vec<Field<'i>, A>,
+}
+
+/// Field lines, as many as stand.
+fn read_field_lines<'i, A: Allocator + Copy>(
+    alloc: A,
+    input: &mut &'i [u8],
+) -> Result<Vec<Field<'i>, A>, ErrMode<EmptyError>>
+    ensures { Reads bytes_reading ⟦<ErrMode<EmptyError> as HasKind>⟧.kind LinesStand
+        (bytes_input input.old.now) result (bytes_input input.new.now) }
+{
+    let mut fields = Vec::new(alloc);
+    'lines: loop {
+        let here = *input;
+        match read_field_line(input) {
+            Ok(field) => match fields.push(field) {
+                Ok(()) => (),
+                Err(_) => return Err(ParserError::<&'i [u8]>::no_memory(input)),
+            },
+            Err(error) => {
+                if ParserError::<&'i [u8]>::is_memory(&error) {
+                    return Err(error);
+                }
+                *input = here;
+                return Ok(fields);
+            }
+        }
+    }
+}
+
+/// The fields up to the empty line, and that line.
+fn read_fields<'i, A: Allocator + Copy>(
+    alloc: A,
+    input: &mut &'i [u8],
+) -> Result<Vec<Field<'i>, A>, ErrMode<EmptyError>>
+    ensures { Reads bytes_reading ⟦<ErrMode<EmptyError> as HasKind>⟧.kind FieldsStand
+        (bytes_input input.old.now) result (bytes_input input.new.now) }
+{
+    match read_field_lines(alloc, input) {
+        Ok(fields) => match read_line_end(input) {
+            Ok(()) => return Ok(fields),
+            Err(error) => return Err(error),
+        },
+        Err(error) => return Err(error),
+    }
+}
+
+/// A request line and the fields behind it.
+fn read_parts<'i, A: Allocator + Copy>(
+    alloc: A,
+    input: &mut &'i [u8],
+) -> Result<Head<'i, A>, ErrMode<EmptyError>>
+    ensures { Reads bytes_reading ⟦<ErrMode<EmptyError> as HasKind>⟧.kind HeadStands
+        (bytes_input input.old.now) result (bytes_input input.new.now) }
+{
+    match read_request_line(input) {
+        Ok(line) => match read_fields(alloc, input) {
+            Ok(fields) => Ok(Head { line, fields }),
+            Err(error) => Err(error),
+        },
+        Err(error) => Err(error),
+    }
+}
+
+/// The head with which the bytes begin.
+///
+/// An error leaves the input as it was: it wants memory, or says that no head stands there.
+///
+/// ```
+/// use format_http::heads::head::read_head;
+///
+/// let mut input = b"GET / HTTP/1.1\r\nHost: example.org\r\n\r\nrest".as_slice();
+/// assert!(rt; matches!(read_head(alloc, &mut input), Ok(head) if head.fields.len() == 1));
+/// assert_eq!(rt; input, b"rest".as_slice());
+/// assert!(rt; read_head(alloc, &mut b"GET / HTTP/1.1\r\n".as_slice()).is_err());
+/// ```
+pub fn read_head<'i, A: Allocator + Copy>(
+    alloc: A,
+    input: &mut &'i [u8],
+) -> Result<Head<'i, A>, ErrMode<EmptyError>>
+    ensures head { Reads bytes_reading ⟦<ErrMode<EmptyError> as HasKind>⟧.kind HeadStands
+        (bytes_input input.old.now) result (bytes_input input.new.now) }
+    ensures stays { IfErr result (λ _. input.new ≡ input.old) }
+{
+    let start = *input;
+    match read_parts(alloc, input) {
+        Ok(head) => Ok(head),
+        Err(error) => {
+            *input = start;
+            Err(error)
+        }
+    }
+}

@@ -1,0 +1,92 @@
+//! The sets of bytes of which a head is made.
+#![tactic(auto)]
+
+ghost use Rattle.std.specs.Prelude.{◌↔◌, IsTrue};
+ghost use Rattle.format_http.specs.Heads.Bytes.{IsDigit, IsTokenByte, IsValueByte, IsVisible};
+ghost use Rattle.format_http.specs.Heads.Bytes.{IsWhite};
+ghost use Rattle.winnow.specs.Once.{holds_once};
+
+use winnow::stream::ContainsToken;
+
+/// The bytes of tokens, of which names and methods are made.
+#[derive(Clone, Copy, Drop)]
+pub struct TokenBytes;
+
+impl ContainsToken<u8> for TokenBytes {
+    ghost tells = { λ s b answer. IsTrue answer ↔ IsTokenByte b };
+
+    ghost once = { λ s is. holds_once IsTokenByte };
+
+    #[inline]
+    fn contains_token(&self, b: u8) -> bool {
+        b.is_ascii_digit()
+            || b.is_ascii_uppercase()
+            || (b'^' <= b && b <= b'z')
+            || b == b'!'
+            || (b'#' <= b && b <= b'\'')
+            || (b'*' <= b && b <= b'+')
+            || (b'-' <= b && b <= b'.')
+            || b == b'|'
+            || b == b'~'
+    }
+}
+
+/// The white space that may stand before a value and behind it.
+#[derive(Clone, Copy, Drop)]
+pub struct White;
+
+impl ContainsToken<u8> for White {
+    ghost tells = { λ s b answer. IsTrue answer ↔ IsWhite b };
+
+    ghost once = { λ s is. holds_once IsWhite };
+
+    #[inline]
+    fn contains_token(&self, b: u8) -> bool {
+        b == b' ' || b == b'\t'
+    }
+}
+
+/// The bytes of values.
+#[derive(Clone, Copy, Drop)]
+pub struct ValueBytes;
+
+impl ContainsToken<u8> for ValueBytes {
+    ghost tells = { λ s b answer. IsTrue answer ↔ IsValueByte b };
+
+    ghost once = { λ s is. holds_once IsValueByte };
+
+    #[inline]
+    fn contains_token(&self, b: u8) -> bool {
+        (b >= 32 && b != 127) || b == b'\t'
+    }
+}
+
+/// The visible bytes, of which targets are made.
+#[derive(Clone, Copy, Drop)]
+pub struct Visible;
+
+impl ContainsToken<u8> for Visible {
+    ghost tells = { λ s b answer. IsTrue answer ↔ IsVisible b };
+
+    ghost once = { λ s is. holds_once IsVisible };
+
+    #[inline]
+    fn contains_token(&self, b: u8) -> bool {
+        b'!' <= b && b <= b'~'
+    }
+}
+
+/// The decimal digits.
+#[derive(Clone, Copy, Drop)]
+pub struct Digits;
+
+impl ContainsToken<u8> for Digits {
+    ghost tells = { λ s b answer. IsTrue answer ↔ IsDigit b };
+
+    ghost once = { λ s is. holds_once IsDigit };
+
+    #[inline]
+    fn contains_token(&self, b: u8) -> bool {
+        b.is_ascii_digit()
+    }
+}

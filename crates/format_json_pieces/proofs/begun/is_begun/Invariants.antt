@@ -1,0 +1,15 @@
+-- The bytes that are left go on as all of them do.
+use Rattle.std.specs.Prelude.{◌≡◌, ◌↔◌, List, [], length}
+use Rattle.format_json_pieces.proofs.Opened.{kept}
+use Rattle.format_json_pieces.specs.Begun.{IsBegun}
+use Rattle.format_json_pieces.specs.declared.begun.Bracket.{Bracket}
+use Rattle.format_json_pieces.specs.declared.begun.Mode.TheVariants as modes
+use Rattle.format_json_pieces.proofs.begun.is_begun.Given as goal
+
+abbrev pub invariant-bytes : goal.invariant-bytes
+invariant-bytes g l =
+    (held : List Bracket) × (l.brackets.items ≡ kept held)
+    × (IsBegun l.level l.mode held l.left ↔ IsBegun l.level modes.Value [] l.bytes)
+
+abbrev pub decreases-bytes : goal.decreases-bytes
+decreases-bytes g l = length l.left

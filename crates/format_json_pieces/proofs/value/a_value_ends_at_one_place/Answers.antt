@@ -1,0 +1,5 @@
+use Rattle.format_json_pieces.specs.One.{value_one}
+use Rattle.format_json_pieces.proofs.value.a_value_ends_at_one_place.Goals as goal
+
+pub returns : goal.returns
+returns g c = value_one

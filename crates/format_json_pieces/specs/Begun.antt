@@ -1,0 +1,153 @@
+-- Bytes with which the text of a value may begin: what comes of each, behind those before it.
+use Rattle.std.specs.Prelude.{◌≡◌, ◌⊎◌, ◌==◌, ◌&&◌, ◌||◌, ◌<◌, if◌then◌else◌, ℕ, Bool}
+use Rattle.std.specs.Prelude.{not, List}
+use Rattle.std.specs.Prelude.{[], ◌∷◌, Option, Some, None, nat_le, length, ⊤}
+use Rattle.winnow.specs.Cut.{Asks}
+use Rattle.winnow.specs.Kind.{Kind, backtrack, memory}
+use Rattle.format_json_pieces.specs.Inside.{expected, figure_behind, goes_on, is_final}
+use Rattle.format_json_pieces.specs.Inside.{letters_behind}
+use Rattle.format_json_pieces.specs.Inside.{part_behind}
+use Rattle.format_json_pieces.specs.declared.begun.Bracket.{Bracket}
+use Rattle.format_json_pieces.specs.declared.begun.Bracket.TheVariants.{Array, Object}
+use Rattle.format_json_pieces.specs.declared.begun.Mode.{Mode}
+use Rattle.format_json_pieces.specs.declared.begun.Mode.TheVariants.{After, Colon, First, Item}
+use Rattle.format_json_pieces.specs.declared.begun.Mode.TheVariants.{Name}
+use Rattle.format_json_pieces.specs.declared.begun.Mode.TheVariants.{Number, Text, Value, Word}
+use Rattle.format_json_pieces.specs.declared.begun.Step.{Step}
+use Rattle.format_json_pieces.specs.declared.begun.Step.TheVariants.{Closes, Ended, Ends, Goes}
+use Rattle.format_json_pieces.specs.declared.begun.Step.TheVariants.{Opens}
+use Rattle.format_json_pieces.specs.declared.begun.Step.TheVariants.{Refused}
+use Rattle.format_json_pieces.specs.declared.inside.Figure.{Figure}
+use Rattle.format_json_pieces.specs.declared.inside.Figure.TheVariants.{Minus, Whole, Zero}
+use Rattle.format_json_pieces.specs.declared.inside.Inner.{Inner}
+use Rattle.format_json_pieces.specs.declared.inside.Inner.TheVariants as inners
+use Rattle.format_json_pieces.specs.declared.inside.Letters.{Letters}
+use Rattle.format_json_pieces.specs.declared.inside.Letters.TheVariants.{Alse, Rue, Ull}
+use Rattle.format_json_pieces.specs.declared.inside.Part.{Part}
+use Rattle.format_json_pieces.specs.declared.inside.Part.TheVariants.{Plain}
+
+abbrev pub is_gap : ℕ → Bool
+is_gap b = b == 32 || (b == 9 || (b == 10 || b == 13))
+
+-- where a value is to come, perhaps behind white space
+abbrev pub value_step : Mode → ℕ → Step
+value_step mode b =
+    if is_gap b then Goes mode else if b == 34 then Goes (Text Plain) else
+    if b == 91 then Opens Array else if b == 123 then Opens Object else
+    if b == 102 then Goes (Word Alse) else if b == 110 then Goes (Word Ull) else
+    if b == 116 then Goes (Word Rue) else if b == 45 then Goes (Number Minus) else
+    if b == 48 then Goes (Number Zero) else
+    if nat_le 49 b && nat_le b 57 then Goes (Number Whole) else Refused
+
+-- where a name is to come
+abbrev pub name_step : Mode → ℕ → Step
+name_step mode b =
+    if is_gap b then Goes mode else if b == 34 then Goes (Name Plain) else Refused
+
+abbrev pub item_step : Mode → Option Bracket → ℕ → Step
+item_step mode None b = value_step mode b
+item_step mode (Some Array) b = value_step mode b
+item_step mode (Some Object) b = name_step mode b
+
+-- the byte that closes the bracket
+abbrev pub closing : Bracket → ℕ
+closing Array = 93
+closing Object = 125
+
+-- behind an item
+abbrev pub after_step : Bracket → ℕ → Step
+after_step held b =
+    if is_gap b then Goes After else if b == 44 then Goes Item else
+    if b == closing held then Closes else Refused
+
+abbrev pub within_text : Inner → Step
+within_text inners.Broken = Refused
+within_text inners.Quote = Ends
+within_text (inners.Part next) = Goes (Text next)
+
+abbrev pub within_name : Inner → Step
+within_name inners.Broken = Refused
+within_name inners.Quote = Goes Colon
+within_name (inners.Part next) = Goes (Name next)
+
+abbrev pub text_step : Part → ℕ → Step
+text_step part b = within_text (part_behind part b)
+
+abbrev pub name_part_step : Part → ℕ → Step
+name_part_step part b = within_name (part_behind part b)
+
+abbrev pub behind_number : Option Bracket → ℕ → Step
+behind_number None b = Ended
+behind_number (Some held) b = after_step held b
+
+abbrev pub number_step : Option Figure → Bool → Option Bracket → ℕ → Step
+number_step (Some next) final held b = Goes (Number next)
+number_step None final held b =
+    if not final || goes_on b then Refused else behind_number held b
+
+abbrev pub figure_step : Figure → Option Bracket → ℕ → Step
+figure_step figure held b = number_step (figure_behind figure b) (is_final figure) held b
+
+abbrev pub word_step : Option Letters → Step
+word_step None = Ends
+word_step (Some next) = Goes (Word next)
+
+abbrev pub letters_step : Letters → ℕ → Step
+letters_step letters b =
+    if b == expected letters then word_step (letters_behind letters) else Refused
+
+abbrev pub first_step : Option Bracket → ℕ → Step
+first_step None b = value_step First b
+first_step (Some held) b =
+    if b == closing held then Closes else item_step First (Some held) b
+
+-- what comes of a byte, where this is to come in the bracket that was opened last
+abbrev pub next_step : Mode → Option Bracket → ℕ → Step
+next_step First held b = first_step held b
+next_step Item held b = item_step Item held b
+next_step Value held b = value_step Value b
+next_step Colon held b =
+    if is_gap b then Goes Colon else if b == 58 then Goes Value else Refused
+next_step After held b = behind_number held b
+next_step (Name part) held b = name_part_step part b
+next_step (Text part) held b = text_step part b
+next_step (Number figure) held b = figure_step figure held b
+next_step (Word letters) held b = letters_step letters b
+
+-- the bracket that was opened last
+abbrev pub last_open : List Bracket → Option Bracket
+last_open [] = None
+last_open (bracket ∷ held) = Some bracket
+
+abbrev pub others_open : List Bracket → List Bracket
+others_open [] = []
+others_open (bracket ∷ held) = held
+
+-- behind a value: nothing more is asked of bytes in no bracket
+abbrev pub IsBehind : (Mode → List Bracket → Type 0) → List Bracket → Type 0
+IsBehind on [] = ⊤
+IsBehind on (bracket ∷ held) = on After (bracket ∷ held)
+
+abbrev pub IsNextStep : (Mode → List Bracket → Type 0) → ℕ → List Bracket → Step → Type 0
+IsNextStep on level held Refused = ⊥
+IsNextStep on level held Ended = ⊤
+IsNextStep on level held (Goes mode) = on mode held
+IsNextStep on level held (Opens bracket) = (length held < level) × on First (bracket ∷ held)
+IsNextStep on level held Closes = IsBehind on (others_open held)
+IsNextStep on level held Ends = IsBehind on held
+
+-- The bytes may go on to the text of a value of the level, or have it already, where this is to
+-- come
+-- in these brackets, that which was opened last first.
+abbrev pub IsBegun : ℕ → Mode → List Bracket → List ℕ → Type 0
+IsBegun level mode held [] = ⊤
+IsBegun level mode held (b ∷ bytes) =
+    IsNextStep (λ m o. IsBegun level m o bytes) level held (next_step mode (last_open held) b)
+
+-- Why no value is answered of such bytes: memory is wanting, or more is asked for, where they may
+-- go
+-- on so, or they do not.
+abbrev pub IsLacking : ℕ → List ℕ → Kind → Type 0
+IsLacking level bytes kind =
+    (kind ≡ memory) ⊎ ((Asks kind × IsBegun level Value [] bytes)
+    ⊎ ((kind ≡ backtrack) × (IsBegun level Value [] bytes → ⊥)))

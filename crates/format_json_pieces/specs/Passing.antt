@@ -1,0 +1,270 @@
+-- The bytes of a text of a value go on as the walk over them says, and so do those that it begins
+-- with: where the walk ends, no longer bytes begin with a value.
+use Rattle.std.specs.Prelude.{◌≡◌, ◌<◌, ◌≤◌, ◌+◌, ◌==◌, ℕ, zero, suc, Bool, true, false, List}
+use Rattle.std.specs.Prelude.{[], ◌∷◌, ◌++◌, Some, length, not}
+use Rattle.std.specs.Prelude.{if◌then◌else◌}
+use Rattle.std.specs.declared.string.String.{String}
+use Rattle.std.specs.List.{All}
+use Rattle.std.specs.Str.{all_scalars, chars, encode_utf8_all}
+use Rattle.std.proofs.Common.{refl, sym, ap, subst, inl, inr, ◌∙◌, arith}
+use Rattle.std.proofs.lemmas.Bool.Decides.{nat_tests}
+use Rattle.std.proofs.lemmas.List.{append-nil}
+use Rattle.std.proofs.lemmas.List.Elements.{All-tail}
+use Rattle.std.proofs.lemmas.Str.{encode_ascii, encodes-chars, scalars-chars}
+use Rattle.winnow.specs.Accumulator.Holds.{HasCharacters}
+use Rattle.winnow.specs.AsChar.{IsMultispace}
+use Rattle.winnow.specs.Cut.{Asks}
+use Rattle.winnow.specs.Equal.{true_is_false}
+use Rattle.winnow.specs.Kind.{Kind, incomplete}
+use Rattle.winnow.specs.Grammar.{NoneStands}
+use Rattle.winnow.specs.Texts.{Begins, InFront, InList, Joined, Text, Then}
+use Rattle.winnow.specs.Texts.Fronts.{among_front, in_list_front, then_front}
+use Rattle.format_json_texts.specs.Values.{ArrayText, HasText, IsArray, IsNumber, IsObject}
+use Rattle.format_json_texts.specs.Values.{IsString, IsWord, Mark, ObjectText, ScalarText}
+use Rattle.format_json_texts.specs.Values.{ValueText}
+use Rattle.format_json_texts.specs.Words.{One, for_front, former, latter, pair}
+use Rattle.format_json_texts.specs.declared.value.Value.{Value}
+use Rattle.format_json_pieces.specs.Begun.{IsBegun, IsLacking, IsNextStep, after_step, last_open}
+use Rattle.format_json_pieces.specs.Begun.{next_step}
+use Rattle.format_json_pieces.specs.Begun.{closing}
+use Rattle.format_json_pieces.specs.Begun.{value_step}
+use Rattle.format_json_pieces.specs.Figures.{widened}
+use Rattle.format_json_pieces.specs.Spelled.{Spells, items_front, one_spells}
+use Rattle.format_json_pieces.specs.Strung.{string_spells}
+use Rattle.format_json_pieces.specs.Value.{InUtf8, IsNumeric, IsValueIn}
+use Rattle.format_json_pieces.specs.declared.begun.Bracket.{Bracket}
+use Rattle.format_json_pieces.specs.declared.begun.Bracket.TheVariants.{Array, Object}
+use Rattle.format_json_pieces.specs.declared.begun.Mode.{Mode}
+use Rattle.format_json_pieces.specs.declared.begun.Mode.TheVariants as modes
+use Rattle.format_json_pieces.specs.declared.begun.Step.{Step}
+use Rattle.format_json_pieces.specs.declared.begun.Step.TheVariants as steps
+use Rattle.format_json_pieces.specs.Stepped.{At, Behind, Next, Place, Started, begun_front}
+use Rattle.format_json_pieces.specs.Stepped.{both_ways}
+use Rattle.format_json_pieces.specs.Stepped.{gap_spells, inner, name_goes, outer, text_goes}
+use Rattle.format_json_pieces.specs.Stepped.{white_by}
+use Rattle.format_json_pieces.specs.Stepped.{words}
+
+module _ (level : ℕ) (rest : List ℕ) where
+  -- ---- items, one at a time
+
+  marked : (mode next : Mode) (held : List Bracket) (c : ℕ) → c < 128
+      → ((l : List ℕ) → At level next held l → At level mode held (c ∷ l))
+      → ((b : ℕ) → IsMultispace b → next_step next (last_open held) b ≡ steps.Goes next)
+      → InFront (Mark c) (Spells rest (At level next held)) (Spells rest (At level mode held))
+  marked mode next held c low makes goes =
+      then_front pair (one_spells rest (At level next held) (At level mode held) c low makes)
+      (gap_spells level rest next held goes)
+
+  module _ (held : List Bracket) where
+    value_gap : (b : ℕ) → IsMultispace b
+        → next_step modes.Value (last_open held) b ≡ steps.Goes modes.Value
+    value_gap = white_by (λ b. value_step modes.Value b ≡ steps.Goes modes.Value) refl refl refl
+        refl
+
+    colon_gap : (b : ℕ) → IsMultispace b
+        → next_step modes.Colon (last_open held) b ≡ steps.Goes modes.Colon
+    colon_gap = white_by
+        (λ b. next_step modes.Colon (last_open held) b ≡ steps.Goes modes.Colon) refl refl refl refl
+
+    after_gap : (k : Bracket) (b : ℕ) → IsMultispace b
+        → after_step k b ≡ steps.Goes modes.After
+    after_gap k = white_by (λ b. after_step k b ≡ steps.Goes modes.After) refl refl refl refl
+
+    first_gap : (k : Bracket) (b : ℕ) → IsMultispace b
+        → next_step modes.First (Some k) b ≡ steps.Goes modes.First
+    first_gap Array =
+        white_by (λ b. next_step modes.First (Some Array) b ≡ steps.Goes modes.First) refl refl
+        refl refl
+    first_gap Object =
+        white_by (λ b. next_step modes.First (Some Object) b ≡ steps.Goes modes.First) refl refl
+        refl refl
+
+    item_gap : (k : Bracket) (b : ℕ) → IsMultispace b
+        → next_step modes.Item (Some k) b ≡ steps.Goes modes.Item
+    item_gap Array =
+        white_by (λ b. next_step modes.Item (Some Array) b ≡ steps.Goes modes.Item) refl refl refl
+        refl
+    item_gap Object =
+        white_by (λ b. next_step modes.Item (Some Object) b ≡ steps.Goes modes.Item) refl refl
+        refl refl
+
+    -- what is closed in a bracket, first or behind an item
+    abbrev Closed : Bracket → List ℕ → Type 0
+    Closed k l = At level modes.First (k ∷ held) l × At level modes.After (k ∷ held) l
+
+    -- the first item, or one behind a comma
+    abbrev Items : Bracket → List ℕ → Type 0
+    Items k l = At level modes.First (k ∷ held) l × At level modes.Item (k ∷ held) l
+
+    closes : (k : Bracket) (l : List ℕ) → Behind level held l → Closed k (closing k ∷ l)
+    closes Array l x = (x, x)
+    closes Object l x = (x, x)
+
+    -- a value is an item of an array
+    value_item : (l : List ℕ) → Started level (Array ∷ held) l → Items Array l
+    value_item [] x = (tt, tt)
+    value_item (b ∷ l) x = (
+      (elim (both_ways (b == 93)) [
+        | inl e ↦ absurd (subst (λ s. Next level (Array ∷ held) l s) (refused e) (x modes.First))
+        | inr e ↦ (let P : Bool → Type 0 = λ v. Next level (Array ∷ held) l
+            (if v then steps.Closes else value_step modes.First b) in
+            subst P (sym e) (x modes.First))
+      ]),
+      x modes.Item,
+    )
+      where
+        refused : (b == 93) ≡ true → value_step modes.First b ≡ steps.Refused
+        refused e = grind (arith, nat_tests, e)
+
+    value_here : (l : List ℕ) → Started level (Object ∷ held) l
+        → At level modes.Value (Object ∷ held) l
+    value_here [] x = tt
+    value_here (b ∷ l) x = x modes.Value
+
+    listed : (k : Bracket) {O A : Type 0} {item : Text ℕ O} → closing k < 128
+        → InFront item (Spells rest (At level modes.After (k ∷ held))) (Spells rest (Items k))
+        → InFront (Then former (InList {A = A} (Joined (Mark 44) item)) (One (closing k)))
+        (Spells rest (Behind level held)) (Spells rest (At level modes.First (k ∷ held)))
+    listed k low front =
+        then_front former (in_list_front (items_front
+        (widened (λ cs x scalars. (x scalars).1) (λ cs x. x)
+        (marked modes.After modes.Item (k ∷ held) 44 (omega arith) (λ l x. x) (item_gap k)))
+        front (λ cs x scalars. (x scalars).1) (λ cs x scalars. (x scalars).0)
+        (λ cs x scalars. (x scalars).0)))
+        (one_spells rest (Behind level held) (Closed k) (closing k) low (closes k))
+
+  -- ---- values
+
+  module _ {A : Type 0} (holds : String A → List ℕ → Type 0) where
+    scalars : {held : List Bracket} {behind whole : List ℕ → Type 0}
+        → Place level rest held behind whole
+        → InFront (ScalarText holds) behind whole
+    scalars {held} place =
+        among_front (for_front IsWord (widened place.ends place.starts (words level rest held)))
+        (among_front (for_front IsNumber (for_front HasText place.numbers))
+        (for_front IsString (widened place.ends place.starts
+        (string_spells rest (text_goes level rest held) holds (Started level held)
+        (λ l x mode. x)))))
+
+    module _ (held : List Bracket) (few : length held < level) {value : Text ℕ (Value A)} where
+      array : InFront value (Spells rest (Behind level (Array ∷ held)))
+          (Spells rest (Started level (Array ∷ held)))
+          → InFront (ArrayText holds value) (Spells rest (Behind level held))
+          (Spells rest (Started level held))
+      array front =
+          then_front latter (then_front pair (one_spells rest (At level modes.First (Array ∷ held))
+          (Started level held) 91 (omega arith) (λ l x mode. (few, x)))
+          (gap_spells level rest modes.First (Array ∷ held) (first_gap held Array)))
+          (listed held Array (omega arith)
+          (widened (λ cs x. x) (λ cs x scalars. value_item held _ (x scalars))
+          (then_front former front
+          (gap_spells level rest modes.After (Array ∷ held) (after_gap held Array)))))
+
+      object : InFront value (Spells rest (Behind level (Object ∷ held)))
+          (Spells rest (Started level (Object ∷ held)))
+          → InFront (ObjectText holds value) (Spells rest (Behind level held))
+          (Spells rest (Started level held))
+      object front =
+          then_front latter (then_front pair (one_spells rest (At level modes.First (Object ∷ held))
+          (Started level held) 123 (omega arith) (λ l x mode. (few, x)))
+          (gap_spells level rest modes.First (Object ∷ held) (first_gap held Object)))
+          (listed held Object (omega arith)
+          (then_front pair (then_front former
+          (string_spells rest (name_goes level rest (Object ∷ held)) holds (Items held Object)
+          (λ l x. (x, x)))
+          (gap_spells level rest modes.Colon (Object ∷ held) (colon_gap (Object ∷ held))))
+          (then_front latter
+          (marked modes.Colon modes.Value (Object ∷ held) 58 (omega arith) (λ l x. x)
+          (value_gap (Object ∷ held)))
+          (widened (λ cs x. x) (λ cs x scalars. value_here held _ (x scalars))
+          (then_front former front
+          (gap_spells level rest modes.After (Object ∷ held) (after_gap held Object)))))))
+
+    value_spells : (deep : ℕ) {held : List Bracket} {behind whole : List ℕ → Type 0}
+        → length held + deep ≤ level → Place level rest held behind whole
+        → InFront (ValueText holds deep) behind whole
+    unfolding ValueText
+    value_spells zero few place = scalars place
+    value_spells (suc deep) {held} few place =
+        among_front (scalars place)
+        (among_front (for_front IsArray (widened place.ends place.starts
+        (array held (omega (arith, few))
+        (value_spells deep (omega (arith, few)) (inner level rest Array held)))))
+        (for_front IsObject (widened place.ends place.starts
+        (object held (omega (arith, few))
+        (value_spells deep (omega (arith, few)) (inner level rest Object held))))))
+
+-- ---- bytes that do not go on so
+
+module _ (level : ℕ) where
+  -- the first byte of a number is its first character
+  numeric : (cs : List ℕ) → Begins IsNumeric cs → Begins IsNumeric (encode_utf8_all cs)
+  numeric [] x = absurd x
+  numeric (c ∷ cs) x =
+      let P : List ℕ → Type 0 = λ l. Begins IsNumeric (l ++ encode_utf8_all cs) in
+      subst P (sym (encode_ascii c (grind (arith, x)))) x
+
+  started_value : (l : List ℕ) → Started level [] l → IsBegun level modes.Value [] l
+  started_value [] x = tt
+  started_value (b ∷ l) x = x modes.Value
+
+module _ {A : Type 0} (level : ℕ) where
+  value_begun : (bytes : List ℕ) (v : Value A) (rest : List ℕ) → IsValueIn level bytes v rest
+      → IsBegun level modes.Value [] bytes
+  unfolding IsValueIn InUtf8
+  value_begun bytes v rest (text, (utf8, written), e, ended) =
+      let same = encodes-chars text utf8 in
+      let cs = chars text in
+      let whole : encode_utf8_all (cs ++ []) ++ rest ≡ bytes =
+      ap (λ l. encode_utf8_all l ++ rest) (append-nil cs) ∙ ap (λ l. l ++ rest) same ∙ sym e in
+      let P : List ℕ → Type 0 = λ l. Begins IsNumeric l in
+      let Q : List ℕ → Type 0 = λ l. all_scalars l ≡ true in
+      subst (λ l. IsBegun level modes.Value [] l) whole (started_value level _
+      ((value_spells level rest HasCharacters level (omega arith) (outer level rest)).makes v cs []
+      written refl
+      (λ begins. ended (subst P same (numeric level cs (subst P (append-nil cs) begins))))
+      (subst Q (sym (append-nil cs)) (scalars-chars text utf8))))
+
+  -- where bytes do not go on so, no longer bytes begin with a value
+  pub none_begun : (bytes : List ℕ) → (IsBegun level modes.Value [] bytes → ⊥) → (more : List ℕ)
+      → NoneStands (IsValueIn {A = A} level) (bytes ++ more)
+  none_begun bytes not more v rest x =
+      not (begun_front level bytes more modes.Value [] (value_begun (bytes ++ more) v rest x))
+
+-- ---- white space before a value
+
+pub begun_gap : (level : ℕ) (gap left : List ℕ) → All IsMultispace gap
+    → IsBegun level modes.Value [] left → IsBegun level modes.Value [] (gap ++ left)
+begun_gap level [] left all x = x
+begun_gap level (b ∷ gap) left all x =
+    let P : Step → Type 0 =
+    λ s. IsNextStep (λ m o. IsBegun level m o (gap ++ left)) level [] s in
+    subst P (sym (white_by (λ c. value_step modes.Value c ≡ steps.Goes modes.Value) refl refl refl
+    refl b (all 0 b (omega arith))))
+    (begun_gap level gap left (All-tail IsMultispace b gap all) x)
+
+-- ---- what an error says that asks for more
+
+abbrev is_asking : Kind → Bool
+is_asking (incomplete need) = true
+is_asking _ = false
+
+pub asks_begun : (level : ℕ) (bytes : List ℕ) (kind : Kind) → IsLacking level bytes kind
+    → Asks kind → IsBegun level modes.Value [] bytes
+asks_begun level bytes kind (inl wants) (need, asks) =
+    absurd (true_is_false (ap is_asking (sym asks ∙ wants)))
+asks_begun level bytes kind (inr (inl (_, begun))) asks = begun
+asks_begun level bytes kind (inr (inr (backtracks, not))) (need, asks) =
+    absurd (true_is_false (ap is_asking (sym asks ∙ backtracks)))
+
+-- behind white space too
+pub asks_next : (level : ℕ) (bytes gap left : List ℕ) → bytes ≡ gap ++ left
+    → All IsMultispace gap → IsBegun level modes.Value [] left
+    → IsBegun level modes.Value [] bytes
+asks_next level bytes gap left e all x =
+    subst (λ l. IsBegun level modes.Value [] l) (sym e) (begun_gap level gap left all x)
+
+pub asks_white : (level : ℕ) (bytes gap left : List ℕ) → bytes ≡ gap ++ left
+    → All IsMultispace gap → length left ≡ 0 → IsBegun level modes.Value [] bytes
+asks_white level bytes gap [] e all none = asks_next level bytes gap [] e all tt
+asks_white level bytes gap (x ∷ left) e all none = absurd (omega (arith, none))

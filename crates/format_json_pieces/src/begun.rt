@@ -1,0 +1,270 @@
+//! Whether cut bytes may go on to the text of a value: by a walk over them, one byte at a time,
+//! with the brackets that are open.
+ghost use Rattle.format_json_pieces.specs.Begun.{IsBegun, IsLacking, after_step, figure_step};
+ghost use Rattle.format_json_pieces.specs.Begun.{item_step};
+ghost use Rattle.format_json_pieces.specs.Begun.{name_step};
+ghost use Rattle.format_json_pieces.specs.Begun.{is_gap, letters_step, name_part_step, next_step};
+ghost use Rattle.format_json_pieces.specs.Begun.{text_step};
+ghost use Rattle.format_json_pieces.specs.Begun.{value_step};
+ghost use Rattle.format_json_pieces.specs.declared.begun.Mode.TheVariants as modes;
+ghost use Rattle.std.specs.Prelude.{◌≡◌, ◌↔◌, IfOk, IsTrue, []};
+
+use crate::inside::{
+    Figure, Inner, Letters, Part, expected, figure_behind, goes_on, is_final, letters_behind,
+    part_behind,
+};
+use std::alloc::{AllocError, Allocator};
+use winnow::error::{EmptyError, ErrMode, HasKind, Needed, ParserError};
+
+/// A bracket that is open.
+#[derive(Clone, Copy, Drop)]
+pub enum Bracket {
+    /// That of an array.
+    Array,
+    /// That of an object.
+    Object,
+}
+
+/// What is to come.
+#[derive(Clone, Copy, Drop)]
+pub enum Mode {
+    /// The first item of an array or an object, or its end.
+    First,
+    /// An item: a value, or the name of a member.
+    Item,
+    /// A colon.
+    Colon,
+    /// The value of a member, or the value that is read.
+    Value,
+    /// A comma, or the end of an array or an object.
+    After,
+    /// The rest of a name.
+    Name(Part),
+    /// The rest of a string that is a value.
+    Text(Part),
+    /// The rest of a number, behind this.
+    Number(Figure),
+    /// The rest of a word.
+    Word(Letters),
+}
+
+/// What comes of a byte.
+#[derive(Clone, Copy, Drop)]
+pub enum Step {
+    /// No text of a value goes on so.
+    Refused,
+    /// The value ended before it.
+    Ended,
+    /// The value that the bytes are in goes on.
+    Goes(Mode),
+    /// It opens a bracket.
+    Opens(Bracket),
+    /// It closes the bracket that was opened last.
+    Closes,
+    /// A value with no bracket ends with it.
+    Ends,
+}
+
+/// Whether the byte is white space.
+fn is_gap(byte: u8) -> bool
+    ensures { result ≡ is_gap byte }
+{
+    byte == b' ' || byte == b'\t' || byte == b'\n' || byte == b'\r'
+}
+
+/// Where a value is to come, perhaps behind white space.
+fn value_step(mode: Mode, byte: u8) -> Step
+    ensures { result ≡ value_step mode byte }
+{
+    if is_gap(byte) {
+        Step::Goes(mode)
+    } else if byte == b'"' {
+        Step::Goes(Mode::Text(Part::Plain))
+    } else if byte == b'[' {
+        Step::Opens(Bracket::Array)
+    } else if byte == b'{' {
+        Step::Opens(Bracket::Object)
+    } else if byte == b'f' {
+        Step::Goes(Mode::Word(Letters::Alse))
+    } else if byte == b'n' {
+        Step::Goes(Mode::Word(Letters::Ull))
+    } else if byte == b't' {
+        Step::Goes(Mode::Word(Letters::Rue))
+    } else if byte == b'-' {
+        Step::Goes(Mode::Number(Figure::Minus))
+    } else if byte == b'0' {
+        Step::Goes(Mode::Number(Figure::Zero))
+    } else if b'1' <= byte && byte <= b'9' {
+        Step::Goes(Mode::Number(Figure::Whole))
+    } else {
+        Step::Refused
+    }
+}
+
+/// Where a name is to come.
+fn name_step(mode: Mode, byte: u8) -> Step
+    ensures { result ≡ name_step mode byte }
+{
+    if is_gap(byte) {
+        Step::Goes(mode)
+    } else if byte == b'"' {
+        Step::Goes(Mode::Name(Part::Plain))
+    } else {
+        Step::Refused
+    }
+}
+
+/// Where an item is to come.
+fn item_step(mode: Mode, held: Option<Bracket>, byte: u8) -> Step
+    ensures { result ≡ item_step mode held byte }
+{
+    match held {
+        Some(Bracket::Object) => name_step(mode, byte),
+        _ => value_step(mode, byte),
+    }
+}
+
+/// Behind an item.
+fn after_step(held: Bracket, byte: u8) -> Step
+    ensures { result ≡ after_step held byte }
+{
+    if is_gap(byte) {
+        return Step::Goes(Mode::After);
+    }
+    if byte == b',' {
+        return Step::Goes(Mode::Item);
+    }
+    match held {
+        Bracket::Array if byte == b']' => Step::Closes,
+        Bracket::Object if byte == b'}' => Step::Closes,
+        _ => Step::Refused,
+    }
+}
+
+/// In a string that is a value.
+fn text_step(part: Part, byte: u8) -> Step
+    ensures { result ≡ text_step part byte }
+{
+    match part_behind(part, byte) {
+        Inner::Broken => Step::Refused,
+        Inner::Quote => Step::Ends,
+        Inner::Part(next) => Step::Goes(Mode::Text(next)),
+    }
+}
+
+/// In a name.
+fn name_part_step(part: Part, byte: u8) -> Step
+    ensures { result ≡ name_part_step part byte }
+{
+    match part_behind(part, byte) {
+        Inner::Broken => Step::Refused,
+        Inner::Quote => Step::Goes(Mode::Colon),
+        Inner::Part(next) => Step::Goes(Mode::Name(next)),
+    }
+}
+
+/// In a number.
+fn figure_step(figure: Figure, held: Option<Bracket>, byte: u8) -> Step
+    ensures { result ≡ figure_step figure held byte }
+{
+    if let Some(next) = figure_behind(figure, byte) {
+        return Step::Goes(Mode::Number(next));
+    }
+    if !is_final(figure) || goes_on(byte) {
+        return Step::Refused;
+    }
+    match held {
+        Some(bracket) => after_step(bracket, byte),
+        None => Step::Ended,
+    }
+}
+
+/// In a word.
+fn letters_step(letters: Letters, byte: u8) -> Step
+    ensures { result ≡ letters_step letters byte }
+{
+    if byte != expected(letters) {
+        return Step::Refused;
+    }
+    match letters_behind(letters) {
+        Some(next) => Step::Goes(Mode::Word(next)),
+        None => Step::Ends,
+    }
+}
+
+/// What comes of a byte, where this is to come in the bracket that was opened last.
+fn next_step(mode: Mode, held: Option<Bracket>, byte: u8) -> Step
+    ensures { result ≡ next_step mode held byte }
+{
+    match mode {
+        Mode::First => match held {
+            Some(Bracket::Array) if byte == b']' => Step::Closes,
+            Some(Bracket::Object) if byte == b'}' => Step::Closes,
+            _ => item_step(Mode::First, held, byte),
+        },
+        Mode::Item => item_step(Mode::Item, held, byte),
+        Mode::Value => value_step(Mode::Value, byte),
+        Mode::Colon if is_gap(byte) => Step::Goes(Mode::Colon),
+        Mode::Colon if byte == b':' => Step::Goes(Mode::Value),
+        Mode::Colon => Step::Refused,
+        Mode::After => match held {
+            Some(bracket) => after_step(bracket, byte),
+            None => Step::Ended,
+        },
+        Mode::Name(part) => name_part_step(part, byte),
+        Mode::Text(part) => text_step(part, byte),
+        Mode::Number(figure) => figure_step(figure, held, byte),
+        Mode::Word(letters) => letters_step(letters, byte),
+    }
+}
+
+/// Whether the bytes may go on to the text of a value, in which no more than so many arrays and
+/// objects stand in one another, or have one already.
+pub fn is_begun<A: Allocator>(alloc: A, level: usize, bytes: &[u8]) -> Result<bool, AllocError>
+    ensures { IfOk result (λ begun. IsTrue begun ↔ IsBegun level modes.Value [] bytes.now) }
+{
+    let mut brackets: Vec<Bracket, A> = Vec::new(alloc);
+    let mut mode = Mode::Value;
+    let mut left = bytes;
+    'bytes: while let Some((first, more)) = left.split_first() {
+        match next_step(mode, brackets.last().copied(), *first) {
+            Step::Refused => return Ok(false),
+            Step::Ended => return Ok(true),
+            Step::Goes(next) => mode = next,
+            Step::Opens(bracket) => {
+                if brackets.len() >= level {
+                    return Ok(false);
+                }
+                brackets.push(bracket)?;
+                mode = Mode::First;
+            }
+            Step::Closes => {
+                let _ = brackets.pop();
+                if brackets.is_empty() {
+                    return Ok(true);
+                }
+                mode = Mode::After;
+            }
+            Step::Ends => {
+                if brackets.is_empty() {
+                    return Ok(true);
+                }
+                mode = Mode::After;
+            }
+        }
+        left = more;
+    }
+    Ok(true)
+}
+
+/// The error where the text of a value lacks bytes behind these, to which more may come: it asks
+/// for them where the bytes may go on to such a text, and else backtracks; or memory is wanting.
+pub fn lacking<A: Allocator>(alloc: A, level: usize, bytes: &[u8]) -> ErrMode<EmptyError>
+    ensures { IsLacking level bytes.now (⟦<ErrMode<EmptyError> as HasKind>⟧.kind result) }
+{
+    match is_begun(alloc, level, bytes) {
+        Ok(true) => ErrMode::Incomplete(Needed::Unknown),
+        Ok(false) => ErrMode::from_input(&bytes),
+        Err(_) => ParserError::<&[u8]>::no_memory(&bytes),
+    }
+}

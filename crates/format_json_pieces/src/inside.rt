@@ -1,0 +1,314 @@
+//! How the bytes inside of a string, of a number and of a word go on.
+ghost use Rattle.format_json_pieces.specs.Inside.{escape_behind, expected, figure_behind, goes_on};
+ghost use Rattle.format_json_pieces.specs.Inside.{is_final};
+ghost use Rattle.format_json_pieces.specs.Inside.{is_hex, is_high, is_low, is_short, lead_behind};
+ghost use Rattle.format_json_pieces.specs.Inside.{letters_behind, part_behind, part_where};
+ghost use Rattle.format_json_pieces.specs.Inside.{plain_behind};
+ghost use Rattle.format_json_pieces.specs.Inside.{tail_behind};
+ghost use Rattle.std.specs.Prelude.{◌≡◌};
+
+/// What is to come in a string.
+#[derive(Clone, Copy, Drop)]
+pub enum Part {
+    /// Any character, or the last quote.
+    Plain,
+    /// What a backslash escapes.
+    Escape,
+    /// The first of four hexadecimal digits.
+    Unit,
+    /// The second, where the first is a D: the unit may be a surrogate.
+    BehindD,
+    /// Three digits more.
+    Three,
+    /// Two digits more.
+    Two,
+    /// One digit more.
+    One,
+    /// Two digits more of the first surrogate of a pair.
+    HighTwo,
+    /// One digit more of it.
+    HighOne,
+    /// The backslash before the second surrogate.
+    Backslash,
+    /// The u behind it.
+    LetterU,
+    /// The first digit of it, a D.
+    LowD,
+    /// The second digit, C to F.
+    LowSecond,
+    /// One byte more of a character.
+    TailOne,
+    /// Two bytes more.
+    TailTwo,
+    /// Three bytes more.
+    TailThree,
+    /// Two bytes more, of which the first makes the number no smaller than what two bytes spell.
+    TailLong,
+    /// Two bytes more, of which the first makes the number no surrogate.
+    TailScalar,
+    /// Three bytes more, of which the first makes the number no smaller than what three spell.
+    TailLonger,
+    /// Three bytes more, of which the first makes the number no larger than a character is.
+    TailLast,
+}
+
+/// What comes of a byte of a string.
+#[derive(Clone, Copy, Drop)]
+pub enum Inner {
+    /// No string has it there.
+    Broken,
+    /// It is the last quote.
+    Quote,
+    /// The string goes on.
+    Part(Part),
+}
+
+/// Whether the byte is a hexadecimal digit.
+fn is_hex(byte: u8) -> bool
+    ensures { result ≡ is_hex byte }
+{
+    (b'0' <= byte && byte <= b'9')
+        || (b'A' <= byte && byte <= b'F')
+        || (b'a' <= byte && byte <= b'f')
+}
+
+/// Whether the byte is the second digit of the first surrogate of a pair: 8, 9, A or B.
+fn is_high(byte: u8) -> bool
+    ensures { result ≡ is_high byte }
+{
+    byte == b'8' || byte == b'9' || byte == b'A' || byte == b'B' || byte == b'a' || byte == b'b'
+}
+
+/// Whether the byte is the second digit of the second surrogate of a pair: C, D, E or F.
+fn is_low(byte: u8) -> bool
+    ensures { result ≡ is_low byte }
+{
+    (b'C' <= byte && byte <= b'F') || (b'c' <= byte && byte <= b'f')
+}
+
+/// Whether a backslash and the byte stand for a character.
+fn is_short(byte: u8) -> bool
+    ensures { result ≡ is_short byte }
+{
+    byte == b'"'
+        || byte == b'\\'
+        || byte == b'/'
+        || byte == b'b'
+        || byte == b'f'
+        || byte == b'n'
+        || byte == b'r'
+        || byte == b't'
+}
+
+/// What is to come behind the first byte of a character above ASCII.
+fn lead_behind(byte: u8) -> Inner
+    ensures { result ≡ lead_behind byte }
+{
+    if byte < 194 {
+        Inner::Broken
+    } else if byte < 224 {
+        Inner::Part(Part::TailOne)
+    } else if byte == 224 {
+        Inner::Part(Part::TailLong)
+    } else if byte == 237 {
+        Inner::Part(Part::TailScalar)
+    } else if byte < 240 {
+        Inner::Part(Part::TailTwo)
+    } else if byte == 240 {
+        Inner::Part(Part::TailLonger)
+    } else if byte < 244 {
+        Inner::Part(Part::TailThree)
+    } else if byte == 244 {
+        Inner::Part(Part::TailLast)
+    } else {
+        Inner::Broken
+    }
+}
+
+/// This part where the test holds.
+fn part_where(test: bool, part: Part) -> Inner
+    ensures { result ≡ part_where test part }
+{
+    if test {
+        Inner::Part(part)
+    } else {
+        Inner::Broken
+    }
+}
+
+/// What comes of a byte where any character may stand.
+fn plain_behind(byte: u8) -> Inner
+    ensures { result ≡ plain_behind byte }
+{
+    if byte == b'"' {
+        Inner::Quote
+    } else if byte == b'\\' {
+        Inner::Part(Part::Escape)
+    } else if byte < 32 {
+        Inner::Broken
+    } else if byte < 128 {
+        Inner::Part(Part::Plain)
+    } else {
+        lead_behind(byte)
+    }
+}
+
+/// What comes of a byte behind a backslash.
+fn escape_behind(byte: u8) -> Inner
+    ensures { result ≡ escape_behind byte }
+{
+    if byte == b'u' {
+        Inner::Part(Part::Unit)
+    } else {
+        part_where(is_short(byte), Part::Plain)
+    }
+}
+
+/// What comes of a byte in a character above ASCII.
+fn tail_behind(part: Part, byte: u8) -> Inner
+    ensures { result ≡ tail_behind part byte }
+{
+    match part {
+        Part::TailOne => part_where(128 <= byte && byte < 192, Part::Plain),
+        Part::TailTwo => part_where(128 <= byte && byte < 192, Part::TailOne),
+        Part::TailThree => part_where(128 <= byte && byte < 192, Part::TailTwo),
+        Part::TailLong => part_where(160 <= byte && byte < 192, Part::TailOne),
+        Part::TailScalar => part_where(128 <= byte && byte < 160, Part::TailOne),
+        Part::TailLonger => part_where(144 <= byte && byte < 192, Part::TailTwo),
+        Part::TailLast => part_where(128 <= byte && byte < 144, Part::TailTwo),
+        _ => Inner::Broken,
+    }
+}
+
+/// What comes of a byte of a string.
+pub fn part_behind(part: Part, byte: u8) -> Inner
+    ensures { result ≡ part_behind part byte }
+{
+    match part {
+        Part::Plain => plain_behind(byte),
+        Part::Escape => escape_behind(byte),
+        Part::Unit if byte == b'D' || byte == b'd' => Inner::Part(Part::BehindD),
+        Part::Unit => part_where(is_hex(byte), Part::Three),
+        Part::BehindD if is_high(byte) => Inner::Part(Part::HighTwo),
+        Part::BehindD => part_where(is_hex(byte) && !is_low(byte), Part::Two),
+        Part::Three => part_where(is_hex(byte), Part::Two),
+        Part::Two => part_where(is_hex(byte), Part::One),
+        Part::One => part_where(is_hex(byte), Part::Plain),
+        Part::HighTwo => part_where(is_hex(byte), Part::HighOne),
+        Part::HighOne => part_where(is_hex(byte), Part::Backslash),
+        Part::Backslash => part_where(byte == b'\\', Part::LetterU),
+        Part::LetterU => part_where(byte == b'u', Part::LowD),
+        Part::LowD => part_where(byte == b'D' || byte == b'd', Part::LowSecond),
+        Part::LowSecond => part_where(is_low(byte), Part::Two),
+        _ => tail_behind(part, byte),
+    }
+}
+
+/// What of a number stands there.
+#[derive(Clone, Copy, Drop)]
+pub enum Figure {
+    /// A minus.
+    Minus,
+    /// A zero before the point.
+    Zero,
+    /// Digits before the point, with no zero first.
+    Whole,
+    /// A point.
+    Point,
+    /// Digits behind the point.
+    Fraction,
+    /// An E.
+    Exponent,
+    /// The sign of an exponent.
+    Sign,
+    /// The digits of an exponent.
+    Power,
+}
+
+/// Whether a number may end there.
+pub fn is_final(figure: Figure) -> bool
+    ensures { result ≡ is_final figure }
+{
+    match figure {
+        Figure::Zero | Figure::Whole | Figure::Fraction | Figure::Power => true,
+        _ => false,
+    }
+}
+
+/// Whether a number may go on with the byte: a digit, a point or an E.
+pub fn goes_on(byte: u8) -> bool
+    ensures { result ≡ goes_on byte }
+{
+    (b'0' <= byte && byte <= b'9') || byte == b'.' || byte == b'E' || byte == b'e'
+}
+
+/// What a number comes to by a byte more; none where it does not go on.
+pub fn figure_behind(figure: Figure, byte: u8) -> Option<Figure>
+    ensures { result ≡ figure_behind figure byte }
+{
+    let digit = b'0' <= byte && byte <= b'9';
+    let e = byte == b'E' || byte == b'e';
+    match figure {
+        Figure::Minus if byte == b'0' => Some(Figure::Zero),
+        Figure::Minus if digit => Some(Figure::Whole),
+        Figure::Whole if digit => Some(Figure::Whole),
+        Figure::Zero | Figure::Whole if byte == b'.' => Some(Figure::Point),
+        Figure::Point | Figure::Fraction if digit => Some(Figure::Fraction),
+        Figure::Zero | Figure::Whole | Figure::Fraction if e => Some(Figure::Exponent),
+        Figure::Exponent if byte == b'+' || byte == b'-' => Some(Figure::Sign),
+        Figure::Exponent | Figure::Sign | Figure::Power if digit => Some(Figure::Power),
+        _ => None,
+    }
+}
+
+/// Which letters of a word are to come.
+#[derive(Clone, Copy, Drop)]
+pub enum Letters {
+    /// Those of `null` behind the first.
+    Ull,
+    /// The last two of it.
+    Ll,
+    /// The last.
+    L,
+    /// Those of `true` behind the first.
+    Rue,
+    /// The last two of it.
+    Ue,
+    /// The last, of `false` too.
+    E,
+    /// Those of `false` behind the first.
+    Alse,
+    /// The last three of it.
+    Lse,
+    /// The last two.
+    Se,
+}
+
+/// The first of these letters.
+pub fn expected(letters: Letters) -> u8
+    ensures { result ≡ expected letters }
+{
+    match letters {
+        Letters::Ull | Letters::Ue => b'u',
+        Letters::Ll | Letters::L | Letters::Lse => b'l',
+        Letters::Rue => b'r',
+        Letters::E => b'e',
+        Letters::Alse => b'a',
+        Letters::Se => b's',
+    }
+}
+
+/// The letters behind the first of these.
+pub fn letters_behind(letters: Letters) -> Option<Letters>
+    ensures { result ≡ letters_behind letters }
+{
+    match letters {
+        Letters::Ull => Some(Letters::Ll),
+        Letters::Ll => Some(Letters::L),
+        Letters::L | Letters::E => None,
+        Letters::Rue => Some(Letters::Ue),
+        Letters::Ue | Letters::Se => Some(Letters::E),
+        Letters::Alse => Some(Letters::Lse),
+        Letters::Lse => Some(Letters::Se),
+    }
+}

@@ -1,0 +1,8 @@
+use Rattle.winnow.specs.Read.{reads_by}
+use Rattle.format_json_scalars.proofs.parts.read_units_of.Goals as goal
+
+pub returns : goal.returns
+returns g c = reads_by c.read.ensures.reads (rw (
+  c.preceded.ensures.ignored,
+  c.preceded.ensures.parser,
+))

@@ -1,0 +1,12 @@
+use Rattle.std.proofs.Common.{refl}
+use Rattle.format_json_texts.specs.Strings.{string_of}
+use Rattle.winnow.specs.Read.{reads_by}
+use Rattle.winnow.specs.Accumulator.Holds.{HasCharacters}
+use Rattle.winnow.specs.Told.{text_told}
+use Rattle.format_json_scalars.proofs.string.read_string.Goals as goal
+
+pub returns-clause-grammar : goal.returns-clause-grammar
+returns-clause-grammar g c = reads_by c.read_between.ensures refl
+
+pub returns-clause-text : goal.returns-clause-text
+returns-clause-text g c = text_told (string_of HasCharacters) (returns-clause-grammar g c)

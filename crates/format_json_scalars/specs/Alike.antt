@@ -1,0 +1,104 @@
+-- What parsers read, in the words of JSON.
+use Rattle.std.specs.Prelude.{◌≡◌, ◌↔◌, ◌≤◌, ◌++◌, ℕ, Bool, true, IsTrue, Result}
+use Rattle.std.specs.Prelude.{Ok, Err, Some, None, IfOk, MatchResult, string_bytes}
+use Rattle.std.specs.declared.string.String.{String}
+use Rattle.std.specs.Range.{range_inclusive_end, range_inclusive_start}
+use Rattle.std.specs.Str.{chars, encode_utf8_all}
+use Rattle.std.specs.declared.ops.RangeInclusive.{RangeInclusive}
+use Rattle.std.proofs.Common.{refl, sym, ap, ◌∙◌, arith}
+use Rattle.winnow.specs.Equal.{none_is_some, same_some}
+use Rattle.winnow.specs.Input.{Input, IsEndOf}
+use Rattle.winnow.specs.Kind.{Kind, memory}
+use Rattle.winnow.specs.Reading.{Reading}
+use Rattle.winnow.specs.Text.{text_reading}
+use Rattle.winnow.specs.Growth.{grown}
+use Rattle.winnow.specs.AsChar.{IsDecDigit}
+use Rattle.winnow.specs.Sets.{EitherTells}
+use Rattle.format_json_texts.specs.Number.{Slice}
+use Rattle.format_json_texts.specs.Values.{HasText}
+use Rattle.format_json_texts.specs.Words.{OneIn, Word}
+use Rattle.winnow.specs.Exact.{Reads}
+use Rattle.winnow.specs.Read.{err_as, ok_as, reads_meaning, reads_wanting}
+use Rattle.winnow.specs.Grammar.Same.{Same, same_refl}
+use Rattle.winnow.specs.Grammar.{Both, Either, Grammar, Literally, Made, Taken, TokenOf}
+use Rattle.winnow.specs.Grammar.Tuples.{Four}
+use Rattle.winnow.specs.Grammar.Meaning.{Meaning}
+
+-- a character of a set, where the set is a class
+pub class_same : {X : Type 0} (tells : X → ℕ → Bool → Type 0) (set : X) (class : ℕ → Type 0)
+    → ((c : ℕ) → tells set c true ↔ class c)
+    → Same (TokenOf (λ c. c) tells set) (OneIn class)
+unfolding TokenOf
+class_same tells set class is = record {
+  there = λ tokens c rest (told, e). ((λ t. (is c).0 told, λ x. refl), e);
+  back = λ tokens c rest (told, e). ((is c).1 (told.0 refl), e);
+}
+
+-- what a range of characters tells
+abbrev pub RangeTells : RangeInclusive ℕ → ℕ → Bool → Type 0
+RangeTells set c b =
+    IsTrue b ↔ ((range_inclusive_start set ≤ c) × (c ≤ range_inclusive_end set))
+
+module _ (set : RangeInclusive ℕ) (low high : ℕ) (start : range_inclusive_start set ≡ low)
+    (end : range_inclusive_end set ≡ high) (c : ℕ) where
+  pub range_told : RangeTells set c true ↔ ((low ≤ c) × (c ≤ high))
+  range_told = (
+    λ (there, back). let it = there refl in omega (arith, it, start, end),
+    λ is. (λ t. omega (arith, is, start, end), λ x. refl),
+  )
+
+-- what three of them tell
+abbrev pub RangesTell : RangeInclusive ℕ × RangeInclusive ℕ × RangeInclusive ℕ → ℕ → Bool → Type 0
+RangesTell s = EitherTells (RangeTells s.0) (EitherTells (RangeTells s.1) (RangeTells s.2))
+
+-- the characters of what stands by grammars that are the same
+pub taken_same : {O : Type 0} {g h : Grammar ℕ O} → Same g h
+    → Same (Taken text_reading g) (Taken text_reading h)
+unfolding Taken
+taken_same same = record {
+  there = λ tokens slice rest (o, x, shown). (o, same.there tokens o rest x, shown);
+  back = λ tokens slice rest (o, x, shown). (o, same.back tokens o rest x, shown);
+}
+
+-- the second of four by a grammar that is the same
+pub four_second : {O1 O2 O3 O4 : Type 0} (g1 : Grammar ℕ O1) {g2 h2 : Grammar ℕ O2}
+    (g3 : Grammar ℕ O3) (g4 : Grammar ℕ O4) → Same g2 h2
+    → Same (Four g1 g2 g3 g4) (Four g1 h2 g3 g4)
+unfolding Four
+four_second g1 g3 g4 same = record {
+  there = λ tokens o rest (o1, o2, o3, o4, a, b, c, x1, x2, x3, x4, is).
+      (o1, o2, o3, o4, a, b, c, x1, same.there a o2 b x2, x3, x4, is);
+  back = λ tokens o rest (o1, o2, o3, o4, a, b, c, x1, x2, x3, x4, is).
+      (o1, o2, o3, o4, a, b, c, x1, same.back a o2 b x2, x3, x4, is);
+}
+
+-- a text that is read
+abbrev pub Spelling : Slice → Grammar ℕ Slice
+Spelling = Literally text_reading (λ s xs. xs ≡ chars s.now) (λ _ slice. slice)
+
+module _ {O E : Type 0} (word : Slice) (value : O) {kind : E → Kind} {i j : Input ℕ} where
+  pub spelled : {slice : Slice} → Reads text_reading kind (Spelling word) i (Ok slice) j
+      → Reads text_reading kind (Word (chars word.now) value) i (Ok value) j
+  unfolding Literally Word
+  spelled {slice} r = ok_as r (λ tokens rest (front, shows, is, shown, e, same).
+      (refl, e ∙ ap (λ l. l ++ rest) is))
+
+  pub spelled_none : {e : E} → Reads text_reading kind (Spelling word) i (Err e) j
+      → Reads text_reading kind (Word (chars word.now) value) i (Err e) j
+  unfolding Literally Word
+  spelled_none r = err_as r (λ tokens o rest (is, e).
+      let slice : Slice = record { ref_ptr = (0, 0); now = encode_utf8_all (chars word.now) } in
+      (slice, (chars word.now, slice, refl, refl, e, refl)))
+
+-- a text that is kept in a string of its own, or memory is wanted
+pub kept_text : {A X E : Type 0} {kind : E → Kind} {g : Grammar ℕ Slice} {slice : Slice}
+    {i j : Input ℕ} (made : Result (String A) X) (r : Result (String A) E)
+    → IfOk made (λ text. string_bytes text ≡ slice.now)
+    → MatchResult r (λ text. grown made ≡ Some text) (λ e. (grown made ≡ None) × (kind e ≡ memory))
+    → Reads text_reading kind g i (Ok slice) j
+    → Reads text_reading kind (Meaning HasText g) i r j
+unfolding Made
+kept_text made (Err e) has (refused, m) r = reads_wanting m r.ends
+kept_text (Err x) (Ok text) has kept r = none_is_some kept
+kept_text (Ok all) (Ok text) has kept r =
+    reads_meaning HasText r (ap string_bytes (sym (same_some kept)) ∙ has)

@@ -1,0 +1,87 @@
+-- The parts of numbers: what they read, and that it is one, and takes characters.
+use Rattle.std.specs.Prelude.{ℕ, ◌↔◌}
+use Rattle.std.proofs.Common.{inl, inr, refl}
+use Rattle.winnow.specs.Text.{text_reading}
+use Rattle.winnow.specs.AsChar.{IsDecDigit}
+use Rattle.format_json_scalars.specs.Alike.{class_same, four_second, taken_same}
+use Rattle.format_json_scalars.specs.Unique.{char_takes, char_unique, run_unique}
+use Rattle.format_json_scalars.specs.declared.number.LeadingDigits.{LeadingDigits}
+use Rattle.format_json_texts.specs.Number as texts
+use Rattle.format_json_texts.specs.Number.{IsLeading}
+use Rattle.format_json_texts.specs.Words.{Char, RunOf, latter, pair}
+use Rattle.winnow.specs.Exact.Adapters.{taken_takes}
+use Rattle.winnow.specs.OneOf.Laws.{token_of_takes}
+use Rattle.winnow.specs.Grammar.{Both, Class, Either, Grammar, InClass, IsUnique, Maybe}
+use Rattle.winnow.specs.Grammar.{Taken, Takes, TokenOf}
+use Rattle.winnow.specs.Grammar.Alike.{both_same, either_same}
+use Rattle.winnow.specs.Grammar.Same.{Same, same_refl}
+use Rattle.winnow.specs.Grammar.Tuples.{Four}
+use Rattle.winnow.specs.Reading.{Reading}
+use Rattle.winnow.specs.Grammar.Sequences.{four_take, four_unique}
+use Rattle.winnow.specs.Grammar.Unique.{both_take, both_unique, either_takes, either_unique}
+use Rattle.winnow.specs.Grammar.Unique.{maybe_unique, taken_unique, token_of_unique}
+
+pub integer_unique : IsUnique texts.Integer
+integer_unique =
+    either_unique (taken_unique text_reading (char_unique 48))
+    (taken_unique text_reading (both_unique pair
+    (token_of_unique (λ c. c) (InClass IsLeading (λ c. c)) tt) (run_unique IsDecDigit 0)))
+
+pub fraction_unique : IsUnique texts.Fraction
+fraction_unique = both_unique latter (char_unique 46) (run_unique IsDecDigit 1)
+
+pub exponent_unique : IsUnique texts.Exponent
+exponent_unique =
+    both_unique latter
+    (both_unique pair (either_unique (char_unique 101) (char_unique 69))
+    (maybe_unique (either_unique (char_unique 43) (char_unique 45)))) (run_unique IsDecDigit 1)
+
+pub number_unique : IsUnique texts.Number
+number_unique =
+    taken_unique text_reading (four_unique (maybe_unique (char_unique 45)) integer_unique
+    (maybe_unique fraction_unique) (maybe_unique exponent_unique))
+
+pub integer_takes : Takes texts.Integer
+integer_takes =
+    either_takes (taken_takes text_reading (char_takes 48))
+    (taken_takes text_reading (both_take pair
+    (token_of_unique (λ c. c) (InClass IsLeading (λ c. c)) tt) (run_unique IsDecDigit 0)
+    (inl (token_of_takes (λ c. c) (InClass IsLeading (λ c. c)) tt))))
+
+pub number_takes : Takes texts.Number
+number_takes =
+    taken_takes text_reading (four_take (maybe_unique (char_unique 45)) integer_unique
+    (maybe_unique fraction_unique) (maybe_unique exponent_unique) (inr (inl integer_takes)))
+
+-- ---- over any stream of characters
+
+module _ {K T L : Type 0} (reading : Reading T L) (seen : K → T) (code : K → ℕ)
+    (literal : ℕ → Grammar T ℕ) where
+  abbrev DigitsOf : ℕ → Grammar T L
+  DigitsOf least = Class IsDecDigit least code seen reading
+
+  -- a digit from 1 on
+  abbrev LeadingOf : Grammar T K
+  LeadingOf = TokenOf seen (λ (set : LeadingDigits). InClass IsLeading code tt) (record {})
+
+  abbrev IntegerOf : Grammar T L
+  IntegerOf = Either (Taken reading (literal 48)) (Taken reading (Both pair LeadingOf (DigitsOf 0)))
+
+  abbrev FractionOf : Grammar T L
+  FractionOf = Both latter (literal 46) (DigitsOf 1)
+
+  abbrev ExponentOf : Grammar T L
+  ExponentOf = Both latter (Both pair (Either (literal 101) (literal 69))
+      (Maybe (Either (literal 43) (literal 45)))) (DigitsOf 1)
+
+  -- a minus if it stands there, digits, and a fraction and an exponent if they do
+  abbrev pub NumberOf : Grammar T L
+  NumberOf = Taken reading
+      (Four (Maybe (literal 45)) IntegerOf (Maybe FractionOf) (Maybe ExponentOf))
+
+-- over a text it is a number
+pub number_same : Same (NumberOf text_reading (λ c. c) (λ c. c) Char) texts.Number
+number_same =
+    taken_same (four_second _ _ _ (either_same (same_refl _) (taken_same (both_same pair
+    (class_same (λ (set : LeadingDigits). InClass IsLeading (λ c. c) tt) (record {}) IsLeading
+    (λ c. (λ told. told.0 refl, λ is. (λ t. is, λ x. refl)))) (same_refl _)))))

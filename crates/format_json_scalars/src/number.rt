@@ -1,0 +1,81 @@
+//! Numbers of JSON (RFC 8259, section 6).
+ghost use Rattle.format_json_scalars.specs.Numbers.{NumberOf};
+ghost use Rattle.format_json_texts.specs.Number.{GoesOn, IsLeading, Number, NumberText};
+ghost use Rattle.std.specs.Prelude.{◌≡◌};
+ghost use Rattle.winnow.specs.Exact.{IsSpared, Reads};
+ghost use Rattle.winnow.specs.Grammar.{InClass, Literally};
+ghost use Rattle.winnow.specs.Once.{SeesApart, holds_once};
+ghost use Rattle.winnow.specs.Text.{text_input, text_reading};
+ghost use Rattle.winnow.specs.Texts.{NotFirst};
+ghost use Rattle.winnow.specs.Told.{ReadsText};
+
+use winnow::Parser;
+use winnow::ascii::impls::{Digit0, Digit1};
+use winnow::combinator::{alt, opt, preceded};
+use winnow::error::{EmptyError, ErrMode, HasKind, ParserError};
+use winnow::stream::{AsChar, Compare, ContainsToken, StreamIsPartial};
+use winnow::token::one_of;
+
+/// The digits from 1 on.
+#[derive(Clone, Copy, Drop)]
+pub struct LeadingDigits;
+
+impl<T: AsChar> ContainsToken<T> for LeadingDigits {
+    ghost tells = { λ s. InClass IsLeading T.code tt };
+
+    ghost once = { λ s is. holds_once (λ t. IsLeading (T.code t)) };
+
+    #[inline(always)]
+    fn contains_token(&self, token: T) -> bool {
+        let c = token.as_char();
+        '1' <= c && c <= '9'
+    }
+}
+
+/// The longest number that stands first, as it is written, over any stream of characters.
+///
+/// ```
+/// use format_json_scalars::number::number;
+///
+/// let mut cut = Partial::new("12.");
+/// let asks: Result<&str, ErrMode<EmptyError>> = number(&mut cut);
+/// assert_eq!(rt; asks, Err(ErrMode::Incomplete(Needed::new(1))));
+/// ```
+pub fn number<I, E>(input: &mut I) -> Result<I::Slice, E>
+where
+    I: StreamIsPartial + Compare<char>,
+    I::Token: AsChar + Copy,
+    E: ParserError<I>,
+    requires seen { SeesApart I.seen_as }
+    ensures reads { Reads I.reading E.kind (NumberOf I.reading I.seen_as I.Token.code
+        (Literally I.reading I.spells (λ s _. s))) (I.view input.old) result (I.view input.new) }
+    ensures spared { IsSpared E.kind (I.view input.old) result }
+{
+    let whole = alt(('0'.take(), (one_of(LeadingDigits), Digit0).take()));
+    let fraction = preceded('.', Digit1);
+    let exponent = preceded((alt(('e', 'E')), opt(alt(('+', '-')))), Digit1);
+    (opt('-'), whole, opt(fraction), opt(exponent))
+        .take()
+        .read(input)
+}
+
+/// The longest number that stands first, as it is written.
+///
+/// ```
+/// use format_json_scalars::number::read_number;
+///
+/// let mut input = "-12.5e+3, 0";
+/// assert_eq!(rt; read_number(&mut input), Ok("-12.5e+3"));
+/// assert_eq!(rt; input, ", 0");
+/// assert!(rt; read_number(&mut "+1").is_err());
+/// ```
+pub fn read_number<'i>(input: &mut &'i str) -> Result<&'i str, ErrMode<EmptyError>>
+    ensures grammar { Reads text_reading ⟦<ErrMode<EmptyError> as HasKind>⟧.kind Number
+        (text_input input.old.now) result (text_input input.new.now) }
+    ensures text { ReadsText text_reading ⟦<ErrMode<EmptyError> as HasKind>⟧.kind NumberText
+        (NotFirst GoesOn) (text_input input.old.now) result (text_input input.new.now) }
+    ensures spared { IsSpared ⟦<ErrMode<EmptyError> as HasKind>⟧.kind (text_input input.old.now)
+        result }
+{
+    number(input)
+}

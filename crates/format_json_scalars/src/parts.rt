@@ -1,0 +1,148 @@
+//! Rules made of parts: what is read is said by the grammars of the parts, whichever parsers they
+//! are.
+ghost use Rattle.format_json_texts.specs.Words.{latter, pair};
+ghost use Rattle.std.specs.Prelude.{◌≡◌};
+ghost use Rattle.winnow.specs.Exact.{Reads};
+ghost use Rattle.winnow.specs.Grammar.{Both, Either, Maybe, Taken};
+ghost use Rattle.winnow.specs.Grammar.Tuples.{Four};
+
+use winnow::Parser;
+use winnow::combinator::{alt, opt, preceded};
+use winnow::error::ParserError;
+use winnow::stream::Stream;
+
+/// Reads the first, or the second where the first does not stand.
+pub fn read_either<I, O, E, P, Q>(first: P, second: Q, input: &mut I) -> Result<O, E>
+where
+    I: Stream,
+    E: ParserError<I>,
+    P: Parser<I, O, E> + Drop,
+    Q: Parser<I, O, E> + Drop,
+    requires first_callable { P.can_parse first }
+    requires first_premise { (P.claim (P.state first)).premise }
+    requires first_backtracks { (P.claim (P.state first)).backtracks }
+    requires second_callable { Q.can_parse second }
+    requires second_premise { (Q.claim (Q.state second)).premise }
+    requires second_backtracks { (Q.claim (Q.state second)).backtracks }
+    ensures { Reads I.reading E.kind
+        (Either (P.claim (P.state first)).grammar (Q.claim (Q.state second)).grammar)
+        (I.view input.old) result (I.view input.new) }
+{
+    alt((first, second)).read(input)
+}
+
+/// Reads four, one behind the other.
+pub fn read_four_of<I, O1, O2, O3, O4, E, P, Q, R, S>(
+    first: P,
+    second: Q,
+    third: R,
+    fourth: S,
+    input: &mut I,
+) -> Result<(O1, O2, O3, O4), E>
+where
+    I: Stream,
+    O1: Drop,
+    O2: Drop,
+    O3: Drop,
+    E: ParserError<I>,
+    P: Parser<I, O1, E> + Drop,
+    Q: Parser<I, O2, E> + Drop,
+    R: Parser<I, O3, E> + Drop,
+    S: Parser<I, O4, E> + Drop,
+    requires first_callable { P.can_parse first }
+    requires first_premise { (P.claim (P.state first)).premise }
+    requires first_backtracks { (P.claim (P.state first)).backtracks }
+    requires second_callable { Q.can_parse second }
+    requires second_premise { (Q.claim (Q.state second)).premise }
+    requires second_backtracks { (Q.claim (Q.state second)).backtracks }
+    requires third_callable { R.can_parse third }
+    requires third_premise { (R.claim (R.state third)).premise }
+    requires third_backtracks { (R.claim (R.state third)).backtracks }
+    requires fourth_callable { S.can_parse fourth }
+    requires fourth_premise { (S.claim (S.state fourth)).premise }
+    requires fourth_backtracks { (S.claim (S.state fourth)).backtracks }
+    ensures { Reads I.reading E.kind
+        (Four (P.claim (P.state first)).grammar (Q.claim (Q.state second)).grammar
+        (R.claim (R.state third)).grammar (S.claim (S.state fourth)).grammar)
+        (I.view input.old) result (I.view input.new) }
+{
+    (first, second, third, fourth).read(input)
+}
+
+/// Reads a backslash, and behind it what is short, or a letter and a unit.
+pub fn read_escape_of<I, O1, O2, O3, E, P, Q, R, S>(
+    backslash: P,
+    short: Q,
+    letter: R,
+    unicode: S,
+    input: &mut I,
+) -> Result<O2, E>
+where
+    I: Stream,
+    O1: Drop,
+    O3: Drop,
+    E: ParserError<I>,
+    P: Parser<I, O1, E> + Drop,
+    Q: Parser<I, O2, E> + Drop,
+    R: Parser<I, O3, E> + Drop,
+    S: Parser<I, O2, E> + Drop,
+    requires backslash_callable { P.can_parse backslash }
+    requires backslash_premise { (P.claim (P.state backslash)).premise }
+    requires backslash_backtracks { (P.claim (P.state backslash)).backtracks }
+    requires short_callable { Q.can_parse short }
+    requires short_premise { (Q.claim (Q.state short)).premise }
+    requires short_backtracks { (Q.claim (Q.state short)).backtracks }
+    requires letter_callable { R.can_parse letter }
+    requires letter_premise { (R.claim (R.state letter)).premise }
+    requires letter_backtracks { (R.claim (R.state letter)).backtracks }
+    requires unicode_callable { S.can_parse unicode }
+    requires unicode_premise { (S.claim (S.state unicode)).premise }
+    requires unicode_backtracks { (S.claim (S.state unicode)).backtracks }
+    ensures { Reads I.reading E.kind
+        (Both latter (P.claim (P.state backslash)).grammar
+        (Either (Q.claim (Q.state short)).grammar
+        (Both latter (R.claim (R.state letter)).grammar
+        (S.claim (S.state unicode)).grammar))) (I.view input.old) result
+        (I.view input.new) }
+{
+    preceded(backslash, alt((short, preceded(letter, unicode)))).read(input)
+}
+
+/// Reads a unit, a backslash and a letter behind it, and another unit.
+pub fn read_units_of<I, O1, O2, O3, O4, E, P, Q, R, S>(
+    first: P,
+    backslash: Q,
+    letter: R,
+    second: S,
+    input: &mut I,
+) -> Result<(O1, O4), E>
+where
+    I: Stream,
+    O1: Drop,
+    O2: Drop,
+    O3: Drop,
+    E: ParserError<I>,
+    P: Parser<I, O1, E> + Drop,
+    Q: Parser<I, O2, E> + Drop,
+    R: Parser<I, O3, E> + Drop,
+    S: Parser<I, O4, E> + Drop,
+    requires first_callable { P.can_parse first }
+    requires first_premise { (P.claim (P.state first)).premise }
+    requires first_backtracks { (P.claim (P.state first)).backtracks }
+    requires backslash_callable { Q.can_parse backslash }
+    requires backslash_premise { (Q.claim (Q.state backslash)).premise }
+    requires backslash_backtracks { (Q.claim (Q.state backslash)).backtracks }
+    requires letter_callable { R.can_parse letter }
+    requires letter_premise { (R.claim (R.state letter)).premise }
+    requires letter_backtracks { (R.claim (R.state letter)).backtracks }
+    requires second_callable { S.can_parse second }
+    requires second_premise { (S.claim (S.state second)).premise }
+    requires second_backtracks { (S.claim (S.state second)).backtracks }
+    ensures { Reads I.reading E.kind
+        (Both pair (P.claim (P.state first)).grammar
+        (Both latter (Both pair (Q.claim (Q.state backslash)).grammar
+        (R.claim (R.state letter)).grammar) (S.claim (S.state second)).grammar))
+        (I.view input.old) result (I.view input.new) }
+{
+    (first, preceded((backslash, letter), second)).read(input)
+}

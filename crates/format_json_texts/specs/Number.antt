@@ -1,0 +1,207 @@
+-- Numbers of JSON (RFC 8259, section 6): what is read, and what is written.
+use Rattle.std.specs.Prelude.{◌≡◌, ◌⊎◌, ◌≤◌, ℕ, List, [], ◌++◌, Option, Some, None}
+use Rattle.std.specs.Borrow.{Bor}
+use Rattle.std.proofs.Common.{sym, subst, inl, inr, ◌∙◌, arith}
+use Rattle.winnow.specs.Text.{text_reading}
+use Rattle.winnow.specs.AsChar.{IsDecDigit}
+use Rattle.winnow.specs.Grammar.{Both, Either, Grammar, Maybe, Taken}
+use Rattle.winnow.specs.Grammar.Tuples.{Four}
+use Rattle.winnow.specs.Texts.{Among, Anything, Begins, BeginsIn, InFront, IsGrammarOf}
+use Rattle.winnow.specs.Texts.{NotFirst, Perhaps}
+use Rattle.winnow.specs.Texts.{Shown, Text, Then}
+use Rattle.winnow.specs.Texts.Fronts.{among_front, begins_more, begins_wider, front_any}
+use Rattle.winnow.specs.Texts.Fronts.{front_begins}
+use Rattle.winnow.specs.Texts.Fronts.{front_behind, front_whole, none_begins, not_first}
+use Rattle.winnow.specs.Texts.Fronts.{perhaps_front, shown_front}
+use Rattle.winnow.specs.Texts.Fronts.{spelled_begins, then_front}
+use Rattle.winnow.specs.Texts.Parts.{behind_less, both_of, either_apart, maybe_of, same_of}
+use Rattle.winnow.specs.Texts.Parts.{taken_of}
+use Rattle.format_json_texts.specs.Words.{Char, FourTexts, In, One, OneIn, Run, RunOf}
+use Rattle.format_json_texts.specs.Words.{char_of, four_same, in_begins, in_of, latter, pair}
+use Rattle.format_json_texts.specs.Words.{run_begins, run_of, to_four}
+
+-- a slice of a text
+abbrev pub Slice : Type 0
+Slice = Bor (List ℕ)
+
+-- a digit from 1 to 9
+abbrev pub IsLeading : ℕ → Type 0
+IsLeading c = (49 ≤ c) × (c ≤ 57)
+
+-- the letter E or e
+abbrev pub IsE : ℕ → Type 0
+IsE c = (c ≡ 101) ⊎ (c ≡ 69)
+
+-- ---- what is written
+
+-- int = zero / ( digit1-9 *DIGIT )
+abbrev pub IntegerText : Text ℕ Slice
+IntegerText =
+    Among (Shown text_reading (One 48))
+    (Shown text_reading (Then pair (In IsLeading) (Run IsDecDigit 0)))
+
+-- frac = decimal-point 1*DIGIT
+abbrev pub FractionText : Text ℕ Slice
+FractionText = Then latter (One 46) (Run IsDecDigit 1)
+
+-- exp = e [ minus / plus ] 1*DIGIT
+abbrev pub ExponentText : Text ℕ Slice
+ExponentText =
+    Then latter (Then pair (Among (One 101) (One 69)) (Perhaps (Among (One 43) (One 45))))
+    (Run IsDecDigit 1)
+
+-- number = [ minus ] int [ frac ] [ exp ]
+abbrev pub NumberText : Text ℕ Slice
+NumberText =
+    Shown text_reading
+    (FourTexts (Perhaps (One 45)) IntegerText (Perhaps FractionText) (Perhaps ExponentText))
+
+-- ---- what is read
+
+-- a zero, or a digit from 1 on and as many as stand behind it
+abbrev pub Integer : Grammar ℕ Slice
+Integer =
+    Either (Taken text_reading (Char 48))
+    (Taken text_reading (Both pair (OneIn IsLeading) (RunOf IsDecDigit 0)))
+
+-- a point, and as many digits as stand behind it, one at least
+abbrev pub Fraction : Grammar ℕ Slice
+Fraction = Both latter (Char 46) (RunOf IsDecDigit 1)
+
+-- an E, a sign if one stands there, and as many digits as stand, one at least
+abbrev pub Exponent : Grammar ℕ Slice
+Exponent =
+    Both latter (Both pair (Either (Char 101) (Char 69)) (Maybe (Either (Char 43) (Char 45))))
+    (RunOf IsDecDigit 1)
+
+-- a minus if it stands there, digits, and a fraction and an exponent if they do
+abbrev pub Number : Grammar ℕ Slice
+Number =
+    Taken text_reading (Four (Maybe (Char 45)) Integer (Maybe Fraction) (Maybe Exponent))
+
+-- ---- the one reads the other
+
+-- a character with which a number may go on: a digit, a point or an E
+abbrev pub GoesOn : ℕ → Type 0
+GoesOn c = IsDecDigit c ⊎ ((c ≡ 46) ⊎ IsE c)
+
+integer_of : IsGrammarOf Integer IntegerText (NotFirst IsDecDigit)
+integer_of =
+    either_apart (taken_of text_reading (behind_less (λ rest b. tt) (char_of 48)))
+    (taken_of text_reading (both_of pair (in_of IsLeading) (run_of IsDecDigit 0)
+    front_any)) (shown_front text_reading (spelled_begins 48 [] 48))
+    (shown_front text_reading (then_front pair
+    (front_begins (λ c is zero. absurd (omega (arith, is, zero))) (in_begins IsLeading)) front_any))
+
+integer_begins : BeginsIn IsDecDigit IntegerText
+integer_begins =
+    among_front (shown_front text_reading (front_whole (begins_more _ _ (λ c is. omega (arith, is)))
+    (spelled_begins 48 [] 48)))
+    (shown_front text_reading (then_front pair
+    (front_whole (begins_more _ _ (λ c is. omega (arith, is))) (in_begins IsLeading))
+    front_any))
+
+fraction_of : IsGrammarOf Fraction FractionText (NotFirst IsDecDigit)
+fraction_of = both_of latter (char_of 46) (run_of IsDecDigit 1) front_any
+
+fraction_begins : BeginsIn (λ c. c ≡ 46) FractionText
+fraction_begins = then_front latter (spelled_begins 46 [] 46) front_any
+
+-- one of two characters
+one_or_other : (c d : ℕ) → (c ≡ d → ⊥)
+    → IsGrammarOf (Either (Char c) (Char d)) (Among (One c) (One d)) Anything
+one_or_other c d apart =
+    either_apart (char_of c) (char_of d) (spelled_begins c [] c)
+    (front_begins (λ x e f. apart (sym f ∙ e)) (spelled_begins d [] d))
+
+one_or_other_begins : (c d : ℕ) → BeginsIn (λ x. (x ≡ c) ⊎ (x ≡ d)) (Among (One c) (One d))
+one_or_other_begins c d =
+    among_front (begins_wider (λ x e. inl e) (spelled_begins c [] c))
+    (begins_wider (λ x e. inr e) (spelled_begins d [] d))
+
+exponent_of : IsGrammarOf Exponent ExponentText (NotFirst IsDecDigit)
+exponent_of =
+    both_of latter
+    (both_of pair (one_or_other 101 69 (λ e. absurd (omega (arith, e))))
+    (maybe_of (behind_less (λ rest b. tt) sign)
+    (none_begins sign (one_or_other_begins 43 45))) front_any) (run_of IsDecDigit 1)
+    (front_begins no_sign (run_begins IsDecDigit))
+  where
+    sign : IsGrammarOf (Either (Char 43) (Char 45)) (Among (One 43) (One 45)) Anything
+    sign = one_or_other 43 45 (λ e. absurd (omega (arith, e)))
+
+    no_sign : (c : ℕ) → IsDecDigit c → (c ≡ 43) ⊎ (c ≡ 45) → ⊥
+    no_sign c is (inl e) = absurd (omega (arith, is, e))
+    no_sign c is (inr e) = absurd (omega (arith, is, e))
+
+exponent_begins : BeginsIn IsE ExponentText
+exponent_begins = then_front latter (then_front pair (one_or_other_begins 101 69) front_any)
+    front_any
+
+pub number_of : IsGrammarOf Number NumberText (NotFirst GoesOn)
+number_of =
+    taken_of text_reading
+    (same_of (four_same (Maybe (Char 45)) Integer (Maybe Fraction) (Maybe Exponent))
+    (both_of to_four minus
+    (both_of pair integer_of
+    (both_of pair fraction exponent before_exponent) behind_integer) behind_minus))
+  where
+    IsPoint : ℕ → Type 0
+    IsPoint c = IsDecDigit c ⊎ (c ≡ 46)
+
+    minus : IsGrammarOf (Maybe (Char 45)) (Perhaps (One 45)) (NotFirst (λ c. c ≡ 45))
+    minus = maybe_of (behind_less (λ rest b. tt) (char_of 45))
+        (none_begins (char_of 45) (spelled_begins 45 [] 45))
+
+    fraction : IsGrammarOf (Maybe Fraction) (Perhaps FractionText) (NotFirst IsPoint)
+    fraction = maybe_of (behind_less (not_first _ _ (λ c is. inl is)) fraction_of)
+        (λ rest not. none_begins fraction_of fraction_begins rest
+        (not_first _ _ (λ c is. inr is) rest not))
+
+    exponent : IsGrammarOf (Maybe Exponent) (Perhaps ExponentText) (NotFirst GoesOn)
+    exponent = maybe_of (behind_less (not_first _ _ (λ c is. inl is)) exponent_of)
+        (λ rest not. none_begins exponent_of exponent_begins rest
+        (not_first _ _ (λ c is. inr (inr is)) rest not))
+
+    no_point : (c : ℕ) → IsE c → IsPoint c → ⊥
+    no_point c (inl e) (inl d) = absurd (omega (arith, e, d))
+    no_point c (inr e) (inl d) = absurd (omega (arith, e, d))
+    no_point c (inl e) (inr d) = absurd (omega (arith, e, d))
+    no_point c (inr e) (inr d) = absurd (omega (arith, e, d))
+
+    less : (c : ℕ) → IsPoint c → GoesOn c
+    less c (inl d) = inl d
+    less c (inr d) = inr (inl d)
+
+    before_exponent : InFront (Perhaps ExponentText) (NotFirst GoesOn) (NotFirst IsPoint)
+    before_exponent = front_behind (not_first IsPoint GoesOn less)
+        (perhaps_front (front_begins no_point exponent_begins))
+
+    behind_integer : InFront (Then pair (Perhaps FractionText) (Perhaps ExponentText))
+        (NotFirst GoesOn) (NotFirst IsDecDigit)
+    behind_integer = then_front pair
+        (perhaps_front (front_begins (λ c is d. absurd (omega (arith, is, d))) fraction_begins))
+        (front_whole (not_first _ _ (λ c is. inl is)) before_exponent)
+
+    behind_minus : InFront (Then pair IntegerText
+        (Then pair (Perhaps FractionText) (Perhaps ExponentText)))
+        (NotFirst GoesOn) (NotFirst (λ c. c ≡ 45))
+    behind_minus = then_front pair
+        (front_begins (λ c is e. absurd (omega (arith, is, e))) integer_begins) front_any
+
+-- what begins in a set, where a text may be left out, begins in a larger one
+pub number_begins : BeginsIn (λ c. (c ≡ 45) ⊎ IsDecDigit c) NumberText
+unfolding Perhaps
+number_begins =
+    shown_front text_reading (then_front to_four (record { makes = minus })
+    (then_front pair integer_begins front_any))
+  where
+    minus : (o : Option ℕ) (xs rest : List ℕ) → Perhaps (One 45) o xs → Begins IsDecDigit rest
+        → Begins (λ c. (c ≡ 45) ⊎ IsDecDigit c) (xs ++ rest)
+    minus None xs rest e b =
+        let P : List ℕ → Type 0 = λ l. Begins (λ c. (c ≡ 45) ⊎ IsDecDigit c) (l ++ rest) in
+        subst P (sym e)
+        (begins_more IsDecDigit (λ c. (c ≡ 45) ⊎ IsDecDigit c) (λ c is. inr is) rest b)
+    minus (Some o) xs rest x b =
+        begins_more (λ c. c ≡ 45) (λ c. (c ≡ 45) ⊎ IsDecDigit c) (λ c is. inl is) (xs ++ rest)
+        ((spelled_begins 45 [] 45).makes o xs rest x tt)

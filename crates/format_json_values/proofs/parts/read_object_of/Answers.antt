@@ -1,0 +1,54 @@
+use Rattle.std.proofs.Common.{ap, rules, ◌∙◌}
+use Rattle.winnow.specs.Terminated.{terminated_parser}
+use Rattle.winnow.specs.Rule.{reads_as_rule, run_as}
+use Rattle.format_json_scalars.specs.Marks.{three_by}
+use Rattle.format_json_values.specs.Pairs.{items_by}
+use Rattle.format_json_values.proofs.parts.read_object_of.Given as given
+use Rattle.format_json_values.proofs.parts.read_object_of.Goals as goal
+
+pub read_items-requires-clause-item : goal.read_items-requires-clause-item
+read_items-requires-clause-item g c =
+    let first = ap (λ p. terminated_parser p) c.separated_pair.ensures.first
+    ∙ c.terminated-name.ensures.parser in
+    let second = ap (λ p. terminated_parser p) c.separated_pair.ensures.second
+    ∙ c.terminated-value.ensures.parser in
+    let name = reads_as_rule g.S.Rule.grammar first c.by.ensures.rule c.by.ensures.run
+    c.requires.name_reads in
+    let value = reads_as_rule g.R.Rule.grammar second c.by-2.ensures.rule c.by-2.ensures.run
+    c.requires.reads in (
+      (
+        (
+          (
+            run_as (given.H-IsAlwaysCallable g) first c.by.ensures.run c.requires.name_callable,
+            name,
+          ),
+          search rules,
+        ),
+        search rules,
+        (
+          (
+            run_as (given.F-IsAlwaysCallable g) second c.by-2.ensures.run c.requires.callable,
+            value,
+          ),
+          search rules,
+        ),
+      ),
+      ((name, search rules), search rules, (value, search rules)),
+      search rules,
+    )
+
+pub returns : goal.returns
+returns g c = items_by _ _ _ _ c.read_items.ensures (three_by _
+    (rw (
+      c.separated_pair.ensures.first,
+      c.terminated-name.ensures.parser,
+      c.terminated-name.ensures.ignored,
+      c.by.ensures.rule,
+    ))
+    (rw c.separated_pair.ensures.separator)
+    (rw (
+      c.separated_pair.ensures.second,
+      c.terminated-value.ensures.parser,
+      c.terminated-value.ensures.ignored,
+      c.by-2.ensures.rule,
+    )))

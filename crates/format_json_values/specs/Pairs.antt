@@ -1,0 +1,25 @@
+-- What stands between the marks of an object: pairs of a name and a value.
+use Rattle.std.specs.Prelude.{◌≡◌, Result}
+use Rattle.std.specs.declared.vec.Vec.{Vec}
+use Rattle.winnow.specs.Input.{Input}
+use Rattle.winnow.specs.Kind.{Kind}
+use Rattle.winnow.specs.Reading.{Reading}
+use Rattle.format_json_scalars.specs.Marks.{Items}
+use Rattle.format_json_texts.specs.Words.{former, pair}
+use Rattle.winnow.specs.Exact.{Reads}
+use Rattle.winnow.specs.Grammar.{Both, Grammar, Three}
+
+-- a name, a mark and a value, and white space behind each
+abbrev pub Pair : {T K O M W : Type 0} → Grammar T K → Grammar T M → Grammar T O → Grammar T W
+    → Grammar T (K × O)
+Pair name colon value gap =
+    Three (λ k _ o. (k, o)) (Both former name gap) (Both pair colon gap) (Both former value gap)
+
+-- items that are read are those by a grammar that is the same
+pub items_by : {T M W A L O E : Type 0} {reading : Reading T L} {kind : E → Kind}
+    (opening comma closing : Grammar T M) (gap : Grammar T W) {f g : Grammar T O} {i j : Input T}
+    {result : Result (Vec O A) E}
+    → Reads reading kind (Items f opening comma closing gap) i result j → f ≡ g
+    → Reads reading kind (Items g opening comma closing gap) i result j
+items_by {T} {M} {W} {A} {L} {O} {E} {reading} {kind} opening comma closing gap {f} {g} {i} {j}
+    {result} read same = rw same at read

@@ -1,0 +1,107 @@
+//! Rules made of parts: what is read is said by the grammars of the parts, whichever parsers they
+//! are, and over any stream.
+ghost use Rattle.format_json_scalars.specs.Marks.{Items};
+ghost use Rattle.format_json_texts.specs.Words.{former, latter};
+ghost use Rattle.format_json_values.specs.Pairs.{Pair};
+ghost use Rattle.std.specs.Fn.{CalledAtMut};
+ghost use Rattle.std.specs.Prelude.{◌≡◌, false};
+ghost use Rattle.winnow.specs.Exact.{Reads};
+ghost use Rattle.winnow.specs.Exact.Whole.{ReadsAll};
+ghost use Rattle.winnow.specs.Grammar.{Both};
+ghost use Rattle.winnow.specs.Rule.{CallsRead};
+
+use format_json_scalars::marks::{Marks, read_items};
+use std::alloc::Allocator;
+use winnow::Parser;
+use winnow::combinator::{preceded, separated_pair, terminated};
+use winnow::error::{ParseFault, ParserError};
+use winnow::exact::Rule;
+use winnow::stream::{Stream, StreamIsPartial};
+
+/// Reads members between marks, each a name, a mark and a value, with white space behind each of
+/// them. A function reads a name by a rule, and another a value.
+pub fn read_object_of<I, E, K, O, M, W, A, S, H, R, F, B, G>(
+    alloc: A,
+    names: S,
+    name: H,
+    colon: B,
+    rule: R,
+    value: F,
+    marks: Marks<B, G>,
+    input: &mut I,
+) -> Result<Vec<(K, O), A>, E>
+where
+    I: Stream,
+    E: ParserError<I>,
+    K: Drop,
+    O: Drop,
+    M: Drop,
+    W: Drop,
+    A: Allocator + Copy,
+    S: Rule<I, K> + Drop,
+    H: FnMut(&mut I) -> Result<K, E> + Drop,
+    R: Rule<I, O> + Drop,
+    F: FnMut(&mut I) -> Result<O, E> + Drop,
+    B: Parser<I, M, E> + Copy + Drop,
+    G: Parser<I, W, E> + Copy + Drop,
+    requires name_callable { H.IsAlwaysCallable name }
+    requires name_reads { CallsRead I.reading I.view E.kind (CalledAtMut H.FnMut)
+        (S.grammar names) name }
+    requires callable { F.IsAlwaysCallable value }
+    requires reads { CallsRead I.reading I.view E.kind (CalledAtMut F.FnMut) (R.grammar rule)
+        value }
+    requires colon { B.can_parse colon × (B.claim (B.state colon)).premise
+        × (B.claim (B.state colon)).backtracks }
+    requires opening { B.can_parse marks.opening × (B.claim (B.state marks.opening)).premise
+        × (B.claim (B.state marks.opening)).backtracks }
+    requires comma { B.can_parse marks.comma × (B.claim (B.state marks.comma)).premise
+        × (B.claim (B.state marks.comma)).backtracks
+        × (B.claim (B.state marks.comma)).consumes }
+    requires closing { B.can_parse marks.closing × (B.claim (B.state marks.closing)).premise
+        × (B.claim (B.state marks.closing)).backtracks }
+    requires gap { G.can_parse marks.gap × (G.claim (G.state marks.gap)).premise
+        × (G.claim (G.state marks.gap)).backtracks }
+    ensures { Reads I.reading E.kind
+        (Items (Pair (S.grammar names) (B.claim (B.state colon)).grammar (R.grammar rule)
+        (G.claim (G.state marks.gap)).grammar) (B.claim (B.state marks.opening)).grammar
+        (B.claim (B.state marks.comma)).grammar (B.claim (B.state marks.closing)).grammar
+        (G.claim (G.state marks.gap)).grammar) (I.view input.old) result
+        (I.view input.new) }
+{
+    let name = terminated(names.by(name), marks.gap);
+    let value = terminated(rule.by(value), marks.gap);
+    read_items(
+        alloc,
+        separated_pair(name, (colon, marks.gap), value),
+        marks,
+        input,
+    )
+}
+
+/// Reads all of an input as a value, with white space before it and behind it.
+pub fn parse_spaced<I, E, O, W, R, F, G>(
+    rule: R,
+    value: F,
+    gap: G,
+    input: I,
+) -> Result<O, ParseFault<I, E::Inner>>
+where
+    I: StreamIsPartial,
+    E: ParserError<I>,
+    O: Drop,
+    W: Drop,
+    R: Rule<I, O> + Drop,
+    F: FnMut(&mut I) -> Result<O, E> + Drop,
+    G: Parser<I, W, E> + Copy + Drop,
+    requires callable { F.IsAlwaysCallable value }
+    requires reads { CallsRead I.reading I.view E.kind (CalledAtMut F.FnMut) (R.grammar rule)
+        value }
+    requires gap { G.can_parse gap × (G.claim (G.state gap)).premise }
+    requires whole { I.supports_partial ≡ false }
+    ensures { ReadsAll E.inner_kind
+        (Both latter (G.claim (G.state gap)).grammar
+        (Both former (R.grammar rule) (G.claim (G.state gap)).grammar))
+        (I.view input).left.tokens result }
+{
+    preceded(gap, terminated(rule.by(value), gap)).read_all(input)
+}

@@ -1,0 +1,190 @@
+//! Values of JSON (RFC 8259, sections 2 to 7).
+ghost use Rattle.format_json_texts.specs.Number.{GoesOn};
+ghost use Rattle.format_json_texts.specs.Strings.{Quoted};
+ghost use Rattle.format_json_texts.specs.Values.{AnyValue, Json, JsonText, ValueText};
+ghost use Rattle.format_json_values.specs.First.{IsOpening, no_memory_kind};
+ghost use Rattle.format_json_values.specs.Unique.{value_takes, value_unique};
+ghost use Rattle.format_json_scalars.specs.Escapes.{quoted_takes, quoted_unique};
+ghost use Rattle.std.specs.Prelude.{◌≡◌, ◌⊎◌, ◌<◌, false, IsTrue, ⊤};
+ghost use Rattle.std.specs.Str.{chars};
+ghost use Rattle.winnow.specs.Text.{text_input, text_reading};
+ghost use Rattle.winnow.specs.Exact.{Reads};
+ghost use Rattle.winnow.specs.Exact.Whole.{ReadsAll};
+ghost use Rattle.winnow.specs.Accumulator.Holds.{HasCharacters};
+ghost use Rattle.winnow.specs.Texts.{Begins, NotFirst};
+ghost use Rattle.winnow.specs.Told.{IsTextOf, ReadsText};
+
+use crate::parts::{parse_spaced, read_object_of};
+use format_json_scalars::marks::{Marks, read_array_of};
+use format_json_scalars::scalar::read_scalar;
+use format_json_scalars::string::read_string;
+use format_json_texts::value::Value;
+use std::alloc::Allocator;
+use winnow::ascii::impls::Multispace0;
+use winnow::error::{EmptyError, ErrMode, HasKind, ParseFault, ParserError};
+use winnow::exact::Rule;
+
+/// A level that is safe on a stack of two megabytes: reading a value calls itself once for each
+/// array and object that stands in another, and so does letting the value go. At a higher level a
+/// text can nest so deep that the stack ends, which stops the program: the stack, too, is to be
+/// larger then.
+///
+/// ```
+/// use format_json_values::value::{SAFE_LEVEL, parse_value};
+///
+/// assert!(rt; parse_value(alloc, SAFE_LEVEL, "[[1], {\"a\": [2]}]").is_ok());
+/// ```
+pub const SAFE_LEVEL: usize = 128;
+
+/// Whether a bracket is first.
+fn begins_array(input: &str) -> bool
+    ensures yes { IsTrue result → Begins (λ c. c ≡ 91) (chars input.now) }
+    ensures no { result ≡ false → NotFirst (λ c. c ≡ 91) (chars input.now) }
+{
+    match input.chars().next() {
+        Some(c) => c == '[',
+        None => false,
+    }
+}
+
+/// Whether arrays and objects are read at the level, and a bracket or a brace is first.
+fn opens(level: usize, input: &str) -> bool
+    ensures yes { IsTrue result → (0 < level) × Begins IsOpening (chars input.now) }
+    ensures no { result ≡ false → (level ≡ 0) ⊎ NotFirst IsOpening (chars input.now) }
+{
+    match input.chars().next() {
+        Some(c) => level > 0 && (c == '[' || c == '{'),
+        None => false,
+    }
+}
+
+/// The name of a string.
+#[derive(Clone, Copy, Drop)]
+struct Name<A>(A);
+
+impl<'i, A: Allocator> Rule<&'i str, String<A>> for Name<A> {
+    ghost grammar = { λ _. Quoted HasCharacters };
+
+    ghost consumes = { λ _. ⊤ };
+
+    fn name() {}
+
+    ghost unique = { λ _. quoted_unique };
+
+    ghost takes = { λ _ _. quoted_takes };
+}
+
+/// The name of what [`read_value`] reads.
+#[derive(Clone, Copy, Drop)]
+struct Nested<A>(A, usize);
+
+impl<'i, A: Allocator> Rule<&'i str, Value<A>> for Nested<A> {
+    ghost grammar = { λ r. AnyValue HasCharacters r.1 };
+
+    ghost consumes = { λ _. ⊤ };
+
+    fn name() {}
+
+    ghost unique = { λ r. value_unique r.1 };
+
+    ghost takes = { λ r _. value_takes r.1 };
+}
+
+/// The value that stands first, in which no more than so many arrays and objects stand in one
+/// another.
+///
+/// White space inside of arrays and objects is read, and none before or behind the value. Each
+/// level takes some of the stack: up to [`SAFE_LEVEL`] two megabytes suffice. The input is left
+/// behind the value. An error backtracks where no value of the level stands first, and wants memory
+/// where a request was refused; what of the input is left then is an end of it.
+///
+/// ```
+/// use format_json_texts::value::Value;
+/// use format_json_values::value::read_value;
+///
+/// let mut input = "[1, {\"a\": null}] rest";
+/// let value = read_value(alloc, 2, &mut input);
+/// assert!(rt; matches!(value, Ok(Value::Array(items)) if items.len() == 2));
+/// assert_eq!(rt; input, " rest");
+/// assert!(rt; read_value(alloc, 1, &mut "[1, {\"a\": null}]").is_err());
+/// ```
+pub fn read_value<'i, A: Allocator + Copy>(
+    alloc: A,
+    level: usize,
+    input: &mut &'i str,
+) -> Result<Value<A>, ErrMode<EmptyError>>
+    ensures grammar { Reads text_reading ⟦<ErrMode<EmptyError> as HasKind>⟧.kind
+        (AnyValue HasCharacters level) (text_input input.old.now) result
+        (text_input input.new.now) }
+    ensures text { ReadsText text_reading ⟦<ErrMode<EmptyError> as HasKind>⟧.kind
+        (ValueText HasCharacters level) (NotFirst GoesOn) (text_input input.old.now) result
+        (text_input input.new.now) }
+{
+    if !opens(level, input) {
+        return read_scalar(alloc, input);
+    }
+    let below = level - 1;
+    let value = |input: &mut &str|
+        ensures { Reads text_reading no_memory_kind (AnyValue HasCharacters below)
+            (text_input input.old.now) result (text_input input.new.now) }
+    { read_value(alloc, below, input) };
+    let rule = Nested(alloc, below);
+    if begins_array(input) {
+        let marks = Marks {
+            opening: '[',
+            comma: ',',
+            closing: ']',
+            gap: Multispace0,
+        };
+        return match read_array_of(alloc, rule, value, marks, input) {
+            Ok(items) => Ok(Value::Array(items)),
+            Err(error) => Err(error),
+        };
+    }
+    let name = |input: &mut &str|
+        ensures { Reads text_reading no_memory_kind (Quoted HasCharacters)
+            (text_input input.old.now) result (text_input input.new.now) }
+    { read_string(alloc, input) };
+    let marks = Marks {
+        opening: '{',
+        comma: ',',
+        closing: '}',
+        gap: Multispace0,
+    };
+    match read_object_of(alloc, Name(alloc), name, ':', rule, value, marks, input) {
+        Ok(members) => Ok(Value::Object(members)),
+        Err(error) => Err(error),
+    }
+}
+
+/// The value of a text of JSON, where all of the text is one: a value, in which no more than so
+/// many arrays and objects stand in one another, with white space before it and behind it. Each
+/// level takes some of the stack, as of [`read_value`].
+///
+/// Else a fault: it says that the text is none, and at which byte reading stopped; or that a
+/// request for memory was refused. In an array or an object reading stops behind the last item that
+/// is whole. Where it stopped is tested, and not proved.
+///
+/// ```
+/// use format_json_texts::value::Value;
+/// use format_json_values::value::{SAFE_LEVEL, parse_value};
+///
+/// let value = parse_value(alloc, 1, " {\"a\": 1, \"a\": [2]} ");
+/// assert!(rt; value.is_err());
+/// let value = parse_value(alloc, SAFE_LEVEL, " {\"a\": 1, \"a\": [2]} ");
+/// assert!(rt; matches!(value, Ok(Value::Object(members)) if members.len() == 2));
+/// assert!(rt; parse_value(alloc, 2, "[1, 2,]").is_err());
+/// ```
+pub fn parse_value<'i, A: Allocator + Copy>(
+    alloc: A,
+    level: usize,
+    text: &'i str,
+) -> Result<Value<A>, ParseFault<&'i str, EmptyError>>
+    ensures grammar { ReadsAll ⟦<ErrMode<EmptyError> as ParserError<&'i str>>⟧.inner_kind
+        (Json HasCharacters level) (chars text.now) result }
+    ensures text { IsTextOf ⟦<ErrMode<EmptyError> as ParserError<&'i str>>⟧.inner_kind
+        (JsonText HasCharacters level) (chars text.now) result }
+{
+    let value = |input: &mut &str| read_value(alloc, level, input);
+    parse_spaced(Nested(alloc, level), value, Multispace0, text)
+}

@@ -1,0 +1,20 @@
+use Rattle.std.proofs.Common.{sym, ◌∙◌}
+use Rattle.winnow.specs.Equal.{true_is_false}
+use Rattle.format_json_writer.specs.Back.{read_alike, read_wants}
+use Rattle.format_json_writer.specs.Refused.{if_error}
+use Rattle.format_json_writer.proofs.value.reads_back.Goals as goal
+
+pub returns-clause-alike : goal.returns-clause-alike
+returns-clause-alike g c =
+    read_alike c.args.level c.args.value.now _ c.as_str.ensures.value c.in_ok-text.ensures.text
+    c.in-Ok.ensures.text
+
+pub unreachable-requires : goal.unreachable-requires
+unreachable-requires g c =
+    let want = read_wants c.args.level c.args.value.now _ c.as_str.ensures.value
+    c.in_ok-text.ensures.text c.in-Err.ensures.text in
+    true_is_false (sym (c.wants_memory.ensures want) ∙ c.if-wants_memory.false)
+
+pub returns-in_err-text-clause-refused : goal.returns-in_err-text-clause-refused
+returns-in_err-text-clause-refused g c =
+    if_error _ c.from_residual.result _ c.from_residual.ensures.1 c.in_err-text.ensures.refused

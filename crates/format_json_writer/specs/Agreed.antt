@@ -1,0 +1,161 @@
+-- Grammars by which outputs that stand in the same tokens are alike.
+use Rattle.std.specs.Prelude.{◌≡◌, ⊤, ℕ, List, [], ◌∷◌, ◌++◌, None}
+use Rattle.std.specs.declared.vec.Vec.{Vec}
+use Rattle.std.proofs.Common.{sym, subst, inl, inr, ◌∙◌}
+use Rattle.std.proofs.lemmas.List.{append_cancel_right}
+use Rattle.winnow.specs.Range.{from_to}
+use Rattle.format_json_texts.specs.Words.{former, latter}
+use Rattle.winnow.specs.Grammar.{Both, Each, Either, Gathered, Grammar, IsUnique, Made}
+use Rattle.winnow.specs.Grammar.{Many, NoneStands, Parted, Stops, Three}
+use Rattle.winnow.specs.Grammar.Meaning.{Meaning}
+use Rattle.winnow.specs.Grammar.Unique.{both_unique}
+
+-- Outputs that stand first in the same tokens are alike.
+pub record Agrees {O : Type 0} (alike : O → O → Type 0) (grammar : Grammar ℕ O) : Type 0 where
+  pub one : (tokens : List ℕ) (o p : O) (rest other : List ℕ) → grammar tokens o rest
+      → grammar tokens p other → alike o p
+
+-- lists of one length, in which what stands at one place is alike
+abbrev pub ArePairwise : {O : Type 0} → (O → O → Type 0) → List O → List O → Type 0
+ArePairwise alike [] [] = ⊤
+ArePairwise alike [] (p ∷ ps) = ⊥
+ArePairwise alike (o ∷ os) [] = ⊥
+ArePairwise alike (o ∷ os) (p ∷ ps) = alike o p × ArePairwise alike os ps
+
+-- beginnings of the same tokens behind which the same is left
+pub one_beginning : {tokens : List ℕ} (f g rest more : List ℕ) → tokens ≡ f ++ rest
+    → tokens ≡ g ++ more → rest ≡ more → f ≡ g
+one_beginning {tokens} f g rest more a b e =
+    let P : List ℕ → Type 0 = λ l. tokens ≡ g ++ l in
+    append_cancel_right f g rest (sym a ∙ subst P (sym e) b)
+
+-- where as many as stand were read, none stands
+none_more : {O : Type 0} (g : Grammar ℕ O) (n : ℕ) (rest : List ℕ) → Stops g None n rest
+    → NoneStands g rest
+none_more g n rest (inl full) = absurd (cc)
+none_more g n rest (inr (below, none)) = none
+
+module _ {O U : Type 0} {alike : O → O → Type 0} {like : U → U → Type 0} where
+  pub means_agree : (means : O → U → Type 0) {g : Grammar ℕ O} → Agrees alike g
+      → ((o p : O) (u v : U) → alike o p → means o u → means p v → like u v)
+      → Agrees like (Meaning means g)
+  unfolding Made
+  means_agree means agree made = record {
+    one = λ tokens u v rest other (o, x, m) (p, y, n).
+        made o p u v (agree.one tokens o p rest other x y) m n;
+  }
+
+module _ {O : Type 0} {alike : O → O → Type 0} where
+  pub either_agrees : {g h : Grammar ℕ O} → Agrees alike g → Agrees alike h
+      → Agrees alike (Either g h)
+  unfolding Either
+  either_agrees {g} {h} first second = record { one = told }
+    where
+      told : (tokens : List ℕ) (o p : O) (rest other : List ℕ) → Either g h tokens o rest
+          → Either g h tokens p other → alike o p
+      told tokens o p rest other (inl x) (inl y) = first.one tokens o p rest other x y
+      told tokens o p rest other (inl x) (inr (none, y)) = absurd (none o rest x)
+      told tokens o p rest other (inr (none, x)) (inl y) = absurd (none p other y)
+      told tokens o p rest other (inr (none, x)) (inr (n, y)) =
+          second.one tokens o p rest other x y
+
+  -- the former of two
+  pub former_agrees : {D : Type 0} {g : Grammar ℕ O} (gap : Grammar ℕ D) → Agrees alike g
+      → Agrees alike (Both former g gap)
+  unfolding Both
+  former_agrees gap agree = record {
+    one = λ tokens o p rest other (o1, o2, a, x, y, e) (p1, p2, b, z, w, f).
+        let P : O → Type 0 = λ q. alike q p in
+        let Q : O → Type 0 = λ q. alike o1 q in
+        subst P (sym e) (subst Q (sym f) (agree.one tokens o1 p1 a b x z));
+  }
+
+  -- the latter
+  pub latter_agrees : {D : Type 0} {gap : Grammar ℕ D} {g : Grammar ℕ O} → IsUnique gap
+      → Agrees alike g → Agrees alike (Both latter gap g)
+  unfolding Both
+  latter_agrees {gap = gap} {g} unique agree = record {
+    one = λ tokens o p rest other (o1, o2, a, x, y, e) (p1, p2, b, z, w, f).
+        let P : O → Type 0 = λ q. alike q p in
+        let Q : O → Type 0 = λ q. alike o2 q in
+        let R : List ℕ → Type 0 = λ l. g l o2 rest in
+        subst P (sym e) (subst Q (sym f) (agree.one b o2 p2 rest other
+        (subst R (unique.one tokens o1 p1 a b x z) y) w));
+  }
+
+  -- what is between two others
+  pub between_agrees : {D E : Type 0} {opening : Grammar ℕ D} {g : Grammar ℕ O}
+      (closing : Grammar ℕ E) → IsUnique opening → Agrees alike g
+      → Agrees alike (Three (λ o1 o2 o3. o2) opening g closing)
+  unfolding Three
+  between_agrees {opening = opening} {g} closing unique agree = record {
+    one = λ tokens o p rest other (o1, o2, o3, a, b, x, y, z, e) (p1, p2, p3, c, d, u, v, w, f).
+        let P : O → Type 0 = λ q. alike q p in
+        let Q : O → Type 0 = λ q. alike o2 q in
+        let R : List ℕ → Type 0 = λ l. g l o2 b in
+        subst P (sym e) (subst Q (sym f) (agree.one c o2 p2 b d
+        (subst R (unique.one tokens o1 p1 a c x u) y) v));
+  }
+
+  -- ---- lists
+
+  pub each_agrees : {g : Grammar ℕ O} → IsUnique g → Agrees alike g → (os ps : List O)
+      (tokens rest other : List ℕ) → Each g tokens os rest → Each g tokens ps other
+      → NoneStands g rest → NoneStands g other → ArePairwise alike os ps
+  each_agrees unique agree [] [] tokens rest other e f none n = tt
+  each_agrees {g} unique agree [] (p ∷ ps) tokens rest other e (mid, x, more) none n =
+      let P : List ℕ → Type 0 = λ l. g l p mid in absurd (none p mid (subst P (sym e) x))
+  each_agrees {g} unique agree (o ∷ os) [] tokens rest other (mid, x, more) e none n =
+      let P : List ℕ → Type 0 = λ l. g l o mid in absurd (n o mid (subst P (sym e) x))
+  each_agrees {g} unique agree (o ∷ os) (p ∷ ps) tokens rest other (mid, x, more)
+      (end, y, others) none n =
+      let P : List ℕ → Type 0 = λ l. Each g l os rest in (
+        agree.one tokens o p mid end x y,
+        each_agrees unique agree os ps end rest other
+            (subst P (unique.one tokens o p mid end x y) more) others none n,
+      )
+
+  -- as many as stand
+  pub many_agree : {g : Grammar ℕ O} → IsUnique g → Agrees alike g
+      → Agrees (ArePairwise alike) (Many g (from_to 0 None))
+  unfolding Many
+  many_agree {g} unique agree = record {
+    one = λ tokens os ps rest other (a, least, s) (b, most, t).
+        each_agrees unique agree os ps tokens rest other a b (none_more g _ rest s)
+        (none_more g _ other t);
+  }
+
+  -- as many as stand, with a mark between each two of them
+  pub parted_agree : {D : Type 0} {g : Grammar ℕ O} {mark : Grammar ℕ D} → IsUnique g
+      → IsUnique mark → Agrees alike g → Agrees (ArePairwise alike) (Parted g mark (from_to 0 None))
+  unfolding Parted
+  parted_agree {D} {g} {mark} unique marks agree = record { one = all }
+    where
+      all : (tokens : List ℕ) (os ps : List O) (rest other : List ℕ)
+          → Parted g mark (from_to 0 None) tokens os rest
+          → Parted g mark (from_to 0 None) tokens ps other → ArePairwise alike os ps
+      all tokens [] [] rest other x y = tt
+      all tokens [] (p ∷ ps) rest other (e, least, s) (mid, y, more, most, t) =
+          absurd (none_more g 0 tokens s p mid y)
+      all tokens (o ∷ os) [] rest other (mid, x, more, most, t) (e, least, s) =
+          absurd (none_more g 0 tokens s o mid x)
+      all tokens (o ∷ os) (p ∷ ps) rest other (mid, x, more, least, s) (end, y, others, most, t) =
+          let P : List ℕ → Type 0 = λ l. Each (Both latter mark g) l os rest in (
+            agree.one tokens o p mid end x y,
+            each_agrees (both_unique latter marks unique) (latter_agrees marks agree) os ps end
+                rest other (subst P (unique.one tokens o p mid end x y) more) others
+                (none_more (Both latter mark g) _ rest s)
+                (none_more (Both latter mark g) _ other t),
+          )
+
+-- what is gathered in a list
+pub gathered_agree : {O A : Type 0} {alike : List O → List O → Type 0} {g : Grammar ℕ (List O)}
+    → Agrees alike g
+    → Agrees (λ (l m : Vec O A). alike l.items m.items) (Gathered (λ list os. list.items ≡ os) g)
+unfolding Gathered
+gathered_agree {O} {alike = alike} agree = record {
+  one = λ tokens l m rest other (os, e, x) (ps, f, y).
+      let P : List O → Type 0 = λ k. alike k m.items in
+      let Q : List O → Type 0 = λ k. alike os k in
+      subst P (sym e) (subst Q (sym f) (agree.one tokens os ps rest other x y));
+}

@@ -1,0 +1,175 @@
+//! Values of JSON, nested to a level, as text (RFC 8259, sections 2 to 7).
+ghost use Rattle.format_json_texts.specs.Values.{WordText};
+ghost use Rattle.format_json_texts.specs.Words.{One};
+ghost use Rattle.format_json_texts.specs.declared.value.Value as values;
+ghost use Rattle.format_json_writer.specs.Added.{Adds, Keeps};
+ghost use Rattle.format_json_writer.specs.Compact.{CompactMember, CompactValue};
+ghost use Rattle.format_json_writer.specs.Refused.{IsRefused, IsRefusedAmong};
+ghost use Rattle.format_json_writer.specs.declared.error.WriteError.TheVariants.{Memory};
+ghost use Rattle.std.specs.Prelude.{◌≡◌, ◌++◌, IfErr, OnOk, string_bytes};
+ghost use Rattle.winnow.specs.Texts.{Joined};
+
+use crate::error::WriteError;
+use crate::number::write_number;
+use crate::string::write_string;
+use format_json_texts::value::Value;
+use std::alloc::Allocator;
+
+/// Puts a text behind what is there.
+fn put<B: Allocator>(text: &str, into: &mut String<B>) -> Result<(), WriteError>
+    ensures written { OnOk result (string_bytes into.new ≡ string_bytes into.old ++ text.now) }
+    ensures memory { IfErr result (λ e. e ≡ Memory) }
+    ensures kept { Keeps (string_bytes into.old) (string_bytes into.new) }
+{
+    into.push_str(text)?;
+    Ok(())
+}
+
+/// Puts a word behind what is there: `null`, or `true` or `false`.
+fn write_word<B: Allocator>(word: Option<bool>, into: &mut String<B>) -> Result<(), WriteError>
+    ensures written { OnOk result (Adds WordText word (string_bytes into.old)
+        (string_bytes into.new)) }
+    ensures memory { IfErr result (λ e. e ≡ Memory) }
+    ensures kept { Keeps (string_bytes into.old) (string_bytes into.new) }
+{
+    match word {
+        None => put("null", into),
+        Some(true) => put("true", into),
+        Some(false) => put("false", into),
+    }
+}
+
+/// Puts values behind what is there, with commas between them.
+#[cycle(write)]
+fn write_items<A: Allocator, B: Allocator>(
+    level: usize,
+    items: &[Value<A>],
+    into: &mut String<B>,
+) -> Result<(), WriteError>
+    ensures written { OnOk result (Adds (Joined (One 44) (CompactValue level)) items.now
+        (string_bytes into.old) (string_bytes into.new)) }
+    ensures refused { IfErr result (IsRefusedAmong (λ v. v) level items.now) }
+    ensures kept { Keeps (string_bytes into.old) (string_bytes into.new) }
+{
+    match items.split_first() {
+        None => Ok(()),
+        Some((first, rest)) => {
+            write_nested(level, first, into)?;
+            for item in rest {
+                into.push(',')?;
+                write_nested(level, item, into)?;
+            }
+            Ok(())
+        }
+    }
+}
+
+/// Puts an array behind what is there.
+#[cycle(write)]
+fn write_array<A: Allocator, B: Allocator>(
+    level: usize,
+    items: &Vec<Value<A>, A>,
+    into: &mut String<B>,
+) -> Result<(), WriteError>
+    ensures written { OnOk result (Adds (CompactValue level) (values.Array items.now)
+        (string_bytes into.old) (string_bytes into.new)) }
+    ensures refused { IfErr result (IsRefused level (values.Array items.now)) }
+    ensures kept { Keeps (string_bytes into.old) (string_bytes into.new) }
+{
+    if level == 0 {
+        return Err(WriteError::Level);
+    }
+    into.push('[')?;
+    write_items(level - 1, items.as_slice(), into)?;
+    into.push(']')?;
+    Ok(())
+}
+
+/// Puts a name, a colon and a value behind what is there.
+#[cycle(write)]
+fn write_member<A: Allocator, B: Allocator>(
+    level: usize,
+    member: &(String<A>, Value<A>),
+    into: &mut String<B>,
+) -> Result<(), WriteError>
+    ensures written { OnOk result (Adds (CompactMember (CompactValue level)) member.now
+        (string_bytes into.old) (string_bytes into.new)) }
+    ensures refused { IfErr result (IsRefused level member.now.1) }
+    ensures kept { Keeps (string_bytes into.old) (string_bytes into.new) }
+{
+    let (name, value) = member;
+    write_string(name.as_str(), into)?;
+    into.push(':')?;
+    write_nested(level, value, into)
+}
+
+/// Puts members behind what is there, with commas between them.
+#[cycle(write)]
+fn write_members<A: Allocator, B: Allocator>(
+    level: usize,
+    members: &[(String<A>, Value<A>)],
+    into: &mut String<B>,
+) -> Result<(), WriteError>
+    ensures written { OnOk result (Adds (Joined (One 44) (CompactMember (CompactValue level)))
+        members.now (string_bytes into.old) (string_bytes into.new)) }
+    ensures refused { IfErr result (IsRefusedAmong (λ m. m.1) level members.now) }
+    ensures kept { Keeps (string_bytes into.old) (string_bytes into.new) }
+{
+    match members.split_first() {
+        None => Ok(()),
+        Some((first, rest)) => {
+            write_member(level, first, into)?;
+            for member in rest {
+                into.push(',')?;
+                write_member(level, member, into)?;
+            }
+            Ok(())
+        }
+    }
+}
+
+/// Puts an object behind what is there.
+#[cycle(write)]
+fn write_object<A: Allocator, B: Allocator>(
+    level: usize,
+    members: &Vec<(String<A>, Value<A>), A>,
+    into: &mut String<B>,
+) -> Result<(), WriteError>
+    ensures written { OnOk result (Adds (CompactValue level) (values.Object members.now)
+        (string_bytes into.old) (string_bytes into.new)) }
+    ensures refused { IfErr result (IsRefused level (values.Object members.now)) }
+    ensures kept { Keeps (string_bytes into.old) (string_bytes into.new) }
+{
+    if level == 0 {
+        return Err(WriteError::Level);
+    }
+    into.push('{')?;
+    write_members(level - 1, members.as_slice(), into)?;
+    into.push('}')?;
+    Ok(())
+}
+
+/// Puts a value behind what is there.
+#[cycle(write)]
+pub fn write_nested<A: Allocator, B: Allocator>(
+    level: usize,
+    value: &Value<A>,
+    into: &mut String<B>,
+) -> Result<(), WriteError>
+    ensures written { OnOk result (Adds (CompactValue level) value.now (string_bytes into.old)
+        (string_bytes into.new)) }
+    ensures refused { IfErr result (IsRefused level value.now) }
+    ensures kept { Keeps (string_bytes into.old) (string_bytes into.new) }
+{
+    match value {
+        Value::Null => write_word(None, into),
+        Value::Boolean(is) => write_word(Some(*is), into),
+        Value::Number(text) => write_number(text.as_str(), into),
+        Value::Text(text) => {
+            write_string(text.as_str(), into)?;
+            Ok(())
+        }
+        Value::Array(items) => write_array(level, items, into),
+        Value::Object(members) => write_object(level, members, into),
+    }
+}

@@ -1,0 +1,54 @@
+//! Numbers of JSON as text (RFC 8259, section 6).
+ghost use Rattle.format_json_texts.specs.Number.{NumberText, Slice};
+ghost use Rattle.format_json_writer.specs.Added.{Keeps};
+ghost use Rattle.format_json_writer.specs.Built.{PutsNumber};
+ghost use Rattle.format_json_writer.specs.Refused.{IsNoNumber};
+ghost use Rattle.std.specs.Prelude.{◌≡◌, [], false, IfErr, IsTrue, OnOk, string_bytes};
+ghost use Rattle.std.specs.Str.{chars};
+
+use crate::error::WriteError;
+use format_json_scalars::number::read_number;
+use std::alloc::Allocator;
+use winnow::error::ParserError;
+
+/// Whether nothing is left of a text.
+fn is_read(rest: &str) -> bool
+    ensures yes { IsTrue result → chars rest.now ≡ [] }
+    ensures no { result ≡ false → chars rest.now ≡ [] → ⊥ }
+{
+    rest.is_empty()
+}
+
+/// Fails where a text is not a number, all of it.
+fn check_number(text: &str) -> Result<(), WriteError>
+    ensures is { OnOk result ((slice : Slice) × NumberText slice (chars text.now)) }
+    ensures none { IfErr result (IsNoNumber text.now) }
+{
+    let mut rest = text;
+    match read_number(&mut rest) {
+        Ok(_digits) => {
+            if is_read(rest) {
+                return Ok(());
+            }
+            Err(WriteError::Number)
+        }
+        Err(error) => {
+            if ParserError::<&str>::is_memory(&error) {
+                return Err(WriteError::Memory);
+            }
+            Err(WriteError::Number)
+        }
+    }
+}
+
+/// Puts a number behind what is there, as it is written.
+pub fn write_number<B: Allocator>(text: &str, into: &mut String<B>) -> Result<(), WriteError>
+    ensures written { OnOk result (PutsNumber text.now (string_bytes into.old)
+        (string_bytes into.new)) }
+    ensures none { IfErr result (IsNoNumber text.now) }
+    ensures kept { Keeps (string_bytes into.old) (string_bytes into.new) }
+{
+    check_number(text)?;
+    into.push_str(text)?;
+    Ok(())
+}

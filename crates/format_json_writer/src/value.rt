@@ -1,0 +1,142 @@
+//! Values of JSON as text (RFC 8259, sections 2 to 7).
+ghost use Rattle.format_json_texts.specs.Values.{ValueText};
+ghost use Rattle.format_json_writer.specs.Added.{Adds, Keeps};
+ghost use Rattle.format_json_writer.specs.Alike.{AreAlike};
+ghost use Rattle.format_json_writer.specs.Compact.{CompactValue};
+ghost use Rattle.format_json_writer.specs.Refused.{HasNoText, IsRefused};
+ghost use Rattle.format_json_writer.specs.declared.error.WriteError.TheVariants.{Memory};
+ghost use Rattle.std.specs.Prelude.{◌≡◌, ◌⊎◌, IfErr, IfOk, IsTrue, OnOk, string_bytes};
+ghost use Rattle.std.specs.Str.{chars};
+ghost use Rattle.winnow.specs.Exact.Whole.{IsWant};
+ghost use Rattle.winnow.specs.Accumulator.Holds.{HasCharacters};
+
+use crate::error::WriteError;
+use crate::nested::write_nested;
+use format_json_texts::value::Value;
+use format_json_values::value::parse_value;
+use std::alloc::Allocator;
+use winnow::error::{EmptyError, ErrMode, ParseFault, ParserError};
+
+/// Puts a value behind what is there, in which no more than so many arrays and objects stand in one
+/// another: the level is 0 for a value with no others in it, and 1 for an array of such values.
+///
+/// There is no white space in its text. A string is written as by
+/// [`write_string`](crate::string::write_string), a number as it stands in the value, and the
+/// members of an object in their order, also those that have one name. So
+/// [`parse_value`](format_json_values::value::parse_value) reads the value again, at the same
+/// level.
+///
+/// An error says why the value is not written: a number in it has a text that is none by RFC 8259
+/// (section 6), as `01` or `NaN`; it is nested deeper than the level; or a request for memory was
+/// refused. Where several are so it may be any of them. What was there then stands there still, and
+/// something may be behind it.
+///
+/// ```
+/// use format_json_values::value::parse_value;
+/// use format_json_writer::value::write_value;
+///
+/// let Ok(value) = parse_value(alloc, 2, " { \"a\" : [ 1.50 , null ] } ") else {
+///     return;
+/// };
+/// let mut into = String::from_str(alloc, "x=").unwrap();
+/// assert!(rt; write_value(2, &value, &mut into).is_ok());
+/// assert_eq!(rt; into.as_str(), "x={\"a\":[1.50,null]}");
+/// assert!(rt; write_value(1, &value, &mut into).is_err());
+/// ```
+pub fn write_value<A: Allocator, B: Allocator>(
+    level: usize,
+    value: &Value<A>,
+    into: &mut String<B>,
+) -> Result<(), WriteError>
+    ensures written { OnOk result (Adds (CompactValue level) value.now (string_bytes into.old)
+        (string_bytes into.new)) }
+    ensures text { OnOk result (Adds (ValueText HasCharacters level) value.now
+        (string_bytes into.old) (string_bytes into.new)) }
+    ensures refused { IfErr result (IsRefused level value.now) }
+    ensures none { IfErr result (λ e. (e ≡ Memory) ⊎ HasNoText level value.now) }
+    ensures kept { Keeps (string_bytes into.old) (string_bytes into.new) }
+{
+    write_nested(level, value, into)
+}
+
+/// The text of a value, in which no more than so many arrays and objects stand in one another: as
+/// [`write_value`] writes it, alone, and an error as of that.
+///
+/// ```
+/// use format_json_texts::value::Value;
+/// use format_json_writer::error::WriteError;
+/// use format_json_writer::value::to_text;
+/// use std::alloc::Global;
+///
+/// let mut items = Vec::new(alloc);
+/// assert!(rt; items.push(Value::Number(String::from_str(alloc, "1").unwrap())).is_ok());
+/// assert!(rt; items.push(Value::Text(String::from_str(alloc, "\n").unwrap())).is_ok());
+/// let value = Value::Array(items);
+/// assert!(rt; matches!(to_text(alloc, 1, &value), Ok(text) if text.as_str() == "[1,\"\\n\"]"));
+/// let none: Value<Global> = Value::Number(String::from_str(alloc, "01").unwrap());
+/// assert!(rt; matches!(to_text(alloc, 1, &none), Err(WriteError::Number)));
+/// ```
+pub fn to_text<A: Allocator, B: Allocator>(
+    alloc: B,
+    level: usize,
+    value: &Value<A>,
+) -> Result<String<B>, WriteError>
+    ensures written { IfOk result (λ text. CompactValue level value.now
+        (chars (string_bytes text))) }
+    ensures text { IfOk result (λ text. ValueText HasCharacters level value.now
+        (chars (string_bytes text))) }
+    ensures refused { IfErr result (IsRefused level value.now) }
+    ensures none { IfErr result (λ e. (e ≡ Memory) ⊎ HasNoText level value.now) }
+{
+    let mut text = String::new(alloc);
+    write_value(level, value, &mut text)?;
+    let _written = text.as_str();
+    Ok(text)
+}
+
+/// Whether a fault says that a request for memory was refused.
+fn wants_memory<'i>(fault: &ParseFault<&'i str, EmptyError>) -> bool
+    ensures { IsWant ⟦<ErrMode<EmptyError> as ParserError<&'i str>>⟧.inner_kind fault.now
+        → IsTrue result }
+{
+    match fault {
+        ParseFault::Refused(error) => ParserError::<&str>::is_memory(error.inner()),
+        ParseFault::Incomplete(_) => false,
+    }
+}
+
+/// What is read of the text that is written for a value: a value that is alike, in which the same
+/// words, numbers, strings, lists and names stand, as they stood. An error says why the value is
+/// not written, or that reading it was refused memory; there is no other.
+///
+/// ```
+/// use format_json_values::value::parse_value;
+/// use format_json_writer::value::{reads_back, to_text};
+///
+/// let Ok(value) = parse_value(alloc, 2, "{\"a\": [1.50]}") else {
+///     return;
+/// };
+/// let Ok(again) = reads_back(alloc, 2, &value) else {
+///     return;
+/// };
+/// assert!(rt; matches!(to_text(alloc, 2, &again), Ok(text) if text.as_str() == "{\"a\":[1.50]}"));
+/// ```
+pub fn reads_back<A: Allocator + Copy>(
+    alloc: A,
+    level: usize,
+    value: &Value<A>,
+) -> Result<Value<A>, WriteError>
+    ensures alike { IfOk result (λ read. AreAlike level value.now read) }
+    ensures refused { IfErr result (IsRefused level value.now) }
+{
+    let text = to_text(alloc, level, value)?;
+    match parse_value(alloc, level, text.as_str()) {
+        Ok(read) => Ok(read),
+        Err(fault) => {
+            if wants_memory(&fault) {
+                return Err(WriteError::Memory);
+            }
+            unreachable!()
+        }
+    }
+}

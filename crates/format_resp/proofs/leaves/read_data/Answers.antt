@@ -1,0 +1,6 @@
+use Rattle.format_resp.specs.Leaves.{same_data}
+use Rattle.winnow.specs.Cut.{reads_or_asks_as}
+use Rattle.format_resp.proofs.leaves.read_data.Goals as goal
+
+pub returns : goal.returns
+returns c = reads_or_asks_as (same_data c.args.size) c.tokens.ensures

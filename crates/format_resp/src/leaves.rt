@@ -1,0 +1,111 @@
+//! The parts of replies.
+
+ghost use Rattle.std.specs.Int.{w64};
+ghost use Rattle.std.specs.Prelude.{FitsSigned, IfOk};
+ghost use Rattle.winnow.specs.Bytes.{bytes_follow, bytes_input, bytes_reading};
+ghost use Rattle.winnow.specs.Exact.{Reads};
+ghost use Rattle.winnow.specs.Cut.{ReadsOrAsks};
+ghost use Rattle.winnow.specs.InTurn.{First};
+ghost use Rattle.format_resp.specs.Leaves.{SignedRead};
+ghost use Rattle.format_resp.specs.Resp.{DataText, IntegerText, LineText, MarkText, SizeText};
+
+use crate::pieces::{line, token, tokens};
+use winnow::Parser;
+use winnow::ascii::impls::DecInt;
+use winnow::error::{EmptyError, ErrMode, HasKind, ParserError};
+use winnow::stream::{Partial, Stream};
+
+type Bytes = Partial<&'static [u8]>;
+
+type Error = ErrMode<EmptyError>;
+
+/// The first byte of a reply, which says what it is.
+#[derive(Clone, Copy)]
+pub(crate) enum Mark {
+    /// `+`, of a simple string.
+    Plus,
+    /// `-`, of an error.
+    Minus,
+    /// `:`, of an integer.
+    Colon,
+    /// `$`, of a bulk string.
+    Dollar,
+    /// `*`, of an array.
+    Star,
+}
+
+/// The first byte of a reply.
+pub(crate) fn read_mark<'i>(input: &mut Partial<&'i [u8]>) -> Result<Mark, ErrMode<EmptyError>>
+    ensures { ReadsOrAsks bytes_reading bytes_follow ⟦<Error as HasKind>⟧.kind (First MarkText)
+        (⟦<Bytes as Stream>⟧.view input.old) result (⟦<Bytes as Stream>⟧.view input.new) }
+{
+    match token(input)? {
+        b'+' => Ok(Mark::Plus),
+        b'-' => Ok(Mark::Minus),
+        b':' => Ok(Mark::Colon),
+        b'$' => Ok(Mark::Dollar),
+        b'*' => Ok(Mark::Star),
+        _ => Err(ErrMode::from_input(input)),
+    }
+}
+
+/// The bytes of a line.
+pub(crate) fn read_line<'i>(input: &mut Partial<&'i [u8]>) -> Result<&'i [u8], ErrMode<EmptyError>>
+    ensures { ReadsOrAsks bytes_reading bytes_follow ⟦<Error as HasKind>⟧.kind (First LineText)
+        (⟦<Bytes as Stream>⟧.view input.old) result (⟦<Bytes as Stream>⟧.view input.new) }
+{
+    line(input)
+}
+
+/// The integer that bytes begin with.
+fn read_signed<'i>(bytes: &mut &'i [u8]) -> Result<i64, ErrMode<EmptyError>>
+    ensures { Reads bytes_reading ⟦<Error as HasKind>⟧.kind SignedRead (bytes_input bytes.old.now)
+        result (bytes_input bytes.new.now) }
+{
+    DecInt.read(bytes)
+}
+
+/// An integer on a line of its own.
+pub(crate) fn read_integer<'i>(input: &mut Partial<&'i [u8]>) -> Result<i64, ErrMode<EmptyError>>
+    ensures told { ReadsOrAsks bytes_reading bytes_follow ⟦<Error as HasKind>⟧.kind
+        (First IntegerText) (⟦<Bytes as Stream>⟧.view input.old) result
+        (⟦<Bytes as Stream>⟧.view input.new) }
+    ensures fits { IfOk result (λ n. FitsSigned w64 n) }
+{
+    let mut bytes = read_line(input)?;
+    let number = read_signed(&mut bytes)?;
+    if bytes.is_empty() {
+        Ok(number)
+    } else {
+        Err(ErrMode::from_input(input))
+    }
+}
+
+/// A size on a line of its own; none for null.
+pub(crate) fn read_size<'i>(
+    input: &mut Partial<&'i [u8]>,
+) -> Result<Option<usize>, ErrMode<EmptyError>>
+    ensures { ReadsOrAsks bytes_reading bytes_follow ⟦<Error as HasKind>⟧.kind (First SizeText)
+        (⟦<Bytes as Stream>⟧.view input.old) result (⟦<Bytes as Stream>⟧.view input.new) }
+{
+    let number = read_integer(input)?;
+    if number == -1 {
+        return Ok(None);
+    }
+    match usize::try_from(number) {
+        Ok(size) => Ok(Some(size)),
+        Err(_) => Err(ErrMode::from_input(input)),
+    }
+}
+
+/// So many bytes and a line end.
+pub(crate) fn read_data<'i>(
+    size: usize,
+    input: &mut Partial<&'i [u8]>,
+) -> Result<&'i [u8], ErrMode<EmptyError>>
+    ensures { ReadsOrAsks bytes_reading bytes_follow ⟦<Error as HasKind>⟧.kind
+        (First (DataText size)) (⟦<Bytes as Stream>⟧.view input.old) result
+        (⟦<Bytes as Stream>⟧.view input.new) }
+{
+    tokens(size, input)
+}

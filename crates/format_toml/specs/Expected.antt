@@ -1,0 +1,124 @@
+-- What a line lacks that is none of TOML.
+use Rattle.std.specs.Prelude.{◌≡◌, ◌⊎◌, ◌<◌, ℕ, zero, suc, List, [], length, Option}
+use Rattle.std.specs.Prelude.{Some, None}
+use Rattle.std.specs.Borrow.{Bor}
+use Rattle.std.specs.Str.{chars}
+use Rattle.winnow.specs.Text.{text_reading}
+use Rattle.winnow.specs.Range.{from_to}
+use Rattle.std.proofs.Common.{ap, inl, arith, length-append}
+use Rattle.format_json_scalars.specs.Unique.{char_takes, char_unique}
+use Rattle.format_json_texts.specs.Number.{Slice}
+use Rattle.format_json_texts.specs.Words.{Char, latter}
+use Rattle.format_toml.specs.Toml.{AnyValue, Line, Mark, Newline, Separator, Tells, Ws}
+use Rattle.format_toml.specs.Unique.{line_unique}
+use Rattle.format_toml.specs.declared.characters.Characters.TheVariants.{Bare}
+use Rattle.format_toml.specs.declared.expected.Expected.{Expected}
+use Rattle.format_toml.specs.declared.expected.Expected.TheVariants.{ClosingBracket, EqualsSign}
+use Rattle.format_toml.specs.declared.expected.Expected.TheVariants.{Key, LineEnd, TableName}
+use Rattle.format_toml.specs.declared.expected.Expected.TheVariants as expected
+use Rattle.format_toml.specs.declared.expected.Lack.{Lack}
+use Rattle.format_toml.specs.declared.expected.Outcome as ways
+use Rattle.format_toml.specs.declared.expected.Outcome.TheVariants.{Last, Before}
+use Rattle.format_toml.specs.declared.expected.Outcome.TheVariants as lines
+use Rattle.winnow.specs.Grammar.{Grammar, Longest, NoneStands, Takes}
+use Rattle.winnow.specs.Grammar.Unique.{both_take, either_takes}
+use Rattle.winnow.specs.Texts.{NotFirst}
+
+-- unquoted-key, as it stands in the text
+abbrev pub BareKey : Grammar ℕ Slice
+BareKey = Longest text_reading (λ c. c) Tells Bare (from_to 1 None)
+
+-- something stands first by a grammar, with this left
+abbrev pub Stands : {O : Type 0} → Grammar ℕ O → List ℕ → List ℕ → Type 0
+Stands {O} grammar tokens rest = (o : O) × grammar tokens o rest
+
+-- what is left behind what stands first, or nothing where nothing does
+abbrev pub IsPast : {O : Type 0} → Grammar ℕ O → List ℕ → Option (Bor (List ℕ)) → Type 0
+IsPast grammar tokens (Some rest) =
+    Stands grammar tokens (chars rest.now)
+IsPast grammar tokens None = NoneStands grammar tokens
+
+-- nothing is lacking
+abbrev pub LacksNothing : (Expected → List ℕ → Type 0) → Type 0
+LacksNothing lacks = (what : Expected) (rest : List ℕ) → lacks what rest → ⊥
+
+-- what is lacking, or nothing where nothing is
+abbrev pub IsLack : (Expected → List ℕ → Type 0) → Option Lack → Type 0
+IsLack lacks (Some lack) = lacks lack.expected (chars lack.rest.now)
+IsLack lacks None = LacksNothing lacks
+
+-- What stands of a table before what it lacks, one behind the other, and what does not stand there.
+abbrev pub TableLacks : List ℕ → Expected → List ℕ → Type 0
+TableLacks text TableName rest = Stands (Mark 91) text rest × NoneStands BareKey rest
+TableLacks text ClosingBracket rest =
+    (name : List ℕ) × (behind : List ℕ) × Stands (Mark 91) text name × Stands BareKey name behind
+    × Stands Ws behind rest × NoneStands (Char 93) rest
+TableLacks text expected rest = ⊥
+
+module _ (A : Type 0) (level : ℕ) where
+  -- The same of a key and its value.
+  abbrev pub EntryLacks : List ℕ → Expected → List ℕ → Type 0
+  EntryLacks text Key rest =
+      (rest ≡ text) × NotFirst (λ c. c ≡ 91) text × NotFirst (λ c. c ≡ 35) text
+      × NoneStands BareKey text
+  EntryLacks text EqualsSign rest = Stands BareKey text rest × NoneStands Separator rest
+  EntryLacks text expected.Value rest =
+      (behind : List ℕ) × Stands BareKey text behind × Stands Separator behind rest
+      × NoneStands (AnyValue {A = A} level) rest
+  EntryLacks text expected rest = ⊥
+
+  -- What a table or an entry lacks behind white space.
+  abbrev pub ItemLacks : List ℕ → Expected → List ℕ → Type 0
+  ItemLacks line what rest =
+      (text : List ℕ) × Stands Ws line text
+      × (TableLacks text what rest ⊎ EntryLacks text what rest)
+
+  -- What a line lacks that is none of TOML: what stands of a line is followed neither by the end
+  -- of the text nor by a line end. Its table or its entry lacks it; or these lack nothing, and then
+  -- it is the end of the line, behind what stands of it.
+  abbrev pub Lacks : List ℕ → Expected → List ℕ → Type 0
+  Lacks line what rest =
+      (end : List ℕ) × Stands (Line {A = A} level) line end × (end ≡ [] → ⊥)
+      × NoneStands Newline end
+      × (ItemLacks line what rest
+      ⊎ ((what ≡ LineEnd) × (rest ≡ end) × LacksNothing (ItemLacks line)))
+
+  -- A line with its line end, and what is left behind it.
+  abbrev pub LineStands : List ℕ → List ℕ → Type 0
+  LineStands line behind =
+      (end : List ℕ) × Stands (Line {A = A} level) line end × Stands Newline end behind
+
+  -- A line that is the last, one before another, or one that lacks something.
+  abbrev pub IsLine : List ℕ → ways.Outcome → Type 0
+  IsLine line Last = Stands (Line {A = A} level) line []
+  IsLine line (Before behind) = LineStands line (chars behind.now)
+  IsLine line (lines.Lacks lack) = Lacks line lack.expected (chars lack.rest.now)
+
+  -- So many lines stand before a line, each with its line end.
+  abbrev pub LinesBefore : ℕ → List ℕ → List ℕ → Type 0
+  LinesBefore zero text line = line ≡ text
+  LinesBefore (suc n) text line =
+      (former : List ℕ) × LinesBefore n text former × LineStands former line
+
+  -- What the first line lacks that is none of TOML; or all are lines of TOML, up to the end.
+  abbrev pub IsFirstLack : List ℕ → Option Lack → Type 0
+  IsFirstLack text (Some lack) =
+      (n : ℕ) × (line : List ℕ) × LinesBefore n text line
+      × Lacks line lack.expected (chars lack.rest.now)
+  IsFirstLack text None =
+      (n : ℕ) × (line : List ℕ) × LinesBefore n text line × Stands (Line {A = A} level) line []
+
+-- ---- lemmas
+
+-- a line end takes tokens
+newline_takes : Takes Newline
+newline_takes =
+    either_takes (char_takes 10)
+    (both_take latter (char_unique 13) (char_unique 10) (inl (char_takes 13)))
+
+-- so there are fewer behind a line
+pub line_less : (A : Type 0) (level : ℕ) (line behind : List ℕ) → LineStands A level line behind
+    → length behind < length line
+line_less A level line behind (end, (o, x), (c, y)) =
+    let (front, e) = (line_unique {A = A} level).ends line o end x in
+    omega (arith, ap (λ l. length l) e, length-append front end, newline_takes.fewer end c behind y)

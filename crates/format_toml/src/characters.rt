@@ -1,0 +1,63 @@
+//! Characters of keys, strings and comments (TOML 1.0: Comment, Keys, String).
+ghost use Rattle.std.specs.Prelude.{◌↔◌, IsTrue};
+ghost use Rattle.format_toml.specs.Toml.{IsBare, IsOf, IsShown};
+ghost use Rattle.winnow.specs.Once.{holds_once};
+
+use winnow::stream::ContainsToken;
+
+/// A set of characters.
+///
+/// ```
+/// use format_toml::characters::Characters;
+/// use winnow::stream::ContainsToken;
+///
+/// assert!(rt; Characters::Bare.contains_token('_'));
+/// assert!(rt; !Characters::Bare.contains_token('.'));
+/// assert!(rt; !Characters::Comment.contains_token('\u{7f}'));
+/// assert!(rt; !Characters::Literal.contains_token('\''));
+/// assert!(rt; Characters::Basic.contains_token('\t'));
+/// ```
+#[derive(Clone, Copy, Drop)]
+pub enum Characters {
+    /// Those of a bare key: letters and digits of ASCII, `-` and `_`.
+    Bare,
+    /// Those of a comment: all but control characters, and tabs.
+    Comment,
+    /// Those of a literal string: as of a comment, without `'`.
+    Literal,
+    /// Those of a basic string that stand for themselves: as of a comment, without `"` and `\`.
+    Basic,
+}
+
+/// Whether it is one of a bare key.
+fn is_bare(c: char) -> bool
+    ensures { IsTrue result ↔ IsBare c }
+{
+    ('A' <= c && c <= 'Z')
+        || ('a' <= c && c <= 'z')
+        || ('0' <= c && c <= '9')
+        || c == '-'
+        || c == '_'
+}
+
+/// Whether it is no control character, or a tab.
+fn is_shown(c: char) -> bool
+    ensures { IsTrue result ↔ IsShown c }
+{
+    c == '\t' || (' ' <= c && c <= '~') || '\u{80}' <= c
+}
+
+impl ContainsToken<char> for Characters {
+    ghost tells = { λ s c b. IsTrue b ↔ IsOf s c };
+
+    ghost once = { λ s is. holds_once (IsOf s) };
+
+    fn contains_token(&self, token: char) -> bool {
+        match *self {
+            Characters::Bare => is_bare(token),
+            Characters::Comment => is_shown(token),
+            Characters::Literal => is_shown(token) && token != '\'',
+            Characters::Basic => is_shown(token) && token != '"' && token != '\\',
+        }
+    }
+}

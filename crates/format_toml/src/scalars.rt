@@ -1,0 +1,145 @@
+//! Values that have no others in them (TOML 1.0: String, Integer, Boolean).
+ghost use Rattle.std.specs.Prelude.{◌≡◌, false, IsTrue};
+ghost use Rattle.std.specs.Str.{chars};
+ghost use Rattle.winnow.specs.Text.{text_input, text_reading};
+ghost use Rattle.format_toml.specs.Toml.{AnyBoolean, BasicString, Integer, IsText};
+ghost use Rattle.format_toml.specs.Toml.{LiteralString, Scalar, Whole};
+ghost use Rattle.winnow.specs.Exact.{Reads};
+ghost use Rattle.winnow.specs.Grammar.Meaning.{Meaning};
+ghost use Rattle.winnow.specs.Texts.{Begins, NotFirst};
+
+use crate::characters::Characters;
+use crate::escapes::{AnyCharacter, read_character};
+use crate::value::Value;
+use format_json_scalars::marks::read_between;
+use std::alloc::Allocator;
+use winnow::Parser;
+use winnow::ascii::impls::DecInt;
+use winnow::combinator::repeat;
+use winnow::error::{EmptyError, ErrMode, HasKind};
+use winnow::exact::Rule;
+use winnow::stream::Range;
+use winnow::token::{literal, one_of};
+
+/// Whether this character is first.
+pub fn begins_with(input: &str, first: char) -> bool
+    ensures yes { IsTrue result → Begins (λ c. c ≡ first) (chars input.now) }
+    ensures no { result ≡ false → NotFirst (λ c. c ≡ first) (chars input.now) }
+{
+    match input.chars().next() {
+        Some(c) => c == first,
+        None => false,
+    }
+}
+
+/// A basic string, its escapes undone.
+fn read_basic<'i, A: Allocator + Copy>(
+    alloc: A,
+    input: &mut &'i str,
+) -> Result<String<A>, ErrMode<EmptyError>>
+    ensures { Reads text_reading ⟦<ErrMode<EmptyError> as HasKind>⟧.kind BasicString
+        (text_input input.old.now) result (text_input input.new.now) }
+{
+    let characters = repeat(alloc, Range::from(0..), AnyCharacter.by(read_character));
+    read_between('"', characters, '"', input)
+}
+
+/// A literal string.
+fn read_literal<'i, A: Allocator + Copy>(
+    alloc: A,
+    input: &mut &'i str,
+) -> Result<String<A>, ErrMode<EmptyError>>
+    ensures { Reads text_reading ⟦<ErrMode<EmptyError> as HasKind>⟧.kind LiteralString
+        (text_input input.old.now) result (text_input input.new.now) }
+{
+    let characters = repeat(alloc, Range::from(0..), one_of(Characters::Literal));
+    read_between('\'', characters, '\'', input)
+}
+
+/// A basic string, as a value.
+fn read_basic_value<'i, A: Allocator + Copy>(
+    alloc: A,
+    input: &mut &'i str,
+) -> Result<Value<A>, ErrMode<EmptyError>>
+    ensures { Reads text_reading ⟦<ErrMode<EmptyError> as HasKind>⟧.kind
+        (Meaning IsText BasicString)
+        (text_input input.old.now) result (text_input input.new.now) }
+{
+    match read_basic(alloc, input) {
+        Ok(text) => Ok(Value::Text(text)),
+        Err(error) => Err(error),
+    }
+}
+
+/// A literal string, as a value.
+fn read_literal_value<'i, A: Allocator + Copy>(
+    alloc: A,
+    input: &mut &'i str,
+) -> Result<Value<A>, ErrMode<EmptyError>>
+    ensures { Reads text_reading ⟦<ErrMode<EmptyError> as HasKind>⟧.kind
+        (Meaning IsText LiteralString)
+        (text_input input.old.now) result (text_input input.new.now) }
+{
+    match read_literal(alloc, input) {
+        Ok(text) => Ok(Value::Text(text)),
+        Err(error) => Err(error),
+    }
+}
+
+/// A word, for what is told by it.
+fn read_boolean<A: Allocator>(
+    word: &'static str,
+    is: bool,
+    input: &mut &str,
+) -> Result<Value<A>, ErrMode<EmptyError>>
+    ensures { Reads text_reading ⟦<ErrMode<EmptyError> as HasKind>⟧.kind
+        (AnyBoolean (chars word.now) is)
+        (text_input input.old.now) result (text_input input.new.now) }
+{
+    match literal(word).read(input) {
+        Ok(_word) => Ok(Value::Boolean(is)),
+        Err(error) => Err(error),
+    }
+}
+
+/// An integer.
+fn read_integer<'i>(input: &mut &'i str) -> Result<i64, ErrMode<EmptyError>>
+    ensures { Reads text_reading ⟦<ErrMode<EmptyError> as HasKind>⟧.kind Integer
+        (text_input input.old.now) result (text_input input.new.now) }
+{
+    DecInt.read(input)
+}
+
+/// An integer, as a value.
+fn read_whole<A: Allocator>(input: &mut &str) -> Result<Value<A>, ErrMode<EmptyError>>
+    ensures { Reads text_reading ⟦<ErrMode<EmptyError> as HasKind>⟧.kind Whole
+        (text_input input.old.now) result (text_input input.new.now) }
+{
+    match read_integer(input) {
+        Ok(number) => Ok(Value::Integer(number)),
+        Err(error) => Err(error),
+    }
+}
+
+/// The string, the boolean or the integer that stands first.
+pub fn read_scalar<A: Allocator + Copy>(
+    alloc: A,
+    input: &mut &str,
+) -> Result<Value<A>, ErrMode<EmptyError>>
+    ensures { Reads text_reading ⟦<ErrMode<EmptyError> as HasKind>⟧.kind Scalar
+        (text_input input.old.now) result (text_input input.new.now) }
+{
+    if begins_with(input, '"') {
+        return read_basic_value(alloc, input);
+    }
+    if begins_with(input, '\'') {
+        return read_literal_value(alloc, input);
+    }
+    if begins_with(input, 't') {
+        return read_boolean("true", true, input);
+    }
+    if begins_with(input, 'f') {
+        return read_boolean("false", false, input);
+    }
+    read_whole(input)
+}

@@ -1,5 +1,0 @@
-use Rattle.http_heads.specs.Parts.{err_at}
-use Rattle.http_heads.proofs.head.read_head.Goals as goal
-
-pub returns-in-Err-clause-head : goal.returns-in-Err-clause-head
-returns-in-Err-clause-head g c = err_at c.in-Err.ensures

@@ -1,5 +1,0 @@
-use Rattle.json_pieces.specs.Value.{value_written}
-use Rattle.json_pieces.proofs.value.values_are_those_of_the_standard.Goals as goal
-
-pub returns : goal.returns
-returns g c = value_written

@@ -1,4 +1,0 @@
-use Rattle.json_reader.proofs.escapes.read_escape.Goals as goal
-
-pub returns : goal.returns
-returns c = c.read_escape_of.ensures

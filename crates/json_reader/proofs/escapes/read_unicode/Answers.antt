@@ -1,4 +1,0 @@
-use Rattle.json_reader.proofs.escapes.read_unicode.Goals as goal
-
-pub returns : goal.returns
-returns c = c.read_either.ensures

@@ -1,5 +1,0 @@
-use Rattle.winnow.specs.Read.{reads_by}
-use Rattle.json_reader.proofs.parts.read_either.Goals as goal
-
-pub returns : goal.returns
-returns g c = reads_by c.read.ensures.reads (rw c.alt.ensures)

@@ -1,6 +1,0 @@
-use Rattle.winnow.specs.Accumulator.Holds.{HasCharacters}
-use Rattle.json_texts.specs.Strings.{string_of}
-use Rattle.json_texts.proofs.laws.strings_are_those_of_the_standard.Goals as goal
-
-pub returns : goal.returns
-returns g c = string_of HasCharacters

@@ -1,5 +1,0 @@
-use Rattle.json_writer.specs.Back.{written_alike}
-use Rattle.json_writer.proofs.laws.what_is_written_reads_back_alike.Goals as goal
-
-pub returns : goal.returns
-returns g c = written_alike

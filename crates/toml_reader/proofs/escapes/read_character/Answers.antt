@@ -1,9 +1,0 @@
-use Rattle.winnow.specs.Read.{reads_by}
-use Rattle.toml_reader.proofs.escapes.read_character.Goals as goal
-
-pub returns : goal.returns
-returns c = reads_by c.read.ensures.reads (rw (
-  c.alt.ensures,
-  c.one_of.ensures,
-  c.preceded-escaped.ensures.ignored,
-))

@@ -1,6 +1,0 @@
-use Rattle.uses_lines.specs.Lines.{reads_line}
-use Rattle.uses_lines.proofs.read_line.Goals as goal
-
-pub returns : goal.returns
-returns c = reads_line c.read.ensures.reads
-    (rw (c.terminated.ensures.parser, c.terminated.ensures.ignored, c.alt.ensures))

@@ -1,6 +1,0 @@
-use Rattle.uses_resp.specs.Leaves.{same_line}
-use Rattle.winnow.specs.Cut.{reads_or_asks_as}
-use Rattle.uses_resp.proofs.leaves.read_line.Goals as goal
-
-pub returns : goal.returns
-returns c = reads_or_asks_as same_line c.line.ensures

@@ -1,5 +1,0 @@
-//! Lists of lines that are read as far as they can be: each fault is recorded, and its line is
-//! skipped.
-#![tactic(auto)]
-
-pub mod lines;

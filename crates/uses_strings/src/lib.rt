@@ -1,4 +1,0 @@
-//! Texts with escapes in use.
-#![tactic(auto)]
-
-pub mod strings;

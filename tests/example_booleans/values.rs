@@ -1,0 +1,89 @@
+//! Formulas, their values and what they leave.
+use std::process::Abort;
+use stream_errors::empty::EmptyError;
+use stream_errors::parser_error::ParserError;
+use test_support::refusing::Refusing;
+use example_booleans::booleans::truth;
+
+/// A formula has this value, or none, and so much of it is left.
+const ROWS: &[(&str, Option<bool>, &str)] = &[
+    ("t", Some(true), ""),
+    ("f", Some(false), ""),
+    ("!t", Some(false), ""),
+    ("f'", Some(true), ""),
+    ("f''", Some(false), ""),
+    ("!!t", Some(true), ""),
+    // a prefix binds one operand
+    ("!t&f", Some(false), ""),
+    ("!t|t", Some(true), ""),
+    // the stronger operator first
+    ("t|t&f", Some(true), ""),
+    ("f&t|t", Some(true), ""),
+    ("f=t|t", Some(false), ""),
+    ("t|f=f", Some(false), ""),
+    ("!t|t&f'=t", Some(true), ""),
+    // equalities are not joined
+    ("t=t=f", Some(true), "=f"),
+    ("f=t&t=t", Some(false), "=t"),
+    // what is behind a formula is left
+    ("tt", Some(true), "t"),
+    ("t!f", Some(true), "!f"),
+    ("t x", Some(true), " x"),
+    // no formula
+    ("", None, ""),
+    ("x", None, "x"),
+    ("t&", None, ""),
+    ("t|x", None, "x"),
+    ("!", None, ""),
+    ("t=&", None, "&"),
+];
+
+/// What an answer says, where it is no want of memory.
+fn said(rt: &impl Abort, text: &str, answer: Result<bool, EmptyError>) -> Option<bool> {
+    match answer {
+        Ok(value) => Some(value),
+        Err(error) => {
+            assert!(rt; !ParserError::<&[u8]>::is_memory(&error), "{text:?}");
+            None
+        }
+    }
+}
+
+#[test]
+fn truth_of_formulas(rt: HostRuntime) {
+    for (text, want, left) in ROWS {
+        let mut input = text.as_bytes();
+        let got = said(&rt, text, truth(rt.alloc(), &mut input));
+        assert_eq!(rt; got, *want, "{text:?}");
+        assert_eq!(rt; input, left.as_bytes(), "{text:?}");
+    }
+}
+
+/// A formula of operands and postfixes takes no memory, and the others answer where it is refused.
+#[test]
+fn truth_wants_memory(rt: HostRuntime) {
+    let heap = Refusing::always_from(rt.alloc(), 0);
+    let mut input = b"f'".as_slice();
+    assert_eq!(rt; said(&rt, "f'", truth(&heap, &mut input)), Some(true));
+    for text in ["!t", "t&t"] {
+        let mut input = text.as_bytes();
+        match truth(&heap, &mut input) {
+            Ok(_) => assert!(rt; false, "{text:?}"),
+            Err(error) => assert!(rt; ParserError::<&[u8]>::is_memory(&error), "{text:?}"),
+        }
+    }
+    let mut met = true;
+    let mut n = 0u64;
+    while met {
+        let heap = Refusing::once(rt.alloc(), n);
+        let mut input = b"!t|t&f'=t".as_slice();
+        let answer = truth(&heap, &mut input);
+        met = heap.met();
+        match answer {
+            Ok(value) => assert!(rt; !met && value, "{n}"),
+            Err(error) => assert!(rt; met && ParserError::<&[u8]>::is_memory(&error), "{n}"),
+        }
+        n += 1;
+    }
+    assert!(rt; n > 1);
+}

@@ -1,0 +1,112 @@
+//! Fields of records, and where records end.
+use std::fmt::Debug;
+use std::process::Abort;
+use format_csv::{LineEnd, read_record};
+
+/// A text, the bytes of the first field of the record that it begins with,
+/// how many fields the record has, and what is left. The fields are as Python's `csv.writer` writes
+/// them, with as few quotes as it can and with all, and its strict reader reads them back.
+const RECORDS: &[(&[u8], &[u8], usize, &[u8])] = &[
+    (b",next", b"", 2, b""),
+    (b"\r\n", b"", 1, b""),
+    (b"\r\nx", b"", 1, b"x"),
+    (b"\"\"", b"", 1, b""),
+    (b"\"\",next", b"", 2, b""),
+    (b"\"\"\r\n", b"", 1, b""),
+    (b"\"\"\r\nx", b"", 1, b"x"),
+    (b"a", b"a", 1, b""),
+    (b"a,next", b"a", 2, b""),
+    (b"a\r\n", b"a", 1, b""),
+    (b"a\r\n\r\n", b"a", 1, b"\r\n"),
+    (b"\"a\"", b"a", 1, b""),
+    (b"\"a\",\"next\",\r\n", b"a", 3, b""),
+    (b"a b ,c", b"a b ", 2, b""),
+    (b" \t,c", b" \t", 2, b""),
+    (b"\xc3\xa9\r\nx", b"\xc3\xa9", 1, b"x"),
+    (b"\"\xc3\xa9\",", b"\xc3\xa9", 2, b""),
+    (b"\"x,y\"", b"x,y", 1, b""),
+    (b"\"\"\"\"", b"\"", 1, b""),
+    (b"\"\"\"\",next", b"\"", 2, b""),
+    (b"\"say \"\"hi\"\"\"\r\nx", b"say \"hi\"", 1, b"x"),
+    (b"\"a\r\nb\",next\r\n", b"a\r\nb", 2, b""),
+    (b"\"\"\"\"\"\"", b"\"\"", 1, b""),
+    (b"\",\"\r\nx", b",", 1, b"x"),
+    (b"\"\n\"", b"\n", 1, b""),
+    (b"\"\r\"", b"\r", 1, b""),
+    // What the standard has no word for.
+    (b"\x01\x7f\x00,", b"\x01\x7f\x00", 2, b""),
+    (b"\"\x01\x7f\x00\"", b"\x01\x7f\x00", 1, b""),
+];
+
+/// Texts that begin with no record: a quote that is not closed or stands in the middle, a byte behind
+/// a closing quote, a lone line feed or carriage return outside of quotes, no bytes.
+const NO_RECORDS: &[&[u8]] = &[
+    b"",
+    b"\"",
+    b"\"a",
+    b"\"a\"\"",
+    b"\"a\"b",
+    b"\"a\" ",
+    b" \"a\"",
+    b"a\"",
+    b"a\"b\"",
+    b"a\nb",
+    b"a\rb",
+    b"a\r",
+    b"\n",
+    b"\"a\"\r",
+    b"\"a\"\n",
+    b"\"a\"\"b",
+    b"a,\"",
+    b"a,b\"c\r\n",
+];
+
+/// A text and what is left of it where line feeds alone end lines, or where it begins with no such
+/// record.
+const BY_LINE_FEEDS: &[(&[u8], Option<&[u8]>)] = &[
+    (b"a,b\nc", Some(b"c")),
+    (b"\n\n", Some(b"\n")),
+    (b"\"a\r\nb\"\n", Some(b"")),
+    (b"a", Some(b"")),
+    (b"a\r\nb", None),
+    (b"\r\n", None),
+    (b"", None),
+];
+
+fn same<T: PartialEq + Debug + Drop>(rt: &impl Abort, row: &[u8], got: T, want: T) {
+    assert_eq!(rt; got, want, "{row:?}");
+}
+
+#[test]
+fn read_record_of_records(rt: HostRuntime) {
+    for (text, bytes, count, rest) in RECORDS {
+        let mut input = *text;
+        match read_record(rt.alloc(), LineEnd::CrLf, &mut input) {
+            Ok(fields) => {
+                same(&rt, text, fields.len(), *count);
+                if let Some(field) = fields.first() {
+                    same(&rt, text, field.as_slice(), *bytes);
+                }
+                same(&rt, text, input, *rest);
+            }
+            Err(error) => same(&rt, text, Err(error), Ok(())),
+        }
+    }
+}
+
+#[test]
+fn read_record_of_none(rt: HostRuntime) {
+    for text in NO_RECORDS {
+        let mut input = *text;
+        same(&rt, text, read_record(rt.alloc(), LineEnd::CrLf, &mut input).is_err(), true);
+    }
+}
+
+#[test]
+fn read_record_by_line_feeds(rt: HostRuntime) {
+    for (text, want) in BY_LINE_FEEDS {
+        let mut input = *text;
+        let is_read = read_record(rt.alloc(), LineEnd::Lf, &mut input).is_ok();
+        same(&rt, text, if is_read { Some(input) } else { None }, *want);
+    }
+}

@@ -1,0 +1,19 @@
+//! Memory that is refused.
+use format_dns::name::{NameFault, read_name};
+use std::alloc::Global;
+use test_support::refusing::Refusing;
+
+#[test]
+fn read_name_refused_memory(rt: HostRuntime) {
+    let mut met = true;
+    let mut n = 0u64;
+    while met {
+        let heap: Refusing<Global> = Refusing::once(rt.alloc(), n);
+        let name = read_name(&heap, 1, b"\x01a\0\x01b\xc0\0".as_slice(), 3);
+        let wants = matches!(name, Err(NameFault::NoMemory));
+        met = heap.met();
+        assert_eq!(rt; wants, met, "{n}");
+        n += 1;
+    }
+    assert!(rt; n > 2);
+}

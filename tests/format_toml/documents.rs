@@ -1,0 +1,186 @@
+//! Documents, and what their lines say.
+use crate::shown::show;
+use std::alloc::Global;
+use std::process::Abort;
+use format_toml::lines::{parse_lines, read_value};
+use format_toml::value::{Document, Value};
+use winnow::error::ParseFault;
+
+/// A level, a document of toml.io/en/v1.0.0 or one like it, and what it says of its lines, in order:
+/// `'` round each string, a comma behind each value of an array, a bar behind each line.
+const ROWS: &[(usize, &str, &str)] = &[
+    // Comment
+    (
+        0,
+        "# This is a full-line comment\nkey = \"value\"  # This is a comment at the end of a line\n\
+         another = \"# This is not a comment\"",
+        "|key='value'|another='# This is not a comment'|",
+    ),
+    // Key/Value Pair
+    (0, "key = \"value\"", "key='value'|"),
+    // Keys
+    (
+        0,
+        "key = \"value\"\nbare_key = \"value\"\nbare-key = \"value\"\n1234 = \"value\"",
+        "key='value'|bare_key='value'|bare-key='value'|1234='value'|",
+    ),
+    (0, "- = 1\n_=2\nZz9-\t=\t3", "-=1|_=2|Zz9-=3|"),
+    // String
+    (
+        0,
+        "winpath  = 'C:\\Users\\nodejs'\nwinpath2 = '\\\\ServerX\\admin$\\system32\\'\n\
+         quoted   = 'Tom \"Dubs\" Preston-Werner'\nregex    = '<\\i\\c*\\s*>'",
+        "winpath='C:\\Users\\nodejs'|winpath2='\\\\ServerX\\admin$\\system32\\'|\
+         quoted='Tom \"Dubs\" Preston-Werner'|regex='<\\i\\c*\\s*>'|",
+    ),
+    (0, "a = \"\"\nb = ''\nc = \"'\t\u{e9}\u{20ac}\u{1d11e}\"", "a=''|b=''|c=''\t\u{e9}\u{20ac}\u{1d11e}'|"),
+    (
+        0,
+        "a = \"\\b\\t\\n\\f\\r\\\"\\\\\"\nb = \"\\\"You can quote me\\\".\"",
+        "a='\u{8}\t\n\u{c}\r\"\\'|b='\"You can quote me\".'|",
+    ),
+    // Integer
+    (0, "int1 = +99\nint2 = 42\nint3 = 0\nint4 = -17", "int1=99|int2=42|int3=0|int4=-17|"),
+    (
+        0,
+        "a = 9223372036854775807\nb = -9223372036854775808",
+        "a=9223372036854775807|b=-9223372036854775808|",
+    ),
+    // Boolean
+    (0, "bool1 = true\nbool2 = false", "bool1=true|bool2=false|"),
+    // Array
+    (1, "integers = [ 1, 2, 3 ]", "integers=[1,2,3,]|"),
+    (1, "colors = [ \"red\", \"yellow\", \"green\" ]", "colors=['red','yellow','green',]|"),
+    (2, "nested_arrays_of_ints = [ [ 1, 2 ], [3, 4, 5] ]", "nested_arrays_of_ints=[[1,2,],[3,4,5,],]|"),
+    (
+        2,
+        "nested_mixed_array = [ [ 1, 2 ], [\"a\", \"b\", \"c\"] ]",
+        "nested_mixed_array=[[1,2,],['a','b','c',],]|",
+    ),
+    (1, "a = []\nb = [\t]\nc=[true,'x' , -1]", "a=[]|b=[]|c=[true,'x',-1,]|"),
+    // Table
+    (0, "[table]", "[table]|"),
+    (
+        0,
+        "[table-1]\nkey1 = \"some string\"\nkey2 = 123\n\n[table-2]\nkey1 = \"another string\"\n\
+         key2 = 456",
+        "[table-1]|key1='some string'|key2=123||[table-2]|key1='another string'|key2=456|",
+    ),
+    (0, "[ g ]\n\t[\th_1\t]\t# one\n", "[g]|[h_1]||"),
+    // Lines
+    (0, "", "|"),
+    (0, "\n", "||"),
+    (0, " \t", "|"),
+    (0, "\r\n", "||"),
+    (0, "a=1\r\n\r\n  # \u{e9}\t~\r\n  b = 2 \t", "a=1|||b=2|"),
+    (0, "#", "|"),
+];
+
+/// A document that is none, and how many bytes stand before the item or the line end that is not
+/// read. Those that say so are of the standard.
+const NONE: &[(&str, usize)] = &[
+    ("key = # INVALID", 0),
+    ("first = \"Tom\" last = \"Preston-Werner\" # INVALID", 14),
+    ("= \"no key name\"  # INVALID", 0),
+    ("a = 1\n = 2", 7),
+    ("a", 0),
+    ("a 1", 0),
+    ("a = 1 b = 2", 6),
+    ("a = 1\n[b] c = 2", 10),
+    ("a = 01", 5),
+    ("a = -", 0),
+    ("a = 9223372036854775808", 0),
+    ("a = -9223372036854775809", 0),
+    ("a = 1\nb = True", 6),
+    ("a = truefalse", 8),
+    ("a = \"x", 0),
+    ("a = 'x\n'", 0),
+    ("a = 'it''s'", 8),
+    ("a = \"\u{7f}\"", 0),
+    ("a = \"\u{1}\"", 0),
+    ("a = \"\\/\"", 0),
+    ("a = \"\\x\"", 0),
+    ("a = \"\\\"", 0),
+    ("# \u{7f}", 2),
+    ("# a\rb", 3),
+    ("a = 1\rb = 2", 5),
+    ("a = [1", 0),
+    ("a = [1 2]", 0),
+    ("a = [,1]", 0),
+    ("a = [[[1]]]", 0),
+    ("[", 0),
+    ("[]", 0),
+    ("[a", 0),
+    ("[a b]", 0),
+    ("[a]]", 3),
+    ("\u{feff}a = 1", 0),
+    ("\u{e9} = 1", 0),
+    // What the standard has, and this does not.
+    ("a.b = 1", 0),
+    ("\"a\" = 1", 0),
+    ("[a.b]", 0),
+    ("[[a]]", 0),
+    ("a = \"\\u00e9\"", 0),
+    ("a = 1_000", 5),
+    ("a = 0xff", 5),
+    ("a = 3.14", 5),
+    ("a = 1979-05-27", 8),
+    ("a = +0", 0),
+    ("a = [1,]", 0),
+    ("a = [\n1]", 0),
+    ("a = {}", 0),
+    ("a = '''x'''", 6),
+];
+
+fn same(rt: &impl Abort, row: &str, got: &str, want: &str) {
+    assert_eq!(rt; got, want, "{row:?}");
+}
+
+/// Whether the lines are shown as a row has them.
+fn same_lines(rt: &impl Abort, row: &str, alloc: Global, lines: &Document<Global>, want: &str) {
+    let mut into = String::new(alloc);
+    for line in lines {
+        assert!(rt; show(line, &mut into).is_ok());
+    }
+    same(rt, row, into.as_str(), want);
+}
+
+#[test]
+fn parse_lines_of_the_standard(rt: HostRuntime) {
+    for (level, text, want) in ROWS {
+        match parse_lines(rt.alloc(), *level, text) {
+            Ok(lines) => same_lines(&rt, text, rt.alloc(), &lines, want),
+            Err(_) => same(&rt, text, "", want),
+        }
+    }
+}
+
+#[test]
+fn parse_lines_refuses(rt: HostRuntime) {
+    for (text, place) in NONE {
+        match parse_lines(rt.alloc(), 2, text) {
+            Err(ParseFault::Refused(error)) => assert_eq!(rt; error.offset(), *place, "{text:?}"),
+            _ => assert!(rt; false, "{text:?}"),
+        }
+    }
+}
+
+#[test]
+fn parse_lines_by_level(rt: HostRuntime) {
+    let text = "a = [[1], []]";
+    assert!(rt; parse_lines(rt.alloc(), 0, text).is_err());
+    assert!(rt; parse_lines(rt.alloc(), 1, text).is_err());
+    assert!(rt; parse_lines(rt.alloc(), 2, text).is_ok());
+}
+
+#[test]
+fn read_value_leaves_what_is_behind(rt: HostRuntime) {
+    let mut input = "[ 1 , 'b' ] # c";
+    let value = read_value(rt.alloc(), 1, &mut input);
+    assert!(rt; matches!(value, Ok(Value::Array(items)) if items.len() == 2));
+    assert_eq!(rt; input, " # c");
+    let mut input = "12_3";
+    assert!(rt; matches!(read_value(rt.alloc(), 0, &mut input), Ok(Value::Integer(12))));
+    assert_eq!(rt; input, "_3");
+    assert!(rt; read_value(rt.alloc(), 0, &mut "[]").is_err());
+}
