@@ -4,9 +4,9 @@
     python3 scripts/pages.py
 
 Each crate of `crates.txt` has a page, `crates/NAME/README.md`, of at most 20 lines: its name as the
-title, what it is, its theorem, where to begin, and each crate that it stands on. docs/ARCHITECTURE.md
+title, what it is, its theorem, where to begin, and each crate that it stands on. ARCHITECTURE.md
 links each page. The links of the pages, of the documents in `docs/` and of those at the top lead to
-files that are there, and to headings that these have. It fails where one of this is not so.
+files that are there, and to headings that these have. It fails if any of this is not so.
 """
 import pathlib
 import re
@@ -48,7 +48,8 @@ def anchors(path):
             words = re.sub(r"\[([^]]*)\]\([^)]*\)", r"\1", heading[1]).strip().lower()
             name = re.sub(r"[^\w -]", "", words).replace(" ", "-")
             found[name] = found.get(name, -1) + 1
-    return {f"{name}-{it}" if it else name for name, most in found.items() for it in range(most + 1)}
+    numbered = ((name, it) for name, most in found.items() for it in range(most + 1))
+    return {f"{name}-{it}" if it else name for name, it in numbered}
 
 
 def faults_of_links(path):
@@ -88,7 +89,6 @@ def faults_of_page(name, others):
 
 
 def main():
-    wrong = 0
     documents = [*sorted(TOP.glob("*.md")), *sorted((TOP / "docs").glob("*.md"))]
     found = []
     for name, others in crates():
@@ -98,10 +98,9 @@ def main():
     for path in documents:
         found += [(path, it) for it in faults_of_links(path)]
     for path, fault in found:
-        wrong += 1
         print(f"{path.relative_to(TOP)}:{fault}")
-    print(f"{wrong} faults of the pages of crates")
-    return 1 if wrong else 0
+    print(f"{len(found)} faults of the pages of crates and of links")
+    return 1 if found else 0
 
 
 if __name__ == "__main__":
