@@ -3,7 +3,7 @@ use Rattle.std.proofs.Common.{◌≡◌, ◌∙◌, ◌++◌, ◌∷◌, ℕ, Li
 use Rattle.std.proofs.Common.{refl}
 use Rattle.std.specs.List.{All, AllByRecursion}
 use Rattle.std.proofs.lemmas.List.Elements.{All-weaker, recursion_from_All}
-use Rattle.format_http.specs.Chunks.Written.{token_least, token_no_mark, token_no_space}
+use Rattle.format_http.specs.Heads.Tokens.{token_least, token_no_mark, token_no_space}
 use Rattle.format_http.specs.Heads.Bytes.{IsTokenByte, IsValueByte, IsWhite}
 use Rattle.format_http.specs.Heads.FieldLine.{IsFieldLine}
 use Rattle.winnow.specs.Equal.{same_first, same_others}

@@ -1,4 +1,4 @@
-//! Laws of the field lines that `format_http::heads` reads.
+//! Laws of the field lines that are read.
 #![tactic(auto)]
 
 ghost use Rattle.format_http.specs.Heads.Bytes.{IsWhite};
