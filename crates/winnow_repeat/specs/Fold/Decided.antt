@@ -1,4 +1,4 @@
--- Folds are decided: what a repetition into the value is.
+-- Folds are decided: a fold is a repetition into the value.
 use Rattle.std.specs.Prelude.{◌≡◌}
 use Rattle.std.proofs.Common.{ap}
 use Rattle.streams.specs.Kind.{Kind}
@@ -16,12 +16,9 @@ module _ {S G H T O R : Type 0} (run : Runs S T O) (starts : G → R → G → T
     (making : StaysMaking starts init) (step : H → R → O → R → H → Type 0) (op : H)
     (again : StaysFolding step op) (asserted : Kind) (range : Range) {alike : O → O → Type 0}
     {s : S} where
-  -- alike are values that outputs are folded into that are alike, one by one
-  abbrev FoldedAlike : R → R → Type 0
-  FoldedAlike all more = HeldAlike (FoldOf starts init step op) alike all more
-
   pub fold_decided : IsDecided s run alike
-      → IsDecided (s, (range, (init, op))) (RangedFolds starts step run asserted) FoldedAlike
+      → IsDecided (s, (range, (init, op))) (RangedFolds starts step run asserted)
+      (HeldAlike (FoldOf starts init step op) alike)
   fold_decided c = record {
     kept = λ i answer t j free r.
         let (ran, same) =
@@ -37,6 +34,6 @@ module _ {S G H T O R : Type 0} (run : Runs S T O) (starts : G → R → G → T
   }
     where
       repeats : IsDecided (s, range) (RangedRuns run (fold_kept starts init step op) asserted)
-          FoldedAlike
+          (HeldAlike (FoldOf starts init step op) alike)
       repeats = repeat_decided (fold_kept starts init step op) asserted
           (FoldOf starts init step op) (fold_holds starts init step op) (s, range) c
