@@ -9,6 +9,7 @@ use Rattle.stream_searches.specs.Compare.{IsShort, StandsFirst}
 use Rattle.stream_searches.specs.FindSlice.{IsFirstMatch}
 use Rattle.stream_errors.specs.Form.{ErrorForm, Answer}
 use Rattle.winnow_core.specs.Short.{ShortKind}
+pub mod Decided
 pub mod Exact
 pub mod Known
 pub mod Laws

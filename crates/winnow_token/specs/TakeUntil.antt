@@ -9,6 +9,7 @@ use Rattle.stream_errors.specs.Form.{ErrorForm, Answer, assert_kind}
 use Rattle.winnow_core.specs.Short.{ShortKind}
 use Rattle.stream_sets.specs.declared.range.Range.{Range}
 use Rattle.winnow_token.specs.declared.token.impls.take_until.TakeUntil.{TakeUntil}
+pub mod Decided
 pub mod Known
 pub mod Laws
 

@@ -32,12 +32,12 @@ module _ {T L : Type 0} (reading : Reading T L) (form : ErrorForm)
       (front, rest, (text, here, spelled), e)
 
   -- a line that is taken
-  abbrev IsTaken : Input T → L → Input T → Type 0
+  abbrev pub IsTaken : Input T → L → Input T → Type 0
   IsTaken i slice j =
       (front : List T) × IsLineOf sought i.left.tokens front j.left.tokens
       × Takes reading front i slice j
 
-  taken : (i : Input T) (slice : L) (j : Input T) → LineRuns sought reading form i slice j
+  pub taken : (i : Input T) (slice : L) (j : Input T) → LineRuns sought reading form i slice j
       → IsTaken i slice j
   taken i slice j (inl (start, end, m, takes)) =
       (m.front, inl (match_before reading m j.left.tokens takes.passed.tokens), takes)

@@ -26,13 +26,13 @@ asserts modal = inr refl
 some_is_none : {S P : Type 0} {x : S} {rest : List S} → x ∷ rest ≡ [] → P
 some_is_none e = absurd (cc)
 
-no_item : {S P : Type 0} (before : List S) (x : S) (rest : List S) → [] ≡ before ++ x ∷ rest → P
+pub no_item : {S P : Type 0} (before : List S) (x : S) (rest : List S) → [] ≡ before ++ x ∷ rest → P
 no_item [] x rest e = some_is_none (sym e)
 no_item (b ∷ bs) x rest e = some_is_none (sym e)
 
 module _ {S T O : Type 0} (run : Runs S T O) (assert_kind : Kind) where
   -- a run of one branch is the branch's
-  one_branch : (a : S) (i : Input T) (answer : Answer O) (t : List S) (j : Input T)
+  pub one_branch : (a : S) (i : Input T) (answer : Answer O) (t : List S) (j : Input T)
       → AltSliceRuns run assert_kind (a ∷ []) i answer t j
       → (y : S) × (t ≡ y ∷ []) × run a i answer y j
   one_branch a i answer t j (inl (none, kept, e, same)) = some_is_none none
@@ -51,7 +51,7 @@ module _ {S T O : Type 0} (run : Runs S T O) (assert_kind : Kind) where
       some_is_none (sym (same_others old))
 
   -- one of more is that of the first, or else of the others
-  more_branches : (a b : S) (others : List S) (i : Input T) (answer : Answer O) (t : List S)
+  pub more_branches : (a b : S) (others : List S) (i : Input T) (answer : Answer O) (t : List S)
       (j : Input T) → AltSliceRuns run assert_kind (a ∷ b ∷ others) i answer t j
       → (y : S) × (ts : List S) × (t ≡ y ∷ ts)
       × OrElse run (AltSliceRuns run assert_kind) (a, b ∷ others) i answer (y, ts) j

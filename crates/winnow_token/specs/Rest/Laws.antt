@@ -1,9 +1,12 @@
 -- What holds of the runs of what is left.
-use Rattle.std.specs.Prelude.{⊤, [], ◌++◌}
+use Rattle.std.specs.Prelude.{◌≡◌, ⊤, ℕ, [], ◌++◌}
 use Rattle.streams.specs.Input.{Input, IsEndOf, takes_end}
 use Rattle.streams.specs.Reading.{Reading}
 use Rattle.streams.specs.SameReading.{SameReading, reading_path}
 use Rattle.stream_errors.specs.Form.{Answer}
+use Rattle.winnow_core.specs.Decided.{IsDecided}
+use Rattle.winnow_core.specs.Decided.Inputs.{both_ok, same_passed}
+use Rattle.winnow_core.specs.Literal.Laws.{ShowSame}
 use Rattle.winnow_core.specs.Runs.{Keeps}
 use Rattle.winnow_core.specs.SameMeaning.{SameMeaning, same_by}
 use Rattle.winnow_token.specs.Rest.{RestLenRuns, RestRuns}
@@ -27,6 +30,26 @@ pub rest_len_alike : {T L : Type 0} {a b : Reading T L} → SameReading a b
     → SameMeaning (λ (s : ⊤). s) (λ _. Keeps (λ _. RestLenRuns a))
     (λ _. Keeps (λ _. RestLenRuns b))
 rest_len_alike same = same_by (λ r form. Keeps (λ _. RestLenRuns r)) (reading_path same)
+
+-- ---- one state and one input decide it
+
+module _ {T L : Type 0} (reading : Reading T L) where
+  pub rest_decided : IsDecided tt (Keeps (λ (_ : ⊤). RestRuns reading)) (ShowSame reading)
+  rest_decided = record {
+    kept = λ i answer t j free ((slice, takes, nothing, e), same). (same, takes.passed.status);
+    decided = λ i a b t u j k na nb ((v, takes, none, e), same) ((w, also, never, f), too). (
+      both_ok (ShowSame reading) e f (i.left.tokens, takes.shown, also.shown),
+      same_passed i.left.tokens takes.passed also.passed,
+    );
+  }
+
+  pub rest_len_decided : IsDecided tt (Keeps (λ (_ : ⊤). RestLenRuns reading))
+      (λ (m n : ℕ). m ≡ n)
+  rest_len_decided = record {
+    kept = λ i answer t j free ((e, back), same). (same, ap (λ z. z.status) back);
+    decided = λ i a b t u j k na nb ((e, back), same) ((f, too), also).
+        (both_ok (λ (m n : ℕ). m ≡ n) e f refl, back ∙ sym too);
+  }
 
 -- ---- what it reads
 

@@ -1,12 +1,13 @@
 //! What stands before a line end.
-ghost use Rattle.std.specs.Prelude.{⊤, ◌<◌, ◌≡◌};
+ghost use Rattle.std.specs.Prelude.{⊤};
 ghost use Rattle.grammars.specs.Grammar.Searches.{Line};
 ghost use Rattle.winnow_core.specs.Agrees.{agrees_plain};
 ghost use Rattle.winnow_core.specs.Exact.Allowed.{backs};
-ghost use Rattle.winnow_core.specs.Literal.Laws.{SpellsByText};
+ghost use Rattle.winnow_core.specs.Literal.Laws.{ShowSame, SpellsByText};
 ghost use Rattle.winnow_core.specs.Runs.{Keeps};
 ghost use Rattle.winnow_core.specs.Stable.Grows.{leaf_stays};
 ghost use Rattle.winnow_ascii.specs.TillLineEnding.{TillLineEndingRuns};
+ghost use Rattle.winnow_ascii.specs.TillLineEnding.Decided.{till_line_ending_decided};
 ghost use Rattle.winnow_ascii.specs.TillLineEnding.Exact.{till_line_ending_exact};
 ghost use Rattle.winnow_ascii.specs.TillLineEnding.Exact.{till_line_ending_fails};
 ghost use Rattle.winnow_ascii.specs.TillLineEnding.Laws.{till_line_ending_alike};
@@ -49,8 +50,8 @@ impl<
       spares_memory = ⊤;
       consumes = ⊥;
       grammar = Line I.reading I.spells I.sought;
-      decides = ⊥;
-      alike = λ o p. o ≡ p;
+      decides = SpellsByText I.spells;
+      alike = ShowSame I.reading;
     } };
 
     ghost leaves_ends = { λ form x i answer y j r. till_line_ending_ends I.spells I.sought
@@ -60,7 +61,7 @@ impl<
       exact = λ form is. till_line_ending_exact I.reading form I.spells is I.sought;
       fails = λ form is. backs (till_line_ending_fails I.reading form I.spells is I.sought);
       takes = λ is never. absurd never;
-      decided = λ form never. absurd never;
+      decided = λ form is. till_line_ending_decided I.reading form I.spells is I.sought;
     } };
 
     #[inline(always)]

@@ -6,7 +6,8 @@ ghost use Rattle.winnow_core.specs.Ends.{same_ends};
 ghost use Rattle.winnow_core.specs.Exact.Allowed.{backs};
 ghost use Rattle.winnow_core.specs.Runs.{Keeps};
 ghost use Rattle.winnow_token.specs.Rest.{RestLenRuns};
-ghost use Rattle.winnow_token.specs.Rest.Laws.{rest_len_exact, rest_len_fails, rest_len_alike};
+ghost use Rattle.winnow_token.specs.Rest.Laws.{rest_len_alike, rest_len_decided};
+ghost use Rattle.winnow_token.specs.Rest.Laws.{rest_len_exact, rest_len_fails};
 
 use crate::token::rest_len;
 use stream_errors::parser_error::ParserError;
@@ -37,7 +38,7 @@ impl<I: Stream, E: ParserError<I>> Parser<I, usize, E> for RestLen {
       spares_memory = ⊤;
       consumes = ⊥;
       grammar = UnitsLeft I.reading;
-      decides = ⊥;
+      decides = ⊤;
       alike = λ o p. o ≡ p;
     } };
 
@@ -47,7 +48,7 @@ impl<I: Stream, E: ParserError<I>> Parser<I, usize, E> for RestLen {
       exact = λ form is. rest_len_exact I.reading;
       fails = λ form is. backs (rest_len_fails I.reading);
       takes = λ is never. absurd never;
-      decided = λ form never. absurd never;
+      decided = λ form is. rest_len_decided I.reading;
     } };
 
     #[inline(always)]

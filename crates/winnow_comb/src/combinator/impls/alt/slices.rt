@@ -8,10 +8,12 @@ ghost use Rattle.winnow_core.specs.Agrees.{AllAlike, agrees_list};
 ghost use Rattle.winnow_core.specs.ByRef.{ByRefRuns};
 ghost use Rattle.winnow_core.specs.ByRef.Laws.{by_ref_exact, by_ref_fails, by_ref_ends};
 ghost use Rattle.winnow_core.specs.ByRef.Laws.{by_ref_grows};
+ghost use Rattle.winnow_core.specs.Decided.Adapters.{by_ref_decided};
 ghost use Rattle.winnow_core.specs.Exact.Allowed.{fails_as};
 ghost use Rattle.winnow_core.specs.Stable.Grows.{grows, stays};
 ghost use Rattle.winnow_comb.specs.Alt.FirstOf.{asserts, first_of_exact, first_of_fails};
 ghost use Rattle.winnow_comb.specs.Alt.Slice.{AltSliceRuns};
+ghost use Rattle.winnow_comb.specs.Alt.Slice.Decided.{AlikeByOne, alt_slice_decided};
 ghost use Rattle.winnow_comb.specs.Alt.Slice.Laws.{alt_slice_ends, slice_agrees, alt_slice_grows};
 
 use crate::combinator::impls::alt::{Alt, AltParser, attempt};
@@ -36,8 +38,8 @@ impl<const N: usize, I: Stream, O, E: ParserError<I>, P: Parser<I, O, E>> Alt<I,
       spares_memory = All (λ x. (P.claim x).spares_memory) s;
       consumes = All (λ x. (P.claim x).consumes) s;
       grammar = FirstOf (λ x. (P.claim x).grammar) s;
-      decides = ⊥;
-      alike = λ o p. o ≡ p;
+      decides = All (λ x. (P.claim x).decides) s;
+      alike = AlikeByOne (λ x. (P.claim x).alike) s;
     } };
 
     ghost leaves_ends = { λ form. alt_slice_ends I.reading (P.meaning form) (assert_kind form)
@@ -57,7 +59,9 @@ impl<const N: usize, I: Stream, O, E: ParserError<I>, P: Parser<I, O, E>> Alt<I,
       takes = λ is some. first_of_takes (λ x. (P.claim x).grammar)
           (λ x. (P.claim x).premise) (λ x. (P.claim x).backtracks)
           (λ x. (P.claim x).consumes) (λ x. (P.claimed x).takes) s is some;
-      decided = λ form never. absurd never;
+      decided = λ form is. alt_slice_decided (P.meaning form) (assert_kind form)
+          (λ x. (P.claim x).alike) (λ x. (P.claim x).decides)
+          (λ x k. (P.claimed x).decided form k) s is;
     } };
 
     #[inline(always)]
@@ -117,8 +121,8 @@ impl<'a, I: Stream, O, E: ParserError<I>, P: Parser<I, O, E>> Alt<I, O, E> for &
       spares_memory = All (λ x. (P.claim x).spares_memory) s.0;
       consumes = All (λ x. (P.claim x).consumes) s.0;
       grammar = FirstOf (λ x. (P.claim x).grammar) s.0;
-      decides = ⊥;
-      alike = λ o p. o ≡ p;
+      decides = All (λ x. (P.claim x).decides) s.0;
+      alike = AlikeByOne (λ x. (P.claim x).alike) s.0;
     } };
 
     ghost leaves_ends = { λ form. by_ref_ends I.reading
@@ -140,7 +144,9 @@ impl<'a, I: Stream, O, E: ParserError<I>, P: Parser<I, O, E>> Alt<I, O, E> for &
       takes = λ is some. first_of_takes (λ x. (P.claim x).grammar)
           (λ x. (P.claim x).premise) (λ x. (P.claim x).backtracks)
           (λ x. (P.claim x).consumes) (λ x. (P.claimed x).takes) s.0 is some;
-      decided = λ form never. absurd never;
+      decided = λ form is. by_ref_decided (alt_slice_decided (P.meaning form) (assert_kind form)
+          (λ x. (P.claim x).alike) (λ x. (P.claim x).decides)
+          (λ x k. (P.claimed x).decided form k) s.0 is);
     } };
 
     #[inline(always)]
