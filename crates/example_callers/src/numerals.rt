@@ -27,8 +27,18 @@ pub fn port<'i>(input: &mut &'i [u8]) -> Result<u16, EmptyError>
     DecUint.read(input)
 }
 
-/// An offset at the front of bytes: a sign or none, and all digits that stand there, or a lone '0'.
-/// It fails, by a backtrack, where no such number is first, or it does not fit 16 bits.
+/// An offset at the front of bytes: what `{}` writes of it, or that after a `+` where it is
+/// positive; all digits that stand there, or a lone '0'. It fails, by a backtrack, where no such
+/// number is first, or it does not fit 16 bits.
+///
+/// ```
+/// use example_callers::numerals::offset;
+///
+/// let mut input = b"-12;".as_slice();
+/// assert_eq!(rt; offset(&mut input), Ok(-12));
+/// assert_eq!(rt; offset(&mut b"+7".as_slice()), Ok(7));
+/// assert!(rt; offset(&mut b"-0".as_slice()).is_err());
+/// ```
 pub fn offset<'i>(input: &mut &'i [u8]) -> Result<i16, EmptyError>
     ensures { Reads bytes_reading ⟦<EmptyError as HasKind>⟧.kind IsOffset
         (bytes_input input.old.now) result (bytes_input input.new.now) }

@@ -6,6 +6,7 @@ use Rattle.grammars.specs.Grammar.{Grammar}
 use Rattle.winnow_numbers.specs.Decimal.{IsDecimalOf, IsSignedDecimalOf}
 use Rattle.winnow_numbers.specs.Digits.{AreCharacters, NoneFirst, value_in}
 pub mod Known
+pub mod Signed
 
 -- The decimal digits of a number below the bound, of which no '0' is the first but a lone one. No
 -- digit stands behind them, but behind a lone '0'. Values have the numbers `number`.

@@ -24,20 +24,20 @@ Written number bound tokens n rest =
     × (number n < bound)
 
 -- a '0' alone is the digit of 0
-zero_is : IsDecimalOf (48 ∷ []) 0
+pub zero_is : IsDecimalOf (48 ∷ []) 0
 zero_is = record {
   are = (omega arith, ((omega arith, omega arith), tt));
   lone_zero = λ others e. sym (same_others e);
   value = refl;
 }
 
-none_first : (tokens : List ℕ) → NoneFirst (λ x. x) (λ x. x) IsDecDigit tokens
+pub none_first : (tokens : List ℕ) → NoneFirst (λ x. x) (λ x. x) IsDecDigit tokens
     → NoDigitFirst tokens
 none_first tokens (inl nothing) d more e is = absurd (cc)
 none_first tokens (inr (t, rest, f, (x, same, other))) d more e is =
     other (subst IsDecDigit (same_first (sym e ∙ f) ∙ sym same) is)
 
-first_none : (tokens : List ℕ) → NoDigitFirst tokens
+pub first_none : (tokens : List ℕ) → NoDigitFirst tokens
     → NoneFirst (λ x. x) (λ x. x) IsDecDigit tokens
 first_none [] none = inl refl
 first_none (d ∷ more) none = inr (d, more, refl, (d, refl, none d more refl))
