@@ -24,7 +24,7 @@ use Rattle.winnow_repeat.specs.Repeat.{RepeatOneRuns}
 use Rattle.winnow_repeat.specs.Repeat.Exact.{repeat_exact, repeat_fails}
 
 -- an accumulator that is the value so far
-abbrev fold_kept : {G R H O : Type 0} → (G → R → G → Type 0) → G
+abbrev pub fold_kept : {G R H O : Type 0} → (G → R → G → Type 0) → G
     → (H → R → O → R → H → Type 0) → H → Accumulator R O
 fold_kept starts init step op = record {
   starts = λ _ value. starts init value init;
@@ -33,7 +33,7 @@ fold_kept starts init step op = record {
   grows = λ _ _. ⊥;
 }
 
-fold_holds : {G R H O : Type 0} (starts : G → R → G → Type 0) (init : G)
+pub fold_holds : {G R H O : Type 0} (starts : G → R → G → Type 0) (init : G)
     (step : H → R → O → R → H → Type 0) (op : H)
     → Holds (fold_kept starts init step op) (FoldOf starts init step op)
 fold_holds starts init step op = record {
@@ -239,7 +239,7 @@ module _ {S G H T O R : Type 0} (run : Runs S T O) (starts : G → R → G → T
       answer (t.0, t.1.1) j (subst P stays items) in
       (inr (inl (o, v, n, empty, one, r, begins, called, ran)), pair_is same kept)
 
-  ranged_fold : (range : Range) (s : S) (i : Input T) (answer : Answer R)
+  pub ranged_fold : (range : Range) (s : S) (i : Input T) (answer : Answer R)
       (t : S × (Range × (G × H))) (j : Input T)
       → RangedFolds starts step run asserted (s, (range, (init, op))) i answer t j
       → RangedRuns run (fold_kept starts init step op) asserted (s, range) i answer

@@ -155,6 +155,18 @@ module _ {S T O C : Type 0} {run : Runs S T O} {alike : O → O → Type 0} {s :
     repeat_same i a b t u j k na nb (inr (other, r)) (inr (other2, q)) =
         many_same i a b t u j k na nb r q
 
+-- a repetition within bounds
+pub repeat_many_decided : {S T O C : Type 0} {run : Runs S T O} {alike : O → O → Type 0}
+    (into : Accumulator C O) (asserted : Kind) (holds : C → List O → Type 0) → Holds into holds
+    → (bounds : Bounds) → {s : S} → IsDecided s run alike
+    → IsDecided s (RepeatManyRuns run into asserted bounds) (HeldAlike holds alike)
+repeat_many_decided into asserted holds keeps bounds c = record {
+  kept = λ i answer t j free r.
+      many_kept c into asserted holds keeps bounds i answer t j free r;
+  decided = λ i a b t u j k na nb r q.
+      many_same c into asserted holds keeps bounds i a b t u j k na nb r q;
+}
+
 -- a repetition as often as a range says
 pub repeat_decided : {S T O C : Type 0} {run : Runs S T O} {alike : O → O → Type 0}
     (into : Accumulator C O) (asserted : Kind) (holds : C → List O → Type 0) → Holds into holds

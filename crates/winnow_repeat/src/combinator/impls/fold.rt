@@ -12,8 +12,10 @@ ghost use Rattle.winnow_core.specs.Exact.Allowed.{fails_as, softly};
 ghost use Rattle.winnow_core.specs.Stable.Grows.{grows, stays};
 ghost use Rattle.winnow_repeat.specs.Fold.{FoldOneRuns, FoldTakes, RangedFolds, fold_closure};
 ghost use Rattle.winnow_repeat.specs.Fold.{fold_init, fold_occurrences, fold_parser};
+ghost use Rattle.winnow_repeat.specs.Fold.Decided.{fold_decided};
 ghost use Rattle.winnow_repeat.specs.Fold.Exact.{fold_exact, fold_fails};
 ghost use Rattle.winnow_repeat.specs.Fold.Laws.{ranged_folds_end, fold_grows};
+ghost use Rattle.winnow_repeat.specs.Repeat.Decided.{HeldAlike};
 
 use crate::combinator::folding::{Folding, fold_items, fold_range};
 use std::marker::PhantomData;
@@ -119,8 +121,8 @@ impl<
       spares_memory = (P.claim s.0).spares_memory;
       consumes = 0 < (bounds_of s.1.0).least;
       grammar = Folded G.step s.1.1.0 H.step s.1.1.1 s.1.0 (P.claim s.0).grammar;
-      decides = ⊥;
-      alike = λ o p. o ≡ p;
+      decides = (P.claim s.0).decides × StaysMaking G.step s.1.1.0 × StaysFolding H.step s.1.1.1;
+      alike = HeldAlike (FoldOf G.step s.1.1.0 H.step s.1.1.1) (P.claim s.0).alike;
     } };
 
     ghost leaves_ends = { λ form. ranged_folds_end I.reading G.step H.step (P.meaning form)
@@ -136,7 +138,8 @@ impl<
           (fails_as (λ b. is.1) (λ m. m) ((P.claimed s.0).fails form is.0));
       takes = λ is some. repeated_take (FoldOf G.step s.1.1.0 H.step s.1.1.1) s.1.0
           ((P.claimed s.0).exact modal is.0).unique ((P.claimed s.0).takes is.0 is.2) some;
-      decided = λ form never. absurd never;
+      decided = λ form is. fold_decided (P.meaning form) G.step s.1.1.0 is.1 H.step s.1.1.1 is.2
+          (assert_kind form) s.1.0 ((P.claimed s.0).decided form is.0);
     } };
 
     fn parse_next(&mut self, input: &mut I) -> Result<R, E> {
