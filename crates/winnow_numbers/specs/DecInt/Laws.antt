@@ -1,16 +1,24 @@
 -- What holds of the runs of decimal signed numbers.
-use Rattle.std.specs.Prelude.{◌≡◌, ℕ, ℤ, true, ⊤, Err}
-use Rattle.std.proofs.Common.{inl, inr}
+use Rattle.std.specs.Prelude.{◌≡◌, ℕ, ℤ, List, true, ⊤, Err}
+use Rattle.std.proofs.Common.{refl, sym, ap, subst, inl, inr, ◌∙◌}
 use Rattle.streams.specs.Input.{Input, IsEndOf, with_more}
 use Rattle.streams.specs.Reading.{Reading}
 use Rattle.streams.specs.SameReading.{SameReading, reading_path}
 use Rattle.stream_errors.specs.Form.{Answer, ErrorForm, modal}
+use Rattle.winnow_core.specs.Decided.{AlikeAnswers, IsDecided}
+use Rattle.winnow_core.specs.Decided.Inputs.{both_err, both_ok}
 use Rattle.winnow_core.specs.Ends.{same_ends}
 use Rattle.winnow_core.specs.Runs.{Keeps}
 use Rattle.winnow_core.specs.SameMeaning.{SameMeaning, same_by, same_trans}
 use Rattle.winnow_numbers.specs.DecInt.{DecIntRuns}
+use Rattle.winnow_numbers.specs.DecUint.Laws.{OneNumber}
+use Rattle.winnow_numbers.specs.DecimalText.{signed_value}
+use Rattle.winnow_numbers.specs.Digits.{SeenOnce}
+use Rattle.winnow_numbers.specs.Numeral.{NumeralRuns}
+use Rattle.winnow_numbers.specs.Numeral.Known.{none_status, numeral_status}
 use Rattle.winnow_numbers.specs.Numeral.Laws.{no_numeral_ends, numeral_ends, numeral_more}
 use Rattle.winnow_numbers.specs.Numeral.Laws.{no_numeral_more}
+use Rattle.winnow_numbers.specs.Numeral.Once.{numeral_or_none, one_miss, one_numeral}
 use Rattle.winnow_core.specs.Stable.Longer.{same_more}
 use Rattle.winnow_core.specs.Stable.Grows.{Stays, final_by}
 
@@ -67,3 +75,66 @@ module _ {K T L : Type 0} (seen : K → T) (code : K → ℕ) (reading : Reading
   dec_int_stays number fits more flag i answer j is_cut final (inr (inr (k, none, e))) =
       let known = final_by (Err k) e final in
       inr (inr (k, no_numeral_more seen code reading true more flag i k j is_cut known none, e))
+
+-- ---- one state and one input decide it
+
+module _ {N K T L : Type 0} (number : N → ℤ) (fits : ℤ → Type 0) (seen : K → T) (code : K → ℕ)
+    (reading : Reading T L) (form : ErrorForm) where
+  still : (i : Input T) (answer : Answer N) (j : Input T)
+      → DecIntRuns number fits seen code reading form i answer j → j.status ≡ i.status
+  still i answer j (inl (sign, digits, n, p, fit, is, e)) =
+      numeral_status seen code reading true i sign digits j p
+  still i answer j (inr (inl (sign, digits, a, p, misfit, e, same))) = ap (λ z. z.status) same
+  still i answer j (inr (inr (k, none, e))) = none_status seen code reading form true i k j none
+
+  module _ (once : SeenOnce seen code) where
+    -- a numeral, and one that stands there too, have one number
+    one_value : (i : Input T) (sign other xs ys : List ℕ) (a b : Input T)
+        → NumeralRuns seen code reading true i sign xs a
+        → NumeralRuns seen code reading true i other ys b
+        → (signed_value sign xs ≡ signed_value other ys) × (a ≡ b)
+    one_value i sign other xs ys a b p q =
+        let one = one_numeral seen code reading once true i sign other xs ys a b p q in
+        (ap (λ s. signed_value s xs) one.0 ∙ ap (λ l. signed_value other l) one.1.0, one.1.1)
+
+    -- so its number fits, or it does not
+    fits_or_not : (i : Input T) (sign other xs ys : List ℕ) (a b : Input T)
+        → NumeralRuns seen code reading true i sign xs a
+        → NumeralRuns seen code reading true i other ys b → fits (signed_value sign xs)
+        → (fits (signed_value other ys) → ⊥) → ⊥
+    fits_or_not i sign other xs ys a b p q fit misfit =
+        misfit (subst fits (one_value i sign other xs ys a b p q).0 fit)
+
+    meet : (i : Input T) (a b : Answer N) (j k : Input T)
+        → DecIntRuns number fits seen code reading form i a j
+        → DecIntRuns number fits seen code reading form i b k
+        → AlikeAnswers (OneNumber number) a b × (j ≡ k)
+    meet i a b j k (inl (s, xs, m, p, fit, is, e)) (inl (t, ys, n, q, fits_too, was, f)) =
+        let one = one_value i s t xs ys j k p q in
+        (both_ok (OneNumber number) e f (is ∙ one.0 ∙ sym was), one.1)
+    meet i a b j k (inl (s, xs, m, p, fit, is, e)) (inr (inl (t, ys, c, q, misfit, f, stays))) =
+        absurd (fits_or_not i s t xs ys j c p q fit misfit)
+    meet i a b j k (inl (s, xs, m, p, fit, is, e)) (inr (inr (l, none, f))) =
+        absurd (numeral_or_none seen code reading once form true i s xs j l k p none)
+    meet i a b j k (inr (inl (s, xs, c, p, misfit, e, same))) (inl (t, ys, n, q, fit, is, f)) =
+        absurd (fits_or_not i t s ys xs k c q p fit misfit)
+    meet i a b j k (inr (inl (s, xs, c, p, misfit, e, same)))
+        (inr (inl (t, ys, d, q, large, f, stays))) =
+        (both_err (OneNumber number) e f refl, same ∙ sym stays)
+    meet i a b j k (inr (inl (s, xs, c, p, misfit, e, same))) (inr (inr (l, none, f))) =
+        absurd (numeral_or_none seen code reading once form true i s xs c l k p none)
+    meet i a b j k (inr (inr (h, none, e))) (inl (t, ys, n, q, fit, is, f)) =
+        absurd (numeral_or_none seen code reading once form true i t ys k h j q none)
+    meet i a b j k (inr (inr (h, none, e))) (inr (inl (t, ys, d, q, large, f, stays))) =
+        absurd (numeral_or_none seen code reading once form true i t ys d h j q none)
+    meet i a b j k (inr (inr (h, none, e))) (inr (inr (l, never, f))) =
+        let one = one_miss seen code reading once form true i h l j k none never in
+        (both_err (OneNumber number) e f one.0, one.1)
+
+  pub dec_int_decided : SeenOnce seen code
+      → IsDecided tt (Keeps (λ (_ : ⊤). DecIntRuns number fits seen code reading form))
+      (OneNumber number)
+  dec_int_decided once = record {
+    kept = λ i answer t j free (r, same). (same, still i answer j r);
+    decided = λ i a b t u j k na nb (r, same) (q, also). meet once i a b j k r q;
+  }

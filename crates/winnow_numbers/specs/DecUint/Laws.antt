@@ -18,8 +18,7 @@ use Rattle.winnow_core.specs.Decided.{AlikeAnswers, IsDecided}
 use Rattle.winnow_numbers.specs.DecUint.Known.{dec_uint_once}
 use Rattle.winnow_numbers.specs.Digits.{SeenOnce}
 use Rattle.winnow_numbers.specs.NumberLaws.{AnswersSame}
-use Rattle.winnow_numbers.specs.Numeral.{DigitsRuns, LacksDigits, NoNumeral, NumeralRuns, left_by}
-use Rattle.winnow_numbers.specs.Numeral.Known.{sign_status}
+use Rattle.winnow_numbers.specs.Numeral.Known.{none_status, numeral_status}
 
 -- they leave an end
 pub dec_uint_ends : {N K T S : Type 0} (number : N → ℕ) (bound : ℕ) (seen : K → T)
@@ -87,38 +86,11 @@ same_alike number (Err k) (Err l) same = same
 
 module _ {N K T L : Type 0} (number : N → ℕ) (bound : ℕ) (seen : K → T) (code : K → ℕ)
     (reading : Reading T L) (form : ErrorForm) where
-  digits_status : (zero : Bool) (i : Input T) (digits : List ℕ) (j : Input T)
-      → DigitsRuns seen code reading zero i digits j → j.status ≡ i.status
-  digits_status zero i digits j (inl (x, may, is, p, e)) = p.status
-  digits_status zero i digits j
-      (inr (front, first, others, e, leads, are, p, chars, stops, whole)) = p.status
-
-  numeral_status : (signed : Bool) (i : Input T) (sign digits : List ℕ) (j : Input T)
-      → NumeralRuns seen code reading signed i sign digits j → j.status ≡ i.status
-  numeral_status signed i sign digits j (a, first, r) =
-      digits_status _ a digits j r ∙ sign_status seen code reading signed i sign a first
-
-  left_status : (f : ErrorForm) (i b : Input T) → b.status ≡ i.status
-      → (left_by f i b).status ≡ i.status
-  left_status plain i b same = refl
-  left_status modal i b same = same
-
-  lacks_status : (i b : Input T) → LacksDigits seen code reading i b → b.status ≡ i.status
-  lacks_status i b (inl (none, same)) = ap (λ z. z.status) same
-  lacks_status i b (inr (x, leads, p, all)) = p.status
-
-  none_status : (signed : Bool) (i : Input T) (k : Kind) (j : Input T)
-      → NoNumeral seen code reading form signed i k j → j.status ≡ i.status
-  none_status signed i k j (sign, a, first, inl (b, lacks, cut, kind, at)) =
-      ap (λ z. z.status) at ∙ left_status form i b
-      (lacks_status a b lacks ∙ sign_status seen code reading signed i sign a first)
-  none_status signed i k j (sign, a, first, inr (none, kind, at)) = ap (λ z. z.status) at
-
   still : (i : Input T) (answer : Answer N) (j : Input T)
       → DecUintRuns number bound seen code reading form i answer j → j.status ≡ i.status
-  still i answer j (inl (digits, n, p, fits, is, e)) = numeral_status _ i _ digits j p
+  still i answer j (inl (digits, n, p, fits, is, e)) = numeral_status seen code reading _ i _ digits j p
   still i answer j (inr (inl (digits, a, p, large, e, same))) = ap (λ z. z.status) same
-  still i answer j (inr (inr (k, none, e))) = none_status _ i k j none
+  still i answer j (inr (inr (k, none, e))) = none_status seen code reading form _ i k j none
 
   pub dec_uint_decided : SeenOnce seen code
       → IsDecided tt (Keeps (λ (_ : ⊤). DecUintRuns number bound seen code reading form))

@@ -93,7 +93,7 @@ module _ {N K T S : Type 0} (number : N → ℕ) (most : ℕ) (seen : K → T) (
         all is p.stops
 
     -- What a run may do, without what it answers.
-    passed_by : (i : Input T) (front : List T) (digits : List ℕ) (j : Input T)
+    pub passed_by : (i : Input T) (front : List T) (digits : List ℕ) (j : Input T)
         → Passes reading front i j → AreCharacters seen code front digits
         → AllByRecursion IsHexDigit digits → 0 < length digits → length digits ≤ most
         → NoneFirst seen code IsHexDigit j.left.tokens
@@ -117,7 +117,7 @@ module _ {N K T S : Type 0} (number : N → ℕ) (most : ℕ) (seen : K → T) (
         hex_or_none i p.front digits j.left.tokens p.passes.tokens p.chars p.are p.some none
 
     -- a run on an input whose digits are known
-    hex_uint_by : (i : Input T) (xs : List ℕ) (a : Input T) (answer : Answer N) (j : Input T)
+    pub hex_uint_by : (i : Input T) (xs : List ℕ) (a : Input T) (answer : Answer N) (j : Input T)
         → HexDigits seen code reading most i xs a
         → HexUintRuns number most seen code reading form i answer j
         → (n : N) × (answer ≡ Ok n) × (number n ≡ value_in 16 xs) × (j ≡ a)

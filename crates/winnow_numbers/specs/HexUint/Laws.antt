@@ -1,15 +1,21 @@
 -- What holds of the runs of hexadecimal numbers.
-use Rattle.std.specs.Prelude.{◌≡◌, ℕ, ⊤, [], ◌∷◌, ◌++◌, Some, Err, ◌⊎◌, false, length, Ok}
+use Rattle.std.specs.Prelude.{◌≡◌, ◌≤◌, ℕ, ⊤, List, [], ◌∷◌, ◌++◌, Some, Err, ◌⊎◌, false, true}
+use Rattle.std.specs.Prelude.{Bool, length, Ok}
+use Rattle.std.specs.List.{All}
 use Rattle.std.proofs.Common.{inl, inr, ap, ◌∙◌, append_assoc, refl, sym, arith, length-append}
+use Rattle.std.proofs.lemmas.List.Elements.{All-head}
 use Rattle.streams.specs.Input.{Input, IsEndOf, passes_end}
 use Rattle.streams.specs.Reading.{Reading}
 use Rattle.streams.specs.SameReading.{SameReading, reading_path}
 use Rattle.stream_errors.specs.Form.{Answer, ErrorForm, modal}
 use Rattle.streams.specs.Kind.{incomplete, Kind, backtrack, memory}
 use Rattle.stream_sets.specs.AsChar.{IsHexDigit}
+use Rattle.winnow_core.specs.Decided.{AlikeAnswers, IsDecided}
+use Rattle.winnow_core.specs.Decided.Inputs.{both_err, both_ok}
 use Rattle.winnow_core.specs.Ends.{same_ends}
 use Rattle.winnow_core.specs.Runs.{Keeps}
 use Rattle.winnow_core.specs.SameMeaning.{SameMeaning, same_by, same_trans}
+use Rattle.winnow_numbers.specs.DecUint.Laws.{OneNumber}
 use Rattle.winnow_numbers.specs.HexUint.{HexUintRuns}
 use Rattle.winnow_core.specs.Stable.Longer.{same_more, passes_more, passes_cut}
 use Rattle.winnow_core.specs.Stable.Grows.{Stays, final_by, not_whole}
@@ -19,9 +25,9 @@ use Rattle.stream_sets.specs.Once.{SeesApart}
 use Rattle.grammars.specs.Grammar.{IsUnique, Takes}
 use Rattle.stream_errors.specs.Form.Known.{ok_is_err, same_kind, same_ok}
 use Rattle.winnow_core.specs.Exact.{Backtracks, IsExact}
-use Rattle.winnow_numbers.specs.Digits.{SeenOnce}
-use Rattle.winnow_numbers.specs.Digits.Known.{characters_length, one_front}
-use Rattle.winnow_numbers.specs.HexUint.Known.{hex_uint_must}
+use Rattle.winnow_numbers.specs.Digits.{IsIn, NoneFirst, SeenOnce}
+use Rattle.winnow_numbers.specs.Digits.Known.{characters_length, one_first, one_front}
+use Rattle.winnow_numbers.specs.HexUint.Known.{hex_uint_by, hex_uint_must, passed_by}
 use Rattle.winnow_numbers.specs.Numeral.Exact.{seen_one}
 use Rattle.winnow_numbers.specs.Numeral.Grammar.{Hexadecimal}
 
@@ -193,3 +199,82 @@ module _ {K T L : Type 0} (seen : K → T) (code : K → ℕ) (reading : Reading
         fails i k j is
             (inr (inr (inr (front, t, rest, split, all, many, member, e, same)))) =
             same_kind e
+
+-- ---- one state and one input decide it
+
+module _ {N K T L : Type 0} (number : N → ℕ) (most : ℕ) (seen : K → T) (code : K → ℕ)
+    (reading : Reading T L) (form : ErrorForm) where
+  still : (i : Input T) (answer : Answer N) (j : Input T)
+      → HexUintRuns number most seen code reading form i answer j → j.status ≡ i.status
+  still i answer j (inl (front, digits, n, p, chars, are, some, few, stops, ended, is, e)) =
+      p.status
+  still i answer j (inr (inl (all, few, cut, e, same))) = ap (λ z. z.status) same
+  still i answer j (inr (inr (inl (none, ended, e, same)))) = ap (λ z. z.status) same
+  still i answer j (inr (inr (inr (front, t, rest, split, all, many, is, e, same)))) =
+      ap (λ z. z.status) same
+
+  module _ (once : SeenOnce seen code) where
+    -- nothing but digits is left of a cut input, or none stands first
+    digits_or_none : (tokens : List T) (cut : Bool) → All (IsIn seen code IsHexDigit) tokens
+        → cut ≡ true → NoneFirst seen code IsHexDigit tokens → (tokens ≡ [] → cut ≡ false) → ⊥
+    digits_or_none [] cut all is none ended = true_is_false (sym is ∙ ended refl)
+    digits_or_none (t ∷ ts) cut all is none ended =
+        one_first seen code once IsHexDigit t ts (t ∷ ts) refl
+        (All-head (IsIn seen code IsHexDigit) t ts all) none
+
+    -- the type holds all that is left, or more is left
+    few_or_more : (tokens front : List T) (t : T) (rest : List T) → tokens ≡ front ++ t ∷ rest
+        → length tokens ≤ most → length front ≡ most → ⊥
+    few_or_more tokens front t rest split few many =
+        omega (arith, ap (λ l. length l) split, length-append front (t ∷ rest), few, many)
+
+    meet : (i : Input T) (a b : Answer N) (j k : Input T)
+        → HexUintRuns number most seen code reading form i a j
+        → HexUintRuns number most seen code reading form i b k
+        → AlikeAnswers (OneNumber number) a b × (j ≡ k)
+    meet i a b j k (inl (front, xs, n, p, chars, are, some, few, stops, ended, is, e)) q =
+        let known = passed_by number most seen code reading form once i front xs j p chars are some
+        few stops ended in
+        let (m, f, was, same) =
+        hex_uint_by number most seen code reading form once i xs j b k known q in
+        (both_ok (OneNumber number) e f (is ∙ sym was), sym same)
+    meet i a b j k p (inl (front, ys, n, q, chars, are, some, few, stops, ended, is, f)) =
+        let known = passed_by number most seen code reading form once i front ys k q chars are some
+        few stops ended in
+        let (m, e, was, same) =
+        hex_uint_by number most seen code reading form once i ys k a j known p in
+        (both_ok (OneNumber number) e f (was ∙ sym is), same)
+    meet i a b j k (inr (inl (all, few, cut, e, same))) (inr (inl (are, less, too, f, stays))) =
+        (both_err (OneNumber number) e f refl, same ∙ sym stays)
+    meet i a b j k (inr (inl (all, few, cut, e, same)))
+        (inr (inr (inl (none, ended, f, stays)))) =
+        absurd (digits_or_none i.left.tokens i.status.cut all cut none ended)
+    meet i a b j k (inr (inl (all, few, cut, e, same)))
+        (inr (inr (inr (front, t, rest, split, are, many, is, f, stays)))) =
+        absurd (few_or_more i.left.tokens front t rest split few many)
+    meet i a b j k (inr (inr (inl (none, ended, e, same))))
+        (inr (inl (all, few, cut, f, stays))) =
+        absurd (digits_or_none i.left.tokens i.status.cut all cut none ended)
+    meet i a b j k (inr (inr (inl (none, ended, e, same))))
+        (inr (inr (inl (never, whole, f, stays)))) =
+        (both_err (OneNumber number) e f refl, same ∙ sym stays)
+    meet i a b j k (inr (inr (inl (none, ended, e, same))))
+        (inr (inr (inr (front, t, rest, split, are, many, is, f, stays)))) =
+        (both_err (OneNumber number) e f refl, same ∙ sym stays)
+    meet i a b j k (inr (inr (inr (front, t, rest, split, are, many, is, e, same))))
+        (inr (inl (all, few, cut, f, stays))) =
+        absurd (few_or_more i.left.tokens front t rest split few many)
+    meet i a b j k (inr (inr (inr (front, t, rest, split, are, many, is, e, same))))
+        (inr (inr (inl (none, ended, f, stays)))) =
+        (both_err (OneNumber number) e f refl, same ∙ sym stays)
+    meet i a b j k (inr (inr (inr (front, t, rest, split, are, many, is, e, same))))
+        (inr (inr (inr (before, u, more, parts, all, full, was, f, stays)))) =
+        (both_err (OneNumber number) e f refl, same ∙ sym stays)
+
+  pub hex_uint_decided : SeenOnce seen code
+      → IsDecided tt (Keeps (λ (_ : ⊤). HexUintRuns number most seen code reading form))
+      (OneNumber number)
+  hex_uint_decided once = record {
+    kept = λ i answer t j free (r, same). (same, still i answer j r);
+    decided = λ i a b t u j k na nb (r, same) (q, also). meet once i a b j k r q;
+  }

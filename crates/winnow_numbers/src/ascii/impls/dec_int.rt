@@ -1,12 +1,14 @@
 //! Decimal signed numbers.
-ghost use Rattle.std.specs.Prelude.{⊤, ◌≡◌};
+ghost use Rattle.std.specs.Prelude.{⊤};
 ghost use Rattle.stream_sets.specs.Once.{SeesApart};
 ghost use Rattle.winnow_core.specs.Agrees.{agrees_plain};
 ghost use Rattle.winnow_core.specs.Exact.Allowed.{backs};
 ghost use Rattle.winnow_core.specs.Runs.{Keeps};
 ghost use Rattle.winnow_core.specs.Stable.Grows.{leaf_stays};
 ghost use Rattle.winnow_numbers.specs.DecInt.{DecIntRuns};
-ghost use Rattle.winnow_numbers.specs.DecInt.Laws.{dec_int_alike, dec_int_ends, dec_int_stays};
+ghost use Rattle.winnow_numbers.specs.DecInt.Laws.{dec_int_alike, dec_int_decided};
+ghost use Rattle.winnow_numbers.specs.DecInt.Laws.{dec_int_ends, dec_int_stays};
+ghost use Rattle.winnow_numbers.specs.DecUint.Laws.{OneNumber};
 ghost use Rattle.winnow_numbers.specs.Numeral.Exact.{dec_int_exact, dec_int_fails, signed_takes};
 ghost use Rattle.winnow_numbers.specs.Numeral.Grammar.{SignedDecimal};
 
@@ -46,8 +48,8 @@ where
       spares_memory = ⊤;
       consumes = ⊤;
       grammar = SignedDecimal O.number O.fits I.seen_as I.Token.code;
-      decides = ⊥;
-      alike = λ o p. o ≡ p;
+      decides = ⊤;
+      alike = OneNumber O.number;
     } };
 
     ghost leaves_ends = { λ form x i answer y j r. dec_int_ends O.number O.fits I.seen_as
@@ -58,7 +60,8 @@ where
       fails = λ form is. backs
           (dec_int_fails I.seen_as I.Token.code I.reading O.number O.fits form);
       takes = λ is some. signed_takes I.seen_as I.Token.code I.reading O.number O.fits;
-      decided = λ form never. absurd never;
+      decided = λ form is. dec_int_decided O.number O.fits I.seen_as I.Token.code I.reading form
+          I.one_code;
     } };
 
     #[inline(always)]

@@ -6,9 +6,11 @@ ghost use Rattle.winnow_core.specs.Agrees.{agrees_plain};
 ghost use Rattle.winnow_core.specs.Exact.Allowed.{backs};
 ghost use Rattle.winnow_core.specs.Runs.{Keeps};
 ghost use Rattle.winnow_core.specs.Stable.Grows.{leaf_stays};
+ghost use Rattle.winnow_numbers.specs.DecUint.Laws.{OneNumber};
 ghost use Rattle.winnow_numbers.specs.HexUint.{HexUintRuns};
 ghost use Rattle.winnow_numbers.specs.HexUint.Laws.{hex_uint_exact, hex_uint_fails};
 ghost use Rattle.winnow_numbers.specs.HexUint.Laws.{hexadecimal_takes, hex_uint_alike};
+ghost use Rattle.winnow_numbers.specs.HexUint.Laws.{hex_uint_decided};
 ghost use Rattle.winnow_numbers.specs.HexUint.Laws.{hex_uint_ends, hex_uint_stays};
 ghost use Rattle.winnow_numbers.specs.Numeral.Grammar.{Hexadecimal};
 
@@ -206,8 +208,8 @@ where
       spares_memory = ⊤;
       consumes = ⊤;
       grammar = Hexadecimal O.number O.nibbles I.seen_as I.Token.code;
-      decides = ⊥;
-      alike = λ o p. o ≡ p;
+      decides = ⊤;
+      alike = OneNumber O.number;
     } };
 
     ghost leaves_ends = { λ form x i answer y j r. hex_uint_ends O.number O.nibbles I.seen_as
@@ -219,7 +221,8 @@ where
       fails = λ form is. backs (hex_uint_fails I.seen_as I.Token.code I.reading O.number O.nibbles
           form);
       takes = λ is some. hexadecimal_takes I.seen_as I.Token.code I.reading O.number O.nibbles;
-      decided = λ form never. absurd never;
+      decided = λ form is. hex_uint_decided O.number O.nibbles I.seen_as I.Token.code I.reading
+          form I.one_code;
     } };
 
     #[inline(always)]
