@@ -27,12 +27,12 @@ use Rattle.winnow_repeat.specs.RepeatTill.{LeastItemsRun, RangedTillRuns, Repeat
 use Rattle.winnow_repeat.specs.RepeatTill.{TurnsEnd, TurnsRun, room_behind}
 
 -- parts that are the same are the same three
-three_are : {A B C : Type 0} {t s : A × B × C} → t.0 ≡ s.0 → t.1 ≡ s.1 → t.2 ≡ s.2 → t ≡ s
+pub three_are : {A B C : Type 0} {t s : A × B × C} → t.0 ≡ s.0 → t.1 ≡ s.1 → t.2 ≡ s.2 → t ≡ s
 three_are {t = t} {s = s} e f g =
     ap (λ x. (x, t.1, t.2)) e ∙ ap (λ y. (s.0, y, t.2)) f ∙ ap (λ z. (s.0, s.1, z)) g
 
 -- what takes some outputs, and then others
-taken_two : {C O : Type 0} (takes : C → O → C → Type 0) (os ps : List O) (a b c : C)
+pub taken_two : {C O : Type 0} (takes : C → O → C → Type 0) (os ps : List O) (a b c : C)
     → FoldsTo takes a os b → FoldsTo takes b ps c → FoldsTo takes a (os ++ ps) c
 taken_two {C} takes [] ps a b c e more =
     let P : C → Type 0 = λ x. FoldsTo takes x ps c in subst P (sym e) more

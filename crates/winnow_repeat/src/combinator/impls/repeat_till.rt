@@ -7,8 +7,11 @@ ghost use Rattle.grammars.specs.Grammar.Till.{Till, till_takes};
 ghost use Rattle.stream_errors.specs.Form.{answer_by, assert_kind, modal};
 ghost use Rattle.winnow_core.specs.Agrees.Beside.{agrees2_with};
 ghost use Rattle.winnow_core.specs.Exact.Allowed.{fails_as, wanted, softly};
+ghost use Rattle.winnow_core.specs.InOrder.Decided.{AlikePairs};
 ghost use Rattle.winnow_core.specs.Stable.Grows.{grows, stays};
+ghost use Rattle.winnow_repeat.specs.Repeat.Decided.{HeldAlike};
 ghost use Rattle.winnow_repeat.specs.RepeatTill.{LeastItemsRun, RangedTillRuns, TurnsRun};
+ghost use Rattle.winnow_repeat.specs.RepeatTill.Decided.{repeat_till_decided};
 ghost use Rattle.winnow_repeat.specs.RepeatTill.Exact.{repeat_till_exact, repeat_till_fails};
 ghost use Rattle.winnow_repeat.specs.RepeatTill.Laws.{repeat_till_ends, repeat_till_grows};
 
@@ -66,8 +69,8 @@ impl<
           (P.claim s.0).spares_memory × (G.claim s.1).spares_memory × C.spares_memory;
       consumes = (G.claim s.1).consumes;
       grammar = Till C.holds s.2 (P.claim s.0).grammar (G.claim s.1).grammar;
-      decides = ⊥;
-      alike = λ o p. o ≡ p;
+      decides = (P.claim s.0).decides × (G.claim s.1).decides;
+      alike = AlikePairs (HeldAlike C.holds (P.claim s.0).alike) (G.claim s.1).alike;
     } };
 
     ghost leaves_ends = { λ form. repeat_till_ends I.reading (P.meaning form) (G.meaning form)
@@ -87,7 +90,8 @@ impl<
       takes = λ is some. till_takes (P.claim s.0).grammar (G.claim s.1).grammar
           ((P.claimed s.0).exact modal is.0).unique C.holds s.2
           ((G.claimed s.1).takes is.3 some);
-      decided = λ form never. absurd never;
+      decided = λ form is. repeat_till_decided C.accumulator (assert_kind form) C.holds C.gathers s
+          ((P.claimed s.0).decided form is.0) ((G.claimed s.1).decided form is.1);
     } };
 
     fn parse_next(&mut self, input: &mut I) -> Result<(C, D), E> {
