@@ -97,7 +97,19 @@ module _ {T L : Type 0} (reading : Reading T L) (form : ErrorForm)
       inr (inl (slice, return, both, k, here, there, line, first, none, inl (few, kind), a))
   ran i answer j
       (inr (inr (inr (inl (slice, return, both, here, there, line, first, long, none, a))))) =
-      inr (inl (slice, return, both, backtrack, here, there, line, first, none, inr (long, refl), a))
+      inr (inl (
+        slice,
+        return,
+        both,
+        backtrack,
+        here,
+        there,
+        line,
+        first,
+        none,
+        inr (long, refl),
+        a,
+      ))
   ran i answer j (inr (inr (inr (inr (k, lacks, a))))) = inr (inr (k, lacks, a))
 
   ends_or_lone : (i : Input T) (a b : Answer L) (j k : Input T) → Ends i a j → Lone i b k → ⊥

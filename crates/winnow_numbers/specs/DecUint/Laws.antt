@@ -88,7 +88,8 @@ module _ {N K T L : Type 0} (number : N → ℕ) (bound : ℕ) (seen : K → T) 
     (reading : Reading T L) (form : ErrorForm) where
   still : (i : Input T) (answer : Answer N) (j : Input T)
       → DecUintRuns number bound seen code reading form i answer j → j.status ≡ i.status
-  still i answer j (inl (digits, n, p, fits, is, e)) = numeral_status seen code reading _ i _ digits j p
+  still i answer j (inl (digits, n, p, fits, is, e)) =
+      numeral_status seen code reading _ i _ digits j p
   still i answer j (inr (inl (digits, a, p, large, e, same))) = ap (λ z. z.status) same
   still i answer j (inr (inr (k, none, e))) = none_status seen code reading form _ i k j none
 
