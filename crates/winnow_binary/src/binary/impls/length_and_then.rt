@@ -5,7 +5,9 @@ ghost use Rattle.stream_errors.specs.Form.{answer_by, modal};
 ghost use Rattle.winnow_core.specs.CompleteErr.{CompleteErrRuns};
 ghost use Rattle.winnow_core.specs.Exact.Allowed.{fails_as};
 ghost use Rattle.winnow_core.specs.Stable.Grows.{grows, stays};
+ghost use Rattle.winnow_binary.specs.Length.Decided.{OneLength};
 ghost use Rattle.winnow_binary.specs.LengthAndThen.{LengthAndThenRuns, TakenRuns};
+ghost use Rattle.winnow_binary.specs.LengthAndThen.Decided.{length_and_then_decided};
 ghost use Rattle.winnow_binary.specs.LengthAndThen.Laws.{length_and_then_exact};
 ghost use Rattle.winnow_binary.specs.LengthAndThen.Laws.{length_and_then_fails};
 ghost use Rattle.winnow_binary.specs.LengthAndThen.Laws.{length_and_then_agrees};
@@ -61,8 +63,9 @@ impl<
       spares_memory = (P.claim s.0).spares_memory × (G.claim s.1).spares_memory;
       consumes = (P.claim s.0).consumes;
       grammar = Sized N.number (Inside (G.claim s.1).grammar) (P.claim s.0).grammar;
-      decides = ⊥;
-      alike = λ o p. o ≡ p;
+      decides = (P.claim s.0).decides × OneLength N.number (P.claim s.0).alike
+          × (G.claim s.1).decides;
+      alike = (G.claim s.1).alike;
     } };
 
     ghost leaves_ends = { λ form. length_and_then_ends N.number I.reading form I.counts_missing
@@ -77,7 +80,8 @@ impl<
           (fails_as (λ b. b.1) (λ m. m.1) ((G.claimed s.1).fails form is.2));
       takes = λ is some. sized_inside_takes N.number (G.claim s.1).grammar
           ((P.claimed s.0).exact modal is.0).unique ((P.claimed s.0).takes is.0 some);
-      decided = λ form never. absurd never;
+      decided = λ form is. length_and_then_decided N.number I.reading form I.counts_missing is.1
+          ((P.claimed s.0).decided form is.0) ((G.claimed s.1).decided form is.2);
     } };
 
     #[inline]

@@ -4,9 +4,12 @@ ghost use Rattle.stream_errors.specs.Form.{assert_kind, modal};
 ghost use Rattle.winnow_core.specs.Agrees.Sizes.{agrees2};
 ghost use Rattle.winnow_core.specs.Exact.Allowed.{fails_as, wanted, softly};
 ghost use Rattle.winnow_core.specs.Stable.Grows.{grows, stays};
+ghost use Rattle.winnow_binary.specs.Length.Decided.{OneLength};
 ghost use Rattle.winnow_binary.specs.LengthRepeat.{LengthRepeatRuns};
+ghost use Rattle.winnow_binary.specs.LengthRepeat.Decided.{length_repeat_decided};
 ghost use Rattle.winnow_binary.specs.LengthRepeat.Laws.{length_repeat_exact, length_repeat_fails};
 ghost use Rattle.winnow_binary.specs.LengthRepeat.Laws.{length_repeat_ends, length_repeat_grows};
+ghost use Rattle.winnow_repeat.specs.Repeat.Decided.{HeldAlike};
 ghost use Rattle.std.specs.Prelude.{◌≡◌};
 
 use std::alloc::Allocator;
@@ -62,8 +65,9 @@ impl<
           (P.claim s.0).spares_memory × (G.claim s.1).spares_memory × C.spares_memory;
       consumes = (P.claim s.0).consumes;
       grammar = Sized N.number (Times C.holds (G.claim s.1).grammar) (P.claim s.0).grammar;
-      decides = ⊥;
-      alike = λ o p. o ≡ p;
+      decides = (P.claim s.0).decides × OneLength N.number (P.claim s.0).alike
+          × (G.claim s.1).decides;
+      alike = HeldAlike C.holds (G.claim s.1).alike;
     } };
 
     ghost leaves_ends = { λ form. length_repeat_ends I.reading N.number C.accumulator
@@ -84,7 +88,8 @@ impl<
       takes = λ is some. sized_times_takes N.number C.holds
           ((G.claimed s.1).exact modal is.2).unique
           ((P.claimed s.0).exact modal is.0).unique ((P.claimed s.0).takes is.0 some);
-      decided = λ form never. absurd never;
+      decided = λ form is. length_repeat_decided N.number C.accumulator (assert_kind form) C.holds
+          C.gathers is.1 ((P.claimed s.0).decided form is.0) ((G.claimed s.1).decided form is.2);
     } };
 
     fn parse_next(&mut self, input: &mut I) -> Result<C, E> {

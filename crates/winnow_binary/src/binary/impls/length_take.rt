@@ -2,8 +2,11 @@
 ghost use Rattle.grammars.specs.Grammar.{Counted};
 ghost use Rattle.grammars.specs.Grammar.Lengths.{SaysOne, Sized};
 ghost use Rattle.stream_errors.specs.Form.{modal};
+ghost use Rattle.winnow_core.specs.Literal.Laws.{ShowSame};
 ghost use Rattle.winnow_core.specs.Stable.Grows.{grows};
+ghost use Rattle.winnow_binary.specs.Length.Decided.{OneLength};
 ghost use Rattle.winnow_binary.specs.LengthTake.{LengthTakeRuns};
+ghost use Rattle.winnow_binary.specs.LengthTake.Decided.{length_take_decided};
 ghost use Rattle.winnow_binary.specs.LengthTake.Laws.{length_take_exact, length_take_fails};
 ghost use Rattle.winnow_binary.specs.LengthTake.Laws.{length_take_takes, length_take_agrees};
 ghost use Rattle.winnow_binary.specs.LengthTake.Laws.{length_take_ends, length_take_stays};
@@ -52,8 +55,8 @@ impl<P: Parser<I, N, E>, I: StreamIsPartial, N: ToUsize + Drop, E: ParserError<I
       spares_memory = (P.claim s).spares_memory;
       consumes = (P.claim s).consumes;
       grammar = Sized N.number (Counted I.reading) (P.claim s).grammar;
-      decides = ⊥;
-      alike = λ o p. o ≡ p;
+      decides = (P.claim s).decides × OneLength N.number (P.claim s).alike;
+      alike = ShowSame I.reading;
     } };
 
     ghost leaves_ends = { λ form. length_take_ends N.number I.reading form I.counts_missing
@@ -66,7 +69,8 @@ impl<P: Parser<I, N, E>, I: StreamIsPartial, N: ToUsize + Drop, E: ParserError<I
           ((P.claimed s).exact form is.0) ((P.claimed s).fails form is.0);
       takes = λ is some. length_take_takes N.number I.reading ((P.claimed s).exact modal is.0)
           ((P.claimed s).takes is.0 some);
-      decided = λ form never. absurd never;
+      decided = λ form is. length_take_decided N.number I.reading form I.counts_missing is.1
+          ((P.claimed s).decided form is.0);
     } };
 
     #[inline]
