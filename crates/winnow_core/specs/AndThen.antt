@@ -5,6 +5,7 @@ use Rattle.stream_errors.specs.Form.{Answer}
 use Rattle.winnow_core.specs.Settles.{Settles}
 use Rattle.winnow_core.specs.Runs.{Runs}
 use Rattle.winnow_core.specs.declared.combinator.impls.and_then.AndThen.{AndThen}
+pub mod Decided
 
 -- the parser whose output is read
 abbrev pub and_then_outer : {F G I O U E : Type 0} → AndThen F G I O U E → F

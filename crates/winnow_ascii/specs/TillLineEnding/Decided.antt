@@ -6,7 +6,6 @@ use Rattle.std.proofs.lemmas.List.{append_cancel_right}
 use Rattle.streams.specs.Input.{Input, Takes}
 use Rattle.streams.specs.Kind.{Kind, backtrack}
 use Rattle.streams.specs.Reading.{Reading}
-use Rattle.grammars.specs.Grammar.Searches.{HasNoLineEnd}
 use Rattle.grammars.specs.Grammar.Searches.Unique.{one_line}
 use Rattle.stream_searches.specs.Compare.{IsShort, StandsFirst}
 use Rattle.stream_errors.specs.Form.{Answer, ErrorForm}

@@ -1,10 +1,10 @@
 -- What holds of the runs of decimal unsigned numbers.
-use Rattle.std.specs.Prelude.{◌≡◌, ℕ, false, ⊤, [], Err, Bool, List, Ok}
-use Rattle.std.proofs.Common.{inl, inr, refl, ap, ◌∙◌}
+use Rattle.std.specs.Prelude.{◌≡◌, ℕ, false, ⊤, [], Err, Ok}
+use Rattle.std.proofs.Common.{inl, inr, ap}
 use Rattle.streams.specs.Input.{Input, IsEndOf, with_more}
 use Rattle.streams.specs.Reading.{Reading}
 use Rattle.streams.specs.SameReading.{SameReading, reading_path}
-use Rattle.stream_errors.specs.Form.{Answer, ErrorForm, modal, plain}
+use Rattle.stream_errors.specs.Form.{Answer, ErrorForm, modal}
 use Rattle.winnow_core.specs.Ends.{same_ends}
 use Rattle.winnow_core.specs.Runs.{Keeps}
 use Rattle.winnow_core.specs.SameMeaning.{SameMeaning, same_by, same_trans}
@@ -13,7 +13,6 @@ use Rattle.winnow_numbers.specs.Numeral.Laws.{no_numeral_ends, numeral_ends, num
 use Rattle.winnow_numbers.specs.Numeral.Laws.{no_numeral_more}
 use Rattle.winnow_core.specs.Stable.Longer.{same_more}
 use Rattle.winnow_core.specs.Stable.Grows.{Stays, final_by}
-use Rattle.streams.specs.Kind.{Kind}
 use Rattle.winnow_core.specs.Decided.{AlikeAnswers, IsDecided}
 use Rattle.winnow_numbers.specs.DecUint.Known.{dec_uint_once}
 use Rattle.winnow_numbers.specs.Digits.{SeenOnce}

@@ -1,5 +1,4 @@
 -- Folds are decided: a fold is a repetition into the value.
-use Rattle.std.specs.Prelude.{◌≡◌}
 use Rattle.std.proofs.Common.{ap}
 use Rattle.streams.specs.Kind.{Kind}
 use Rattle.stream_sets.specs.declared.range.Range.{Range}

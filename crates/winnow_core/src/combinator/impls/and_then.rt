@@ -7,6 +7,7 @@ ghost use Rattle.stream_errors.specs.Form.{modal};
 ghost use Rattle.winnow_core.specs.Agrees.{agrees_with};
 ghost use Rattle.winnow_core.specs.AndThen.{AndThenSettles, AndThenRuns, and_then_inner};
 ghost use Rattle.winnow_core.specs.AndThen.{and_then_outer};
+ghost use Rattle.winnow_core.specs.AndThen.Decided.{OneInput, and_then_decided};
 ghost use Rattle.winnow_core.specs.Exact.Allowed.{fails_as, softly};
 ghost use Rattle.winnow_core.specs.Exact.Settled.{NoneWithin, ReadsWithin, and_then_exact};
 ghost use Rattle.winnow_core.specs.Exact.Settled.{and_then_fails};
@@ -71,8 +72,9 @@ impl<
       spares_memory = (F.claim s.0).spares_memory × (G.claim s.1).spares_memory;
       consumes = (F.claim s.0).consumes;
       grammar = Made (ReadsWithin O.view (G.claim s.1).grammar) tt (F.claim s.0).grammar;
-      decides = ⊥;
-      alike = λ o p. o ≡ p;
+      decides = (F.claim s.0).decides × OneInput O.view (F.claim s.0).alike
+          × (G.claim s.1).decides;
+      alike = (G.claim s.1).alike;
     } };
 
     ghost leaves_ends = { λ form. settles_ends I.reading
@@ -88,7 +90,8 @@ impl<
           (fails_as (λ b. is.2) (λ m. m.1) ((G.claimed s.1).fails form is.1));
       takes = λ is some. made_of_takes (ReadsWithin O.view (G.claim s.1).grammar) tt
           ((F.claimed s.0).takes is.0 some);
-      decided = λ form never. absurd never;
+      decided = λ form is. and_then_decided O.view is.1 ((F.claimed s.0).decided form is.0)
+          ((G.claimed s.1).decided form is.2);
     } };
 
     #[inline]

@@ -7,6 +7,7 @@ ghost use Rattle.winnow_core.specs.Exact.Allowed.{fails_as};
 ghost use Rattle.winnow_core.specs.Exact.Along.{either_way};
 ghost use Rattle.winnow_core.specs.FlatMap.{FlatMapRuns, MakesParsers, flat_map_closure};
 ghost use Rattle.winnow_core.specs.FlatMap.{flat_map_parser};
+ghost use Rattle.winnow_core.specs.FlatMap.Decided.{AlikeByMade, MakesOne, flat_map_decided};
 ghost use Rattle.winnow_core.specs.FlatMap.Laws.{flat_map_exact, flat_map_fails, flat_map_ends};
 ghost use Rattle.winnow_core.specs.FlatMap.Laws.{flat_map_grows};
 ghost use Rattle.winnow_core.specs.Stable.Grows.{grows, stays};
@@ -78,8 +79,10 @@ impl<
           ⊎ EachMade (Gives G.step) s.1 (λ m. (H.claim (H.state m)).consumes);
       grammar = Decided (Gives G.step) s.1 (λ m. (H.claim (H.state m)).grammar)
           (F.claim s.0).grammar;
-      decides = ⊥;
-      alike = λ o p. o ≡ p;
+      decides = (F.claim s.0).decides × Stays G.step s.1
+          × MakesOne G.step s.1 H.state (F.claim s.0).alike
+          × EachMade (Gives G.step) s.1 (λ m. (H.claim (H.state m)).decides);
+      alike = AlikeByMade G.step s.1 (λ m. (H.claim (H.state m)).alike);
     } };
 
     ghost leaves_ends = { λ form. flat_map_ends I.reading G.step H.state (F.meaning form)
@@ -100,7 +103,9 @@ impl<
           (either_way ((F.claimed s.0).takes is.0)
           (λ each o made m. (H.claimed (H.state made)).takes (is.2 o made m)
           (each o made m)) some);
-      decided = λ form never. absurd never;
+      decided = λ form is. flat_map_decided G.step H.state (λ m. (H.claim (H.state m)).alike) is.1
+          is.2 (λ o made m. (H.claimed (H.state made)).decided form (is.3 o made m))
+          ((F.claimed s.0).decided form is.0);
     } };
 
     #[inline]

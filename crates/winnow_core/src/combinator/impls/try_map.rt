@@ -7,6 +7,7 @@ ghost use Rattle.stream_errors.specs.Form.{modal};
 ghost use Rattle.stream_errors.specs.Given.{Keeping};
 ghost use Rattle.winnow_core.specs.Agrees.{agrees_with};
 ghost use Rattle.winnow_core.specs.Closures.{Stays};
+ghost use Rattle.winnow_core.specs.Decided.Made.{MadeAlike};
 ghost use Rattle.winnow_core.specs.Exact.Allowed.{fails_as};
 ghost use Rattle.winnow_core.specs.Exact.Settled.{ErrorsKept, GivesErr, GivesOk, try_map_exact};
 ghost use Rattle.winnow_core.specs.Exact.Settled.{try_map_fails};
@@ -14,6 +15,7 @@ ghost use Rattle.winnow_core.specs.Settles.Laws.{settles_ends, settles_grows};
 ghost use Rattle.winnow_core.specs.Stable.Grows.{grows, stays};
 ghost use Rattle.winnow_core.specs.TryMap.{TryMapSettles, TryMapRuns, try_map_closure};
 ghost use Rattle.winnow_core.specs.TryMap.{try_map_parser};
+ghost use Rattle.winnow_core.specs.TryMap.Decided.{TriesSame, try_map_decided};
 
 use crate::agrees_with::AgreesWith;
 use crate::parser::Parser;
@@ -74,8 +76,9 @@ impl<
       spares_memory = (F.claim s.0).spares_memory × ErrorsKept s.1.1;
       consumes = (F.claim s.0).consumes;
       grammar = Made (GivesOk G.step) s.1.0 (F.claim s.0).grammar;
-      decides = ⊥;
-      alike = λ o p. o ≡ p;
+      decides = (F.claim s.0).decides × Stays G.step s.1.0
+          × TriesSame G.step s.1.0 (F.claim s.0).alike;
+      alike = MadeAlike (F.claim s.0).alike (GivesOk G.step s.1.0);
     } };
 
     ghost leaves_ends = { λ form. settles_ends I.reading
@@ -87,7 +90,7 @@ impl<
       fails = λ form is. try_map_fails G.step is.1 (λ m. m.1)
           (fails_as (λ b. b) (λ m. m.0) ((F.claimed s.0).fails form is.0));
       takes = λ is some. made_of_takes (GivesOk G.step) s.1.0 ((F.claimed s.0).takes is.0 some);
-      decided = λ form never. absurd never;
+      decided = λ form is. try_map_decided G.step is.1 is.2 ((F.claimed s.0).decided form is.0);
     } };
 
     #[inline]
