@@ -86,8 +86,9 @@ module _ {N : Type 0} (number : N → ℤ) (fits : ℤ → Type 0)
   minus tokens n rest front sign digits e text stops fit (suc k) is one some same = (
     inl (e ∙ ap (λ l. l ++ rest) (text ∙ ap (λ s. s ++ digits) one
         ∙ ap (λ l. 45 ∷ l)
-        (digits_written digits (suc k) (below tokens n rest front sign digits e text stops fit (suc k)
-        is (neg_ℤ (pos (suc k))) same) is) ∙ ap signed_decimal (sym same))),
+        (digits_written digits (suc k)
+        (below tokens n rest front sign digits e text stops fit (suc k) is
+        (neg_ℤ (pos (suc k))) same) is) ∙ ap signed_decimal (sym same))),
     elim stops [
       | inl lone ↦ absurd (omega (arith, lone_zero digits (suc k) is lone))
       | inr not ↦ inr (none_first rest not)
@@ -139,7 +140,7 @@ module _ {N : Type 0} (number : N → ℤ) (fits : ℤ → Type 0)
       → Read tokens n rest
   by_value tokens n rest fit (pos m) same e stops =
       written tokens n rest fit [] m e (subst (λ y. unsigned_abs y < 10 ^ 64) same (small _ fit))
-      (elim stops [ | inl nil ↦ inl (no_sign m nil) | inr none ↦ inr none ])
+      (elim stops [ inl nil ↦ inl (no_sign m nil) | inr none ↦ inr none ])
       (inl (refl, same))
     where
       no_sign : (k : ℕ) → pos k ≡ pos 0 → k ≡ 0
@@ -147,7 +148,7 @@ module _ {N : Type 0} (number : N → ℤ) (fits : ℤ → Type 0)
   by_value tokens n rest fit (negsuc m) same e stops =
       written tokens n rest fit (45 ∷ []) (suc m) e
       (subst (λ y. unsigned_abs y < 10 ^ 64) same (small _ fit))
-      (elim stops [ | inl nil ↦ absurd (negative m nil) | inr none ↦ inr none ])
+      (elim stops [ inl nil ↦ absurd (negative m nil) | inr none ↦ inr none ])
       (inr (inr (refl, omega arith, same)))
     where
       negative : (k : ℕ) → negsuc k ≡ pos 0 → ⊥
@@ -163,7 +164,8 @@ module _ {N : Type 0} (number : N → ℤ) (fits : ℤ → Type 0)
       (subst (λ y. unsigned_abs y < 10 ^ 64) same (small _ fit))
       (elim stops [
         | inl nil ↦
-            let none : m ≡ 0 = ap unsigned_abs (sym same ∙ nil) in absurd (omega (arith, some, none))
+            let none : m ≡ 0 = ap unsigned_abs (sym same ∙ nil) in
+            absurd (omega (arith, some, none))
         | inr none ↦ inr none
       ]) (inr (inl (refl, some, same)))
 
