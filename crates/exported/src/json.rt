@@ -2,16 +2,16 @@
 
 ghost use Rattle.std.specs.Prelude.{◌≡◌, ◌≤◌, ◌<◌, ◌⊎◌, ◌↔◌, drop, length, take};
 ghost use Rattle.std.specs.Str.{IsUtf8};
-ghost use Rattle.uses_json.specs.Texts.{IsLongest, NoneStands, Then};
-ghost use Rattle.uses_json.specs.Value.{IsText, IsValue};
-ghost use Rattle.uses_json.specs.Walk.{EndsItems, IsLead};
+ghost use Rattle.format_json_extents.specs.Texts.{IsLongest, NoneStands, Then};
+ghost use Rattle.format_json_extents.specs.Value.{IsText, IsValue};
+ghost use Rattle.format_json_extents.specs.Walk.{EndsItems, IsLead};
 ghost use Rattle.exported.specs.Code.{done, end, most_levels, no_text, refused, too_deep};
 ghost use Rattle.exported.specs.Json.{ShowsItem, no_item, number_of};
 
 use crate::code::{DONE, END, NO_TEXT, REFUSED, TOO_DEEP};
 use crate::span::{NOWHERE, Span};
-use uses_json::walk::Kind;
-use uses_json::{value, walk};
+use format_json_extents::walk::Kind;
+use format_json_extents::{value, walk};
 
 /// How many levels of arrays and objects in one another may be asked for. Each takes some of the
 /// stack.
