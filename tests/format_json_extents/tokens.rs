@@ -63,7 +63,17 @@ const STRINGS: &[(&[u8], &[u8], &[u8])] = &[
     (b"\"\\u005C\"", b"\\u005C", b""),
     (b"\"\\u005c\"", b"\\u005c", b""),
     (b"\"\\uD834\\uDD1E\"", b"\\uD834\\uDD1E", b""),
-    (b"\"\\uDEAD\"", b"\\uDEAD", b""),
+    (b"\"\\ud834\\udd1e\"", b"\\ud834\\udd1e", b""),
+    (b"\"\\uD800\\uDC00\"", b"\\uD800\\uDC00", b""),
+    (b"\"\\uDBFF\\uDFFF\"", b"\\uDBFF\\uDFFF", b""),
+    (b"\"\\udbff\\udfff\"", b"\\udbff\\udfff", b""),
+    (b"\"\\uD999\\uDddd\"", b"\\uD999\\uDddd", b""),
+    (b"\"\\uD7FF\"", b"\\uD7FF", b""),
+    (b"\"\\uE000\"", b"\\uE000", b""),
+    (b"\"\\uFFFF\"", b"\\uFFFF", b""),
+    (b"\"\\uCDDD\"", b"\\uCDDD", b""),
+    (b"\"\\u0D80\"", b"\\u0D80", b""),
+    (b"\"\\uD834\\uDD1E\\uD834\\uDD1E\"", b"\\uD834\\uDD1E\\uD834\\uDD1E", b""),
     (b"\"\\u00000\"", b"\\u00000", b""),
     (b"\"\\u09afAF\"", b"\\u09afAF", b""),
     (b"\"\x7f\"", b"\x7f", b""),
@@ -79,6 +89,19 @@ const NO_STRINGS: &[&[u8]] = &[
     b"\"\\'\"", b"\"\\B\"", b"\"\\U0041\"", b"\"\\u\"", b"\"\\u004\"", b"\"\\u004\\n\"",
     b"\"\\u004g\"", b"\"\\u00/0\"", b"\"\\u00:0\"", b"\"\\u00@0\"", b"\"\\u00`0\"",
     b"\"\\u00G0\"", b"\"\x00\"", b"\"\x1f\"", b"\"\n\"", b"\"\t\"", b"\"\r\"", b"\"\\\n\"",
+];
+
+/// Texts with a surrogate that is escaped alone, by itself or before other text (RFC 8259, section
+/// 8.2), so that it means no character.
+const SURROGATES: &[&[u8]] = &[
+    b"\"\\uD800\"", b"\"\\ud800\"", b"\"\\uDBFF\"", b"\"\\uDC00\"", b"\"\\uDEAD\"", b"\"\\udfff\"",
+    b"\"\\uD834 \\uDD1E\"", b"\"\\uD834a\"", b"\"\\uD834\\n\"", b"\"\\uD834\\u0041\"",
+    b"\"\\uD834\\uD834\"", b"\"\\uDD1E\\uD834\"", b"\"\\uD834\\uE000\"", b"\"\\uD834\\uDBFF\"",
+    b"\"\\uD834\\UDD1E\"", b"\"\\uD834uDD1E\"", b"\"\\uD834\\\\uDD1E\"", b"\"\\uD834\\uDD1\"",
+    b"\"\\uD834\\uDD1\\n\"", b"\"\\uD834\\uDD", b"\"\\uD834\\u", b"\"\\uD834\\", b"\"\\uD834",
+    b"\"\\uD83", b"\"\\uD", b"\"\\uD834\\uDD1E\\uDD1E\"", b"\"\\uD834\\uD834\\uDD1E\"",
+    b"\"\\uD:34\"", b"\"\\uD/34\"", b"\"\\uD8g4\"", b"\"\\uD80g\\uDC00\"", b"\"\\uD800\\uDC0g\"",
+    b"\"\\uD800\\uDG00\"", b"\"\\uD800\\ue000\"", b"\"\\uD800\\u1C00\"",
 ];
 
 fn same<T: PartialEq + Debug + Drop>(rt: &impl Abort, row: &[u8], got: T, want: T) {
@@ -115,6 +138,11 @@ fn read_string_of_strings(rt: HostRuntime) {
 #[test]
 fn read_string_of_none(rt: HostRuntime) {
     for text in NO_STRINGS {
+        let mut input = *text;
+        same(&rt, text, read_string(&mut input), None);
+        same(&rt, text, input, *text);
+    }
+    for text in SURROGATES {
         let mut input = *text;
         same(&rt, text, read_string(&mut input), None);
         same(&rt, text, input, *text);

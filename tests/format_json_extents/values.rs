@@ -123,6 +123,7 @@ const TEXTS: &[&[u8]] = &[
     b" [ ] ",
     b"\n{\"a\" :\t[ 1,2 ] }\r\n",
     b"[1.5,-0,1E-2,\"\\u00e9\"]",
+    b"{\"\\uD834\\uDD1E\":[\"\\ud83d\\ude00\"]}",
     b"[[],{}]",
     // Bytes of 128 and above are not looked at.
     b"\"\xff\"",
@@ -152,6 +153,11 @@ const NO_TEXTS: &[&[u8]] = &[
     b"// a\n1",
     b"[[[]]]",
     b"[{\"a\":{}}]",
+    // A surrogate that is escaped alone means no character (section 8.2).
+    b"\"\\ud800\"",
+    b"[\"\\udead\"]",
+    b"{\"\\ud834\":1}",
+    b"[\"\\ud834\",\"\\udd1e\"]",
 ];
 
 fn same<T: PartialEq + Debug + Drop>(rt: &impl Abort, row: &[u8], got: T, want: T) {

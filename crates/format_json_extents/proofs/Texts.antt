@@ -13,8 +13,7 @@ use Rattle.format_json_extents.proofs.Standing.{byte_stands, either_left, either
 use Rattle.format_json_extents.proofs.Standing.{first_none, never_bars, same_byte, shorter}
 use Rattle.format_json_extents.proofs.Standing.{then_exact}
 use Rattle.format_json_extents.proofs.Standing.{then_none, then_split, then_stands}
-use Rattle.format_json_extents.specs.Strings.{IsBackslash, IsEscape, IsEscaped, IsFourDigits}
-use Rattle.format_json_extents.specs.Strings.{IsHexDigit}
+use Rattle.format_json_extents.specs.Strings.{IsBackslash, IsCharacter, IsEscape, IsEscaped}
 use Rattle.format_json_extents.specs.Strings.{IsInQuotes, IsPiece, IsQuote, IsString, IsStringTail}
 use Rattle.format_json_extents.specs.Strings.{IsU}
 use Rattle.format_json_extents.specs.Strings.{IsUnescaped}
@@ -70,46 +69,6 @@ many_more P bytes mid rest p many = record {
       ∙ sym (append_assoc p.text many.text rest);
 }
 
--- ---- hexadecimal digits
-
-pub four_digits : (bytes one two three rest : List ℕ) → Leaves (IsByte IsHexDigit) Never bytes one
-    → Leaves (IsByte IsHexDigit) Never one two → Leaves (IsByte IsHexDigit) Never two three
-    → Leaves (IsByte IsHexDigit) Never three rest → Leaves IsFourDigits Never bytes rest
-four_digits bytes one two three rest a b c d =
-    let H = IsByte IsHexDigit in
-    then_exact H (Then H (Then H H)) Never Never bytes one rest (never_bars (Then H (Then H H))) a
-    (then_exact H (Then H H) Never Never one two rest (never_bars (Then H H)) b
-    (then_exact H H Never Never two three rest (never_bars H) c d))
-
-pub four_none1 : (bytes : List ℕ) → NoneStands (IsByte IsHexDigit) bytes
-    → NoneStands IsFourDigits bytes
-four_none1 bytes none =
-    let H = IsByte IsHexDigit in first_none H (Then H (Then H H)) bytes none
-
-pub four_none2 : (bytes one : List ℕ) → Leaves (IsByte IsHexDigit) Never bytes one
-    → NoneStands (IsByte IsHexDigit) one → NoneStands IsFourDigits bytes
-four_none2 bytes one a none =
-    let H = IsByte IsHexDigit in
-    then_none H (Then H (Then H H)) Never bytes one (never_bars (Then H (Then H H))) a
-    (first_none H (Then H H) one none)
-
-pub four_none3 : (bytes one two : List ℕ) → Leaves (IsByte IsHexDigit) Never bytes one
-    → Leaves (IsByte IsHexDigit) Never one two → NoneStands (IsByte IsHexDigit) two
-    → NoneStands IsFourDigits bytes
-four_none3 bytes one two a b none =
-    let H = IsByte IsHexDigit in
-    then_none H (Then H (Then H H)) Never bytes one (never_bars (Then H (Then H H))) a
-    (then_none H (Then H H) Never one two (never_bars (Then H H)) b (first_none H H two none))
-
-pub four_none4 : (bytes one two three : List ℕ) → Leaves (IsByte IsHexDigit) Never bytes one
-    → Leaves (IsByte IsHexDigit) Never one two → Leaves (IsByte IsHexDigit) Never two three
-    → NoneStands (IsByte IsHexDigit) three → NoneStands IsFourDigits bytes
-four_none4 bytes one two three a b c none =
-    let H = IsByte IsHexDigit in
-    then_none H (Then H (Then H H)) Never bytes one (never_bars (Then H (Then H H))) a
-    (then_none H (Then H H) Never one two (never_bars (Then H H)) b
-    (then_none H H Never two three (never_bars H) c none))
-
 -- ---- escapes
 
 pub not_u : IsEscaped 117 → ⊥
@@ -123,40 +82,40 @@ not_u (inr (inr (inr (inr (inr (inr (inl e))))))) = omega (arith, e)
 not_u (inr (inr (inr (inr (inr (inr (inr e))))))) = omega (arith, e)
 
 pub escape_u : (bytes more rest : List ℕ) → bytes ≡ 117 ∷ more
-    → Leaves IsFourDigits Never more rest → Leaves IsEscape Never bytes rest
-escape_u bytes more rest e four =
-    either_right (IsByte IsEscaped) (Then (IsByte IsU) IsFourDigits) Never bytes rest
+    → Leaves IsCharacter Never more rest → Leaves IsEscape Never bytes rest
+escape_u bytes more rest e it =
+    either_right (IsByte IsEscaped) (Then (IsByte IsU) IsCharacter) Never bytes rest
     (byte_none IsEscaped bytes 117 more e not_u)
-    (then_exact (IsByte IsU) IsFourDigits Never Never bytes more rest (never_bars IsFourDigits)
-    (byte_leaves IsU bytes 117 more e refl) four)
+    (then_exact (IsByte IsU) IsCharacter Never Never bytes more rest (never_bars IsCharacter)
+    (byte_leaves IsU bytes 117 more e refl) it)
 
-pub escape_u_none : (bytes more : List ℕ) → bytes ≡ 117 ∷ more → NoneStands IsFourDigits more
+pub escape_u_none : (bytes more : List ℕ) → bytes ≡ 117 ∷ more → NoneStands IsCharacter more
     → NoneStands IsEscape bytes
 escape_u_none bytes more e none =
-    either_none (IsByte IsEscaped) (Then (IsByte IsU) IsFourDigits) bytes
+    either_none (IsByte IsEscaped) (Then (IsByte IsU) IsCharacter) bytes
     (byte_none IsEscaped bytes 117 more e not_u)
-    (then_none (IsByte IsU) IsFourDigits Never bytes more (never_bars IsFourDigits)
+    (then_none (IsByte IsU) IsCharacter Never bytes more (never_bars IsCharacter)
     (byte_leaves IsU bytes 117 more e refl) none)
 
 pub escape_one : (bytes : List ℕ) (b : ℕ) (more : List ℕ) → bytes ≡ b ∷ more → IsEscaped b
     → (b ≡ 117 → ⊥) → Leaves IsEscape Never bytes more
 escape_one bytes b more e is not =
-    either_left (IsByte IsEscaped) (Then (IsByte IsU) IsFourDigits) Never bytes more
+    either_left (IsByte IsEscaped) (Then (IsByte IsU) IsCharacter) Never bytes more
     (byte_leaves IsEscaped bytes b more e is)
-    (first_none (IsByte IsU) IsFourDigits bytes (byte_none IsU bytes b more e not))
+    (first_none (IsByte IsU) IsCharacter bytes (byte_none IsU bytes b more e not))
 
 pub escape_none : (bytes : List ℕ) (b : ℕ) (more : List ℕ) → bytes ≡ b ∷ more → (IsEscaped b → ⊥)
     → (b ≡ 117 → ⊥) → NoneStands IsEscape bytes
 escape_none bytes b more e one not =
-    either_none (IsByte IsEscaped) (Then (IsByte IsU) IsFourDigits) bytes
+    either_none (IsByte IsEscaped) (Then (IsByte IsU) IsCharacter) bytes
     (byte_none IsEscaped bytes b more e one)
-    (first_none (IsByte IsU) IsFourDigits bytes (byte_none IsU bytes b more e not))
+    (first_none (IsByte IsU) IsCharacter bytes (byte_none IsU bytes b more e not))
 
 pub escape_empty : (bytes : List ℕ) → bytes ≡ [] → NoneStands IsEscape bytes
 escape_empty bytes e =
-    either_none (IsByte IsEscaped) (Then (IsByte IsU) IsFourDigits) bytes
+    either_none (IsByte IsEscaped) (Then (IsByte IsU) IsCharacter) bytes
     (byte_empty IsEscaped bytes e)
-    (first_none (IsByte IsU) IsFourDigits bytes (byte_empty IsU bytes e))
+    (first_none (IsByte IsU) IsCharacter bytes (byte_empty IsU bytes e))
 
 -- ---- pieces
 
@@ -196,7 +155,7 @@ piece_other start bytes run not =
     all_stops IsUnescaped start bytes run b more e is)
     (first_none (IsByte IsBackslash) IsEscape bytes (this_none 92 bytes not))
 
-piece_starts : Starts IsPiece (Or IsUnescaped IsBackslash)
+pub piece_starts : Starts IsPiece (Or IsUnescaped IsBackslash)
 piece_starts =
     either_starts (IsByte IsUnescaped) (Then (IsByte IsBackslash) IsEscape) IsUnescaped IsBackslash
     (byte_starts IsUnescaped)

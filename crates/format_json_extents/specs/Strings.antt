@@ -1,6 +1,8 @@
 -- Strings of JSON (RFC 8259, section 7).
 use Rattle.std.specs.Prelude.{◌≡◌, ◌≤◌, ◌⊎◌, ℕ, List, ◌∷◌, ◌++◌}
-use Rattle.format_json_extents.specs.Texts.{Either, IsByte, Many, Then}
+use Rattle.format_json_extents.specs.Texts.{AreTwo, Either, IsByte, Many, Then}
+use Rattle.format_json_extents.specs.declared.string.Unit.{Unit}
+use Rattle.format_json_extents.specs.declared.string.Unit.TheVariants as units
 
 -- the quote
 abbrev pub IsQuote : ℕ → Type 0
@@ -27,15 +29,50 @@ IsU b = b ≡ 117
 abbrev pub IsHexDigit : ℕ → Type 0
 IsHexDigit b = ((48 ≤ b) × (b ≤ 57)) ⊎ (((65 ≤ b) × (b ≤ 70)) ⊎ ((97 ≤ b) × (b ≤ 102)))
 
--- four hexadecimal digits
-abbrev pub IsFourDigits : List ℕ → Type 0
-IsFourDigits =
-    Then (IsByte IsHexDigit) (Then (IsByte IsHexDigit)
-    (Then (IsByte IsHexDigit) (IsByte IsHexDigit)))
+-- two hexadecimal digits
+abbrev pub IsTwoDigits : List ℕ → Type 0
+IsTwoDigits = Then (IsByte IsHexDigit) (IsByte IsHexDigit)
 
--- What stands behind a backslash: one byte, or u and four digits.
+-- the digit D, with which a surrogate begins
+abbrev pub IsD : ℕ → Type 0
+IsD b = (b ≡ 68) ⊎ (b ≡ 100)
+
+-- The first two digits of a unit that is no surrogate: 00 to D7, and E0 to FF.
+abbrev pub BeginOnly : ℕ → ℕ → Type 0
+BeginOnly a b = IsHexDigit a × IsHexDigit b × (IsD a → b ≤ 55)
+
+-- The first two digits of a high surrogate: D8 to DB.
+abbrev pub BeginHigh : ℕ → ℕ → Type 0
+BeginHigh a b =
+    IsD a × (((56 ≤ b) × (b ≤ 57)) ⊎ (((65 ≤ b) × (b ≤ 66)) ⊎ ((97 ≤ b) × (b ≤ 98))))
+
+-- The first two digits of a low surrogate: DC to DF.
+abbrev pub BeginLow : ℕ → ℕ → Type 0
+BeginLow a b = IsD a × (((67 ≤ b) × (b ≤ 70)) ⊎ ((99 ≤ b) × (b ≤ 102)))
+
+-- The first two digits of this unit.
+abbrev pub BeginUnit : Unit → ℕ → ℕ → Type 0
+BeginUnit units.Only = BeginOnly
+BeginUnit units.High = BeginHigh
+BeginUnit units.Low = BeginLow
+
+-- A unit of UTF-16 in four hexadecimal digits, of which the first two are of P.
+abbrev pub IsUnit : (ℕ → ℕ → Type 0) → List ℕ → Type 0
+IsUnit P = Then (AreTwo P) IsTwoDigits
+
+-- A high surrogate, and a low one behind a backslash and u.
+abbrev pub IsPair : List ℕ → Type 0
+IsPair =
+    Then (IsUnit BeginHigh)
+    (Then (IsByte IsBackslash) (Then (IsByte IsU) (IsUnit BeginLow)))
+
+-- The digits of a character: those of its only unit, or of both.
+abbrev pub IsCharacter : List ℕ → Type 0
+IsCharacter = Either (IsUnit BeginOnly) IsPair
+
+-- What stands behind a backslash: one byte, or u and the digits of a character.
 abbrev pub IsEscape : List ℕ → Type 0
-IsEscape = Either (IsByte IsEscaped) (Then (IsByte IsU) IsFourDigits)
+IsEscape = Either (IsByte IsEscaped) (Then (IsByte IsU) IsCharacter)
 
 -- A byte that stands for itself, or a backslash and what it escapes.
 abbrev pub IsPiece : List ℕ → Type 0

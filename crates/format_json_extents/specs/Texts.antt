@@ -9,6 +9,13 @@ pub record IsByte (P : ℕ → Type 0) (text : List ℕ) : Type 0 where
   pub is_byte : P byte
   pub alone : text ≡ byte ∷ []
 
+-- Two bytes of P.
+pub record AreTwo (P : ℕ → ℕ → Type 0) (text : List ℕ) : Type 0 where
+  pub one : ℕ
+  pub two : ℕ
+  pub are_bytes : P one two
+  pub alone : text ≡ one ∷ two ∷ []
+
 -- A text of P, and then one of Q.
 pub record Then (P Q : List ℕ → Type 0) (text : List ℕ) : Type 0 where
   pub first : List ℕ

@@ -6,10 +6,12 @@
 //!   stand in one another (section 9).
 //! - Bytes of 128 and above are not looked at: that the bytes are UTF-8 is for the caller to know
 //!   (section 8.1).
-//! - Strings stay as they are written, and a surrogate alone may stand in one, as an escape
-//!   (section 8.2). Members of an object may have one name (section 4).
+//! - Strings stay as they are written. What has a surrogate that is escaped alone is no string,
+//!   since no character is meant by it, though the grammar of the standard has it (section 8.2).
+//! - Members of an object may have one name (section 4).
 #![tactic(auto)]
 
+pub mod laws;
 pub mod number;
 mod scalar;
 pub mod string;

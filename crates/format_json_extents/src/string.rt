@@ -1,8 +1,9 @@
 //! Strings of JSON, as they stand in a text (RFC 8259, section 7).
 
 ghost use Rattle.std.specs.Prelude.{◌≡◌, ◌↔◌, List, ℕ, IfNone, IfSome, IsTrue, MatchOption};
-ghost use Rattle.format_json_extents.specs.Strings.{IsEscape, IsEscaped, IsFourDigits, IsHexDigit};
-ghost use Rattle.format_json_extents.specs.Strings.{IsInQuotes, IsString, IsStringTail};
+ghost use Rattle.format_json_extents.specs.Strings.{BeginUnit, IsCharacter, IsEscape, IsEscaped};
+ghost use Rattle.format_json_extents.specs.Strings.{IsHexDigit, IsInQuotes, IsPair, IsString};
+ghost use Rattle.format_json_extents.specs.Strings.{IsStringTail, IsTwoDigits, IsUnit};
 ghost use Rattle.format_json_extents.specs.Texts.{IsByte, Leaves, Never, NoneStands, Stands};
 
 use crate::tokens::{behind, behind_unescaped};
@@ -30,6 +31,33 @@ fn is_escaped(byte: u8) -> bool
         || byte == b't'
 }
 
+/// Which unit of UTF-16 four hexadecimal digits are, of the character that they mean.
+#[derive(Clone, Copy, Drop)]
+enum Unit {
+    /// Its only one: no surrogate.
+    Only,
+    /// The first of two: a high surrogate, from D800 to DBFF.
+    High,
+    /// The second of two: a low surrogate, from DC00 to DFFF.
+    Low,
+}
+
+/// Whether these are the first two digits of such a unit.
+fn begins(unit: Unit, first: u8, second: u8) -> bool
+    ensures { IsTrue result ↔ BeginUnit unit first second }
+{
+    let surrogates = first == b'D' || first == b'd';
+    match unit {
+        Unit::Only => {
+            is_hex_digit(first) && is_hex_digit(second) && (!surrogates || second <= b'7')
+        }
+        Unit::High => surrogates && matches!(second, b'8' | b'9' | b'A' | b'B' | b'a' | b'b'),
+        Unit::Low => {
+            surrogates && ((second >= b'C' && second <= b'F') || (second >= b'c' && second <= b'f'))
+        }
+    }
+}
+
 /// What stands behind a hexadecimal digit.
 fn behind_digit<'i>(bytes: &'i [u8]) -> Option<&'i [u8]>
     ensures { MatchOption result (NoneStands (IsByte IsHexDigit) bytes.now)
@@ -43,16 +71,49 @@ fn behind_digit<'i>(bytes: &'i [u8]) -> Option<&'i [u8]>
     }
 }
 
-/// What stands behind four hexadecimal digits.
-fn behind_four_digits<'i>(bytes: &'i [u8]) -> Option<&'i [u8]>
-    ensures { MatchOption result (NoneStands IsFourDigits bytes.now)
-        (λ rest. Leaves IsFourDigits Never bytes.now rest.now) }
+/// What stands behind two hexadecimal digits.
+fn behind_two_digits<'i>(bytes: &'i [u8]) -> Option<&'i [u8]>
+    ensures { MatchOption result (NoneStands IsTwoDigits bytes.now)
+        (λ rest. Leaves IsTwoDigits Never bytes.now rest.now) }
 {
     let one = behind_digit(bytes)?;
-    let two = behind_digit(one)?;
-    let three = behind_digit(two)?;
-    let four = behind_digit(three)?;
-    Some(four)
+    behind_digit(one)
+}
+
+/// What stands behind the four digits of such a unit.
+fn behind_unit<'i>(unit: Unit, bytes: &'i [u8]) -> Option<&'i [u8]>
+    ensures { MatchOption result (NoneStands (IsUnit (BeginUnit unit)) bytes.now)
+        (λ rest. Leaves (IsUnit (BeginUnit unit)) Never bytes.now rest.now) }
+{
+    let (first, more) = bytes.split_first()?;
+    let (second, digits) = more.split_first()?;
+    if begins(unit, *first, *second) {
+        behind_two_digits(digits)
+    } else {
+        None
+    }
+}
+
+/// What stands behind a high surrogate and the low one that is escaped behind it.
+fn behind_pair<'i>(bytes: &'i [u8]) -> Option<&'i [u8]>
+    ensures { MatchOption result (NoneStands IsPair bytes.now)
+        (λ rest. Leaves IsPair Never bytes.now rest.now) }
+{
+    let high = behind_unit(Unit::High, bytes)?;
+    let escape = behind(b'\\', high)?;
+    let low = behind(b'u', escape)?;
+    behind_unit(Unit::Low, low)
+}
+
+/// What stands behind the digits of a character.
+fn behind_character<'i>(bytes: &'i [u8]) -> Option<&'i [u8]>
+    ensures { MatchOption result (NoneStands IsCharacter bytes.now)
+        (λ rest. Leaves IsCharacter Never bytes.now rest.now) }
+{
+    match behind_unit(Unit::Only, bytes) {
+        Some(rest) => Some(rest),
+        None => behind_pair(bytes),
+    }
 }
 
 /// What stands behind that which a backslash escapes.
@@ -62,7 +123,7 @@ fn behind_escape<'i>(bytes: &'i [u8]) -> Option<&'i [u8]>
 {
     let (first, more) = bytes.split_first()?;
     if *first == b'u' {
-        behind_four_digits(more)
+        behind_character(more)
     } else if is_escaped(*first) {
         Some(more)
     } else {
@@ -101,8 +162,10 @@ pub fn behind_string<'i>(bytes: &'i [u8]) -> Option<&'i [u8]>
 /// stand. The input then stands behind the last quote.
 ///
 /// Between quotes stand bytes of 32 and above but for quote and backslash, and a backslash with one
-/// of `"`, `\`, `/`, `b`, `f`, `n`, `r`, `t`, or with `u` and four hexadecimal digits. Bytes of 128
-/// and above are not looked at: they are UTF-8 where the whole text is.
+/// of `"`, `\`, `/`, `b`, `f`, `n`, `r`, `t`, or with `u` and four hexadecimal digits. Digits that
+/// are a surrogate stand in a pair alone, a high one and `\u` with a low one behind it, as in
+/// `\ud83d\ude00`: by itself neither means a character. Bytes of 128 and above are not looked at:
+/// they are UTF-8 where the whole text is.
 ///
 /// `None` exactly where the bytes begin with no string; then nothing is read.
 ///
@@ -113,6 +176,7 @@ pub fn behind_string<'i>(bytes: &'i [u8]) -> Option<&'i [u8]>
 /// assert!(rt; read_string(&mut input).is_some_and(|it| it == b"a\\\"b".as_slice()));
 /// assert_eq!(rt; input, b":".as_slice());
 /// assert!(rt; read_string(&mut b"\"a\\x\"".as_slice()).is_none());
+/// assert!(rt; read_string(&mut b"\"\\ud800\"".as_slice()).is_none());
 /// ```
 pub fn read_string<'i>(input: &mut &'i [u8]) -> Option<&'i [u8]>
     ensures found { IfSome result (λ text. IsInQuotes text.now input.old.now input.new.now) }

@@ -1,8 +1,10 @@
 //! Values of JSON and what stands in them, as they stand in a text (RFC 8259, sections 2 to 5).
 
-ghost use Rattle.std.specs.Prelude.{◌≡◌, ◌↔◌, ◌∷◌, Bool, List, ℕ, IfNone, IfSome, IsTrue};
-ghost use Rattle.std.specs.Prelude.{MatchOption};
+ghost use Rattle.std.specs.Prelude.{◌≡◌, ◌≤◌, ◌↔◌, ◌∷◌, ◌++◌, Bool, List, ℕ, IfNone, IfSome};
+ghost use Rattle.std.specs.Prelude.{IsTrue, MatchOption, length};
+ghost use Rattle.std.specs.Str.{IsUtf8};
 ghost use Rattle.format_json_extents.specs.Number.{IsNumberByte};
+ghost use Rattle.format_json_extents.specs.Standard.{IsTextByStandard, IsValueByStandard};
 ghost use Rattle.format_json_extents.specs.Texts.{IsLongest, Leaves, Never, NoneStands};
 ghost use Rattle.format_json_extents.specs.Value.{IsEmptyTail, IsItemsTail, IsName, IsText};
 ghost use Rattle.format_json_extents.specs.Value.{IsValue, closing};
@@ -104,7 +106,8 @@ fn behind_value<'i>(level: usize, bytes: &'i [u8]) -> Option<&'i [u8]>
 ///
 /// A number may be a shorter one than the writer meant, as `read_number` says. Each level takes
 /// frames of the stack, so `level` is to be no more than there is a stack for. Bytes of 128 and
-/// above are not looked at: what is found is JSON where it is UTF-8.
+/// above are not looked at: what is found is JSON where it is UTF-8, and then a value as
+/// `format_json_values` reads it (clauses `standard` and `longest`).
 ///
 /// `None` exactly where the bytes begin with no such value; then nothing is read.
 ///
@@ -121,6 +124,10 @@ pub fn read_value<'i>(level: usize, input: &mut &'i [u8]) -> Option<&'i [u8]>
         IsLongest (IsValue level) text.now input.old.now input.new.now) }
     ensures none { IfNone result (NoneStands (IsValue level) input.old.now) }
     ensures kept { IfNone result (input.new.now ≡ input.old.now) }
+    ensures standard { IfSome result (λ text. IsUtf8 text.now → IsValueByStandard level text.now) }
+    ensures longest { (text rest : List ℕ) → IsValueByStandard level text
+        → input.old.now ≡ text ++ rest
+        → MatchOption result ⊥ (λ found. length text ≤ length found.now) }
 {
     let start = *input;
     let rest = behind_value(level, start)?;
@@ -130,7 +137,9 @@ pub fn read_value<'i>(level: usize, input: &mut &'i [u8]) -> Option<&'i [u8]>
 
 /// Whether the bytes are a text of JSON, a value with white space round it, in which no more than
 /// `level` arrays and objects stand in one another. `level` is as [`read_value`] has it. Bytes of
-/// 128 and above are not looked at: these bytes are JSON where they are UTF-8.
+/// 128 and above are not looked at: these bytes are JSON where they are UTF-8, and so exactly where
+/// `format_json_values::value::parse_value` answers their value, or memory is refused (clause
+/// `standard`).
 ///
 /// ```
 /// use format_json_extents::value::is_text;
@@ -140,7 +149,8 @@ pub fn read_value<'i>(level: usize, input: &mut &'i [u8]) -> Option<&'i [u8]>
 /// assert!(rt; !is_text(2, b"[[[]]]".as_slice()));
 /// ```
 pub fn is_text(level: usize, bytes: &[u8]) -> bool
-    ensures { IsTrue result ↔ IsText level bytes.now }
+    ensures text { IsTrue result ↔ IsText level bytes.now }
+    ensures standard { IsUtf8 bytes.now → IsTrue result ↔ IsTextByStandard level bytes.now }
 {
     match behind_value(level, behind_gap(bytes)) {
         Some(rest) => behind_gap(rest).is_empty(),

@@ -9,9 +9,9 @@ returns-then-first-eq117 c =
     let begins : c.args.bytes.now ≡ c.in_ok-first.first.now ∷ more = search rules in
     let is : c.args.bytes.now ≡ 117 ∷ more =
     begins ∙ ap (λ b. b ∷ more) c.if-first-eq117.true in
-    match_on _ _ _ _ c.behind_four_digits.result
+    match_on _ _ _ _ c.behind_character.result
     (λ none. escape_u_none c.args.bytes.now more is none)
-    (λ rest it. escape_u c.args.bytes.now more rest.now is it) c.behind_four_digits.ensures
+    (λ rest it. escape_u c.args.bytes.now more rest.now is it) c.behind_character.ensures
 
 pub returns-then-is_escaped : goal.returns-then-is_escaped
 returns-then-is_escaped c =
