@@ -1,5 +1,8 @@
 //! Texts of JSON (RFC 8259) as bytes: where a value ends, found with no memory.
 //!
+//! Of bytes that are UTF-8 the values and texts are those of `format_json_texts`, which
+//! `format_json_values` and `format_json_pieces` read: the functions in [`laws`] say so.
+//!
 //! Where this differs from the standard, or chooses what it leaves open:
 //!
 //! - A value is found to a level, which the caller gives: no more than so many arrays and objects

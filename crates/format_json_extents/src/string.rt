@@ -105,7 +105,7 @@ fn behind_pair<'i>(bytes: &'i [u8]) -> Option<&'i [u8]>
     behind_unit(Unit::Low, low)
 }
 
-/// What stands behind the digits of a character.
+/// What stands behind the digits of a character: those of one unit, or of a pair.
 fn behind_character<'i>(bytes: &'i [u8]) -> Option<&'i [u8]>
     ensures { MatchOption result (NoneStands IsCharacter bytes.now)
         (λ rest. Leaves IsCharacter Never bytes.now rest.now) }
@@ -162,10 +162,10 @@ pub fn behind_string<'i>(bytes: &'i [u8]) -> Option<&'i [u8]>
 /// stand. The input then stands behind the last quote.
 ///
 /// Between quotes stand bytes of 32 and above but for quote and backslash, and a backslash with one
-/// of `"`, `\`, `/`, `b`, `f`, `n`, `r`, `t`, or with `u` and four hexadecimal digits. Digits that
-/// are a surrogate stand in a pair alone, a high one and `\u` with a low one behind it, as in
-/// `\ud83d\ude00`: by itself neither means a character. Bytes of 128 and above are not looked at:
-/// they are UTF-8 where the whole text is.
+/// of `"`, `\`, `/`, `b`, `f`, `n`, `r`, `t`, or with `u` and four hexadecimal digits. A surrogate
+/// is taken only in a pair, a high one and then `\u` and a low one, as in `\ud83d\ude00`: alone
+/// neither means a character. Bytes of 128 and above are not looked at: they are UTF-8 where the
+/// whole text is.
 ///
 /// `None` exactly where the bytes begin with no string; then nothing is read.
 ///
