@@ -68,7 +68,7 @@ def reduced(on):
 
 
 def kind_of(name, on):
-    if name.startswith(("example", "readers", "format_", "uses_json", "exported")):
+    if name.startswith(("example", "readers", "format_", "exported")):
         return "callers"
     if name.startswith("winnow_expression"):
         return "expressions"

@@ -12,7 +12,7 @@ FORMATS = {
     "http": ["format_http"],
     "ini": ["readers"],
     "json": ["format_json_values", "format_json_pieces", "format_json_writer"],
-    "json_extents": ["uses_json"],
+    "json_extents": ["format_json_extents"],
     "resp": ["format_resp"],
     "toml": ["format_toml"],
 }

@@ -371,8 +371,9 @@ enum pergidau_code pergidau_ini_document(
 
 /*
  * Whether a text is one of JSON (RFC 8259): a value with white space round it, in which no
- * more than levels arrays and objects stand in one another. A string may have a surrogate that
- * is escaped alone, as \ud800, as in the grammar of the standard.
+ * more than levels arrays and objects stand in one another. What has a surrogate that is
+ * escaped alone, as \ud800, is none, since no character is meant by it, though the grammar of
+ * the standard has it.
  *
  * PERGIDAU_DONE: it is. PERGIDAU_REFUSED: it is not. PERGIDAU_NO_TEXT: it is no UTF-8.
  * PERGIDAU_TOO_DEEP: more than 512 levels are asked for.
@@ -389,7 +390,7 @@ enum pergidau_code pergidau_json_check(
  * The longest value of JSON (RFC 8259) with which the bytes begin, in which no more than
  * levels arrays and objects stand in one another: how many bytes it has is written. White
  * space before it is not passed. Bytes of 128 and above are not looked at: the value is JSON
- * where it is UTF-8.
+ * where it is UTF-8. Values are those of exported_json_check.
  *
  * PERGIDAU_DONE: it is found. PERGIDAU_REFUSED: the bytes begin with none, and 0 is written.
  * PERGIDAU_TOO_DEEP: more than 512 levels are asked for, and 0 is written.

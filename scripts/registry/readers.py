@@ -30,7 +30,7 @@ READERS = [
         "where the bytes are a text of this value"),
     ("JSON: written", "format_json_writer", "no",
         "the text of a value, exactly where it has one, nested to a level; it reads back"),
-    ("JSON: extents", "uses_json", "no", "where a value ends, and whether bytes are a text"),
+    ("JSON: extents", "format_json_extents", "no", "where a value ends, and whether bytes are a text"),
     ("TOML 1.0, a subset", "format_toml", "yes",
         "`Ok` exactly where the text is lines of this document; the first line that says a key or "
         "a table again, and what the first one lacks that is no line"),
@@ -55,7 +55,7 @@ BRIEF = [
     ("INI", ["readers"], "exactly"),
     ("JSON", ["format_json_values", "format_json_pieces", "format_json_writer"],
         "exactly; first, in pieces; written values read back"),
-    ("JSON extents", ["uses_json"], "where the first value ends"),
+    ("JSON extents", ["format_json_extents"], "where the first value ends"),
     ("RESP2", ["format_resp"], "first, in pieces"),
     ("TOML 1.0, a subset", ["format_toml"], "exactly"),
 ]

@@ -349,8 +349,9 @@ extern "C" {
     ) -> u32;
 
     /// Whether a text is one of JSON (RFC 8259): a value with white space round it, in which no more
-    /// than `levels` arrays and objects stand in one another. A string may have a surrogate that is
-    /// escaped alone, as `\ud800`, as in the grammar of the standard.
+    /// than `levels` arrays and objects stand in one another. What has a surrogate that is escaped
+    /// alone, as `\ud800`, is none, since no character is meant by it, though the grammar of the
+    /// standard has it.
     ///
     /// `DONE`: it is. `REFUSED`: it is not. `NO_TEXT`: it is no UTF-8. `TOO_DEEP`: more than 512
     /// levels are asked for.
@@ -366,6 +367,7 @@ extern "C" {
     /// The longest value of JSON (RFC 8259) with which the bytes begin, in which no more than `levels`
     /// arrays and objects stand in one another: how many bytes it has is written. White space before
     /// it is not passed. Bytes of 128 and above are not looked at: the value is JSON where it is UTF-8.
+    /// Values are those of `exported_json_check`.
     ///
     /// `DONE`: it is found. `REFUSED`: the bytes begin with none, and 0 is written. `TOO_DEEP`: more
     /// than 512 levels are asked for, and 0 is written.

@@ -52,10 +52,11 @@ fn ini_pair_of_lines() {
 
 #[test]
 fn json_of_texts() {
-    for text in ["null", " [1, -2.5e3, {\"a\": \"\\u00e9\"}] ", "\"\u{e9}\""] {
+    for text in ["null", " [1, -2.5e3, {\"a\": \"\\u00e9\"}] ", "\"\u{e9}\"", "\"\\ud83d\\ude00\""] {
         assert_eq!(json_check(text.as_bytes(), 2), Ok(()), "{text}");
     }
-    for text in ["", "nul", "[1,]", "01", "[[[]]]", "{\"a\" 1}", "1 2"] {
+    let alone = ["\"\\ud800\"", "\"\\udead\"", "[\"\\ud83d\\u0041\"]", "{\"\\ude00\\ud83d\": 1}"];
+    for text in alone.into_iter().chain(["", "nul", "[1,]", "01", "[[[]]]", "{\"a\" 1}", "1 2"]) {
         assert_eq!(json_check(text.as_bytes(), 2), Err(Error::Refused(None)), "{text}");
     }
     assert_eq!(json_check(b"\"\xff\"", 0), Err(Error::NotText));
@@ -63,6 +64,7 @@ fn json_of_texts() {
     assert_eq!(json_value(b"-1.5e3 ", 0), Ok((&b"-1.5e3"[..], &b" "[..])));
     assert_eq!(json_value(b"[ \t\r\n]]", 1), Ok((&b"[ \t\r\n]"[..], &b"]"[..])));
     assert_eq!(json_value(b" 1", 1), Err(Error::Refused(None)));
+    assert_eq!(json_value(b"\"\\ud800\"", 1), Err(Error::Refused(None)));
     let deep = "[".repeat(MOST_LEVELS) + &"]".repeat(MOST_LEVELS);
     assert_eq!(json_check(deep.as_bytes(), MOST_LEVELS), Ok(()));
     assert_eq!(json_check(deep.as_bytes(), MOST_LEVELS - 1), Err(Error::Refused(None)));

@@ -1,7 +1,7 @@
 -- Where the next value stands.
 use Rattle.std.proofs.Common.{◌≡◌, ◌∙◌, ◌+◌, ◌-◌, ◌≤◌, ◌++◌, ℕ, List, ap, arith, length}
 use Rattle.std.proofs.Common.{length-append}
-use Rattle.uses_json.specs.Walk.{IsNext}
+use Rattle.format_json_extents.specs.Walk.{IsNext}
 use Rattle.exported.specs.Span.{StandsAt}
 use Rattle.exported.specs.declared.span.Span.{Span}
 

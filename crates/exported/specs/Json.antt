@@ -1,8 +1,8 @@
 -- Values of JSON, one after the other.
 use Rattle.std.specs.Prelude.{◌≡◌, ℕ, List}
-use Rattle.uses_json.specs.Walk.{IsNext, IsOfKind}
-use Rattle.uses_json.specs.declared.walk.Kind.{Kind}
-use Rattle.uses_json.specs.declared.walk.Kind.TheVariants as kinds
+use Rattle.format_json_extents.specs.Walk.{IsNext, IsOfKind}
+use Rattle.format_json_extents.specs.declared.walk.Kind.{Kind}
+use Rattle.format_json_extents.specs.declared.walk.Kind.TheVariants as kinds
 use Rattle.exported.specs.Span.{StandsAt, nowhere}
 use Rattle.exported.specs.declared.json.JsonItem.{JsonItem}
 

@@ -1,17 +1,19 @@
 //! Texts of JSON.
 
-ghost use Rattle.std.specs.Prelude.{◌≡◌, ◌≤◌, ◌<◌, ◌⊎◌, ◌↔◌, drop, length, take};
+ghost use Rattle.std.specs.Prelude.{◌≡◌, ◌≤◌, ◌<◌, ◌⊎◌, ◌↔◌, ◌++◌, List, ℕ, drop, length};
+ghost use Rattle.std.specs.Prelude.{take};
 ghost use Rattle.std.specs.Str.{IsUtf8};
-ghost use Rattle.uses_json.specs.Texts.{IsLongest, NoneStands, Then};
-ghost use Rattle.uses_json.specs.Value.{IsText, IsValue};
-ghost use Rattle.uses_json.specs.Walk.{EndsItems, IsLead};
+ghost use Rattle.format_json_extents.specs.Standard.{IsTextByStandard, IsValueByStandard};
+ghost use Rattle.format_json_extents.specs.Texts.{IsLongest, NoneStands, Then};
+ghost use Rattle.format_json_extents.specs.Value.{IsText, IsValue};
+ghost use Rattle.format_json_extents.specs.Walk.{EndsItems, IsLead};
 ghost use Rattle.exported.specs.Code.{done, end, most_levels, no_text, refused, too_deep};
 ghost use Rattle.exported.specs.Json.{ShowsItem, no_item, number_of};
 
 use crate::code::{DONE, END, NO_TEXT, REFUSED, TOO_DEEP};
 use crate::span::{NOWHERE, Span};
-use uses_json::walk::Kind;
-use uses_json::{value, walk};
+use format_json_extents::walk::Kind;
+use format_json_extents::{value, walk};
 
 /// How many levels of arrays and objects in one another may be asked for. Each takes some of the
 /// stack.
@@ -70,8 +72,9 @@ fn number_of(kind: Kind) -> usize
 }
 
 /// Whether a text is one of JSON (RFC 8259): a value with white space round it, in which no more
-/// than `levels` arrays and objects stand in one another. A string may have a surrogate that is
-/// escaped alone, as `\ud800`, as in the grammar of the standard.
+/// than `levels` arrays and objects stand in one another. What has a surrogate that is escaped
+/// alone, as `\ud800`, is none, since no character is meant by it, though the grammar of the
+/// standard has it.
 ///
 /// `DONE`: it is. `REFUSED`: it is not. `NO_TEXT`: it is no UTF-8. `TOO_DEEP`: more than 512
 /// levels are asked for.
@@ -82,6 +85,8 @@ fn number_of(kind: Kind) -> usize
 pub extern "C" fn exported_json_check(text: &[u8], levels: usize) -> u32
     ensures is { result ≡ done → IsUtf8 text.now × IsText levels text.now }
     ensures refused { result ≡ refused → IsUtf8 text.now × (IsText levels text.now → ⊥) }
+    ensures standard { levels ≤ most_levels
+        → (result ≡ done) ↔ IsTextByStandard levels text.now }
     ensures text { result ≡ no_text → IsUtf8 text.now → ⊥ }
     ensures deep { (result ≡ too_deep) ↔ (most_levels < levels) }
     ensures codes { (result ≡ done) ⊎ ((result ≡ refused) ⊎ ((result ≡ no_text)
@@ -103,6 +108,7 @@ pub extern "C" fn exported_json_check(text: &[u8], levels: usize) -> u32
 /// The longest value of JSON (RFC 8259) with which the bytes begin, in which no more than `levels`
 /// arrays and objects stand in one another: how many bytes it has is written. White space before
 /// it is not passed. Bytes of 128 and above are not looked at: the value is JSON where it is UTF-8.
+/// Values are those of `exported_json_check`.
 ///
 /// `DONE`: it is found. `REFUSED`: the bytes begin with none, and 0 is written. `TOO_DEEP`: more
 /// than 512 levels are asked for, and 0 is written.
@@ -114,6 +120,11 @@ pub extern "C" fn exported_json_value(bytes: &[u8], levels: usize, out: &mut usi
     ensures found { result ≡ done → IsLongest (IsValue levels) (take out.new bytes.now) bytes.now
         (drop out.new bytes.now) × (out.new ≤ length bytes.now) }
     ensures refused { result ≡ refused → NoneStands (IsValue levels) bytes.now }
+    ensures standard { result ≡ done → IsUtf8 (take out.new bytes.now)
+        → IsValueByStandard levels (take out.new bytes.now) }
+    ensures longest { levels ≤ most_levels → (value rest : List ℕ)
+        → IsValueByStandard levels value → bytes.now ≡ value ++ rest
+        → (result ≡ done) × (length value ≤ out.new) }
     ensures none { (result ≡ done → ⊥) → out.new ≡ 0 }
     ensures deep { (result ≡ too_deep) ↔ (most_levels < levels) }
     ensures codes { (result ≡ done) ⊎ ((result ≡ refused) ⊎ (result ≡ too_deep)) }

@@ -4,8 +4,9 @@
 //! ended; what it found it writes where the caller says. It answers places in the caller's own
 //! bytes, so nothing that it takes memory for outlives the call.
 //!
-//! Values of JSON are those of the grammar of its standard: `exported_json_check` and its like take
-//! a surrogate that is escaped alone, as `\ud800`, which the crate `format_json_values` refuses.
+//! Values of JSON are those that the crates `format_json_values` and `format_json_pieces` read:
+//! what has a surrogate that is escaped alone, as `\ud800`, is none, though the grammar of the
+//! standard has it.
 #![tactic(auto)]
 
 pub mod calc;

@@ -1,0 +1,16 @@
+pub mod Answered
+pub mod Beginnings
+pub mod Characters
+pub mod Firsts
+pub mod Items
+pub mod Leading
+pub mod Numbers
+pub mod Standard
+pub mod Standing
+pub mod Taking
+pub mod Texts
+pub mod Units
+pub mod Values
+pub mod Walks
+pub mod Words
+pub mod Written

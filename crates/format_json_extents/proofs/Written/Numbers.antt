@@ -1,0 +1,100 @@
+-- Numbers are the texts of some slice.
+use Rattle.std.proofs.Common.{◌≡◌, ◌∙◌, ◌⊎◌, ◌++◌, ℕ, [], ◌∷◌, List, ap}
+use Rattle.std.proofs.Common.{append_assoc, inl, inr, refl}
+use Rattle.std.proofs.Common.{sym}
+use Rattle.format_json_extents.proofs.Written.{Written, either_written}
+use Rattle.format_json_extents.proofs.Written.{in_written, maybe_written, one_written}
+use Rattle.format_json_extents.proofs.Written.{run_one_written, run_written, shown_written}
+use Rattle.format_json_extents.proofs.Written.{then_written}
+use Rattle.format_json_extents.specs.Number.{IsDigit, IsDigits, IsE, IsExponent, IsLeading}
+use Rattle.format_json_extents.specs.Number.{IsNumber, IsSign}
+use Rattle.format_json_extents.specs.Texts.{Either, IsByte, Maybe, Then}
+use Rattle.format_json_texts.specs.Number.{ExponentText, NumberText}
+use Rattle.format_json_texts.specs.Words.{Run, latter, pair, to_four}
+
+-- ---- numbers
+
+abbrev pub Same : (List ℕ → Type 0) → (List ℕ → Type 0) → Type 0
+Same P Q = ((cs : List ℕ) → P cs → Q cs) × ((cs : List ℕ) → Q cs → P cs)
+
+pub as_written : {O : Type 0} {P Q : List ℕ → Type 0} {text : O → List ℕ → Type 0} → Same P Q
+    → Written P text → Written Q text
+as_written (there, back) p = record {
+  set = λ o cs x. there cs (p.set o cs x);
+  value = λ cs fits is. p.value cs fits (back cs is);
+}
+
+either_byte : (P Q : ℕ → Type 0) → Same (Either (IsByte P) (IsByte Q)) (IsByte (λ b. P b ⊎ Q b))
+either_byte P Q = (there, λ cs is. back cs is.byte is.is_byte is.alone)
+  where
+    there : (cs : List ℕ) → Either (IsByte P) (IsByte Q) cs → IsByte (λ b. P b ⊎ Q b) cs
+    there cs (inl is) = record { byte = is.byte; is_byte = inl is.is_byte; alone = is.alone }
+    there cs (inr is) = record { byte = is.byte; is_byte = inr is.is_byte; alone = is.alone }
+
+    back : (cs : List ℕ) (b : ℕ) → P b ⊎ Q b → cs ≡ b ∷ [] → Either (IsByte P) (IsByte Q) cs
+    back cs b (inl is) e = inl (record { byte = b; is_byte = is; alone = e })
+    back cs b (inr is) e = inr (record { byte = b; is_byte = is; alone = e })
+
+swap_byte : (P Q : ℕ → Type 0) → Same (IsByte (λ b. P b ⊎ Q b)) (IsByte (λ b. Q b ⊎ P b))
+swap_byte P Q = (
+  λ cs is. record { byte = is.byte; is_byte = swap is.is_byte; alone = is.alone },
+  λ cs is. record { byte = is.byte; is_byte = swap is.is_byte; alone = is.alone },
+)
+  where
+    swap : {X Y : Type 0} → X ⊎ Y → Y ⊎ X
+    swap (inl x) = inr x
+    swap (inr y) = inl y
+
+-- texts one behind the other, however they are put together
+then_assoc : (P Q R : List ℕ → Type 0) → Same (Then (Then P Q) R) (Then P (Then Q R))
+then_assoc P Q R = (
+  λ cs is. record {
+    first = is.is_first.first;
+    second = is.is_first.second ++ is.second;
+    is_first = is.is_first.is_first;
+    is_second = record {
+      first = is.is_first.second;
+      second = is.second;
+      is_first = is.is_first.is_second;
+      is_second = is.is_second;
+      joins = refl;
+    };
+    joins = is.joins ∙ ap (λ l. l ++ is.second) is.is_first.joins
+        ∙ append_assoc is.is_first.first is.is_first.second is.second;
+  },
+  λ cs is. record {
+    first = is.first ++ is.is_second.first;
+    second = is.is_second.second;
+    is_first = record {
+      first = is.first;
+      second = is.is_second.first;
+      is_first = is.is_first;
+      is_second = is.is_second.is_first;
+      joins = refl;
+    };
+    is_second = is.is_second.is_second;
+    joins = is.joins ∙ ap (λ l. is.first ++ l) is.is_second.joins
+        ∙ sym (append_assoc is.first is.is_second.first is.is_second.second);
+  },
+)
+
+digits_written : Written IsDigits (Run IsDigit 1)
+digits_written = run_one_written IsDigit
+
+exponent_written : Written IsExponent ExponentText
+exponent_written =
+    as_written (then_assoc (IsByte IsE) (Maybe (IsByte IsSign)) IsDigits)
+    (then_written latter (then_written pair (as_written (swap_byte (λ b. b ≡ 101) (λ b. b ≡ 69))
+    (as_written (either_byte (λ b. b ≡ 101) (λ b. b ≡ 69))
+    (either_written (one_written 101) (one_written 69))))
+    (maybe_written (as_written (either_byte (λ b. b ≡ 43) (λ b. b ≡ 45))
+    (either_written (one_written 43) (one_written 45))))) digits_written)
+
+pub number_written : Written IsNumber NumberText
+number_written =
+    shown_written (then_written to_four (maybe_written (one_written 45))
+    (then_written pair (either_written (shown_written (one_written 48))
+    (shown_written (then_written pair (in_written IsLeading)
+    (run_written IsDigit IsDigit (λ c is. is) (λ c is. is)))))
+    (then_written pair (maybe_written (then_written latter (one_written 46) digits_written))
+    (maybe_written exponent_written))))

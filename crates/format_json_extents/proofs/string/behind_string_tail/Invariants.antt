@@ -1,0 +1,11 @@
+-- A string goes on from here as from behind its first quote.
+use Rattle.std.proofs.Common.{length}
+use Rattle.format_json_extents.proofs.Leading.{Leads}
+use Rattle.format_json_extents.specs.Strings.{IsStringTail}
+use Rattle.format_json_extents.proofs.string.behind_string_tail.Given as goal
+
+abbrev pub invariant-pieces : goal.invariant-pieces
+invariant-pieces l = Leads IsStringTail l.bytes l.rest
+
+abbrev pub decreases-pieces : goal.decreases-pieces
+decreases-pieces l = length l.rest

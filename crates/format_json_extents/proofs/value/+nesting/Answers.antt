@@ -1,0 +1,104 @@
+use Rattle.std.proofs.Common.{◌≡◌, ◌-◌, suc, arith, rules}
+use Rattle.format_json_extents.proofs.Answered.{match_on}
+use Rattle.format_json_extents.proofs.Firsts.{value_starts}
+use Rattle.format_json_extents.proofs.Leading.{leads_leaves, leads_none, leads_on}
+use Rattle.format_json_extents.proofs.Values.{item_no_name, item_no_value, item_parts, items_end}
+use Rattle.format_json_extents.proofs.Values.{items_less}
+use Rattle.format_json_extents.proofs.Values.{items_more, items_none, items_stop, nested_is}
+use Rattle.format_json_extents.proofs.Values.{nested_none}
+use Rattle.format_json_extents.proofs.Values.{not_nested, tail_empty, tail_items, tail_none}
+use Rattle.format_json_extents.proofs.Values.{value_lowest}
+use Rattle.format_json_extents.proofs.Values.{value_nested, value_none, value_scalar}
+use Rattle.format_json_extents.specs.Texts.{Never}
+use Rattle.format_json_extents.specs.Value.{IsItemsTail, IsValue}
+use Rattle.format_json_extents.proofs.value.+nesting.Goals as goal
+
+pub behind_items-returns-in_err-named : goal.behind_items-returns-in_err-named
+behind_items-returns-in_err-named t c =
+    let none = leads_none (IsItemsTail c.args.keyed (IsValue c.args.level)) c.args.bytes.now _
+    c.items.invariant
+    (items_none c.args.keyed (IsValue c.args.level) _
+    (item_no_name c.args.keyed (IsValue c.args.level) _ c.in_err-named.ensures)) in
+    search rules
+
+pub behind_items-returns-in_err-item : goal.behind_items-returns-in_err-item
+behind_items-returns-in_err-item t c =
+    let none = leads_none (IsItemsTail c.args.keyed (IsValue c.args.level)) c.args.bytes.now _
+    c.items.invariant
+    (items_none c.args.keyed (IsValue c.args.level) _
+    (item_no_value c.args.keyed c.args.level _ _ _ c.in_ok-named.ensures c.behind_gap.ensures
+    c.in_err-item.ensures)) in
+    search rules
+
+pub behind_items-returns-in-Some : goal.behind_items-returns-in-Some
+behind_items-returns-in-Some t c =
+    leads_leaves (IsItemsTail c.args.keyed (IsValue c.args.level)) Never c.args.bytes.now _ _
+    c.items.invariant
+    (items_end c.args.keyed (IsValue c.args.level) _ _ _
+    (item_parts c.args.keyed c.args.level _ _ _ _ _ c.in_ok-named.ensures c.behind_gap.ensures
+    c.in_ok-item.ensures c.behind_gap-ahead.ensures)
+    c.in-Some.ensures)
+
+pub behind_items-returns-in_err-rest-in-None : goal.behind_items-returns-in_err-rest-in-None
+behind_items-returns-in_err-rest-in-None t c =
+    let none = leads_none (IsItemsTail c.args.keyed (IsValue c.args.level)) c.args.bytes.now _
+    c.items.invariant
+    (items_stop c.args.keyed (IsValue c.args.level) _ _
+    (item_parts c.args.keyed c.args.level _ _ _ _ _ c.in_ok-named.ensures c.behind_gap.ensures
+    c.in_ok-item.ensures c.behind_gap-ahead.ensures)
+    c.in-None.ensures c.in_err-rest-in-None.ensures) in
+    search rules
+
+pub behind_items-items-preserved : goal.behind_items-items-preserved
+behind_items-items-preserved t c =
+    leads_on (IsItemsTail c.args.keyed (IsValue c.args.level)) c.args.bytes.now _ _
+    c.items.invariant
+    (items_more c.args.keyed (IsValue c.args.level) _ _ _
+    (item_parts c.args.keyed c.args.level _ _ _ _ _ c.in_ok-named.ensures c.behind_gap.ensures
+    c.in_ok-item.ensures c.behind_gap-ahead.ensures)
+    c.in_ok-rest-in-None.ensures)
+
+pub behind_items-items-smaller : goal.behind_items-items-smaller
+behind_items-items-smaller t c =
+    items_less c.args.keyed c.args.level _ _ _
+    (item_parts c.args.keyed c.args.level _ _ _ _ _ c.in_ok-named.ensures c.behind_gap.ensures
+    c.in_ok-item.ensures c.behind_gap-ahead.ensures)
+    c.in_ok-rest-in-None.ensures
+
+pub behind_value-returns-then-level-eq0 : goal.behind_value-returns-then-level-eq0
+behind_value-returns-then-level-eq0 t c =
+    value_lowest c.args.level c.args.bytes.now c.if-level-eq0.true c.in-None.ensures
+
+pub behind_value-returns-in_err-keyed-in-None : goal.behind_value-returns-in_err-keyed-in-None
+behind_value-returns-in_err-keyed-in-None t c =
+    let above : c.args.level ≡ suc (c.args.level - 1) = omega arith in
+    let none = value_none c.args.level (c.args.level - 1) c.args.bytes.now above c.in-None.ensures
+    (not_nested (IsValue (c.args.level - 1)) c.args.bytes.now c.in_err-keyed-in-None.ensures) in
+    search rules
+
+pub behind_value-returns-in-Some : goal.behind_value-returns-in-Some
+behind_value-returns-in-Some t c =
+    value_scalar c.args.level c.args.bytes.now _ c.in-Some.ensures
+
+pub behind_value-returns-in-Some-behind_empty : goal.behind_value-returns-in-Some-behind_empty
+behind_value-returns-in-Some-behind_empty t c =
+    let below = c.args.level - 1 in
+    let keyed = c.in_ok-keyed-in-None.keyed in
+    let above : c.args.level ≡ suc (c.args.level - 1) = omega arith in
+    value_nested c.args.level below c.args.bytes.now _ above c.in-None.ensures
+    (nested_is keyed (IsValue below) c.args.bytes.now _ _ c.in_ok-keyed-in-None.ensures
+    (tail_empty keyed (IsValue below) _ _ (value_starts below) c.in-Some-behind_empty.ensures))
+
+pub behind_value-returns-in-None-behind_empty : goal.behind_value-returns-in-None-behind_empty
+behind_value-returns-in-None-behind_empty t c =
+    let below = c.args.level - 1 in
+    let keyed = c.in_ok-keyed-in-None.keyed in
+    let above : c.args.level ≡ suc (c.args.level - 1) = omega arith in
+    match_on _ _ _ _ c.behind_items.result
+    (λ none. value_none c.args.level below c.args.bytes.now above c.in-None.ensures
+    (nested_none keyed (IsValue below) c.args.bytes.now _ c.in_ok-keyed-in-None.ensures
+    (tail_none keyed (IsValue below) _ c.in-None-behind_empty.ensures none)))
+    (λ rest it. value_nested c.args.level below c.args.bytes.now rest.now above c.in-None.ensures
+    (nested_is keyed (IsValue below) c.args.bytes.now _ rest.now c.in_ok-keyed-in-None.ensures
+    (tail_items keyed (IsValue below) _ rest.now c.in-None-behind_empty.ensures it)))
+    c.behind_items.ensures

@@ -1,0 +1,8 @@
+-- Written by scripts/registries.py: do not edit.
+pub mod Number
+pub mod Ranges
+pub mod Standard
+pub mod Strings
+pub mod Texts
+pub mod Value
+pub mod Walk

@@ -1,0 +1,57 @@
+-- Numbers of JSON (RFC 8259, section 6).
+use Rattle.std.specs.Prelude.{◌≡◌, ◌≤◌, ◌⊎◌, ℕ, List}
+use Rattle.std.specs.List.{All}
+use Rattle.format_json_extents.specs.Texts.{Either, IsByte, Maybe, Then}
+
+-- a digit
+abbrev pub IsDigit : ℕ → Type 0
+IsDigit b = (48 ≤ b) × (b ≤ 57)
+
+-- one digit or several
+abbrev pub IsDigits : List ℕ → Type 0
+IsDigits = Then (IsByte IsDigit) (All IsDigit)
+
+-- the minus
+abbrev pub IsMinus : ℕ → Type 0
+IsMinus b = b ≡ 45
+
+-- the digit 0
+abbrev pub IsZero : ℕ → Type 0
+IsZero b = b ≡ 48
+
+-- a digit from 1 to 9
+abbrev pub IsLeading : ℕ → Type 0
+IsLeading b = (49 ≤ b) × (b ≤ 57)
+
+-- the point
+abbrev pub IsPoint : ℕ → Type 0
+IsPoint b = b ≡ 46
+
+-- the letter E or e
+abbrev pub IsE : ℕ → Type 0
+IsE b = (b ≡ 69) ⊎ (b ≡ 101)
+
+-- a plus or a minus
+abbrev pub IsSign : ℕ → Type 0
+IsSign b = (b ≡ 43) ⊎ (b ≡ 45)
+
+-- Digits with no zero before others.
+abbrev pub IsWhole : List ℕ → Type 0
+IsWhole = Either (IsByte IsZero) (Then (IsByte IsLeading) (All IsDigit))
+
+-- a point and digits
+abbrev pub IsFraction : List ℕ → Type 0
+IsFraction = Then (IsByte IsPoint) IsDigits
+
+-- the letter E, a sign or none, and digits
+abbrev pub IsExponent : List ℕ → Type 0
+IsExponent = Then (IsByte IsE) (Then (Maybe (IsByte IsSign)) IsDigits)
+
+-- a number
+abbrev pub IsNumber : List ℕ → Type 0
+IsNumber =
+    Then (Maybe (IsByte IsMinus)) (Then IsWhole (Then (Maybe IsFraction) (Maybe IsExponent)))
+
+-- A byte with which a number may go on behind a shorter one.
+abbrev pub IsNumberByte : ℕ → Type 0
+IsNumberByte b = IsDigit b ⊎ (IsPoint b ⊎ IsE b)

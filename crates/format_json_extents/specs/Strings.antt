@@ -1,0 +1,92 @@
+-- Strings of JSON (RFC 8259, section 7).
+use Rattle.std.specs.Prelude.{◌≡◌, ◌≤◌, ◌⊎◌, ℕ, List, ◌∷◌, ◌++◌}
+use Rattle.format_json_extents.specs.Texts.{AreTwo, Either, IsByte, Many, Then}
+use Rattle.format_json_extents.specs.declared.string.Unit.{Unit}
+use Rattle.format_json_extents.specs.declared.string.Unit.TheVariants as units
+
+-- the quote
+abbrev pub IsQuote : ℕ → Type 0
+IsQuote b = b ≡ 34
+
+-- the backslash
+abbrev pub IsBackslash : ℕ → Type 0
+IsBackslash b = b ≡ 92
+
+-- A byte that stands for itself: 32 or above, no quote and no backslash.
+abbrev pub IsUnescaped : ℕ → Type 0
+IsUnescaped b = (32 ≤ b) × (b ≡ 34 → ⊥) × (b ≡ 92 → ⊥)
+
+-- The byte behind a backslash: a quote, a backslash, a slash, or one of the letters b, f, n, r, t.
+abbrev pub IsEscaped : ℕ → Type 0
+IsEscaped b = (b ≡ 34) ⊎ ((b ≡ 92) ⊎ ((b ≡ 47) ⊎ ((b ≡ 98) ⊎ ((b ≡ 102) ⊎ ((b ≡ 110)
+    ⊎ ((b ≡ 114) ⊎ (b ≡ 116)))))))
+
+-- the letter u
+abbrev pub IsU : ℕ → Type 0
+IsU b = b ≡ 117
+
+-- A hexadecimal digit: 0 to 9, A to F, a to f.
+abbrev pub IsHexDigit : ℕ → Type 0
+IsHexDigit b = ((48 ≤ b) × (b ≤ 57)) ⊎ (((65 ≤ b) × (b ≤ 70)) ⊎ ((97 ≤ b) × (b ≤ 102)))
+
+-- two hexadecimal digits
+abbrev pub IsTwoDigits : List ℕ → Type 0
+IsTwoDigits = Then (IsByte IsHexDigit) (IsByte IsHexDigit)
+
+-- the digit D, with which a surrogate begins
+abbrev pub IsD : ℕ → Type 0
+IsD b = (b ≡ 68) ⊎ (b ≡ 100)
+
+-- The first two digits of a unit that is no surrogate: 00 to D7, and E0 to FF.
+abbrev pub BeginOnly : ℕ → ℕ → Type 0
+BeginOnly a b = IsHexDigit a × IsHexDigit b × (IsD a → b ≤ 55)
+
+-- The first two digits of a high surrogate: D8 to DB.
+abbrev pub BeginHigh : ℕ → ℕ → Type 0
+BeginHigh a b =
+    IsD a × (((56 ≤ b) × (b ≤ 57)) ⊎ (((65 ≤ b) × (b ≤ 66)) ⊎ ((97 ≤ b) × (b ≤ 98))))
+
+-- The first two digits of a low surrogate: DC to DF.
+abbrev pub BeginLow : ℕ → ℕ → Type 0
+BeginLow a b = IsD a × (((67 ≤ b) × (b ≤ 70)) ⊎ ((99 ≤ b) × (b ≤ 102)))
+
+-- The first two digits of this unit.
+abbrev pub BeginUnit : Unit → ℕ → ℕ → Type 0
+BeginUnit units.Only = BeginOnly
+BeginUnit units.High = BeginHigh
+BeginUnit units.Low = BeginLow
+
+-- A unit of UTF-16 in four hexadecimal digits, of which the first two are of P.
+abbrev pub IsUnit : (ℕ → ℕ → Type 0) → List ℕ → Type 0
+IsUnit P = Then (AreTwo P) IsTwoDigits
+
+-- A high surrogate, and a low one behind a backslash and u.
+abbrev pub IsPair : List ℕ → Type 0
+IsPair =
+    Then (IsUnit BeginHigh)
+    (Then (IsByte IsBackslash) (Then (IsByte IsU) (IsUnit BeginLow)))
+
+-- The digits of a character: those of its only unit, or of both.
+abbrev pub IsCharacter : List ℕ → Type 0
+IsCharacter = Either (IsUnit BeginOnly) IsPair
+
+-- What stands behind a backslash: one byte, or u and the digits of a character.
+abbrev pub IsEscape : List ℕ → Type 0
+IsEscape = Either (IsByte IsEscaped) (Then (IsByte IsU) IsCharacter)
+
+-- A byte that stands for itself, or a backslash and what it escapes.
+abbrev pub IsPiece : List ℕ → Type 0
+IsPiece = Either (IsByte IsUnescaped) (Then (IsByte IsBackslash) IsEscape)
+
+-- What stands behind the first quote: pieces, and the last quote.
+abbrev pub IsStringTail : List ℕ → Type 0
+IsStringTail = Then (Many IsPiece) (IsByte IsQuote)
+
+-- a string
+abbrev pub IsString : List ℕ → Type 0
+IsString = Then (IsByte IsQuote) IsStringTail
+
+-- The bytes are this text of pieces between quotes, and then the rest.
+pub record IsInQuotes (text bytes rest : List ℕ) : Type 0 where
+  pub is_text : Many IsPiece text
+  pub splits : bytes ≡ 34 ∷ (text ++ 34 ∷ rest)

@@ -1,0 +1,86 @@
+-- Sets of texts, and where one of their texts stands.
+use Rattle.std.specs.Prelude.{◌≡◌, ◌<◌, ◌≤◌, ◌⊎◌, ℕ, List, [], ◌∷◌, ◌++◌, length}
+
+-- ---- sets of texts
+
+-- One byte of P.
+pub record IsByte (P : ℕ → Type 0) (text : List ℕ) : Type 0 where
+  pub byte : ℕ
+  pub is_byte : P byte
+  pub alone : text ≡ byte ∷ []
+
+-- Two bytes of P.
+pub record AreTwo (P : ℕ → ℕ → Type 0) (text : List ℕ) : Type 0 where
+  pub one : ℕ
+  pub two : ℕ
+  pub are_bytes : P one two
+  pub alone : text ≡ one ∷ two ∷ []
+
+-- A text of P, and then one of Q.
+pub record Then (P Q : List ℕ → Type 0) (text : List ℕ) : Type 0 where
+  pub first : List ℕ
+  pub second : List ℕ
+  pub is_first : P first
+  pub is_second : Q second
+  pub joins : text ≡ first ++ second
+
+-- A text of P, or one of Q.
+abbrev pub Either : (P Q : List ℕ → Type 0) → List ℕ → Type 0
+Either P Q text = P text ⊎ Q text
+
+-- A text of P, or nothing.
+abbrev pub Maybe : (List ℕ → Type 0) → List ℕ → Type 0
+Maybe P text = (text ≡ []) ⊎ P text
+
+-- Texts of P, one behind the other, or nothing.
+pub data Many (P : List ℕ → Type 0) : List ℕ → Type 0 where
+  nothing : (text : List ℕ) → text ≡ [] → Many P text
+  one_more : (first others text : List ℕ) → P first → Many P others → text ≡ first ++ others
+      → Many P text
+
+-- One text of P or several, with commas between them.
+pub data List_of (P : List ℕ → Type 0) : List ℕ → Type 0 where
+  last : (text : List ℕ) → P text → List_of P text
+  before : (first others text : List ℕ) → P first → List_of P others
+      → text ≡ first ++ 44 ∷ others → List_of P text
+
+-- ---- where they stand
+
+-- The bytes begin with a text of P, and then comes the rest.
+pub record Stands (P : List ℕ → Type 0) (bytes rest : List ℕ) : Type 0 where
+  pub text : List ℕ
+  pub is : P text
+  pub splits : bytes ≡ text ++ rest
+
+-- The bytes begin with no text of P.
+abbrev pub NoneStands : (List ℕ → Type 0) → List ℕ → Type 0
+NoneStands P bytes = (rest : List ℕ) → Stands P bytes rest → ⊥
+
+-- More than the rest is left, and it begins with a byte of S.
+pub record GoesOn (S : ℕ → Type 0) (more rest : List ℕ) : Type 0 where
+  pub byte : ℕ
+  pub tail : List ℕ
+  pub begins : more ≡ byte ∷ tail
+  pub is_byte : S byte
+  pub is_more : length rest < length more
+
+-- The bytes begin with a text of P and then the rest, and any other text of P with which they begin
+-- is shorter, and goes on with a byte of S.
+pub record Leaves (P : List ℕ → Type 0) (S : ℕ → Type 0) (bytes rest : List ℕ) : Type 0 where
+  pub stands : Stands P bytes rest
+  pub only : (other : List ℕ) → Stands P bytes other → (other ≡ rest) ⊎ GoesOn S other rest
+
+-- A byte of S or of T.
+abbrev pub Or : (S T : ℕ → Type 0) → ℕ → Type 0
+Or S T b = S b ⊎ T b
+
+-- No byte.
+abbrev pub Never : ℕ → Type 0
+Never b = ⊥
+
+-- The longest text of P with which the bytes begin, and the rest.
+pub record IsLongest (P : List ℕ → Type 0) (text bytes rest : List ℕ) : Type 0 where
+  pub is : P text
+  pub splits : bytes ≡ text ++ rest
+  pub longest : (other more : List ℕ) → P other → bytes ≡ other ++ more
+      → length other ≤ length text

@@ -1,0 +1,95 @@
+-- Values of JSON (RFC 8259, sections 2 to 5).
+use Rattle.std.specs.Prelude.{◌≡◌, ◌⊎◌, ℕ, zero, suc, Bool, true, false, List, [], ◌∷◌}
+use Rattle.std.specs.List.{All}
+use Rattle.format_json_extents.specs.Number.{IsNumber}
+use Rattle.format_json_extents.specs.Strings.{IsString}
+use Rattle.format_json_extents.specs.Texts.{Either, IsByte, List_of, Then}
+
+-- A byte of white space: a space, a tab, a line feed or a carriage return.
+abbrev pub IsSpace : ℕ → Type 0
+IsSpace b = (b ≡ 32) ⊎ ((b ≡ 9) ⊎ ((b ≡ 10) ⊎ (b ≡ 13)))
+
+-- white space, or nothing
+abbrev pub IsGap : List ℕ → Type 0
+IsGap = All IsSpace
+
+-- this word
+abbrev pub Only : List ℕ → List ℕ → Type 0
+Only word text = text ≡ word
+
+-- the words null, true and false
+abbrev pub IsWord : List ℕ → Type 0
+IsWord =
+    Either (Only (110 ∷ 117 ∷ 108 ∷ 108 ∷ [])) (Either (Only (116 ∷ 114 ∷ 117 ∷ 101 ∷ []))
+    (Only (102 ∷ 97 ∷ 108 ∷ 115 ∷ 101 ∷ [])))
+
+-- A value that has no others in it.
+abbrev pub IsScalar : List ℕ → Type 0
+IsScalar = Either IsString (Either IsNumber IsWord)
+
+-- a colon
+abbrev pub IsColon : ℕ → Type 0
+IsColon b = b ≡ 58
+
+-- A value, with white space round it.
+abbrev pub IsElement : (List ℕ → Type 0) → List ℕ → Type 0
+IsElement V = Then IsGap (Then V IsGap)
+
+-- A name and a colon, with white space round the name.
+abbrev pub IsKey : List ℕ → Type 0
+IsKey = Then IsGap (Then IsString (Then IsGap (IsByte IsColon)))
+
+-- A name, a colon and a value.
+abbrev pub IsMember : (List ℕ → Type 0) → List ℕ → Type 0
+IsMember V = Then IsKey (IsElement V)
+
+-- The name and the colon before a value that an object has in it; nothing before one of an array.
+abbrev pub IsName : Bool → List ℕ → Type 0
+IsName true = IsKey
+IsName false = Only []
+
+-- What an object has in it, or else an array.
+abbrev pub IsItem : Bool → (List ℕ → Type 0) → List ℕ → Type 0
+IsItem true V = IsMember V
+IsItem false V = IsElement V
+
+-- the bracket before what an object has in it, or else an array
+abbrev pub opening : Bool → ℕ
+opening true = 123
+opening false = 91
+
+-- the bracket behind it
+abbrev pub closing : Bool → ℕ
+closing true = 125
+closing false = 93
+
+-- the closing bracket
+abbrev pub IsClosing : Bool → ℕ → Type 0
+IsClosing keyed b = b ≡ closing keyed
+
+-- White space at most, and the closing bracket.
+abbrev pub IsEmptyTail : Bool → List ℕ → Type 0
+IsEmptyTail keyed = Then IsGap (IsByte (IsClosing keyed))
+
+-- Items with commas between them, and the closing bracket.
+abbrev pub IsItemsTail : Bool → (List ℕ → Type 0) → List ℕ → Type 0
+IsItemsTail keyed V = Then (List_of (IsItem keyed V)) (IsByte (IsClosing keyed))
+
+-- What stands behind the opening bracket.
+abbrev pub IsNestedTail : Bool → (List ℕ → Type 0) → List ℕ → Type 0
+IsNestedTail keyed V = Either (IsEmptyTail keyed) (IsItemsTail keyed V)
+
+-- An array of values, or an object of them.
+abbrev pub IsNested : (List ℕ → Type 0) → List ℕ → Type 0
+IsNested V =
+    Either (Then (IsByte (λ b. b ≡ opening false)) (IsNestedTail false V))
+    (Then (IsByte (λ b. b ≡ opening true)) (IsNestedTail true V))
+
+-- A value, of which no more than so many arrays and objects stand in one another.
+abbrev pub IsValue : ℕ → List ℕ → Type 0
+IsValue zero text = IsScalar text
+IsValue (suc level) text = Either IsScalar (IsNested (IsValue level)) text
+
+-- a text of JSON, where it is UTF-8: a value with white space round it
+abbrev pub IsText : ℕ → List ℕ → Type 0
+IsText level = IsElement (IsValue level)

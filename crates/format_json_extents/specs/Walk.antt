@@ -1,0 +1,60 @@
+-- What stands in arrays and objects, one after the other.
+use Rattle.std.specs.Prelude.{⊤, ◌≡◌, ◌⊎◌, ℕ, suc, Bool, true, false, List, [], ◌∷◌, ◌++◌}
+use Rattle.format_json_extents.specs.Number.{IsNumber}
+use Rattle.format_json_extents.specs.Strings.{IsString}
+use Rattle.format_json_extents.specs.Texts.{IsByte, IsLongest, Maybe, Or, Stands, Then}
+use Rattle.format_json_extents.specs.Value.{IsGap, IsNestedTail, IsSpace, IsValue, Only, closing}
+use Rattle.format_json_extents.specs.Value.{opening}
+use Rattle.format_json_extents.specs.declared.walk.Kind.{Kind}
+use Rattle.format_json_extents.specs.declared.walk.Kind.TheVariants as kinds
+
+-- a comma or a colon
+abbrev pub IsMark : ℕ → Type 0
+IsMark b = (b ≡ 44) ⊎ (b ≡ 58)
+
+-- What stands before a value: white space, and at most one comma or colon, with white space behind
+-- it.
+abbrev pub IsLead : List ℕ → Type 0
+IsLead = Then IsGap (Maybe (Then (IsByte IsMark) IsGap))
+
+-- A byte with which it may go on behind a shorter one.
+abbrev pub IsLeadByte : ℕ → Type 0
+IsLeadByte = Or IsSpace (Or IsSpace IsMark)
+
+-- Behind what stands before it, the input has this text, which is the longest value there, and then
+-- the rest.
+pub record IsNext (level : ℕ) (text bytes rest : List ℕ) : Type 0 where
+  pub lead : List ℕ
+  pub start : List ℕ
+  pub is_lead : IsLead lead
+  pub splits : bytes ≡ lead ++ start
+  pub longest : IsLongest (IsValue level) text start rest
+
+-- a closing bracket
+abbrev pub IsClosingByte : ℕ → Type 0
+IsClosingByte b = (b ≡ 93) ⊎ (b ≡ 125)
+
+-- The bytes begin with a closing bracket, or there are none.
+abbrev pub BeginsEnd : List ℕ → Type 0
+BeginsEnd [] = ⊤
+BeginsEnd (b ∷ more) = IsClosingByte b
+
+-- Behind white space stands a closing bracket, or nothing.
+abbrev pub EndsItems : List ℕ → Type 0
+EndsItems bytes = (rest : List ℕ) × Stands IsGap bytes rest × BeginsEnd rest
+
+-- An array or an object, of this many levels.
+abbrev pub IsNestedBy : Bool → ℕ → List ℕ → Type 0
+IsNestedBy keyed level text =
+    (inner : ℕ) × (level ≡ suc inner)
+    × Then (IsByte (λ b. b ≡ opening keyed)) (IsNestedTail keyed (IsValue inner)) text
+
+-- A value of this kind, of which no more than so many arrays and objects stand in one another.
+abbrev pub IsOfKind : ℕ → Kind → List ℕ → Type 0
+IsOfKind level kinds.Null text = Only (110 ∷ 117 ∷ 108 ∷ 108 ∷ []) text
+IsOfKind level kinds.False text = Only (102 ∷ 97 ∷ 108 ∷ 115 ∷ 101 ∷ []) text
+IsOfKind level kinds.True text = Only (116 ∷ 114 ∷ 117 ∷ 101 ∷ []) text
+IsOfKind level kinds.Number text = IsNumber text
+IsOfKind level kinds.String text = IsString text
+IsOfKind level kinds.Array text = IsNestedBy false level text
+IsOfKind level kinds.Object text = IsNestedBy true level text

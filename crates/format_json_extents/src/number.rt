@@ -1,0 +1,142 @@
+//! Numbers of JSON, as they stand in a text (RFC 8259, section 6).
+
+ghost use Rattle.std.specs.Prelude.{◌≡◌, IfNone, IfSome, MatchOption};
+ghost use Rattle.format_json_extents.specs.Number.{IsDigit, IsDigits, IsE, IsExponent, IsFraction};
+ghost use Rattle.format_json_extents.specs.Number.{IsMinus};
+ghost use Rattle.format_json_extents.specs.Number.{IsNumber, IsNumberByte, IsPoint, IsSign};
+ghost use Rattle.format_json_extents.specs.Number.{IsWhole};
+ghost use Rattle.format_json_extents.specs.Texts.{IsByte, IsLongest, Leaves, Maybe, Never};
+ghost use Rattle.format_json_extents.specs.Texts.{NoneStands, Or};
+
+use crate::tokens::{behind, behind_digits};
+
+/// What stands behind one digit or several.
+fn behind_some_digits<'i>(bytes: &'i [u8]) -> Option<&'i [u8]>
+    ensures { MatchOption result (NoneStands IsDigits bytes.now)
+        (λ rest. Leaves IsDigits IsDigit bytes.now rest.now) }
+{
+    let (first, more) = bytes.split_first()?;
+    if *first >= b'0' && *first <= b'9' {
+        Some(behind_digits(more))
+    } else {
+        None
+    }
+}
+
+/// What stands behind a minus, if one stands first.
+fn behind_minus<'i>(bytes: &'i [u8]) -> &'i [u8]
+    ensures { Leaves (Maybe (IsByte IsMinus)) (Or Never IsMinus) bytes.now result.now }
+{
+    match behind(b'-', bytes) {
+        Some(rest) => rest,
+        None => bytes,
+    }
+}
+
+/// What stands behind a sign, if one stands first.
+fn behind_sign<'i>(bytes: &'i [u8]) -> &'i [u8]
+    ensures { Leaves (Maybe (IsByte IsSign)) (Or Never IsSign) bytes.now result.now }
+{
+    match bytes.split_first() {
+        Some((first, more)) => {
+            if *first == b'+' || *first == b'-' {
+                more
+            } else {
+                bytes
+            }
+        }
+        None => bytes,
+    }
+}
+
+/// What stands behind the whole part of a number.
+fn behind_whole<'i>(bytes: &'i [u8]) -> Option<&'i [u8]>
+    ensures { MatchOption result (NoneStands IsWhole bytes.now)
+        (λ rest. Leaves IsWhole IsDigit bytes.now rest.now) }
+{
+    let (first, more) = bytes.split_first()?;
+    if *first == b'0' {
+        return Some(more);
+    }
+    if *first >= b'1' && *first <= b'9' {
+        Some(behind_digits(more))
+    } else {
+        None
+    }
+}
+
+/// What stands behind a point and digits.
+fn behind_fraction<'i>(bytes: &'i [u8]) -> Option<&'i [u8]>
+    ensures { MatchOption result (NoneStands IsFraction bytes.now)
+        (λ rest. Leaves IsFraction IsDigit bytes.now rest.now) }
+{
+    let digits = behind(b'.', bytes)?;
+    behind_some_digits(digits)
+}
+
+/// What stands behind an exponent.
+fn behind_exponent<'i>(bytes: &'i [u8]) -> Option<&'i [u8]>
+    ensures { MatchOption result (NoneStands IsExponent bytes.now)
+        (λ rest. Leaves IsExponent IsDigit bytes.now rest.now) }
+{
+    let (first, more) = bytes.split_first()?;
+    if *first == b'e' || *first == b'E' {
+        behind_some_digits(behind_sign(more))
+    } else {
+        None
+    }
+}
+
+/// What stands behind a fraction, if one stands first.
+fn behind_any_fraction<'i>(bytes: &'i [u8]) -> &'i [u8]
+    ensures { Leaves (Maybe IsFraction) (Or IsDigit IsPoint) bytes.now result.now }
+{
+    match behind_fraction(bytes) {
+        Some(rest) => rest,
+        None => bytes,
+    }
+}
+
+/// What stands behind an exponent, if one stands first.
+fn behind_any_exponent<'i>(bytes: &'i [u8]) -> &'i [u8]
+    ensures { Leaves (Maybe IsExponent) (Or IsDigit IsE) bytes.now result.now }
+{
+    match behind_exponent(bytes) {
+        Some(rest) => rest,
+        None => bytes,
+    }
+}
+
+/// What stands behind the longest number.
+pub fn behind_number<'i>(bytes: &'i [u8]) -> Option<&'i [u8]>
+    ensures { MatchOption result (NoneStands IsNumber bytes.now)
+        (λ rest. Leaves IsNumber IsNumberByte bytes.now rest.now) }
+{
+    let rest = behind_whole(behind_minus(bytes))?;
+    Some(behind_any_exponent(behind_any_fraction(rest)))
+}
+
+/// The longest number that the bytes begin with, which may be a shorter one than the writer meant:
+/// of `1.x` it is `1`, and of `01` it is `0`. The input then stands behind it.
+///
+/// `None` exactly where they begin with no number; then nothing is read.
+///
+/// ```
+/// use format_json_extents::number::read_number;
+///
+/// let mut input = b"-12.5e3,".as_slice();
+/// assert!(rt; read_number(&mut input).is_some_and(|it| it == b"-12.5e3".as_slice()));
+/// assert_eq!(rt; input, b",".as_slice());
+/// assert!(rt; read_number(&mut b"+1".as_slice()).is_none());
+/// ```
+pub fn read_number<'i>(input: &mut &'i [u8]) -> Option<&'i [u8]>
+    ensures found { IfSome result (λ text.
+        IsLongest IsNumber text.now input.old.now input.new.now) }
+    ensures none { IfNone result (NoneStands IsNumber input.old.now) }
+    ensures kept { IfNone result (input.new.now ≡ input.old.now) }
+{
+    let start = *input;
+    let rest = behind_number(start)?;
+    *input = rest;
+    Some(&start[..start.len() - rest.len()])
+}

@@ -1,8 +1,0 @@
-use Rattle.uses_json.proofs.Numbers.{exponent_missing, exponent_there}
-use Rattle.uses_json.proofs.number.behind_any_exponent.Goals as goal
-
-pub returns-in-Some : goal.returns-in-Some
-returns-in-Some c = exponent_there _ _ c.in-Some.ensures
-
-pub returns-in-None : goal.returns-in-None
-returns-in-None c = exponent_missing _ c.in-None.ensures

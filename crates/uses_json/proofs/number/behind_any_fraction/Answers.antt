@@ -1,8 +1,0 @@
-use Rattle.uses_json.proofs.Numbers.{fraction_missing, fraction_there}
-use Rattle.uses_json.proofs.number.behind_any_fraction.Goals as goal
-
-pub returns-in-Some : goal.returns-in-Some
-returns-in-Some c = fraction_there _ _ c.in-Some.ensures
-
-pub returns-in-None : goal.returns-in-None
-returns-in-None c = fraction_missing _ c.in-None.ensures

@@ -1,7 +1,0 @@
--- Written by scripts/registries.py: do not edit.
-pub mod Number
-pub mod Ranges
-pub mod Strings
-pub mod Texts
-pub mod Value
-pub mod Walk
