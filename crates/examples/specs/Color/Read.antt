@@ -33,5 +33,5 @@ pair_of = exactly_of counted_reading (λ b. b) (InClass IsHexDigit (λ b. b)) tt
 pub color_of : IsGrammarOf (ColorRead counted_reading (λ b. b) Byte) Color Anything
 unfolding Color
 color_of = both_of (λ sign pairs. pairs) (byte_of 35)
-      (three_of (λ red (others : Slice × Slice). (red, others.0, others.1))
+    (three_of (λ red (others : Slice × Slice). (red, others.0, others.1))
     (λ green blue. (green, blue)) pair_of pair_of pair_of front_any front_any) front_any

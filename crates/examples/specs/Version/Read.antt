@@ -13,10 +13,11 @@ use Rattle.winnow.specs.Numeral.Grammar.{Decimal}
 use Rattle.winnow.specs.Numeral.Grammar.Known.{NoDigitFirst, Written, same_written}
 use Rattle.winnow.specs.Range.{from_to}
 use Rattle.winnow.specs.Reading.{Reading}
-use Rattle.winnow.specs.Texts.{Anything, AtEnd, InFront, IsGrammarOf, Itself, MayBegin}
+use Rattle.winnow.specs.Texts.{Anything, AtEnd, BeginsIn, InFront, IsGrammarOf, Itself}
 use Rattle.winnow.specs.Texts.{Members, NotFirst, Perhaps, Then}
-use Rattle.winnow.specs.Texts.Fronts.{front_any, front_begins, front_whole, may_begin}
-use Rattle.winnow.specs.Texts.Fronts.{may_begin_none, none_begins, spelled_begins, then_front}
+use Rattle.winnow.specs.Texts.Fronts.{front_any, front_begins, front_may}
+use Rattle.winnow.specs.Texts.Fronts.{may_begin_none, none_begins, perhaps_front, spelled_begins}
+use Rattle.winnow.specs.Texts.Fronts.{then_front}
 use Rattle.winnow.specs.Texts.Parts.{both_of, maybe_of, same_of, three_of}
 use Rattle.winnow.specs.Texts.Rows.{list_of, parted_of}
 use Rattle.winnow.specs.Texts.Tokens.{byte_of, class_of}
@@ -74,8 +75,7 @@ dotted_of = both_of (λ n dot. n) number_of (byte_of 46)
 numbers_of : IsGrammarOf (NumbersRead counted_reading (λ b. b) Byte) Numbers
     (NotFirst IsDecDigit)
 numbers_of = three_of (λ major (others : ℕ × ℕ). (major, others.0, others.1))
-      (λ minor patch. (minor, patch)) dotted_of
-    dotted_of number_of front_any front_any
+    (λ minor patch. (minor, patch)) dotted_of dotted_of number_of front_any front_any
 
 word_of : IsGrammarOf (WordRead counted_reading (λ b. b) Byte) (Members counted_reading InWord 1)
     (NotFirst InWord)
@@ -96,33 +96,26 @@ words_of = list_of (parted_of word_of (byte_of 46) (front_begins dot_ends (spell
     (may_begin_none (λ b. b ≡ 46 → ⊥) rest end))
     (λ rest none end. absurd (omega (arith, none))))
 
--- a hyphen and words, or nothing; neither begins with a digit
+-- a hyphen and words, or nothing
 abbrev Rest : {A : Type 0} → Option (Vec Slice A) → List ℕ → Type 0
 Rest {A} = Perhaps (Then (λ hyphen words. words) (Itself 45) (Words {A = A}))
 
-rest_of : {A : Type 0} → IsGrammarOf (Maybe (Both (λ o1 o2. o2) (Byte 45)
+hyphen_begins : {A : Type 0}
+    → BeginsIn (λ b. b ≡ 45) (Then (λ hyphen words. words) (Itself 45) (Words {A = A}))
+hyphen_begins = then_front (λ hyphen words. words) (spelled_begins 45 [] 45) front_any
+
+rest_of : {A : Type 0} → IsGrammarOf (Maybe (Both (λ hyphen words. words) (Byte 45)
     (WordsRead counted_reading (λ b. b) Byte {A = A}))) Rest AtEnd
 rest_of =
-    let all = both_of (λ hyphen words. words) (byte_of 45) words_of front_any in
-    maybe_of all (λ rest end. none_begins all
-    (then_front (λ hyphen words. words) (spelled_begins 45 [] 45) front_any) rest
+    let some = both_of (λ hyphen words. words) (byte_of 45) words_of front_any in
+    maybe_of some (λ rest end. none_begins some hyphen_begins rest
     (may_begin_none (λ b. b ≡ 45 → ⊥) rest end))
 
+-- neither begins with a digit
 no_digit_first : {A : Type 0} → InFront (Rest {A = A}) AtEnd (NotFirst IsDecDigit)
-unfolding Perhaps
-no_digit_first {A} = record { makes = makes }
-  where
-    hyphen : InFront (Then (λ hyphen words. words) (Itself 45) (Words {A = A})) AtEnd
-        (NotFirst IsDecDigit)
-    hyphen = front_begins (λ t e is. omega (arith, e, is.0))
-        (then_front (λ hyphen words. words) (spelled_begins 45 [] 45) front_any)
-
-    makes : (o : Option (Vec Slice A)) (xs rest : List ℕ) → Rest o xs → AtEnd rest
-        → NotFirst IsDecDigit (xs ++ rest)
-    makes None xs rest e end =
-        let P : List ℕ → Type 0 = λ l. NotFirst IsDecDigit (l ++ rest) in
-        subst P (sym e) (may_begin_none (λ d. IsDecDigit d → ⊥) rest end)
-    makes (Some o) xs rest x end = hyphen.makes o xs rest x end
+no_digit_first = front_may {these = λ b. b ≡ 45} (λ b e is. omega (arith, e, is.0))
+    (λ rest end. may_begin_none (λ d. IsDecDigit d → ⊥) rest end)
+    (perhaps_front (front_begins (λ b is. is) hyphen_begins))
 
 pub version_of : {A : Type 0}
     → IsGrammarOf (VersionRead counted_reading (λ b. b) Byte {A = A}) Version AtEnd
