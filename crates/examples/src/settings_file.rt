@@ -72,7 +72,8 @@ where
 ///
 /// let file = b"width=12\ntitle=a=b\n".as_slice();
 /// let settings = parse_settings(alloc, file);
-/// assert!(rt; matches!(settings, Ok(list) if list[1] == (b"title".as_slice(), b"a=b".as_slice())));
+/// let title = (b"title".as_slice(), b"a=b".as_slice());
+/// assert!(rt; matches!(settings, Ok(list) if list[1] == title));
 /// assert!(rt; parse_settings(alloc, b"width=12".as_slice()).is_err());
 /// ```
 pub fn parse_settings<'i, A: Allocator + Copy>(

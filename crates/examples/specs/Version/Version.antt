@@ -17,7 +17,8 @@ Number n bytes = (bytes ≡ decimal n) × (n < 2 ^ 64)
 
 -- numbers = number "." number "." number
 abbrev pub Numbers : Text ℕ (ℕ × ℕ × ℕ)
-Numbers = Then (λ major (others : ℕ × ℕ). (major, others.0, others.1)) (Then (λ n dot. n) Number (Itself 46))
+Numbers = Then (λ major (others : ℕ × ℕ). (major, others.0, others.1))
+    (Then (λ n dot. n) Number (Itself 46))
     (Then (λ minor patch. (minor, patch)) (Then (λ n dot. n) Number (Itself 46)) Number)
 
 -- word = 1*(ALPHA / DIGIT / "-")
