@@ -16,4 +16,5 @@ Pair = SoManyOf counted_reading IsHexDigit 2
 -- color = "#" pair pair pair
 unfoldable pub Color : Text ℕ (Slice × Slice × Slice)
 Color = Then (λ sign pairs. pairs) (Itself 35)
-    (Then (λ red (others : Slice × Slice). (red, others.0, others.1)) Pair (Then (λ green blue. (green, blue)) Pair Pair))
+    (Then (λ red (others : Slice × Slice). (red, others.0, others.1)) Pair
+    (Then (λ green blue. (green, blue)) Pair Pair))
