@@ -59,7 +59,7 @@ PAGES = [
     ),
     (
         "binary",
-        "Integers of a chosen order, and data behind its length",
+        "Integers of a chosen order, and data after its length",
         "binary",
         "length_take length_and_then length_repeat Endianness u8 u16 u24 u32 u64 u128 i8 i16 i24 "
         "i32 i64 i128",

@@ -10,7 +10,7 @@ PURPOSES = {
     "Classes of ASCII, and line ends": {"winnow_ascii": ""},
     "Numbers as text": {"winnow_numbers": ""},
     "Text with escapes": {"winnow_escapes": ""},
-    "One behind the other": {"winnow_comb": "preceded terminated delimited separated_pair"},
+    "One after the other": {"winnow_comb": "preceded terminated delimited separated_pair"},
     "Choices, and what may be left out": {
         "winnow_comb": "alt opt cond peek not empty fail",
         "winnow_core": "eof",
@@ -30,7 +30,7 @@ PURPOSES = {
     "Recovery from errors": {"winnow_recovery": ""},
     "Operator expressions": {"winnow_expression": ""},
     "Integers as bytes": {"winnow_integers": "", "winnow_binary": "u16 u24 u32 u64 u128 i16 i24 i32 i64 i128"},
-    "Data behind its length": {"winnow_binary": "length_take length_and_then length_repeat"},
+    "Data after its length": {"winnow_binary": "length_take length_and_then length_repeat"},
     "Bits": {"winnow_bits": ""},
     "Runs of a parser": {"winnow_core": "by_ref parse_iter"},
 }

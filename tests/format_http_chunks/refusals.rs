@@ -1,5 +1,5 @@
 //! Requests that a server must refuse, by their heads.
-use format_http::chunks::field_line::read_safe_field_line;
+use format_http::heads::field_line::read_field_line;
 use format_http::chunks::refusals::{Refusal, refusal_of};
 use format_http::heads::head::read_head;
 use std::alloc::Global;
@@ -144,10 +144,10 @@ const FIELD_LINES: &[(&[u8], Option<(&[u8], &[u8], usize)>)] = &[
 ];
 
 #[test]
-fn read_safe_field_line_of_lines(rt: HostRuntime) {
+fn read_field_line_of_lines(rt: HostRuntime) {
     for (text, want) in FIELD_LINES {
         let mut input = *text;
-        let found = match read_safe_field_line(&mut input) {
+        let found = match read_field_line(&mut input) {
             Ok(field) => Some((field.name, field.value, input.len())),
             Err(_) => None,
         };

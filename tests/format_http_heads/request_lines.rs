@@ -2,7 +2,7 @@
 use std::fmt::Debug;
 use std::process::Abort;
 use format_http::heads::request_line::{RequestLine, read_request_line};
-use format_http::pieces::request_line::{self, read_request_line_in_pieces};
+use format_http::pieces::request_line::read_request_line_in_pieces;
 use winnow::error::ErrMode;
 use winnow::stream::{Partial, StreamIsPartial};
 
@@ -73,9 +73,6 @@ fn read_request_line_of_lines(rt: HostRuntime) {
         let mut input = *text;
         same(&rt, text, read_request_line(&mut input).ok(), want);
         same(&rt, text, input, *rest);
-        let mut other = *text;
-        same(&rt, text, request_line::read_request_line(&mut other).ok(), want);
-        same(&rt, text, other, *rest);
         let mut pieces = Partial::new(*text);
         same(&rt, text, read_request_line_in_pieces(&mut pieces).ok(), want);
         same(&rt, text, pieces.into_inner(), *rest);
@@ -86,9 +83,7 @@ fn read_request_line_of_lines(rt: HostRuntime) {
 fn read_request_line_of_none(rt: HostRuntime) {
     for text in NO_LINES {
         let mut input = *text;
-        same(&rt, text, read_request_line(&mut input).is_err(), true);
-        let mut other = *text;
-        same(&rt, text, request_line::read_request_line(&mut other).is_err(), true);
+        same(&rt, text, matches!(read_request_line(&mut input), Err(ErrMode::Backtrack(_))), true);
         let mut pieces = Partial::new(*text);
         let answer = read_request_line_in_pieces(&mut pieces);
         same(&rt, text, matches!(answer, Err(ErrMode::Backtrack(_))), true);
@@ -101,7 +96,7 @@ fn read_request_line_of_each_beginning(rt: HostRuntime) {
     for count in 0..text.len() {
         let begun = &text[..count];
         let mut input = begun;
-        same(&rt, begun, read_request_line(&mut input).is_err(), true);
+        same(&rt, begun, matches!(read_request_line(&mut input), Err(ErrMode::Backtrack(_))), true);
         let mut pieces = Partial::new(begun);
         let answer = read_request_line_in_pieces(&mut pieces);
         same(&rt, begun, matches!(answer, Err(ErrMode::Incomplete(_))), true);

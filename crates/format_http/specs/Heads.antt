@@ -7,3 +7,4 @@ pub mod HeadRead
 pub mod Parts
 pub mod RequestLine
 pub mod RequestRead
+pub mod Tokens

@@ -6,5 +6,6 @@
 //! that goes on behind white space.
 pub mod field_line;
 pub mod head;
+pub mod laws;
 pub mod request_line;
 pub mod sets;

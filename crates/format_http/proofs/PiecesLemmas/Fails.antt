@@ -3,7 +3,6 @@ use Rattle.std.proofs.Common.{◌≡◌, ◌⊎◌, ◌∙◌, ℕ, Bool, List, 
 use Rattle.std.proofs.Common.{inl, inr, refl, subst, sym}
 use Rattle.std.specs.Borrow.{Bor}
 use Rattle.std.specs.Prelude.{⊤}
-use Rattle.std.proofs.lemmas.Bool.{true≢false}
 use Rattle.winnow.specs.Counted.{counted_reading}
 use Rattle.winnow.specs.Equal.{none_is_some}
 use Rattle.winnow.specs.Form.{modal}
@@ -38,11 +37,6 @@ pub record Fails {S O : Type 0} (run : Runs S ℕ O) (known : S → Type 0) : Ty
   pub ends : LeaveEnds counted_reading run
 
 -- ---- what a caller is told
-
--- nothing may come behind a whole input
-pub fails_whole : (k : Kind) (may : Bool) → may ≡ false → FailsSo k may → k ≡ backtrack
-fails_whole k may whole (inl e) = e
-fails_whole k may whole (inr (need, e, cut)) = absurd (true≢false (sym cut ∙ whole))
 
 pub fails_not_memory : (k : Kind) (may : Bool) → FailsSo k may → k ≡ memory → ⊥
 fails_not_memory k may (inl e) wants = never (sym e ∙ wants)

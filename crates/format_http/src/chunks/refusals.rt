@@ -3,9 +3,9 @@
 //!
 //! White space between the name of a field and its colon (RFC 9112, section 5.1), and a carriage
 //! return in a name or a value (section 2.2), stand in no head that
-//! [`read_head`](crate::heads::head::read_head) reads, by the [laws](crate::chunks::laws) of field
-//! lines: it
-//! backtracks there. The value of a Host field is not looked at, nor which codings there are before
+//! [`read_head`](crate::heads::head::read_head) reads, by the [laws](crate::heads::laws) of field
+//! lines: it backtracks there. The value of a Host field is not looked at, nor which codings there
+//! are before
 //! the last one: a server answers those that it does not know with status 501 (section 6.1). Nor is
 //! a transfer coding in a request of HTTP/1.0 refused, behind which a server closes the connection.
 #![tactic(auto)]

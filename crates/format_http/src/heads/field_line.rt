@@ -2,12 +2,16 @@
 //! (a carriage return and a line feed). White space may stand before the value and behind it.
 #![tactic(auto)]
 
+ghost use Rattle.std.specs.List.{All};
+ghost use Rattle.std.specs.Prelude.{◌≡◌, ◌++◌, ◌∷◌, IfOk, List, ℕ};
 ghost use Rattle.winnow.specs.Bytes.{bytes_input, bytes_reading};
+ghost use Rattle.format_http.specs.Heads.Bytes.{IsWhite};
 ghost use Rattle.format_http.specs.Heads.FieldLine.{FieldLineStands, IsTrimmed};
 ghost use Rattle.format_http.specs.Heads.FieldRead.{NameRead, NameValue, ValueStands};
 ghost use Rattle.format_http.specs.Heads.Parts.{EndStands};
-ghost use Rattle.winnow.specs.Exact.{Reads};
+ghost use Rattle.winnow.specs.Exact.{IsSpared, Reads};
 
+use crate::heads::laws::{no_return_stands_in_a_field, no_white_space_stands_before_a_colon};
 use crate::heads::sets::{TokenBytes, ValueBytes, White};
 use winnow::Parser;
 use winnow::combinator::{preceded, terminated};
@@ -53,8 +57,10 @@ pub fn trimmed<'i>(text: &'i [u8]) -> &'i [u8]
 
 /// A value, and the white space around it.
 fn read_value<'i>(input: &mut &'i [u8]) -> Result<&'i [u8], ErrMode<EmptyError>>
-    ensures { Reads bytes_reading ⟦<ErrMode<EmptyError> as HasKind>⟧.kind ValueStands
+    ensures reads { Reads bytes_reading ⟦<ErrMode<EmptyError> as HasKind>⟧.kind ValueStands
         (bytes_input input.old.now) result (bytes_input input.new.now) }
+    ensures spared { IsSpared ⟦<ErrMode<EmptyError> as HasKind>⟧.kind
+        (bytes_input input.old.now) result }
 {
     let any = Range::from(0..);
     let white = take_while(any, White);
@@ -67,8 +73,10 @@ fn read_value<'i>(input: &mut &'i [u8]) -> Result<&'i [u8], ErrMode<EmptyError>>
 
 /// A name and a colon.
 fn read_name<'i>(input: &mut &'i [u8]) -> Result<&'i [u8], ErrMode<EmptyError>>
-    ensures { Reads bytes_reading ⟦<ErrMode<EmptyError> as HasKind>⟧.kind NameRead
+    ensures reads { Reads bytes_reading ⟦<ErrMode<EmptyError> as HasKind>⟧.kind NameRead
         (bytes_input input.old.now) result (bytes_input input.new.now) }
+    ensures spared { IsSpared ⟦<ErrMode<EmptyError> as HasKind>⟧.kind
+        (bytes_input input.old.now) result }
 {
     let name = take_while(Range::from(1..), TokenBytes);
     terminated(name, b':').read(input)
@@ -78,8 +86,10 @@ fn read_name<'i>(input: &mut &'i [u8]) -> Result<&'i [u8], ErrMode<EmptyError>>
 fn read_name_and_value<'i>(
     input: &mut &'i [u8],
 ) -> Result<(&'i [u8], &'i [u8]), ErrMode<EmptyError>>
-    ensures { Reads bytes_reading ⟦<ErrMode<EmptyError> as HasKind>⟧.kind NameValue
+    ensures reads { Reads bytes_reading ⟦<ErrMode<EmptyError> as HasKind>⟧.kind NameValue
         (bytes_input input.old.now) result (bytes_input input.new.now) }
+    ensures spared { IsSpared ⟦<ErrMode<EmptyError> as HasKind>⟧.kind
+        (bytes_input input.old.now) result }
 {
     match read_name(input) {
         Ok(name) => match read_value(input) {
@@ -92,8 +102,10 @@ fn read_name_and_value<'i>(
 
 /// A line end: a carriage return and a line feed.
 pub(crate) fn read_line_end<'i>(input: &mut &'i [u8]) -> Result<(), ErrMode<EmptyError>>
-    ensures { Reads bytes_reading ⟦<ErrMode<EmptyError> as HasKind>⟧.kind EndStands
+    ensures reads { Reads bytes_reading ⟦<ErrMode<EmptyError> as HasKind>⟧.kind EndStands
         (bytes_input input.old.now) result (bytes_input input.new.now) }
+    ensures spared { IsSpared ⟦<ErrMode<EmptyError> as HasKind>⟧.kind
+        (bytes_input input.old.now) result }
 {
     match b"\r\n".as_slice().read(input) {
         Ok(_) => Ok(()),
@@ -101,12 +113,31 @@ pub(crate) fn read_line_end<'i>(input: &mut &'i [u8]) -> Result<(), ErrMode<Empt
     }
 }
 
+/// A field line.
+fn read_line<'i>(input: &mut &'i [u8]) -> Result<Field<'i>, ErrMode<EmptyError>>
+    ensures reads { Reads bytes_reading ⟦<ErrMode<EmptyError> as HasKind>⟧.kind FieldLineStands
+        (bytes_input input.old.now) result (bytes_input input.new.now) }
+    ensures spared { IsSpared ⟦<ErrMode<EmptyError> as HasKind>⟧.kind
+        (bytes_input input.old.now) result }
+{
+    match read_name_and_value(input) {
+        Ok((name, value)) => match read_line_end(input) {
+            Ok(()) => Ok(Field { name, value }),
+            Err(error) => Err(error),
+        },
+        Err(error) => Err(error),
+    }
+}
+
 /// The field of the field line with which the bytes begin.
 ///
 /// The name is a token of one byte or more. The value is of visible bytes, spaces, tabs and bytes
-/// of 128 and above; it may have no bytes. Spaces and tabs may stand before it and behind it, and
-/// are no part of it. An error that backtracks says that no field line stands there; some bytes may
-/// then have been passed.
+/// of 128 and above; it may have no bytes. Spaces and tabs may stand before it and after it, and
+/// are no part of it. So no white space stands before the first colon (RFC 9112, section 5.1), and
+/// no carriage return in the name or the value (section 2.2), which a server must refuse.
+///
+/// An error backtracks, and says that no field line stands there; some bytes may then have been
+/// passed. No memory is asked for.
 ///
 /// ```
 /// use format_http::heads::field_line::read_field_line;
@@ -119,14 +150,17 @@ pub(crate) fn read_line_end<'i>(input: &mut &'i [u8]) -> Result<(), ErrMode<Empt
 /// assert!(rt; read_field_line(&mut b"Host : example.org\r\n".as_slice()).is_err());
 /// ```
 pub fn read_field_line<'i>(input: &mut &'i [u8]) -> Result<Field<'i>, ErrMode<EmptyError>>
-    ensures { Reads bytes_reading ⟦<ErrMode<EmptyError> as HasKind>⟧.kind FieldLineStands
+    ensures reads { Reads bytes_reading ⟦<ErrMode<EmptyError> as HasKind>⟧.kind FieldLineStands
         (bytes_input input.old.now) result (bytes_input input.new.now) }
+    ensures spared { IsSpared ⟦<ErrMode<EmptyError> as HasKind>⟧.kind
+        (bytes_input input.old.now) result }
+    ensures colon { IfOk result (λ _. (front more : List ℕ)
+        → input.old.now ≡ front ++ 58 ∷ more → All (λ b. b ≡ 58 → ⊥) front
+        → All (λ b. IsWhite b → ⊥) front) }
+    ensures returns { IfOk result (λ field. All (λ b. b ≡ 13 → ⊥) field.name.now
+        × All (λ b. b ≡ 13 → ⊥) field.value.now) }
 {
-    match read_name_and_value(input) {
-        Ok((name, value)) => match read_line_end(input) {
-            Ok(()) => Ok(Field { name, value }),
-            Err(error) => Err(error),
-        },
-        Err(error) => Err(error),
-    }
+    no_white_space_stands_before_a_colon();
+    no_return_stands_in_a_field();
+    read_line(input)
 }

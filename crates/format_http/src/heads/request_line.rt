@@ -10,7 +10,7 @@ ghost use Rattle.winnow.specs.Bytes.{bytes_input, bytes_reading};
 ghost use Rattle.format_http.specs.Heads.RequestLine.{RequestLineStands};
 ghost use Rattle.format_http.specs.Heads.RequestRead.{DigitStands, MethodTarget, VersionStands};
 ghost use Rattle.format_http.specs.Heads.RequestRead.{digit_unique};
-ghost use Rattle.winnow.specs.Exact.{Reads};
+ghost use Rattle.winnow.specs.Exact.{IsSpared, Reads};
 
 use crate::heads::sets::{Digits, TokenBytes, Visible};
 use winnow::Parser;
@@ -58,8 +58,10 @@ impl<'i> Rule<&'i [u8], u8> for Digit {
 
 /// The number of a digit.
 fn read_digit<'i>(input: &mut &'i [u8]) -> Result<u8, ErrMode<EmptyError>>
-    ensures { Reads bytes_reading ⟦<ErrMode<EmptyError> as HasKind>⟧.kind DigitStands
+    ensures reads { Reads bytes_reading ⟦<ErrMode<EmptyError> as HasKind>⟧.kind DigitStands
         (bytes_input input.old.now) result (bytes_input input.new.now) }
+    ensures spared { IsSpared ⟦<ErrMode<EmptyError> as HasKind>⟧.kind
+        (bytes_input input.old.now) result }
 {
     match one_of(Digits).read(input) {
         Ok(digit) => Ok(digit - b'0'),
@@ -69,8 +71,10 @@ fn read_digit<'i>(input: &mut &'i [u8]) -> Result<u8, ErrMode<EmptyError>>
 
 /// A space, a version and the line end: the numbers of the version.
 fn read_version<'i>(input: &mut &'i [u8]) -> Result<(u8, u8), ErrMode<EmptyError>>
-    ensures { Reads bytes_reading ⟦<ErrMode<EmptyError> as HasKind>⟧.kind VersionStands
+    ensures reads { Reads bytes_reading ⟦<ErrMode<EmptyError> as HasKind>⟧.kind VersionStands
         (bytes_input input.old.now) result (bytes_input input.new.now) }
+    ensures spared { IsSpared ⟦<ErrMode<EmptyError> as HasKind>⟧.kind
+        (bytes_input input.old.now) result }
 {
     let protocol = b" HTTP/".as_slice();
     let major = Digit.by(read_digit);
@@ -84,8 +88,10 @@ fn read_version<'i>(input: &mut &'i [u8]) -> Result<(u8, u8), ErrMode<EmptyError
 fn read_method_and_target<'i>(
     input: &mut &'i [u8],
 ) -> Result<(&'i [u8], &'i [u8]), ErrMode<EmptyError>>
-    ensures { Reads bytes_reading ⟦<ErrMode<EmptyError> as HasKind>⟧.kind MethodTarget
+    ensures reads { Reads bytes_reading ⟦<ErrMode<EmptyError> as HasKind>⟧.kind MethodTarget
         (bytes_input input.old.now) result (bytes_input input.new.now) }
+    ensures spared { IsSpared ⟦<ErrMode<EmptyError> as HasKind>⟧.kind
+        (bytes_input input.old.now) result }
 {
     let some = Range::from(1..);
     let method = take_while(some, TokenBytes);
@@ -95,7 +101,8 @@ fn read_method_and_target<'i>(
 
 /// The request line with which the bytes begin.
 ///
-/// An error that backtracks says that none stands there; some bytes may then have been passed.
+/// An error backtracks, and says that none stands there; some bytes may then have been passed. No
+/// memory is asked for.
 ///
 /// ```
 /// use format_http::heads::request_line::read_request_line;
@@ -107,8 +114,10 @@ fn read_method_and_target<'i>(
 /// assert!(rt; read_request_line(&mut b"GET  / HTTP/1.1\r\n".as_slice()).is_err());
 /// ```
 pub fn read_request_line<'i>(input: &mut &'i [u8]) -> Result<RequestLine<'i>, ErrMode<EmptyError>>
-    ensures { Reads bytes_reading ⟦<ErrMode<EmptyError> as HasKind>⟧.kind RequestLineStands
+    ensures reads { Reads bytes_reading ⟦<ErrMode<EmptyError> as HasKind>⟧.kind RequestLineStands
         (bytes_input input.old.now) result (bytes_input input.new.now) }
+    ensures spared { IsSpared ⟦<ErrMode<EmptyError> as HasKind>⟧.kind
+        (bytes_input input.old.now) result }
 {
     match read_method_and_target(input) {
         Ok((method, target)) => match read_version(input) {

@@ -2,9 +2,9 @@
 #![tactic(auto)]
 
 ghost use Rattle.std.specs.Prelude.{◌≡◌, IfErr, IfOk, IsOk, List, Option, ℕ, true};
-ghost use Rattle.winnow.specs.Bytes.{bytes_input, bytes_reading};
+ghost use Rattle.winnow.specs.Bytes.{bytes_reading};
 ghost use Rattle.winnow.specs.Input.{IsEndOf};
-ghost use Rattle.winnow.specs.Kind.{backtrack, incomplete, memory};
+ghost use Rattle.winnow.specs.Kind.{incomplete, memory};
 ghost use Rattle.winnow.specs.Stable.{IsFinalKind};
 ghost use Rattle.winnow.specs.TakeWhile.{take_while_occurrences};
 ghost use Rattle.format_http.specs.Heads.Bytes.{line_end};
@@ -47,39 +47,9 @@ fn line<I: StreamIsPartial<Token = u8>, E: ParserError<I>>() -> Line<I, E>
     )
 }
 
-/// The field of the field line with which whole bytes begin, as
-/// [the reader by a grammar](crate::heads::field_line::read_field_line) reads it.
-///
-/// It stands beside that one since it never wants memory, which no grammar says: an error says that
-/// no field line stands there. Some bytes may then have been passed.
-///
-/// ```
-/// use format_http::pieces::field_line::read_field_line;
-///
-/// let mut input = b"Host: example.org \r\n\r\n".as_slice();
-/// let field = read_field_line(&mut input);
-/// assert!(rt; matches!(field, Ok(field) if field.value == b"example.org".as_slice()));
-/// assert_eq!(rt; input, b"\r\n".as_slice());
-/// ```
-pub fn read_field_line<'i>(input: &mut &'i [u8]) -> Result<Field<'i>, ErrMode<EmptyError>>
-    ensures line { IfOk result (λ field.
-        IsFieldLine field.name.now field.value.now input.old.now input.new.now) }
-    ensures accepts { (name value rest : List ℕ)
-        → IsFieldLine name value input.old.now rest → IsOk result }
-    ensures fails { IfErr result (λ error.
-        ⟦<ErrMode<EmptyError> as HasKind>⟧.kind error ≡ backtrack) }
-    ensures ends { IsEndOf bytes_reading (bytes_input input.new.now) (bytes_input input.old.now) }
-{
-    match line().parse_next(input) {
-        Ok((name, _, _, text, _)) => Ok(Field {
-            name,
-            value: trimmed(text),
-        }),
-        Err(error) => Err(error),
-    }
-}
-
-/// The same over bytes that come in pieces: it answers as soon as the line is there.
+/// The field of the field line with which bytes begin that come in pieces, as
+/// [the reader of whole bytes](crate::heads::field_line::read_field_line) reads it. It returns as
+/// soon as the line is there.
 ///
 /// [`Incomplete`](ErrMode::Incomplete) says that more input can make one, and another error that
 /// none can. After an error some bytes may have been passed: go back to a checkpoint.

@@ -2,9 +2,9 @@
 #![tactic(auto)]
 
 ghost use Rattle.std.specs.Prelude.{◌≡◌, IfErr, IfOk, IsOk, List, Option, ℕ, true};
-ghost use Rattle.winnow.specs.Bytes.{bytes_input, bytes_reading};
+ghost use Rattle.winnow.specs.Bytes.{bytes_reading};
 ghost use Rattle.winnow.specs.Input.{IsEndOf};
-ghost use Rattle.winnow.specs.Kind.{backtrack, incomplete, memory};
+ghost use Rattle.winnow.specs.Kind.{incomplete, memory};
 ghost use Rattle.winnow.specs.Stable.{IsFinalKind};
 ghost use Rattle.format_http.specs.Heads.RequestLine.{IsRequestLine};
 ghost use Rattle.format_http.specs.Pieces.RequestLine.{BeginsRequestLine, NoRequestLine};
@@ -15,41 +15,9 @@ use winnow::error::{EmptyError, ErrMode, HasKind};
 use winnow::prelude::*;
 use winnow::stream::Partial;
 
-/// The request line with which whole bytes begin, as
-/// [the reader by a grammar](crate::heads::request_line::read_request_line) reads it.
-///
-/// It stands beside that one since it never wants memory, which no grammar says: an error says that
-/// no request line stands there. Some bytes may then have been passed.
-///
-/// ```
-/// use format_http::pieces::request_line::read_request_line;
-///
-/// let mut input = b"GET /index.html HTTP/1.1\r\nHost: example.org\r\n\r\n".as_slice();
-/// let line = read_request_line(&mut input);
-/// assert!(rt; matches!(line, Ok(line) if line.method == b"GET".as_slice() && line.minor == 1));
-/// assert_eq!(rt; input, b"Host: example.org\r\n\r\n".as_slice());
-/// ```
-pub fn read_request_line<'i>(input: &mut &'i [u8]) -> Result<RequestLine<'i>, ErrMode<EmptyError>>
-    ensures line { IfOk result (λ line. IsRequestLine line.method.now line.target.now line.major
-        line.minor input.old.now input.new.now) }
-    ensures accepts { (method target : List ℕ) (major minor : ℕ) (rest : List ℕ)
-        → IsRequestLine method target major minor input.old.now rest → IsOk result }
-    ensures fails { IfErr result (λ error.
-        ⟦<ErrMode<EmptyError> as HasKind>⟧.kind error ≡ backtrack) }
-    ensures ends { IsEndOf bytes_reading (bytes_input input.new.now) (bytes_input input.old.now) }
-{
-    match line().parse_next(input) {
-        Ok((method, _, target, (_, major, _, minor, _))) => Ok(RequestLine {
-            method,
-            target,
-            major: major - b'0',
-            minor: minor - b'0',
-        }),
-        Err(error) => Err(error),
-    }
-}
-
-/// The same over bytes that come in pieces: it answers as soon as the line is there.
+/// The request line with which bytes begin that come in pieces, as
+/// [the reader of whole bytes](crate::heads::request_line::read_request_line) reads it. It returns
+/// as soon as the line is there.
 ///
 /// [`Incomplete`](ErrMode::Incomplete) says that more input can make one, and another error that
 /// none can. After an error some bytes may have been passed: go back to a checkpoint.

@@ -12,19 +12,19 @@ lines-init g c = record { each = search rules; ends = is_end_of_refl bytes_readi
 pub lines-preserved : goal.lines-preserved
 lines-preserved g c = record {
   each = lines_more _ c.in-Ok.field _ _ _ _ c.lines.invariant.each
-      (c.in-Ok.ensures.stands refl) c.in-Ok-push.ensures.items;
-  ends = is_end_of_trans c.in-Ok.ensures.ends c.lines.invariant.ends;
+      (c.in-Ok.ensures.reads.stands refl) c.in-Ok-push.ensures.items;
+  ends = is_end_of_trans c.in-Ok.ensures.reads.ends c.lines.invariant.ends;
 }
 
 pub returns-in-Err-push : goal.returns-in-Err-push
 returns-in-Err-push g c = reads_wanting c.no_memory.ensures
-    (is_end_of_trans c.in-Ok.ensures.ends c.lines.invariant.ends)
+    (is_end_of_trans c.in-Ok.ensures.reads.ends c.lines.invariant.ends)
 
 pub returns-then-is_memory : goal.returns-then-is_memory
 returns-then-is_memory g c = reads_wanting (c.is_memory.ensures.0 c.if-is_memory.true)
-    (is_end_of_trans c.in-Err.ensures.ends c.lines.invariant.ends)
+    (is_end_of_trans c.in-Err.ensures.reads.ends c.lines.invariant.ends)
 
 pub returns-in-Err : goal.returns-in-Err
 returns-in-Err g c = lines_stop _ c.lines.invariant.each c.lines.invariant.ends
     (λ want. true_is_false (sym (c.is_memory.ensures.1 want) ∙ c.if-is_memory.false))
-    c.in-Err.ensures
+    c.in-Err.ensures.reads

@@ -1,11 +1,12 @@
+use Rattle.std.proofs.Common.{rules}
 use Rattle.format_http.specs.Heads.Bytes.{IsTokenByte, IsVisible}
 use Rattle.format_http.specs.Heads.Parts.{run_is}
 use Rattle.winnow.specs.Read.{reads_by}
 use Rattle.format_http.specs.Heads.RequestRead.{MethodTarget}
 use Rattle.format_http.proofs.heads.request_line.read_method_and_target.Goals as goal
 
-pub returns : goal.returns
-returns c = reads_by {h = MethodTarget} c.read.ensures.reads (rw (
+pub returns-clause-reads : goal.returns-clause-reads
+returns-clause-reads c = reads_by {h = MethodTarget} c.read.ensures.reads (rw (
   c.separated_pair.ensures.first,
   c.separated_pair.ensures.separator,
   c.separated_pair.ensures.second,
@@ -15,3 +16,6 @@ returns c = reads_by {h = MethodTarget} c.read.ensures.reads (rw (
   run_is IsTokenByte 1 c.take_while-method.result.set,
   run_is IsVisible 1 c.take_while-target.result.set,
 ))
+
+pub returns-clause-spared : goal.returns-clause-spared
+returns-clause-spared c = c.read.ensures.spared (search rules)

@@ -1,5 +1,0 @@
-use Rattle.format_http.proofs.ChunksLemmas.Fields.{no_return}
-use Rattle.format_http.proofs.chunks.laws.no_return_stands_in_a_field.Goals as goal
-
-pub returns : goal.returns
-returns c = no_return

@@ -1,0 +1,22 @@
+//! Laws of the field lines that are read.
+#![tactic(auto)]
+
+ghost use Rattle.format_http.specs.Heads.Bytes.{IsWhite};
+ghost use Rattle.format_http.specs.Heads.FieldLine.{IsFieldLine};
+ghost use Rattle.std.specs.List.{All};
+ghost use Rattle.std.specs.Prelude.{◌≡◌, ◌++◌, ◌∷◌, List, ℕ};
+
+/// Before the first colon of a field line no byte is white space. So a request with white space
+/// between the name of a field and its colon, which a server must refuse (RFC 9112, section 5.1),
+/// has no head that is read.
+pub fn no_white_space_stands_before_a_colon()
+    ensures { (name value bytes rest front more : List ℕ) → IsFieldLine name value bytes rest
+        → bytes ≡ front ++ 58 ∷ more → All (λ b. b ≡ 58 → ⊥) front
+        → All (λ b. IsWhite b → ⊥) front }
+{}
+
+/// No name and no value of a field line has a carriage return (section 2.2).
+pub fn no_return_stands_in_a_field()
+    ensures { (name value bytes rest : List ℕ) → IsFieldLine name value bytes rest
+        → All (λ b. b ≡ 13 → ⊥) name × All (λ b. b ≡ 13 → ⊥) value }
+{}

@@ -1,0 +1,107 @@
+#!/usr/bin/env python3
+"""Names the faults of the pages of crates:
+
+    python3 scripts/pages.py
+
+Each crate of `crates.txt` has a page, `crates/NAME/README.md`, of at most 20 lines: its name as the
+title, what it is, its theorem, where to begin, and each crate that it stands on. ARCHITECTURE.md
+links each page. The links of the pages, of the documents in `docs/` and of those at the top lead to
+files that are there, and to headings that these have. It fails if any of this is not so.
+"""
+import pathlib
+import re
+import sys
+
+sys.path.insert(0, str(pathlib.Path(__file__).resolve().parent))
+from registry.common import CRATES, TOP, read  # noqa: E402
+
+MOST_LINES = 20
+ARCHITECTURE = TOP / "docs/ARCHITECTURE.md"
+# What the page of `winnow` says in the place of a long list.
+ALL = "Stands on each crate of the library."
+LINK = re.compile(r"\]\(([^()\s]+)\)")
+
+
+def crates():
+    """The crates, each with those that it stands on."""
+    for line in read(TOP / "crates.txt").splitlines():
+        name, colon, others = line.partition(":")
+        if colon and not line.startswith("#"):
+            yield name.split()[0], others.split()
+
+
+def prose(path):
+    """The lines of a document outside of its blocks of code, with their numbers."""
+    is_code = False
+    for number, line in enumerate(read(path).splitlines(), 1):
+        if line.lstrip().startswith("```"):
+            is_code = not is_code
+        elif not is_code:
+            yield number, line
+
+
+def anchors(path):
+    """The headings of a document, as links name them."""
+    found = {}
+    for _, line in prose(path):
+        if heading := re.match(r"#+ (.*)", line):
+            words = re.sub(r"\[([^]]*)\]\([^)]*\)", r"\1", heading[1]).strip().lower()
+            name = re.sub(r"[^\w -]", "", words).replace(" ", "-")
+            found[name] = found.get(name, -1) + 1
+    numbered = ((name, it) for name, most in found.items() for it in range(most + 1))
+    return {f"{name}-{it}" if it else name for name, it in numbered}
+
+
+def faults_of_links(path):
+    """The links of a document that lead nowhere, in words."""
+    for number, line in prose(path):
+        for link in LINK.findall(re.sub(r"`[^`]*`", "", line)):
+            name, _, anchor = link.partition("#")
+            there = path.parent / name if name else path
+            if ":" in name:
+                continue
+            if not there.exists():
+                yield f"{number}: there is no {name}"
+            elif anchor and there.suffix == ".md" and anchor not in anchors(there):
+                yield f"{number}: {there.name} has no heading #{anchor}"
+
+
+def faults_of_page(name, others):
+    """What is wrong with the page of a crate, in words."""
+    page = CRATES / name / "README.md"
+    if not page.is_file():
+        yield "1: it is not there"
+        return
+    text = read(page)
+    lines = text.splitlines()
+    if len(lines) > MOST_LINES:
+        yield f"{MOST_LINES + 1}: it has {len(lines)} lines, and at most {MOST_LINES} are allowed"
+    if lines[0] != f"# {name}":
+        yield f"1: the title is not {name}"
+    for part in ("**Theorem.** ", "Begin with:", "Stands on "):
+        if not any(line.startswith(part) for line in lines):
+            yield f"1: no line begins with {part.strip()}"
+    lacking = [] if ALL in lines else [it for it in others if f"`{it}`" not in text]
+    if lacking:
+        yield f"1: it does not say that the crate stands on {', '.join(lacking)}"
+    if f"](../crates/{name}/README.md)" not in read(ARCHITECTURE):
+        yield "1: docs/ARCHITECTURE.md does not link it"
+
+
+def main():
+    documents = [*sorted(TOP.glob("*.md")), *sorted((TOP / "docs").glob("*.md"))]
+    found = []
+    for name, others in crates():
+        page = CRATES / name / "README.md"
+        found += [(page, it) for it in faults_of_page(name, others)]
+        documents += [page] if page.is_file() else []
+    for path in documents:
+        found += [(path, it) for it in faults_of_links(path)]
+    for path, fault in found:
+        print(f"{path.relative_to(TOP)}:{fault}")
+    print(f"{len(found)} faults of the pages of crates and of links")
+    return 1 if found else 0
+
+
+if __name__ == "__main__":
+    sys.exit(main())
