@@ -17,15 +17,17 @@ ORIGIN = "crates/ORIGIN"
 IGNORED = "out/"
 COST = """
 What to do next, and what it costs:
-  rt try       in your crate's folder: runs it, unproved, in half a minute
-  ./prove F    here: proves the function F of yours and what it calls, in two to four minutes at
-               first and in one or two after an edit, with no proof of the library before
+  rt try       in your crate's folder: runs it, unproved, in some 12 processor seconds, most of
+               which read the library
+  ./prove F    here: proves the function F of yours and what it calls, in two to four processor
+               minutes at first and in one or two after an edit, with no proof of the library before
   rt check     in your crate's folder, last: the crate's proof. The first one proves the library,
                which takes {minutes} processor minutes, once; `rt ci` proves all each time
 """
 MORE = """               (each reader of a format is proved where a crate of yours names it: all that
                were copied here take some {minutes} processor minutes more)
 """
+LESSON = "\ndocs/FIRST_PROOF.md of the library is the lesson: a reader and its proof, file by file.\n"
 
 
 def sum_of(path):
@@ -110,7 +112,8 @@ def minutes(parts, all_parts):
 
 def cost(library, formats):
     """What the first proofs cost, in words."""
-    return COST.format(minutes=library) + (MORE.format(minutes=formats) if formats else "")
+    more = MORE.format(minutes=formats) if formats else ""
+    return COST.format(minutes=library) + more + LESSON
 
 
 def taken_names():

@@ -10,6 +10,10 @@ README, COUNTED = TOP / "README.md", TOP / "docs/READERS.md"
 GUARANTEES = TOP / "docs/GUARANTEES.md"
 # Formats, the crate of the reader, whether it is made of grammars, and what is proved of it.
 READERS = [
+    ("settings, a line each", "examples/settings_file", "yes",
+        "`Ok` exactly where the bytes are these settings"),
+    ("versions", "examples/version", "yes", "`Ok` exactly where the bytes are this version"),
+    ("colors", "examples/color", "yes", "`Ok` exactly where the bytes are this color"),
     ("lines of one letter", "examples/lines", "yes",
         "`Ok` exactly where the bytes are these lines; they read back"),
     ("trees of numbers in brackets", "examples/nested", "yes",
@@ -68,7 +72,7 @@ def lines(place, part, ending):
     top = CRATES / crate / part
     files = [it for it in sorted(top.rglob(f"*{ending}")) if it.name != "Lib.antt"]
     if module:
-        name = module.title()
+        name = module.title().replace("_", "")
         of_module = {module, module + ending, name, name + ending, f"{name}Lemmas"}
         files = [it for it in files if it.relative_to(top).parts[0] in of_module]
     return sum(len(read(it).splitlines()) for it in files)

@@ -1,4 +1,5 @@
 -- Written by scripts/registries.py: do not edit.
+pub mod Color
 pub mod Errors
 pub mod Frames
 pub mod Lines
@@ -6,3 +7,5 @@ pub mod Nested
 pub mod Options
 pub mod Pieces
 pub mod Settings
+pub mod SettingsFile
+pub mod Version

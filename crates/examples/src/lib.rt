@@ -1,5 +1,8 @@
 //! The library in use, in small: each module is a reader of a page or two, proved.
 //!
+//! - `settings_file`: a file of settings, the first proof of `docs/FIRST_PROOF.md`.
+//! - `version`: a version as `1.2.3-rc.1`, with numbers, a part that may be left out and a list.
+//! - `color`: a color as `#a0b1c2`.
 //! - `lines`: lines of one letter, by their grammar and in the words of a standard.
 //! - `options`: options in brackets, by one composition, whole and in pieces.
 //! - `nested`: trees of numbers in brackets, nested to a level.
@@ -10,6 +13,7 @@
 //! - `strings`: texts with escapes.
 #![tactic(auto)]
 
+pub mod color;
 pub mod errors;
 pub mod frames;
 pub mod lines;
@@ -17,4 +21,6 @@ pub mod nested;
 pub mod options;
 pub mod pieces;
 pub mod settings;
+pub mod settings_file;
 pub mod strings;
+pub mod version;

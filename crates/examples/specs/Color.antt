@@ -1,0 +1,3 @@
+-- Colors.
+pub mod Color
+pub mod Read

@@ -1,0 +1,3 @@
+-- A file of settings.
+pub mod Read
+pub mod Settings

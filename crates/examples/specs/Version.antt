@@ -1,0 +1,3 @@
+-- Versions.
+pub mod Read
+pub mod Version

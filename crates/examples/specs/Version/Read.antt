@@ -1,0 +1,123 @@
+-- What the parser of versions reads, and that these are versions.
+use Rattle.std.specs.Prelude.{◌≡◌, ◌⊎◌, ◌↔◌, ◌^◌, ◌++◌, ℕ, List, [], ◌∷◌, None, Bool, Option, Some}
+use Rattle.std.specs.Fmt.{decimal}
+use Rattle.std.specs.declared.vec.Vec.{Vec}
+use Rattle.std.proofs.Common.{refl, sym, ap, inl, inr, arith, subst}
+use Rattle.examples.specs.Version.Version.{InWord, Number, Numbers, Slice, Version, Words}
+use Rattle.winnow.specs.AsChar.{IsAlphanum, IsDecDigit}
+use Rattle.winnow.specs.Counted.{counted_reading}
+use Rattle.winnow.specs.Grammar.{Both, Class, Gathered, Grammar, Maybe, Parted, Three}
+use Rattle.winnow.specs.Grammar.Known.{Byte}
+use Rattle.winnow.specs.Grammar.Same.{same_sym}
+use Rattle.winnow.specs.Numeral.Grammar.{Decimal}
+use Rattle.winnow.specs.Numeral.Grammar.Known.{NoDigitFirst, Written, same_written}
+use Rattle.winnow.specs.Range.{from_to}
+use Rattle.winnow.specs.Reading.{Reading}
+use Rattle.winnow.specs.Texts.{Anything, AtEnd, BeginsIn, InFront, IsGrammarOf, Itself}
+use Rattle.winnow.specs.Texts.{Members, NotFirst, Perhaps, Then}
+use Rattle.winnow.specs.Texts.Fronts.{front_any, front_begins, front_may}
+use Rattle.winnow.specs.Texts.Fronts.{may_begin_none, none_begins, perhaps_front, spelled_begins}
+use Rattle.winnow.specs.Texts.Fronts.{then_front}
+use Rattle.winnow.specs.Texts.Parts.{both_of, maybe_of, same_of, three_of}
+use Rattle.winnow.specs.Texts.Rows.{list_of, parted_of}
+use Rattle.winnow.specs.Texts.Tokens.{byte_of, class_of}
+
+module _ {T L : Type 0} (reading : Reading T L) (seen : ℕ → T) (literal : ℕ → Grammar T ℕ) where
+  -- DecUint
+  abbrev pub NumberRead : Grammar T ℕ
+  NumberRead = Decimal (λ n. n) (2 ^ 64) seen (λ b. b)
+
+  -- terminated(DecUint, b'.')
+  abbrev pub DottedRead : Grammar T ℕ
+  DottedRead = Both (λ o1 o2. o1) NumberRead (literal 46)
+
+  -- (terminated(DecUint, b'.'), terminated(DecUint, b'.'), DecUint)
+  abbrev pub NumbersRead : Grammar T (ℕ × ℕ × ℕ)
+  NumbersRead = Three (λ o1 o2 o3. (o1, o2, o3)) DottedRead DottedRead NumberRead
+
+  -- take_while(1.., WordBytes)
+  abbrev pub WordRead : Grammar T L
+  WordRead = Class InWord 1 (λ b. b) seen reading
+
+  -- separated(alloc, 1.., word, b'.')
+  abbrev pub WordsRead : {A : Type 0} → Grammar T (Vec L A)
+  WordsRead {A} = Gathered (λ (list : Vec L A) os. list.items ≡ os)
+      (Parted WordRead (literal 46) (from_to 1 None))
+
+  -- (numbers, opt(preceded(b'-', words)))
+  abbrev pub VersionRead : {A : Type 0} → Grammar T ((ℕ × ℕ × ℕ) × Option (Vec L A))
+  VersionRead {A} = Both (λ o1 o2. (o1, o2)) NumbersRead
+      (Maybe (Both (λ o1 o2. o2) (literal 45) (WordsRead {A = A})))
+
+-- ---- over bytes these are the texts
+
+no_digit : (rest : List ℕ) → NotFirst IsDecDigit rest → NoDigitFirst rest
+no_digit rest not d more e is =
+    let P : List ℕ → Type 0 = λ l. NotFirst IsDecDigit l in absurd (subst P e not is)
+
+-- what `{}` writes is a decimal number, where no digit is behind it
+written_of : IsGrammarOf (Written (λ n. n) (2 ^ 64)) Number (NotFirst IsDecDigit)
+unfolding Written Number
+written_of = record {
+  there = λ tokens n rest (e, stops, fits). (decimal n, e, (refl, fits));
+  back = λ n front rest (e, fits) behind.
+      (ap (λ l. l ++ rest) e, inr (no_digit rest behind), fits);
+}
+
+number_of : IsGrammarOf (NumberRead counted_reading (λ b. b) Byte) Number (NotFirst IsDecDigit)
+number_of = same_of (same_sym (same_written (λ n. n) (2 ^ 64) (omega arith))) written_of
+
+dotted_of : IsGrammarOf (DottedRead counted_reading (λ b. b) Byte)
+    (Then (λ n dot. n) Number (Itself 46)) Anything
+dotted_of = both_of (λ n dot. n) number_of (byte_of 46)
+    (front_begins (λ t e is. omega (arith, e, is.0)) (spelled_begins 46 [] 46))
+
+numbers_of : IsGrammarOf (NumbersRead counted_reading (λ b. b) Byte) Numbers
+    (NotFirst IsDecDigit)
+numbers_of = three_of (λ major (others : ℕ × ℕ). (major, others.0, others.1))
+    (λ minor patch. (minor, patch)) dotted_of dotted_of number_of front_any front_any
+
+word_of : IsGrammarOf (WordRead counted_reading (λ b. b) Byte) (Members counted_reading InWord 1)
+    (NotFirst InWord)
+word_of = class_of counted_reading InWord (λ b. b) 1
+
+-- a dot is no byte of a word
+dot_ends : (b : ℕ) → b ≡ 46 → InWord b → ⊥
+dot_ends b e (inl (inl (inl (low, high)))) = omega (arith, e, low)
+dot_ends b e (inl (inl (inr (low, high)))) = omega (arith, e, low)
+dot_ends b e (inl (inr (low, high))) = omega (arith, e, low)
+dot_ends b e (inr hyphen) = omega (arith, e, hyphen)
+
+words_of : {A : Type 0}
+    → IsGrammarOf (WordsRead counted_reading (λ b. b) Byte {A = A}) Words AtEnd
+words_of = list_of (parted_of word_of (byte_of 46) (front_begins dot_ends (spelled_begins 46 [] 46))
+    front_any (from_to 1 None) 1 refl (λ rest end. may_begin_none (λ b. InWord b → ⊥) rest end)
+    (λ rest end. none_begins (byte_of 46) (spelled_begins 46 [] 46) rest
+    (may_begin_none (λ b. b ≡ 46 → ⊥) rest end))
+    (λ rest none end. absurd (omega (arith, none))))
+
+-- a hyphen and words, or nothing
+abbrev Rest : {A : Type 0} → Option (Vec Slice A) → List ℕ → Type 0
+Rest {A} = Perhaps (Then (λ hyphen words. words) (Itself 45) (Words {A = A}))
+
+hyphen_begins : {A : Type 0}
+    → BeginsIn (λ b. b ≡ 45) (Then (λ hyphen words. words) (Itself 45) (Words {A = A}))
+hyphen_begins = then_front (λ hyphen words. words) (spelled_begins 45 [] 45) front_any
+
+rest_of : {A : Type 0} → IsGrammarOf (Maybe (Both (λ hyphen words. words) (Byte 45)
+    (WordsRead counted_reading (λ b. b) Byte {A = A}))) Rest AtEnd
+rest_of =
+    let some = both_of (λ hyphen words. words) (byte_of 45) words_of front_any in
+    maybe_of some (λ rest end. none_begins some hyphen_begins rest
+    (may_begin_none (λ b. b ≡ 45 → ⊥) rest end))
+
+-- neither begins with a digit
+no_digit_first : {A : Type 0} → InFront (Rest {A = A}) AtEnd (NotFirst IsDecDigit)
+no_digit_first = front_may {these = λ b. b ≡ 45} (λ b e is. omega (arith, e, is.0))
+    (λ rest end. may_begin_none (λ d. IsDecDigit d → ⊥) rest end)
+    (perhaps_front (front_begins (λ b is. is) hyphen_begins))
+
+pub version_of : {A : Type 0}
+    → IsGrammarOf (VersionRead counted_reading (λ b. b) Byte {A = A}) Version AtEnd
+unfolding Version
+version_of = both_of (λ numbers words. (numbers, words)) numbers_of rest_of no_digit_first

@@ -1,0 +1,35 @@
+-- A version.
+use Rattle.std.specs.Prelude.{◌≡◌, ◌⊎◌, ◌<◌, ◌^◌, ℕ, List, Option}
+use Rattle.std.specs.Borrow.{Bor}
+use Rattle.std.specs.Fmt.{decimal}
+use Rattle.std.specs.declared.vec.Vec.{Vec}
+use Rattle.winnow.specs.AsChar.{IsAlphanum}
+use Rattle.winnow.specs.Counted.{counted_reading}
+use Rattle.winnow.specs.Texts.{AtLeast, InList, Itself, Joined, Members, Perhaps, Text, Then}
+
+-- a slice of the bytes
+abbrev pub Slice : Type 0
+Slice = Bor (List ℕ)
+
+-- number = what `{}` writes of a number below 2 ^ 64
+unfoldable pub Number : Text ℕ ℕ
+Number n bytes = (bytes ≡ decimal n) × (n < 2 ^ 64)
+
+-- numbers = number "." number "." number
+abbrev pub Numbers : Text ℕ (ℕ × ℕ × ℕ)
+Numbers = Then (λ major (others : ℕ × ℕ). (major, others.0, others.1))
+    (Then (λ n dot. n) Number (Itself 46))
+    (Then (λ minor patch. (minor, patch)) (Then (λ n dot. n) Number (Itself 46)) Number)
+
+-- word = 1*(ALPHA / DIGIT / "-")
+abbrev pub InWord : ℕ → Type 0
+InWord b = IsAlphanum b ⊎ (b ≡ 45)
+
+-- words = word *("." word)
+abbrev pub Words : {A : Type 0} → Text ℕ (Vec Slice A)
+Words = InList (AtLeast 1 (Joined (Itself 46) (Members counted_reading InWord 1)))
+
+-- version = numbers [ "-" words ]
+unfoldable pub Version : {A : Type 0} → Text ℕ ((ℕ × ℕ × ℕ) × Option (Vec Slice A))
+Version = Then (λ numbers words. (numbers, words)) Numbers
+    (Perhaps (Then (λ hyphen words. words) (Itself 45) Words))
