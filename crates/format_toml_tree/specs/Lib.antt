@@ -1,0 +1,1 @@
+-- Written by scripts/registries.py: do not edit.

@@ -1,0 +1,4 @@
+//! The tree of a document of TOML 1.0 (toml.io/en/v1.0.0), from what its lines say.
+#![tactic(auto)]
+
+pub mod value;
