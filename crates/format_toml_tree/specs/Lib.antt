@@ -1,1 +1,10 @@
 -- Written by scripts/registries.py: do not edit.
+pub mod Added
+pub mod Calls
+pub mod Holds
+pub mod Keys
+pub mod Opened
+pub mod Paths
+pub mod Places
+pub mod Rules
+pub mod Runs
