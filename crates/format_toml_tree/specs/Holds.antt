@@ -20,6 +20,7 @@ use Rattle.format_toml_tree.specs.Runs.{State, Tree, opened, say, say_key}
 use Rattle.format_toml_tree.specs.declared.roles.Refusal.{Refusal}
 use Rattle.format_toml_tree.specs.declared.roles.Role.{Role}
 use Rattle.format_toml_tree.specs.declared.roles.Role.TheVariants as roles
+use Rattle.format_toml_tree.specs.declared.value.Value.{Value}
 use Rattle.format_toml_tree.specs.declared.tree.Kind.{Kind}
 use Rattle.format_toml_tree.specs.declared.tree.Kind.TheVariants as kinds
 use Rattle.format_toml_tree.specs.declared.tree.Slot.{Slot}
@@ -153,13 +154,23 @@ module _ {A : Type 0} where
       (tree : Tree A) (path : ℕ → Path) → Holds old tree path
       → Told old path (say_key before last (tree, path table) names) result new
 
-  -- a value, or its parts from one on, fill the tree below a place
-  abbrev pub FillsBelow : List (Slot A) → ℕ → (Tree A → Path → Result (Tree A) Refusal → Type 0)
+  -- values stay
+  abbrev pub Keeps : Tree A → Tree A → Type 0
+  Keeps tree next = (p : Path) (v : Value A) → tree p ≡ valued v → next p ≡ valued v
+
+  -- The tree is filled below a place by a rule, which gives a tree or why a statement is refused.
+  abbrev pub FillsBy : (Tree A → Path → Result (Tree A) Refusal → Type 0) → List (Slot A) → ℕ
       → Result (Unit {0}) Stop → List (Slot A) → Type 0
-  FillsBelow old place By (Ok done) new =
+  FillsBy By old place (Ok done) new =
       (tree : Tree A) (path : ℕ → Path) → Holds old tree path
-      → (then_tree : Tree A) × By tree (path place) (Ok then_tree)
-      × Goes old path (then_tree, path place) place new
-  FillsBelow old place By (Err OutOfMemory) new = Unit {0}
-  FillsBelow old place By (Err (Refused why)) new =
-      (tree : Tree A) (path : ℕ → Path) → Holds old tree path → By tree (path place) (Err why)
+      → (next : Tree A) × By tree (path place) (Ok next) × Keeps tree next
+      × Goes old path (next, path place) place new
+  FillsBy By old place (Err OutOfMemory) new = Unit {0}
+  FillsBy By old place (Err (Refused why)) new =
+      (tree : Tree A) (path : ℕ → Path) → Holds old tree path
+      → By tree (path place) (Err why)
+
+  -- there is a value at a place
+  abbrev pub IsValueAt : List (Slot A) → ℕ → Type 0
+  IsValueAt slots place = (s : Slot A) → slice_get slots place ≡ Some s
+      → (value : Bor (Value A)) × (s.kind ≡ kinds.Value value)

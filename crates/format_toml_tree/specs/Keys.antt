@@ -3,6 +3,7 @@ use Rattle.std.specs.Prelude.{◌≡◌, ℕ, zero, suc, ◌+◌, ◌<◌, ◌�
 use Rattle.std.specs.Prelude.{get_or, Result, Ok, Err, string_bytes}
 use Rattle.std.specs.declared.string.String.{String}
 use Rattle.std.proofs.Common.{refl, sym, ap, subst, ◌∙◌, arith, length-drop}
+use Rattle.std.proofs.Math.Seq.{drop-cons}
 use Rattle.format_toml_tree.specs.Paths.{Path}
 use Rattle.format_toml_tree.specs.Rules.{Says}
 use Rattle.format_toml_tree.specs.Runs.{State, Tree, say, say_key, then}
@@ -16,9 +17,17 @@ use Rattle.format_toml_tree.specs.declared.tree.Stop.TheVariants.{OutOfMemory, R
 -- the rest of a list begins with its element there
 pub drop_here : {X : Type 0} (xs : List X) (i : ℕ) (x : X) → i < length xs → x ≡ get_or xs i x
     → drop i xs ≡ x ∷ drop (i + 1) xs
-drop_here [] i x w is = absurd (omega (arith, w))
-drop_here (y ∷ xs) zero x w is = ap (λ z. z ∷ xs) (sym is)
-drop_here (y ∷ xs) (suc i) x w is = drop_here xs i x (omega (arith, w)) is
+drop_here xs i x w is =
+    let more : suc i ≡ i + 1 = omega arith in
+    drop-cons xs i x w ∙ ap (λ y. y ∷ drop (suc i) xs) (sym is)
+    ∙ ap (λ n. x ∷ drop n xs) more
+
+no_elements : {X : Type 0} (xs : List X) → length xs ≡ 0 → xs ≡ []
+no_elements [] e = refl
+no_elements (x ∷ xs) e = absurd (omega (arith, e))
+
+pub drop_past : {X : Type 0} (xs : List X) (i : ℕ) → length xs ≤ i → drop i xs ≡ []
+drop_past xs i past = no_elements (drop i xs) (omega (arith, length-drop i xs, past))
 
 then_ok : {X E : Type 0} (r : Result X E) → r ≡ then r (λ x. Ok x)
 then_ok (Ok x) = refl
@@ -91,3 +100,12 @@ module _ {A : Type 0} (before last : Says A) where
         e ∙ next_name s
         ∙ ap (λ p. then (say here (s.0, p) (string_bytes name)) rest) (sym goes.at)
         ∙ ap (λ r. then r rest) (said s.0 goes.paths goes.holds)
+
+  -- where none is left, all are said
+  pub all_said : (old : List (Slot A)) (table : ℕ) (names : List (String A)) (i j : ℕ)
+      (new : List (Slot A)) → LeftToSay old table names i j new → length names ≤ i
+      → (tree : Tree A) (path : ℕ → Path) → Holds old tree path
+      → Told old path (say_key before last (tree, path table) names) (Ok j) new
+  all_said old table names i j new left past tree path holds =
+      let (s, e, goes) = left tree path holds in
+      (s, e ∙ ap (λ l. say_key before last s l) (drop_past names i past), goes)

@@ -1,9 +1,11 @@
 -- Written by scripts/registries.py: do not edit.
 pub mod Added
 pub mod Calls
+pub mod Filled
 pub mod Holds
 pub mod Keys
 pub mod Opened
+pub mod Parts
 pub mod Paths
 pub mod Places
 pub mod Rules

@@ -1,6 +1,6 @@
 -- What a statement does to a name, over places.
 use Rattle.std.specs.Prelude.{◌≡◌, ℕ, zero, suc, ◌+◌, ◌<◌, List, [], ◌∷◌, length, set, slice_get}
-use Rattle.std.specs.Prelude.{Option, Some, None, Result, Ok, Err, IfOk}
+use Rattle.std.specs.Prelude.{Option, Some, None, Result, Ok, Err, IfOk, IsErr, IsErrAnd, true, false}
 use Rattle.std.proofs.Common.{refl, sym, ap, subst, ◌∙◌, arith}
 use Rattle.std.proofs.lemmas.List.{length-set}
 use Rattle.std.proofs.lemmas.Option.{slice_get_within}
@@ -175,6 +175,18 @@ module _ {A : Type 0} where
       → Told old path r (Err stop) new
   told_stop old new path r OutOfMemory is = tt
   told_stop old new path r (Refused why) is = is why refl
+
+  -- what fails with a stop tells it
+  pub told_err : (old new : List (Slot A)) (path : ℕ → Path) (r : Result (State A) Refusal)
+      (answer : Result ℕ Stop) (stop : Stop)
+      → IsErr answer × IsErrAnd answer (λ e. e ≡ stop) → Told old path r (Err stop) new
+      → Told old path r answer new
+  told_err old new path r (Ok j) stop is told = absurd (no is.0)
+    where
+      no : false ≡ true → ⊥
+      no e = cc
+  told_err old new path r (Err e) stop is told =
+      subst (λ s. Told old path r (Err s) new) (sym is.1) told
 
   pub say_refused : (says : Says A) (s : State A) (name : List ℕ) (why : Refusal)
       → ruled says (s.0 (named name ∷ s.1)) ≡ Err why → say says s name ≡ Err why

@@ -1,8 +1,8 @@
 -- Paths in the tree of a document.
-use Rattle.std.specs.Prelude.{◌≡◌, ℕ, zero, suc, ◌+◌, ◌<◌, Bool, true, false, cond, ◌&&◌, ◌==◌}
+use Rattle.std.specs.Prelude.{◌≡◌, ◌⊎◌, ℕ, zero, suc, ◌+◌, ◌<◌, Bool, true, false, cond, ◌&&◌, ◌==◌}
 use Rattle.std.specs.Prelude.{List, [], ◌∷◌}
 use Rattle.std.specs.Str.{bytes_eq}
-use Rattle.std.proofs.Common.{refl, sym, ap, subst, ◌∙◌}
+use Rattle.std.proofs.Common.{refl, sym, ap, subst, inl, inr, ◌∙◌}
 use Rattle.std.proofs.lemmas.Bool.Decides.{Decides-eqb}
 use Rattle.std.proofs.lemmas.Slice.Eq.{bytes_eq-Decides}
 
@@ -119,3 +119,12 @@ module _ {N : Type 0} (tree : Path → N) (q : Path) (n : N) where
       at : (p : Path) (b : Bool) → same_path q p ≡ b → put tree q n p ≡ tree p
       at p true f = ap (λ c. cond c n (tree p)) f ∙ sym e ∙ ap tree (path_same q p f)
       at p false f = ap (λ c. cond c n (tree p)) f
+
+  -- a path is that one, or has what it had
+  pub put_cases : (p : Path) → ((p ≡ q) × (put tree q n p ≡ n)) ⊎ (put tree q n p ≡ tree p)
+  put_cases p = by (same_path q p) refl
+    where
+      by : (b : Bool) → same_path q p ≡ b
+          → ((p ≡ q) × (put tree q n p ≡ n)) ⊎ (put tree q n p ≡ tree p)
+      by true e = inl (sym (path_same q p e), ap (λ b. cond b n (tree p)) e)
+      by false e = inr (ap (λ b. cond b n (tree p)) e)

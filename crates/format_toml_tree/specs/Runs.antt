@@ -1,5 +1,5 @@
 -- The tree that the statements of a document give, or the first that is refused (TOML 1.0).
-use Rattle.std.specs.Prelude.{◌≡◌, ℕ, zero, suc, ◌+◌, List, [], ◌∷◌, Result, Ok, Err, Option, Some, None}
+use Rattle.std.specs.Prelude.{◌≡◌, ℕ, zero, suc, ◌+◌, ◌<◌, List, [], ◌∷◌, Result, Ok, Err, Option, Some, None}
 use Rattle.std.specs.Prelude.{string_bytes}
 use Rattle.std.specs.declared.string.String.{String}
 use Rattle.std.specs.declared.vec.Vec.{Vec}
@@ -11,8 +11,8 @@ use Rattle.format_toml_tree.specs.declared.roles.Refusal.{Refusal}
 use Rattle.format_toml_tree.specs.declared.value.Key.{Key}
 use Rattle.format_toml_tree.specs.declared.value.Item.{Item}
 use Rattle.format_toml_tree.specs.declared.value.Item.TheVariants as items
-use Rattle.format_toml_tree.specs.declared.value.Value.{Value, out-Value}
-use Rattle.format_toml_tree.specs.declared.value.Value.TheOpen as forms
+use Rattle.format_toml_tree.specs.declared.value.Value.{Value}
+use Rattle.format_toml_tree.specs.declared.value.Value.TheVariants as values
 
 -- goes on where there was no refusal
 abbrev pub then : {X Y E : Type 0} → Result X E → (X → Result Y E) → Result Y E
@@ -63,54 +63,67 @@ module _ {A : Type 0} where
   say_key before last s (name ∷ next ∷ names) =
       then (say before s (string_bytes name)) (λ t. say_key before last t (next ∷ names))
 
+  -- there is a value at a path
+  abbrev pub HasValue : Tree A → Path → Type 0
+  HasValue tree q = (v : Value A) × (tree q ≡ valued v)
+
+  -- the first place of an array that is free
+  pub record IsNext (tree : Tree A) (q : Path) (k : ℕ) : Type 0 where
+    pub free : tree (placed k ∷ q) ≡ nothing
+    pub taken : (j : ℕ) → j < k → tree (placed j ∷ q) ≡ nothing → ⊥
+
   mutual
     -- A value fills the tree below its path: an array by its elements, an inline table by its
     -- entries, as those of a document.
     pub data Fills : Tree A → Path → Value A → Result (Tree A) Refusal → Type 0 where
       array : {tree : Tree A} {q : Path} {v : Value A} {r : Result (Tree A) Refusal}
-          (vs : Vec (Value A) A) → out-Value A v ≡ forms.Array vs
-          → FillsPlaces tree q 0 vs.items r → Fills tree q v r
+          (vs : Vec (Value A) A) → HasValue tree q → v ≡ values.Array vs
+          → FillsPlaces tree q vs.items r → Fills tree q v r
       inline : {tree : Tree A} {q : Path} {v : Value A} {r : Result (Tree A) Refusal}
-          (es : Vec (Key A × Value A) A) → out-Value A v ≡ forms.Table es
+          (es : Vec (Key A × Value A) A) → HasValue tree q → v ≡ values.Table es
           → FillsNames tree q es.items r → Fills tree q v r
-      other : {tree : Tree A} {q : Path} {v : Value A}
-          → ((vs : Vec (Value A) A) → out-Value A v ≡ forms.Array vs → ⊥)
-          → ((es : Vec (Key A × Value A) A) → out-Value A v ≡ forms.Table es → ⊥)
+      -- any other value has no parts
+      single : {tree : Tree A} {q : Path} {v : Value A}
+          → ((vs : Vec (Value A) A) → v ≡ values.Array vs → ⊥)
+          → ((es : Vec (Key A × Value A) A) → v ≡ values.Table es → ⊥)
+          → Fills tree q v (Ok tree)
+      -- a key that has no name gave no value
+      nowhere : {tree : Tree A} {q : Path} {v : Value A} → (HasValue tree q → ⊥)
           → Fills tree q v (Ok tree)
 
-    pub data FillsPlaces : Tree A → Path → ℕ → List (Value A) → Result (Tree A) Refusal → Type 0
-        where
-      no_more : {tree : Tree A} {q : Path} {k : ℕ} → FillsPlaces tree q k [] (Ok tree)
-      place : {tree next : Tree A} {q : Path} {k : ℕ} {v : Value A} {vs : List (Value A)}
-          {r : Result (Tree A) Refusal}
+    -- Values are put at the next places of an array, one after the other.
+    pub data FillsPlaces : Tree A → Path → List (Value A) → Result (Tree A) Refusal → Type 0 where
+      no_more : {tree : Tree A} {q : Path} → FillsPlaces tree q [] (Ok tree)
+      place : {tree next : Tree A} {q : Path} {v : Value A} {vs : List (Value A)}
+          {r : Result (Tree A) Refusal} (k : ℕ) → IsNext tree q k
           → Fills (put tree (placed k ∷ q) (valued v)) (placed k ∷ q) v (Ok next)
-          → FillsPlaces next q (k + 1) vs r → FillsPlaces tree q k (v ∷ vs) r
-      place_refused : {tree : Tree A} {q : Path} {k : ℕ} {v : Value A} {vs : List (Value A)}
-          {why : Refusal}
+          → FillsPlaces next q vs r → FillsPlaces tree q (v ∷ vs) r
+      place_refused : {tree : Tree A} {q : Path} {v : Value A} {vs : List (Value A)}
+          {why : Refusal} (k : ℕ) → IsNext tree q k
           → Fills (put tree (placed k ∷ q) (valued v)) (placed k ∷ q) v (Err why)
-          → FillsPlaces tree q k (v ∷ vs) (Err why)
+          → FillsPlaces tree q (v ∷ vs) (Err why)
 
+    -- Keys are given their values in the table of a path, one after the other.
     pub data FillsNames : Tree A → Path → List (Key A × Value A) → Result (Tree A) Refusal → Type 0
         where
       no_more_names : {tree : Tree A} {q : Path} → FillsNames tree q [] (Ok tree)
-      name : {tree next : Tree A} {q : Path} {key : Key A} {v : Value A}
+      name : {tree next : Tree A} {q : Path} {e : Key A × Value A}
           {es : List (Key A × Value A)} {r : Result (Tree A) Refusal}
-          → FillsEntry tree q key v (Ok next)
-          → FillsNames next q es r → FillsNames tree q ((key, v) ∷ es) r
-      name_refused : {tree : Tree A} {q : Path} {key : Key A} {v : Value A}
+          → FillsEntry tree q e.0 e.1 (Ok next)
+          → FillsNames next q es r → FillsNames tree q (e ∷ es) r
+      name_refused : {tree : Tree A} {q : Path} {e : Key A × Value A}
           {es : List (Key A × Value A)} {why : Refusal}
-          → FillsEntry tree q key v (Err why)
-          → FillsNames tree q ((key, v) ∷ es) (Err why)
+          → FillsEntry tree q e.0 e.1 (Err why)
+          → FillsNames tree q (e ∷ es) (Err why)
 
-    -- A key and its value, in the table of a path.
+    -- A key is given its value in the table of a path.
     pub data FillsEntry : Tree A → Path → Key A → Value A → Result (Tree A) Refusal → Type 0 where
       entry_refused : {tree : Tree A} {q : Path} {key : Key A} {v : Value A} {why : Refusal}
           → say_key dots (gives v) (tree, q) key.names.items ≡ Err why
           → FillsEntry tree q key v (Err why)
-      entry : {tree : Tree A} {q : Path} {key : Key A} {v : Value A} {s : State A}
-          {r : Result (Tree A) Refusal}
-          → say_key dots (gives v) (tree, q) key.names.items ≡ Ok s → Fills s.0 s.1 v r
-          → FillsEntry tree q key v r
+      entry : {tree : Tree A} {q : Path} {key : Key A} {v : Value A} {r : Result (Tree A) Refusal}
+          (s : State A) → say_key dots (gives v) (tree, q) key.names.items ≡ Ok s
+          → Fills s.0 s.1 v r → FillsEntry tree q key v r
 
   -- A statement, from the tree and the table that it is in to those behind it, or why it is refused.
   abbrev pub Runs : State A → Item A → Result (State A) Refusal → Type 0

@@ -1,7 +1,7 @@
 //! The tree of a document.
 ghost use Rattle.std.specs.Prelude.{◌≡◌, ◌<◌, ◌≤◌, length, IfOk, slice_get, Some};
-ghost use Rattle.format_toml_tree.specs.Runs.{Fills};
-ghost use Rattle.format_toml_tree.specs.Holds.{AddsElement, AddsEntry, FillsBelow, IsInside, Opens};
+ghost use Rattle.format_toml_tree.specs.Runs.{Fills, FillsEntry, FillsNames, FillsPlaces};
+ghost use Rattle.format_toml_tree.specs.Holds.{AddsElement, AddsEntry, FillsBy, IsInside, IsValueAt, Opens};
 ghost use Rattle.format_toml_tree.specs.Holds.{Pushes, SaysKey, SaysName, Sets, Stands, node_at};
 ghost use Rattle.format_toml_tree.specs.Holds.{says_of};
 
@@ -242,25 +242,83 @@ impl<'t, A: Allocator + Copy> Tree<'t, A> {
 
     /// Adds the parts of a value below its place: the elements of an array, the entries of an inline
     /// table.
-    fn fill(&mut self, alloc: A, place: usize, value: &'t Value<A>) -> Result<(), Stop> {
+    #[cycle(fill)]
+    fn fill(&mut self, alloc: A, place: usize, value: &'t Value<A>) -> Result<(), Stop>
+        requires { Stands self.old.slots.items place }
+        ensures {
+            FillsBy (λ t p r. Fills t p value.now r) self.old.slots.items place result
+                self.new.slots.items
+        }
+    {
+        let Kind::Value(_) = self.slots[place].kind else {
+            return Ok(());
+        };
         match value {
-            Value::Array(values) => {
-                for part in values.iter() {
-                    let below = self.add_element(alloc, place, Kind::Value(part))?;
-                    self.fill(alloc, below, part)?;
-                }
-                Ok(())
-            }
-            Value::Table(entries) => {
-                for (key, part) in entries.iter() {
-                    let below =
-                        self.say_key(alloc, place, key, Role::Dotted, Role::Value(part))?;
-                    self.fill(alloc, below, part)?;
-                }
-                Ok(())
-            }
+            Value::Array(parts) => self.fill_elements(alloc, place, parts.as_slice()),
+            Value::Table(parts) => self.fill_entries(alloc, place, parts.as_slice()),
             _ => Ok(()),
         }
+    }
+
+    /// Adds elements to an array, with their parts.
+    #[cycle(fill)]
+    fn fill_elements(
+        &mut self,
+        alloc: A,
+        place: usize,
+        parts: &'t [Value<A>],
+    ) -> Result<(), Stop>
+        requires stands { Stands self.old.slots.items place }
+        requires valued { IsValueAt self.old.slots.items place }
+        ensures {
+            FillsBy (λ t p r. FillsPlaces t p parts.now r) self.old.slots.items place result
+                self.new.slots.items
+        }
+    {
+        for part in parts {
+            let below = self.add_element(alloc, place, Kind::Value(part))?;
+            self.fill(alloc, below, part)?;
+        }
+        Ok(())
+    }
+
+    /// Adds entries to an inline table, with their parts.
+    #[cycle(fill)]
+    fn fill_entries(
+        &mut self,
+        alloc: A,
+        place: usize,
+        parts: &'t [(Key<A>, Value<A>)],
+    ) -> Result<(), Stop>
+        requires { Stands self.old.slots.items place }
+        ensures {
+            FillsBy (λ t p r. FillsNames t p parts.now r) self.old.slots.items place result
+                self.new.slots.items
+        }
+    {
+        for part in parts {
+            self.fill_entry(alloc, place, part)?;
+        }
+        Ok(())
+    }
+
+    /// Adds an entry to an inline table, with its parts.
+    #[cycle(fill)]
+    fn fill_entry(
+        &mut self,
+        alloc: A,
+        place: usize,
+        part: &'t (Key<A>, Value<A>),
+    ) -> Result<(), Stop>
+        requires { Stands self.old.slots.items place }
+        ensures {
+            FillsBy (λ t p r. FillsEntry t p part.now.0 part.now.1 r) self.old.slots.items place
+                result self.new.slots.items
+        }
+    {
+        let (key, value) = part;
+        let below = self.say_key(alloc, place, key, Role::Dotted, Role::Value(value))?;
+        self.fill(alloc, below, value)
     }
 
     /// Adds what a line says, and answers the table that the next line is in.
