@@ -1,5 +1,8 @@
-use Rattle.std.proofs.Common.{◌≡◌, Some, refl, rules}
+use Rattle.std.proofs.Common.{◌≡◌, ◌<◌, ◌≤◌, ◌+◌, ◌*◌, ℕ, List, length, get_or, max, Some, refl, ap, ◌∙◌, rules}
+use Rattle.std.proofs.Common.{arith}
+use Rattle.std.specs.declared.vec.Vec.{Vec}
 use Rattle.std.proofs.lemmas.Option.{slice_get_read}
+use denote.Param.Weighed.{at_most as the_most, most}
 use Rattle.format_toml_tree.specs.Added.{some_there}
 use Rattle.format_toml_tree.specs.Calls.{stays}
 use Rattle.format_toml_tree.specs.Holds.{IsValueAt, Stands}
@@ -8,7 +11,44 @@ use Rattle.format_toml_tree.specs.Parts.{entries_filled, entry_filled, entry_ref
 use Rattle.format_toml_tree.specs.Parts.{fills_err, fills_inline, fills_nowhere, fills_single}
 use Rattle.format_toml_tree.specs.Parts.{key_refused, value_at, value_filled}
 use Rattle.format_toml_tree.specs.Runs.{Fills, FillsEntry, FillsNames, FillsPlaces}
+use Rattle.format_toml_tree.specs.declared.value.Value.{Value, size-Value, the_lemmas}
+use Rattle.format_toml_tree.specs.declared.value.Value.TheVariants as values
+use Rattle.format_toml_tree.specs.declared.value.Key.{Key}
 use Rattle.format_toml_tree.proofs.tree.Tree.+fill.Goals as goal
+
+-- ---- parts are not as deep
+
+array_less : {A : Type 0} (t : ℕ) (v : Value A) (vs : Vec (Value A) A) → v ≡ values.Array vs
+    → (xs : List (Value A)) → xs ≡ vs.items → 3 * size-Value A v ≡ t
+    → 3 * most (size-Value A) xs + 1 < t
+array_less {A = A} t v vs e xs f d =
+    let deep : size-Value A (values.Array vs) ≡ most (size-Value A) vs.items + 1 =
+        search (rules, the_lemmas) in
+    let size : size-Value A v ≡ most (size-Value A) vs.items + 1 = ap (size-Value A) e ∙ deep in
+    let same : most (size-Value A) xs ≡ most (size-Value A) vs.items = ap (most (size-Value A)) f in
+    omega (arith, d, size, same)
+
+-- how deep the value of an entry is
+abbrev size_of : (A : Type 0) → Key A × Value A → ℕ
+size_of A e = max 0 (max (size-Value A e.1) 0)
+
+table_less : {A : Type 0} (t : ℕ) (v : Value A) (es : Vec (Key A × Value A) A)
+    → v ≡ values.Table es → (xs : List (Key A × Value A)) → xs ≡ es.items
+    → 3 * size-Value A v ≡ t → 3 * most (size_of A) xs + 2 < t
+table_less {A = A} t v es e xs f d =
+    let deep : size-Value A (values.Table es) ≡ most (size_of A) es.items + 1 =
+        search (rules, the_lemmas) in
+    let size : size-Value A v ≡ most (size_of A) es.items + 1 = ap (size-Value A) e ∙ deep in
+    let same : most (size_of A) xs ≡ most (size_of A) es.items = ap (most (size_of A)) f in
+    omega (arith, d, size, same)
+
+entry_less : {A : Type 0} (t : ℕ) (es : List (Key A × Value A)) (k : ℕ) (e : Key A × Value A)
+    → k < length es → e ≡ get_or es k e → 3 * most (size_of A) es + 2 ≡ t
+    → 3 * size_of A e + 1 < t
+entry_less {A = A} t es k e w is d =
+    let same : size_of A e ≡ size_of A (get_or es k e) = ap (size_of A) is in
+    let less : size_of A (get_or es k e) ≤ most (size_of A) es = the_most (size_of A) es k e w in
+    omega (arith, d, same, less)
 
 -- ---- a value
 
@@ -26,10 +66,10 @@ fill-fill_elements-requires g t c κs l =
     let at = slice_get_read items _ c.args.place c.index.result.now refl c.requires.3
         c.index.ensures in
     let value = value_at items c.args.place c.index.result.now _ at c.in-Value.is in
-    (search rules, (search rules, record { stands = c.requires; valued = value }))
+    (array_less t c.args.value.now c.in-Array.parts c.in-Array.is c.as_slice.result.now c.as_slice.ensures.value c.decreases, (search rules, record { 0 = c.requires; 1 = value }))
 
 pub fill-fill_entries-requires : goal.fill-fill_entries-requires
-fill-fill_entries-requires g t c κs l = (search rules, (search rules, c.requires))
+fill-fill_entries-requires g t c κs l = (table_less t c.args.value.now c.in-Table.parts c.in-Table.is c.as_slice-in-Table.result.now c.as_slice-in-Table.ensures.value c.decreases, (search rules, c.requires))
 
 pub fill-returns-in-Array : goal.fill-returns-in-Array
 fill-returns-in-Array g t c =
@@ -76,7 +116,7 @@ fill_elements-fill-requires g t c κs l =
     let (next, f, keeps, goes) = c.loop-part.invariant tree path holds in
     let (was, at) = some_there c.loop-part.self.slots.items c.args.place goes.within in
     let added = c.in_ok-below.ensures next goes.paths was goes.holds at in
-    (search rules, (search rules, (_, added.paths, added.holds, added.within)))
+    (search (rules, the_lemmas), (search rules, (_, added.paths, added.holds, added.within)))
 
 pub fill_elements-returns-in_err-fill : goal.fill_elements-returns-in_err-fill
 fill_elements-returns-in_err-fill g t c =
@@ -86,7 +126,8 @@ fill_elements-returns-in_err-fill g t c =
     c.from_residual-in_err-fill.result c.in_err-fill.field-0.0 c.from_residual-in_err-fill.ensures
     (element_refused old c.loop-part.self.slots.items c.args.place c.requires.stands.3
     c.args.parts.now c.loop-part.part-index c.loop-part.invariant c.requires.valued
-    c.part-item.result c.loop-part-test.true c.part-item.is _ _ c.in_ok-below.ensures
+    (record { ref_ptr = (0, 0); now = c.part-item.result }) c.loop-part-test.true c.part-item.is
+    _ _ c.in_ok-below.ensures
     c.in_err-fill.field-0.0 new c.in_err-fill.ensures)
 
 pub fill_elements-loop-part-preserved : goal.fill_elements-loop-part-preserved
@@ -94,7 +135,8 @@ fill_elements-loop-part-preserved g t c =
     let old = c.args.self.now.slots.items in
     element_filled old c.loop-part.self.slots.items c.args.place c.requires.stands.3
     c.args.parts.now c.loop-part.part-index c.loop-part.invariant c.requires.valued
-    c.part-item.result c.loop-part-test.true c.part-item.is _ _ c.in_ok-below.ensures
+    (record { ref_ptr = (0, 0); now = c.part-item.result }) c.loop-part-test.true c.part-item.is
+    _ _ c.in_ok-below.ensures
     tt _ c.in_ok-fill.ensures
 
 pub fill_elements-returns : goal.fill_elements-returns
@@ -113,7 +155,7 @@ pub fill_entries-fill_entry-requires : goal.fill_entries-fill_entry-requires
 fill_entries-fill_entry-requires g t c κs l =
     let (tree, path, holds, within) = c.requires in
     let (next, f, keeps, goes) = c.loop-part.invariant tree path holds in
-    (search rules, (search rules, (next, goes.paths, goes.holds, goes.within)))
+    (entry_less t c.args.parts.now c.loop-part.part-index c.part-item.result c.loop-part-test.true c.part-item.is c.decreases, (search rules, (next, goes.paths, goes.holds, goes.within)))
 
 pub fill_entries-returns-in_err-fill_entry : goal.fill_entries-returns-in_err-fill_entry
 fill_entries-returns-in_err-fill_entry g t c =
@@ -155,7 +197,7 @@ pub fill_entry-fill-requires : goal.fill_entry-fill-requires
 fill_entry-fill-requires g t c κs l =
     let (tree, path, holds, within) = c.requires in
     let (s, e, goes) = c.in_ok-below.ensures tree path holds in
-    (search rules, (search rules, (s.0, goes.paths, goes.holds, goes.within)))
+    (search (rules, the_lemmas), (search rules, (s.0, goes.paths, goes.holds, goes.within)))
 
 pub fill_entry-returns : goal.fill_entry-returns
 fill_entry-returns g t c =
