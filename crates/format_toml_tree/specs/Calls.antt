@@ -65,12 +65,12 @@ module _ {A : Type 0} where
     grown = omega arith;
   }
 
-  fresh_node : {kind : Kind A} {s : Slot A} → IsFresh kind s → node_at s ≡ node_of kind 0
+  pub fresh_node : {kind : Kind A} {s : Slot A} → IsFresh kind s → node_at s ≡ node_of kind 0
   fresh_node {kind = kind} {s = s} is =
       ap (λ k. node_of k (length s.elements.items)) is.kind_is
       ∙ ap (λ (xs : List ℕ). node_of kind (length xs)) is.no_elements
 
-  fresh_none : {kind : Kind A} {s : Slot A} → IsFresh kind s → (name : List ℕ)
+  pub fresh_none : {kind : Kind A} {s : Slot A} → IsFresh kind s → (name : List ℕ)
       → find s.places name ≡ None
   fresh_none is name =
       ap (λ es. lookup (is_at (λ (k : Bor (List ℕ)). slice_cmp nat_cmp name k.now)) es) is.no_places

@@ -16,10 +16,11 @@ use Rattle.format_toml_tree.specs.Paths.{Path, Step, named, placed, put, put_her
 use Rattle.format_toml_tree.specs.Paths.{first_same, no_place, others_same, same_name, same_place}
 use Rattle.format_toml_tree.specs.Rules.{Node, Says, nothing, valued, super, header, dotted, tables}
 use Rattle.format_toml_tree.specs.Rules.{ruled, passes, defines, adds, dots, gives}
-use Rattle.format_toml_tree.specs.Runs.{State, Tree, opened, say, say_key}
+use Rattle.format_toml_tree.specs.Runs.{Runs, State, Tree, empty, opened, say, say_key}
 use Rattle.format_toml_tree.specs.declared.roles.Refusal.{Refusal}
 use Rattle.format_toml_tree.specs.declared.roles.Role.{Role}
 use Rattle.format_toml_tree.specs.declared.roles.Role.TheVariants as roles
+use Rattle.format_toml_tree.specs.declared.value.Item.{Item}
 use Rattle.format_toml_tree.specs.declared.value.Value.{Value}
 use Rattle.format_toml_tree.specs.declared.tree.Kind.{Kind}
 use Rattle.format_toml_tree.specs.declared.tree.Kind.TheVariants as kinds
@@ -174,3 +175,21 @@ module _ {A : Type 0} where
   abbrev pub IsValueAt : List (Slot A) → ℕ → Type 0
   IsValueAt slots place = (s : Slot A) → slice_get slots place ≡ Some s
       → (value : Bor (Value A)) × (s.kind ≡ kinds.Value value)
+
+  -- places that hold the tree before all statements
+  abbrev pub StartsEmpty : List (Slot A) → Type 0
+  StartsEmpty slots = (path : ℕ → Path) × Holds slots empty path × (0 < length slots)
+
+  -- What a line says is added, or it is refused.
+  abbrev pub AddsItem : List (Slot A) → ℕ → Item A → Result ℕ Stop → List (Slot A) → Type 0
+  AddsItem old table item (Ok j) new =
+      (tree : Tree A) (path : ℕ → Path) → Holds old tree path
+      → (s : State A) × Runs (tree, path table) item (Ok s) × Goes old path s j new
+  AddsItem old table item (Err OutOfMemory) new = Unit {0}
+  AddsItem old table item (Err (Refused why)) new =
+      (tree : Tree A) (path : ℕ → Path) → Holds old tree path
+      → Runs (tree, path table) item (Err why)
+
+  -- Places hold what there is at each path of a tree.
+  abbrev pub HoldsTree : List (Slot A) → Tree A → Type 0
+  HoldsTree slots tree = (path : ℕ → Path) × Holds slots tree path

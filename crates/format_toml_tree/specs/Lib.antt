@@ -4,6 +4,7 @@ pub mod Calls
 pub mod Filled
 pub mod Holds
 pub mod Keys
+pub mod Lines
 pub mod Opened
 pub mod Parts
 pub mod Paths

@@ -1,5 +1,10 @@
 //! From the lines of a document to its tree.
-ghost use Rattle.std.specs.Prelude.{◌≡◌};
+ghost use Rattle.std.specs.Prelude.{◌≡◌, ℕ, [], IfOk, Ok, Err};
+ghost use Rattle.format_toml_tree.specs.Runs.{Gives, Tree as Given, empty};
+ghost use Rattle.format_toml_tree.specs.Holds.{HoldsTree};
+ghost use Rattle.format_toml_tree.specs.declared.build.Fault.TheVariants.{Refused};
+ghost use Rattle.format_toml_tree.specs.declared.roles.Refusal.{Refusal};
+ghost use Rattle.format_toml_tree.specs.declared.tree.Stop.TheVariants.{Refused as StoppedBy};
 
 use crate::roles::Refusal;
 use crate::tree::{Stop, Tree};
@@ -30,19 +35,40 @@ impl From<AllocError> for Fault {
     }
 }
 
+/// Why some lines have no tree, where one of them stops.
+fn fault_at(line: usize, stop: Stop) -> Fault
+    ensures {
+        (at : ℕ) (why : Refusal) → result ≡ Refused at why
+            → (at ≡ line) × (stop ≡ StoppedBy why)
+    }
+{
+    match stop {
+        Stop::OutOfMemory => Fault::OutOfMemory,
+        Stop::Refused(why) => Fault::Refused { line, why },
+    }
+}
+
 /// The tree of some lines, or the first that is refused.
 pub fn build<'t, A: Allocator + Copy>(
     alloc: A,
     lines: &'t [Option<Item<A>>],
-) -> Result<Tree<'t, A>, Fault> {
+) -> Result<Tree<'t, A>, Fault>
+    ensures accepted {
+        IfOk result (λ tree. (given : Given A) × Gives (empty, []) 0 lines.now (Ok given)
+            × HoldsTree tree.slots.items given)
+    }
+    ensures refused {
+        (line : ℕ) (why : Refusal) → result ≡ Err (Refused line why)
+            → Gives (empty, []) 0 lines.now (Err (line, why))
+    }
+{
     let mut tree = Tree::new(alloc)?;
     let mut table = 0;
     for line in 0..lines.len() {
         if let Some(item) = &lines[line] {
             match tree.add(alloc, table, item) {
                 Ok(next) => table = next,
-                Err(Stop::OutOfMemory) => return Err(Fault::OutOfMemory),
-                Err(Stop::Refused(why)) => return Err(Fault::Refused { line, why }),
+                Err(stop) => return Err(fault_at(line, stop)),
             }
         }
     }

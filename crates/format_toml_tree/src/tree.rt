@@ -1,8 +1,8 @@
 //! The tree of a document.
 ghost use Rattle.std.specs.Prelude.{◌≡◌, ◌<◌, ◌≤◌, length, IfOk, slice_get, Some};
 ghost use Rattle.format_toml_tree.specs.Runs.{Fills, FillsEntry, FillsNames, FillsPlaces};
-ghost use Rattle.format_toml_tree.specs.Holds.{AddsElement, AddsEntry, FillsBy, IsInside, IsValueAt, Opens};
-ghost use Rattle.format_toml_tree.specs.Holds.{Pushes, SaysKey, SaysName, Sets, Stands, node_at};
+ghost use Rattle.format_toml_tree.specs.Holds.{AddsElement, AddsEntry, AddsItem, FillsBy, IsInside, IsValueAt, Opens};
+ghost use Rattle.format_toml_tree.specs.Holds.{Pushes, SaysKey, SaysName, Sets, Stands, StartsEmpty, node_at};
 ghost use Rattle.format_toml_tree.specs.Holds.{says_of};
 
 use crate::roles::{Refusal, Role, first, next};
@@ -67,7 +67,9 @@ impl From<AllocError> for Stop {
 
 impl<'t, A: Allocator + Copy> Tree<'t, A> {
     /// A tree with nothing in it.
-    pub fn new(alloc: A) -> Result<Tree<'t, A>, AllocError> {
+    pub(crate) fn new(alloc: A) -> Result<Tree<'t, A>, AllocError>
+        ensures { IfOk result (λ tree. StartsEmpty tree.slots.items) }
+    {
         let mut tree = Tree {
             slots: Vec::new(alloc),
         };
@@ -322,14 +324,24 @@ impl<'t, A: Allocator + Copy> Tree<'t, A> {
     }
 
     /// Adds what a line says, and answers the table that the next line is in.
-    pub fn add(&mut self, alloc: A, table: usize, item: &'t Item<A>) -> Result<usize, Stop> {
+    pub(crate) fn add(
+        &mut self,
+        alloc: A,
+        table: usize,
+        item: &'t Item<A>,
+    ) -> Result<usize, Stop>
+        requires { Stands self.old.slots.items table }
+        ensures { AddsItem self.old.slots.items table item.now result self.new.slots.items }
+    {
         match item {
             Item::Table(key) => self.say_key(alloc, 0, key, Role::Through, Role::Header),
             Item::Tables(key) => self.say_key(alloc, 0, key, Role::Through, Role::Tables),
             Item::Entry(key, value) => {
                 let place = self.say_key(alloc, table, key, Role::Dotted, Role::Value(value))?;
-                self.fill(alloc, place, value)?;
-                Ok(table)
+                match self.fill(alloc, place, value) {
+                    Ok(()) => Ok(table),
+                    Err(stop) => Err(stop),
+                }
             }
         }
     }
