@@ -5,6 +5,7 @@ pub mod Filled
 pub mod Holds
 pub mod Keys
 pub mod Lines
+pub mod Nodes
 pub mod Opened
 pub mod Parts
 pub mod Paths

@@ -105,7 +105,7 @@ module _ {A : Type 0} where
   value_at slots place s value at is t h =
       (value, ap (λ x. x.kind) (some_slot (sym h ∙ at)) ∙ is)
 
-  kind_of : (k : Kind A) (n : ℕ) (v : Value A) → node_of k n ≡ valued v
+  pub kind_of : (k : Kind A) (n : ℕ) (v : Value A) → node_of k n ≡ valued v
       → (value : Bor (Value A)) × (k ≡ kinds.Value value)
   kind_of (kinds.Value w) n v e = (w, refl)
   kind_of kinds.Super n v e = absurd (no e)

@@ -2,6 +2,7 @@
 #![tactic(auto)]
 
 pub mod build;
-mod roles;
+pub mod node;
+pub mod roles;
 pub mod tree;
 pub mod value;

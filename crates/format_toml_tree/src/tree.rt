@@ -27,23 +27,24 @@ pub enum Kind<'t, A: Allocator> {
 
 /// What there is at a place of a tree, and the places below it.
 #[derive(Drop)]
-struct Slot<'t, A: Allocator> {
-    kind: Kind<'t, A>,
+pub struct Slot<'t, A: Allocator> {
+    /// What there is.
+    pub(crate) kind: Kind<'t, A>,
     /// Its name in the table that it is in; nothing where it is in an array.
-    name: &'t str,
+    pub(crate) name: &'t str,
     /// Where its entries are, by their names.
-    places: BTreeMap<&'t str, usize, A>,
+    pub(crate) places: BTreeMap<&'t str, usize, A>,
     /// Where its entries are, in the order in which they were first named.
-    entries: Vec<usize, A>,
+    pub(crate) entries: Vec<usize, A>,
     /// Where its elements are, in order.
-    elements: Vec<usize, A>,
+    pub(crate) elements: Vec<usize, A>,
 }
 
 /// The tree of a document.
 #[derive(Drop)]
 pub struct Tree<'t, A: Allocator> {
     /// The places. The first is that of the table that has all others.
-    slots: Vec<Slot<'t, A>, A>,
+    pub(crate) slots: Vec<Slot<'t, A>, A>,
 }
 
 /// Why a line adds nothing more.
