@@ -1,6 +1,6 @@
 -- A place that is added below another one holds what is put there.
 use Rattle.std.specs.Prelude.{◌≡◌, ◌⊎◌, ℕ, zero, suc, ◌+◌, ◌<◌, ◌≤◌, ◌==◌, Bool, true, false, cond}
-use Rattle.std.specs.Prelude.{List, [], ◌∷◌, ◌++◌, length, set, Option, Some, None, slice_get}
+use Rattle.std.specs.Prelude.{List, [], ◌∷◌, ◌++◌, length, set, Some, None, slice_get}
 use Rattle.std.proofs.Common.{refl, sym, ap, subst, inl, inr, ◌∙◌, arith}
 use Rattle.std.proofs.lemmas.Bool.{cases_eq}
 use Rattle.std.proofs.lemmas.Bool.Decides.{Decides-eqb}
@@ -10,7 +10,7 @@ use Rattle.format_toml_tree.specs.Paths.{Path, Step, named, placed, put, put_her
 use Rattle.format_toml_tree.specs.Paths.{first_same, others_same}
 use Rattle.format_toml_tree.specs.Rules.{Node, nothing}
 use Rattle.format_toml_tree.specs.Runs.{Tree}
-use Rattle.format_toml_tree.specs.Holds.{Goes, Holds, find, node_at, node_of}
+use Rattle.format_toml_tree.specs.Holds.{Goes, Holds, find, node_at}
 use Rattle.format_toml_tree.specs.Places.{get_push, get_set, longer, nowhere, some_node}
 use Rattle.format_toml_tree.specs.declared.tree.Slot.{Slot}
 
@@ -176,7 +176,7 @@ module _ {A : Type 0} where
           (some_number (sym f ∙ ap (λ t. find t.places name) b ∙ d))
       | inr (c, d) ↦
           let old = is.found above was at name j
-              (sym d ∙ ap (λ t. find t.places name) (sym b) ∙ f) in
+          (sym d ∙ ap (λ t. find t.places name) (sym b) ∙ f) in
           below_old i (named name) j (subst (λ k. k < n) (sym a) above_within)
           (old.0, old.1 ∙ ap (λ k. named name ∷ path k) (sym a))
     ]
@@ -192,7 +192,7 @@ module _ {A : Type 0} where
           (some_number (sym f ∙ ap (λ t. slice_get t.elements.items k) b ∙ d))
       | inr (c, d) ↦
           let old = is.elements above was at k j
-              (sym d ∙ ap (λ t. slice_get t.elements.items k) (sym b) ∙ f) in
+          (sym d ∙ ap (λ t. slice_get t.elements.items k) (sym b) ∙ f) in
           below_old i (placed k) j (subst (λ m. m < n) (sym a) above_within)
           (old.0, old.1 ∙ ap (λ m. placed k ∷ path m) (sym a))
     ]
@@ -241,10 +241,10 @@ module _ {A : Type 0} where
     below_then : (p : Path) (f : Step) → then_tree p ≡ nothing → then_tree (f ∷ p) ≡ nothing
     below_then p f g =
         let a : p ≡ q → ⊥ = λ h. some_node fresh.kind (length fresh.elements.items)
-            (sym (put_here first q (node_at fresh) p h) ∙ g) in
+        (sym (put_here first q (node_at fresh) p h) ∙ g) in
         let b : p ≡ path above → ⊥ = λ h. some_node now.kind (length now.elements.items)
-            (sym (put_here tree (path above) node p h)
-            ∙ sym (put_apart first q (node_at fresh) p a) ∙ g) in
+        (sym (put_here tree (path above) node p h)
+        ∙ sym (put_apart first q (node_at fresh) p a) ∙ g) in
         still_none (f ∷ p) (is.below p f (sym (apart_tree p a b) ∙ g)) (λ h. b (others_same h))
 
     -- the places hold the tree with both nodes

@@ -1,8 +1,8 @@
 -- What calls on places do: a place stays, one is set, an entry or an element is added.
 use Rattle.std.specs.Prelude.{◌≡◌, ◌⊎◌, ℕ, zero, suc, ◌+◌, ◌<◌, ◌≤◌, Bool, true, false, cond}
-use Rattle.std.specs.Prelude.{List, [], ◌∷◌, ◌++◌, length, set, get_or, Option, Some, None, slice_get}
+use Rattle.std.specs.Prelude.{List, [], ◌∷◌, ◌++◌, length, set, get_or, Some, None, slice_get}
 use Rattle.std.specs.Borrow.{Bor}
-use Rattle.std.specs.BTreeMap.{BTreeMap, UpdatesBy, is_at}
+use Rattle.std.specs.BTreeMap.{UpdatesBy, is_at}
 use Rattle.std.specs.Cmp.Lexicographic.{slice_cmp}
 use Rattle.std.specs.Map.{lookup}
 use Rattle.std.specs.Ordering.{nat_cmp}
@@ -13,14 +13,13 @@ use Rattle.std.proofs.lemmas.List.{length-append}
 use Rattle.std.proofs.lemmas.Map.Text.{btree_map_updates_str}
 use Rattle.std.proofs.lemmas.Option.{slice_get_read}
 use Rattle.std.proofs.lemmas.Slice.Eq.{bytes_eq-Decides}
-use Rattle.format_toml_tree.specs.Paths.{Path, Step, named, no_place, placed, put, same_name}
+use Rattle.format_toml_tree.specs.Paths.{Path, named, no_place, placed, put, same_name}
 use Rattle.format_toml_tree.specs.Paths.{put_same, same_place}
-use Rattle.format_toml_tree.specs.Rules.{Node, nothing}
 use Rattle.format_toml_tree.specs.Runs.{State, Tree}
 use Rattle.format_toml_tree.specs.Holds.{AddsElement, AddsEntry, Goes, Holds, IsFresh, Pushes}
 use Rattle.format_toml_tree.specs.Holds.{find, node_at, node_of}
-use Rattle.format_toml_tree.specs.Places.{altered, get_push}
-use Rattle.format_toml_tree.specs.Added.{AddsBelow, added}
+use Rattle.format_toml_tree.specs.Places.{get_push}
+use Rattle.format_toml_tree.specs.Added.{added}
 use Rattle.format_toml_tree.specs.declared.tree.Kind.{Kind}
 use Rattle.format_toml_tree.specs.declared.tree.Slot.{Slot}
 
@@ -83,9 +82,9 @@ module _ {A : Type 0} where
     is_old fresh e = elim (get_push old fresh was above
         (subst (λ m. slice_get m above ≡ Some was) e
         (slice_get_read mid _ above was refl (more fresh e) read))) [
-      | inl h ↦ h
-      | inr (a, b) ↦ absurd (omega (arith, a, within))
-    ]
+          | inl h ↦ h
+          | inr (a, b) ↦ absurd (omega (arith, a, within))
+        ]
       where
         more : (fresh : Slot A) → mid ≡ old ++ fresh ∷ [] → above < length mid
         more fresh e =
@@ -104,9 +103,9 @@ module _ {A : Type 0} where
         let at = is_old fresh e in
         let q : Path = named name.now ∷ path above in
         let same : node_at now ≡ tree (path above) =
-            ap (λ k. node_of k (length now.elements.items)) kinds
-            ∙ ap (λ v. node_of was.kind (length v.items)) elements
-            ∙ sym (holds.there above was at) in
+        ap (λ k. node_of k (length now.elements.items)) kinds
+        ∙ ap (λ v. node_of was.kind (length v.items)) elements
+        ∙ sym (holds.there above was at) in
         let goes = added holds above (named name.now) was now fresh at none (record {
           none_found = fresh_none is;
           no_elements = is.no_elements;
@@ -114,8 +113,10 @@ module _ {A : Type 0} where
               (subst (λ n. UpdatesBy (λ x y. slice_cmp nat_cmp x.now y.now)
               (λ k. slice_cmp nat_cmp name.now k.now) was.places now.places (Some n)) j updates);
           gets = λ k. inr (λ f. no_place name.now k (sym f), ap (λ v. slice_get v.items k) elements);
-          beyond = λ k f. (λ g. no_place name.now k (sym g),
-              subst (λ v. length v.items ≤ k) elements f);
+          beyond = λ k f. (
+            λ g. no_place name.now k (sym g),
+            subst (λ v. length v.items ≤ k) elements f,
+          );
         }) in
         subst (λ m. Goes old path (put tree q (node_of kind 0), q) place (set m above now)) (sym e)
         (subst (λ i. Goes old path (put tree q (node_of kind 0), q) i
@@ -152,37 +153,49 @@ module _ {A : Type 0} where
         let xs : List ℕ = before.elements.items in
         let q : Path = placed (length xs) ∷ path above in
         let items : now.elements.items ≡ xs ++ length old ∷ [] =
-            elements ∙ ap (λ i. was.elements.items ++ i ∷ []) j
-            ∙ ap (λ s. s.elements.items ++ length old ∷ []) (sym same) in
+        elements ∙ ap (λ i. was.elements.items ++ i ∷ []) j
+        ∙ ap (λ s. s.elements.items ++ length old ∷ []) (sym same) in
         let count : length now.elements.items ≡ length xs + 1 =
-            ap (λ l. length l) items ∙ length-append xs (length old ∷ []) in
+        ap (λ l. length l) items ∙ length-append xs (length old ∷ []) in
         let node : node_at now ≡ node_of before.kind (length xs + 1) =
-            ap (λ k. node_of k (length now.elements.items))
-            (kinds ∙ ap (λ s. s.kind) (sym same))
-            ∙ ap (λ n. node_of before.kind n) count in
+        ap (λ k. node_of k (length now.elements.items))
+        (kinds ∙ ap (λ s. s.kind) (sym same))
+        ∙ ap (λ n. node_of before.kind n) count in
         let goes = added holds above (placed (length xs)) before now fresh at
         (holds.beyond above before at (length xs) (omega arith)) (record {
           none_found = fresh_none is;
           no_elements = is.no_elements;
-          finds = λ other. inr (λ f. no_place other (length xs) f,
-              ap (λ m. find m other) (places ∙ ap (λ s. s.places) (sym same)));
+          finds = λ other. inr (
+            λ f. no_place other (length xs) f,
+            ap (λ m. find m other) (places ∙ ap (λ s. s.places) (sym same)),
+          );
           gets = λ k. elim (cases_eq k (length xs)) [
-            | inl a ↦ inl (ap (λ n. placed n) a,
-                ap (λ l. slice_get l k) items ∙ ap (λ n. slice_get (xs ++ length old ∷ []) n) a
-                ∙ get_last xs (length old))
-            | inr a ↦ inr (λ f. a (same_place f),
-                ap (λ l. slice_get l k) items ∙ get_other xs (length old) k a)
+            | inl a ↦ inl (
+              ap (λ n. placed n) a,
+              ap (λ l. slice_get l k) items ∙ ap (λ n. slice_get (xs ++ length old ∷ []) n) a
+                  ∙ get_last xs (length old),
+            )
+            | inr a ↦ inr (
+              λ f. a (same_place f),
+              ap (λ l. slice_get l k) items ∙ get_other xs (length old) k a,
+            )
           ];
           beyond = λ k f. (
             λ g. let h = same_place g in omega (arith, f, count, h),
             omega (arith, f, count),
           );
         }) in
-        subst (λ m. Goes old path (put (put tree (path above)
-        (node_of before.kind (length xs + 1))) q (node_of kind 0), q) place (set m above now))
+        subst (λ m. Goes old path (
+          put (put tree (path above)
+              (node_of before.kind (length xs + 1))) q (node_of kind 0),
+          q,
+        ) place (set m above now))
         (sym e)
-        (subst (λ i. Goes old path (put (put tree (path above)
-        (node_of before.kind (length xs + 1))) q (node_of kind 0), q) i
+        (subst (λ i. Goes old path (
+          put (put tree (path above)
+              (node_of before.kind (length xs + 1))) q (node_of kind 0),
+          q,
+        ) i
         (set (old ++ fresh ∷ []) above now)) (sym j)
         (subst (λ t. Goes old path (t, q) (length old) (set (old ++ fresh ∷ []) above now))
         (ap (λ n. put (put tree (path above) n) q (node_at fresh)) node

@@ -1,32 +1,17 @@
 -- Values fill the tree below places.
-use Rattle.std.specs.Prelude.{◌≡◌, ℕ, zero, suc, ◌+◌, ◌<◌, ◌≤◌, List, [], ◌∷◌, length, drop, get_or, slice_get}
-use Rattle.std.specs.Prelude.{Option, Some, Result, Ok, Err, string_bytes}
+use Rattle.std.specs.Prelude.{◌≡◌, ℕ, zero, suc, List, [], ◌∷◌}
+use Rattle.std.specs.Prelude.{Result, Ok, Err, string_bytes}
 use Rattle.std.specs.declared.string.String.{String}
-use Rattle.std.specs.declared.vec.Vec.{Vec}
-use Rattle.std.specs.Borrow.{Bor}
-use Rattle.std.proofs.Common.{refl, sym, ap, subst, inl, inr, ◌∙◌, arith}
-use Rattle.std.proofs.lemmas.Bool.{cases_Bool}
-use Rattle.format_toml_tree.specs.Paths.{Path, named, placed, put, put_apart, put_cases, put_same}
+use Rattle.std.proofs.Common.{refl, sym, ap, subst, inl, inr, ◌∙◌}
+use Rattle.format_toml_tree.specs.Paths.{Path, named, put, put_cases}
 use Rattle.format_toml_tree.specs.Rules.{Node, Says, ruled}
 use Rattle.format_toml_tree.specs.Rules.{nothing, valued, super, header, dotted, tables}
 use Rattle.format_toml_tree.specs.Rules.{passes, defines, adds, dots, gives}
-use Rattle.format_toml_tree.specs.Runs.{Fills, FillsEntry, FillsNames, FillsPlaces, HasValue, IsNext}
-use Rattle.format_toml_tree.specs.Runs.{State, Tree, entry, entry_refused, name, name_refused}
-use Rattle.format_toml_tree.specs.Runs.{no_more, no_more_names, opened, place, place_refused, say}
+use Rattle.format_toml_tree.specs.Runs.{State, Tree}
+use Rattle.format_toml_tree.specs.Runs.{opened, say}
 use Rattle.format_toml_tree.specs.Runs.{say_key, then}
-use Rattle.format_toml_tree.specs.Holds.{AddsElement, Goes, Holds, Keeps, Told, node_at}
-use Rattle.format_toml_tree.specs.Holds.{node_of}
-use Rattle.format_toml_tree.specs.Added.{some_there}
-use Rattle.format_toml_tree.specs.Calls.{goes_on, stays}
-use Rattle.format_toml_tree.specs.Keys.{drop_here, drop_past}
-use Rattle.format_toml_tree.specs.Places.{some_node}
+use Rattle.format_toml_tree.specs.Holds.{Keeps}
 use Rattle.format_toml_tree.specs.declared.roles.Refusal.{Refusal}
-use Rattle.format_toml_tree.specs.declared.tree.Kind.{Kind}
-use Rattle.format_toml_tree.specs.declared.tree.Kind.TheVariants as kinds
-use Rattle.format_toml_tree.specs.declared.tree.Slot.{Slot}
-use Rattle.format_toml_tree.specs.declared.tree.Stop.{Stop}
-use Rattle.format_toml_tree.specs.declared.tree.Stop.TheVariants.{OutOfMemory, Refused}
-use Rattle.format_toml_tree.specs.declared.value.Key.{Key}
 use Rattle.format_toml_tree.specs.declared.value.Value.{Value}
 
 module _ {A : Type 0} where
@@ -120,9 +105,9 @@ module _ {A : Type 0} where
       by (Ok node) f =
           let q : Path = named text ∷ s.1 in
           let same : Ok (opened says node (put s.0 q node) q) ≡ Ok t =
-              sym (ap (λ r. then r (λ n. Ok (opened says n (put s.0 q n) q))) f) ∙ e in
+          sym (ap (λ r. then r (λ n. Ok (opened says n (put s.0 q n) q))) f) ∙ e in
           let tree : put s.0 q node ≡ t.0 =
-              sym (tree_of says apart node (put s.0 q node) q) ∙ ap (λ r. r.0) (ok_same same) in
+          sym (tree_of says apart node (put s.0 q node) q) ∙ ap (λ r. r.0) (ok_same same) in
           subst (λ n. Keeps s.0 n) tree
           (keeps_put s.0 q node (rule_keeps says (s.0 q) node f))
         where

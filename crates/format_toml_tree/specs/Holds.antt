@@ -1,19 +1,13 @@
 -- What the places of a tree hold, and that places that change or are added hold what is put there.
-use Rattle.std.specs.Prelude.{◌≡◌, ◌⊎◌, ℕ, zero, suc, ◌+◌, ◌<◌, ◌≤◌, ◌==◌, Bool, true, false, cond}
-use Rattle.std.specs.Prelude.{List, [], ◌∷◌, ◌++◌, length, set, Option, Some, None, slice_get}
+use Rattle.std.specs.Prelude.{◌≡◌, ℕ, suc, ◌+◌, ◌<◌, ◌≤◌}
+use Rattle.std.specs.Prelude.{List, [], ◌∷◌, ◌++◌, length, Option, Some, None, slice_get}
 use Rattle.std.specs.Prelude.{Result, Ok, Err, MatchResult}
 use Rattle.std.specs.declared.string.String.{String}
 use Rattle.std.specs.Borrow.{Bor}
 use Rattle.std.specs.BTreeMap.{BTreeMap, get_by}
 use Rattle.std.specs.Cmp.Lexicographic.{slice_cmp}
 use Rattle.std.specs.Ordering.{nat_cmp}
-use Rattle.std.proofs.Common.{refl, sym, ap, subst, inl, inr, ◌∙◌, arith}
-use Rattle.std.proofs.lemmas.Bool.{cases_eq}
-use Rattle.std.proofs.lemmas.Bool.Decides.{Decides-eqb}
-use Rattle.std.proofs.lemmas.List.{length-append, length-set}
-use Rattle.std.proofs.lemmas.Option.{slice_get_within}
-use Rattle.format_toml_tree.specs.Paths.{Path, Step, named, placed, put, put_here, put_apart}
-use Rattle.format_toml_tree.specs.Paths.{first_same, no_place, others_same, same_name, same_place}
+use Rattle.format_toml_tree.specs.Paths.{Path, Step, named, placed, put}
 use Rattle.format_toml_tree.specs.Rules.{Node, Says, nothing, valued, super, header, dotted, tables}
 use Rattle.format_toml_tree.specs.Rules.{ruled, passes, defines, adds, dots, gives}
 use Rattle.format_toml_tree.specs.Runs.{Runs, State, Tree, empty, opened, say, say_key}
@@ -120,9 +114,11 @@ module _ {A : Type 0} where
   AddsElement old array kind j new =
       (tree : Tree A) (path : ℕ → Path) (was : Slot A) → Holds old tree path
       → slice_get old array ≡ Some was
-      → Goes old path (put (put tree (path array) (node_of was.kind (length was.elements.items + 1)))
-      (placed (length was.elements.items) ∷ path array) (node_of kind 0),
-      placed (length was.elements.items) ∷ path array) j new
+      → Goes old path (
+        put (put tree (path array) (node_of was.kind (length was.elements.items + 1)))
+            (placed (length was.elements.items) ∷ path array) (node_of kind 0),
+        placed (length was.elements.items) ∷ path array,
+      ) j new
 
   -- in an array of tables, its last element
   abbrev pub IsInside : Node A → List ℕ → ℕ → ℕ → Type 0

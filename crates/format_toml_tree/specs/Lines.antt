@@ -1,13 +1,13 @@
 -- Lines are added to a tree, one after the other.
-use Rattle.std.specs.Prelude.{◌≡◌, ℕ, zero, suc, ◌+◌, ◌<◌, ◌≤◌, List, [], ◌∷◌, ◌++◌, length, drop}
+use Rattle.std.specs.Prelude.{◌≡◌, ℕ, zero, suc, ◌+◌, ◌<◌, ◌≤◌, List, [], ◌∷◌, length, drop}
 use Rattle.std.specs.Prelude.{get_or, slice_get, Option, Some, None, Result, Ok, Err, IsErr, IsErrAnd, true, false}
 use Rattle.std.proofs.Common.{refl, sym, ap, subst, ◌∙◌, arith}
-use Rattle.format_toml_tree.specs.Paths.{Path, Step, named, placed}
-use Rattle.format_toml_tree.specs.Rules.{Node, nothing, header, passes, defines, adds, dots, gives}
+use Rattle.format_toml_tree.specs.Paths.{Path, Step}
+use Rattle.format_toml_tree.specs.Rules.{nothing, passes, defines, adds}
 use Rattle.format_toml_tree.specs.Runs.{FillsEntry, Gives, Runs, State, Tree, empty, say_key, then}
 use Rattle.format_toml_tree.specs.Runs as runs
-use Rattle.format_toml_tree.specs.Holds.{AddsItem, FillsBy, Goes, Holds, Pushes, SaysKey, Stands}
-use Rattle.format_toml_tree.specs.Holds.{StartsEmpty, Told, find, node_at, node_of}
+use Rattle.format_toml_tree.specs.Holds.{AddsItem, FillsBy, Holds, Pushes, SaysKey, Stands}
+use Rattle.format_toml_tree.specs.Holds.{StartsEmpty, find, node_at}
 use Rattle.format_toml_tree.specs.Calls.{fresh_node, fresh_none}
 use Rattle.format_toml_tree.specs.Keys.{drop_here, drop_past}
 use Rattle.format_toml_tree.specs.declared.roles.Refusal.{Refusal}
@@ -69,8 +69,7 @@ module _ {A : Type 0} where
         → SaysKey old 0 key.names.items passes defines answer new
         → AddsItem old table item answer new
     adds_table e (Ok j) new said = λ tree path holds.
-        let (s, told, goes) = said tree path holds in
-        (
+        let (s, told, goes) = said tree path holds in (
           s,
           subst (λ i. Runs (tree, path table) i (Ok s)) (sym e)
               (sym (ap (λ p. say_key passes defines (tree, p) key.names.items) (sym holds.top)
@@ -87,8 +86,7 @@ module _ {A : Type 0} where
         → SaysKey old 0 key.names.items passes adds answer new
         → AddsItem old table item answer new
     adds_tables e (Ok j) new said = λ tree path holds.
-        let (s, told, goes) = said tree path holds in
-        (
+        let (s, told, goes) = said tree path holds in (
           s,
           subst (λ i. Runs (tree, path table) i (Ok s)) (sym e)
               (sym (ap (λ p. say_key passes adds (tree, p) key.names.items) (sym holds.top)
@@ -106,8 +104,7 @@ module _ {A : Type 0} where
           → FillsBy (λ t p r. FillsEntry t p key value r) old table (Ok done) new
           → AddsItem old table item (Ok table) new
       adds_value done new filled = λ tree path holds.
-          let (next, fills, keeps, goes) = filled tree path holds in
-          (
+          let (next, fills, keeps, goes) = filled tree path holds in (
             (next, path table),
             subst (λ i. Runs (tree, path table) i (Ok (next, path table))) (sym e)
                 (Ok next, fills, refl),
@@ -137,13 +134,13 @@ module _ {A : Type 0} where
 
   -- The lines from the k-th on are left to add, to a state that places hold.
   pub record LeftToAdd (lines : List (Option (Item A))) (k table : ℕ) (slots : List (Slot A)) : Type 0
-      where
-    pub tree : Tree A
-    pub path : ℕ → Path
-    pub holds : Holds slots tree path
-    pub within : table < length slots
-    pub left : (r : Result (Tree A) (ℕ × Refusal))
-        → Gives (tree, path table) k (drop k lines) r → Gives (empty, []) 0 lines r
+    where
+      pub tree : Tree A
+      pub path : ℕ → Path
+      pub holds : Holds slots tree path
+      pub within : table < length slots
+      pub left : (r : Result (Tree A) (ℕ × Refusal))
+          → Gives (tree, path table) k (drop k lines) r → Gives (empty, []) 0 lines r
 
   pub left_first : (lines : List (Option (Item A))) (slots : List (Slot A)) → StartsEmpty slots
       → LeftToAdd lines 0 0 slots
@@ -161,45 +158,45 @@ module _ {A : Type 0} where
     stands = (left.tree, left.path, left.holds, left.within)
 
     module _ (line : Option (Item A)) (within : k < length lines) (is : line ≡ get_or lines k line)
-        where
-      here : drop k lines ≡ line ∷ drop (k + 1) lines
-      here = drop_here lines k line within is
+      where
+        here : drop k lines ≡ line ∷ drop (k + 1) lines
+        here = drop_here lines k line within is
 
-      pub left_blank : line ≡ None → LeftToAdd lines (k + 1) table slots
-      left_blank none = record {
-        tree = left.tree;
-        path = left.path;
-        holds = left.holds;
-        within = left.within;
-        left = λ r by. left.left r (subst (λ l. Gives (left.tree, left.path table) k l r)
-            (sym (here ∙ ap (λ x. x ∷ drop (k + 1) lines) none)) (runs.blank by));
-      }
+        pub left_blank : line ≡ None → LeftToAdd lines (k + 1) table slots
+        left_blank none = record {
+          tree = left.tree;
+          path = left.path;
+          holds = left.holds;
+          within = left.within;
+          left = λ r by. left.left r (subst (λ l. Gives (left.tree, left.path table) k l r)
+              (sym (here ∙ ap (λ x. x ∷ drop (k + 1) lines) none)) (runs.blank by));
+        }
 
-      module _ (item : Item A) (some : line ≡ Some item) where
-        abbrev then_lines : drop k lines ≡ Some item ∷ drop (k + 1) lines
-        then_lines = here ∙ ap (λ x. x ∷ drop (k + 1) lines) some
+        module _ (item : Item A) (some : line ≡ Some item) where
+          abbrev then_lines : drop k lines ≡ Some item ∷ drop (k + 1) lines
+          then_lines = here ∙ ap (λ x. x ∷ drop (k + 1) lines) some
 
-        pub left_added : (j : ℕ) (new : List (Slot A)) → AddsItem slots table item (Ok j) new
-            → LeftToAdd lines (k + 1) j new
-        left_added j new added =
-            let (s, ran, goes) = added left.tree left.path left.holds in record {
-              tree = s.0;
-              path = goes.paths;
-              holds = goes.holds;
-              within = goes.within;
-              left = λ r by. left.left r
-                  (subst (λ l. Gives (left.tree, left.path table) k l r) (sym then_lines)
-                  (runs.accepted ran (subst (λ p. Gives (s.0, p) (k + 1) (drop (k + 1) lines) r)
-                  goes.at by)));
-            }
+          pub left_added : (j : ℕ) (new : List (Slot A)) → AddsItem slots table item (Ok j) new
+              → LeftToAdd lines (k + 1) j new
+          left_added j new added =
+              let (s, ran, goes) = added left.tree left.path left.holds in record {
+                tree = s.0;
+                path = goes.paths;
+                holds = goes.holds;
+                within = goes.within;
+                left = λ r by. left.left r
+                    (subst (λ l. Gives (left.tree, left.path table) k l r) (sym then_lines)
+                    (runs.accepted ran (subst (λ p. Gives (s.0, p) (k + 1) (drop (k + 1) lines) r)
+                    goes.at by)));
+              }
 
-        pub line_refused : (why : Refusal) (new : List (Slot A))
-            → AddsItem slots table item (Err (Refused why)) new
-            → Gives (empty, []) 0 lines (Err (k, why))
-        line_refused why new added =
-            left.left (Err (k, why)) (subst (λ l. Gives (left.tree, left.path table) k l
-            (Err (k, why))) (sym then_lines)
-            (runs.refused (added left.tree left.path left.holds)))
+          pub line_refused : (why : Refusal) (new : List (Slot A))
+              → AddsItem slots table item (Err (Refused why)) new
+              → Gives (empty, []) 0 lines (Err (k, why))
+          line_refused why new added =
+              left.left (Err (k, why)) (subst (λ l. Gives (left.tree, left.path table) k l
+              (Err (k, why))) (sym then_lines)
+              (runs.refused (added left.tree left.path left.holds)))
 
     pub all_added : length lines ≤ k → Gives (empty, []) 0 lines (Ok left.tree)
     all_added past =

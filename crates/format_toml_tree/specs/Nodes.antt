@@ -72,7 +72,7 @@ module _ {A : Type 0} where
         → Answers node None
     answers_none other tree path p is value e =
         let (held, kind) = kind_of slot.kind (length slot.elements.items) value
-            (sym (is.holds.there node.place slot there) ∙ ap tree is.at ∙ e) in
+        (sym (is.holds.there node.place slot there) ∙ ap tree is.at ∙ e) in
         other held kind
 
   -- a node that is of no place is of no tree

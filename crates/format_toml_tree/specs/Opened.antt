@@ -1,12 +1,11 @@
 -- What a statement does to a name, over places.
-use Rattle.std.specs.Prelude.{◌≡◌, ℕ, zero, suc, ◌+◌, ◌<◌, List, [], ◌∷◌, length, set, slice_get}
-use Rattle.std.specs.Prelude.{Option, Some, None, Result, Ok, Err, IfOk, IsErr, IsErrAnd, true, false}
+use Rattle.std.specs.Prelude.{◌≡◌, ℕ, zero, suc, ◌+◌, ◌<◌, List, ◌∷◌, length, set, slice_get}
+use Rattle.std.specs.Prelude.{Some, None, Result, Ok, Err, IfOk, IsErr, IsErrAnd, true, false}
 use Rattle.std.proofs.Common.{refl, sym, ap, subst, ◌∙◌, arith}
 use Rattle.std.proofs.lemmas.List.{length-set}
 use Rattle.std.proofs.lemmas.Option.{slice_get_within}
 use Rattle.format_toml_tree.specs.Paths.{Path, named, placed, put, put_here}
 use Rattle.format_toml_tree.specs.Rules.{Node, Says, nothing, ruled}
-use Rattle.format_toml_tree.specs.Rules.{passes, defines, adds, dots, gives}
 use Rattle.format_toml_tree.specs.Runs.{State, Tree, entered, grown, opened, say, then}
 use Rattle.format_toml_tree.specs.Holds.{Goes, Holds, IsInside, Told, find, node_at, node_of, says_of}
 use Rattle.format_toml_tree.specs.Places.{altered}
@@ -86,16 +85,20 @@ module _ {A : Type 0} where
 
     pub opens_new : (role : Role A) (j : ℕ) (new : List (Slot A)) → role ≡ roles.Tables
         → s.kind ≡ kinds.Tables
-        → Goes slots path
-        (put (put tree (path place) (node_of s.kind (length s.elements.items + 1)))
-        (placed (length s.elements.items) ∷ path place) (node_of kinds.Header 0),
-        placed (length s.elements.items) ∷ path place) j new
+        → Goes slots path (
+          put (put tree (path place) (node_of s.kind (length s.elements.items + 1)))
+              (placed (length s.elements.items) ∷ path place) (node_of kinds.Header 0),
+          placed (length s.elements.items) ∷ path place,
+        ) j new
         → Goes slots path (opened (says_of role) (tree (path place)) tree (path place)) j new
     opens_new role j new is kind goes =
         let n = length s.elements.items in
         subst (λ t. Goes slots path t j new)
-        (ap (λ k. (put (put tree (path place) (node_of k (n + 1)))
-        (placed n ∷ path place) (node_of kinds.Header 0), placed n ∷ path place)) kind
+        (ap (λ k. (
+          put (put tree (path place) (node_of k (n + 1)))
+              (placed n ∷ path place) (node_of kinds.Header 0),
+          placed n ∷ path place,
+        )) kind
         ∙ ap (λ k. grown (node_of k n) tree (path place)) (sym kind)
         ∙ ap (λ node. grown node tree (path place)) (sym (holds.there place s at))
         ∙ ap (λ r. opened (says_of r) (tree (path place)) tree (path place)) (sym is)) goes

@@ -1,18 +1,18 @@
 -- The parts of a value fill the tree below its place, one after the other.
-use Rattle.std.specs.Prelude.{◌≡◌, ℕ, zero, suc, ◌+◌, ◌<◌, ◌≤◌, List, [], ◌∷◌, length, drop, get_or}
-use Rattle.std.specs.Prelude.{Option, Some, Result, Ok, Err, IsErr, IsErrAnd, true, false, slice_get}
+use Rattle.std.specs.Prelude.{◌≡◌, ℕ, ◌+◌, ◌<◌, ◌≤◌, List, ◌∷◌, length, drop, get_or}
+use Rattle.std.specs.Prelude.{Some, Result, Ok, Err, IsErr, IsErrAnd, true, false, slice_get}
 use Rattle.std.specs.declared.vec.Vec.{Vec}
 use Rattle.std.specs.Borrow.{Bor}
 use Rattle.std.proofs.Common.{refl, sym, ap, subst, ◌∙◌, arith}
 use Rattle.std.proofs.lemmas.Option.{slice_get_within}
 use Rattle.format_toml_tree.specs.Paths.{Path, placed, put, put_same}
-use Rattle.format_toml_tree.specs.Rules.{Node, nothing, valued, super, header, dotted, tables}
+use Rattle.format_toml_tree.specs.Rules.{nothing, valued, super, header, dotted, tables}
 use Rattle.format_toml_tree.specs.Rules.{dots, gives}
 use Rattle.format_toml_tree.specs.Runs.{Fills, FillsEntry, FillsNames, FillsPlaces, HasValue, IsNext}
 use Rattle.format_toml_tree.specs.Runs.{State, Tree, say_key}
 use Rattle.format_toml_tree.specs.Runs as runs
-use Rattle.format_toml_tree.specs.Holds.{AddsElement, FillsBy, Goes, Holds, IsValueAt, Keeps, SaysKey, Told}
-use Rattle.format_toml_tree.specs.Holds.{node_at, node_of}
+use Rattle.format_toml_tree.specs.Holds.{AddsElement, FillsBy, Goes, Holds, IsValueAt, Keeps, SaysKey}
+use Rattle.format_toml_tree.specs.Holds.{node_of}
 use Rattle.format_toml_tree.specs.Added.{some_there}
 use Rattle.format_toml_tree.specs.Calls.{goes_on, stays}
 use Rattle.format_toml_tree.specs.Filled.{keeps_put, keeps_then, key_keeps, no_value}
@@ -126,50 +126,50 @@ module _ {A : Type 0} where
       no e = cc
 
   module _ (slots : List (Slot A)) (place : ℕ) (s : Slot A) (at : slice_get slots place ≡ Some s)
-      where
-    pub fills_nowhere : (v : Value A) → ((value : Bor (Value A)) → s.kind ≡ kinds.Value value → ⊥)
-        → (done : Unit {0}) → FillsBy (λ t p r. Fills t p v r) slots place (Ok done) slots
-    fills_nowhere v none done =
-        fills_none (λ t p r. Fills t p v r) slots place (slice_get_within slots place s at)
-        (λ tree path holds. runs.nowhere (λ (w, e).
-        let (value, is) = kind_of s.kind (length s.elements.items) w
-            (sym (holds.there place s at) ∙ e) in
-        none value is)) done
+    where
+      pub fills_nowhere : (v : Value A) → ((value : Bor (Value A)) → s.kind ≡ kinds.Value value → ⊥)
+          → (done : Unit {0}) → FillsBy (λ t p r. Fills t p v r) slots place (Ok done) slots
+      fills_nowhere v none done =
+          fills_none (λ t p r. Fills t p v r) slots place (slice_get_within slots place s at)
+          (λ tree path holds. runs.nowhere (λ (w, e).
+          let (value, is) = kind_of s.kind (length s.elements.items) w
+          (sym (holds.there place s at) ∙ e) in
+          none value is)) done
 
-    module _ (value : Bor (Value A)) (is : s.kind ≡ kinds.Value value) where
-      has_value : (tree : Tree A) (path : ℕ → Path) → Holds slots tree path
-          → HasValue tree (path place)
-      has_value tree path holds = (
-        value.now,
-        holds.there place s at ∙ ap (λ k. node_of k (length s.elements.items)) is,
-      )
+      module _ (value : Bor (Value A)) (is : s.kind ≡ kinds.Value value) where
+        has_value : (tree : Tree A) (path : ℕ → Path) → Holds slots tree path
+            → HasValue tree (path place)
+        has_value tree path holds = (
+          value.now,
+          holds.there place s at ∙ ap (λ k. node_of k (length s.elements.items)) is,
+        )
 
-      pub fills_array : (v : Value A) (vs : Vec (Value A) A) → v ≡ values.Array vs
-          → (parts : List (Value A)) → parts ≡ vs.items
-          → (answer : Result (Unit {0}) Stop) (new : List (Slot A))
-          → FillsBy (λ t p r. FillsPlaces t p parts r) slots place answer new
-          → FillsBy (λ t p r. Fills t p v r) slots place answer new
-      fills_array v vs e parts same answer new told =
-          fills_more (λ t p r. FillsPlaces t p parts r) (λ t p r. Fills t p v r) slots new place
-          answer (λ tree path holds r by. runs.array vs (has_value tree path holds) e
-          (subst (λ l. FillsPlaces tree (path place) l r) same by)) told
+        pub fills_array : (v : Value A) (vs : Vec (Value A) A) → v ≡ values.Array vs
+            → (parts : List (Value A)) → parts ≡ vs.items
+            → (answer : Result (Unit {0}) Stop) (new : List (Slot A))
+            → FillsBy (λ t p r. FillsPlaces t p parts r) slots place answer new
+            → FillsBy (λ t p r. Fills t p v r) slots place answer new
+        fills_array v vs e parts same answer new told =
+            fills_more (λ t p r. FillsPlaces t p parts r) (λ t p r. Fills t p v r) slots new place
+            answer (λ tree path holds r by. runs.array vs (has_value tree path holds) e
+            (subst (λ l. FillsPlaces tree (path place) l r) same by)) told
 
-      pub fills_inline : (v : Value A) (es : Vec (Key A × Value A) A) → v ≡ values.Table es
-          → (parts : List (Key A × Value A)) → parts ≡ es.items
-          → (answer : Result (Unit {0}) Stop) (new : List (Slot A))
-          → FillsBy (λ t p r. FillsNames t p parts r) slots place answer new
-          → FillsBy (λ t p r. Fills t p v r) slots place answer new
-      fills_inline v es e parts same answer new told =
-          fills_more (λ t p r. FillsNames t p parts r) (λ t p r. Fills t p v r) slots new place
-          answer (λ tree path holds r by. runs.inline es (has_value tree path holds) e
-          (subst (λ l. FillsNames tree (path place) l r) same by)) told
+        pub fills_inline : (v : Value A) (es : Vec (Key A × Value A) A) → v ≡ values.Table es
+            → (parts : List (Key A × Value A)) → parts ≡ es.items
+            → (answer : Result (Unit {0}) Stop) (new : List (Slot A))
+            → FillsBy (λ t p r. FillsNames t p parts r) slots place answer new
+            → FillsBy (λ t p r. Fills t p v r) slots place answer new
+        fills_inline v es e parts same answer new told =
+            fills_more (λ t p r. FillsNames t p parts r) (λ t p r. Fills t p v r) slots new place
+            answer (λ tree path holds r by. runs.inline es (has_value tree path holds) e
+            (subst (λ l. FillsNames tree (path place) l r) same by)) told
 
-    pub fills_single : (v : Value A) → ((vs : Vec (Value A) A) → v ≡ values.Array vs → ⊥)
-        → ((es : Vec (Key A × Value A) A) → v ≡ values.Table es → ⊥) → (done : Unit {0})
-        → FillsBy (λ t p r. Fills t p v r) slots place (Ok done) slots
-    fills_single v no_array no_table done =
-        fills_none (λ t p r. Fills t p v r) slots place (slice_get_within slots place s at)
-        (λ tree path holds. runs.single no_array no_table) done
+      pub fills_single : (v : Value A) → ((vs : Vec (Value A) A) → v ≡ values.Array vs → ⊥)
+          → ((es : Vec (Key A × Value A) A) → v ≡ values.Table es → ⊥) → (done : Unit {0})
+          → FillsBy (λ t p r. Fills t p v r) slots place (Ok done) slots
+      fills_single v no_array no_table done =
+          fills_none (λ t p r. Fills t p v r) slots place (slice_get_within slots place s at)
+          (λ tree path holds. runs.single no_array no_table) done
 
   module _ (old mid : List (Slot A)) (place : ℕ) (inside : place < length old) where
     -- ---- elements of an array
@@ -194,25 +194,29 @@ module _ {A : Type 0} where
           let (first, was_there) = some_there old place inside in
           let (value, is_value) = has first was_there in
           let here : tree q ≡ valued value.now =
-              holds.there place first was_there
-              ∙ ap (λ kind. node_of kind (length first.elements.items)) is_value in
+          holds.there place first was_there
+          ∙ ap (λ kind. node_of kind (length first.elements.items)) is_value in
           let then_here : next (goes.paths place) ≡ valued value.now =
-              ap next goes.at ∙ keeps q value.now here in
+          ap next goes.at ∙ keeps q value.now here in
           let node : node_of was.kind (n + 1) ≡ next (goes.paths place) =
-              same_value was.kind n (n + 1) value.now
-              (sym (goes.holds.there place was at) ∙ then_here) ∙ sym then_here in
+          same_value was.kind n (n + 1) value.now
+          (sym (goes.holds.there place was at) ∙ then_here) ∙ sym then_here in
           let added = adds next goes.paths was goes.holds at in
-          let e : (put (put next (goes.paths place) (node_of was.kind (n + 1)))
-              (placed n ∷ goes.paths place) (valued part.now), placed n ∷ goes.paths place)
-              ≡ (put next (placed n ∷ q) (valued part.now), placed n ∷ q) =
-              ap (λ t. (put t (placed n ∷ goes.paths place) (valued part.now),
-              placed n ∷ goes.paths place))
-              (put_same next (goes.paths place) (node_of was.kind (n + 1)) (sym node))
-              ∙ ap (λ p. (put next (placed n ∷ p) (valued part.now), placed n ∷ p)) goes.at in
+          let e : (
+            put (put next (goes.paths place) (node_of was.kind (n + 1)))
+                (placed n ∷ goes.paths place) (valued part.now),
+            placed n ∷ goes.paths place,
+          )
+          ≡ (put next (placed n ∷ q) (valued part.now), placed n ∷ q) =
+          ap (λ t. (
+            put t (placed n ∷ goes.paths place) (valued part.now),
+            placed n ∷ goes.paths place,
+          ))
+          (put_same next (goes.paths place) (node_of was.kind (n + 1)) (sym node))
+          ∙ ap (λ p. (put next (placed n ∷ p) (valued part.now), placed n ∷ p)) goes.at in
           let free : next (placed n ∷ q) ≡ nothing =
-              ap (λ p. next (placed n ∷ p)) (sym goes.at)
-              ∙ goes.holds.beyond place was at n (omega arith) in
-          (
+          ap (λ p. next (placed n ∷ p)) (sym goes.at)
+          ∙ goes.holds.beyond place was at n (omega arith) in (
             next,
             f,
             n,
@@ -241,8 +245,7 @@ module _ {A : Type 0} where
           let (next, f, n, is_next, keeps, goes) = element_put tree path holds in
           let q = path place in
           let put_tree = put next (placed n ∷ q) (valued part.now) in
-          let (then_tree, fills, kept, goes_then) = filled put_tree goes.paths goes.holds in
-          (
+          let (then_tree, fills, kept, goes_then) = filled put_tree goes.paths goes.holds in (
             then_tree,
             λ r rest. f r (subst (λ l. FillsPlaces next q l r) (sym there)
                 (runs.place n is_next (subst (λ p. Fills put_tree p part.now (Ok then_tree)) goes.at
@@ -267,8 +270,7 @@ module _ {A : Type 0} where
         → LeftToFill FillsPlaces old place vs k mid → length vs ≤ k → (done : Unit {0})
         → FillsBy (λ t p r. FillsPlaces t p vs r) old place (Ok done) mid
     elements_filled vs k left past done tree path holds =
-        let (next, f, keeps, goes) = left tree path holds in
-        (
+        let (next, f, keeps, goes) = left tree path holds in (
           next,
           f (Ok next) (subst (λ l. FillsPlaces next (path place) l (Ok next))
               (sym (drop_past vs k past)) runs.no_more),
@@ -290,8 +292,7 @@ module _ {A : Type 0} where
       entry_filled done new filled tree path holds =
           let (next, f, keeps, goes) = left tree path holds in
           let q = path place in
-          let (then_tree, fills, kept, goes_then) = filled next goes.paths goes.holds in
-          (
+          let (then_tree, fills, kept, goes_then) = filled next goes.paths goes.holds in (
             then_tree,
             λ r rest. f r (subst (λ l. FillsNames next q l r) (sym there_is)
                 (runs.name (subst (λ p. FillsEntry next p e.0 e.1 (Ok then_tree)) goes.at fills)
@@ -314,8 +315,7 @@ module _ {A : Type 0} where
         → LeftToFill FillsNames old place es k mid → length es ≤ k → (done : Unit {0})
         → FillsBy (λ t p r. FillsNames t p es r) old place (Ok done) mid
     entries_filled es k left past done tree path holds =
-        let (next, f, keeps, goes) = left tree path holds in
-        (
+        let (next, f, keeps, goes) = left tree path holds in (
           next,
           f (Ok next) (subst (λ l. FillsNames next (path place) l (Ok next))
               (sym (drop_past es k past)) runs.no_more_names),
@@ -334,8 +334,7 @@ module _ {A : Type 0} where
         → FillsBy (λ t p r. FillsEntry t p key v r) old place answer new
     value_filled below mid said (Ok done) new filled = λ tree path holds.
         let (s, told, goes) = said tree path holds in
-        let (next, fills, keeps, goes_then) = filled s.0 goes.paths goes.holds in
-        (
+        let (next, fills, keeps, goes_then) = filled s.0 goes.paths goes.holds in (
           next,
           runs.entry s told (subst (λ p. Fills s.0 p v (Ok next)) goes.at fills),
           keeps_then (key_keeps v (tree, path place) s key.names.items told) keeps,

@@ -1,31 +1,16 @@
 -- Places that change or are added hold what is put there.
-use Rattle.std.specs.Prelude.{◌≡◌, ◌⊎◌, ℕ, zero, suc, ◌+◌, ◌<◌, ◌≤◌, ◌==◌, Bool, true, false, cond}
-use Rattle.std.specs.Prelude.{List, [], ◌∷◌, ◌++◌, length, set, Option, Some, None, slice_get}
-use Rattle.std.specs.Prelude.{Result, Ok, Err}
-use Rattle.std.specs.Borrow.{Bor}
-use Rattle.std.specs.BTreeMap.{BTreeMap, get_by}
-use Rattle.std.specs.Cmp.Lexicographic.{slice_cmp}
-use Rattle.std.specs.Ordering.{nat_cmp}
+use Rattle.std.specs.Prelude.{◌≡◌, ◌⊎◌, ℕ, zero, suc, ◌<◌, ◌≤◌}
+use Rattle.std.specs.Prelude.{List, [], ◌∷◌, ◌++◌, length, set, Some, slice_get}
 use Rattle.std.proofs.Common.{refl, sym, ap, subst, inl, inr, ◌∙◌, arith}
-use Rattle.std.proofs.lemmas.Bool.{cases_eq}
-use Rattle.std.proofs.lemmas.Bool.Decides.{Decides-eqb}
-use Rattle.std.proofs.lemmas.List.{length-append, length-set}
+use Rattle.std.proofs.lemmas.List.{length-set}
 use Rattle.std.proofs.lemmas.Option.{slice_get_within}
 use Rattle.format_toml_tree.specs.Paths.{Path, Step, named, placed, put, put_here, put_apart}
-use Rattle.format_toml_tree.specs.Paths.{first_same, no_place, others_same, same_name, same_place}
-use Rattle.format_toml_tree.specs.Rules.{Node, Says, nothing, valued, super, header, dotted, tables}
-use Rattle.format_toml_tree.specs.Rules.{passes, defines, adds, dots, gives}
-use Rattle.format_toml_tree.specs.Runs.{State, Tree}
-use Rattle.format_toml_tree.specs.declared.roles.Refusal.{Refusal}
-use Rattle.format_toml_tree.specs.declared.roles.Role.{Role}
-use Rattle.format_toml_tree.specs.declared.roles.Role.TheVariants as roles
+use Rattle.format_toml_tree.specs.Rules.{nothing}
+use Rattle.format_toml_tree.specs.Runs.{Tree}
 use Rattle.format_toml_tree.specs.declared.tree.Kind.{Kind}
 use Rattle.format_toml_tree.specs.declared.tree.Kind.TheVariants as kinds
 use Rattle.format_toml_tree.specs.declared.tree.Slot.{Slot}
-use Rattle.format_toml_tree.specs.declared.tree.Stop.{Stop}
-use Rattle.format_toml_tree.specs.declared.tree.Stop.TheVariants.{OutOfMemory, Refused}
-
-use Rattle.format_toml_tree.specs.Holds.{Goes, Holds, find, node_at, node_of}
+use Rattle.format_toml_tree.specs.Holds.{Holds, find, node_at, node_of}
 
 -- ---- places of lists
 
@@ -105,8 +90,12 @@ module _ {A : Type 0} where
           → (t : Slot A) × (slice_get slots i ≡ Some t) × (s.places ≡ t.places)
           × (s.elements ≡ t.elements)
       before i s g = elim (get_set slots j now s i g) [
-        | inl (a, b) ↦ (was, ap (λ n. slice_get slots n) a ∙ at,
-            ap (λ t. t.places) b ∙ places, ap (λ t. t.elements) b ∙ elements)
+        | inl (a, b) ↦ (
+          was,
+          ap (λ n. slice_get slots n) a ∙ at,
+          ap (λ t. t.places) b ∙ places,
+          ap (λ t. t.elements) b ∙ elements,
+        )
         | inr (a, b) ↦ (s, b, refl, refl)
       ]
 
@@ -135,7 +124,7 @@ module _ {A : Type 0} where
             (is.beyond i t h k (subst (λ v. length v.items ≤ k) q f));
         below = λ p e none.
             let other : p ≡ path j → ⊥ = λ f. some_node now.kind (length now.elements.items)
-                (sym (put_here tree (path j) (node_at now) p f) ∙ none) in
+            (sym (put_here tree (path j) (node_at now) p f) ∙ none) in
             still_none (e ∷ p)
             (is.below p e (sym (put_apart tree (path j) (node_at now) p other) ∙ none));
       }

@@ -1,11 +1,11 @@
 -- The tree that the statements of a document give, or the first that is refused (TOML 1.0).
-use Rattle.std.specs.Prelude.{◌≡◌, ℕ, zero, suc, ◌+◌, ◌<◌, List, [], ◌∷◌, Result, Ok, Err, Option, Some, None}
+use Rattle.std.specs.Prelude.{◌≡◌, ℕ, suc, ◌+◌, ◌<◌, List, [], ◌∷◌, Result, Ok, Err, Option, Some, None}
 use Rattle.std.specs.Prelude.{string_bytes}
 use Rattle.std.specs.declared.string.String.{String}
 use Rattle.std.specs.declared.vec.Vec.{Vec}
 use Rattle.format_toml_tree.specs.Paths.{Path, named, placed, put}
 use Rattle.format_toml_tree.specs.Rules.{Node, Says, ruled}
-use Rattle.format_toml_tree.specs.Rules.{nothing, valued, super, header, dotted, tables}
+use Rattle.format_toml_tree.specs.Rules.{nothing, valued, header, tables}
 use Rattle.format_toml_tree.specs.Rules.{passes, defines, adds, dots, gives}
 use Rattle.format_toml_tree.specs.declared.roles.Refusal.{Refusal}
 use Rattle.format_toml_tree.specs.declared.value.Key.{Key}
@@ -105,16 +105,16 @@ module _ {A : Type 0} where
 
     -- Keys are given their values in the table of a path, one after the other.
     pub data FillsNames : Tree A → Path → List (Key A × Value A) → Result (Tree A) Refusal → Type 0
-        where
-      no_more_names : {tree : Tree A} {q : Path} → FillsNames tree q [] (Ok tree)
-      name : {tree next : Tree A} {q : Path} {e : Key A × Value A}
-          {es : List (Key A × Value A)} {r : Result (Tree A) Refusal}
-          → FillsEntry tree q e.0 e.1 (Ok next)
-          → FillsNames next q es r → FillsNames tree q (e ∷ es) r
-      name_refused : {tree : Tree A} {q : Path} {e : Key A × Value A}
-          {es : List (Key A × Value A)} {why : Refusal}
-          → FillsEntry tree q e.0 e.1 (Err why)
-          → FillsNames tree q (e ∷ es) (Err why)
+      where
+        no_more_names : {tree : Tree A} {q : Path} → FillsNames tree q [] (Ok tree)
+        name : {tree next : Tree A} {q : Path} {e : Key A × Value A}
+            {es : List (Key A × Value A)} {r : Result (Tree A) Refusal}
+            → FillsEntry tree q e.0 e.1 (Ok next)
+            → FillsNames next q es r → FillsNames tree q (e ∷ es) r
+        name_refused : {tree : Tree A} {q : Path} {e : Key A × Value A}
+            {es : List (Key A × Value A)} {why : Refusal}
+            → FillsEntry tree q e.0 e.1 (Err why)
+            → FillsNames tree q (e ∷ es) (Err why)
 
     -- A key is given its value in the table of a path.
     pub data FillsEntry : Tree A → Path → Key A → Value A → Result (Tree A) Refusal → Type 0 where
@@ -134,13 +134,13 @@ module _ {A : Type 0} where
 
   -- The lines of a document, from the k-th on, give a tree, or one of them is refused first.
   pub data Gives : State A → ℕ → List (Option (Item A)) → Result (Tree A) (ℕ × Refusal) → Type 0
-      where
-    ended : {s : State A} {k : ℕ} → Gives s k [] (Ok s.0)
-    blank : {s : State A} {k : ℕ} {lines : List (Option (Item A))}
-        {r : Result (Tree A) (ℕ × Refusal)}
-        → Gives s (k + 1) lines r → Gives s k (None ∷ lines) r
-    accepted : {s t : State A} {k : ℕ} {item : Item A} {lines : List (Option (Item A))}
-        {r : Result (Tree A) (ℕ × Refusal)} → Runs s item (Ok t)
-        → Gives t (k + 1) lines r → Gives s k (Some item ∷ lines) r
-    refused : {s : State A} {k : ℕ} {item : Item A} {lines : List (Option (Item A))}
-        {why : Refusal} → Runs s item (Err why) → Gives s k (Some item ∷ lines) (Err (k, why))
+    where
+      ended : {s : State A} {k : ℕ} → Gives s k [] (Ok s.0)
+      blank : {s : State A} {k : ℕ} {lines : List (Option (Item A))}
+          {r : Result (Tree A) (ℕ × Refusal)}
+          → Gives s (k + 1) lines r → Gives s k (None ∷ lines) r
+      accepted : {s t : State A} {k : ℕ} {item : Item A} {lines : List (Option (Item A))}
+          {r : Result (Tree A) (ℕ × Refusal)} → Runs s item (Ok t)
+          → Gives t (k + 1) lines r → Gives s k (Some item ∷ lines) r
+      refused : {s : State A} {k : ℕ} {item : Item A} {lines : List (Option (Item A))}
+          {why : Refusal} → Runs s item (Err why) → Gives s k (Some item ∷ lines) (Err (k, why))

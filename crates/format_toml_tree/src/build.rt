@@ -37,10 +37,8 @@ impl From<AllocError> for Fault {
 
 /// Why some lines have no tree, where one of them stops.
 fn fault_at(line: usize, stop: Stop) -> Fault
-    ensures {
-        (at : ℕ) (why : Refusal) → result ≡ Refused at why
-            → (at ≡ line) × (stop ≡ StoppedBy why)
-    }
+    ensures { (at : ℕ) (why : Refusal) → result ≡ Refused at why
+        → (at ≡ line) × (stop ≡ StoppedBy why) }
 {
     match stop {
         Stop::OutOfMemory => Fault::OutOfMemory,
@@ -53,14 +51,10 @@ pub fn build<'t, A: Allocator + Copy>(
     alloc: A,
     lines: &'t [Option<Item<A>>],
 ) -> Result<Tree<'t, A>, Fault>
-    ensures accepted {
-        IfOk result (λ tree. (given : Given A) × Gives (empty, []) 0 lines.now (Ok given)
-            × HoldsTree tree.slots.items given)
-    }
-    ensures refused {
-        (line : ℕ) (why : Refusal) → result ≡ Err (Refused line why)
-            → Gives (empty, []) 0 lines.now (Err (line, why))
-    }
+    ensures accepted { IfOk result (λ tree. (given : Given A) × Gives (empty, []) 0 lines.now (Ok given)
+        × HoldsTree tree.slots.items given) }
+    ensures refused { (line : ℕ) (why : Refusal) → result ≡ Err (Refused line why)
+        → Gives (empty, []) 0 lines.now (Err (line, why)) }
 {
     let mut tree = Tree::new(alloc)?;
     let mut table = 0;

@@ -59,13 +59,8 @@ pub fn first<'t, A: Allocator>(role: Role<'t, A>) -> Kind<'t, A>
 }
 
 /// What there is where there was something, and a line says this of it.
-pub fn next<'t, A: Allocator>(
-    kind: &Kind<'t, A>,
-    role: Role<'t, A>,
-) -> Result<Kind<'t, A>, Refusal>
-    ensures {
-        (n : ℕ) → ruled (says_of role.entry) (node_of kind.now n) ≡ nodes_of result n
-    }
+pub fn next<'t, A: Allocator>(kind: &Kind<'t, A>, role: Role<'t, A>) -> Result<Kind<'t, A>, Refusal>
+    ensures { (n : ℕ) → ruled (says_of role.entry) (node_of kind.now n) ≡ nodes_of result n }
 {
     match (role, kind) {
         (Role::Through, Kind::Super) => Ok(Kind::Super),

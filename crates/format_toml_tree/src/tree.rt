@@ -103,10 +103,8 @@ impl<'t, A: Allocator + Copy> Tree<'t, A> {
         kind: Kind<'t, A>,
     ) -> Result<usize, AllocError>
         requires { table < length self.old.slots.items }
-        ensures {
-            IfOk result (λ j. AddsEntry self.old.slots.items table name.now kind.entry j
-                self.new.slots.items)
-        }
+        ensures { IfOk result (λ j. AddsEntry self.old.slots.items table name.now kind.entry j
+            self.new.slots.items) }
     {
         let place = self.push(alloc, name, kind)?;
         let slot = &mut self.slots[table];
@@ -123,10 +121,8 @@ impl<'t, A: Allocator + Copy> Tree<'t, A> {
         kind: Kind<'t, A>,
     ) -> Result<usize, AllocError>
         requires { array < length self.old.slots.items }
-        ensures {
-            IfOk result (λ j. AddsElement self.old.slots.items array kind.entry j
-                self.new.slots.items)
-        }
+        ensures { IfOk result (λ j. AddsElement self.old.slots.items array kind.entry j
+            self.new.slots.items) }
     {
         let place = self.push(alloc, "", kind)?;
         let slot = &mut self.slots[array];
@@ -137,10 +133,8 @@ impl<'t, A: Allocator + Copy> Tree<'t, A> {
     /// Where lines go on that pass through a place: in the last table of an array of tables.
     fn inside(&self, place: usize) -> usize
         requires { place < length self.now.slots.items }
-        ensures {
-            (s : Slot A) → slice_get self.now.slots.items place ≡ Some s
-                → IsInside (node_at s) s.elements.items place result
-        }
+        ensures { (s : Slot A) → slice_get self.now.slots.items place ≡ Some s
+            → IsInside (node_at s) s.elements.items place result }
     {
         let slot = &self.slots[place];
         match (slot.kind, slot.elements.as_slice().last()) {
@@ -158,10 +152,8 @@ impl<'t, A: Allocator + Copy> Tree<'t, A> {
         role: Role<'t, A>,
     ) -> Result<usize, Stop>
         requires { Stands self.old.slots.items table }
-        ensures {
-            Sets self.old.slots.items table name.now (says_of role.entry) result
-                self.new.slots.items
-        }
+        ensures { Sets self.old.slots.items table name.now (says_of role.entry) result
+            self.new.slots.items }
     {
         let found = self.slots[table].places.get(name).copied();
         match found {
@@ -180,17 +172,10 @@ impl<'t, A: Allocator + Copy> Tree<'t, A> {
     }
 
     /// Where lines go on that say something of a place: in the table that it adds, or inside.
-    fn open(
-        &mut self,
-        alloc: A,
-        place: usize,
-        role: Role<'t, A>,
-    ) -> Result<usize, AllocError>
+    fn open(&mut self, alloc: A, place: usize, role: Role<'t, A>) -> Result<usize, AllocError>
         requires { place < length self.old.slots.items }
-        ensures {
-            IfOk result (λ j. Opens self.old.slots.items place (says_of role.entry) j
-                self.new.slots.items)
-        }
+        ensures { IfOk result (λ j. Opens self.old.slots.items place (says_of role.entry) j
+            self.new.slots.items) }
     {
         match role {
             Role::Tables => match self.slots[place].kind {
@@ -210,10 +195,8 @@ impl<'t, A: Allocator + Copy> Tree<'t, A> {
         role: Role<'t, A>,
     ) -> Result<usize, Stop>
         requires { Stands self.old.slots.items table }
-        ensures {
-            SaysName self.old.slots.items table name.now (says_of role.entry) result
-                self.new.slots.items
-        }
+        ensures { SaysName self.old.slots.items table name.now (says_of role.entry) result
+            self.new.slots.items }
     {
         let place = self.set(alloc, table, name, role)?;
         Ok(self.open(alloc, place, role)?)
@@ -229,10 +212,8 @@ impl<'t, A: Allocator + Copy> Tree<'t, A> {
         role: Role<'t, A>,
     ) -> Result<usize, Stop>
         requires { Stands self.old.slots.items table }
-        ensures {
-            SaysKey self.old.slots.items table key.now.names.items (says_of passes.entry)
-                (says_of role.entry) result self.new.slots.items
-        }
+        ensures { SaysKey self.old.slots.items table key.now.names.items (says_of passes.entry)
+            (says_of role.entry) result self.new.slots.items }
     {
         let names = key.names.as_slice();
         let mut table = table;
@@ -248,10 +229,8 @@ impl<'t, A: Allocator + Copy> Tree<'t, A> {
     #[cycle(fill)]
     fn fill(&mut self, alloc: A, place: usize, value: &'t Value<A>) -> Result<(), Stop>
         requires { Stands self.old.slots.items place }
-        ensures {
-            FillsBy (λ t p r. Fills t p value.now r) self.old.slots.items place result
-                self.new.slots.items
-        }
+        ensures { FillsBy (λ t p r. Fills t p value.now r) self.old.slots.items place result
+            self.new.slots.items }
     {
         let Kind::Value(_) = self.slots[place].kind else {
             return Ok(());
@@ -265,18 +244,11 @@ impl<'t, A: Allocator + Copy> Tree<'t, A> {
 
     /// Adds elements to an array, with their parts.
     #[cycle(fill)]
-    fn fill_elements(
-        &mut self,
-        alloc: A,
-        place: usize,
-        parts: &'t [Value<A>],
-    ) -> Result<(), Stop>
+    fn fill_elements(&mut self, alloc: A, place: usize, parts: &'t [Value<A>]) -> Result<(), Stop>
         requires stands { Stands self.old.slots.items place }
         requires valued { IsValueAt self.old.slots.items place }
-        ensures {
-            FillsBy (λ t p r. FillsPlaces t p parts.now r) self.old.slots.items place result
-                self.new.slots.items
-        }
+        ensures { FillsBy (λ t p r. FillsPlaces t p parts.now r) self.old.slots.items place result
+            self.new.slots.items }
     {
         for part in parts {
             let below = self.add_element(alloc, place, Kind::Value(part))?;
@@ -294,10 +266,8 @@ impl<'t, A: Allocator + Copy> Tree<'t, A> {
         parts: &'t [(Key<A>, Value<A>)],
     ) -> Result<(), Stop>
         requires { Stands self.old.slots.items place }
-        ensures {
-            FillsBy (λ t p r. FillsNames t p parts.now r) self.old.slots.items place result
-                self.new.slots.items
-        }
+        ensures { FillsBy (λ t p r. FillsNames t p parts.now r) self.old.slots.items place result
+            self.new.slots.items }
     {
         for part in parts {
             self.fill_entry(alloc, place, part)?;
@@ -314,10 +284,8 @@ impl<'t, A: Allocator + Copy> Tree<'t, A> {
         part: &'t (Key<A>, Value<A>),
     ) -> Result<(), Stop>
         requires { Stands self.old.slots.items place }
-        ensures {
-            FillsBy (λ t p r. FillsEntry t p part.now.0 part.now.1 r) self.old.slots.items place
-                result self.new.slots.items
-        }
+        ensures { FillsBy (λ t p r. FillsEntry t p part.now.0 part.now.1 r) self.old.slots.items place
+            result self.new.slots.items }
     {
         let (key, value) = part;
         let below = self.say_key(alloc, place, key, Role::Dotted, Role::Value(value))?;
@@ -325,12 +293,7 @@ impl<'t, A: Allocator + Copy> Tree<'t, A> {
     }
 
     /// Adds what a line says, and answers the table that the next line is in.
-    pub(crate) fn add(
-        &mut self,
-        alloc: A,
-        table: usize,
-        item: &'t Item<A>,
-    ) -> Result<usize, Stop>
+    pub(crate) fn add(&mut self, alloc: A, table: usize, item: &'t Item<A>) -> Result<usize, Stop>
         requires { Stands self.old.slots.items table }
         ensures { AddsItem self.old.slots.items table item.now result self.new.slots.items }
     {

@@ -1,4 +1,4 @@
-use Rattle.std.proofs.Common.{[], ◌≡◌, Result, Err, refl, ap, subst, sym, ◌∙◌, ◌+◌}
+use Rattle.std.proofs.Common.{[], ◌≡◌, Result, Err, refl, subst, sym, ◌+◌}
 use Rattle.format_toml_tree.specs.Holds.{AddsItem}
 use Rattle.format_toml_tree.specs.Lines.{LeftToAdd, all_added, left_added, left_blank, left_first}
 use Rattle.format_toml_tree.specs.Lines.{line_refused, none_of, stands}

@@ -1,16 +1,15 @@
-use Rattle.std.proofs.Common.{◌≡◌, ◌<◌, ◌≤◌, ◌+◌, ◌*◌, ℕ, List, length, get_or, max, Some, refl, ap, ◌∙◌, rules}
+use Rattle.std.proofs.Common.{◌≡◌, ◌<◌, ◌≤◌, ◌+◌, ◌*◌, ℕ, List, length, get_or, max, refl, ap, ◌∙◌, rules}
 use Rattle.std.proofs.Common.{arith}
 use Rattle.std.specs.declared.vec.Vec.{Vec}
 use Rattle.std.proofs.lemmas.Option.{slice_get_read}
 use denote.Param.Weighed.{at_most as the_most, most}
 use Rattle.format_toml_tree.specs.Added.{some_there}
 use Rattle.format_toml_tree.specs.Calls.{stays}
-use Rattle.format_toml_tree.specs.Holds.{IsValueAt, Stands}
 use Rattle.format_toml_tree.specs.Parts.{element_filled, element_refused, elements_filled}
 use Rattle.format_toml_tree.specs.Parts.{entries_filled, entry_filled, entry_refused, fills_array}
 use Rattle.format_toml_tree.specs.Parts.{fills_err, fills_inline, fills_nowhere, fills_single}
 use Rattle.format_toml_tree.specs.Parts.{key_refused, value_at, value_filled}
-use Rattle.format_toml_tree.specs.Runs.{Fills, FillsEntry, FillsNames, FillsPlaces}
+use Rattle.format_toml_tree.specs.Runs.{FillsEntry, FillsNames, FillsPlaces}
 use Rattle.format_toml_tree.specs.declared.value.Value.{Value, size-Value, the_lemmas}
 use Rattle.format_toml_tree.specs.declared.value.Value.TheVariants as values
 use Rattle.format_toml_tree.specs.declared.value.Key.{Key}
@@ -23,7 +22,7 @@ array_less : {A : Type 0} (t : ℕ) (v : Value A) (vs : Vec (Value A) A) → v �
     → 3 * most (size-Value A) xs + 1 < t
 array_less {A = A} t v vs e xs f d =
     let deep : size-Value A (values.Array vs) ≡ most (size-Value A) vs.items + 1 =
-        search (rules, the_lemmas) in
+    search (rules, the_lemmas) in
     let size : size-Value A v ≡ most (size-Value A) vs.items + 1 = ap (size-Value A) e ∙ deep in
     let same : most (size-Value A) xs ≡ most (size-Value A) vs.items = ap (most (size-Value A)) f in
     omega (arith, d, size, same)
@@ -37,7 +36,7 @@ table_less : {A : Type 0} (t : ℕ) (v : Value A) (es : Vec (Key A × Value A) A
     → 3 * size-Value A v ≡ t → 3 * most (size_of A) xs + 2 < t
 table_less {A = A} t v es e xs f d =
     let deep : size-Value A (values.Table es) ≡ most (size_of A) es.items + 1 =
-        search (rules, the_lemmas) in
+    search (rules, the_lemmas) in
     let size : size-Value A v ≡ most (size_of A) es.items + 1 = ap (size-Value A) e ∙ deep in
     let same : most (size_of A) xs ≡ most (size_of A) es.items = ap (most (size_of A)) f in
     omega (arith, d, size, same)
@@ -56,7 +55,7 @@ pub fill-returns-in_default : goal.fill-returns-in_default
 fill-returns-in_default g t c =
     let items = c.args.self.now.slots.items in
     let at = slice_get_read items _ c.args.place c.index.result.now refl c.requires.3
-        c.index.ensures in
+    c.index.ensures in
     fills_nowhere items c.args.place c.index.result.now at c.args.value.now
     c.in_default.not-Value tt
 
@@ -64,7 +63,7 @@ pub fill-fill_elements-requires : goal.fill-fill_elements-requires
 fill-fill_elements-requires g t c κs l =
     let items = c.args.self.now.slots.items in
     let at = slice_get_read items _ c.args.place c.index.result.now refl c.requires.3
-        c.index.ensures in
+    c.index.ensures in
     let value = value_at items c.args.place c.index.result.now _ at c.in-Value.is in
     (array_less t c.args.value.now c.in-Array.parts c.in-Array.is c.as_slice.result.now c.as_slice.ensures.value c.decreases, (search rules, record { 0 = c.requires; 1 = value }))
 
@@ -75,7 +74,7 @@ pub fill-returns-in-Array : goal.fill-returns-in-Array
 fill-returns-in-Array g t c =
     let items = c.args.self.now.slots.items in
     let at = slice_get_read items _ c.args.place c.index.result.now refl c.requires.3
-        c.index.ensures in
+    c.index.ensures in
     fills_array items c.args.place c.index.result.now at _ c.in-Value.is c.args.value.now
     c.in-Array.parts c.in-Array.is c.as_slice.result.now c.as_slice.ensures.value
     c.fill_elements.result c.fill_elements.new.self.slots.items c.fill_elements.ensures
@@ -84,7 +83,7 @@ pub fill-returns-in-Table : goal.fill-returns-in-Table
 fill-returns-in-Table g t c =
     let items = c.args.self.now.slots.items in
     let at = slice_get_read items _ c.args.place c.index.result.now refl c.requires.3
-        c.index.ensures in
+    c.index.ensures in
     fills_inline items c.args.place c.index.result.now at _ c.in-Value.is c.args.value.now
     c.in-Table.parts c.in-Table.is c.as_slice-in-Table.result.now
     c.as_slice-in-Table.ensures.value
@@ -94,7 +93,7 @@ pub fill-returns-in_default-value : goal.fill-returns-in_default-value
 fill-returns-in_default-value g t c =
     let items = c.args.self.now.slots.items in
     let at = slice_get_read items _ c.args.place c.index.result.now refl c.requires.3
-        c.index.ensures in
+    c.index.ensures in
     fills_single items c.args.place c.index.result.now at c.args.value.now
     c.in_default-value.not-Array c.in_default-value.not-Table tt
 

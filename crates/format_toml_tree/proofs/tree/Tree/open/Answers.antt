@@ -8,16 +8,16 @@ pub returns-in-Tables-kind : goal.returns-in-Tables-kind
 returns-in-Tables-kind g c =
     let was = c.index.result.now in
     let at = slice_get_read c.args.self.now.slots.items _ c.args.place was refl c.requires
-        c.index.ensures in
+    c.index.ensures in
     if_ok_more c.add_element.result c.add_element.ensures (λ j adds tree path holds.
-        opens_new holds c.args.place was at c.args.role j c.add_element.new.self.slots.items
-        c.in-Tables.is c.in-Tables-kind.is (adds tree path was holds at))
+    opens_new holds c.args.place was at c.args.role j c.add_element.new.self.slots.items
+    c.in-Tables.is c.in-Tables-kind.is (adds tree path was holds at))
 
 pub returns-in_default-kind : goal.returns-in_default-kind
 returns-in_default-kind g c tree path holds =
     let was = c.index.result.now in
     let at = slice_get_read c.args.self.now.slots.items _ c.args.place was refl c.requires
-        c.index.ensures in
+    c.index.ensures in
     opens_none holds c.args.place was at c.args.role c.in-Tables.is c.in_default-kind.not-Tables
 
 pub returns-in_default : goal.returns-in_default

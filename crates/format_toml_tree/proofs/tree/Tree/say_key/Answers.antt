@@ -1,6 +1,6 @@
-use Rattle.std.proofs.Common.{◌≡◌, ◌<◌, ◌≤◌, ◌+◌, List, length, Err, Ok, refl, sym, ap, subst, arith}
+use Rattle.std.proofs.Common.{◌≡◌, ◌<◌, ◌≤◌, ◌+◌, length, Err, Ok, refl, ap, subst, arith}
 use Rattle.format_toml_tree.specs.Calls.{stays}
-use Rattle.format_toml_tree.specs.Holds.{SaysKey, Told, says_of}
+use Rattle.format_toml_tree.specs.Holds.{Told, says_of}
 use Rattle.format_toml_tree.specs.Keys.{all_said, said_more, said_refused}
 use Rattle.format_toml_tree.specs.Opened.{told_err}
 use Rattle.format_toml_tree.specs.Runs.{say, say_key}
@@ -28,16 +28,16 @@ returns-in_err-table g c tree path holds =
     let last = says_of c.args.role in
     let here = says_of c.if-i-names.here in
     let which : (c.loop-i.i + 1 < length names → here ≡ before)
-        × (length names ≤ c.loop-i.i + 1 → here ≡ last) = elim c.if-i-names.branch [
-          | then-i-names w ↦ (
-            λ l. ap (λ r. says_of r) w.here-is,
-            λ l. absurd (omega (arith, l, w.if-i-names.true)),
-          )
-          | else-i-names w ↦ (
-            λ l. absurd (omega (arith, l, w.if-i-names.false)),
-            λ l. ap (λ r. says_of r) w.here-is,
-          )
-        ] in
+    × (length names ≤ c.loop-i.i + 1 → here ≡ last) = elim c.if-i-names.branch [
+      | then-i-names w ↦ (
+        λ l. ap (λ r. says_of r) w.here-is,
+        λ l. absurd (omega (arith, l, w.if-i-names.true)),
+      )
+      | else-i-names w ↦ (
+        λ l. absurd (omega (arith, l, w.if-i-names.false)),
+        λ l. ap (λ r. says_of r) w.here-is,
+      )
+    ] in
     told_err old new path _ c.from_residual.result stop c.from_residual.ensures
     (subst (λ l. Told old path (say_key before last (tree, path c.args.table) l) (Err stop) new)
     c.as_slice-names.ensures.value
@@ -55,16 +55,16 @@ loop-i-preserved g c =
     let last = says_of c.args.role in
     let here = says_of c.if-i-names.here in
     let which : (c.loop-i.i + 1 < length names → here ≡ before)
-        × (length names ≤ c.loop-i.i + 1 → here ≡ last) = elim c.if-i-names.branch [
-          | then-i-names w ↦ (
-            λ l. ap (λ r. says_of r) w.here-is,
-            λ l. absurd (omega (arith, l, w.if-i-names.true)),
-          )
-          | else-i-names w ↦ (
-            λ l. absurd (omega (arith, l, w.if-i-names.false)),
-            λ l. ap (λ r. says_of r) w.here-is,
-          )
-        ] in
+    × (length names ≤ c.loop-i.i + 1 → here ≡ last) = elim c.if-i-names.branch [
+      | then-i-names w ↦ (
+        λ l. ap (λ r. says_of r) w.here-is,
+        λ l. absurd (omega (arith, l, w.if-i-names.true)),
+      )
+      | else-i-names w ↦ (
+        λ l. absurd (omega (arith, l, w.if-i-names.false)),
+        λ l. ap (λ r. says_of r) w.here-is,
+      )
+    ] in
     said_more before last c.args.self.now.slots.items c.args.table names c.loop-i.i c.loop-i.table
     mid c.loop-i.invariant c.index-names-i.result c.loop-i-test.true c.index-names-i.is here which
     c.in_ok-table.table new
