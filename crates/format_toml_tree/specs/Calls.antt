@@ -112,7 +112,8 @@ module _ {A : Type 0} where
           finds = λ other. finds_by other (length old) (bytes_eq name.now other) refl
               (subst (λ n. UpdatesBy (λ x y. slice_cmp nat_cmp x.now y.now)
               (λ k. slice_cmp nat_cmp name.now k.now) was.places now.places (Some n)) j updates);
-          gets = λ k. inr (λ f. no_place name.now k (sym f), ap (λ v. slice_get v.items k) elements);
+          gets = λ k. inr
+              (λ f. no_place name.now k (sym f), ap (λ v. slice_get v.items k) elements);
           beyond = λ k f. (
             λ g. no_place name.now k (sym g),
             subst (λ v. length v.items ≤ k) elements f,

@@ -40,7 +40,8 @@ module _ {A : Type 0} (before last : Says A) where
       → say_key before last s (name ∷ names)
       ≡ then (say here s (string_bytes name)) (λ t. say_key before last t names)
   one_name s name [] here is =
-      ap (λ h. say h s (string_bytes name)) (sym (is.1 refl)) ∙ then_ok (say here s (string_bytes name))
+      ap (λ h. say h s (string_bytes name)) (sym (is.1 refl))
+      ∙ then_ok (say here s (string_bytes name))
   one_name s name (next ∷ names) here is =
       ap (λ h. then (say h s (string_bytes name)) (λ t. say_key before last t (next ∷ names)))
       (sym (is.0 (omega arith)))

@@ -1,6 +1,7 @@
 -- Lines are added to a tree, one after the other.
 use Rattle.std.specs.Prelude.{◌≡◌, ℕ, zero, suc, ◌+◌, ◌<◌, ◌≤◌, List, [], ◌∷◌, length, drop}
-use Rattle.std.specs.Prelude.{get_or, slice_get, Option, Some, None, Result, Ok, Err, IsErr, IsErrAnd, true, false}
+use Rattle.std.specs.Prelude.{get_or, slice_get, Option, Some, None, Result, Ok, Err, IsErr}
+use Rattle.std.specs.Prelude.{IsErrAnd, true, false}
 use Rattle.std.proofs.Common.{refl, sym, ap, subst, ◌∙◌, arith}
 use Rattle.format_toml_tree.specs.Paths.{Path, Step}
 use Rattle.format_toml_tree.specs.Rules.{nothing, passes, defines, adds}
@@ -58,7 +59,8 @@ module _ {A : Type 0} where
         omega arith,
       )
     where
-      empty_below : (p : Path) (e : Step) → empty {A = A} p ≡ nothing → empty {A = A} (e ∷ p) ≡ nothing
+      empty_below : (p : Path) (e : Step) → empty {A = A} p ≡ nothing
+          → empty {A = A} (e ∷ p) ≡ nothing
       empty_below [] e f = refl
       empty_below (d ∷ p) e f = refl
 
@@ -133,7 +135,8 @@ module _ {A : Type 0} where
   -- ---- lines in turn
 
   -- The lines from the k-th on are left to add, to a state that places hold.
-  pub record LeftToAdd (lines : List (Option (Item A))) (k table : ℕ) (slots : List (Slot A)) : Type 0
+  pub record LeftToAdd (lines : List (Option (Item A))) (k table : ℕ)
+      (slots : List (Slot A)) : Type 0
     where
       pub tree : Tree A
       pub path : ℕ → Path

@@ -14,9 +14,6 @@ use Rattle.format_toml_tree.specs.declared.tree.Slot.{Slot}
 use Rattle.format_toml_tree.specs.declared.node.Node.{Node}
 use Rattle.format_toml_tree.specs.declared.value.Value.{Value}
 
-none_some : {X : Type 0} {x : X} → None ≡ Some x → ⊥
-none_some e = cc
-
 module _ {A : Type 0} where
   -- A node is of a tree that is given, at a path of it.
   pub record IsAt (node : Node A) (tree : Tree A) (path : ℕ → Path) (p : Path) : Type 0 where
@@ -74,11 +71,3 @@ module _ {A : Type 0} where
         let (held, kind) = kind_of slot.kind (length slot.elements.items) value
         (sym (is.holds.there node.place slot there) ∙ ap tree is.at ∙ e) in
         other held kind
-
-  -- a node that is of no place is of no tree
-  pub no_place_there : (node : Node A)
-      → slice_get node.tree.now.slots.items node.place ≡ None
-      → (tree : Tree A) (path : ℕ → Path) (p : Path) → IsAt node tree path p → ⊥
-  no_place_there node none tree path p is =
-      let (slot, there) = some_there node.tree.now.slots.items node.place is.within in
-      none_some (sym none ∙ there)

@@ -7,7 +7,8 @@ use Rattle.std.proofs.lemmas.Option.{slice_get_within}
 use Rattle.format_toml_tree.specs.Paths.{Path, named, placed, put, put_here}
 use Rattle.format_toml_tree.specs.Rules.{Node, Says, nothing, ruled}
 use Rattle.format_toml_tree.specs.Runs.{State, Tree, entered, grown, opened, say, then}
-use Rattle.format_toml_tree.specs.Holds.{Goes, Holds, IsInside, Told, find, node_at, node_of, says_of}
+use Rattle.format_toml_tree.specs.Holds.{Goes, Holds, IsInside, Told, find, node_at, node_of}
+use Rattle.format_toml_tree.specs.Holds.{says_of}
 use Rattle.format_toml_tree.specs.Places.{altered}
 use Rattle.format_toml_tree.specs.Calls.{goes_on, stays}
 use Rattle.format_toml_tree.specs.declared.roles.Refusal.{Refusal}
@@ -201,7 +202,8 @@ module _ {A : Type 0} where
       → ruled says (tree (named name ∷ path table)) ≡ Ok node
       → (goes : Goes old path
       (put tree (named name ∷ path table) node, named name ∷ path table) place mid)
-      → Goes mid goes.paths (opened says (put tree (named name ∷ path table) node (goes.paths place))
+      → Goes mid goes.paths
+      (opened says (put tree (named name ∷ path table) node (goes.paths place))
       (put tree (named name ∷ path table) node) (goes.paths place)) j new
       → Told old path (say says (tree, path table) name) (Ok j) new
   say_done {mid = mid} {tree = tree} {path = path} table name says place j new node rule goes next =

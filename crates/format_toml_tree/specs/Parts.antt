@@ -8,10 +8,12 @@ use Rattle.std.proofs.lemmas.Option.{slice_get_within}
 use Rattle.format_toml_tree.specs.Paths.{Path, placed, put, put_same}
 use Rattle.format_toml_tree.specs.Rules.{nothing, valued, super, header, dotted, tables}
 use Rattle.format_toml_tree.specs.Rules.{dots, gives}
-use Rattle.format_toml_tree.specs.Runs.{Fills, FillsEntry, FillsNames, FillsPlaces, HasValue, IsNext}
+use Rattle.format_toml_tree.specs.Runs.{Fills, FillsEntry, FillsNames, FillsPlaces, HasValue}
+use Rattle.format_toml_tree.specs.Runs.{IsNext}
 use Rattle.format_toml_tree.specs.Runs.{State, Tree, say_key}
 use Rattle.format_toml_tree.specs.Runs as runs
-use Rattle.format_toml_tree.specs.Holds.{AddsElement, FillsBy, Goes, Holds, IsValueAt, Keeps, SaysKey}
+use Rattle.format_toml_tree.specs.Holds.{AddsElement, FillsBy, Goes, Holds, IsValueAt, Keeps}
+use Rattle.format_toml_tree.specs.Holds.{SaysKey}
 use Rattle.format_toml_tree.specs.Holds.{node_of}
 use Rattle.format_toml_tree.specs.Added.{some_there}
 use Rattle.format_toml_tree.specs.Calls.{goes_on, stays}

@@ -60,12 +60,6 @@ module _ {A : Type 0} where
     nowhere i s g p none e = some_node s.kind (length s.elements.items)
         (sym (is.there i s g) ∙ ap tree (sym e) ∙ none)
 
-    -- what a place becomes, that keeps the places below it
-    pub record Alters (was : Slot A) (kind : Kind A) (now : Slot A) : Type 0 where
-      pub kind_is : now.kind ≡ kind
-      pub places_are : now.places ≡ was.places
-      pub elements_are : now.elements ≡ was.elements
-
     module _ (j : ℕ) (was now : Slot A) (at : slice_get slots j ≡ Some was)
         (places : now.places ≡ was.places) (elements : now.elements ≡ was.elements) where
       abbrev then_tree : Tree A
@@ -81,7 +75,8 @@ module _ {A : Type 0} where
         | inl (a, b) ↦ put_here tree (path j) (node_at now) (path i) (ap path a)
             ∙ ap (λ t. node_at t) (sym b)
         | inr (a, b) ↦ put_apart tree (path j) (node_at now) (path i)
-            (λ e. a (is.apart i j (slice_get_within slots i s b) (slice_get_within slots j was at) e))
+            (λ e. a (is.apart i j (slice_get_within slots i s b)
+            (slice_get_within slots j was at) e))
             ∙ is.there i s b
       ]
 

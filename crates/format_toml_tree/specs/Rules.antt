@@ -2,7 +2,8 @@
 -- Array of Tables).
 use Rattle.std.specs.Prelude.{ℕ, Result, Ok, Err}
 use Rattle.format_toml_tree.specs.declared.roles.Refusal.{Refusal}
-use Rattle.format_toml_tree.specs.declared.roles.Refusal.TheVariants.{Defined, NoTable, Closed, NoTables}
+use Rattle.format_toml_tree.specs.declared.roles.Refusal.TheVariants.{Defined, NoTable, Closed}
+use Rattle.format_toml_tree.specs.declared.roles.Refusal.TheVariants.{NoTables}
 use Rattle.format_toml_tree.specs.declared.value.Value.{Value, out-Value}
 use Rattle.format_toml_tree.specs.declared.value.Value.TheOpen as forms
 

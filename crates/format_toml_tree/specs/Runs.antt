@@ -1,5 +1,6 @@
 -- The tree that the statements of a document give, or the first that is refused (TOML 1.0).
-use Rattle.std.specs.Prelude.{◌≡◌, ℕ, suc, ◌+◌, ◌<◌, List, [], ◌∷◌, Result, Ok, Err, Option, Some, None}
+use Rattle.std.specs.Prelude.{◌≡◌, ℕ, suc, ◌+◌, ◌<◌, List, [], ◌∷◌, Result, Ok, Err, Option, Some}
+use Rattle.std.specs.Prelude.{None}
 use Rattle.std.specs.Prelude.{string_bytes}
 use Rattle.std.specs.declared.string.String.{String}
 use Rattle.std.specs.declared.vec.Vec.{Vec}
@@ -125,7 +126,8 @@ module _ {A : Type 0} where
           (s : State A) → say_key dots (gives v) (tree, q) key.names.items ≡ Ok s
           → Fills s.0 s.1 v r → FillsEntry tree q key v r
 
-  -- A statement, from the tree and the table that it is in to those behind it, or why it is refused.
+  -- A statement, from the tree and the table that it is in to those behind it, or why it is
+  -- refused.
   abbrev pub Runs : State A → Item A → Result (State A) Refusal → Type 0
   Runs s (items.Table key) r = r ≡ say_key passes defines (s.0, []) key.names.items
   Runs s (items.Tables key) r = r ≡ say_key passes adds (s.0, []) key.names.items

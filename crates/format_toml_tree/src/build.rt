@@ -47,11 +47,35 @@ fn fault_at(line: usize, stop: Stop) -> Fault
 }
 
 /// The tree of some lines, or the first that is refused.
+///
+/// It fails with the number of the line, counted from 0, and why it is refused; or where a request
+/// for memory was refused. The tree borrows names and values from the lines. Time is by the number
+/// of all names, and for each by the logarithm of the number of entries of its table.
+///
+/// ```
+/// use format_toml_tree::build::build;
+/// use format_toml_tree::value::{Item, Key, Value};
+///
+/// // What `port = 80` says.
+/// let mut names = Vec::new(alloc);
+/// if let Ok(name) = String::from_str(alloc, "port") {
+///     let _ = names.push(name);
+/// }
+/// let lines = [Some(Item::Entry(Key { names }, Value::Integer(80)))];
+/// match build(alloc, &lines) {
+///     Ok(tree) => {
+///         let port = tree.root().get("port").and_then(|node| node.as_i64());
+///         assert_eq!(rt; port, Some(80));
+///     }
+///     Err(_) => assert!(rt; false),
+/// }
+/// ```
 pub fn build<'t, A: Allocator + Copy>(
     alloc: A,
     lines: &'t [Option<Item<A>>],
 ) -> Result<Tree<'t, A>, Fault>
-    ensures accepted { IfOk result (λ tree. (given : Given A) × Gives (empty, []) 0 lines.now (Ok given)
+    ensures accepted { IfOk result
+        (λ tree. (given : Given A) × Gives (empty, []) 0 lines.now (Ok given)
         × HoldsTree tree.slots.items given) }
     ensures refused { (line : ℕ) (why : Refusal) → result ≡ Err (Refused line why)
         → Gives (empty, []) 0 lines.now (Err (line, why)) }

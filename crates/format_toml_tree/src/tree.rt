@@ -1,8 +1,10 @@
 //! The tree of a document.
 ghost use Rattle.std.specs.Prelude.{◌≡◌, ◌<◌, ◌≤◌, length, IfOk, slice_get, Some};
 ghost use Rattle.format_toml_tree.specs.Runs.{Fills, FillsEntry, FillsNames, FillsPlaces};
-ghost use Rattle.format_toml_tree.specs.Holds.{AddsElement, AddsEntry, AddsItem, FillsBy, IsInside, IsValueAt, Opens};
-ghost use Rattle.format_toml_tree.specs.Holds.{Pushes, SaysKey, SaysName, Sets, Stands, StartsEmpty, node_at};
+ghost use Rattle.format_toml_tree.specs.Holds.{AddsElement, AddsEntry, AddsItem, FillsBy, IsInside};
+ghost use Rattle.format_toml_tree.specs.Holds.{IsValueAt, Opens};
+ghost use Rattle.format_toml_tree.specs.Holds.{Pushes, SaysKey, SaysName, Sets, Stands};
+ghost use Rattle.format_toml_tree.specs.Holds.{StartsEmpty, node_at};
 ghost use Rattle.format_toml_tree.specs.Holds.{says_of};
 
 use crate::roles::{Refusal, Role, first, next};
@@ -224,7 +226,8 @@ impl<'t, A: Allocator + Copy> Tree<'t, A> {
         Ok(table)
     }
 
-    /// Adds the parts of a value below its place: the elements of an array, the entries of an inline
+    /// Adds the parts of a value below its place: the elements of an array, the entries of an
+    /// inline
     /// table.
     #[cycle(fill)]
     fn fill(&mut self, alloc: A, place: usize, value: &'t Value<A>) -> Result<(), Stop>
@@ -284,7 +287,8 @@ impl<'t, A: Allocator + Copy> Tree<'t, A> {
         part: &'t (Key<A>, Value<A>),
     ) -> Result<(), Stop>
         requires { Stands self.old.slots.items place }
-        ensures { FillsBy (λ t p r. FillsEntry t p part.now.0 part.now.1 r) self.old.slots.items place
+        ensures { FillsBy (λ t p r. FillsEntry t p part.now.0 part.now.1 r) self.old.slots.items
+            place
             result self.new.slots.items }
     {
         let (key, value) = part;

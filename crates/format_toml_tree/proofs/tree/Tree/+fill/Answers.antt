@@ -1,4 +1,5 @@
-use Rattle.std.proofs.Common.{◌≡◌, ◌<◌, ◌≤◌, ◌+◌, ◌*◌, ℕ, List, length, get_or, max, refl, ap, ◌∙◌, rules}
+use Rattle.std.proofs.Common.{◌≡◌, ◌<◌, ◌≤◌, ◌+◌, ◌*◌, ℕ, List, length, get_or, max, refl, ap, ◌∙◌}
+use Rattle.std.proofs.Common.{rules}
 use Rattle.std.proofs.Common.{arith}
 use Rattle.std.specs.declared.vec.Vec.{Vec}
 use Rattle.std.proofs.lemmas.Option.{slice_get_read}
@@ -64,11 +65,18 @@ fill-fill_elements-requires g t c κs l =
     let items = c.args.self.now.slots.items in
     let at = slice_get_read items _ c.args.place c.index.result.now refl c.requires.3
     c.index.ensures in
-    let value = value_at items c.args.place c.index.result.now _ at c.in-Value.is in
-    (array_less t c.args.value.now c.in-Array.parts c.in-Array.is c.as_slice.result.now c.as_slice.ensures.value c.decreases, (search rules, record { 0 = c.requires; 1 = value }))
+    let value = value_at items c.args.place c.index.result.now _ at c.in-Value.is in (
+      array_less t c.args.value.now c.in-Array.parts c.in-Array.is c.as_slice.result.now
+          c.as_slice.ensures.value c.decreases,
+      (search rules, record { 0 = c.requires; 1 = value }),
+    )
 
 pub fill-fill_entries-requires : goal.fill-fill_entries-requires
-fill-fill_entries-requires g t c κs l = (table_less t c.args.value.now c.in-Table.parts c.in-Table.is c.as_slice-in-Table.result.now c.as_slice-in-Table.ensures.value c.decreases, (search rules, c.requires))
+fill-fill_entries-requires g t c κs l = (
+  table_less t c.args.value.now c.in-Table.parts c.in-Table.is c.as_slice-in-Table.result.now
+      c.as_slice-in-Table.ensures.value c.decreases,
+  (search rules, c.requires),
+)
 
 pub fill-returns-in-Array : goal.fill-returns-in-Array
 fill-returns-in-Array g t c =
@@ -153,8 +161,11 @@ fill_entries-loop-part-init g t c tree path holds =
 pub fill_entries-fill_entry-requires : goal.fill_entries-fill_entry-requires
 fill_entries-fill_entry-requires g t c κs l =
     let (tree, path, holds, within) = c.requires in
-    let (next, f, keeps, goes) = c.loop-part.invariant tree path holds in
-    (entry_less t c.args.parts.now c.loop-part.part-index c.part-item.result c.loop-part-test.true c.part-item.is c.decreases, (search rules, (next, goes.paths, goes.holds, goes.within)))
+    let (next, f, keeps, goes) = c.loop-part.invariant tree path holds in (
+      entry_less t c.args.parts.now c.loop-part.part-index c.part-item.result
+          c.loop-part-test.true c.part-item.is c.decreases,
+      (search rules, (next, goes.paths, goes.holds, goes.within)),
+    )
 
 pub fill_entries-returns-in_err-fill_entry : goal.fill_entries-returns-in_err-fill_entry
 fill_entries-returns-in_err-fill_entry g t c =

@@ -68,7 +68,8 @@ loop-i-preserved g c =
     said_more before last c.args.self.now.slots.items c.args.table names c.loop-i.i c.loop-i.table
     mid c.loop-i.invariant c.index-names-i.result c.loop-i-test.true c.index-names-i.is here which
     c.in_ok-table.table new
-    (λ t p h. subst (λ n. Told mid p (say here (t, p c.loop-i.table) n) (Ok c.in_ok-table.table) new)
+    (λ t p h. subst (λ n. Told mid p (say here (t, p c.loop-i.table) n) (Ok c.in_ok-table.table)
+    new)
     c.as_str.ensures.value (c.in_ok-table.ensures t p h))
 
 pub returns : goal.returns
