@@ -227,8 +227,7 @@ impl<'t, A: Allocator + Copy> Tree<'t, A> {
     }
 
     /// Adds the parts of a value below its place: the elements of an array, the entries of an
-    /// inline
-    /// table.
+    /// inline table.
     #[cycle(fill)]
     fn fill(&mut self, alloc: A, place: usize, value: &'t Value<A>) -> Result<(), Stop>
         requires { Stands self.old.slots.items place }
