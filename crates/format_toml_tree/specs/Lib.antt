@@ -6,6 +6,7 @@ pub mod Holds
 pub mod Keys
 pub mod Lines
 pub mod Nodes
+pub mod Once
 pub mod Opened
 pub mod Parts
 pub mod Paths
