@@ -1,5 +1,6 @@
 -- Written by scripts/registries.py: do not edit.
 pub mod Added
+pub mod Answer
 pub mod Calls
 pub mod Filled
 pub mod Holds

@@ -1,10 +1,10 @@
 -- The lines of a document give one tree, or one of them is refused first, and not both.
-use Rattle.std.specs.Prelude.{◌≡◌, ◌⊎◌, ℕ, ◌+◌, ◌<◌, ◌≤◌, List, [], ◌∷◌, Option, Some, None, Result, Ok, Err}
+use Rattle.std.specs.Prelude.{◌≡◌, ℕ, ◌+◌, List, ◌∷◌, Option, Some, Result, Ok, Err}
 use Rattle.std.specs.declared.vec.Vec.{Vec}
 use Rattle.std.proofs.Common.{refl, sym, ap, subst, inl, inr, ◌∙◌, arith}
 use Rattle.std.proofs.lemmas.Bool.{cases_lt}
 use Rattle.format_toml_tree.specs.Paths.{Path, placed, put}
-use Rattle.format_toml_tree.specs.Rules.{Node, valued, dots, gives}
+use Rattle.format_toml_tree.specs.Rules.{valued}
 use Rattle.format_toml_tree.specs.Runs.{Fills, FillsEntry, FillsNames, FillsPlaces, Gives, IsNext}
 use Rattle.format_toml_tree.specs.Runs.{Runs, State, Tree, say_key, then}
 use Rattle.format_toml_tree.specs.Runs as runs
@@ -91,8 +91,8 @@ module _ {A : Type 0} where
     places_once {tree = tree} {q = q} {vs = v ∷ vs} {s = s} (runs.place j is f more)
         (runs.place {next = then_tree} k at g others) =
         let same = fills_once f (subst
-            (λ n. Fills (put tree (placed n ∷ q) (valued v)) (placed n ∷ q) v (Ok then_tree))
-            (next_once tree q j k is at) g) in
+        (λ n. Fills (put tree (placed n ∷ q) (valued v)) (placed n ∷ q) v (Ok then_tree))
+        (next_once tree q j k is at) g) in
         places_once more (subst (λ t. FillsPlaces t q vs s) (sym (ok_once _ refl same)) others)
     places_once {tree = tree} {q = q} {vs = v ∷ vs} (runs.place j is f more)
         (runs.place_refused {why = why} k at g) =

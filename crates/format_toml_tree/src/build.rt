@@ -1,6 +1,7 @@
 //! From the lines of a document to its tree.
 ghost use Rattle.std.specs.Prelude.{◌≡◌, ℕ, [], IfOk, Ok, Err};
 ghost use Rattle.format_toml_tree.specs.Runs.{Gives, Tree as Given, empty};
+ghost use Rattle.format_toml_tree.specs.Answer.{Answers};
 ghost use Rattle.format_toml_tree.specs.Holds.{HoldsTree};
 ghost use Rattle.format_toml_tree.specs.declared.build.Fault.TheVariants.{Refused};
 ghost use Rattle.format_toml_tree.specs.declared.roles.Refusal.{Refusal};
@@ -74,6 +75,7 @@ pub fn build<'t, A: Allocator + Copy>(
     alloc: A,
     lines: &'t [Option<Item<A>>],
 ) -> Result<Tree<'t, A>, Fault>
+    ensures answers { Answers lines.now result }
     ensures accepted { IfOk result
         (λ tree. (given : Given A) × Gives (empty, []) 0 lines.now (Ok given)
         × HoldsTree tree.slots.items given) }

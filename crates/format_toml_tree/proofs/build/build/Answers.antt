@@ -1,4 +1,5 @@
-use Rattle.std.proofs.Common.{[], ◌≡◌, Result, Err, refl, subst, sym, ◌+◌}
+use Rattle.std.proofs.Common.{[], ◌≡◌, Result, Err, refl, subst, sym, ◌+◌, ap}
+use Rattle.format_toml_tree.specs.Answer.{answers_fault, answers_memory, answers_tree}
 use Rattle.format_toml_tree.specs.Holds.{AddsItem}
 use Rattle.format_toml_tree.specs.Lines.{LeftToAdd, all_added, left_added, left_blank, left_first}
 use Rattle.format_toml_tree.specs.Lines.{line_refused, none_of, stands}
@@ -56,3 +57,17 @@ returns-clause-accepted g c = (
   all_added _ _ _ _ c.loop-line.invariant c.loop-line-test.false,
   (c.loop-line.invariant.path, c.loop-line.invariant.holds),
 )
+
+pub returns-in_err-tree-clause-answers : goal.returns-in_err-tree-clause-answers
+returns-in_err-tree-clause-answers g c =
+    answers_memory c.args.lines.now c.from_residual.result c.from_residual.ensures
+
+pub returns-in-Err-clause-answers : goal.returns-in-Err-clause-answers
+returns-in-Err-clause-answers g c =
+    answers_fault c.args.lines.now c.fault_at.result (λ line why e.
+    returns-in-Err-clause-refused g c line why (ap (λ f. Err f) e))
+
+pub returns-clause-answers : goal.returns-clause-answers
+returns-clause-answers g c =
+    let told = returns-clause-accepted g c in
+    answers_tree c.args.lines.now c.loop-line.tree told.0 told.1 told.2
