@@ -1,5 +1,6 @@
 -- What is answered, beside what the lines of a document give.
-use Rattle.std.specs.Prelude.{◌≡◌, ℕ, List, [], Option, Result, Ok, Err, IsErr, IsErrAnd, true, false}
+use Rattle.std.specs.Prelude.{◌≡◌, ℕ, List, [], Option, Result, Ok, Err, IsErr, IsErrAnd, true}
+use Rattle.std.specs.Prelude.{false}
 use Rattle.std.proofs.Common.{refl, subst, sym}
 use Rattle.format_toml_tree.specs.Runs.{Gives, empty}
 use Rattle.format_toml_tree.specs.Runs.{Tree as Given}

@@ -188,4 +188,4 @@ module _ {A : Type 0} where
 
   -- Places hold what there is at each path of a tree.
   abbrev pub HoldsTree : List (Slot A) → Tree A → Type 0
-  HoldsTree slots tree = (path : ℕ → Path) × Holds slots tree path
+  HoldsTree slots tree = (path : ℕ → Path) × Holds slots tree path × (0 < length slots)

@@ -205,3 +205,6 @@ module _ {A : Type 0} where
     all_added past =
         left.left (Ok left.tree) (subst (λ l. Gives (left.tree, left.path table) k l (Ok left.tree))
         (sym (drop_past lines k past)) runs.ended)
+
+    pub some_place : 0 < length slots
+    some_place = omega (arith, left.within)

@@ -6,11 +6,13 @@
 //! in the words of the standard, and `specs/Runs.antt`, the statements in turn over a tree of
 //! paths.
 //!
-//! - `build` is proved to answer a tree where the definition gives one, which holds what that has
-//!   at each path, and to name the first line that the definition refuses, and why. `Node::get` and
-//!   `Node::value` are proved to find what the tree has at a path.
-//! - Tested alone, and proved to be safe, is the rest of `Node`: the order and the number of
-//!   entries, and what kind of value there is.
+//! - `build` is proved to answer a tree exactly where the definition gives one, if there is memory,
+//!   and one that holds what that has at each path; else it names the first line that the
+//!   definition refuses, and why. `Tree::root`, `Node::get` and `Node::value` are proved to find
+//!   what the tree has at a path, and so are `as_str`, `as_i64`, `as_bool`, `as_float` and
+//!   `as_date_time`.
+//! - Tested alone, and proved to be safe, is the rest of `Node`: `at`, `len` and `name`, so the
+//!   order of entries, and `is_table` and `is_array`.
 //!
 //! Where the standard leaves something open, or speaks of examples alone:
 //!

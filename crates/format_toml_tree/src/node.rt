@@ -1,6 +1,9 @@
 //! What there is in the tree of a document.
 ghost use Rattle.std.specs.Prelude.{◌≡◌, ◌<◌, ℕ, Bool, true, false, Option, Some, None};
-ghost use Rattle.format_toml_tree.specs.Nodes.{Answers, Finds, IsAt};
+ghost use Rattle.format_toml_tree.specs.Nodes.{Answers, AnswersAs, AnswersText, Finds, IsTop};
+ghost use Rattle.format_toml_tree.specs.declared.value.Float.{Float as FloatOf};
+ghost use Rattle.format_toml_tree.specs.declared.value.Value.TheVariants as values;
+ghost use Rattle.std.specs.Borrow.{Bor};
 
 use crate::tree::{Kind, Slot, Tree};
 use crate::value::{DateTime, Float, Value};
@@ -16,8 +19,7 @@ pub struct Node<'d, 't, A: Allocator> {
 impl<'t, A: Allocator + Copy> Tree<'t, A> {
     /// The table that has all others.
     pub fn root(&self) -> Node<'_, 't, A>
-        ensures tree { result.tree.now ≡ self.now }
-        ensures place { result.place ≡ 0 }
+        ensures { IsTop result self.now.slots.items }
     {
         Node {
             tree: self,
@@ -33,7 +35,7 @@ impl<'d, 't, A: Allocator + Copy> Node<'d, 't, A> {
     }
 
     /// The entry of a table that has this name, if it has one. It takes time by the logarithm of
-    /// the number of entries.
+    /// the number of entries. What is no table has none.
     pub fn get(&self, name: &str) -> Option<Node<'d, 't, A>>
         ensures { Finds self.now name.now result }
     {
@@ -141,40 +143,55 @@ impl<'d, 't, A: Allocator + Copy> Node<'d, 't, A> {
     }
 
     /// The text, where it is a string.
-    pub fn as_str(&self) -> Option<&'t str> {
-        match self.value()? {
+    pub fn as_str(&self) -> Option<&'t str>
+        ensures { AnswersText self.now result }
+    {
+        let value = self.value()?;
+        match value {
             Value::Text(text) => Some(text.as_str()),
             _ => None,
         }
     }
 
     /// The number, where it is an integer.
-    pub fn as_i64(&self) -> Option<i64> {
-        match self.value()? {
+    pub fn as_i64(&self) -> Option<i64>
+        ensures { AnswersAs (λ n. values.Integer n) self.now result }
+    {
+        let value = self.value()?;
+        match value {
             Value::Integer(number) => Some(*number),
             _ => None,
         }
     }
 
     /// The word, where it is `true` or `false`.
-    pub fn as_bool(&self) -> Option<bool> {
-        match self.value()? {
+    pub fn as_bool(&self) -> Option<bool>
+        ensures { AnswersAs (λ b. values.Boolean b) self.now result }
+    {
+        let value = self.value()?;
+        match value {
             Value::Boolean(word) => Some(*word),
             _ => None,
         }
     }
 
     /// The float, where it is one.
-    pub fn as_float(&self) -> Option<&'t Float<A>> {
-        match self.value()? {
+    pub fn as_float(&self) -> Option<&'t Float<A>>
+        ensures { AnswersAs (λ (f : Bor (FloatOf A)). values.Float f.now) self.now result }
+    {
+        let value = self.value()?;
+        match value {
             Value::Float(float) => Some(float),
             _ => None,
         }
     }
 
     /// The date, the time or both, where it is such.
-    pub fn as_date_time(&self) -> Option<DateTime> {
-        match self.value()? {
+    pub fn as_date_time(&self) -> Option<DateTime>
+        ensures { AnswersAs (λ d. values.DateTime d) self.now result }
+    {
+        let value = self.value()?;
+        match value {
             Value::DateTime(date_time) => Some(*date_time),
             _ => None,
         }

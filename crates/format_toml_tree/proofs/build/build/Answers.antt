@@ -2,7 +2,7 @@ use Rattle.std.proofs.Common.{[], ◌≡◌, Result, Err, refl, subst, sym, ◌+
 use Rattle.format_toml_tree.specs.Answer.{answers_fault, answers_memory, answers_tree}
 use Rattle.format_toml_tree.specs.Holds.{AddsItem}
 use Rattle.format_toml_tree.specs.Lines.{LeftToAdd, all_added, left_added, left_blank, left_first}
-use Rattle.format_toml_tree.specs.Lines.{line_refused, none_of, stands}
+use Rattle.format_toml_tree.specs.Lines.{line_refused, none_of, some_place, stands}
 use Rattle.format_toml_tree.specs.Runs.{Gives, empty}
 use Rattle.format_toml_tree.specs.declared.build.Fault.{Fault}
 use Rattle.format_toml_tree.proofs.build.build.Goals as goal
@@ -55,7 +55,11 @@ pub returns-clause-accepted : goal.returns-clause-accepted
 returns-clause-accepted g c = (
   c.loop-line.invariant.tree,
   all_added _ _ _ _ c.loop-line.invariant c.loop-line-test.false,
-  (c.loop-line.invariant.path, c.loop-line.invariant.holds),
+  (
+    c.loop-line.invariant.path,
+    c.loop-line.invariant.holds,
+    some_place _ _ _ _ c.loop-line.invariant,
+  ),
 )
 
 pub returns-in_err-tree-clause-answers : goal.returns-in_err-tree-clause-answers
