@@ -1,5 +1,4 @@
 //! What there is in the tree of a document.
-ghost use Rattle.std.specs.Prelude.{◌≡◌, ◌<◌, ℕ, Bool, true, false, Option, Some, None};
 ghost use Rattle.format_toml_tree.specs.Nodes.{Answers, AnswersAs, AnswersText, Finds, IsTop};
 ghost use Rattle.format_toml_tree.specs.declared.value.Float.{Float as FloatOf};
 ghost use Rattle.format_toml_tree.specs.declared.value.Value.TheVariants as values;
