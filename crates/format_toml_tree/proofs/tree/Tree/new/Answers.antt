@@ -1,0 +1,12 @@
+use Rattle.std.proofs.Common.{subst}
+use Rattle.format_toml_tree.specs.Holds.{Pushes}
+use Rattle.format_toml_tree.specs.Lines.{starts_empty}
+use Rattle.format_toml_tree.specs.declared.tree.Kind.TheVariants.{Header}
+use Rattle.format_toml_tree.proofs.tree.Tree.new.Goals as goal
+
+pub returns : goal.returns
+returns g c =
+    starts_empty c.push.new.self.slots.items c.in_ok-push.field-0
+    (subst (λ l. Pushes l Header c.in_ok-push.field-0 c.push.new.self.slots.items)
+    c.new.ensures.items
+    c.in_ok-push.ensures)

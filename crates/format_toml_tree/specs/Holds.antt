@@ -1,0 +1,191 @@
+-- What the places of a tree hold, and that places that change or are added hold what is put there.
+use Rattle.std.specs.Prelude.{◌≡◌, ℕ, suc, ◌+◌, ◌<◌, ◌≤◌}
+use Rattle.std.specs.Prelude.{List, [], ◌∷◌, ◌++◌, length, Option, Some, None, slice_get}
+use Rattle.std.specs.Prelude.{Result, Ok, Err, MatchResult}
+use Rattle.std.specs.declared.string.String.{String}
+use Rattle.std.specs.Borrow.{Bor}
+use Rattle.std.specs.BTreeMap.{BTreeMap, get_by}
+use Rattle.std.specs.Cmp.Lexicographic.{slice_cmp}
+use Rattle.std.specs.Ordering.{nat_cmp}
+use Rattle.format_toml_tree.specs.Paths.{Path, Step, named, placed, put}
+use Rattle.format_toml_tree.specs.Rules.{Node, Says, nothing, valued, super, header, dotted, tables}
+use Rattle.format_toml_tree.specs.Rules.{ruled, passes, defines, adds, dots, gives}
+use Rattle.format_toml_tree.specs.Runs.{Runs, State, Tree, empty, opened, say, say_key}
+use Rattle.format_toml_tree.specs.declared.roles.Refusal.{Refusal}
+use Rattle.format_toml_tree.specs.declared.roles.Role.{Role}
+use Rattle.format_toml_tree.specs.declared.roles.Role.TheVariants as roles
+use Rattle.format_toml_tree.specs.declared.value.Item.{Item}
+use Rattle.format_toml_tree.specs.declared.value.Value.{Value}
+use Rattle.format_toml_tree.specs.declared.tree.Kind.{Kind}
+use Rattle.format_toml_tree.specs.declared.tree.Kind.TheVariants as kinds
+use Rattle.format_toml_tree.specs.declared.tree.Slot.{Slot}
+use Rattle.format_toml_tree.specs.declared.tree.Stop.{Stop}
+use Rattle.format_toml_tree.specs.declared.tree.Stop.TheVariants.{OutOfMemory, Refused}
+
+-- what a map has at a name
+abbrev pub find : {X : Type 0} → BTreeMap (Bor (List ℕ)) X → List ℕ → Option X
+find m name = get_by (λ k. slice_cmp nat_cmp name k.now) m
+
+module _ {A : Type 0} where
+  -- what a role says
+  abbrev pub says_of : Role A → Says A
+  says_of roles.Through = passes
+  says_of roles.Header = defines
+  says_of roles.Tables = adds
+  says_of roles.Dotted = dots
+  says_of (roles.Value v) = gives v.now
+
+  -- what a place of a kind, with so many elements, is
+  abbrev pub node_of : Kind A → ℕ → Node A
+  node_of (kinds.Value v) n = valued v.now
+  node_of kinds.Super n = super
+  node_of kinds.Header n = header
+  node_of kinds.Dotted n = dotted
+  node_of kinds.Tables n = tables n
+
+  abbrev pub nodes_of : Result (Kind A) Refusal → ℕ → Result (Node A) Refusal
+  nodes_of (Ok k) n = Ok (node_of k n)
+  nodes_of (Err why) n = Err why
+
+  abbrev pub node_at : Slot A → Node A
+  node_at s = node_of s.kind (length s.elements.items)
+
+  -- Places have a path each, and hold what the tree has there; there is nothing else in the tree.
+  pub record Holds (slots : List (Slot A)) (tree : Tree A) (path : ℕ → Path) : Type 0 where
+    pub top : path 0 ≡ []
+    pub there : (i : ℕ) (s : Slot A) → slice_get slots i ≡ Some s → tree (path i) ≡ node_at s
+    pub apart : (i j : ℕ) → i < length slots → j < length slots → path i ≡ path j → i ≡ j
+    pub found : (i : ℕ) (s : Slot A) → slice_get slots i ≡ Some s → (name : List ℕ) (j : ℕ)
+        → find s.places name ≡ Some j → (j < length slots) × (path j ≡ named name ∷ path i)
+    pub missing : (i : ℕ) (s : Slot A) → slice_get slots i ≡ Some s → (name : List ℕ)
+        → find s.places name ≡ None → tree (named name ∷ path i) ≡ nothing
+    pub elements : (i : ℕ) (s : Slot A) → slice_get slots i ≡ Some s → (k j : ℕ)
+        → slice_get s.elements.items k ≡ Some j
+        → (j < length slots) × (path j ≡ placed k ∷ path i)
+    pub beyond : (i : ℕ) (s : Slot A) → slice_get slots i ≡ Some s → (k : ℕ)
+        → length s.elements.items ≤ k → tree (placed k ∷ path i) ≡ nothing
+    pub below : (p : Path) (e : Step) → tree p ≡ nothing → tree (e ∷ p) ≡ nothing
+
+  -- Places hold a tree, and one of them is within.
+  abbrev pub Stands : List (Slot A) → ℕ → Type 0
+  Stands slots at =
+      (tree : Tree A) × (path : ℕ → Path) × Holds slots tree path × (at < length slots)
+
+  -- Places hold a state behind one that others held, and these keep their paths.
+  pub record Goes (old : List (Slot A)) (path : ℕ → Path) (s : State A) (j : ℕ)
+      (new : List (Slot A)) : Type 0 where
+    pub paths : ℕ → Path
+    pub holds : Holds new s.0 paths
+    pub within : j < length new
+    pub at : paths j ≡ s.1
+    pub kept : (i : ℕ) → i < length old → paths i ≡ path i
+    pub grown : length old ≤ length new
+
+  -- A call answers the place of a state, or why a statement is refused.
+  abbrev pub Told : List (Slot A) → (ℕ → Path) → Result (State A) Refusal → Result ℕ Stop
+      → List (Slot A) → Type 0
+  Told old path r (Ok j) new = (s : State A) × (r ≡ Ok s) × Goes old path s j new
+  Told old path r (Err OutOfMemory) new = Unit {0}
+  Told old path r (Err (Refused why)) new = r ≡ Err why
+
+  -- ---- what calls do
+
+  -- a place with nothing below it
+  pub record IsFresh (kind : Kind A) (s : Slot A) : Type 0 where
+    pub kind_is : s.kind ≡ kind
+    pub no_places : s.places.entries ≡ []
+    pub no_elements : s.elements.items ≡ []
+
+  -- one more place, below none
+  abbrev pub Pushes : List (Slot A) → Kind A → ℕ → List (Slot A) → Type 0
+  Pushes old kind j new =
+      (fresh : Slot A) × IsFresh kind fresh × (new ≡ old ++ fresh ∷ []) × (j ≡ length old)
+
+  -- an entry is added where there is nothing
+  abbrev pub AddsEntry : List (Slot A) → ℕ → List ℕ → Kind A → ℕ → List (Slot A) → Type 0
+  AddsEntry old table name kind j new =
+      (tree : Tree A) (path : ℕ → Path) → Holds old tree path
+      → tree (named name ∷ path table) ≡ nothing
+      → Goes old path
+      (put tree (named name ∷ path table) (node_of kind 0), named name ∷ path table) j new
+
+  -- an element is added behind the others
+  abbrev pub AddsElement : List (Slot A) → ℕ → Kind A → ℕ → List (Slot A) → Type 0
+  AddsElement old array kind j new =
+      (tree : Tree A) (path : ℕ → Path) (was : Slot A) → Holds old tree path
+      → slice_get old array ≡ Some was
+      → Goes old path (
+        put (put tree (path array) (node_of was.kind (length was.elements.items + 1)))
+            (placed (length was.elements.items) ∷ path array) (node_of kind 0),
+        placed (length was.elements.items) ∷ path array,
+      ) j new
+
+  -- in an array of tables, its last element
+  abbrev pub IsInside : Node A → List ℕ → ℕ → ℕ → Type 0
+  IsInside (tables (suc n)) elements place r = slice_get elements n ≡ Some r
+  IsInside node elements place r = r ≡ place
+
+  -- what there is at a name is what the rule gives
+  abbrev pub Sets : List (Slot A) → ℕ → List ℕ → Says A → Result ℕ Stop → List (Slot A) → Type 0
+  Sets old table name says result new =
+      (tree : Tree A) (path : ℕ → Path) → Holds old tree path → MatchResult result
+      (λ j. (node : Node A) × (ruled says (tree (named name ∷ path table)) ≡ Ok node)
+      × Goes old path (put tree (named name ∷ path table) node, named name ∷ path table) j new)
+      (λ stop. (why : Refusal) → stop ≡ Refused why
+      → ruled says (tree (named name ∷ path table)) ≡ Err why)
+
+  -- the next name is in the table that is opened
+  abbrev pub Opens : List (Slot A) → ℕ → Says A → ℕ → List (Slot A) → Type 0
+  Opens old place says j new =
+      (tree : Tree A) (path : ℕ → Path) → Holds old tree path
+      → Goes old path (opened says (tree (path place)) tree (path place)) j new
+
+  abbrev pub SaysName : List (Slot A) → ℕ → List ℕ → Says A → Result ℕ Stop → List (Slot A) → Type 0
+  SaysName old table name says result new =
+      (tree : Tree A) (path : ℕ → Path) → Holds old tree path
+      → Told old path (say says (tree, path table) name) result new
+
+  abbrev pub SaysKey : List (Slot A) → ℕ → List (String A) → Says A → Says A → Result ℕ Stop
+      → List (Slot A) → Type 0
+  SaysKey old table names before last result new =
+      (tree : Tree A) (path : ℕ → Path) → Holds old tree path
+      → Told old path (say_key before last (tree, path table) names) result new
+
+  -- values stay
+  abbrev pub Keeps : Tree A → Tree A → Type 0
+  Keeps tree next = (p : Path) (v : Value A) → tree p ≡ valued v → next p ≡ valued v
+
+  -- The tree is filled below a place by a rule, which gives a tree or why a statement is refused.
+  abbrev pub FillsBy : (Tree A → Path → Result (Tree A) Refusal → Type 0) → List (Slot A) → ℕ
+      → Result (Unit {0}) Stop → List (Slot A) → Type 0
+  FillsBy By old place (Ok done) new =
+      (tree : Tree A) (path : ℕ → Path) → Holds old tree path
+      → (next : Tree A) × By tree (path place) (Ok next) × Keeps tree next
+      × Goes old path (next, path place) place new
+  FillsBy By old place (Err OutOfMemory) new = Unit {0}
+  FillsBy By old place (Err (Refused why)) new =
+      (tree : Tree A) (path : ℕ → Path) → Holds old tree path
+      → By tree (path place) (Err why)
+
+  -- there is a value at a place
+  abbrev pub IsValueAt : List (Slot A) → ℕ → Type 0
+  IsValueAt slots place = (s : Slot A) → slice_get slots place ≡ Some s
+      → (value : Bor (Value A)) × (s.kind ≡ kinds.Value value)
+
+  -- places that hold the tree before all statements
+  abbrev pub StartsEmpty : List (Slot A) → Type 0
+  StartsEmpty slots = (path : ℕ → Path) × Holds slots empty path × (0 < length slots)
+
+  -- What a line says is added, or it is refused.
+  abbrev pub AddsItem : List (Slot A) → ℕ → Item A → Result ℕ Stop → List (Slot A) → Type 0
+  AddsItem old table item (Ok j) new =
+      (tree : Tree A) (path : ℕ → Path) → Holds old tree path
+      → (s : State A) × Runs (tree, path table) item (Ok s) × Goes old path s j new
+  AddsItem old table item (Err OutOfMemory) new = Unit {0}
+  AddsItem old table item (Err (Refused why)) new =
+      (tree : Tree A) (path : ℕ → Path) → Holds old tree path
+      → Runs (tree, path table) item (Err why)
+
+  -- Places hold what there is at each path of a tree.
+  abbrev pub HoldsTree : List (Slot A) → Tree A → Type 0
+  HoldsTree slots tree = (path : ℕ → Path) × Holds slots tree path × (0 < length slots)

@@ -1,0 +1,96 @@
+//! From the lines of a document to its tree.
+ghost use Rattle.std.specs.Prelude.{◌≡◌, ℕ, [], IfOk, Ok, Err};
+ghost use Rattle.format_toml_tree.specs.Runs.{Gives, Tree as Given, empty};
+ghost use Rattle.format_toml_tree.specs.Answer.{Answers};
+ghost use Rattle.format_toml_tree.specs.Holds.{HoldsTree};
+ghost use Rattle.format_toml_tree.specs.declared.build.Fault.TheVariants.{Refused};
+ghost use Rattle.format_toml_tree.specs.declared.roles.Refusal.{Refusal};
+ghost use Rattle.format_toml_tree.specs.declared.tree.Stop.TheVariants.{Refused as StoppedBy};
+
+use crate::roles::Refusal;
+use crate::tree::{Stop, Tree};
+use crate::value::Item;
+use std::alloc::{AllocError, Allocator};
+
+/// Why some lines have no tree.
+#[derive(Debug, Clone, Copy, PartialEq)]
+pub enum Fault {
+    /// A request for memory was refused.
+    OutOfMemory,
+    /// A line is refused.
+    Refused {
+        /// Its number, counted from 0.
+        line: usize,
+        /// Why it is refused.
+        why: Refusal,
+    },
+}
+
+impl From<AllocError> for Fault {
+    ghost use Rattle.format_toml_tree.specs.declared.build.Fault.TheVariants.{OutOfMemory};
+
+    ghost from_gives = { λ _ r. r ≡ OutOfMemory };
+
+    fn from(_e: AllocError) -> Fault {
+        Fault::OutOfMemory
+    }
+}
+
+/// Why some lines have no tree, where one of them stops.
+fn fault_at(line: usize, stop: Stop) -> Fault
+    ensures { (at : ℕ) (why : Refusal) → result ≡ Refused at why
+        → (at ≡ line) × (stop ≡ StoppedBy why) }
+{
+    match stop {
+        Stop::OutOfMemory => Fault::OutOfMemory,
+        Stop::Refused(why) => Fault::Refused { line, why },
+    }
+}
+
+/// The tree of some lines, or the first that is refused.
+///
+/// It fails with the number of the line, counted from 0, and why it is refused; or where a request
+/// for memory was refused. The tree borrows names and values from the lines. Time is by the number
+/// of all names, and for each by the logarithm of the number of entries of its table.
+///
+/// ```
+/// use format_toml_tree::build::build;
+/// use format_toml_tree::value::{Item, Key, Value};
+///
+/// // What `port = 80` says.
+/// let mut names = Vec::new(alloc);
+/// if let Ok(name) = String::from_str(alloc, "port") {
+///     let _ = names.push(name);
+/// }
+/// let lines = [Some(Item::Entry(Key { names }, Value::Integer(80)))];
+/// match build(alloc, &lines) {
+///     Ok(tree) => {
+///         let port = tree.root().get("port").and_then(|node| node.as_i64());
+///         assert_eq!(rt; port, Some(80));
+///     }
+///     Err(_) => assert!(rt; false),
+/// }
+/// ```
+pub fn build<'t, A: Allocator + Copy>(
+    alloc: A,
+    lines: &'t [Option<Item<A>>],
+) -> Result<Tree<'t, A>, Fault>
+    ensures answers { Answers lines.now result }
+    ensures accepted { IfOk result
+        (λ tree. (given : Given A) × Gives (empty, []) 0 lines.now (Ok given)
+        × HoldsTree tree.slots.items given) }
+    ensures refused { (line : ℕ) (why : Refusal) → result ≡ Err (Refused line why)
+        → Gives (empty, []) 0 lines.now (Err (line, why)) }
+{
+    let mut tree = Tree::new(alloc)?;
+    let mut table = 0;
+    for line in 0..lines.len() {
+        if let Some(item) = &lines[line] {
+            match tree.add(alloc, table, item) {
+                Ok(next) => table = next,
+                Err(stop) => return Err(fault_at(line, stop)),
+            }
+        }
+    }
+    Ok(tree)
+}

@@ -1,0 +1,198 @@
+//! What there is in the tree of a document.
+ghost use Rattle.format_toml_tree.specs.Nodes.{Answers, AnswersAs, AnswersText, Finds, IsTop};
+ghost use Rattle.format_toml_tree.specs.declared.value.Float.{Float as FloatOf};
+ghost use Rattle.format_toml_tree.specs.declared.value.Value.TheVariants as values;
+ghost use Rattle.std.specs.Borrow.{Bor};
+
+use crate::tree::{Kind, Slot, Tree};
+use crate::value::{DateTime, Float, Value};
+use std::alloc::Allocator;
+
+/// What there is at a path of a document: a table, an array, or another value.
+#[derive(Clone, Copy)]
+pub struct Node<'d, 't, A: Allocator> {
+    tree: &'d Tree<'t, A>,
+    place: usize,
+}
+
+impl<'t, A: Allocator + Copy> Tree<'t, A> {
+    /// The table that has all others.
+    pub fn root(&self) -> Node<'_, 't, A>
+        ensures { IsTop result self.now.slots.items }
+    {
+        Node {
+            tree: self,
+            place: 0,
+        }
+    }
+}
+
+impl<'d, 't, A: Allocator + Copy> Node<'d, 't, A> {
+    /// What there is at this path.
+    fn slot(&self) -> Option<&'d Slot<'t, A>> {
+        self.tree.slots.as_slice().get(self.place)
+    }
+
+    /// The entry of a table that has this name, if it has one. It takes time by the logarithm of
+    /// the number of entries. What is no table has none.
+    pub fn get(&self, name: &str) -> Option<Node<'d, 't, A>>
+        ensures { Finds self.now name.now result }
+    {
+        let slot = self.tree.slots.as_slice().get(self.place)?;
+        match slot.places.get(name).copied() {
+            Some(place) => Some(Node {
+                tree: self.tree,
+                place,
+            }),
+            None => None,
+        }
+    }
+
+    /// What there is along a path: an entry of this table, an entry of that, and so on.
+    pub fn get_path(&self, names: &[&str]) -> Option<Node<'d, 't, A>> {
+        let mut node = *self;
+        for name in names {
+            node = node.get(*name)?;
+        }
+        Some(node)
+    }
+
+    /// How many entries a table has, or elements an array. Another value has none.
+    pub fn len(&self) -> usize {
+        match self.slot() {
+            None => 0,
+            Some(slot) if slot.entries.is_empty() => slot.elements.len(),
+            Some(slot) => slot.entries.len(),
+        }
+    }
+
+    /// Whether it has no entry and no element.
+    pub fn is_empty(&self) -> bool {
+        self.len() == 0
+    }
+
+    /// The entry of a table, or the element of an array, with so many before it. Entries are in the
+    /// order in which they were first named.
+    pub fn at(&self, index: usize) -> Option<Node<'d, 't, A>> {
+        let slot = self.tree.slots.as_slice().get(self.place)?;
+        let places = if slot.entries.is_empty() {
+            slot.elements.as_slice()
+        } else {
+            slot.entries.as_slice()
+        };
+        let place = places.get(index).copied()?;
+        Some(Node {
+            tree: self.tree,
+            place,
+        })
+    }
+
+    /// Its name in the table that it is in, or no bytes where it is in an array.
+    pub fn name(&self) -> &'t str {
+        match self.slot() {
+            Some(slot) => slot.name,
+            None => "",
+        }
+    }
+
+    /// The value that a key gave it, as the line says it, if one did.
+    pub fn value(&self) -> Option<&'t Value<A>>
+        ensures { Answers self.now result }
+    {
+        let slot = self.tree.slots.as_slice().get(self.place)?;
+        let kind = slot.kind;
+        match kind {
+            Kind::Value(value) => Some(value),
+            _ => None,
+        }
+    }
+
+    /// Whether it is a table, by headers, by dotted keys or inline.
+    pub fn is_table(&self) -> bool {
+        match self.slot() {
+            None => false,
+            Some(slot) => match slot.kind {
+                Kind::Super | Kind::Header | Kind::Dotted => true,
+                Kind::Tables => false,
+                Kind::Value(value) => matches!(value, Value::Table(_)),
+            },
+        }
+    }
+
+    /// Whether it is an array, of tables or of values.
+    pub fn is_array(&self) -> bool {
+        match self.slot() {
+            None => false,
+            Some(slot) => match slot.kind {
+                Kind::Super | Kind::Header | Kind::Dotted => false,
+                Kind::Tables => true,
+                Kind::Value(value) => matches!(value, Value::Array(_)),
+            },
+        }
+    }
+
+    /// The same, where it is a table.
+    pub fn as_table(&self) -> Option<Node<'d, 't, A>> {
+        if self.is_table() { Some(*self) } else { None }
+    }
+
+    /// The same, where it is an array.
+    pub fn as_array(&self) -> Option<Node<'d, 't, A>> {
+        if self.is_array() { Some(*self) } else { None }
+    }
+
+    /// The text, where it is a string.
+    pub fn as_str(&self) -> Option<&'t str>
+        ensures { AnswersText self.now result }
+    {
+        let value = self.value()?;
+        match value {
+            Value::Text(text) => Some(text.as_str()),
+            _ => None,
+        }
+    }
+
+    /// The number, where it is an integer.
+    pub fn as_i64(&self) -> Option<i64>
+        ensures { AnswersAs (λ n. values.Integer n) self.now result }
+    {
+        let value = self.value()?;
+        match value {
+            Value::Integer(number) => Some(*number),
+            _ => None,
+        }
+    }
+
+    /// The word, where it is `true` or `false`.
+    pub fn as_bool(&self) -> Option<bool>
+        ensures { AnswersAs (λ b. values.Boolean b) self.now result }
+    {
+        let value = self.value()?;
+        match value {
+            Value::Boolean(word) => Some(*word),
+            _ => None,
+        }
+    }
+
+    /// The float, where it is one.
+    pub fn as_float(&self) -> Option<&'t Float<A>>
+        ensures { AnswersAs (λ (f : Bor (FloatOf A)). values.Float f.now) self.now result }
+    {
+        let value = self.value()?;
+        match value {
+            Value::Float(float) => Some(float),
+            _ => None,
+        }
+    }
+
+    /// The date, the time or both, where it is such.
+    pub fn as_date_time(&self) -> Option<DateTime>
+        ensures { AnswersAs (λ d. values.DateTime d) self.now result }
+    {
+        let value = self.value()?;
+        match value {
+            Value::DateTime(date_time) => Some(*date_time),
+            _ => None,
+        }
+    }
+}

@@ -1,0 +1,80 @@
+//! What a line says of a name, and what there is then.
+ghost use Rattle.std.specs.Prelude.{◌≡◌, ℕ, Ok, Err};
+ghost use Rattle.format_toml_tree.specs.Rules.{no_table, nothing, ruled};
+ghost use Rattle.format_toml_tree.specs.Holds.{node_of, nodes_of, says_of};
+
+use crate::tree::Kind;
+use crate::value::Value;
+use std::alloc::Allocator;
+
+/// Why a line is refused.
+#[derive(Debug, Clone, Copy, PartialEq)]
+pub enum Refusal {
+    /// What it defines is defined already.
+    Defined,
+    /// It takes a value for a table.
+    NoTable,
+    /// It adds to a table that is closed: an inline table, or by dotted keys one of a header.
+    Closed,
+    /// It adds a table to what is no array of tables.
+    NoTables,
+}
+
+/// What a line says of a name.
+#[derive(Clone, Copy)]
+pub enum Role<'t, A: Allocator> {
+    /// A header passes through it.
+    Through,
+    /// It is the table of a header.
+    Header,
+    /// It is an array of tables, to which the line adds one.
+    Tables,
+    /// A dotted key passes through it.
+    Dotted,
+    /// It has a value.
+    Value(&'t Value<A>),
+}
+
+/// Why a value is no table that a line can add to.
+fn closed<A: Allocator>(value: &Value<A>) -> Refusal
+    ensures { result ≡ no_table value.now }
+{
+    match value {
+        Value::Table(_) => Refusal::Closed,
+        _ => Refusal::NoTable,
+    }
+}
+
+/// What there is where there was nothing, and a line says this of it.
+pub fn first<'t, A: Allocator>(role: Role<'t, A>) -> Kind<'t, A>
+    ensures { ruled (says_of role.entry) nothing ≡ Ok (node_of result 0) }
+{
+    match role {
+        Role::Through => Kind::Super,
+        Role::Header => Kind::Header,
+        Role::Tables => Kind::Tables,
+        Role::Dotted => Kind::Dotted,
+        Role::Value(value) => Kind::Value(value),
+    }
+}
+
+/// What there is where there was something, and a line says this of it.
+pub fn next<'t, A: Allocator>(kind: &Kind<'t, A>, role: Role<'t, A>) -> Result<Kind<'t, A>, Refusal>
+    ensures { (n : ℕ) → ruled (says_of role.entry) (node_of kind.now n) ≡ nodes_of result n }
+{
+    match (role, kind) {
+        (Role::Through, Kind::Super) => Ok(Kind::Super),
+        (Role::Through, Kind::Header) => Ok(Kind::Header),
+        (Role::Through, Kind::Dotted) => Ok(Kind::Dotted),
+        (Role::Through, Kind::Tables) => Ok(Kind::Tables),
+        (Role::Through, Kind::Value(value)) => Err(closed(*value)),
+        (Role::Header, Kind::Super) => Ok(Kind::Header),
+        (Role::Header, _) => Err(Refusal::Defined),
+        (Role::Tables, Kind::Tables) => Ok(Kind::Tables),
+        (Role::Tables, _) => Err(Refusal::NoTables),
+        (Role::Dotted, Kind::Super | Kind::Dotted) => Ok(Kind::Dotted),
+        (Role::Dotted, Kind::Value(value)) => Err(closed(*value)),
+        (Role::Dotted, _) => Err(Refusal::Closed),
+        (Role::Value(_), _) => Err(Refusal::Defined),
+    }
+}

@@ -1,0 +1,88 @@
+//! Large and deep documents.
+use super::lines::Wrong;
+use format_toml_tree::build::build;
+use format_toml_tree::value::{Item, Key, Value};
+use std::alloc::Global;
+
+/// A key of so many names, the same but for the last.
+fn key_of(alloc: Global, depth: usize, last: usize) -> Result<Key<Global>, Wrong> {
+    let mut names = Vec::new(alloc);
+    for _ in 1..depth {
+        names.push(String::from_str(alloc, "a")?)?;
+    }
+    names.push(format!(in alloc; "{last}")?)?;
+    Ok(Key { names })
+}
+
+/// A hundred thousand keys.
+fn many_keys(alloc: Global) -> Result<Vec<Option<Item<Global>>>, Wrong> {
+    let mut lines = Vec::new(alloc);
+    for k in 0..100_000usize {
+        lines.push(Some(Item::Entry(key_of(alloc, 1, k)?, Value::Integer(1))))?;
+    }
+    Ok(lines)
+}
+
+/// A hundred thousand headers with dots.
+fn many_headers(alloc: Global) -> Result<Vec<Option<Item<Global>>>, Wrong> {
+    let mut lines = Vec::new(alloc);
+    for k in 0..100_000usize {
+        lines.push(Some(Item::Table(key_of(alloc, 4, k)?)))?;
+    }
+    Ok(lines)
+}
+
+/// A header of a hundred thousand names.
+fn deep_header(alloc: Global) -> Result<Vec<Option<Item<Global>>>, Wrong> {
+    let mut lines = Vec::new(alloc);
+    lines.push(Some(Item::Table(key_of(alloc, 100_000, 0)?)))?;
+    Ok(lines)
+}
+
+#[test]
+fn build_takes_many_keys(rt: HostRuntime) {
+    match many_keys(rt.alloc()) {
+        Ok(lines) => match build(rt.alloc(), lines.as_slice()) {
+            Ok(tree) => {
+                assert_eq!(rt; tree.root().len(), 100_000);
+                assert!(rt; tree.root().get("99999").is_some_and(|n| n.as_i64() == Some(1)));
+            }
+            Err(_) => assert!(rt; false),
+        },
+        Err(_) => assert!(rt; false),
+    }
+}
+
+#[test]
+fn build_takes_many_headers(rt: HostRuntime) {
+    match many_headers(rt.alloc()) {
+        Ok(lines) => match build(rt.alloc(), lines.as_slice()) {
+            Ok(tree) => {
+                let node = tree.root().get_path(&["a", "a", "a"]);
+                assert_eq!(rt; node.map(|n| n.len()), Some(100_000));
+            }
+            Err(_) => assert!(rt; false),
+        },
+        Err(_) => assert!(rt; false),
+    }
+}
+
+#[test]
+fn build_takes_deep_headers(rt: HostRuntime) {
+    match deep_header(rt.alloc()) {
+        Ok(lines) => match build(rt.alloc(), lines.as_slice()) {
+            Ok(tree) => {
+                let mut node = tree.root();
+                for _ in 1..100_000usize {
+                    match node.get("a") {
+                        Some(below) => node = below,
+                        None => assert!(rt; false),
+                    }
+                }
+                assert!(rt; node.get("0").is_some_and(|n| n.is_table() && n.is_empty()));
+            }
+            Err(_) => assert!(rt; false),
+        },
+        Err(_) => assert!(rt; false),
+    }
+}

@@ -1,0 +1,11 @@
+//! The tests of trees of documents of TOML.
+#![tactic(auto)]
+
+#[cfg(test)]
+mod accepted;
+#[cfg(test)]
+mod deep;
+#[cfg(test)]
+mod lines;
+#[cfg(test)]
+mod refused;

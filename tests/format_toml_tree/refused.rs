@@ -1,0 +1,81 @@
+//! Documents that are refused.
+use super::lines::lines_of;
+use format_toml_tree::build::{Fault, build};
+use format_toml_tree::roles::Refusal;
+
+/// A document, the first line that is refused, counted from 0, and why. The first are of
+/// toml.io/en/v1.0.0 (Keys to Array of Tables), those behind them of toml-test (invalid: table, array,
+/// inline-table, key), with integers for strings. Python's `tomllib` refuses the lines up to that
+/// one, and none before.
+const ROWS: &[(&str, usize, Refusal)] = &[
+    ("name = 1\nname = 2", 1, Refusal::Defined),
+    ("spelling = 1\nspelling = 2", 1, Refusal::Defined),
+    ("fruit.apple = 1\nfruit.apple.smooth = 2", 1, Refusal::NoTable),
+    ("fruit.apple.smooth = 2\nfruit.apple = 1", 1, Refusal::Defined),
+    ("a = 1\nb = 2\na = 3\na = 4", 2, Refusal::Defined),
+    ("[fruit]\napple = 1\n\n[fruit]\norange = 2", 3, Refusal::Defined),
+    ("[fruit]\napple = 1\n\n[fruit.apple]\ntexture = 2", 3, Refusal::Defined),
+    ("[fruit]\napple.color = 1\napple.taste.sweet = 2\n[fruit.apple]", 3, Refusal::Defined),
+    ("[fruit]\napple.color = 1\napple.taste.sweet = 2\n[fruit.apple.taste]", 3, Refusal::Defined),
+    ("[product]\ntype = { name = 1 }\ntype.edible = 2", 2, Refusal::Closed),
+    ("[product]\ntype.name = 1\ntype = { edible = 2 }", 2, Refusal::Defined),
+    ("[fruit.physical]\ncolor = 1\nshape = 2\n\n[[fruit]]\nname = 3", 4, Refusal::NoTables),
+    ("fruits = []\n\n[[fruits]]", 2, Refusal::NoTables),
+    ("[[fruits]]\nname = 1\n\n[[fruits.varieties]]\nname = 2\n\n[fruits.varieties]\nname = 3", 6, Refusal::Defined),
+    ("[[fruits]]\nname = 1\n\n[fruits.physical]\ncolor = 2\n\n[[fruits.physical]]\ncolor = 3", 6, Refusal::NoTables),
+    ("[a.b.c]\nz = 9\n[a]\nb.c.t = 1", 3, Refusal::Closed),
+    ("[a.b.c.d]\nz = 9\n[a]\nb.c.d.k.t = 1", 3, Refusal::Closed),
+    ("[[a.b]]\n[a]\nb.y = 2", 2, Refusal::Closed),
+    ("[a]\nb = 1\n[a.b]\nc = 2", 2, Refusal::Defined),
+    ("[t1]\nt2.t3.v = 0\n[t1.t2]", 2, Refusal::Defined),
+    ("[t1]\nt2.t3.v = 0\n[t1.t2.t3]", 2, Refusal::Defined),
+    ("[a]\n[a]", 1, Refusal::Defined),
+    ("[a.b]\n[a]\n[a]", 2, Refusal::Defined),
+    ("[a.b]\n[a.b]", 1, Refusal::Defined),
+    ("[tbl]\n[[tbl]]", 1, Refusal::NoTables),
+    ("[[tbl]]\n[tbl]", 1, Refusal::Defined),
+    ("a = [ 1 ]\n[[a]]", 1, Refusal::NoTables),
+    ("a = { }\n[a]", 1, Refusal::Defined),
+    ("a = { }\n[a.b]", 1, Refusal::Closed),
+    ("a = { }\n[[a.b]]", 1, Refusal::Closed),
+    ("a = { }\na.b = 1", 1, Refusal::Closed),
+    ("a = 1\n[a.b]", 1, Refusal::NoTable),
+    ("a = [ { b = 1 } ]\n[a.c]", 1, Refusal::NoTable),
+    ("a = [ { b = 1 } ]\na.c = 1", 1, Refusal::NoTable),
+    ("a = { b = 1, b = 2 }", 0, Refusal::Defined),
+    ("a = { b.c = 1, b = 2 }", 0, Refusal::Defined),
+    ("a = { b = 1, b.c = 2 }", 0, Refusal::NoTable),
+    ("a = { b = { c = 1 }, b.d = 2 }", 0, Refusal::Closed),
+    ("a = { b.c = 1, b = { d = 2 } }", 0, Refusal::Defined),
+    ("x = 1\na = [ 1, { b = 1, b = 2 } ]", 1, Refusal::Defined),
+    ("a = [ [ { b = { c = 1, c = 2 } } ] ]", 0, Refusal::Defined),
+    ("a.b = { c = 1 }\na.b.d = 2", 1, Refusal::Closed),
+    ("[a]\nb = { }\n[a.b.c]", 2, Refusal::Closed),
+    ("[[a]]\nb = 1\n[[a.b]]", 2, Refusal::NoTables),
+    ("[[a]]\n[a.b]\n[a.b]", 2, Refusal::Defined),
+    ("[[a]]\nb.c = 1\n[a.b]", 2, Refusal::Defined),
+    ("a.b.c = 1\n[a.b]", 1, Refusal::Defined),
+    ("a.b.c = 1\n[a]", 1, Refusal::Defined),
+    ("a.b = 1\n[[a]]", 1, Refusal::NoTables),
+    ("a.b = 1\na.b.c = 2", 1, Refusal::NoTable),
+    ("[a]\nb = 1\nb.c = 2", 2, Refusal::NoTable),
+    ("[a.b]\n[a]\nb = 1", 2, Refusal::Defined),
+    ("[[a.b]]\n[a]\nb = 1", 2, Refusal::Defined),
+    ("\n[a]\n\n[b]\nc = 1\n[a]\nc = 1\n[b]", 5, Refusal::Defined),
+];
+
+#[test]
+fn build_names_the_first_line(rt: HostRuntime) {
+    for (text, line, why) in ROWS {
+        match lines_of(rt.alloc(), text) {
+            Ok(lines) => match build(rt.alloc(), lines.as_slice()) {
+                Ok(_) => assert!(rt; false, "{text:?}"),
+                Err(fault) => {
+                    let want = Fault::Refused { line: *line, why: *why };
+                    assert_eq!(rt; fault, want, "{text:?}");
+                }
+            },
+            Err(_) => assert!(rt; false, "{text:?}"),
+        }
+    }
+}
