@@ -1,8 +1,9 @@
 -- What characters of basic strings leave is one rest, and they take characters.
 use Rattle.std.proofs.Common.{inl}
-use Rattle.format_json_scalars.specs.Unique.{char_takes, char_unique}
+use Rattle.format_toml.specs.Words.{char_takes, char_unique}
 use Rattle.format_json_texts.specs.Words.{latter}
-use Rattle.format_toml.specs.Toml.{Character, Short, StandsFor, Tells}
+use Rattle.format_toml.specs.Grammars.{Character, Short}
+use Rattle.format_toml.specs.Toml.{StandsFor, Tells}
 use Rattle.format_toml.specs.declared.characters.Characters.TheVariants.{Basic}
 use Rattle.winnow.specs.OneOf.Laws.{token_of_takes}
 use Rattle.winnow.specs.Any.Laws.{token_takes}

@@ -3,7 +3,8 @@ ghost use Rattle.std.specs.Prelude.{◌≡◌, ℕ, ⊤, MatchOption};
 ghost use Rattle.winnow.specs.Text.{text_input, text_reading};
 ghost use Rattle.format_toml.specs.Escapes.{character_takes, character_unique, short_takes};
 ghost use Rattle.format_toml.specs.Escapes.{short_unique};
-ghost use Rattle.format_toml.specs.Toml.{Character, Short, StandsFor};
+ghost use Rattle.format_toml.specs.Grammars.{Character, Short};
+ghost use Rattle.format_toml.specs.Toml.{StandsFor};
 ghost use Rattle.winnow.specs.Exact.{Reads};
 
 use crate::characters::Characters;
