@@ -59,6 +59,16 @@ const ROWS: &[(usize, &str, &str)] = &[
         "a = \"\\b\\t\\n\\f\\r\\\"\\\\\"\nb = \"\\\"You can quote me\\\".\"",
         "a='\u{8}\t\n\u{c}\r\"\\'|b='\"You can quote me\".'|",
     ),
+    (
+        0,
+        "str = \"I'm a string. \\\"You can quote me\\\". Name\\tJos\\u00E9\\nLocation\\tSF.\"",
+        "str='I'm a string. \"You can quote me\". Name\tJos\u{e9}\nLocation\tSF.'|",
+    ),
+    (
+        0,
+        "a = \"\\u0041\\u00e9\\uD7FF\\ue000\\uFFFF\\u0000\"\nb = \"\\U0001d11E\\U0010FFFF\\U00000041\"\n\"\\u00e9\" = 1",
+        "a='A\u{e9}\u{d7ff}\u{e000}\u{ffff}\0'|b='\u{1d11e}\u{10ffff}A'|\u{e9}=1|",
+    ),
     // Integer
     (0, "int1 = +99\nint2 = 42\nint3 = 0\nint4 = -17", "int1=99|int2=42|int3=0|int4=-17|"),
     (
@@ -176,6 +186,16 @@ const NONE: &[(&str, usize)] = &[
     ("[a]]", 3),
     ("\u{feff}a = 1", 0),
     ("\u{e9} = 1", 0),
+    // Escapes of Unicode.
+    ("a = \"\\u004\"", 0),
+    ("a = \"\\u004g\"", 0),
+    ("a = \"\\uD834\"", 0),
+    ("a = \"\\udfff\"", 0),
+    ("a = \"\\U0001d11\"", 0),
+    ("a = \"\\U0000d800\"", 0),
+    ("a = \"\\U00110000\"", 0),
+    ("a = \"\\Uffffffff\"", 0),
+    ("\"\\u{41}\" = 1", 0),
     // Keys, arrays, inline tables and headers.
     ("a..b = 1", 0),
     (".a = 1", 0),
@@ -205,7 +225,6 @@ const NONE: &[(&str, usize)] = &[
     ("[a\n]", 0),
     ("[a] [b]", 4),
     // What the standard has, and this does not.
-    ("a = \"\\u00e9\"", 0),
     ("a = 1_000", 5),
     ("a = 0xff", 5),
     ("a = 3.14", 5),

@@ -8,10 +8,11 @@ use Rattle.winnow.specs.Text.{text_reading}
 use Rattle.winnow.specs.AsChar.{IsSpace}
 use Rattle.winnow.specs.Range.{from_to}
 use Rattle.format_json_texts.specs.Number.{Slice}
+use Rattle.format_json_texts.specs.Strings.{CodeUnit, IsAlone}
 use Rattle.format_json_texts.specs.Words.{Char, RunOf, Word, former, latter, pair}
 use Rattle.format_toml.specs.Led.{Led}
 use Rattle.format_toml.specs.Toml.{IsArray, IsBoolean, IsEntry, IsInline, IsInteger, IsKey}
-use Rattle.format_toml.specs.Toml.{IsTable, IsTables, IsText, StandsFor, Tells}
+use Rattle.format_toml.specs.Toml.{IsTable, IsTables, IsText, IsWide, StandsFor, Tells}
 use Rattle.format_toml.specs.Toml.{false_word, true_word}
 use Rattle.format_toml.specs.declared.characters.Characters.{Characters}
 use Rattle.format_toml.specs.declared.characters.Characters.TheVariants.{Bare, Basic, Comment}
@@ -71,8 +72,18 @@ Listing element opening comma closing gap =
 abbrev pub Short : Grammar ℕ ℕ
 Short = Meaning StandsFor (Token (λ c. c))
 
+-- eight hexadecimal digits, as two numbers of four
+abbrev pub WideUnits : Grammar ℕ (ℕ × ℕ)
+WideUnits = Both pair CodeUnit CodeUnit
+
+-- what stands behind a backslash
+abbrev pub Escape : Grammar ℕ ℕ
+Escape =
+    Led (λ c. c ≡ 117) (Both latter (Char 117) (Meaning IsAlone CodeUnit))
+    (Led (λ c. c ≡ 85) (Both latter (Char 85) (Meaning IsWide WideUnits)) Short)
+
 abbrev pub Character : Grammar ℕ ℕ
-Character = Either (TokenOf (λ c. c) Tells Basic) (Both latter (Char 92) Short)
+Character = Either (TokenOf (λ c. c) Tells Basic) (Both latter (Char 92) Escape)
 
 abbrev pub Integer : Grammar ℕ ℤ
 Integer = SignedDecimal (λ n. n) (FitsSigned w64) (λ c. c) (λ c. c)

@@ -1,22 +1,26 @@
 -- The grammars of strings and their characters are those of what is written.
 use Rattle.std.specs.Prelude.{◌≡◌, ◌≤◌, ℕ, List, [], ◌∷◌, ◌++◌, length, None}
-use Rattle.std.proofs.Common.{refl, sym, ap, subst, ◌∙◌, arith}
+use Rattle.std.proofs.Common.{refl, sym, ap, subst, inl, inr, ◌∙◌, arith}
 use Rattle.winnow.specs.Range.{from_to}
 use Rattle.format_json_texts.specs.Words.{For, One, Whichever, any_of, between_of}
-use Rattle.format_json_texts.specs.Words.{Char, char_of, for_of, latter}
-use Rattle.format_toml.specs.Grammars.{AnyCharacters, BasicString, Character, LiteralString, Short}
+use Rattle.format_json_texts.specs.Strings.{CodeUnit, Digit, IsAlone, IsHex, IsNumberOf, UnitText}
+use Rattle.format_json_texts.specs.Words.{Char, char_of, for_of, four_same, latter, pair, to_four}
+use Rattle.format_toml.specs.Grammars.{AnyCharacters, BasicString, Character, Escape}
+use Rattle.format_toml.specs.Grammars.{LiteralString, WideUnits}
+use Rattle.format_toml.specs.Led.{led_of}
 use Rattle.format_toml.specs.Toml.{BasicText, CharacterText, CharactersText, IsOf, LiteralText}
-use Rattle.format_toml.specs.Toml.{StandsFor, Tells}
+use Rattle.format_toml.specs.Toml.{EscapeText, IsWide, StandsFor, Tells}
 use Rattle.format_toml.specs.declared.characters.Characters.{Characters}
 use Rattle.format_toml.specs.declared.characters.Characters.TheVariants.{Basic, Literal}
 use Rattle.winnow.specs.Grammar.{Both, NoneStands, TokenOf}
+use Rattle.winnow.specs.Grammar.Meaning.{Meaning}
 use Rattle.winnow.specs.Accumulator.Holds.{HasCharacters}
 use Rattle.winnow.specs.Texts.{Anything, AtLeast, Begins, BeginsIn, IsGrammarOf, NotFirst, OneOf}
-use Rattle.winnow.specs.Texts.{Row, Then}
+use Rattle.winnow.specs.Texts.{Of, Row, Then}
 use Rattle.winnow.specs.Texts.Fronts.{among_front, begins_wider, front_any, front_begins}
 use Rattle.winnow.specs.Texts.Fronts.{holding_front, may_begin, none_begins, one_of_begins}
 use Rattle.winnow.specs.Texts.Fronts.{spelled_begins, then_front}
-use Rattle.winnow.specs.Texts.Parts.{both_of, either_apart}
+use Rattle.winnow.specs.Texts.Parts.{both_of, either_apart, same_of}
 use Rattle.winnow.specs.Texts.Rows.{gathered_of, many_of}
 use Rattle.winnow.specs.Texts.Tokens.{divides_where, token_of}
 
@@ -57,9 +61,54 @@ module _ (set : Characters) where
 
 -- ---- strings
 
-escaped_of : IsGrammarOf (Both latter (Char 92) Short) (Then latter (One 92)
-    (For StandsFor Whichever)) Anything
-escaped_of = both_of latter (char_of 92) (for_of StandsFor any_of) front_any
+digit_of : IsGrammarOf Digit (For IsHex Whichever) Anything
+digit_of = for_of IsHex any_of
+
+unit_of : IsGrammarOf CodeUnit UnitText Anything
+unit_of =
+    for_of IsNumberOf
+    (same_of (four_same Digit Digit Digit Digit)
+    (both_of to_four digit_of
+    (both_of pair digit_of (both_of pair digit_of digit_of front_any)
+    front_any) front_any))
+
+-- what a backslash escapes by itself is no u
+short_begins : BeginsIn (λ c. (c ≡ 117 → ⊥) × (c ≡ 85 → ⊥)) (For StandsFor Whichever)
+unfolding Of Whichever
+short_begins = record {
+  makes = λ k xs rest (c, e, stands) any.
+      let P : List ℕ → Type 0 = λ l. Begins (λ c. (c ≡ 117 → ⊥) × (c ≡ 85 → ⊥)) (l ++ rest) in
+      subst P (sym e) (no_u c k stands);
+}
+  where
+    no_u : (c k : ℕ) → StandsFor c k → (c ≡ 117 → ⊥) × (c ≡ 85 → ⊥)
+    no_u c k (inl x) = omega (arith, x.0)
+    no_u c k (inr (inl x)) = omega (arith, x.0)
+    no_u c k (inr (inr (inl x))) = omega (arith, x.0)
+    no_u c k (inr (inr (inr (inl x)))) = omega (arith, x.0)
+    no_u c k (inr (inr (inr (inr (inl x))))) = omega (arith, x.0)
+    no_u c k (inr (inr (inr (inr (inr (inl x)))))) = omega (arith, x.0)
+    no_u c k (inr (inr (inr (inr (inr (inr x)))))) = omega (arith, x.0)
+
+long_of : IsGrammarOf (Both latter (Char 85) (Meaning IsWide WideUnits))
+    (Then latter (One 85) (For IsWide (Then pair UnitText UnitText))) Anything
+long_of =
+    both_of latter (char_of 85) (for_of IsWide (both_of pair unit_of unit_of front_any)) front_any
+
+long_begins : BeginsIn (λ c. c ≡ 85)
+    (Then latter (One 85) (For IsWide (Then pair UnitText UnitText)))
+long_begins = then_front latter (spelled_begins 85 [] 85) front_any
+
+escape_of : IsGrammarOf Escape EscapeText Anything
+escape_of =
+    led_of (both_of latter (char_of 117) (for_of IsAlone unit_of) front_any)
+    (led_of long_of (for_of StandsFor any_of) long_begins (front_begins (λ c u. u.1) short_begins))
+    (then_front latter (spelled_begins 117 [] 117) front_any)
+    (among_front (front_begins (λ c e f. absurd (omega (arith, e, f))) long_begins)
+    (front_begins (λ c u. u.0) short_begins))
+
+escaped_of : IsGrammarOf (Both latter (Char 92) Escape) (Then latter (One 92) EscapeText) Anything
+escaped_of = both_of latter (char_of 92) escape_of front_any
 
 character_of : IsGrammarOf Character CharacterText Anything
 character_of =

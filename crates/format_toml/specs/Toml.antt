@@ -1,5 +1,6 @@
 -- TOML 1.0 (toml.io/en/v1.0.0): what is written for keys, values and lines, by its ABNF.
-use Rattle.std.specs.Prelude.{◌≡◌, ◌⊎◌, ◌≤◌, ◌↔◌, ⊤, ℕ, ℤ, zero, suc, Bool, true, false, IsTrue}
+use Rattle.std.specs.Prelude.{◌≡◌, ◌⊎◌, ◌≤◌, ◌↔◌, ◌+◌, ◌*◌, ⊤, ℕ, ℤ, zero, suc, Bool, true, false}
+use Rattle.std.specs.Prelude.{IsTrue}
 use Rattle.std.specs.Prelude.{List, [], ◌∷◌, ◌++◌, Option, Some, None, FitsSigned}
 use Rattle.std.specs.Int.{w64}
 use Rattle.std.specs.declared.string.String.{String}
@@ -7,6 +8,7 @@ use Rattle.std.specs.declared.vec.Vec.{Vec}
 use Rattle.winnow.specs.Text.{text_reading}
 use Rattle.winnow.specs.AsChar.{IsSpace}
 use Rattle.format_json_texts.specs.Number.{Slice}
+use Rattle.format_json_texts.specs.Strings.{IsAlone, UnitText}
 use Rattle.format_json_texts.specs.Words.{Between, For, One, Run, Whichever, former, latter, pair}
 use Rattle.format_toml.specs.declared.characters.Characters.{Characters}
 use Rattle.format_toml.specs.declared.characters.Characters.TheVariants.{Bare, Basic, Comment}
@@ -50,6 +52,10 @@ StandsFor c k =
     ((c ≡ 98) × (k ≡ 8)) ⊎ (((c ≡ 116) × (k ≡ 9)) ⊎ (((c ≡ 110) × (k ≡ 10))
     ⊎ (((c ≡ 102) × (k ≡ 12)) ⊎ (((c ≡ 114) × (k ≡ 13)) ⊎ (((c ≡ 34) × (k ≡ 34))
     ⊎ ((c ≡ 92) × (k ≡ 92)))))))
+
+-- The character of eight hexadecimal digits, which are two numbers of four: no surrogate.
+abbrev pub IsWide : ℕ × ℕ → ℕ → Type 0
+IsWide units c = IsAlone (units.0 * 65536 + units.1) c
 
 -- what a set of them tells
 abbrev pub Tells : Characters → ℕ → Bool → Type 0
@@ -124,10 +130,17 @@ WideMarkText c = Then pair (One c) GapText
 
 -- ---- strings, booleans and integers
 
+-- escape-seq-char: %x75 4HEXDIG / %x55 8HEXDIG, of a character that is no surrogate; or one that a
+-- backslash escapes by itself
+abbrev pub EscapeText : Text ℕ ℕ
+EscapeText =
+    Among (Then latter (One 117) (For IsAlone UnitText))
+    (Among (Then latter (One 85) (For IsWide (Then pair UnitText UnitText)))
+    (For StandsFor Whichever))
+
 -- basic-char = basic-unescaped / escaped
 abbrev pub CharacterText : Text ℕ ℕ
-CharacterText =
-    Among (OneOf (λ c. c) (IsOf Basic)) (Then latter (One 92) (For StandsFor Whichever))
+CharacterText = Among (OneOf (λ c. c) (IsOf Basic)) (Then latter (One 92) EscapeText)
 
 -- boolean = true / false
 abbrev pub true_word : List ℕ

@@ -2,7 +2,7 @@
 //!
 //! Where this differs from the standard:
 //!
-//! - Strings are on one line, and basic strings have no escapes of Unicode (`\u00e9`).
+//! - Strings are on one line.
 //! - Integers are decimal, of 64 bits, without underscores, and a zero has no sign; floats, dates
 //!   and times are not read.
 //! - Arrays and inline tables are nested to a level, which the caller gives.
@@ -23,5 +23,7 @@ mod parts;
 mod passed;
 mod scalars;
 mod strings;
+mod turns;
+mod units;
 pub mod value;
 pub mod values;
