@@ -36,8 +36,8 @@ READERS = [
         "the text of a value, exactly where it has one, nested to a level; it reads back"),
     ("JSON: extents", "format_json_extents", "no", "where a value ends, and whether bytes are a text"),
     ("TOML 1.0, a subset", "format_toml", "yes",
-        "`Ok` exactly where the text is lines of this document; the first line that says a key or "
-        "a table again, and what the first one lacks that is no line"),
+        "`Ok` exactly where the text is lines of this document; what the first one lacks that is no "
+        "line"),
     ("HTTP/1.1 heads (RFC 9112)", "format_http/heads", "yes",
         "the request line, field line and head that bytes begin with"),
     ("HTTP/1.1 size lines of chunks", "format_http/chunks", "yes",

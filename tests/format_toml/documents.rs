@@ -2,8 +2,10 @@
 use crate::shown::show;
 use std::alloc::Global;
 use std::process::Abort;
-use format_toml::lines::{parse_lines, read_value};
-use format_toml::value::{Document, Value};
+use format_toml::lines::parse_lines;
+use format_toml::value::Document;
+use format_toml::values::read_value;
+use format_toml_tree::value::Value;
 use winnow::error::ParseFault;
 
 /// A level, a document of toml.io/en/v1.0.0 or one like it, and what it says of its lines, in order:
@@ -25,6 +27,24 @@ const ROWS: &[(usize, &str, &str)] = &[
         "key='value'|bare_key='value'|bare-key='value'|1234='value'|",
     ),
     (0, "- = 1\n_=2\nZz9-\t=\t3", "-=1|_=2|Zz9-=3|"),
+    (
+        0,
+        "\"127.0.0.1\" = \"value\"\n\"character encoding\" = \"value\"\n\"\u{28e}\u{1dd}\u{29e}\" = \"value\"\n\
+         'key2' = \"value\"\n'quoted \"value\"' = \"value\"",
+        "127.0.0.1='value'|character encoding='value'|\u{28e}\u{1dd}\u{29e}='value'|key2='value'|\
+         quoted \"value\"='value'|",
+    ),
+    (0, "\"\" = \"blank\"\n'' = 'blank'\n\"\\t\" = 1", "='blank'|='blank'|\t=1|"),
+    (
+        0,
+        "name = \"Orange\"\nphysical.color = \"orange\"\nsite.\"google.com\" = true",
+        "name='Orange'|physical;color='orange'|site;google.com=true|",
+    ),
+    (
+        0,
+        "fruit.name = 1\nfruit. color = 2\nfruit . flavor\t= 3\n3.14159 = \"pi\"",
+        "fruit;name=1|fruit;color=2|fruit;flavor=3|3;14159='pi'|",
+    ),
     // String
     (
         0,
@@ -38,6 +58,16 @@ const ROWS: &[(usize, &str, &str)] = &[
         0,
         "a = \"\\b\\t\\n\\f\\r\\\"\\\\\"\nb = \"\\\"You can quote me\\\".\"",
         "a='\u{8}\t\n\u{c}\r\"\\'|b='\"You can quote me\".'|",
+    ),
+    (
+        0,
+        "str = \"I'm a string. \\\"You can quote me\\\". Name\\tJos\\u00E9\\nLocation\\tSF.\"",
+        "str='I'm a string. \"You can quote me\". Name\tJos\u{e9}\nLocation\tSF.'|",
+    ),
+    (
+        0,
+        "a = \"\\u0041\\u00e9\\uD7FF\\ue000\\uFFFF\\u0000\"\nb = \"\\U0001d11E\\U0010FFFF\\U00000041\"\n\"\\u00e9\" = 1",
+        "a='A\u{e9}\u{d7ff}\u{e000}\u{ffff}\0'|b='\u{1d11e}\u{10ffff}A'|\u{e9}=1|",
     ),
     // Integer
     (0, "int1 = +99\nint2 = 42\nint3 = 0\nint4 = -17", "int1=99|int2=42|int3=0|int4=-17|"),
@@ -58,8 +88,49 @@ const ROWS: &[(usize, &str, &str)] = &[
         "nested_mixed_array=[[1,2,],['a','b','c',],]|",
     ),
     (1, "a = []\nb = [\t]\nc=[true,'x' , -1]", "a=[]|b=[]|c=[true,'x',-1,]|"),
+    (
+        1,
+        "integers2 = [\n  1, 2, 3\n]\nintegers3 = [\n  1,\n  2, # this is ok\n]",
+        "integers2=[1,2,3,]|integers3=[1,2,]|",
+    ),
+    (
+        1,
+        "a = [ # one\r\n\r\n\t# two\n 1 # three\n , # four\n 2 ,\n# five\n ] # six\nb = [\n]\nc = [ 1 , ]",
+        "a=[1,2,]|b=[]|c=[1,]|",
+    ),
+    (
+        2,
+        "contributors = [\n  \"Foo Bar <foo@example.com>\",\n\
+         \u{20} { name = \"Baz Qux\", email = \"bazqux@example.com\", url = \"https://example.com/bazqux\" }\n]",
+        "contributors=['Foo Bar <foo@example.com>',{name='Baz Qux',email='bazqux@example.com',\
+         url='https://example.com/bazqux',},]|",
+    ),
+    // Inline Table
+    (
+        1,
+        "name = { first = \"Tom\", last = \"Preston-Werner\" }\npoint = { x = 1, y = 2 }\n\
+         animal = { type.name = \"pug\" }\na = {}\nb={ }\nc={d=1}",
+        "name={first='Tom',last='Preston-Werner',}|point={x=1,y=2,}|animal={type;name='pug',}|a={}|b={}|c={d=1,}|",
+    ),
+    (
+        2,
+        "points = [ { x = 1, y = 2, z = 3 },\n           { x = 7, y = 8, z = 9 },\n           { x = 2, y = 4, z = 8 } ]",
+        "points=[{x=1,y=2,z=3,},{x=7,y=8,z=9,},{x=2,y=4,z=8,},]|",
+    ),
+    (2, "a = { b = [\n1,\n] , c = {d=2} }", "a={b=[1,],c={d=2,},}|"),
     // Table
     (0, "[table]", "[table]|"),
+    (
+        0,
+        "[dog.\"tater.man\"]\ntype.name = \"pug\"\n[a.b.c]\n[ d.e.f ]\n[ g .  h  . i ]\n[ j . \"\u{29e}\" . 'l' ]",
+        "[dog;tater.man]|type;name='pug'|[a;b;c]|[d;e;f]|[g;h;i]|[j;\u{29e};l]|",
+    ),
+    // Array of Tables
+    (
+        0,
+        "[[products]]\nname = \"Hammer\"\n\n[[products]]  # empty table within the array\n\n[[ fruits . varieties ]]",
+        "[[products]]|name='Hammer'||[[products]]||[[fruits;varieties]]|",
+    ),
     (
         0,
         "[table-1]\nkey1 = \"some string\"\nkey2 = 123\n\n[table-2]\nkey1 = \"another string\"\n\
@@ -115,20 +186,50 @@ const NONE: &[(&str, usize)] = &[
     ("[a]]", 3),
     ("\u{feff}a = 1", 0),
     ("\u{e9} = 1", 0),
+    // Escapes of Unicode.
+    ("a = \"\\u004\"", 0),
+    ("a = \"\\u004g\"", 0),
+    ("a = \"\\uD834\"", 0),
+    ("a = \"\\udfff\"", 0),
+    ("a = \"\\U0001d11\"", 0),
+    ("a = \"\\U0000d800\"", 0),
+    ("a = \"\\U00110000\"", 0),
+    ("a = \"\\Uffffffff\"", 0),
+    ("\"\\u{41}\" = 1", 0),
+    // Keys, arrays, inline tables and headers.
+    ("a..b = 1", 0),
+    (".a = 1", 0),
+    ("a. = 1", 0),
+    ("a\n.b = 1", 0),
+    ("a b = 1", 0),
+    ("\"a = 1", 0),
+    ("'a\n' = 1", 0),
+    ("a = [1,,2]", 0),
+    ("a = [,]", 0),
+    ("a = [\n,]", 0),
+    ("a = [1 # b ]", 0),
+    ("a = [1\r]", 0),
+    ("a = {b = 1,}", 0),
+    ("a = {,}", 0),
+    ("a = {b = 1\n}", 0),
+    ("a = {b = 1 c = 2}", 0),
+    ("a = {b}", 0),
+    ("a = {b = 1 # c}", 0),
+    ("a = {b = 1", 0),
+    ("[[a]", 0),
+    ("[a].b", 3),
+    ("[ [a]]", 0),
+    ("[[a] ]", 0),
+    ("[[]]", 0),
+    ("[a.]", 0),
+    ("[a\n]", 0),
+    ("[a] [b]", 4),
     // What the standard has, and this does not.
-    ("a.b = 1", 0),
-    ("\"a\" = 1", 0),
-    ("[a.b]", 0),
-    ("[[a]]", 0),
-    ("a = \"\\u00e9\"", 0),
     ("a = 1_000", 5),
     ("a = 0xff", 5),
     ("a = 3.14", 5),
     ("a = 1979-05-27", 8),
     ("a = +0", 0),
-    ("a = [1,]", 0),
-    ("a = [\n1]", 0),
-    ("a = {}", 0),
     ("a = '''x'''", 6),
 ];
 

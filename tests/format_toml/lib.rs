@@ -10,6 +10,4 @@ mod messages;
 #[cfg(test)]
 mod refused;
 #[cfg(test)]
-mod repeats;
-#[cfg(test)]
 mod shown;

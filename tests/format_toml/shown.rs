@@ -1,6 +1,6 @@
 //! Documents as text, for rows of tests.
 use std::alloc::{AllocError, Allocator, Global};
-use format_toml::value::{Item, Value};
+use format_toml_tree::value::{Item, Key, Value};
 
 /// Writes a text between quotes, as it is.
 fn show_text(text: &str, into: &mut String<Global>) -> Result<(), AllocError> {
@@ -26,7 +26,20 @@ fn show_number(number: i64, into: &mut String<Global>) -> Result<(), AllocError>
     Ok(())
 }
 
-/// Writes a value with no white space, and a comma behind each of an array.
+/// Writes the names of a key, with semicolons between them.
+fn show_key<A: Allocator>(key: &Key<A>, into: &mut String<Global>) -> Result<(), AllocError> {
+    let mut is_first = true;
+    for name in &key.names {
+        if !is_first {
+            into.push_str(";")?;
+        }
+        into.push_str(name.as_str())?;
+        is_first = false;
+    }
+    Ok(())
+}
+
+/// Writes a value with no white space, and a comma behind each of an array or an inline table.
 fn show_value<A: Allocator>(
     value: &Value<A>,
     into: &mut String<Global>,
@@ -43,6 +56,17 @@ fn show_value<A: Allocator>(
             }
             into.push_str("]")
         }
+        Value::Table(pairs) => {
+            into.push_str("{")?;
+            for (key, value) in pairs {
+                show_key(key, into)?;
+                into.push_str("=")?;
+                show_value(value, into)?;
+                into.push_str(",")?;
+            }
+            into.push_str("}")
+        }
+        Value::Float(_) | Value::DateTime(_) => into.push_str("?"),
     }
 }
 
@@ -55,11 +79,16 @@ pub fn show<A: Allocator>(
         None => {}
         Some(Item::Table(name)) => {
             into.push_str("[")?;
-            into.push_str(name.as_str())?;
+            show_key(name, into)?;
             into.push_str("]")?;
         }
+        Some(Item::Tables(name)) => {
+            into.push_str("[[")?;
+            show_key(name, into)?;
+            into.push_str("]]")?;
+        }
         Some(Item::Entry(key, value)) => {
-            into.push_str(key.as_str())?;
+            show_key(key, into)?;
             into.push_str("=")?;
             show_value(value, into)?;
         }

@@ -3,15 +3,12 @@ use Rattle.std.specs.Prelude.{◌≡◌, ◌⊎◌, ◌<◌, ℕ, zero, suc, Lis
 use Rattle.std.specs.Prelude.{Some, None}
 use Rattle.std.specs.Borrow.{Bor}
 use Rattle.std.specs.Str.{chars}
-use Rattle.winnow.specs.Text.{text_reading}
-use Rattle.winnow.specs.Range.{from_to}
 use Rattle.std.proofs.Common.{ap, inl, arith, length-append}
-use Rattle.format_json_scalars.specs.Unique.{char_takes, char_unique}
-use Rattle.format_json_texts.specs.Number.{Slice}
 use Rattle.format_json_texts.specs.Words.{Char, latter}
-use Rattle.format_toml.specs.Toml.{AnyValue, Line, Mark, Newline, Separator, Tells, Ws}
+use Rattle.format_toml.specs.Grammars.{AnyItem, AnyKey, AnyValue, DoubleHeader, Entry, Header, Line}
+use Rattle.format_toml.specs.Grammars.{Mark, Newline, Table, Ws}
 use Rattle.format_toml.specs.Unique.{line_unique}
-use Rattle.format_toml.specs.declared.characters.Characters.TheVariants.{Bare}
+use Rattle.format_toml.specs.Words.{char_takes, char_unique}
 use Rattle.format_toml.specs.declared.expected.Expected.{Expected}
 use Rattle.format_toml.specs.declared.expected.Expected.TheVariants.{ClosingBracket, EqualsSign}
 use Rattle.format_toml.specs.declared.expected.Expected.TheVariants.{Key, LineEnd, TableName}
@@ -20,17 +17,17 @@ use Rattle.format_toml.specs.declared.expected.Lack.{Lack}
 use Rattle.format_toml.specs.declared.expected.Outcome as ways
 use Rattle.format_toml.specs.declared.expected.Outcome.TheVariants.{Last, Before}
 use Rattle.format_toml.specs.declared.expected.Outcome.TheVariants as lines
-use Rattle.winnow.specs.Grammar.{Grammar, Longest, NoneStands, Takes}
+use Rattle.winnow.specs.Grammar.{Both, Grammar, NoneStands, Takes}
 use Rattle.winnow.specs.Grammar.Unique.{both_take, either_takes}
-use Rattle.winnow.specs.Texts.{NotFirst}
-
--- unquoted-key, as it stands in the text
-abbrev pub BareKey : Grammar ℕ Slice
-BareKey = Longest text_reading (λ c. c) Tells Bare (from_to 1 None)
+use Rattle.winnow.specs.Texts.{Begins, NotFirst}
 
 -- something stands first by a grammar, with this left
 abbrev pub Stands : {O : Type 0} → Grammar ℕ O → List ℕ → List ℕ → Type 0
 Stands {O} grammar tokens rest = (o : O) × grammar tokens o rest
+
+-- something stands first by a grammar
+abbrev pub Begun : {O : Type 0} → Grammar ℕ O → List ℕ → Type 0
+Begun grammar tokens = (rest : List ℕ) × Stands grammar tokens rest
 
 -- what is left behind what stands first, or nothing where nothing does
 abbrev pub IsPast : {O : Type 0} → Grammar ℕ O → List ℕ → Option (Bor (List ℕ)) → Type 0
@@ -38,75 +35,93 @@ IsPast grammar tokens (Some rest) =
     Stands grammar tokens (chars rest.now)
 IsPast grammar tokens None = NoneStands grammar tokens
 
--- nothing is lacking
-abbrev pub LacksNothing : (Expected → List ℕ → Type 0) → Type 0
-LacksNothing lacks = (what : Expected) (rest : List ℕ) → lacks what rest → ⊥
+-- what is lacking, or nothing where the whole stands
+abbrev pub IsLack : (Expected → List ℕ → Type 0) → Type 0 → Option Lack → Type 0
+IsLack lacks whole (Some lack) = lacks lack.expected (chars lack.rest.now)
+IsLack lacks whole None = whole
 
--- what is lacking, or nothing where nothing is
-abbrev pub IsLack : (Expected → List ℕ → Type 0) → Option Lack → Type 0
-IsLack lacks (Some lack) = lacks lack.expected (chars lack.rest.now)
-IsLack lacks None = LacksNothing lacks
+module _ (A : Type 0) where
+  -- What stands behind a bracket that opens the name of a table, before what is lacking, one behind
+  -- the other; and what does not stand there.
+  abbrev pub HeaderLacks : List ℕ → Expected → List ℕ → Type 0
+  HeaderLacks text TableName rest = Stands Ws text rest × NoneStands (AnyKey {A = A}) rest
+  HeaderLacks text ClosingBracket rest =
+      (name : List ℕ) × Stands Ws text name × Stands (AnyKey {A = A}) name rest
+      × NoneStands (Char 93) rest
+  HeaderLacks text expected rest = ⊥
 
--- What stands of a table before what it lacks, one behind the other, and what does not stand there.
-abbrev pub TableLacks : List ℕ → Expected → List ℕ → Type 0
-TableLacks text TableName rest = Stands (Mark 91) text rest × NoneStands BareKey rest
-TableLacks text ClosingBracket rest =
-    (name : List ℕ) × (behind : List ℕ) × Stands (Mark 91) text name × Stands BareKey name behind
-    × Stands Ws behind rest × NoneStands (Char 93) rest
-TableLacks text expected rest = ⊥
+  -- The same behind two brackets: the name lacks something, or the second bracket behind it.
+  abbrev pub DoubleLacks : List ℕ → Expected → List ℕ → Type 0
+  DoubleLacks text what rest =
+      (name : List ℕ) × Stands (Char 91) text name
+      × (HeaderLacks name what rest
+      ⊎ ((what ≡ ClosingBracket) × Stands (Header {A = A}) name rest × NoneStands (Char 93) rest))
 
-module _ (A : Type 0) (level : ℕ) where
-  -- The same of a key and its value.
-  abbrev pub EntryLacks : List ℕ → Expected → List ℕ → Type 0
-  EntryLacks text Key rest =
-      (rest ≡ text) × NotFirst (λ c. c ≡ 91) text × NotFirst (λ c. c ≡ 35) text
-      × NoneStands BareKey text
-  EntryLacks text EqualsSign rest = Stands BareKey text rest × NoneStands Separator rest
-  EntryLacks text expected.Value rest =
-      (behind : List ℕ) × Stands BareKey text behind × Stands Separator behind rest
-      × NoneStands (AnyValue {A = A} level) rest
-  EntryLacks text expected rest = ⊥
+  -- The same of a table with its first bracket.
+  abbrev pub TableLacks : List ℕ → Expected → List ℕ → Type 0
+  TableLacks text what rest =
+      (name : List ℕ) × Stands (Char 91) text name
+      × ((Begins (λ c. c ≡ 91) name × DoubleLacks name what rest)
+      ⊎ (NotFirst (λ c. c ≡ 91) name × HeaderLacks name what rest))
 
-  -- What a table or an entry lacks behind white space.
-  abbrev pub ItemLacks : List ℕ → Expected → List ℕ → Type 0
-  ItemLacks line what rest =
-      (text : List ℕ) × Stands Ws line text
-      × (TableLacks text what rest ⊎ EntryLacks text what rest)
+  module _ (level : ℕ) where
+    -- The same of a key and its value.
+    abbrev pub EntryLacks : List ℕ → Expected → List ℕ → Type 0
+    EntryLacks text Key rest =
+        (rest ≡ text) × NotFirst (λ c. c ≡ 91) text × NotFirst (λ c. c ≡ 35) text
+        × NoneStands (AnyKey {A = A}) text
+    EntryLacks text EqualsSign rest =
+        Stands (AnyKey {A = A}) text rest × NoneStands (Mark 61) rest
+    EntryLacks text expected.Value rest =
+        (behind : List ℕ) × Stands (AnyKey {A = A}) text behind × Stands (Mark 61) behind rest
+        × NoneStands (AnyValue {A = A} level) rest
+    EntryLacks text expected rest = ⊥
 
-  -- What a line lacks that is none of TOML: what stands of a line is followed neither by the end
-  -- of the text nor by a line end. Its table or its entry lacks it; or these lack nothing, and then
-  -- it is the end of the line, behind what stands of it.
-  abbrev pub Lacks : List ℕ → Expected → List ℕ → Type 0
-  Lacks line what rest =
-      (end : List ℕ) × Stands (Line {A = A} level) line end × (end ≡ [] → ⊥)
-      × NoneStands Newline end
-      × (ItemLacks line what rest
-      ⊎ ((what ≡ LineEnd) × (rest ≡ end) × LacksNothing (ItemLacks line)))
+    -- What a table or an entry lacks behind white space.
+    abbrev pub ItemLacks : List ℕ → Expected → List ℕ → Type 0
+    ItemLacks line what rest =
+        (text : List ℕ) × Stands Ws line text
+        × (TableLacks text what rest ⊎ EntryLacks text what rest)
 
-  -- A line with its line end, and what is left behind it.
-  abbrev pub LineStands : List ℕ → List ℕ → Type 0
-  LineStands line behind =
-      (end : List ℕ) × Stands (Line {A = A} level) line end × Stands Newline end behind
+    -- Behind white space a table or an entry stands, or a comment is first.
+    abbrev pub ItemWhole : List ℕ → Type 0
+    ItemWhole line =
+        (text : List ℕ) × Stands Ws line text
+        × (Begun (AnyItem {A = A} level) text ⊎ Begins (λ c. c ≡ 35) text)
 
-  -- A line that is the last, one before another, or one that lacks something.
-  abbrev pub IsLine : List ℕ → ways.Outcome → Type 0
-  IsLine line Last = Stands (Line {A = A} level) line []
-  IsLine line (Before behind) = LineStands line (chars behind.now)
-  IsLine line (lines.Lacks lack) = Lacks line lack.expected (chars lack.rest.now)
+    -- What a line lacks that is none of TOML: what stands of a line is followed neither by the end
+    -- of the text nor by a line end. Its table or its entry lacks it; or one of these stands, or a
+    -- comment is there, and then it is the end of the line, behind what stands of it.
+    abbrev pub Lacks : List ℕ → Expected → List ℕ → Type 0
+    Lacks line what rest =
+        (end : List ℕ) × Stands (Line {A = A} level) line end × (end ≡ [] → ⊥)
+        × NoneStands Newline end
+        × (ItemLacks line what rest ⊎ ((what ≡ LineEnd) × (rest ≡ end) × ItemWhole line))
 
-  -- So many lines stand before a line, each with its line end.
-  abbrev pub LinesBefore : ℕ → List ℕ → List ℕ → Type 0
-  LinesBefore zero text line = line ≡ text
-  LinesBefore (suc n) text line =
-      (former : List ℕ) × LinesBefore n text former × LineStands former line
+    -- A line with its line end, and what is left behind it.
+    abbrev pub LineStands : List ℕ → List ℕ → Type 0
+    LineStands line behind =
+        (end : List ℕ) × Stands (Line {A = A} level) line end × Stands Newline end behind
 
-  -- What the first line lacks that is none of TOML; or all are lines of TOML, up to the end.
-  abbrev pub IsFirstLack : List ℕ → Option Lack → Type 0
-  IsFirstLack text (Some lack) =
-      (n : ℕ) × (line : List ℕ) × LinesBefore n text line
-      × Lacks line lack.expected (chars lack.rest.now)
-  IsFirstLack text None =
-      (n : ℕ) × (line : List ℕ) × LinesBefore n text line × Stands (Line {A = A} level) line []
+    -- A line that is the last, one before another, or one that lacks something.
+    abbrev pub IsLine : List ℕ → ways.Outcome → Type 0
+    IsLine line Last = Stands (Line {A = A} level) line []
+    IsLine line (Before behind) = LineStands line (chars behind.now)
+    IsLine line (lines.Lacks lack) = Lacks line lack.expected (chars lack.rest.now)
+
+    -- So many lines stand before a line, each with its line end.
+    abbrev pub LinesBefore : ℕ → List ℕ → List ℕ → Type 0
+    LinesBefore zero text line = line ≡ text
+    LinesBefore (suc n) text line =
+        (former : List ℕ) × LinesBefore n text former × LineStands former line
+
+    -- What the first line lacks that is none of TOML; or all are lines of TOML, up to the end.
+    abbrev pub IsFirstLack : List ℕ → Option Lack → Type 0
+    IsFirstLack text (Some lack) =
+        (n : ℕ) × (line : List ℕ) × LinesBefore n text line
+        × Lacks line lack.expected (chars lack.rest.now)
+    IsFirstLack text None =
+        (n : ℕ) × (line : List ℕ) × LinesBefore n text line × Stands (Line {A = A} level) line []
 
 -- ---- lemmas
 

@@ -1,14 +1,20 @@
 -- Written by scripts/registries.py: do not edit.
-pub mod Document
 pub mod Escapes
 pub mod Expected
-pub mod First
+pub mod Grammars
+pub mod Keys
 pub mod Lacking
+pub mod Led
 pub mod Lines
 pub mod Messages
+pub mod Nested
 pub mod Places
-pub mod Repeats
-pub mod Said
+pub mod Rows
+pub mod Scalars
+pub mod Spaces
+pub mod Strings
 pub mod Toml
 pub mod Unique
+pub mod UniqueSpaces
 pub mod Values
+pub mod Words

@@ -5,12 +5,12 @@ use Rattle.std.proofs.Common.{sym, ap, subst, inl, inr, ◌∙◌, arith, length
 use Rattle.std.proofs.Math.Seq.{take-append_seam}
 use Rattle.std.proofs.lemmas.Str.{IsCharBoundary-at_seam, IsUtf8-take, encodes-append}
 use Rattle.std.proofs.lemmas.Str.{encodes-chars}
-use Rattle.format_toml.specs.Expected.{EntryLacks, IsFirstLack, Lacks, LinesBefore, Stands}
-use Rattle.format_toml.specs.Expected.{TableLacks}
-use Rattle.format_toml.specs.Lacking.{key_unique}
+use Rattle.format_toml.specs.Expected.{DoubleLacks, EntryLacks, HeaderLacks, IsFirstLack, Lacks}
+use Rattle.format_toml.specs.Expected.{LinesBefore, Stands, TableLacks}
 use Rattle.format_toml.specs.Messages.{LacksAt}
-use Rattle.format_toml.specs.Unique.{line_unique, mark_unique, newline_unique, separator_unique}
-use Rattle.format_toml.specs.Unique.{ws_unique}
+use Rattle.format_toml.specs.Unique.{header_unique, key_unique, line_unique}
+use Rattle.format_toml.specs.UniqueSpaces.{mark_unique, newline_unique, ws_unique}
+use Rattle.format_toml.specs.Words.{char_unique}
 use Rattle.format_toml.specs.declared.expected.Expected.{Expected}
 use Rattle.format_toml.specs.declared.expected.Expected.TheVariants.{ClosingBracket, EqualsSign}
 use Rattle.format_toml.specs.declared.expected.Expected.TheVariants.{Key, TableName}
@@ -30,27 +30,41 @@ left_end : {O : Type 0} {g : Grammar ℕ O} → IsUnique g → {tokens rest : Li
     → Stands g tokens rest → IsEnd tokens rest
 left_end unique {tokens} {rest} (o, x) = unique.ends tokens o rest x
 
-table_end : (text : List ℕ) (what : Expected) (rest : List ℕ) → TableLacks text what rest
-    → IsEnd text rest
-table_end text TableName rest (m, none) = left_end (mark_unique 91) m
-table_end text ClosingBracket rest (n, b, m, k, w, none) =
-    end_of_end (left_end (mark_unique 91) m)
-    (end_of_end (left_end key_unique k) (left_end ws_unique w))
-table_end text what rest never = absurd never
+module _ (A : Type 0) where
+  header_end : (text : List ℕ) (what : Expected) (rest : List ℕ) → HeaderLacks A text what rest
+      → IsEnd text rest
+  header_end text TableName rest (w, none) = left_end ws_unique w
+  header_end text ClosingBracket rest (name, w, k, none) =
+      end_of_end (left_end ws_unique w) (left_end (key_unique {A = A}) k)
+  header_end text what rest never = absurd never
+
+  double_end : (text : List ℕ) (what : Expected) (rest : List ℕ) → DoubleLacks A text what rest
+      → IsEnd text rest
+  double_end text what rest (name, b, inl it) =
+      end_of_end (left_end (char_unique 91) b) (header_end name what rest it)
+  double_end text what rest (name, b, inr (is, h, none)) =
+      end_of_end (left_end (char_unique 91) b) (left_end (header_unique {A = A}) h)
+
+  table_end : (text : List ℕ) (what : Expected) (rest : List ℕ) → TableLacks A text what rest
+      → IsEnd text rest
+  table_end text what rest (name, b, inl (first, it)) =
+      end_of_end (left_end (char_unique 91) b) (double_end name what rest it)
+  table_end text what rest (name, b, inr (not, it)) =
+      end_of_end (left_end (char_unique 91) b) (header_end name what rest it)
 
 module _ (A : Type 0) (level : ℕ) where
   entry_end : (text : List ℕ) (what : Expected) (rest : List ℕ)
       → EntryLacks A level text what rest → IsEnd text rest
   entry_end text Key rest (is, bracket, comment, none) = ([], sym is)
-  entry_end text EqualsSign rest (k, none) = left_end key_unique k
+  entry_end text EqualsSign rest (k, none) = left_end (key_unique {A = A}) k
   entry_end text expected.Value rest (b, k, s, none) =
-      end_of_end (left_end key_unique k) (left_end separator_unique s)
+      end_of_end (left_end (key_unique {A = A}) k) (left_end (mark_unique 61) s)
   entry_end text what rest never = absurd never
 
   lack_end : (line : List ℕ) (what : Expected) (rest : List ℕ) → Lacks A level line what rest
       → IsEnd line rest
   lack_end line what rest (end, s, some, none, inl (text, w, inl it)) =
-      end_of_end (left_end ws_unique w) (table_end text what rest it)
+      end_of_end (left_end ws_unique w) (table_end A text what rest it)
   lack_end line what rest (end, s, some, none, inl (text, w, inr it)) =
       end_of_end (left_end ws_unique w) (entry_end text what rest it)
   lack_end line what rest (end, s, some, none, inr (is, e, nothing)) =

@@ -27,6 +27,8 @@ pub enum Characters {
     Literal,
     /// Those of a basic string that stand for themselves: as of a comment, without `"` and `\`.
     Basic,
+    /// Those of white space on a line: a space, and a tab.
+    White,
 }
 
 /// Whether it is one of a bare key.
@@ -58,6 +60,7 @@ impl ContainsToken<char> for Characters {
             Characters::Comment => is_shown(token),
             Characters::Literal => is_shown(token) && token != '\'',
             Characters::Basic => is_shown(token) && token != '"' && token != '\\',
+            Characters::White => token == ' ' || token == '\t',
         }
     }
 }

@@ -1,12 +1,19 @@
 //! Characters of basic strings, and their escapes (TOML 1.0: String).
 ghost use Rattle.std.specs.Prelude.{◌≡◌, ℕ, ⊤, MatchOption};
+ghost use Rattle.format_json_texts.specs.Strings.{CodeUnit, IsAlone};
+ghost use Rattle.format_json_texts.specs.Words.{Char, latter};
 ghost use Rattle.winnow.specs.Text.{text_input, text_reading};
-ghost use Rattle.format_toml.specs.Escapes.{character_takes, character_unique, short_takes};
-ghost use Rattle.format_toml.specs.Escapes.{short_unique};
-ghost use Rattle.format_toml.specs.Toml.{Character, Short, StandsFor};
+ghost use Rattle.format_toml.specs.Escapes.{alone_unique, character_takes, character_unique};
+ghost use Rattle.format_toml.specs.Escapes.{escape_unique, wide_code_unique};
+ghost use Rattle.format_toml.specs.Grammars.{Character, Escape, Short, WideUnits};
+ghost use Rattle.format_toml.specs.Toml.{IsWide, StandsFor};
 ghost use Rattle.winnow.specs.Exact.{Reads};
+ghost use Rattle.winnow.specs.Grammar.{Both};
+ghost use Rattle.winnow.specs.Grammar.Meaning.{Meaning};
 
 use crate::characters::Characters;
+use crate::strings::begins_with;
+use crate::units::{Unit, Wide, read_unit, read_wide};
 use winnow::Parser;
 use winnow::combinator::{alt, preceded};
 use winnow::error::{EmptyError, ErrMode, HasKind};
@@ -29,28 +36,130 @@ fn unescaped(c: char) -> Option<char>
     }
 }
 
-/// The name of a character that a backslash escapes.
-#[derive(Clone, Copy, Drop)]
-struct ShortEscape;
-
-impl<'i> Rule<&'i str, char> for ShortEscape {
-    ghost grammar = { λ _. Short };
-
-    ghost consumes = { λ _. ⊤ };
-
-    fn name() {}
-
-    ghost unique = { λ _. short_unique };
-
-    ghost takes = { λ _ _. short_takes };
-}
-
 /// A character that a backslash escapes: that for which both stand.
 fn read_short<'i>(input: &mut &'i str) -> Result<char, ErrMode<EmptyError>>
     ensures { Reads text_reading ⟦<ErrMode<EmptyError> as HasKind>⟧.kind Short
         (text_input input.old.now) result (text_input input.new.now) }
 {
     Any.verify_map(unescaped).read(input)
+}
+
+/// The character that a number is: none if it is a surrogate.
+fn alone(unit: u32) -> Option<char>
+    ensures { MatchOption result ((c : ℕ) → IsAlone unit c → ⊥) (λ c. IsAlone unit c) }
+{
+    char::from_u32(unit)
+}
+
+/// The name of four digits that are a character.
+#[derive(Clone, Copy, Drop)]
+struct ShortCode;
+
+impl<'i> Rule<&'i str, char> for ShortCode {
+    ghost grammar = { λ _. Meaning IsAlone CodeUnit };
+
+    ghost consumes = { λ _. ⊥ };
+
+    fn name() {}
+
+    ghost unique = { λ _. alone_unique };
+
+    ghost takes = { λ _ never. absurd never };
+}
+
+/// Four digits that are a character.
+fn read_alone<'i>(input: &mut &'i str) -> Result<char, ErrMode<EmptyError>>
+    ensures { Reads text_reading ⟦<ErrMode<EmptyError> as HasKind>⟧.kind (Meaning IsAlone CodeUnit)
+        (text_input input.old.now) result (text_input input.new.now) }
+{
+    Unit.by(read_unit).verify_map(alone).read(input)
+}
+
+/// A `u`, and four digits that are a character.
+fn read_short_code<'i>(input: &mut &'i str) -> Result<char, ErrMode<EmptyError>>
+    ensures { Reads text_reading ⟦<ErrMode<EmptyError> as HasKind>⟧.kind
+        (Both latter (Char 117) (Meaning IsAlone CodeUnit))
+        (text_input input.old.now) result (text_input input.new.now) }
+{
+    preceded('u', ShortCode.by(read_alone)).read(input)
+}
+
+/// The character that eight digits are, by the numbers of the first four and of the others.
+fn wide(units: (u32, u32)) -> Option<char>
+    ensures { MatchOption result ((c : ℕ) → IsWide (units.0, units.1) c → ⊥)
+        (λ c. IsWide (units.0, units.1) c) }
+{
+    let (high, low) = units;
+    if high > 16 {
+        return None;
+    }
+    match (high * 65536).checked_add(low) {
+        Some(unit) => alone(unit),
+        None => None,
+    }
+}
+
+/// The name of eight digits that are a character.
+#[derive(Clone, Copy, Drop)]
+struct LongCode;
+
+impl<'i> Rule<&'i str, char> for LongCode {
+    ghost grammar = { λ _. Meaning IsWide WideUnits };
+
+    ghost consumes = { λ _. ⊥ };
+
+    fn name() {}
+
+    ghost unique = { λ _. wide_code_unique };
+
+    ghost takes = { λ _ never. absurd never };
+}
+
+/// Eight digits that are a character.
+fn read_wide_character<'i>(input: &mut &'i str) -> Result<char, ErrMode<EmptyError>>
+    ensures { Reads text_reading ⟦<ErrMode<EmptyError> as HasKind>⟧.kind (Meaning IsWide WideUnits)
+        (text_input input.old.now) result (text_input input.new.now) }
+{
+    Wide.by(read_wide).verify_map(wide).read(input)
+}
+
+/// A `U`, and eight digits that are a character.
+fn read_long_code<'i>(input: &mut &'i str) -> Result<char, ErrMode<EmptyError>>
+    ensures { Reads text_reading ⟦<ErrMode<EmptyError> as HasKind>⟧.kind
+        (Both latter (Char 85) (Meaning IsWide WideUnits))
+        (text_input input.old.now) result (text_input input.new.now) }
+{
+    preceded('U', LongCode.by(read_wide_character)).read(input)
+}
+
+/// The name of what stands behind a backslash.
+#[derive(Clone, Copy, Drop)]
+struct AnyEscape;
+
+impl<'i> Rule<&'i str, char> for AnyEscape {
+    ghost grammar = { λ _. Escape };
+
+    ghost consumes = { λ _. ⊥ };
+
+    fn name() {}
+
+    ghost unique = { λ _. escape_unique };
+
+    ghost takes = { λ _ never. absurd never };
+}
+
+/// What stands behind a backslash: the character for which both stand.
+fn read_escape<'i>(input: &mut &'i str) -> Result<char, ErrMode<EmptyError>>
+    ensures { Reads text_reading ⟦<ErrMode<EmptyError> as HasKind>⟧.kind Escape
+        (text_input input.old.now) result (text_input input.new.now) }
+{
+    if begins_with(input, 'u') {
+        return read_short_code(input);
+    }
+    if begins_with(input, 'U') {
+        return read_long_code(input);
+    }
+    read_short(input)
 }
 
 /// The name of what [`read_character`] reads.
@@ -74,6 +183,6 @@ pub fn read_character<'i>(input: &mut &'i str) -> Result<char, ErrMode<EmptyErro
     ensures { Reads text_reading ⟦<ErrMode<EmptyError> as HasKind>⟧.kind Character
         (text_input input.old.now) result (text_input input.new.now) }
 {
-    let escaped = preceded('\\', ShortEscape.by(read_short));
+    let escaped = preceded('\\', AnyEscape.by(read_escape));
     alt((one_of(Characters::Basic), escaped)).read(input)
 }

@@ -1,26 +1,23 @@
 //! What a line lacks that is none of TOML, for messages to people.
-ghost use Rattle.std.specs.Prelude.{◌≡◌, ℕ, [], false, IfOk, IsTrue, List};
+ghost use Rattle.std.specs.Prelude.{◌≡◌, [], false, IfOk, IsTrue};
 ghost use Rattle.std.specs.Str.{chars};
-ghost use Rattle.format_json_texts.specs.Words.{Char};
-ghost use Rattle.format_toml.specs.Expected.{BareKey, EntryLacks, IsFirstLack, IsLack, IsLine};
-ghost use Rattle.format_toml.specs.Expected.{IsPast, ItemLacks, Lacks, Stands, TableLacks};
-ghost use Rattle.format_toml.specs.Toml.{AnyValue, Line, Mark, Newline, Separator, Ws};
-ghost use Rattle.winnow.specs.Grammar.{NoneStands};
+ghost use Rattle.format_json_texts.specs.Words.{Char, latter};
+ghost use Rattle.format_toml.specs.Expected.{Begun, DoubleLacks, EntryLacks, HeaderLacks};
+ghost use Rattle.format_toml.specs.Expected.{IsFirstLack, IsLack, IsLine, ItemLacks, ItemWhole};
+ghost use Rattle.format_toml.specs.Expected.{Lacks, Stands, TableLacks};
+ghost use Rattle.format_toml.specs.Grammars.{DoubleHeader, Entry, Header, Line, Newline, Table};
+ghost use Rattle.winnow.specs.Grammar.{Both, NoneStands};
 ghost use Rattle.winnow.specs.Texts.{NotFirst};
 
-use crate::characters::Characters;
-use crate::lines::{AnyLine, read_line, read_value};
-use crate::scalars::begins_with;
+use crate::passed::{
+    behind_bracket, behind_header, behind_line, behind_white, closes, lacks_value, past_equals,
+    past_key, past_newline,
+};
+use crate::strings::begins_with;
 use std::alloc::Allocator;
 use std::fmt;
 use std::fmt::{Display, Formatter};
-use winnow::Parser;
-use winnow::ascii::impls::Space0;
-use winnow::combinator::{alt, preceded};
-use winnow::error::{EmptyError, ErrMode, ParserError};
-use winnow::exact::Rule;
-use winnow::stream::Range;
-use winnow::token::take_while;
+use winnow::error::{EmptyError, ErrMode};
 
 /// What is expected at a place of a line, and does not stand there.
 ///
@@ -33,13 +30,13 @@ use winnow::token::take_while;
 pub enum Expected {
     /// A key, or a table.
     Key,
-    /// The equals sign behind a key.
+    /// The equals sign after a key.
     EqualsSign,
-    /// The value behind an equals sign, of no deeper level than is read.
+    /// The value after an equals sign, of no deeper level than is read.
     Value,
     /// The name of a table.
     TableName,
-    /// The bracket behind the name of a table.
+    /// A bracket after the name of a table.
     ClosingBracket,
     /// The end of the line.
     LineEnd,
@@ -58,7 +55,7 @@ impl Display for Expected {
     }
 }
 
-/// What a line lacks, and the text behind the place.
+/// What a line lacks, and the text after the place.
 ///
 /// ```
 /// use format_toml::expected::{Expected, Lack};
@@ -74,123 +71,20 @@ pub struct Lack<'i> {
     pub rest: &'i str,
 }
 
-/// What a parser leaves of a text, where it reads; nothing where it does not. An error says that a
-/// request for memory was refused.
-fn past<'i, O: Drop, P: Parser<&'i str, O, ErrMode<EmptyError>> + Drop>(
-    parser: P,
-    text: &'i str,
-) -> Result<Option<&'i str>, ErrMode<EmptyError>>
-    requires { P.can_parse parser × (P.claim (P.state parser)).premise
-        × (P.claim (P.state parser)).backtracks }
-    ensures { IfOk result (λ o. IsPast (P.claim (P.state parser)).grammar (chars text.now) o) }
-{
-    let mut parser = parser;
-    let mut rest = text;
-    match parser.read(&mut rest) {
-        Ok(_) => Ok(Some(rest)),
-        Err(error) => {
-            if ParserError::<&str>::is_backtrack(&error) {
-                Ok(None)
-            } else {
-                Err(error)
-            }
-        }
-    }
-}
-
-/// What a parser leaves of a text. An error says that it does not read, or that a request for
-/// memory was refused.
-fn behind<'i, O: Drop, P: Parser<&'i str, O, ErrMode<EmptyError>> + Drop>(
-    parser: P,
-    text: &'i str,
-) -> Result<&'i str, ErrMode<EmptyError>>
-    requires { P.can_parse parser × (P.claim (P.state parser)).premise
-        × (P.claim (P.state parser)).backtracks }
-    ensures { IfOk result (λ rest. Stands (P.claim (P.state parser)).grammar (chars text.now)
-        (chars rest.now)) }
-{
-    let mut parser = parser;
-    let mut rest = text;
-    match parser.read(&mut rest) {
-        Ok(_) => Ok(rest),
-        Err(error) => Err(error),
-    }
-}
-
-/// What is behind white space.
-fn past_white<'i>(text: &'i str) -> Result<Option<&'i str>, ErrMode<EmptyError>>
-    ensures { IfOk result (λ o. IsPast Ws (chars text.now) o) }
-{
-    past(Space0, text)
-}
-
-/// What is behind a key.
-fn past_key<'i>(text: &'i str) -> Result<Option<&'i str>, ErrMode<EmptyError>>
-    ensures { IfOk result (λ o. IsPast BareKey (chars text.now) o) }
-{
-    past(take_while(Range::from(1..), Characters::Bare), text)
-}
-
-/// What is behind an equals sign with white space round it.
-fn past_separator<'i>(text: &'i str) -> Result<Option<&'i str>, ErrMode<EmptyError>>
-    ensures { IfOk result (λ o. IsPast Separator (chars text.now) o) }
-{
-    past((Space0, '=', Space0), text)
-}
-
-/// What is behind a bracket that opens, and white space.
-fn past_bracket<'i>(text: &'i str) -> Result<Option<&'i str>, ErrMode<EmptyError>>
-    ensures { IfOk result (λ o. IsPast (Mark 91) (chars text.now) o) }
-{
-    past(('[', Space0), text)
-}
-
-/// Whether a bracket that closes is first.
-fn closes<'i>(text: &'i str) -> Result<Option<&'i str>, ErrMode<EmptyError>>
-    ensures { IfOk result (λ o. IsPast (Char 93) (chars text.now) o) }
-{
-    past(']', text)
-}
-
-/// Whether no value is first.
-fn lacks_value<'i, A: Allocator + Copy>(
+/// What is lacking behind the bracket that opens the name of a table; nothing where all stands.
+fn lack_of_header<'i, A: Allocator + Copy>(
     alloc: A,
-    level: usize,
     text: &'i str,
-) -> Result<bool, ErrMode<EmptyError>>
-    ensures none { IfOk result (λ o. IsTrue o
-        → NoneStands (AnyValue {A = A} level) (chars text.now)) }
-    ensures some { IfOk result (λ o. o ≡ false
-        → (rest : List ℕ) × Stands (AnyValue {A = A} level) (chars text.now) rest) }
+) -> Result<Option<Lack<'i>>, ErrMode<EmptyError>>
+    ensures { IfOk result (λ o. IsLack (HeaderLacks A (chars text.now))
+        (Begun (Header {A = A}) (chars text.now)) o) }
 {
-    let mut rest = text;
-    match read_value(alloc, level, &mut rest) {
-        Ok(_) => Ok(false),
-        Err(error) => {
-            if ParserError::<&str>::is_backtrack(&error) {
-                Ok(true)
-            } else {
-                Err(error)
-            }
-        }
-    }
-}
-
-/// What a table lacks with whose bracket a text begins; nothing where it lacks nothing.
-fn lack_of_table<'i>(text: &'i str) -> Result<Option<Lack<'i>>, ErrMode<EmptyError>>
-    ensures { IfOk result (λ o. IsLack (TableLacks (chars text.now)) o) }
-{
-    let Some(name) = past_bracket(text)? else {
-        return Ok(None);
-    };
-    let Some(behind) = past_key(name)? else {
+    let name = behind_white(text)?;
+    let Some(end) = past_key(alloc, name)? else {
         return Ok(Some(Lack {
             expected: Expected::TableName,
             rest: name,
         }));
-    };
-    let Some(end) = past_white(behind)? else {
-        return Ok(None);
     };
     match closes(end)? {
         Some(_) => Ok(None),
@@ -201,7 +95,45 @@ fn lack_of_table<'i>(text: &'i str) -> Result<Option<Lack<'i>>, ErrMode<EmptyErr
     }
 }
 
-/// What an entry lacks with which a text begins; nothing where it lacks nothing.
+/// The same where another bracket is first.
+fn lack_of_double<'i, A: Allocator + Copy>(
+    alloc: A,
+    text: &'i str,
+) -> Result<Option<Lack<'i>>, ErrMode<EmptyError>>
+    ensures { IfOk result (λ o. IsLack (DoubleLacks A (chars text.now))
+        (Begun (DoubleHeader {A = A}) (chars text.now)) o) }
+{
+    let name = behind_bracket(text)?;
+    match lack_of_header(alloc, name)? {
+        Some(lack) => return Ok(Some(lack)),
+        None => {}
+    }
+    let end = behind_header(alloc, name)?;
+    match closes(end)? {
+        Some(_) => Ok(None),
+        None => Ok(Some(Lack {
+            expected: Expected::ClosingBracket,
+            rest: end,
+        })),
+    }
+}
+
+/// What a table lacks with whose bracket a text begins; nothing where all of it stands.
+fn lack_of_table<'i, A: Allocator + Copy>(
+    alloc: A,
+    text: &'i str,
+) -> Result<Option<Lack<'i>>, ErrMode<EmptyError>>
+    ensures { IfOk result (λ o. IsLack (TableLacks A (chars text.now))
+        (Begun (Both latter (Char 91) (Table {A = A})) (chars text.now)) o) }
+{
+    let name = behind_bracket(text)?;
+    if begins_with(name, '[') {
+        return lack_of_double(alloc, name);
+    }
+    lack_of_header(alloc, name)
+}
+
+/// What an entry lacks with which a text begins; nothing where all of it stands.
 fn lack_of_entry<'i, A: Allocator + Copy>(
     alloc: A,
     level: usize,
@@ -209,15 +141,16 @@ fn lack_of_entry<'i, A: Allocator + Copy>(
 ) -> Result<Option<Lack<'i>>, ErrMode<EmptyError>>
     requires table { NotFirst (λ c. c ≡ 91) (chars text.now) }
     requires comment { NotFirst (λ c. c ≡ 35) (chars text.now) }
-    ensures { IfOk result (λ o. IsLack (EntryLacks A level (chars text.now)) o) }
+    ensures { IfOk result (λ o. IsLack (EntryLacks A level (chars text.now))
+        (Begun (Entry {A = A} level) (chars text.now)) o) }
 {
-    let Some(behind) = past_key(text)? else {
+    let Some(behind) = past_key(alloc, text)? else {
         return Ok(Some(Lack {
             expected: Expected::Key,
             rest: text,
         }));
     };
-    let Some(value) = past_separator(behind)? else {
+    let Some(value) = past_equals(behind)? else {
         return Ok(Some(Lack {
             expected: Expected::EqualsSign,
             rest: behind,
@@ -232,32 +165,24 @@ fn lack_of_entry<'i, A: Allocator + Copy>(
     Ok(None)
 }
 
-/// What the table or the entry of a line lacks; nothing where these lack nothing, or a comment is
+/// What the table or the entry of a line lacks; nothing where all of it stands, or a comment is
 /// there alone.
 fn lack_of_item<'i, A: Allocator + Copy>(
     alloc: A,
     level: usize,
     line: &'i str,
 ) -> Result<Option<Lack<'i>>, ErrMode<EmptyError>>
-    ensures { IfOk result (λ o. IsLack (ItemLacks A level (chars line.now)) o) }
+    ensures { IfOk result (λ o. IsLack (ItemLacks A level (chars line.now))
+        (ItemWhole A level (chars line.now)) o) }
 {
-    let Some(text) = past_white(line)? else {
-        return Ok(None);
-    };
+    let text = behind_white(line)?;
     if begins_with(text, '[') {
-        return lack_of_table(text);
+        return lack_of_table(alloc, text);
     }
     if begins_with(text, '#') {
         return Ok(None);
     }
     lack_of_entry(alloc, level, text)
-}
-
-/// What is behind a line end.
-fn past_newline<'i>(text: &'i str) -> Result<Option<&'i str>, ErrMode<EmptyError>>
-    ensures { IfOk result (λ o. IsPast Newline (chars text.now) o) }
-{
-    past(alt(('\n', preceded('\r', '\n'))), text)
 }
 
 /// What a line is with which a text begins.
@@ -269,20 +194,6 @@ enum Outcome<'i> {
     Before(&'i str),
     /// It is none.
     Lacks(Lack<'i>),
-}
-
-/// What is behind what stands of a line. Something always does, so an error says that a request for
-/// memory was refused.
-fn behind_line<'i, A: Allocator + Copy>(
-    alloc: A,
-    level: usize,
-    text: &'i str,
-) -> Result<&'i str, ErrMode<EmptyError>>
-    ensures { IfOk result (λ rest. Stands (Line {A = A} level) (chars text.now)
-        (chars rest.now)) }
-{
-    let line = AnyLine(alloc, level).by(|input: &mut &str| read_line(alloc, level, input));
-    behind(line, text)
 }
 
 /// Whether nothing is left.
@@ -339,19 +250,20 @@ fn line_of<'i, A: Allocator + Copy>(
 /// What the first line of a text lacks that is none of TOML, and the text from that place on. In
 /// values no more than so many arrays stand in one another.
 ///
-/// Behind what stands of this line is neither the end of the text nor a line end. It lacks what its
-/// table or its entry does, behind the parts of these that stand; or, where these lack nothing, the
-/// end of the line, behind what stands of it.
+/// After what stands of this line is neither the end of the text nor a line end. It lacks what its
+/// table or its entry does, after the parts of these that stand; or, where all of these stands, the
+/// end of the line, after what stands of it. A value is one part: of an array or an inline table it
+/// is not said where in it something is lacking.
 ///
 /// `None` where all are lines of TOML. An error is for a request for memory that was refused, which
 /// no clause says. Each level takes some of the stack, as of
-/// [`read_value`](crate::lines::read_value).
+/// [`read_value`](crate::values::read_value).
 ///
 /// ```
 /// use format_toml::expected::{Expected, Lack, first_lack};
 ///
 /// let lack = first_lack(alloc, 1, "[server]\nport 80");
-/// assert!(rt; lack == Ok(Some(Lack { expected: Expected::EqualsSign, rest: " 80" })));
+/// assert!(rt; lack == Ok(Some(Lack { expected: Expected::EqualsSign, rest: "80" })));
 /// let lack = first_lack(alloc, 1, "port = 080");
 /// assert!(rt; lack == Ok(Some(Lack { expected: Expected::LineEnd, rest: "80" })));
 /// assert!(rt; first_lack(alloc, 1, "port = 80 # of it\n") == Ok(None));

@@ -2,21 +2,28 @@
 //!
 //! Where this differs from the standard:
 //!
-//! - Keys are bare, and not dotted: neither keys in quotes nor arrays of tables are read.
-//! - Strings are on one line, and basic strings have no escapes of Unicode (`\u00e9`).
-//! - Integers are decimal, of 64 bits, without underscores, and a zero has no sign; floats, dates,
-//!   times and inline tables are not read.
-//! - Arrays are nested to a level, which the caller gives, on one line, with no comma behind the
-//!   last value.
+//! - Strings are on one line.
+//! - Integers are decimal, of 64 bits, without underscores, and a zero has no sign; floats, dates
+//!   and times are not read.
+//! - Arrays and inline tables are nested to a level, which the caller gives.
+//! - That lines say a key or a table again is not refused here.
+//!
+//! The standard has no byte order mark, so a text that begins with one is none.
 #![tactic(auto)]
 
 pub mod characters;
-pub mod document;
 mod escapes;
 pub mod expected;
+mod gaps;
+mod keys;
 pub mod lines;
+mod marks;
 pub mod messages;
 mod parts;
-pub mod repeats;
+mod passed;
 mod scalars;
+mod strings;
+mod turns;
+mod units;
 pub mod value;
+pub mod values;

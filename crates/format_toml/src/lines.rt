@@ -1,159 +1,102 @@
-//! Lines and their values (TOML 1.0: Key/Value Pair, Keys, Array, Table).
-ghost use Rattle.std.specs.Prelude.{◌≡◌, ◌⊎◌, ◌<◌, false, IsTrue};
+//! Lines (TOML 1.0: Key/Value Pair, Table, Array of Tables).
+ghost use Rattle.std.specs.Prelude.{◌≡◌};
 ghost use Rattle.std.specs.Str.{chars};
-ghost use Rattle.winnow.specs.AsChar.{IsDecDigit};
 ghost use Rattle.winnow.specs.Text.{text_input, text_reading};
-ghost use Rattle.format_toml.specs.First.{no_memory_kind};
-ghost use Rattle.format_toml.specs.Toml.{AnyItem, AnyValue, DocumentText, Entry, IsEntry};
-ghost use Rattle.format_toml.specs.Toml.{IsTable, Line, Table, ValueText};
-ghost use Rattle.format_toml.specs.Unique.{item_unique, line_unique, value_unique};
+ghost use Rattle.format_json_texts.specs.Words.{Char, latter};
+ghost use Rattle.format_toml.specs.Grammars.{AnyItem, DoubleHeader, Entry, Header, Line, Table};
+ghost use Rattle.format_toml.specs.Toml.{DocumentText, IsEntry, IsTable, IsTables};
+ghost use Rattle.format_toml.specs.Unique.{item_unique, line_unique, table_unique};
 ghost use Rattle.winnow.specs.Exact.{Reads};
+ghost use Rattle.winnow.specs.Grammar.{Both};
 ghost use Rattle.winnow.specs.Grammar.Meaning.{Meaning};
-ghost use Rattle.winnow.specs.Texts.{Begins, NotFirst};
-ghost use Rattle.winnow.specs.Told.{IsTextOf, ReadsText};
+ghost use Rattle.winnow.specs.Told.{IsTextOf};
 
 use crate::characters::Characters;
-use crate::parts::{parse_lines_of, read_line_of, read_pair};
-use crate::scalars::{begins_with, read_scalar};
-use crate::value::{Document, Item, Value};
-use format_json_scalars::marks::{Marks, read_array_of, read_between};
+use crate::keys::{read_double, read_header};
+use crate::parts::{parse_lines_of, read_line_of};
+use crate::strings::begins_with;
+use crate::value::Document;
+use crate::values::read_entry;
+use format_toml_tree::value::Item;
 use std::alloc::Allocator;
+use winnow::Parser;
 use winnow::ascii::impls::Space0;
-use winnow::combinator::{alt, preceded, repeat, terminated};
+use winnow::combinator::{alt, preceded};
 use winnow::error::{EmptyError, ErrMode, HasKind, ParseFault, ParserError};
 use winnow::exact::Rule;
 use winnow::stream::Range;
-use winnow::token::{one_of, take_while};
+use winnow::token::take_while;
 
-/// A level that is safe on a stack of two megabytes: reading a value calls itself once for each
-/// array that stands in another, and so does letting the value go. At a higher level a text can
-/// nest so deep that the stack ends, which stops the program: the stack, too, is to be larger then.
-///
-/// ```
-/// use format_toml::lines::{SAFE_LEVEL, read_value};
-///
-/// assert!(rt; read_value(alloc, SAFE_LEVEL, &mut "[[1], [2]]").is_ok());
-/// ```
-pub const SAFE_LEVEL: usize = 128;
-
-/// Whether arrays are read at the level, and a bracket is first.
-fn opens(level: usize, input: &str) -> bool
-    ensures yes { IsTrue result → (0 < level) × Begins (λ c. c ≡ 91) (chars input.now) }
-    ensures no { result ≡ false → (level ≡ 0) ⊎ NotFirst (λ c. c ≡ 91) (chars input.now) }
+/// The name of a table of an array of tables, behind the first bracket, as an item.
+fn read_double_item<'i, A: Allocator + Copy>(
+    alloc: A,
+    input: &mut &'i str,
+) -> Result<Item<A>, ErrMode<EmptyError>>
+    ensures { Reads text_reading ⟦<ErrMode<EmptyError> as HasKind>⟧.kind
+        (Meaning IsTables DoubleHeader)
+        (text_input input.old.now) result (text_input input.new.now) }
 {
-    match input.chars().next() {
-        Some(c) => level > 0 && c == '[',
-        None => false,
+    match read_double(alloc, input) {
+        Ok(key) => Ok(Item::Tables(key)),
+        Err(error) => Err(error),
     }
 }
 
-/// The name of what [`read_value`] reads.
-#[derive(Clone, Copy, Drop)]
-struct Nested<A>(A, usize);
+/// The name of a table, behind the first bracket, as an item.
+fn read_header_item<'i, A: Allocator + Copy>(
+    alloc: A,
+    input: &mut &'i str,
+) -> Result<Item<A>, ErrMode<EmptyError>>
+    ensures { Reads text_reading ⟦<ErrMode<EmptyError> as HasKind>⟧.kind (Meaning IsTable Header)
+        (text_input input.old.now) result (text_input input.new.now) }
+{
+    match read_header(alloc, input) {
+        Ok(key) => Ok(Item::Table(key)),
+        Err(error) => Err(error),
+    }
+}
 
-impl<'i, A: Allocator> Rule<&'i str, Value<A>> for Nested<A> {
-    ghost grammar = { λ r. AnyValue r.1 };
+/// The name of what [`read_table`] reads.
+#[derive(Clone, Copy, Drop)]
+struct AnyTable<A>(A);
+
+impl<'i, A: Allocator> Rule<&'i str, Item<A>> for AnyTable<A> {
+    ghost grammar = { λ _. Table };
 
     ghost consumes = { λ _. ⊥ };
 
     fn name() {}
 
-    ghost unique = { λ r. value_unique r.1 };
+    ghost unique = { λ _. table_unique };
 
     ghost takes = { λ _ never. absurd never };
 }
 
-/// The value that stands first, in which no more than so many arrays stand in one another. Each
-/// level takes some of the stack: up to [`SAFE_LEVEL`] two megabytes suffice.
-///
-/// The input is left behind the value. An error backtracks where no value of the level stands
-/// first, and wants memory where a request was refused; what of the input is left then is an end of
-/// it.
-///
-/// ```
-/// use format_toml::lines::read_value;
-/// use format_toml::value::Value;
-///
-/// let mut input = "[1, ['a', true]] # two";
-/// let value = read_value(alloc, 2, &mut input);
-/// assert!(rt; matches!(value, Ok(Value::Array(items)) if items.len() == 2));
-/// assert_eq!(rt; input, " # two");
-/// assert!(rt; read_value(alloc, 1, &mut "[1, ['a', true]]").is_err());
-/// ```
-pub fn read_value<'i, A: Allocator + Copy>(
-    alloc: A,
-    level: usize,
-    input: &mut &'i str,
-) -> Result<Value<A>, ErrMode<EmptyError>>
-    ensures grammar { Reads text_reading ⟦<ErrMode<EmptyError> as HasKind>⟧.kind (AnyValue level)
-        (text_input input.old.now) result (text_input input.new.now) }
-    ensures text { ReadsText text_reading ⟦<ErrMode<EmptyError> as HasKind>⟧.kind
-        (ValueText level) (NotFirst IsDecDigit) (text_input input.old.now) result
-        (text_input input.new.now) }
-{
-    if !opens(level, input) {
-        return read_scalar(alloc, input);
-    }
-    let below = level - 1;
-    let value = |input: &mut &str|
-        ensures { Reads text_reading no_memory_kind (AnyValue below)
-            (text_input input.old.now) result (text_input input.new.now) }
-    { read_value(alloc, below, input) };
-    let marks = Marks {
-        opening: '[',
-        comma: ',',
-        closing: ']',
-        gap: Space0,
-    };
-    match read_array_of(alloc, Nested(alloc, below), value, marks, input) {
-        Ok(items) => Ok(Value::Array(items)),
-        Err(error) => Err(error),
-    }
-}
-
-/// The name in brackets that stands first, with white space in them.
+/// The name of a table, or of a table of an array of tables, behind the first bracket.
 fn read_table<'i, A: Allocator + Copy>(
     alloc: A,
     input: &mut &'i str,
-) -> Result<String<A>, ErrMode<EmptyError>>
+) -> Result<Item<A>, ErrMode<EmptyError>>
     ensures { Reads text_reading ⟦<ErrMode<EmptyError> as HasKind>⟧.kind Table
         (text_input input.old.now) result (text_input input.new.now) }
 {
-    let name = repeat(alloc, Range::from(1..), one_of(Characters::Bare));
-    read_between(('[', Space0), terminated(name, Space0), ']', input)
+    if begins_with(input, '[') {
+        return read_double_item(alloc, input);
+    }
+    read_header_item(alloc, input)
 }
 
-/// The key and the value that stand first, with an equals sign between them.
-fn read_entry<'i, A: Allocator + Copy>(
-    alloc: A,
-    level: usize,
-    input: &mut &'i str,
-) -> Result<(String<A>, Value<A>), ErrMode<EmptyError>>
-    ensures { Reads text_reading ⟦<ErrMode<EmptyError> as HasKind>⟧.kind (Entry level)
-        (text_input input.old.now) result (text_input input.new.now) }
-{
-    let key = repeat(alloc, Range::from(1..), one_of(Characters::Bare));
-    let value = |input: &mut &str| read_value(alloc, level, input);
-    read_pair(
-        key,
-        (Space0, '=', Space0),
-        Nested(alloc, level).by(value),
-        input,
-    )
-}
-
-/// The name in brackets that stands first, as an item.
+/// The same with the first bracket.
 fn read_table_item<'i, A: Allocator + Copy>(
     alloc: A,
     input: &mut &'i str,
 ) -> Result<Item<A>, ErrMode<EmptyError>>
-    ensures { Reads text_reading ⟦<ErrMode<EmptyError> as HasKind>⟧.kind (Meaning IsTable Table)
+    ensures { Reads text_reading ⟦<ErrMode<EmptyError> as HasKind>⟧.kind
+        (Both latter (Char 91) Table)
         (text_input input.old.now) result (text_input input.new.now) }
 {
-    match read_table(alloc, input) {
-        Ok(name) => Ok(Item::Table(name)),
-        Err(error) => Err(error),
-    }
+    let table = AnyTable(alloc).by(|input: &mut &str| read_table(alloc, input));
+    preceded('[', table).read(input)
 }
 
 /// The key and the value that stand first, as an item.
@@ -233,10 +176,11 @@ pub(crate) fn read_line<'i, A: Allocator + Copy>(
     read_line_of(item, comment, Space0, input)
 }
 
-/// What the lines of a document say, where all of the text is lines of TOML, with a line feed
-/// between each two, or a carriage return and a line feed; nothing where one is blank. In values no
-/// more than so many arrays stand in one another, and each level takes some of the stack, as of
-/// [`read_value`]. Lines may say a key or a table again.
+/// What the statements of a document say, where all of the text is lines of TOML, with a line feed
+/// between each two, or a carriage return and a line feed; nothing where one is blank. An array may
+/// go on over line ends. In values no more than so many arrays and inline tables stand in one
+/// another, and each level takes some of the stack, as of
+/// [`read_value`](crate::values::read_value). Lines may say a key or a table again.
 ///
 /// Else a fault: it says that the text is no such lines, and at which byte reading stopped, at the
 /// first line that is none, which is tested and not proved; or that a request for memory was
@@ -244,7 +188,7 @@ pub(crate) fn read_line<'i, A: Allocator + Copy>(
 ///
 /// ```
 /// use format_toml::lines::parse_lines;
-/// use format_toml::value::{Item, Value};
+/// use format_toml_tree::value::{Item, Value};
 ///
 /// let text = "# who\n[server]\nport = 80 # of it\n";
 /// let lines = parse_lines(alloc, 1, text);

@@ -1,17 +1,251 @@
 //! Rules made of parts: what is read is said by the grammars of the parts, whichever parsers they
 //! are, and over any stream.
-ghost use Rattle.format_json_texts.specs.Words.{former};
-ghost use Rattle.std.specs.Prelude.{◌≡◌, false, None};
+ghost use Rattle.format_toml.specs.Grammars.{Listing};
+ghost use Rattle.format_json_texts.specs.Words.{former, latter, pair};
+ghost use Rattle.std.specs.Fn.{CalledAtMut};
+ghost use Rattle.std.specs.Prelude.{◌≡◌, ⊤, false, None};
 ghost use Rattle.winnow.specs.Range.{from_to};
 ghost use Rattle.winnow.specs.Exact.{Reads};
 ghost use Rattle.winnow.specs.Exact.Whole.{ReadsAll};
-ghost use Rattle.winnow.specs.Grammar.{Both, Gathered, Maybe, Parted, Three};
+ghost use Rattle.winnow.specs.Grammar.{Both, Either, Gathered, Many, Maybe, Parted, Three};
+ghost use Rattle.winnow.specs.Rule.{CallsRead};
 
+use crate::marks::Marks;
 use std::alloc::Allocator;
 use winnow::Parser;
-use winnow::combinator::{delimited, opt, separated, separated_pair, terminated};
+use winnow::combinator::impls::Separated;
+use winnow::combinator::{
+    alt, delimited, opt, preceded, repeat, separated, separated_pair, terminated,
+};
 use winnow::error::{ParseFault, ParserError};
+use winnow::exact::Rule;
 use winnow::stream::{Range, Stream, StreamIsPartial};
+
+/// Reads elements, one at least, with a mark between each two of them, and white space behind each
+/// element and each mark.
+pub fn read_joined<I, E, O, M, W, A, P, B, G>(
+    alloc: A,
+    element: P,
+    mark: B,
+    gap: G,
+    input: &mut I,
+) -> Result<Vec<O, A>, E>
+where
+    I: Stream,
+    E: ParserError<I>,
+    O: Drop,
+    M: Drop,
+    W: Drop,
+    A: Allocator + Copy,
+    P: Parser<I, O, E> + Drop,
+    B: Parser<I, M, E> + Drop,
+    G: Parser<I, W, E> + Copy + Drop,
+    requires element { P.can_parse element × (P.claim (P.state element)).premise
+        × (P.claim (P.state element)).backtracks }
+    requires mark { B.can_parse mark × (B.claim (B.state mark)).premise
+        × (B.claim (B.state mark)).backtracks × (B.claim (B.state mark)).consumes }
+    requires gap { G.can_parse gap × (G.claim (G.state gap)).premise
+        × (G.claim (G.state gap)).backtracks }
+    ensures { Reads I.reading E.kind
+        (Gathered (λ list os. list.items ≡ os)
+        (Parted (Both former (P.claim (P.state element)).grammar (G.claim (G.state gap)).grammar)
+        (Both pair (B.claim (B.state mark)).grammar (G.claim (G.state gap)).grammar)
+        (from_to 1 None))) (I.view input.old) result (I.view input.new) }
+{
+    separated(
+        alloc,
+        Range::from(1..),
+        terminated(element, gap),
+        (mark, gap),
+    )
+    .read(input)
+}
+
+/// Reads what stands between two others, or nothing between them.
+fn read_or_none<I, O1, O2, O3, E, P, Q, R>(
+    first: P,
+    second: Q,
+    third: R,
+    input: &mut I,
+) -> Result<Option<O2>, E>
+where
+    I: Stream,
+    O1: Drop,
+    O2: Drop,
+    O3: Drop,
+    E: ParserError<I>,
+    P: Parser<I, O1, E> + Drop,
+    Q: Parser<I, O2, E> + Drop,
+    R: Parser<I, O3, E> + Drop,
+    requires first { P.can_parse first × (P.claim (P.state first)).premise
+        × (P.claim (P.state first)).backtracks }
+    requires second { Q.can_parse second × (Q.claim (Q.state second)).premise
+        × (Q.claim (Q.state second)).backtracks }
+    requires third { R.can_parse third × (R.claim (R.state third)).premise
+        × (R.claim (R.state third)).backtracks }
+    ensures { Reads I.reading E.kind
+        (Three (λ o1 o2 o3. o2) (P.claim (P.state first)).grammar
+        (Maybe (Q.claim (Q.state second)).grammar) (R.claim (R.state third)).grammar)
+        (I.view input.old) result (I.view input.new) }
+{
+    delimited(first, opt(second), third).read(input)
+}
+
+/// Reads elements between two marks, with a third between each two of them and perhaps behind the
+/// last, or nothing between these marks; and white space behind the first mark and behind each of
+/// those between elements.
+pub fn read_list<I, E, O, M, W, A, P, B, G>(
+    alloc: A,
+    element: P,
+    marks: Marks<B, G>,
+    input: &mut I,
+) -> Result<Option<Vec<O, A>>, E>
+where
+    I: Stream,
+    E: ParserError<I>,
+    O: Drop,
+    M: Drop,
+    W: Drop,
+    A: Allocator + Copy,
+    P: Parser<I, O, E> + Drop,
+    B: Parser<I, M, E> + Copy + Drop,
+    G: Parser<I, W, E> + Copy + Drop,
+    requires element { P.can_parse element × (P.claim (P.state element)).premise
+        × (P.claim (P.state element)).backtracks }
+    requires opening { B.can_parse marks.opening × (B.claim (B.state marks.opening)).premise
+        × (B.claim (B.state marks.opening)).backtracks }
+    requires comma { B.can_parse marks.comma × (B.claim (B.state marks.comma)).premise
+        × (B.claim (B.state marks.comma)).backtracks
+        × (B.claim (B.state marks.comma)).consumes }
+    requires closing { B.can_parse marks.closing × (B.claim (B.state marks.closing)).premise
+        × (B.claim (B.state marks.closing)).backtracks }
+    requires gap { G.can_parse marks.gap × (G.claim (G.state marks.gap)).premise
+        × (G.claim (G.state marks.gap)).backtracks }
+    ensures { Reads I.reading E.kind
+        (Listing (P.claim (P.state element)).grammar (B.claim (B.state marks.opening)).grammar
+        (B.claim (B.state marks.comma)).grammar (B.claim (B.state marks.closing)).grammar
+        (G.claim (G.state marks.gap)).grammar) (I.view input.old) result
+        (I.view input.new) }
+{
+    let elements: Separated<P, (B, G), I, O, (M, W), Vec<O, A>, E, A> = separated(
+        alloc,
+        Range::from(1..),
+        element,
+        (marks.comma, marks.gap),
+    );
+    let all = terminated(elements, opt((marks.comma, marks.gap)));
+    read_or_none((marks.opening, marks.gap), all, marks.closing, input)
+}
+
+/// Reads values between marks, as [`read_list`]. A function reads a value by a rule, and white
+/// space
+/// is behind it.
+pub fn read_list_of<I, E, O, M, W, A, R, F, B, G>(
+    alloc: A,
+    rule: R,
+    value: F,
+    marks: Marks<B, G>,
+    input: &mut I,
+) -> Result<Option<Vec<O, A>>, E>
+where
+    I: Stream,
+    E: ParserError<I>,
+    O: Drop,
+    M: Drop,
+    W: Drop,
+    A: Allocator + Copy,
+    R: Rule<I, O> + Drop,
+    F: FnMut(&mut I) -> Result<O, E> + Drop,
+    B: Parser<I, M, E> + Copy + Drop,
+    G: Parser<I, W, E> + Copy + Drop,
+    requires callable { F.IsAlwaysCallable value }
+    requires reads { CallsRead I.reading I.view E.kind (CalledAtMut F.FnMut) (R.grammar rule)
+        value }
+    requires opening { B.can_parse marks.opening × (B.claim (B.state marks.opening)).premise
+        × (B.claim (B.state marks.opening)).backtracks }
+    requires comma { B.can_parse marks.comma × (B.claim (B.state marks.comma)).premise
+        × (B.claim (B.state marks.comma)).backtracks
+        × (B.claim (B.state marks.comma)).consumes }
+    requires closing { B.can_parse marks.closing × (B.claim (B.state marks.closing)).premise
+        × (B.claim (B.state marks.closing)).backtracks }
+    requires gap { G.can_parse marks.gap × (G.claim (G.state marks.gap)).premise
+        × (G.claim (G.state marks.gap)).backtracks }
+    ensures { Reads I.reading E.kind
+        (Listing (Both former (R.grammar rule) (G.claim (G.state marks.gap)).grammar)
+        (B.claim (B.state marks.opening)).grammar (B.claim (B.state marks.comma)).grammar
+        (B.claim (B.state marks.closing)).grammar (G.claim (G.state marks.gap)).grammar)
+        (I.view input.old) result (I.view input.new) }
+{
+    let element = terminated(rule.by(value), marks.gap);
+    read_list(alloc, element, marks, input)
+}
+
+/// Reads a key and a value with a mark between them. A function reads the value by a rule.
+pub fn read_pair_of<I, E, K, M, O, P, Q, R, F>(
+    key: P,
+    mark: Q,
+    rule: R,
+    value: F,
+    input: &mut I,
+) -> Result<(K, O), E>
+where
+    I: Stream,
+    E: ParserError<I>,
+    K: Drop,
+    M: Drop,
+    O: Drop,
+    P: Parser<I, K, E> + Drop,
+    Q: Parser<I, M, E> + Drop,
+    R: Rule<I, O> + Drop,
+    F: FnMut(&mut I) -> Result<O, E> + Drop,
+    requires callable { F.IsAlwaysCallable value }
+    requires reads { CallsRead I.reading I.view E.kind (CalledAtMut F.FnMut) (R.grammar rule)
+        value }
+    requires key { P.can_parse key × (P.claim (P.state key)).premise
+        × (P.claim (P.state key)).backtracks }
+    requires mark { Q.can_parse mark × (Q.claim (Q.state mark)).premise
+        × (Q.claim (Q.state mark)).backtracks }
+    ensures { Reads I.reading E.kind
+        (Three (λ k s v. (k, v)) (P.claim (P.state key)).grammar
+        (Q.claim (Q.state mark)).grammar (R.grammar rule))
+        (I.view input.old) result (I.view input.new) }
+{
+    read_pair(key, mark, rule.by(value), input)
+}
+
+/// Reads white space over lines: characters of white space, and line ends with a comment before
+/// them or none.
+pub fn read_gap_of<I, E, O, C, A, P, Q, N>(
+    alloc: A,
+    white: P,
+    comment: Q,
+    newline: N,
+    input: &mut I,
+) -> Result<(), E>
+where
+    I: Stream,
+    E: ParserError<I>,
+    O: Drop,
+    C: Drop,
+    A: Allocator + Copy,
+    P: Parser<I, O, E> + Drop,
+    Q: Parser<I, C, E> + Drop,
+    N: Parser<I, O, E> + Drop,
+    requires white { P.can_parse white × (P.claim (P.state white)).premise
+        × (P.claim (P.state white)).backtracks × (P.claim (P.state white)).consumes }
+    requires comment { Q.can_parse comment × (Q.claim (Q.state comment)).premise
+        × (Q.claim (Q.state comment)).backtracks }
+    requires newline { N.can_parse newline × (N.claim (N.state newline)).premise
+        × (N.claim (N.state newline)).backtracks × (N.claim (N.state newline)).consumes }
+    ensures { Reads I.reading E.kind
+        (Gathered (λ all parts. ⊤) (Many (Either (P.claim (P.state white)).grammar
+        (Both latter (Maybe (Q.claim (Q.state comment)).grammar)
+        (N.claim (N.state newline)).grammar)) (from_to 0 None)))
+        (I.view input.old) result (I.view input.new) }
+{
+    let part = alt((white, preceded(opt(comment), newline)));
+    repeat(alloc, Range::from(0..), part).read(input)
+}
 
 /// Reads two with a third between them.
 pub fn read_pair<I, O1, O2, O3, E, P, Q, R>(

@@ -1,60 +1,20 @@
 //! Values that have no others in them (TOML 1.0: String, Integer, Boolean).
-ghost use Rattle.std.specs.Prelude.{◌≡◌, false, IsTrue};
+ghost use Rattle.std.specs.Prelude.{◌≡◌};
 ghost use Rattle.std.specs.Str.{chars};
 ghost use Rattle.winnow.specs.Text.{text_input, text_reading};
-ghost use Rattle.format_toml.specs.Toml.{AnyBoolean, BasicString, Integer, IsText};
-ghost use Rattle.format_toml.specs.Toml.{LiteralString, Scalar, Whole};
+ghost use Rattle.format_toml.specs.Grammars.{AnyBoolean, BasicString, Integer, LiteralString};
+ghost use Rattle.format_toml.specs.Grammars.{Scalar, Whole};
+ghost use Rattle.format_toml.specs.Toml.{IsText};
 ghost use Rattle.winnow.specs.Exact.{Reads};
 ghost use Rattle.winnow.specs.Grammar.Meaning.{Meaning};
-ghost use Rattle.winnow.specs.Texts.{Begins, NotFirst};
 
-use crate::characters::Characters;
-use crate::escapes::{AnyCharacter, read_character};
-use crate::value::Value;
-use format_json_scalars::marks::read_between;
+use crate::strings::{begins_with, read_basic, read_literal};
+use format_toml_tree::value::Value;
 use std::alloc::Allocator;
 use winnow::Parser;
 use winnow::ascii::impls::DecInt;
-use winnow::combinator::repeat;
 use winnow::error::{EmptyError, ErrMode, HasKind};
-use winnow::exact::Rule;
-use winnow::stream::Range;
-use winnow::token::{literal, one_of};
-
-/// Whether this character is first.
-pub fn begins_with(input: &str, first: char) -> bool
-    ensures yes { IsTrue result → Begins (λ c. c ≡ first) (chars input.now) }
-    ensures no { result ≡ false → NotFirst (λ c. c ≡ first) (chars input.now) }
-{
-    match input.chars().next() {
-        Some(c) => c == first,
-        None => false,
-    }
-}
-
-/// A basic string, its escapes undone.
-fn read_basic<'i, A: Allocator + Copy>(
-    alloc: A,
-    input: &mut &'i str,
-) -> Result<String<A>, ErrMode<EmptyError>>
-    ensures { Reads text_reading ⟦<ErrMode<EmptyError> as HasKind>⟧.kind BasicString
-        (text_input input.old.now) result (text_input input.new.now) }
-{
-    let characters = repeat(alloc, Range::from(0..), AnyCharacter.by(read_character));
-    read_between('"', characters, '"', input)
-}
-
-/// A literal string.
-fn read_literal<'i, A: Allocator + Copy>(
-    alloc: A,
-    input: &mut &'i str,
-) -> Result<String<A>, ErrMode<EmptyError>>
-    ensures { Reads text_reading ⟦<ErrMode<EmptyError> as HasKind>⟧.kind LiteralString
-        (text_input input.old.now) result (text_input input.new.now) }
-{
-    let characters = repeat(alloc, Range::from(0..), one_of(Characters::Literal));
-    read_between('\'', characters, '\'', input)
-}
+use winnow::token::literal;
 
 /// A basic string, as a value.
 fn read_basic_value<'i, A: Allocator + Copy>(

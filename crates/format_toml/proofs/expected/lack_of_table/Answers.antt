@@ -1,16 +1,17 @@
+use Rattle.std.proofs.Common.{rules}
 use Rattle.std.specs.Str.{chars}
-use Rattle.format_toml.specs.Lacking.{no_gap_lacks, table_lacks}
+use Rattle.format_toml.specs.Lacking.{table_by_double, table_by_header}
+use Rattle.format_toml.specs.contracts.expected.lack_of_table.{A-type}
 use Rattle.format_toml.proofs.expected.lack_of_table.Goals as goal
 
-pub returns-in_default-3 : goal.returns-in_default-3
-returns-in_default-3 c =
-    no_gap_lacks (chars c.args.text.now) (chars c.in-Some.name.now) (chars c.in-Some-2.behind.now)
-    (rw c.in-Some.is at c.in_ok-name.ensures) (rw c.in-Some-2.is at c.in_ok-behind.ensures)
-    (rw c.in_default-3.is at c.in_ok-end.ensures)
+pub returns-then-begins_with : goal.returns-then-begins_with
+returns-then-begins_with g c =
+    table_by_double (A-type g.row.A) (chars c.args.text.now) (chars c.in_ok-name.name.now)
+    c.in_ok-name.ensures c.lack_of_double.result (c.begins_with.ensures.yes (search rules))
+    c.lack_of_double.ensures
 
-pub returns-in-Some-4 : goal.returns-in-Some-4
-returns-in-Some-4 c =
-    table_lacks (chars c.args.text.now) (chars c.in-Some.name.now) (chars c.in-Some-2.behind.now)
-    (rw c.in-Some.is at c.in_ok-name.ensures) (rw c.in-Some-2.is at c.in_ok-behind.ensures)
-    (chars c.in-Some-3.end.now) (chars c.in-Some-4.field-0.now)
-    (rw c.in-Some-3.is at c.in_ok-end.ensures) (rw c.in-Some-4.is at c.in_ok-closes.ensures)
+pub returns : goal.returns
+returns g c =
+    table_by_header (A-type g.row.A) (chars c.args.text.now) (chars c.in_ok-name.name.now)
+    c.in_ok-name.ensures c.lack_of_header.result (c.begins_with.ensures.no (search rules))
+    c.lack_of_header.ensures

@@ -1,7 +1,7 @@
 use Rattle.std.proofs.Common.{List, ℕ, rules, subst}
 use Rattle.std.specs.Str.{chars}
 use Rattle.format_toml.specs.Expected.{Stands}
-use Rattle.format_toml.specs.Toml.{Line}
+use Rattle.format_toml.specs.Grammars.{Line}
 use Rattle.format_toml.specs.contracts.expected.line_of.{A-type}
 use Rattle.format_toml.proofs.expected.line_of.Goals as goal
 

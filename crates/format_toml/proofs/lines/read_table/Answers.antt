@@ -1,11 +1,11 @@
-use Rattle.winnow.specs.Read.{reads_by}
+use Rattle.std.proofs.Common.{rules}
+use Rattle.format_toml.specs.Led.{reads_led, reads_other}
 use Rattle.format_toml.proofs.lines.read_table.Goals as goal
 
+pub returns-then-begins_with : goal.returns-then-begins_with
+returns-then-begins_with g c =
+    reads_led _ _ _ (c.begins_with.ensures.yes (search rules)) c.read_double_item.ensures
+
 pub returns : goal.returns
-returns g c = reads_by c.read_between.ensures (rw (
-  c.terminated.ensures.parser,
-  c.repeat-name.ensures.occurrences,
-  c.repeat-name.ensures.parser,
-  c.from.ensures,
-  c.one_of.ensures,
-))
+returns g c =
+    reads_other _ _ _ (c.begins_with.ensures.no (search rules)) c.read_header_item.ensures

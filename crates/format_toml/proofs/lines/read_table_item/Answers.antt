@@ -1,10 +1,5 @@
-use Rattle.std.proofs.Common.{refl}
-use Rattle.format_toml.specs.Toml.{IsTable}
-use Rattle.winnow.specs.Read.{reads_meaning, reads_no_meaning}
+use Rattle.winnow.specs.Read.{reads_by}
 use Rattle.format_toml.proofs.lines.read_table_item.Goals as goal
 
-pub returns-in-Ok : goal.returns-in-Ok
-returns-in-Ok g c = reads_meaning IsTable c.in-Ok.ensures refl
-
-pub returns-in-Err : goal.returns-in-Err
-returns-in-Err g c = reads_no_meaning IsTable c.in-Err.ensures
+pub returns : goal.returns
+returns g c = reads_by c.read.ensures.reads (rw c.preceded.ensures.ignored)

@@ -2,8 +2,8 @@ use Rattle.std.specs.Int.{w64}
 use Rattle.std.proofs.Common.{ap, refl}
 use Rattle.std.proofs.lemmas.Int.{to_z-of_z}
 use Rattle.format_toml.specs.Toml.{IsInteger}
-use Rattle.format_toml.specs.Values.{integer_fits}
-use Rattle.format_toml.specs.declared.value.Value as values
+use Rattle.format_toml.specs.Scalars.{integer_fits}
+use Rattle.format_toml_tree.specs.declared.value.Value as values
 use Rattle.winnow.specs.Read.{reads_meaning, reads_no_meaning}
 use Rattle.format_toml.proofs.scalars.read_whole.Goals as goal
 

@@ -1,0 +1,10 @@
+use Rattle.std.proofs.Common.{refl}
+use Rattle.format_toml.specs.Toml.{IsKey}
+use Rattle.winnow.specs.Read.{reads_meaning, reads_no_meaning}
+use Rattle.format_toml.proofs.keys.read_key.Goals as goal
+
+pub returns-in-Ok : goal.returns-in-Ok
+returns-in-Ok g c = reads_meaning IsKey c.in-Ok.ensures refl
+
+pub returns-in-Err : goal.returns-in-Err
+returns-in-Err g c = reads_no_meaning IsKey c.in-Err.ensures

@@ -1,0 +1,8 @@
+use Rattle.winnow.specs.Read.{reads_by}
+use Rattle.format_toml.proofs.strings.read_basic.Goals as goal
+
+pub returns : goal.returns
+returns g c = reads_by c.read_between.ensures (rw (
+  c.repeat-characters.ensures.occurrences,
+  c.from.ensures,
+))

@@ -1,0 +1,10 @@
+use Rattle.winnow.specs.Read.{reads_by}
+use Rattle.format_toml.proofs.strings.read_literal.Goals as goal
+
+pub returns : goal.returns
+returns g c = reads_by c.read_between.ensures (rw (
+  c.repeat-characters.ensures.occurrences,
+  c.repeat-characters.ensures.parser,
+  c.from.ensures,
+  c.one_of.ensures,
+))

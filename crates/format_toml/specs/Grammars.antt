@@ -1,0 +1,177 @@
+-- TOML 1.0: what parsers read of keys, values and lines.
+use Rattle.std.specs.Prelude.{◌≡◌, ⊤, ℕ, ℤ, zero, suc, Bool, true, false, List, Option, None}
+use Rattle.std.specs.Prelude.{FitsSigned}
+use Rattle.std.specs.Int.{w64}
+use Rattle.std.specs.declared.string.String.{String}
+use Rattle.std.specs.declared.vec.Vec.{Vec}
+use Rattle.winnow.specs.Text.{text_reading}
+use Rattle.winnow.specs.AsChar.{IsSpace}
+use Rattle.winnow.specs.Range.{from_to}
+use Rattle.format_json_texts.specs.Number.{Slice}
+use Rattle.format_json_texts.specs.Strings.{CodeUnit, IsAlone}
+use Rattle.format_json_texts.specs.Words.{Char, RunOf, Word, former, latter, pair}
+use Rattle.format_toml.specs.Led.{Led}
+use Rattle.format_toml.specs.Toml.{IsArray, IsBoolean, IsEntry, IsInline, IsInteger, IsKey}
+use Rattle.format_toml.specs.Toml.{IsTable, IsTables, IsText, IsWide, StandsFor, Tells}
+use Rattle.format_toml.specs.Toml.{false_word, true_word}
+use Rattle.format_toml.specs.declared.characters.Characters.{Characters}
+use Rattle.format_toml.specs.declared.characters.Characters.TheVariants.{Bare, Basic, Comment}
+use Rattle.format_toml.specs.declared.characters.Characters.TheVariants.{Literal, White}
+use Rattle.format_toml_tree.specs.declared.value.Item.{Item}
+use Rattle.format_toml_tree.specs.declared.value.Key.{Key}
+use Rattle.format_toml_tree.specs.declared.value.Value.{Value}
+use Rattle.winnow.specs.Grammar.{Both, Either, Gathered, Grammar, Longest, Many, Maybe}
+use Rattle.winnow.specs.Grammar.{Parted, Three, Token, TokenOf}
+use Rattle.winnow.specs.Grammar.Meaning.{Meaning}
+use Rattle.winnow.specs.Numeral.Grammar.{SignedDecimal}
+use Rattle.winnow.specs.Accumulator.Holds.{HasCharacters}
+
+-- ---- white space
+
+abbrev pub Ws : Grammar ℕ Slice
+Ws = RunOf IsSpace 0
+
+abbrev pub Newline : Grammar ℕ ℕ
+Newline = Either (Char 10) (Both latter (Char 13) (Char 10))
+
+abbrev pub AnyComment : Grammar ℕ Slice
+AnyComment =
+    Both latter (Char 35) (Longest text_reading (λ c. c) Tells Comment (from_to 0 None))
+
+-- a character of white space, or a line end with a comment before it or none
+abbrev pub GapPart : Grammar ℕ ℕ
+GapPart = Either (TokenOf (λ c. c) Tells White) (Both latter (Maybe AnyComment) Newline)
+
+abbrev pub Gap : Grammar ℕ ⊤
+Gap = Gathered (λ all parts. ⊤) (Many GapPart (from_to 0 None))
+
+abbrev pub SpacedOut : {O : Type 0} → Grammar ℕ O → Grammar ℕ O
+SpacedOut grammar = Both former grammar Ws
+
+abbrev pub GappedOut : {O : Type 0} → Grammar ℕ O → Grammar ℕ O
+GappedOut grammar = Both former grammar Gap
+
+abbrev pub Mark : ℕ → Grammar ℕ (ℕ × Slice)
+Mark c = Both pair (Char c) Ws
+
+abbrev pub WideMark : ℕ → Grammar ℕ (ℕ × ⊤)
+WideMark c = Both pair (Char c) Gap
+
+-- elements with a mark between each two of them, and perhaps behind the last, or nothing, between
+-- two others; white space is behind the first mark, and behind those between elements
+abbrev pub Listing : {T O M W A : Type 0} → Grammar T O → Grammar T M → Grammar T M → Grammar T M
+    → Grammar T W → Grammar T (Option (Vec O A))
+Listing element opening comma closing gap =
+    Three (λ o1 o2 o3. o2) (Both pair opening gap)
+    (Maybe (Both former (Gathered (λ list os. list.items ≡ os)
+    (Parted element (Both pair comma gap) (from_to 1 None))) (Maybe (Both pair comma gap)))) closing
+
+-- ---- strings, booleans and integers
+
+-- a character that a backslash escapes
+abbrev pub Short : Grammar ℕ ℕ
+Short = Meaning StandsFor (Token (λ c. c))
+
+-- eight hexadecimal digits, as two numbers of four
+abbrev pub WideUnits : Grammar ℕ (ℕ × ℕ)
+WideUnits = Both pair CodeUnit CodeUnit
+
+-- what stands behind a backslash
+abbrev pub Escape : Grammar ℕ ℕ
+Escape =
+    Led (λ c. c ≡ 117) (Both latter (Char 117) (Meaning IsAlone CodeUnit))
+    (Led (λ c. c ≡ 85) (Both latter (Char 85) (Meaning IsWide WideUnits)) Short)
+
+abbrev pub Character : Grammar ℕ ℕ
+Character = Either (TokenOf (λ c. c) Tells Basic) (Both latter (Char 92) Escape)
+
+abbrev pub Integer : Grammar ℕ ℤ
+Integer = SignedDecimal (λ n. n) (FitsSigned w64) (λ c. c) (λ c. c)
+
+module _ {A : Type 0} where
+  abbrev pub AnyCharacters : Characters → ℕ → Grammar ℕ (String A)
+  AnyCharacters set least =
+      Gathered HasCharacters (Many (TokenOf (λ c. c) Tells set) (from_to least None))
+
+  abbrev pub BasicString : Grammar ℕ (String A)
+  BasicString =
+      Three (λ o1 o2 o3. o2) (Char 34) (Gathered HasCharacters (Many Character (from_to 0 None)))
+      (Char 34)
+
+  abbrev pub LiteralString : Grammar ℕ (String A)
+  LiteralString = Three (λ o1 o2 o3. o2) (Char 39) (AnyCharacters Literal 0) (Char 39)
+
+  abbrev pub AnyBoolean : List ℕ → Bool → Grammar ℕ (Value A)
+  AnyBoolean word is = Meaning IsBoolean (Word word is)
+
+  abbrev pub Whole : Grammar ℕ (Value A)
+  Whole = Meaning IsInteger Integer
+
+  abbrev pub Scalar : Grammar ℕ (Value A)
+  Scalar =
+      Led (λ c. c ≡ 34) (Meaning IsText BasicString)
+      (Led (λ c. c ≡ 39) (Meaning IsText LiteralString)
+      (Led (λ c. c ≡ 116) (AnyBoolean true_word true)
+      (Led (λ c. c ≡ 102) (AnyBoolean false_word false) Whole)))
+
+  -- ---- keys
+
+  abbrev pub Name : Grammar ℕ (String A)
+  Name =
+      Led (λ c. c ≡ 34) BasicString (Led (λ c. c ≡ 39) LiteralString (AnyCharacters Bare 1))
+
+  abbrev pub Names : Grammar ℕ (Vec (String A) A)
+  Names =
+      Gathered (λ list os. list.items ≡ os) (Parted (SpacedOut Name) (Mark 46) (from_to 1 None))
+
+  abbrev pub AnyKey : Grammar ℕ (Key A)
+  AnyKey = Meaning IsKey Names
+
+  -- ---- values
+
+  abbrev pub Pair : Grammar ℕ (Value A) → Grammar ℕ (Key A × Value A)
+  Pair value = Three (λ k s v. (k, v)) AnyKey (Mark 61) value
+
+  abbrev pub ArrayValues : Grammar ℕ (Value A) → Grammar ℕ (Vec (Value A) A)
+  ArrayValues value =
+      Both former (Gathered (λ list os. list.items ≡ os)
+      (Parted (GappedOut value) (WideMark 44) (from_to 1 None))) (Maybe (WideMark 44))
+
+  abbrev pub Array : Grammar ℕ (Value A) → Grammar ℕ (Option (Vec (Value A) A))
+  Array value = Listing (GappedOut value) (Char 91) (Char 44) (Char 93) Gap
+
+  abbrev pub Inline : Grammar ℕ (Value A) → Grammar ℕ (Vec (Key A × Value A) A)
+  Inline value =
+      Three (λ o1 o2 o3. o2) (Mark 123) (Gathered (λ list os. list.items ≡ os)
+      (Parted (SpacedOut (Pair value)) (Mark 44) (from_to 0 None))) (Char 125)
+
+  unfoldable pub AnyValue : ℕ → Grammar ℕ (Value A)
+  AnyValue zero = Scalar
+  AnyValue (suc level) =
+      Led (λ c. c ≡ 91) (Meaning IsArray (Array (AnyValue level)))
+      (Led (λ c. c ≡ 123) (Meaning IsInline (Inline (AnyValue level))) Scalar)
+
+  -- ---- lines
+
+  abbrev pub Header : Grammar ℕ (Key A)
+  Header = Three (λ o1 o2 o3. o2) Ws AnyKey (Char 93)
+
+  abbrev pub DoubleHeader : Grammar ℕ (Key A)
+  DoubleHeader = Three (λ o1 o2 o3. o2) (Char 91) Header (Char 93)
+
+  abbrev pub Table : Grammar ℕ (Item A)
+  Table = Led (λ c. c ≡ 91) (Meaning IsTables DoubleHeader) (Meaning IsTable Header)
+
+  abbrev pub Entry : ℕ → Grammar ℕ (Key A × Value A)
+  Entry level = Pair (AnyValue level)
+
+  abbrev pub AnyItem : ℕ → Grammar ℕ (Item A)
+  AnyItem level =
+      Led (λ c. c ≡ 91) (Both latter (Char 91) Table) (Meaning IsEntry (Entry level))
+
+  abbrev pub Line : ℕ → Grammar ℕ (Option (Item A))
+  Line level = Three (λ o1 o2 o3. o2) Ws (Maybe (SpacedOut (AnyItem level))) (Maybe AnyComment)
+
+  abbrev pub Document : ℕ → Grammar ℕ (Vec (Option (Item A)) A)
+  Document level =
+      Gathered (λ list os. list.items ≡ os) (Parted (Line level) Newline (from_to 1 None))

@@ -1,0 +1,160 @@
+-- The grammars of keys and headers are those of what is written.
+use Rattle.std.specs.Prelude.{◌≡◌, ◌⊎◌, ◌<◌, ℕ, List, [], None}
+use Rattle.std.proofs.Common.{refl, inl, inr, arith}
+use Rattle.winnow.specs.AsChar.{IsSpace}
+use Rattle.winnow.specs.Range.{from_to}
+use Rattle.format_json_texts.specs.Words.{One, between_of, char_of, for_front, for_of, former}
+use Rattle.format_json_texts.specs.Words.{Between, For, latter, pair}
+use Rattle.format_toml.specs.Grammars.{AnyCharacters, AnyKey, DoubleHeader, Header, LiteralString}
+use Rattle.format_toml.specs.Grammars.{Name, Names, Pair, Table}
+use Rattle.format_toml.specs.Led.{Led, led_of}
+use Rattle.format_toml.specs.Rows.{joined_begins}
+use Rattle.format_toml.specs.Spaces.{Past, mark_begins, mark_of, no_space, past, spaced_begins}
+use Rattle.format_toml.specs.Spaces.{spaced_of, ws_front, ws_of}
+use Rattle.format_toml.specs.Strings.{basic_string_begins, basic_string_of, characters_begin}
+use Rattle.format_toml.specs.Strings.{characters_of, literal_string_begins, literal_string_of}
+use Rattle.format_toml.specs.Toml.{CharactersText, HeaderText, IsBare, IsKey, IsTable, IsTables}
+use Rattle.format_toml.specs.Toml.{KeyText, LiteralText, MarkText, NameText, PairText, Spaced}
+use Rattle.format_toml.specs.Toml.{TableText}
+use Rattle.format_toml.specs.declared.characters.Characters.TheVariants.{Bare}
+use Rattle.format_toml_tree.specs.declared.value.Value.{Value}
+use Rattle.winnow.specs.Grammar.{Grammar}
+use Rattle.winnow.specs.Grammar.Meaning.{Meaning}
+use Rattle.winnow.specs.Texts.{Among, Anything, AtLeast, Begins, BeginsIn, InFront, InList}
+use Rattle.winnow.specs.Texts.{IsGrammarOf, Joined, NotFirst, Text}
+use Rattle.winnow.specs.Texts.Fronts.{among_front, begins_wider, front_any, front_begins}
+use Rattle.winnow.specs.Texts.Fronts.{in_list_front, may_begin, none_begins, spelled_begins}
+use Rattle.winnow.specs.Texts.Fronts.{then_front}
+use Rattle.winnow.specs.Texts.Parts.{behind_less, three_of}
+use Rattle.winnow.specs.Texts.Rows.{list_of, parted_of}
+
+-- ---- names
+
+-- what a bare key is not
+pub bare_is : (c : ℕ) → IsBare c
+    → (44 < c) × (c < 123) × (c ≡ 46 → ⊥) × (c ≡ 61 → ⊥) × (c ≡ 91 → ⊥) × (c ≡ 93 → ⊥)
+bare_is c (inl e) = omega (arith, e)
+bare_is c (inr (inl e)) = omega (arith, e)
+bare_is c (inr (inr (inl e))) = omega (arith, e)
+bare_is c (inr (inr (inr (inl e)))) = omega (arith, e)
+bare_is c (inr (inr (inr (inr e)))) = omega (arith, e)
+
+pub space_bare : (c : ℕ) → IsSpace c → IsBare c → ⊥
+space_bare c is bare =
+    let above = (bare_is c bare).0 in no_space c (omega (arith, above)) is
+
+-- what a key begins with
+abbrev pub OpensKey : ℕ → Type 0
+OpensKey c = (c ≡ 34) ⊎ ((c ≡ 39) ⊎ IsBare c)
+
+pub opens_key_is : (c : ℕ) → OpensKey c
+    → (33 < c) × (c < 123) × (c ≡ 35 → ⊥) × (c ≡ 44 → ⊥) × (c ≡ 91 → ⊥) × (c ≡ 93 → ⊥)
+opens_key_is c (inl e) = omega (arith, e)
+opens_key_is c (inr (inl e)) = omega (arith, e)
+opens_key_is c (inr (inr bare)) =
+    let (above, below, a, b, opens, closes) = bare_is c bare in (
+      omega (arith, above),
+      below,
+      λ e. absurd (omega (arith, above, e)),
+      λ e. absurd (omega (arith, above, e)),
+      opens,
+      closes,
+    )
+
+-- what stands behind a key and white space
+abbrev pub EndsKey : ℕ → Type 0
+EndsKey c = (c ≡ 61) ⊎ (c ≡ 93)
+
+ends_past : (c : ℕ) → EndsKey c → IsSpace c ⊎ IsBare c → ⊥
+ends_past c (inl e) = past IsBare 61 (omega arith) (λ bare. (bare_is 61 bare).3 refl) c e
+ends_past c (inr e) = past IsBare 93 (omega arith) (λ bare. (bare_is 93 bare).5 refl) c e
+
+ends_point : (c : ℕ) → EndsKey c → c ≡ 46 → ⊥
+ends_point c (inl e) f = absurd (omega (arith, e, f))
+ends_point c (inr e) f = absurd (omega (arith, e, f))
+
+module _ {A : Type 0} where
+  after_basic_of : IsGrammarOf (Led (λ c. c ≡ 39) (LiteralString {A = A}) (AnyCharacters Bare 1))
+      (Among LiteralText (CharactersText Bare 1)) (NotFirst IsBare)
+  after_basic_of =
+      led_of (behind_less (λ rest b. tt) literal_string_of) (characters_of Bare 1)
+      literal_string_begins
+      (front_begins (λ c bare e. absurd (omega (arith, (bare_is c bare).0, e)))
+      (characters_begin Bare))
+
+  after_basic_begins : BeginsIn (λ c. (c ≡ 39) ⊎ IsBare c)
+      (Among (LiteralText {A = A}) (CharactersText Bare 1))
+  after_basic_begins =
+      among_front (begins_wider (λ c e. inl e) literal_string_begins)
+      (begins_wider (λ c bare. inr bare) (characters_begin Bare))
+
+  name_of : IsGrammarOf (Name {A = A}) NameText (NotFirst IsBare)
+  name_of =
+      led_of (behind_less (λ rest b. tt) basic_string_of) after_basic_of basic_string_begins
+      (front_begins not_basic after_basic_begins)
+    where
+      not_basic : (c : ℕ) → (c ≡ 39) ⊎ IsBare c → c ≡ 34 → ⊥
+      not_basic c (inl e) f = absurd (omega (arith, e, f))
+      not_basic c (inr bare) f = absurd (omega (arith, (bare_is c bare).0, f))
+
+  name_begins : BeginsIn OpensKey (NameText {A = A})
+  name_begins =
+      among_front (begins_wider (λ c e. inl e) basic_string_begins)
+      (begins_wider (λ c o. inr o) after_basic_begins)
+
+  -- ---- keys
+
+  names_of : IsGrammarOf (Names {A = A}) (InList (AtLeast 1 (Joined (MarkText 46)
+      (Spaced NameText)))) (Begins EndsKey)
+  names_of =
+      list_of (parted_of (spaced_of space_bare name_of) (mark_of 46)
+      (then_front pair (front_begins
+      (past IsBare 46 (omega arith) (λ bare. (bare_is 46 bare).2 refl))
+      (spelled_begins 46 [] 46)) front_any)
+      (front_begins (λ c o. no_space c (omega (arith, (opens_key_is c o).0)))
+      (spaced_begins name_begins)) (from_to 1 None) 1 refl
+      (may_begin EndsKey (λ c. IsSpace c ⊎ IsBare c → ⊥) ends_past)
+      (λ rest b. none_begins (mark_of 46) (mark_begins 46) rest
+      (may_begin EndsKey (λ c. c ≡ 46 → ⊥) ends_point rest b))
+      (λ rest never b. absurd (omega (arith, never))))
+
+  pub key_of : IsGrammarOf (AnyKey {A = A}) KeyText (Begins EndsKey)
+  key_of = for_of IsKey names_of
+
+  pub key_begins : BeginsIn OpensKey (KeyText {A = A})
+  key_begins = for_front IsKey
+      (in_list_front (joined_begins (MarkText 46) (spaced_begins name_begins)))
+
+  -- ---- keys with values
+
+  pub pair_of : {g : Grammar ℕ (Value A)} {value : Text ℕ (Value A)} {follow : List ℕ → Type 0}
+      → IsGrammarOf g value follow → InFront value follow (NotFirst IsSpace)
+      → IsGrammarOf (Pair g) (PairText value) follow
+  pair_of is front =
+      three_of pair latter key_of (mark_of 61) is
+      (then_front pair (begins_wider (λ c e. inl e) (spelled_begins 61 [] 61)) front_any) front
+
+  pub pair_begins : (value : Text ℕ (Value A)) → BeginsIn OpensKey (PairText value)
+  pair_begins value = then_front pair key_begins front_any
+
+  -- ---- headers
+
+  header_of : IsGrammarOf (Header {A = A}) HeaderText Anything
+  header_of =
+      between_of ws_of key_of (char_of 93)
+      (front_begins (λ c o. no_space c (omega (arith, (opens_key_is c o).0))) key_begins)
+      (begins_wider (λ c e. inr e) (spelled_begins 93 [] 93))
+
+  header_front : InFront (HeaderText {A = A}) Anything (NotFirst (λ c. c ≡ 91))
+  header_front =
+      then_front latter (ws_front (λ c s e. no_space c (omega (arith, e)) s) (λ rest b. b))
+      (then_front former (front_begins (λ c o. (opens_key_is c o).4) key_begins) front_any)
+
+  double_of : IsGrammarOf (DoubleHeader {A = A}) (Between (One 91) HeaderText (One 93)) Anything
+  double_of = between_of (char_of 91) header_of (char_of 93) front_any front_any
+
+  pub table_of : IsGrammarOf (Table {A = A}) TableText Anything
+  table_of =
+      led_of (for_of IsTables double_of) (for_of IsTable header_of)
+      (for_front IsTables (then_front latter (spelled_begins 91 [] 91) front_any))
+      (for_front IsTable header_front)

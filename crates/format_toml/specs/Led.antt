@@ -1,0 +1,109 @@
+-- One of two, by the character that is first.
+use Rattle.std.specs.Prelude.{◌≡◌, ◌⊎◌, ℕ, List, Result, Ok, Err}
+use Rattle.std.proofs.Common.{inl, inr}
+use Rattle.winnow.specs.Exact.{Reads}
+use Rattle.winnow.specs.Grammar.{Grammar, IsUnique, NoneStands}
+use Rattle.winnow.specs.{EmptyError}
+use Rattle.winnow.specs.{ErrMode}
+use Rattle.winnow.specs.{Needed}
+use Rattle.winnow.specs.Form.{marked_kind}
+use Rattle.winnow.specs.Mode.{mode_kind}
+use Rattle.winnow.specs.Input.{Input}
+use Rattle.winnow.specs.Kind.{Kind}
+use Rattle.winnow.specs.Text.{text_reading}
+use Rattle.winnow.specs.Texts.{Among, Begins, BeginsIn, InFront, IsGrammarOf, NotFirst, Text}
+use Rattle.winnow.specs.Texts.Fronts.{begins_never}
+
+-- A character of these is first, and the former stands; or none of these is, and the latter does.
+unfoldable pub Led : {O : Type 0} → (ℕ → Type 0) → Grammar ℕ O → Grammar ℕ O → Grammar ℕ O
+Led these g h tokens o rest =
+    (Begins these tokens × g tokens o rest) ⊎ (NotFirst these tokens × h tokens o rest)
+
+module _ {O : Type 0} {g h : Grammar ℕ O} {these : ℕ → Type 0} where
+  pub led_of : {first second : Text ℕ O} {follow : List ℕ → Type 0} → IsGrammarOf g first follow
+      → IsGrammarOf h second follow → BeginsIn these first
+      → InFront second follow (NotFirst these)
+      → IsGrammarOf (Led these g h) (Among first second) follow
+  unfolding Led Among
+  led_of one two begins outside = record {
+    there = λ tokens o rest it. elim it [
+      | inl (b, x) ↦ let (front, e, a) = one.there tokens o rest x in (front, e, inl a)
+      | inr (n, y) ↦ let (front, e, b) = two.there tokens o rest y in (front, e, inr b)
+    ];
+    back = λ o front rest it behind. elim it [
+      | inl a ↦ inl (begins.makes o front rest a tt, one.back o front rest a behind)
+      | inr b ↦ inr (outside.makes o front rest b behind, two.back o front rest b behind)
+    ];
+  }
+
+module _ {O : Type 0} {g h : Grammar ℕ O} (these : ℕ → Type 0) (first : IsUnique g)
+    (second : IsUnique h) where
+  led_one : (tokens : List ℕ) (o p : O) (rest other : List ℕ) → Led these g h tokens o rest
+      → Led these g h tokens p other → rest ≡ other
+  unfolding Led
+  led_one tokens o p rest other (inl (b, x)) (inl (c, y)) = first.one tokens o p rest other x y
+  led_one tokens o p rest other (inl (b, x)) (inr (n, y)) = begins_never these tokens b n
+  led_one tokens o p rest other (inr (n, x)) (inl (b, y)) = begins_never these tokens b n
+  led_one tokens o p rest other (inr (n, x)) (inr (m, y)) = second.one tokens o p rest other x y
+
+  pub led_unique : IsUnique (Led these g h)
+  unfolding Led
+  led_unique = record {
+    ends = λ tokens o rest it. elim it [
+      | inl (b, x) ↦ first.ends tokens o rest x
+      | inr (n, y) ↦ second.ends tokens o rest y
+    ];
+    one = led_one;
+  }
+
+module _ {O : Type 0} (these : ℕ → Type 0) (g h : Grammar ℕ O) where
+  none_led : (tokens : List ℕ) → Begins these tokens → NoneStands g tokens
+      → NoneStands (Led these g h) tokens
+  unfolding Led
+  none_led tokens begins none o rest (inl (b, x)) = none o rest x
+  none_led tokens begins none o rest (inr (n, x)) = begins_never these tokens begins n
+
+  none_other : (tokens : List ℕ) → NotFirst these tokens → NoneStands h tokens
+      → NoneStands (Led these g h) tokens
+  unfolding Led
+  none_other tokens not none o rest (inl (b, x)) = begins_never these tokens b not
+  none_other tokens not none o rest (inr (n, x)) = none o rest x
+
+  module _ {E : Type 0} {kind : E → Kind} {i j : Input ℕ} where
+    pub reads_led : {result : Result O E} → Begins these i.left.tokens
+        → Reads text_reading kind g i result j → Reads text_reading kind (Led these g h) i result j
+    unfolding Led
+    reads_led {result = Ok o} first r = record {
+      ends = r.ends;
+      stands = λ whole. inl (first, r.stands whole);
+      none = λ whole. tt;
+    }
+    reads_led {result = Err e} first r = record {
+      ends = r.ends;
+      stands = λ whole. tt;
+      none = λ whole. elim (r.none whole) [
+        | inl m ↦ inl m
+        | inr (b, nothing) ↦ inr (b, none_led i.left.tokens first nothing)
+      ];
+    }
+
+    pub reads_other : {result : Result O E} → NotFirst these i.left.tokens
+        → Reads text_reading kind h i result j → Reads text_reading kind (Led these g h) i result j
+    unfolding Led
+    reads_other {result = Ok o} not r = record {
+      ends = r.ends;
+      stands = λ whole. inr (not, r.stands whole);
+      none = λ whole. tt;
+    }
+    reads_other {result = Err e} not r = record {
+      ends = r.ends;
+      stands = λ whole. tt;
+      none = λ whole. elim (r.none whole) [
+        | inl m ↦ inl m
+        | inr (b, nothing) ↦ inr (b, none_other i.left.tokens not nothing)
+      ];
+    }
+
+-- the kind of an error
+abbrev pub no_memory_kind : ErrMode EmptyError Needed → Kind
+no_memory_kind = mode_kind (λ e. marked_kind e.is_memory)

@@ -1,0 +1,210 @@
+-- The grammars of white space, comments and line ends are those of what is written.
+use Rattle.std.specs.Prelude.{◌≡◌, ◌⊎◌, ◌<◌, ⊤, ℕ, List, [], ◌∷◌, ◌++◌, None}
+use Rattle.std.specs.List.{All}
+use Rattle.std.proofs.Common.{refl, subst, inl, inr, arith}
+use Rattle.winnow.specs.Text.{text_reading}
+use Rattle.winnow.specs.AsChar.{IsSpace}
+use Rattle.winnow.specs.Range.{from_to}
+use Rattle.format_json_texts.specs.Words.{Run, char_of, former, latter, pair, run_of}
+use Rattle.format_toml.specs.Grammars.{AnyComment, Gap, GapPart, GappedOut, Mark, Newline}
+use Rattle.format_toml.specs.Grammars.{SpacedOut, WideMark, Ws}
+use Rattle.format_toml.specs.Strings.{one_of_set, set_begins}
+use Rattle.format_toml.specs.Toml.{CommentText, GapPartText, GapText, Gapped, IsOf, MarkText}
+use Rattle.format_toml.specs.Toml.{NewlineText, Spaced, Tells, WideMarkText, WsText}
+use Rattle.format_toml.specs.declared.characters.Characters.TheVariants.{Comment, White}
+use Rattle.winnow.specs.Grammar.{Both, Grammar, Maybe}
+use Rattle.winnow.specs.Texts.{Anything, Begins, BeginsIn, InFront, IsGrammarOf, MayBegin}
+use Rattle.winnow.specs.Texts.{NotFirst, Perhaps, Text, Then}
+use Rattle.winnow.specs.Texts.Fronts.{among_front, begins_wider, front_any, front_begins}
+use Rattle.winnow.specs.Texts.Fronts.{front_behind, holding_front, may_begin_more, none_begins}
+use Rattle.winnow.specs.Texts.Fronts.{not_first, perhaps_front, row_front, spelled_begins}
+use Rattle.winnow.specs.Texts.Fronts.{then_front}
+use Rattle.winnow.specs.Texts.Parts.{behind_less, both_of, either_apart, maybe_of}
+use Rattle.winnow.specs.Texts.Rows.{gathered_of, many_of}
+use Rattle.winnow.specs.Texts.Tokens.{divides_seen, divides_where, longest_of}
+
+-- ---- white space on a line
+
+space_below : (c : ℕ) → IsSpace c → c < 33
+space_below c (inl e) = omega (arith, e)
+space_below c (inr e) = omega (arith, e)
+
+-- no white space above a space
+pub no_space : (c : ℕ) → 32 < c → IsSpace c → ⊥
+no_space c above is = absurd (omega (arith, above, space_below c is))
+
+pub ws_of : IsGrammarOf Ws WsText (NotFirst IsSpace)
+ws_of = run_of IsSpace 0
+
+pub ws_front : {these : ℕ → Type 0} {behind : List ℕ → Type 0}
+    → ((c : ℕ) → IsSpace c → these c → ⊥) → ((rest : List ℕ) → behind rest → NotFirst these rest)
+    → InFront WsText behind (NotFirst these)
+unfolding Run
+ws_front {these} {behind} apart not = record { makes = λ slice xs rest x b. first xs rest x.0 b }
+  where
+    first : (xs rest : List ℕ) → All IsSpace xs → behind rest → NotFirst these (xs ++ rest)
+    first [] rest all b = not rest b
+    first (x ∷ xs) rest all b = apart x (all 0 x (omega arith))
+
+pub mark_of : (c : ℕ) → IsGrammarOf (Mark c) (MarkText c) (NotFirst IsSpace)
+mark_of c = both_of pair (char_of c) ws_of front_any
+
+pub mark_begins : (c : ℕ) → BeginsIn (λ x. x ≡ c) (MarkText c)
+mark_begins c = then_front pair (spelled_begins c [] c) front_any
+
+-- neither white space nor one of these
+abbrev pub Past : (ℕ → Type 0) → List ℕ → Type 0
+Past these = NotFirst (λ c. IsSpace c ⊎ these c)
+
+pub spaced_of : {O : Type 0} {g : Grammar ℕ O} {text : Text ℕ O} {these : ℕ → Type 0}
+    → ((c : ℕ) → IsSpace c → these c → ⊥) → IsGrammarOf g text (NotFirst these)
+    → IsGrammarOf (SpacedOut g) (Spaced text) (Past these)
+spaced_of {these = these} apart is =
+    both_of former is (behind_less
+    (not_first IsSpace (λ c. IsSpace c ⊎ these c) (λ c s. inl s)) ws_of)
+    (ws_front apart (not_first these (λ c. IsSpace c ⊎ these c) (λ c t. inr t)))
+
+pub spaced_begins : {O : Type 0} {text : Text ℕ O} {these : ℕ → Type 0} → BeginsIn these text
+    → BeginsIn these (Spaced text)
+spaced_begins begins = then_front former begins front_any
+
+-- a character that is this one is none of those
+pub past : (these : ℕ → Type 0) (n : ℕ) → 32 < n → (these n → ⊥) → (c : ℕ) → c ≡ n
+    → IsSpace c ⊎ these c → ⊥
+past these n above not c e (inl s) = no_space c (omega (arith, above, e)) s
+past these n above not c e (inr t) = not (subst these e t)
+
+-- ---- line ends and comments
+
+-- what a line end begins with
+abbrev pub IsBreak : ℕ → Type 0
+IsBreak c = (c ≡ 10) ⊎ (c ≡ 13)
+
+-- and what a comment does, or that
+abbrev pub IsTail : ℕ → Type 0
+IsTail c = (c ≡ 35) ⊎ IsBreak c
+
+pub tail_is : (c : ℕ) → IsTail c → (c < 36) × (IsSpace c → ⊥)
+tail_is c (inl e) = (omega (arith, e), no_space c (omega (arith, e)))
+tail_is c (inr (inl e)) = (
+  omega (arith, e),
+  λ is. elim is [
+    | inl f ↦ absurd (omega (arith, e, f))
+    | inr f ↦ absurd (omega (arith, e, f))
+  ],
+)
+tail_is c (inr (inr e)) = (
+  omega (arith, e),
+  λ is. elim is [
+    | inl f ↦ absurd (omega (arith, e, f))
+    | inr f ↦ absurd (omega (arith, e, f))
+  ],
+)
+
+break_shown : (c : ℕ) → IsBreak c → IsOf Comment c → ⊥
+break_shown c (inl e) (inl f) = absurd (omega (arith, e, f))
+break_shown c (inl e) (inr (inl f)) = absurd (omega (arith, e, f))
+break_shown c (inl e) (inr (inr f)) = absurd (omega (arith, e, f))
+break_shown c (inr e) (inl f) = absurd (omega (arith, e, f))
+break_shown c (inr e) (inr (inl f)) = absurd (omega (arith, e, f))
+break_shown c (inr e) (inr (inr f)) = absurd (omega (arith, e, f))
+
+break_hash : (c : ℕ) → IsBreak c → c ≡ 35 → ⊥
+break_hash c (inl e) f = absurd (omega (arith, e, f))
+break_hash c (inr e) f = absurd (omega (arith, e, f))
+
+comment_of : IsGrammarOf AnyComment CommentText (NotFirst (IsOf Comment))
+comment_of =
+    both_of latter (char_of 35) (longest_of text_reading (λ c. c) Tells Comment (from_to 0 None) 0
+    refl (divides_seen (Tells Comment) (divides_where (IsOf Comment)))) front_any
+
+pub comment_begins : BeginsIn (λ c. c ≡ 35) CommentText
+comment_begins = then_front latter (spelled_begins 35 [] 35) front_any
+
+-- a comment or none, in front of a line end or the end
+pub maybe_comment_of : IsGrammarOf (Maybe AnyComment) (Perhaps CommentText) (MayBegin IsBreak)
+maybe_comment_of =
+    maybe_of (behind_less (may_begin_more IsBreak (λ c. IsOf Comment c → ⊥) break_shown) comment_of)
+    (λ rest b. none_begins comment_of comment_begins rest
+    (may_begin_more IsBreak (λ c. c ≡ 35 → ⊥) break_hash rest b))
+
+pub newline_of : IsGrammarOf Newline NewlineText Anything
+newline_of =
+    either_apart (char_of 10) (both_of latter (char_of 13) (char_of 10) front_any)
+    (spelled_begins 10 [] 10) (then_front latter
+    (front_begins (λ c e f. absurd (omega (arith, e, f))) (spelled_begins 13 [] 13)) front_any)
+
+pub newline_begins : BeginsIn IsBreak NewlineText
+newline_begins =
+    among_front (begins_wider (λ c e. inl e) (spelled_begins 10 [] 10))
+    (then_front latter (begins_wider (λ c e. inr e) (spelled_begins 13 [] 13)) front_any)
+
+-- ---- white space over lines
+
+-- a line end with a comment before it or none
+ended_of : IsGrammarOf (Both latter (Maybe AnyComment) Newline)
+    (Then latter (Perhaps CommentText) NewlineText) Anything
+ended_of = both_of latter maybe_comment_of newline_of (front_begins (λ c is. is) newline_begins)
+
+ended_begins : BeginsIn IsTail (Then latter (Perhaps CommentText) NewlineText)
+ended_begins =
+    then_front latter (perhaps_front (front_behind (λ rest b. tt)
+    (begins_wider (λ c e. inl e) comment_begins))) (begins_wider (λ c is. inr is) newline_begins)
+
+-- what white space over lines begins with
+abbrev pub OpensGap : ℕ → Type 0
+OpensGap c = IsSpace c ⊎ IsTail c
+
+pub gap_is : (c : ℕ) → OpensGap c → c < 36
+gap_is c (inl s) = omega (arith, space_below c s)
+gap_is c (inr t) = (tail_is c t).0
+
+gap_part_of : IsGrammarOf GapPart GapPartText Anything
+gap_part_of =
+    either_apart (one_of_set White) ended_of (set_begins White)
+    (front_begins (λ c t s. (tail_is c t).1 s) ended_begins)
+
+gap_part_begins : BeginsIn OpensGap GapPartText
+gap_part_begins =
+    among_front (begins_wider (λ c s. inl s) (set_begins White))
+    (begins_wider (λ c t. inr t) ended_begins)
+
+pub gap_of : IsGrammarOf Gap GapText (NotFirst OpensGap)
+gap_of =
+    gathered_of (λ (all : ⊤) parts. ⊤) (many_of gap_part_of (from_to 0 None) 0 refl front_any
+    (λ rest b. tt) (λ rest b. none_begins gap_part_of gap_part_begins rest b))
+
+pub gap_front : {these : ℕ → Type 0} {behind : List ℕ → Type 0}
+    → ((c : ℕ) → OpensGap c → these c → ⊥) → ((rest : List ℕ) → behind rest → NotFirst these rest)
+    → InFront GapText behind (NotFirst these)
+gap_front apart not =
+    front_behind not (holding_front (λ (all : ⊤) parts. ⊤)
+    (row_front (front_begins apart gap_part_begins)))
+
+pub wide_mark_of : (c : ℕ) → IsGrammarOf (WideMark c) (WideMarkText c) (NotFirst OpensGap)
+wide_mark_of c = both_of pair (char_of c) gap_of front_any
+
+pub wide_mark_begins : (c : ℕ) → BeginsIn (λ x. x ≡ c) (WideMarkText c)
+wide_mark_begins c = then_front pair (spelled_begins c [] c) front_any
+
+-- neither white space over lines nor one of these
+abbrev pub WidePast : (ℕ → Type 0) → List ℕ → Type 0
+WidePast these = NotFirst (λ c. OpensGap c ⊎ these c)
+
+pub gapped_of : {O : Type 0} {g : Grammar ℕ O} {text : Text ℕ O} {these : ℕ → Type 0}
+    → ((c : ℕ) → OpensGap c → these c → ⊥) → IsGrammarOf g text (NotFirst these)
+    → IsGrammarOf (GappedOut g) (Gapped text) (WidePast these)
+gapped_of {these = these} apart is =
+    both_of former is (behind_less
+    (not_first OpensGap (λ c. OpensGap c ⊎ these c) (λ c s. inl s)) gap_of)
+    (gap_front apart (not_first these (λ c. OpensGap c ⊎ these c) (λ c t. inr t)))
+
+pub gapped_begins : {O : Type 0} {text : Text ℕ O} {these : ℕ → Type 0} → BeginsIn these text
+    → BeginsIn these (Gapped text)
+gapped_begins begins = then_front former begins front_any
+
+-- a character that is this one is none of those
+pub wide_past : (these : ℕ → Type 0) (n : ℕ) → 35 < n → (these n → ⊥) → (c : ℕ) → c ≡ n
+    → OpensGap c ⊎ these c → ⊥
+wide_past these n above not c e (inl s) = absurd (omega (arith, above, e, gap_is c s))
+wide_past these n above not c e (inr t) = not (subst these e t)

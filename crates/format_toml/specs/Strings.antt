@@ -1,0 +1,146 @@
+-- The grammars of strings and their characters are those of what is written.
+use Rattle.std.specs.Prelude.{◌≡◌, ◌≤◌, ℕ, List, [], ◌∷◌, ◌++◌, length, None}
+use Rattle.std.proofs.Common.{refl, sym, ap, subst, inl, inr, ◌∙◌, arith}
+use Rattle.winnow.specs.Range.{from_to}
+use Rattle.format_json_texts.specs.Words.{For, One, Whichever, any_of, between_of}
+use Rattle.format_json_texts.specs.Strings.{CodeUnit, Digit, IsAlone, IsHex, IsNumberOf, UnitText}
+use Rattle.format_json_texts.specs.Words.{Char, char_of, for_of, four_same, latter, pair, to_four}
+use Rattle.format_toml.specs.Grammars.{AnyCharacters, BasicString, Character, Escape}
+use Rattle.format_toml.specs.Grammars.{LiteralString, WideUnits}
+use Rattle.format_toml.specs.Led.{led_of}
+use Rattle.format_toml.specs.Toml.{BasicText, CharacterText, CharactersText, IsOf, LiteralText}
+use Rattle.format_toml.specs.Toml.{EscapeText, IsWide, StandsFor, Tells}
+use Rattle.format_toml.specs.declared.characters.Characters.{Characters}
+use Rattle.format_toml.specs.declared.characters.Characters.TheVariants.{Basic, Literal}
+use Rattle.winnow.specs.Grammar.{Both, NoneStands, TokenOf}
+use Rattle.winnow.specs.Grammar.Meaning.{Meaning}
+use Rattle.winnow.specs.Accumulator.Holds.{HasCharacters}
+use Rattle.winnow.specs.Texts.{Anything, AtLeast, Begins, BeginsIn, IsGrammarOf, NotFirst, OneOf}
+use Rattle.winnow.specs.Texts.{Of, Row, Then}
+use Rattle.winnow.specs.Texts.Fronts.{among_front, begins_wider, front_any, front_begins}
+use Rattle.winnow.specs.Texts.Fronts.{holding_front, may_begin, none_begins, one_of_begins}
+use Rattle.winnow.specs.Texts.Fronts.{spelled_begins, then_front}
+use Rattle.winnow.specs.Texts.Parts.{both_of, either_apart, same_of}
+use Rattle.winnow.specs.Texts.Rows.{gathered_of, many_of}
+use Rattle.winnow.specs.Texts.Tokens.{divides_where, token_of}
+
+-- ---- characters of a set
+
+module _ (set : Characters) where
+  pub one_of_set : IsGrammarOf (TokenOf (λ c. c) Tells set) (OneOf (λ c. c) (IsOf set)) Anything
+  one_of_set = token_of (λ c. c) Tells set (divides_where (IsOf set))
+
+  pub set_begins : BeginsIn (IsOf set) (OneOf (λ c. c) (IsOf set))
+  set_begins =
+      begins_wider (λ c (k, e, is). subst (IsOf set) e is) (one_of_begins (λ c. c) (IsOf set))
+
+  none_first : (rest : List ℕ) → NotFirst (IsOf set) rest
+      → NoneStands (TokenOf (λ c. c) Tells set) rest
+  none_first rest not = none_begins one_of_set set_begins rest not
+
+  row_begins : BeginsIn (IsOf set) (AtLeast 1 (Row (OneOf (λ c. c) (IsOf set))))
+  unfolding Row OneOf
+  row_begins = record { makes = λ os xs rest (row, some) any. first os xs rest row some }
+    where
+      first : (os tokens rest : List ℕ) → Row (OneOf (λ c. c) (IsOf set)) os tokens
+          → 1 ≤ length os → Begins (IsOf set) (tokens ++ rest)
+      first [] tokens rest row some = absurd (omega (arith, some))
+      first (o ∷ os) tokens rest (xs, ys, (is, e), more, d) some =
+          let P : List ℕ → Type 0 = λ l. Begins (IsOf set) (l ++ rest) in
+          subst P (sym (d ∙ ap (λ l. l ++ ys) e)) is
+
+  module _ {A : Type 0} where
+    pub characters_of : (least : ℕ) → IsGrammarOf (AnyCharacters {A = A} set least)
+        (CharactersText set least) (NotFirst (IsOf set))
+    characters_of least =
+        gathered_of HasCharacters (many_of one_of_set (from_to least None) least refl front_any
+        (λ rest b. tt) none_first)
+
+    pub characters_begin : BeginsIn (IsOf set) (CharactersText {A = A} set 1)
+    characters_begin = holding_front HasCharacters row_begins
+
+-- ---- strings
+
+digit_of : IsGrammarOf Digit (For IsHex Whichever) Anything
+digit_of = for_of IsHex any_of
+
+unit_of : IsGrammarOf CodeUnit UnitText Anything
+unit_of =
+    for_of IsNumberOf
+    (same_of (four_same Digit Digit Digit Digit)
+    (both_of to_four digit_of
+    (both_of pair digit_of (both_of pair digit_of digit_of front_any)
+    front_any) front_any))
+
+-- what a backslash escapes by itself is no u
+short_begins : BeginsIn (λ c. (c ≡ 117 → ⊥) × (c ≡ 85 → ⊥)) (For StandsFor Whichever)
+unfolding Of Whichever
+short_begins = record {
+  makes = λ k xs rest (c, e, stands) any.
+      let P : List ℕ → Type 0 = λ l. Begins (λ c. (c ≡ 117 → ⊥) × (c ≡ 85 → ⊥)) (l ++ rest) in
+      subst P (sym e) (no_u c k stands);
+}
+  where
+    no_u : (c k : ℕ) → StandsFor c k → (c ≡ 117 → ⊥) × (c ≡ 85 → ⊥)
+    no_u c k (inl x) = omega (arith, x.0)
+    no_u c k (inr (inl x)) = omega (arith, x.0)
+    no_u c k (inr (inr (inl x))) = omega (arith, x.0)
+    no_u c k (inr (inr (inr (inl x)))) = omega (arith, x.0)
+    no_u c k (inr (inr (inr (inr (inl x))))) = omega (arith, x.0)
+    no_u c k (inr (inr (inr (inr (inr (inl x)))))) = omega (arith, x.0)
+    no_u c k (inr (inr (inr (inr (inr (inr x)))))) = omega (arith, x.0)
+
+long_of : IsGrammarOf (Both latter (Char 85) (Meaning IsWide WideUnits))
+    (Then latter (One 85) (For IsWide (Then pair UnitText UnitText))) Anything
+long_of =
+    both_of latter (char_of 85) (for_of IsWide (both_of pair unit_of unit_of front_any)) front_any
+
+long_begins : BeginsIn (λ c. c ≡ 85)
+    (Then latter (One 85) (For IsWide (Then pair UnitText UnitText)))
+long_begins = then_front latter (spelled_begins 85 [] 85) front_any
+
+escape_of : IsGrammarOf Escape EscapeText Anything
+escape_of =
+    led_of (both_of latter (char_of 117) (for_of IsAlone unit_of) front_any)
+    (led_of long_of (for_of StandsFor any_of) long_begins (front_begins (λ c u. u.1) short_begins))
+    (then_front latter (spelled_begins 117 [] 117) front_any)
+    (among_front (front_begins (λ c e f. absurd (omega (arith, e, f))) long_begins)
+    (front_begins (λ c u. u.0) short_begins))
+
+escaped_of : IsGrammarOf (Both latter (Char 92) Escape) (Then latter (One 92) EscapeText) Anything
+escaped_of = both_of latter (char_of 92) escape_of front_any
+
+character_of : IsGrammarOf Character CharacterText Anything
+character_of =
+    either_apart (one_of_set Basic) escaped_of (set_begins Basic)
+    (then_front latter (front_begins (λ c e is. is.1.1 e) (spelled_begins 92 [] 92)) front_any)
+
+-- no character begins with a quotation mark
+character_begins : BeginsIn (λ c. c ≡ 34 → ⊥) CharacterText
+character_begins =
+    among_front (begins_wider (λ c is. is.1.0) (set_begins Basic))
+    (then_front latter (begins_wider (λ c e q. absurd (omega (arith, e, q)))
+    (spelled_begins 92 [] 92)) front_any)
+
+none_quoted : (tokens : List ℕ) → Begins (λ c. c ≡ 34) tokens → NoneStands Character tokens
+none_quoted tokens b =
+    none_begins character_of character_begins tokens
+    (may_begin (λ c. c ≡ 34) (λ c. (c ≡ 34 → ⊥) → ⊥) (λ c e not. not e) tokens b)
+
+module _ {A : Type 0} where
+  pub basic_string_of : IsGrammarOf (BasicString {A = A}) BasicText Anything
+  basic_string_of =
+      between_of (char_of 34) (gathered_of HasCharacters (many_of character_of (from_to 0 None) 0
+      refl front_any (λ rest b. tt) none_quoted)) (char_of 34) front_any
+      (spelled_begins 34 [] 34)
+
+  pub literal_string_of : IsGrammarOf (LiteralString {A = A}) LiteralText Anything
+  literal_string_of =
+      between_of (char_of 39) (characters_of Literal 0) (char_of 39) front_any
+      (front_begins (λ c e is. is.1 e) (spelled_begins 39 [] 39))
+
+  pub basic_string_begins : BeginsIn (λ c. c ≡ 34) (BasicText {A = A})
+  basic_string_begins = then_front latter (spelled_begins 34 [] 34) front_any
+
+  pub literal_string_begins : BeginsIn (λ c. c ≡ 39) (LiteralText {A = A})
+  literal_string_begins = then_front latter (spelled_begins 39 [] 39) front_any

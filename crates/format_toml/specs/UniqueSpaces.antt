@@ -1,0 +1,54 @@
+-- What stands by the grammars of white space, comments and line ends leaves one rest.
+use Rattle.std.specs.Prelude.{◌≡◌, ⊤, ℕ, None}
+use Rattle.winnow.specs.Text.{text_reading}
+use Rattle.winnow.specs.AsChar.{IsSpace}
+use Rattle.winnow.specs.Range.{from_to}
+use Rattle.format_toml.specs.Words.{char_unique, run_unique}
+use Rattle.format_json_texts.specs.Words.{former, latter, pair}
+use Rattle.format_toml.specs.Grammars.{AnyComment, Gap, GapPart, GappedOut, Mark, Newline}
+use Rattle.format_toml.specs.Grammars.{SpacedOut, WideMark, Ws}
+use Rattle.format_toml.specs.Toml.{IsOf, Tells}
+use Rattle.format_toml.specs.declared.characters.Characters.{Characters}
+use Rattle.format_toml.specs.declared.characters.Characters.TheVariants.{Comment, White}
+use Rattle.winnow.specs.TakeWhile.Exact.{longest_unique}
+use Rattle.winnow.specs.Once.{holds_once, seen_once}
+use Rattle.winnow.specs.Grammar.{Grammar, IsUnique, Longest}
+use Rattle.winnow.specs.Grammar.Unique.{both_unique, either_unique, gathered_unique}
+use Rattle.winnow.specs.Grammar.Unique.{many_unique, maybe_unique, token_of_unique}
+
+pub ws_unique : IsUnique Ws
+ws_unique = run_unique IsSpace 0
+
+pub mark_unique : (c : ℕ) → IsUnique (Mark c)
+mark_unique c = both_unique pair (char_unique c) ws_unique
+
+pub spaced_unique : {O : Type 0} {g : Grammar ℕ O} → IsUnique g → IsUnique (SpacedOut g)
+spaced_unique unique = both_unique former unique ws_unique
+
+pub newline_unique : IsUnique Newline
+newline_unique =
+    either_unique (char_unique 10) (both_unique latter (char_unique 13) (char_unique 10))
+
+-- characters of a set, as they stand in the text
+members_unique : (set : Characters) (least : ℕ)
+    → IsUnique (Longest text_reading (λ c. c) Tells set (from_to least None))
+members_unique set least =
+    longest_unique text_reading (λ c. c) Tells set (from_to least None)
+    (seen_once (λ c. c) (Tells set) (λ c d e. e) (holds_once (IsOf set)))
+
+pub comment_unique : IsUnique AnyComment
+comment_unique = both_unique latter (char_unique 35) (members_unique Comment 0)
+
+gap_part_unique : IsUnique GapPart
+gap_part_unique =
+    either_unique (token_of_unique (λ c. c) Tells White)
+    (both_unique latter (maybe_unique comment_unique) newline_unique)
+
+pub gap_unique : IsUnique Gap
+gap_unique = gathered_unique (λ (all : ⊤) parts. ⊤) (many_unique gap_part_unique (from_to 0 None))
+
+pub gapped_unique : {O : Type 0} {g : Grammar ℕ O} → IsUnique g → IsUnique (GappedOut g)
+gapped_unique unique = both_unique former unique gap_unique
+
+pub wide_mark_unique : (c : ℕ) → IsUnique (WideMark c)
+wide_mark_unique c = both_unique pair (char_unique c) gap_unique

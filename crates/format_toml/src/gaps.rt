@@ -1,0 +1,44 @@
+//! White space and comments over lines (TOML 1.0: Array), and line ends.
+ghost use Rattle.std.specs.Prelude.{◌≡◌, ⊤};
+ghost use Rattle.winnow.specs.Text.{text_input, text_reading};
+ghost use Rattle.format_toml.specs.Grammars.{Gap};
+ghost use Rattle.format_toml.specs.UniqueSpaces.{gap_unique};
+ghost use Rattle.winnow.specs.Exact.{Reads};
+
+use crate::characters::Characters;
+use crate::parts::read_gap_of;
+use std::alloc::Allocator;
+use winnow::combinator::{alt, preceded};
+use winnow::error::{EmptyError, ErrMode, HasKind};
+use winnow::exact::Rule;
+use winnow::stream::Range;
+use winnow::token::{one_of, take_while};
+
+/// The name of what [`read_gap`] reads.
+#[derive(Clone, Copy, Drop)]
+pub struct AnyGap<A>(pub A);
+
+impl<'i, A: Allocator> Rule<&'i str, ()> for AnyGap<A> {
+    ghost grammar = { λ _. Gap };
+
+    ghost consumes = { λ _. ⊥ };
+
+    fn name() {}
+
+    ghost unique = { λ _. gap_unique };
+
+    ghost takes = { λ _ never. absurd never };
+}
+
+/// White space, line ends and comments before these, as many as stand. No memory is taken.
+pub fn read_gap<'i, A: Allocator + Copy>(
+    alloc: A,
+    input: &mut &'i str,
+) -> Result<(), ErrMode<EmptyError>>
+    ensures { Reads text_reading ⟦<ErrMode<EmptyError> as HasKind>⟧.kind Gap
+        (text_input input.old.now) result (text_input input.new.now) }
+{
+    let comment = preceded('#', take_while(Range::from(0..), Characters::Comment));
+    let newline = alt(('\n', preceded('\r', '\n')));
+    read_gap_of(alloc, one_of(Characters::White), comment, newline, input)
+}

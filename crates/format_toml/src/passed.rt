@@ -1,0 +1,160 @@
+//! What stands behind parts of a line, where these stand, for what a line lacks.
+ghost use Rattle.std.specs.Prelude.{◌≡◌, ℕ, false, IfOk, IsTrue, List};
+ghost use Rattle.std.specs.Str.{chars};
+ghost use Rattle.format_json_texts.specs.Words.{Char};
+ghost use Rattle.format_toml.specs.Expected.{IsPast, Stands};
+ghost use Rattle.format_toml.specs.Grammars.{AnyKey, AnyValue, Header, Line, Mark, Newline, Ws};
+ghost use Rattle.winnow.specs.Grammar.{NoneStands};
+
+use crate::keys::{Headers, Keys, read_header, read_key};
+use crate::lines::{AnyLine, read_line};
+use crate::values::read_value;
+use std::alloc::Allocator;
+use winnow::Parser;
+use winnow::ascii::impls::Space0;
+use winnow::combinator::{alt, preceded};
+use winnow::error::{EmptyError, ErrMode, ParserError};
+use winnow::exact::Rule;
+
+/// What a parser leaves of a text, where it reads; nothing where it does not. An error says that a
+/// request for memory was refused.
+fn past<'i, O: Drop, P: Parser<&'i str, O, ErrMode<EmptyError>> + Drop>(
+    parser: P,
+    text: &'i str,
+) -> Result<Option<&'i str>, ErrMode<EmptyError>>
+    requires { P.can_parse parser × (P.claim (P.state parser)).premise
+        × (P.claim (P.state parser)).backtracks }
+    ensures { IfOk result (λ o. IsPast (P.claim (P.state parser)).grammar (chars text.now) o) }
+{
+    let mut parser = parser;
+    let mut rest = text;
+    match parser.read(&mut rest) {
+        Ok(_) => Ok(Some(rest)),
+        Err(error) => {
+            if ParserError::<&str>::is_backtrack(&error) {
+                Ok(None)
+            } else {
+                Err(error)
+            }
+        }
+    }
+}
+
+/// What a parser leaves of a text. An error says that it does not read, or that a request for
+/// memory was refused.
+fn behind<'i, O: Drop, P: Parser<&'i str, O, ErrMode<EmptyError>> + Drop>(
+    parser: P,
+    text: &'i str,
+) -> Result<&'i str, ErrMode<EmptyError>>
+    requires { P.can_parse parser × (P.claim (P.state parser)).premise
+        × (P.claim (P.state parser)).backtracks }
+    ensures { IfOk result (λ rest. Stands (P.claim (P.state parser)).grammar (chars text.now)
+        (chars rest.now)) }
+{
+    let mut parser = parser;
+    let mut rest = text;
+    match parser.read(&mut rest) {
+        Ok(_) => Ok(rest),
+        Err(error) => Err(error),
+    }
+}
+
+/// What is behind white space, which may be none.
+pub fn behind_white<'i>(text: &'i str) -> Result<&'i str, ErrMode<EmptyError>>
+    ensures { IfOk result (λ rest. Stands Ws (chars text.now) (chars rest.now)) }
+{
+    behind(Space0, text)
+}
+
+/// What is behind a bracket that opens.
+pub fn behind_bracket<'i>(text: &'i str) -> Result<&'i str, ErrMode<EmptyError>>
+    ensures { IfOk result (λ rest. Stands (Char 91) (chars text.now) (chars rest.now)) }
+{
+    behind('[', text)
+}
+
+/// What is behind a key and white space.
+pub fn past_key<'i, A: Allocator + Copy>(
+    alloc: A,
+    text: &'i str,
+) -> Result<Option<&'i str>, ErrMode<EmptyError>>
+    ensures { IfOk result (λ o. IsPast (AnyKey {A = A}) (chars text.now) o) }
+{
+    past(
+        Keys(alloc).by(|input: &mut &str| read_key(alloc, input)),
+        text,
+    )
+}
+
+/// What is behind the name of a table and its bracket. An error says that it does not stand, or
+/// that a request for memory was refused.
+pub fn behind_header<'i, A: Allocator + Copy>(
+    alloc: A,
+    text: &'i str,
+) -> Result<&'i str, ErrMode<EmptyError>>
+    ensures { IfOk result (λ rest. Stands (Header {A = A}) (chars text.now) (chars rest.now)) }
+{
+    behind(
+        Headers(alloc).by(|input: &mut &str| read_header(alloc, input)),
+        text,
+    )
+}
+
+/// What is behind an equals sign and white space.
+pub fn past_equals<'i>(text: &'i str) -> Result<Option<&'i str>, ErrMode<EmptyError>>
+    ensures { IfOk result (λ o. IsPast (Mark 61) (chars text.now) o) }
+{
+    past(('=', Space0), text)
+}
+
+/// Whether a bracket that closes is first.
+pub fn closes<'i>(text: &'i str) -> Result<Option<&'i str>, ErrMode<EmptyError>>
+    ensures { IfOk result (λ o. IsPast (Char 93) (chars text.now) o) }
+{
+    past(']', text)
+}
+
+/// Whether no value is first.
+pub fn lacks_value<'i, A: Allocator + Copy>(
+    alloc: A,
+    level: usize,
+    text: &'i str,
+) -> Result<bool, ErrMode<EmptyError>>
+    ensures none { IfOk result (λ o. IsTrue o
+        → NoneStands (AnyValue {A = A} level) (chars text.now)) }
+    ensures some { IfOk result (λ o. o ≡ false
+        → (rest : List ℕ) × Stands (AnyValue {A = A} level) (chars text.now) rest) }
+{
+    let mut rest = text;
+    match read_value(alloc, level, &mut rest) {
+        Ok(_) => Ok(false),
+        Err(error) => {
+            if ParserError::<&str>::is_backtrack(&error) {
+                Ok(true)
+            } else {
+                Err(error)
+            }
+        }
+    }
+}
+
+/// What is behind a line end.
+pub fn past_newline<'i>(text: &'i str) -> Result<Option<&'i str>, ErrMode<EmptyError>>
+    ensures { IfOk result (λ o. IsPast Newline (chars text.now) o) }
+{
+    past(alt(('\n', preceded('\r', '\n'))), text)
+}
+
+/// What is behind what stands of a line. Something always does, so an error says that a request for
+/// memory was refused.
+pub fn behind_line<'i, A: Allocator + Copy>(
+    alloc: A,
+    level: usize,
+    text: &'i str,
+) -> Result<&'i str, ErrMode<EmptyError>>
+    ensures { IfOk result (λ rest. Stands (Line {A = A} level) (chars text.now)
+        (chars rest.now)) }
+{
+    let line = AnyLine(alloc, level).by(|input: &mut &str| read_line(alloc, level, input));
+    behind(line, text)
+}
