@@ -14,7 +14,7 @@ FORMATS = {
     "json": ["format_json_values", "format_json_pieces", "format_json_writer"],
     "json_extents": ["format_json_extents"],
     "resp": ["format_resp"],
-    "toml": ["format_toml"],
+    "toml": ["format_toml", "format_toml_tree"],
 }
 
 

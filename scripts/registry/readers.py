@@ -61,7 +61,7 @@ BRIEF = [
         "exactly; first, in pieces; written values read back"),
     ("JSON extents", ["format_json_extents"], "where the first value ends"),
     ("RESP2", ["format_resp"], "first, in pieces"),
-    ("TOML 1.0, a subset", ["format_toml"], "exactly"),
+    ("TOML 1.0, a subset", ["format_toml", "format_toml_tree"], "exactly"),
 ]
 
 

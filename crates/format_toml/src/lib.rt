@@ -1,12 +1,31 @@
 //! Documents of TOML 1.0 (toml.io/en/v1.0.0), a subset, read from text by parsers.
 //!
+//! [`parse_lines`](lines::parse_lines) reads what the lines of a document say.
+//! [`build`](format_toml_tree::build::build) makes the tree of these lines, which borrows from
+//! them, or names the first that the standard refuses, as one that defines a key again.
+//!
+//! ```
+//! use format_toml::lines::parse_lines;
+//! use format_toml::values::SAFE_LEVEL;
+//! use format_toml_tree::build::build;
+//!
+//! let text = "[server]\nhost = \"a\"\nports = [80, 443]\n";
+//! let Ok(lines) = parse_lines(alloc, SAFE_LEVEL, text) else {
+//!     return;
+//! };
+//! let Ok(tree) = build(alloc, lines.as_slice()) else {
+//!     return;
+//! };
+//! let server = tree.root().get("server");
+//! assert!(rt; matches!(server, Some(server) if server.len() == 2));
+//! ```
+//!
 //! Where this differs from the standard:
 //!
 //! - Strings are on one line.
 //! - Integers are decimal, of 64 bits, without underscores, and a zero has no sign; floats, dates
 //!   and times are not read.
 //! - Arrays and inline tables are nested to a level, which the caller gives.
-//! - That lines say a key or a table again is not refused here.
 //!
 //! The standard has no byte order mark, so a text that begins with one is none.
 #![tactic(auto)]
