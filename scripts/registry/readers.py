@@ -38,6 +38,8 @@ READERS = [
     ("TOML 1.0, a subset", "format_toml", "yes",
         "`Ok` exactly where the text is lines of this document; what the first one lacks that is no "
         "line"),
+    ("TOML: trees", "format_toml_tree", "no",
+        "the tree that lines give, or the first line that the standard refuses, and why"),
     ("HTTP/1.1 heads (RFC 9112)", "format_http/heads", "yes",
         "the request line, field line and head that bytes begin with"),
     ("HTTP/1.1 size lines of chunks", "format_http/chunks", "yes",
