@@ -12,7 +12,7 @@ returns-in-Ok-read_line_end-clause-reads c =
 pub returns-in-Err-read_line_end-clause-reads : goal.returns-in-Err-read_line_end-clause-reads
 returns-in-Err-read_line_end-clause-reads c =
     err_as (second_err pair_unique c.in-Ok.ensures.reads c.in-Err-read_line_end.ensures.reads)
-          field_back
+    field_back
 
 pub returns-in-Err-clause-reads : goal.returns-in-Err-clause-reads
 returns-in-Err-clause-reads c = err_as (first_err EndStands c.in-Err.ensures.reads) field_back

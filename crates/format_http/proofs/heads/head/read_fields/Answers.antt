@@ -11,7 +11,7 @@ returns-in-Ok-read_line_end g c =
 pub returns-in-Err-read_line_end : goal.returns-in-Err-read_line_end
 returns-in-Err-read_line_end g c =
     err_as (second_err lines_unique c.in-Ok.ensures c.in-Err-read_line_end.ensures.reads)
-          fields_back
+    fields_back
 
 pub returns-in-Err : goal.returns-in-Err
 returns-in-Err g c = err_as (first_err EndStands c.in-Err.ensures) fields_back

@@ -8,12 +8,12 @@ use Rattle.format_http.proofs.heads.request_line.read_request_line.Goals as goal
 pub returns-in-Ok-read_version-clause-reads : goal.returns-in-Ok-read_version-clause-reads
 returns-in-Ok-read_version-clause-reads c =
     ok_as (steps_ok c.in-Ok.ensures.reads c.in-Ok-read_version.ensures.reads)
-          (request_there _ _ _ _)
+    (request_there _ _ _ _)
 
 pub returns-in-Err-read_version-clause-reads : goal.returns-in-Err-read_version-clause-reads
 returns-in-Err-read_version-clause-reads c =
     err_as (second_err method_unique c.in-Ok.ensures.reads c.in-Err-read_version.ensures.reads)
-          request_back
+    request_back
 
 pub returns-in-Err-clause-reads : goal.returns-in-Err-clause-reads
 returns-in-Err-clause-reads c = err_as (first_err VersionStands c.in-Err.ensures.reads) request_back
