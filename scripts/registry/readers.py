@@ -30,6 +30,9 @@ READERS = [
         "where the bytes are a text of this value"),
     ("JSON: written", "format_json_writer", "no",
         "the text of a value, exactly where it has one, nested to a level; it reads back"),
+    ("JSON: by one entry", "format_json", "no",
+        "`Ok` exactly where the text or the bytes are one of this value; else the first place at "
+        "which no text goes on, and what may stand there; the text of a value, over lines too"),
     ("JSON: extents", "uses_json", "no", "where a value ends, and whether bytes are a text"),
     ("TOML 1.0, a subset", "format_toml", "yes",
         "`Ok` exactly where the text is lines of this document; the first line that says a key or "
