@@ -1,6 +1,6 @@
 -- White space that is put, one space at a time.
 use Rattle.std.specs.Prelude.{◌≡◌, ◌+◌, ◌≤◌, ◌++◌, ℕ, List, [], ◌∷◌, replicate}
-use Rattle.std.proofs.Common.{ap, append_assoc, arith, refl, sym, ◌∙◌}
+use Rattle.std.proofs.Common.{ap, append_assoc, arith, sym, ◌∙◌}
 use Rattle.std.proofs.lemmas.List.{append-nil, replicate-append-replicate}
 use Rattle.format_json.specs.Layout.{gap_bytes}
 use Rattle.format_json.specs.declared.layout.Gap.{Gap}

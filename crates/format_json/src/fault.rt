@@ -8,9 +8,8 @@ use format_json_pieces::place::{Place, first_place};
 use format_json_writer::error::WriteError;
 use std::alloc::Allocator;
 use std::error::Error;
-use std::fmt;
 use std::fmt::{Display, Formatter};
-use std::str;
+use std::{fmt, str};
 use winnow::stream::position_in;
 
 /// A place in a text.

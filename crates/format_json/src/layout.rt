@@ -54,8 +54,7 @@ fn put_gap<B: Allocator>(gap: Gap, into: &mut String<B>) -> Result<(), AllocErro
 }
 
 /// Puts a structural character and white space behind what is there.
-fn put_mark<B: Allocator>(mark: char, gap: Gap, into: &mut String<B>) -> Result<(), AllocError>
-{
+fn put_mark<B: Allocator>(mark: char, gap: Gap, into: &mut String<B>) -> Result<(), AllocError> {
     into.push(mark)?;
     put_gap(gap, into)
 }
@@ -68,8 +67,7 @@ fn lay_spaced<A: Allocator, B: Allocator>(
     value: &Value<A>,
     gap: Gap,
     into: &mut String<B>,
-) -> Result<(), WriteError>
-{
+) -> Result<(), WriteError> {
     lay(level, indent, value, into)?;
     put_gap(gap, into)?;
     Ok(())
@@ -83,8 +81,7 @@ fn lay_items<A: Allocator, B: Allocator>(
     last: Gap,
     items: &[Value<A>],
     into: &mut String<B>,
-) -> Result<(), WriteError>
-{
+) -> Result<(), WriteError> {
     let mut left = items;
     'items: while let Some((first, rest)) = left.split_first() {
         if rest.is_empty() {
@@ -104,8 +101,7 @@ fn lay_array<A: Allocator, B: Allocator>(
     indent: Indent,
     items: &Vec<Value<A>, A>,
     into: &mut String<B>,
-) -> Result<(), WriteError>
-{
+) -> Result<(), WriteError> {
     if level == 0 {
         return Err(WriteError::Level);
     }
@@ -116,7 +112,13 @@ fn lay_array<A: Allocator, B: Allocator>(
         Gap::Line(inner.now)
     };
     put_mark('[', gap, into)?;
-    lay_items(level - 1, inner, Gap::Line(indent.now), items.as_slice(), into)?;
+    lay_items(
+        level - 1,
+        inner,
+        Gap::Line(indent.now),
+        items.as_slice(),
+        into,
+    )?;
     into.push(']')?;
     Ok(())
 }
@@ -129,8 +131,7 @@ fn lay_member<A: Allocator, B: Allocator>(
     member: &(String<A>, Value<A>),
     gap: Gap,
     into: &mut String<B>,
-) -> Result<(), WriteError>
-{
+) -> Result<(), WriteError> {
     let (name, value) = member;
     write_string(name.as_str(), into)?;
     put_mark(':', Gap::Space, into)?;
@@ -145,8 +146,7 @@ fn lay_members<A: Allocator, B: Allocator>(
     last: Gap,
     members: &[(String<A>, Value<A>)],
     into: &mut String<B>,
-) -> Result<(), WriteError>
-{
+) -> Result<(), WriteError> {
     let mut left = members;
     'members: while let Some((first, rest)) = left.split_first() {
         if rest.is_empty() {
@@ -166,8 +166,7 @@ fn lay_object<A: Allocator, B: Allocator>(
     indent: Indent,
     members: &Vec<(String<A>, Value<A>), A>,
     into: &mut String<B>,
-) -> Result<(), WriteError>
-{
+) -> Result<(), WriteError> {
     if level == 0 {
         return Err(WriteError::Level);
     }
@@ -178,7 +177,13 @@ fn lay_object<A: Allocator, B: Allocator>(
         Gap::Line(inner.now)
     };
     put_mark('{', gap, into)?;
-    lay_members(level - 1, inner, Gap::Line(indent.now), members.as_slice(), into)?;
+    lay_members(
+        level - 1,
+        inner,
+        Gap::Line(indent.now),
+        members.as_slice(),
+        into,
+    )?;
     into.push('}')?;
     Ok(())
 }
@@ -190,8 +195,7 @@ pub fn lay<A: Allocator, B: Allocator>(
     indent: Indent,
     value: &Value<A>,
     into: &mut String<B>,
-) -> Result<(), WriteError>
-{
+) -> Result<(), WriteError> {
     match value {
         Value::Array(items) => lay_array(level, indent, items, into),
         Value::Object(members) => lay_object(level, indent, members, into),

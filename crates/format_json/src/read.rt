@@ -54,11 +54,7 @@ fn bytes_want_memory<'i>(fault: &ParseFault<&'i [u8], EmptyError>) -> bool
 /// assert!(rt; matches!(fault, Err(Fault::Unexpected { at, expected: Expected::Value })
 ///     if at.offset == 9 && at.column == 10));
 /// ```
-pub fn from_text<A: Allocator + Copy>(
-    alloc: A,
-    level: usize,
-    text: &str,
-) -> Result<Value<A>, Fault>
+pub fn from_text<A: Allocator + Copy>(alloc: A, level: usize, text: &str) -> Result<Value<A>, Fault>
     ensures value { IfOk result (λ v. JsonText HasCharacters level v (chars text.now)) }
     ensures none { IfErr result (λ fault. (fault ≡ NoMemory)
         ⊎ ((v : Value A) → JsonText HasCharacters level v (chars text.now) → ⊥)) }

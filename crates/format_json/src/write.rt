@@ -66,8 +66,7 @@ pub fn to_text_pretty<A: Allocator, B: Allocator>(
     level: usize,
     indent: usize,
     value: &Value<A>,
-) -> Result<String<B>, WriteFault>
-{
+) -> Result<String<B>, WriteFault> {
     let mut text = String::new(alloc);
     let indent = Indent {
         now: 0,

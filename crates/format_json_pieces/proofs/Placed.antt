@@ -1,5 +1,5 @@
 -- The walk that looks for a place: what it has come to, and the place where it stops.
-use Rattle.std.specs.Prelude.{◌≡◌, ◌↔◌, ◌⊎◌, ◌<◌, ◌≤◌, ◌-◌, ◌++◌, ℕ, suc, List, [], ◌∷◌, Option}
+use Rattle.std.specs.Prelude.{◌≡◌, ◌↔◌, ◌<◌, ◌≤◌, ◌-◌, ◌++◌, ℕ, suc, List, [], ◌∷◌, Option}
 use Rattle.std.specs.Prelude.{length, slice_get}
 use Rattle.std.proofs.Common.{ap, append_assoc, arith, inl, inr, length-append, refl, subst, sym}
 use Rattle.std.proofs.Common.{◌∙◌}
@@ -38,13 +38,13 @@ place_as {level} {bytes} {n} {m} {e} {f} same is x =
 
 -- What a walk has come to: bytes that are passed, what is to come behind them, in these brackets.
 pub record Walked (level : ℕ) (bytes left : List ℕ) (mode : Mode) (items : List Bracket) : Type 0
-    where
-  pub held : List Bracket
-  pub front : List ℕ
-  pub same : items ≡ kept held
-  pub some : 0 < length held
-  pub splits : bytes ≡ front ++ left
-  pub leads : LeadsTo level front mode held
+  where
+    pub held : List Bracket
+    pub front : List ℕ
+    pub same : items ≡ kept held
+    pub some : 0 < length held
+    pub splits : bytes ≡ front ++ left
+    pub leads : LeadsTo level front mode held
 
 module _ {level : ℕ} {bytes left : List ℕ} {mode : Mode} {items : List Bracket}
     (w : Walked level bytes left mode items) where

@@ -125,7 +125,7 @@ module _ (level : ℕ) (rest : List ℕ) where
 
     listed : (k : Bracket) (closing : ℕ) {O A : Type 0} {item : Text ℕ O} → closing < 128
         → ((l : List ℕ) → At level modes.Item (k ∷ held) l
-              → At level modes.After (k ∷ held) (44 ∷ l))
+        → At level modes.After (k ∷ held) (44 ∷ l))
         → ((l : List ℕ) → Behind level held l → Closed k (closing ∷ l))
         → InFront item (Spells rest (At level modes.After (k ∷ held))) (Spells rest (Items k))
         → InFront (Then former (InList {A = A} (Joined (Mark 44) item)) (One closing))
@@ -245,11 +245,11 @@ module _ {A : Type 0} (level : ℕ) where
   text_spells rest =
       then_front latter
       (gap_spells (suc level) rest modes.Value (Whole ∷ [])
-              (value_gap (suc level) rest (Whole ∷ [])))
+      (value_gap (suc level) rest (Whole ∷ [])))
       (widened (λ cs x. x) (λ cs x scalars. here _ (x scalars))
       (then_front former
       (value_spells (suc level) rest HasCharacters level (omega arith)
-              (inner (suc level) rest Whole []))
+      (inner (suc level) rest Whole []))
       (gap_spells (suc level) rest modes.After (Whole ∷ []) (after_gap (suc level) rest [] Whole))))
     where
       here : (l : List ℕ) → Started (suc level) (Whole ∷ []) l

@@ -48,11 +48,7 @@ pub struct Place {
 /// let place = Place { offset: 1, expected: Expected::NoDeeper };
 /// assert!(rt; matches!(found, Ok(found) if found == place));
 /// ```
-pub fn first_place<A: Allocator>(
-    alloc: A,
-    level: usize,
-    bytes: &[u8],
-) -> Result<Place, AllocError>
+pub fn first_place<A: Allocator>(alloc: A, level: usize, bytes: &[u8]) -> Result<Place, AllocError>
     ensures { IfOk result (λ place. IsPlace level bytes.now place.offset place.expected) }
 {
     let mut brackets: Vec<Bracket, A> = Vec::new(alloc);

@@ -1,6 +1,6 @@
 -- What a value is, by its kind, and what stands in it.
 use Rattle.std.specs.Prelude.{◌≡◌, ◌⊎◌, ◌+◌, ℕ, ℤ, List, [], ◌∷◌, ◌++◌, Option, Some, None}
-use Rattle.std.specs.Prelude.{MatchOption, ok_or, slice_get, string_bytes, ⊤}
+use Rattle.std.specs.Prelude.{MatchOption, ok_or, slice_get, string_bytes}
 use Rattle.std.specs.Int.{w64}
 use Rattle.std.specs.List.{All}
 use Rattle.std.specs.Str.Parse.{ParsesSigned, ParsesUnsigned}

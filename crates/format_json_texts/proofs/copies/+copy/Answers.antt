@@ -1,4 +1,4 @@
-use Rattle.std.proofs.Common.{ap, arith, rules, subst, sym, ◌<◌, ◌∙◌, ◌≡◌}
+use Rattle.std.proofs.Common.{ap, arith, rules, subst, sym, ◌<◌, ◌∙◌}
 use Rattle.format_json_texts.proofs.Copied.{content-Object, item_less, items_copied}
 use Rattle.format_json_texts.proofs.Copied.{items_weight, member_less, members_copied}
 use Rattle.format_json_texts.proofs.Copied.{members_weight, weight}
@@ -17,7 +17,7 @@ copy_items-copy-requires g t c =
     let x = c.item-item.result in
     let smaller : weight (content x) < items_weight (items_content c.args.items.now.items) =
     subst (λ ys. weight (content x) < items_weight (items_content ys))
-          c.deref-item-items.ensures.value
+    c.deref-item-items.ensures.value
     (subst (λ y. weight (content y) < items_weight (items_content xs)) (sym c.item-item.is)
     (item_less xs c.loop-item.item-index x (omega arith))) in
     search rules
@@ -34,7 +34,7 @@ copy_members-copy-requires g t c =
     let x = c.member-item.result in
     let smaller : weight (content x.1) < members_weight (members_content c.args.members.now.items) =
     subst (λ ys. weight (content x.1) < members_weight (members_content ys))
-          c.deref-member-items.ensures.value
+    c.deref-member-items.ensures.value
     (subst (λ y. weight (content y.1) < members_weight (members_content xs)) (sym c.member-item.is)
     (member_less xs c.loop-member.member-index x (omega arith))) in
     search rules

@@ -1,7 +1,6 @@
-use Rattle.std.proofs.Common.{None, Option, ap, arith, option_map, subst, sym}
+use Rattle.std.proofs.Common.{None, Option, arith, option_map, subst, sym}
 use Rattle.format_json_texts.proofs.Named.{stepped, stepped_all, stepped_none}
 use Rattle.format_json_texts.specs.Kinds.{IsAlong}
-use Rattle.format_json_texts.specs.declared.value.Value.{Value}
 use Rattle.format_json_texts.proofs.value.Value.along.Goals as goal
 
 pub returns-in_err-target : goal.returns-in_err-target

@@ -1,4 +1,4 @@
-use Rattle.std.proofs.Common.{◌≡◌, Option, drop}
+use Rattle.std.proofs.Common.{Option, drop}
 use Rattle.format_json_texts.specs.Kinds.{IsAlong}
 use Rattle.format_json_texts.specs.declared.value.Value.{Value}
 use Rattle.format_json_texts.proofs.value.Value.along.Given as goal

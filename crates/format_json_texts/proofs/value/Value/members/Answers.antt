@@ -1,4 +1,4 @@
-use Rattle.std.proofs.Common.{inl, inr, refl, rules}
+use Rattle.std.proofs.Common.{inl, rules}
 use Rattle.format_json_texts.proofs.value.Value.members.Goals as goal
 
 pub returns-in-Object : goal.returns-in-Object
