@@ -11,7 +11,7 @@ FORMATS = {
     "dns": ["format_dns"],
     "http": ["format_http"],
     "ini": ["readers"],
-    "json": ["format_json"],
+    "json": ["format_json_values", "format_json_pieces", "format_json_writer"],
     "json_extents": ["uses_json"],
     "resp": ["format_resp"],
     "toml": ["format_toml"],
