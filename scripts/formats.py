@@ -11,7 +11,7 @@ FORMATS = {
     "dns": ["format_dns"],
     "http": ["format_http"],
     "ini": ["readers"],
-    "json": ["format_json_values", "format_json_pieces", "format_json_writer"],
+    "json": ["format_json"],
     "json_extents": ["format_json_extents"],
     "resp": ["format_resp"],
     "toml": ["format_toml", "format_toml_tree"],

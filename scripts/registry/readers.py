@@ -35,6 +35,9 @@ READERS = [
     ("JSON: written", "format_json_writer", "no",
         "the text of a value, exactly where it has one, nested to a level; it reads back"),
     ("JSON: extents", "format_json_extents", "no", "where a value ends, and whether bytes are a text"),
+    ("JSON: by one entry", "format_json", "no",
+        "`Ok` exactly where the text or the bytes are one of this value; else the first place at "
+        "which no text goes on, and what may stand there; the text of a value, over lines too"),
     ("TOML 1.0, a subset", "format_toml", "yes",
         "`Ok` exactly where the text is lines of this document; what the first one lacks that is no "
         "line"),
@@ -59,8 +62,7 @@ BRIEF = [
     ("formulas", ["format_calculator"], "exactly"),
     ("HTTP/1.1 heads, chunk sizes", ["format_http"], "first, in pieces"),
     ("INI", ["readers"], "exactly"),
-    ("JSON", ["format_json_values", "format_json_pieces", "format_json_writer"],
-        "exactly; first, in pieces; written values read back"),
+    ("JSON", ["format_json"], "exactly; first, in pieces; written values read back"),
     ("JSON extents", ["format_json_extents"], "where the first value ends"),
     ("RESP2", ["format_resp"], "first, in pieces"),
     ("TOML 1.0, a subset", ["format_toml", "format_toml_tree"], "exactly"),

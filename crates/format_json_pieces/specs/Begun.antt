@@ -1,6 +1,6 @@
 -- Bytes with which the text of a value may begin: what comes of each, behind those before it.
 use Rattle.std.specs.Prelude.{◌≡◌, ◌⊎◌, ◌==◌, ◌&&◌, ◌||◌, ◌<◌, if◌then◌else◌, ℕ, Bool}
-use Rattle.std.specs.Prelude.{not, List}
+use Rattle.std.specs.Prelude.{not, suc, List}
 use Rattle.std.specs.Prelude.{[], ◌∷◌, Option, Some, None, nat_le, length, ⊤}
 use Rattle.winnow.specs.Cut.{Asks}
 use Rattle.winnow.specs.Kind.{Kind, backtrack, memory}
@@ -8,7 +8,7 @@ use Rattle.format_json_pieces.specs.Inside.{expected, figure_behind, goes_on, is
 use Rattle.format_json_pieces.specs.Inside.{letters_behind}
 use Rattle.format_json_pieces.specs.Inside.{part_behind}
 use Rattle.format_json_pieces.specs.declared.begun.Bracket.{Bracket}
-use Rattle.format_json_pieces.specs.declared.begun.Bracket.TheVariants.{Array, Object}
+use Rattle.format_json_pieces.specs.declared.begun.Bracket.TheVariants.{Array, Object, Whole}
 use Rattle.format_json_pieces.specs.declared.begun.Mode.{Mode}
 use Rattle.format_json_pieces.specs.declared.begun.Mode.TheVariants.{After, Colon, First, Item}
 use Rattle.format_json_pieces.specs.declared.begun.Mode.TheVariants.{Name}
@@ -47,18 +47,18 @@ name_step mode b =
 abbrev pub item_step : Mode → Option Bracket → ℕ → Step
 item_step mode None b = value_step mode b
 item_step mode (Some Array) b = value_step mode b
+item_step mode (Some Whole) b = value_step mode b
 item_step mode (Some Object) b = name_step mode b
 
--- the byte that closes the bracket
-abbrev pub closing : Bracket → ℕ
-closing Array = 93
-closing Object = 125
+-- a comma, or what closes the bracket
+abbrev pub item_ends : Bracket → ℕ → Step
+item_ends Array b = if b == 44 then Goes Item else if b == 93 then Closes else Refused
+item_ends Object b = if b == 44 then Goes Item else if b == 125 then Closes else Refused
+item_ends Whole b = Refused
 
 -- behind an item
 abbrev pub after_step : Bracket → ℕ → Step
-after_step held b =
-    if is_gap b then Goes After else if b == 44 then Goes Item else
-    if b == closing held then Closes else Refused
+after_step held b = if is_gap b then Goes After else item_ends held b
 
 abbrev pub within_text : Inner → Step
 within_text inners.Broken = Refused
@@ -98,8 +98,9 @@ letters_step letters b =
 
 abbrev pub first_step : Option Bracket → ℕ → Step
 first_step None b = value_step First b
-first_step (Some held) b =
-    if b == closing held then Closes else item_step First (Some held) b
+first_step (Some Array) b = if b == 93 then Closes else value_step First b
+first_step (Some Object) b = if b == 125 then Closes else name_step First b
+first_step (Some Whole) b = value_step First b
 
 -- what comes of a byte, where this is to come in the bracket that was opened last
 abbrev pub next_step : Mode → Option Bracket → ℕ → Step
@@ -143,6 +144,11 @@ abbrev pub IsBegun : ℕ → Mode → List Bracket → List ℕ → Type 0
 IsBegun level mode held [] = ⊤
 IsBegun level mode held (b ∷ bytes) =
     IsNextStep (λ m o. IsBegun level m o bytes) level held (next_step mode (last_open held) b)
+
+-- Bytes with which a text of JSON may begin, of the level, or which are one: no byte of them is one
+-- that such a text has not there, with the white space round its value.
+abbrev pub MayBegin : ℕ → List ℕ → Type 0
+MayBegin level bytes = IsBegun (suc level) Value (Whole ∷ []) bytes
 
 -- Why no value is answered of such bytes: memory is wanting, or more is asked for, where they may
 -- go

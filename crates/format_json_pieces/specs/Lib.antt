@@ -8,6 +8,7 @@ pub mod General
 pub mod Inside
 pub mod One
 pub mod Passing
+pub mod Place
 pub mod Read
 pub mod Spelled
 pub mod Stepped

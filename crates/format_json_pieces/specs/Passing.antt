@@ -21,19 +21,19 @@ use Rattle.winnow.specs.Texts.{Begins, InFront, InList, Joined, Text, Then}
 use Rattle.winnow.specs.Texts.Fronts.{among_front, in_list_front, then_front}
 use Rattle.format_json_texts.specs.Values.{ArrayText, HasText, IsArray, IsNumber, IsObject}
 use Rattle.format_json_texts.specs.Values.{IsString, IsWord, Mark, ObjectText, ScalarText}
-use Rattle.format_json_texts.specs.Values.{ValueText}
+use Rattle.format_json_texts.specs.Values.{JsonText, ValueText}
 use Rattle.format_json_texts.specs.Words.{One, for_front, former, latter, pair}
 use Rattle.format_json_texts.specs.declared.value.Value.{Value}
-use Rattle.format_json_pieces.specs.Begun.{IsBegun, IsLacking, IsNextStep, after_step, last_open}
+use Rattle.format_json_pieces.specs.Begun.{IsBegun, IsLacking, IsNextStep, MayBegin, after_step}
+use Rattle.format_json_pieces.specs.Begun.{last_open}
 use Rattle.format_json_pieces.specs.Begun.{next_step}
-use Rattle.format_json_pieces.specs.Begun.{closing}
 use Rattle.format_json_pieces.specs.Begun.{value_step}
 use Rattle.format_json_pieces.specs.Figures.{widened}
 use Rattle.format_json_pieces.specs.Spelled.{Spells, items_front, one_spells}
 use Rattle.format_json_pieces.specs.Strung.{string_spells}
 use Rattle.format_json_pieces.specs.Value.{InUtf8, IsNumeric, IsValueIn}
 use Rattle.format_json_pieces.specs.declared.begun.Bracket.{Bracket}
-use Rattle.format_json_pieces.specs.declared.begun.Bracket.TheVariants.{Array, Object}
+use Rattle.format_json_pieces.specs.declared.begun.Bracket.TheVariants.{Array, Object, Whole}
 use Rattle.format_json_pieces.specs.declared.begun.Mode.{Mode}
 use Rattle.format_json_pieces.specs.declared.begun.Mode.TheVariants as modes
 use Rattle.format_json_pieces.specs.declared.begun.Step.{Step}
@@ -75,6 +75,9 @@ module _ (level : ℕ) (rest : List ℕ) where
     first_gap Array =
         white_by (λ b. next_step modes.First (Some Array) b ≡ steps.Goes modes.First) refl refl
         refl refl
+    first_gap Whole =
+        white_by (λ b. next_step modes.First (Some Whole) b ≡ steps.Goes modes.First) refl refl
+        refl refl
     first_gap Object =
         white_by (λ b. next_step modes.First (Some Object) b ≡ steps.Goes modes.First) refl refl
         refl refl
@@ -83,6 +86,9 @@ module _ (level : ℕ) (rest : List ℕ) where
         → next_step modes.Item (Some k) b ≡ steps.Goes modes.Item
     item_gap Array =
         white_by (λ b. next_step modes.Item (Some Array) b ≡ steps.Goes modes.Item) refl refl refl
+        refl
+    item_gap Whole =
+        white_by (λ b. next_step modes.Item (Some Whole) b ≡ steps.Goes modes.Item) refl refl refl
         refl
     item_gap Object =
         white_by (λ b. next_step modes.Item (Some Object) b ≡ steps.Goes modes.Item) refl refl
@@ -95,10 +101,6 @@ module _ (level : ℕ) (rest : List ℕ) where
     -- the first item, or one behind a comma
     abbrev Items : Bracket → List ℕ → Type 0
     Items k l = At level modes.First (k ∷ held) l × At level modes.Item (k ∷ held) l
-
-    closes : (k : Bracket) (l : List ℕ) → Behind level held l → Closed k (closing k ∷ l)
-    closes Array l x = (x, x)
-    closes Object l x = (x, x)
 
     -- a value is an item of an array
     value_item : (l : List ℕ) → Started level (Array ∷ held) l → Items Array l
@@ -121,17 +123,20 @@ module _ (level : ℕ) (rest : List ℕ) where
     value_here [] x = tt
     value_here (b ∷ l) x = x modes.Value
 
-    listed : (k : Bracket) {O A : Type 0} {item : Text ℕ O} → closing k < 128
+    listed : (k : Bracket) (closing : ℕ) {O A : Type 0} {item : Text ℕ O} → closing < 128
+        → ((l : List ℕ) → At level modes.Item (k ∷ held) l
+        → At level modes.After (k ∷ held) (44 ∷ l))
+        → ((l : List ℕ) → Behind level held l → Closed k (closing ∷ l))
         → InFront item (Spells rest (At level modes.After (k ∷ held))) (Spells rest (Items k))
-        → InFront (Then former (InList {A = A} (Joined (Mark 44) item)) (One (closing k)))
+        → InFront (Then former (InList {A = A} (Joined (Mark 44) item)) (One closing))
         (Spells rest (Behind level held)) (Spells rest (At level modes.First (k ∷ held)))
-    listed k low front =
+    listed k closing low comma closes front =
         then_front former (in_list_front (items_front
         (widened (λ cs x scalars. (x scalars).1) (λ cs x. x)
-        (marked modes.After modes.Item (k ∷ held) 44 (omega arith) (λ l x. x) (item_gap k)))
+        (marked modes.After modes.Item (k ∷ held) 44 (omega arith) comma (item_gap k)))
         front (λ cs x scalars. (x scalars).1) (λ cs x scalars. (x scalars).0)
         (λ cs x scalars. (x scalars).0)))
-        (one_spells rest (Behind level held) (Closed k) (closing k) low (closes k))
+        (one_spells rest (Behind level held) (Closed k) closing low closes)
 
   -- ---- values
 
@@ -155,7 +160,7 @@ module _ (level : ℕ) (rest : List ℕ) where
           then_front latter (then_front pair (one_spells rest (At level modes.First (Array ∷ held))
           (Started level held) 91 (omega arith) (λ l x mode. (few, x)))
           (gap_spells level rest modes.First (Array ∷ held) (first_gap held Array)))
-          (listed held Array (omega arith)
+          (listed held Array 93 (omega arith) (λ l x. x) (λ l x. (x, x))
           (widened (λ cs x. x) (λ cs x scalars. value_item held _ (x scalars))
           (then_front former front
           (gap_spells level rest modes.After (Array ∷ held) (after_gap held Array)))))
@@ -168,7 +173,7 @@ module _ (level : ℕ) (rest : List ℕ) where
           then_front latter (then_front pair (one_spells rest (At level modes.First (Object ∷ held))
           (Started level held) 123 (omega arith) (λ l x mode. (few, x)))
           (gap_spells level rest modes.First (Object ∷ held) (first_gap held Object)))
-          (listed held Object (omega arith)
+          (listed held Object 125 (omega arith) (λ l x. x) (λ l x. (x, x))
           (then_front pair (then_front former
           (string_spells rest (name_goes level rest (Object ∷ held)) holds (Items held Object)
           (λ l x. (x, x)))
@@ -230,6 +235,48 @@ module _ {A : Type 0} (level : ℕ) where
       → NoneStands (IsValueIn {A = A} level) (bytes ++ more)
   none_begun bytes not more v rest x =
       not (begun_front level bytes more modes.Value [] (value_begun (bytes ++ more) v rest x))
+
+-- ---- all of a text
+
+module _ {A : Type 0} (level : ℕ) where
+  text_spells : (rest : List ℕ) → InFront (JsonText {A = A} HasCharacters level)
+      (Spells rest (At (suc level) modes.After (Whole ∷ [])))
+      (Spells rest (At (suc level) modes.Value (Whole ∷ [])))
+  text_spells rest =
+      then_front latter
+      (gap_spells (suc level) rest modes.Value (Whole ∷ [])
+      (value_gap (suc level) rest (Whole ∷ [])))
+      (widened (λ cs x. x) (λ cs x scalars. here _ (x scalars))
+      (then_front former
+      (value_spells (suc level) rest HasCharacters level (omega arith)
+      (inner (suc level) rest Whole []))
+      (gap_spells (suc level) rest modes.After (Whole ∷ []) (after_gap (suc level) rest [] Whole))))
+    where
+      here : (l : List ℕ) → Started (suc level) (Whole ∷ []) l
+          → At (suc level) modes.Value (Whole ∷ []) l
+      here [] x = tt
+      here (b ∷ l) x = x modes.Value
+
+  pub text_may_begin : (bytes : List ℕ) (v : Value A)
+      → InUtf8 (JsonText HasCharacters level) v bytes
+      → MayBegin level bytes
+  unfolding InUtf8
+  text_may_begin bytes v (utf8, written) =
+      let cs = chars bytes in
+      let whole : encode_utf8_all (cs ++ []) ++ [] ≡ bytes =
+      append-nil (encode_utf8_all (cs ++ [])) ∙ ap encode_utf8_all (append-nil cs)
+      ∙ encodes-chars bytes utf8 in
+      let Q : List ℕ → Type 0 = λ l. all_scalars l ≡ true in
+      subst (λ l. MayBegin level l) whole
+      ((text_spells []).makes v cs [] written (λ scalars. tt)
+      (subst Q (sym (append-nil cs)) (scalars-chars bytes utf8)))
+
+  -- where no text may begin so, none begins so
+  pub none_begins_so : (bytes : List ℕ) → (MayBegin level bytes → ⊥) → (v : Value A)
+      (more : List ℕ) → InUtf8 (JsonText HasCharacters level) v (bytes ++ more) → ⊥
+  none_begins_so bytes not v more text =
+      not (begun_front (suc level) bytes more modes.Value (Whole ∷ [])
+      (text_may_begin (bytes ++ more) v text))
 
 -- ---- white space before a value
 

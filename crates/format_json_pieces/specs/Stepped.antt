@@ -24,7 +24,7 @@ use Rattle.format_json_pieces.specs.Spelled.{run_spells}
 use Rattle.format_json_pieces.specs.Strung.{Goes}
 use Rattle.format_json_pieces.specs.Value.{IsNumeric}
 use Rattle.format_json_pieces.specs.declared.begun.Bracket.{Bracket}
-use Rattle.format_json_pieces.specs.declared.begun.Bracket.TheVariants.{Array, Object}
+use Rattle.format_json_pieces.specs.declared.begun.Bracket.TheVariants.{Array, Object, Whole}
 use Rattle.format_json_pieces.specs.declared.begun.Mode.{Mode}
 use Rattle.format_json_pieces.specs.declared.begun.Mode.TheVariants as modes
 use Rattle.format_json_pieces.specs.declared.begun.Step.{Step}
@@ -60,6 +60,7 @@ final_stops figures.Power b e not = grind (arith, nat_tests, not)
 after_refuses : (k : Bracket) (b : ℕ) → goes_on b ≡ true → after_step k b ≡ steps.Refused
 after_refuses Array b goes = grind (arith, nat_tests, goes)
 after_refuses Object b goes = grind (arith, nat_tests, goes)
+after_refuses Whole b goes = grind (arith, nat_tests, goes)
 
 module _ (level : ℕ) where
   abbrev pub At : Mode → List Bracket → List ℕ → Type 0

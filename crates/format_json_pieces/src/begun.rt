@@ -23,6 +23,8 @@ pub enum Bracket {
     Array,
     /// That of an object.
     Object,
+    /// None: all of the text round its value, which nothing closes.
+    Whole,
 }
 
 /// What is to come.
@@ -131,10 +133,9 @@ fn after_step(held: Bracket, byte: u8) -> Step
     if is_gap(byte) {
         return Step::Goes(Mode::After);
     }
-    if byte == b',' {
-        return Step::Goes(Mode::Item);
-    }
     match held {
+        Bracket::Whole => Step::Refused,
+        _ if byte == b',' => Step::Goes(Mode::Item),
         Bracket::Array if byte == b']' => Step::Closes,
         Bracket::Object if byte == b'}' => Step::Closes,
         _ => Step::Refused,
@@ -193,7 +194,7 @@ fn letters_step(letters: Letters, byte: u8) -> Step
 }
 
 /// What comes of a byte, where this is to come in the bracket that was opened last.
-fn next_step(mode: Mode, held: Option<Bracket>, byte: u8) -> Step
+pub fn next_step(mode: Mode, held: Option<Bracket>, byte: u8) -> Step
     ensures { result ≡ next_step mode held byte }
 {
     match mode {

@@ -17,6 +17,8 @@
 #![tactic(auto)]
 
 mod begun;
+pub mod expected;
 mod extent;
 mod inside;
+pub mod place;
 pub mod value;

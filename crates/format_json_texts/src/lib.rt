@@ -7,7 +7,13 @@
 //!
 //! Where this differs from the standard: what has a surrogate alone, as an escape, is no string,
 //! since no character is meant by it, though the grammar of the standard has it (section 8.2).
+//!
+//! A [`Value`](value::Value) is what such a text means. It is looked into by its kind, by the names
+//! of members and the places of elements, and along [paths](path).
 #![tactic(auto)]
 
+mod copies;
+mod kinds;
 pub mod laws;
+pub mod path;
 pub mod value;

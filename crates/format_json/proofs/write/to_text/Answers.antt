@@ -1,0 +1,6 @@
+use Rattle.format_json.proofs.Told.{unwritten_memory}
+use Rattle.format_json.proofs.write.to_text.Goals as goal
+
+pub returns-in-Err-clause-none : goal.returns-in-Err-clause-none
+returns-in-Err-clause-none g c =
+    unwritten_memory c.in-Err.error c.of.result c.of.ensures c.in-Err.ensures.none

@@ -1,0 +1,49 @@
+-- What a fault tells of a text.
+use Rattle.std.specs.Prelude.{◌≡◌, ◌<◌, ◌≤◌, ℕ, List, Option, Some, None, length, take, ⊤}
+use Rattle.std.specs.Str.{IsCharBoundary, IsUtf8, chars}
+use Rattle.std.specs.Str.Lossy.{utf8_valid_len}
+use Rattle.format_json.specs.declared.fault.Fault.{Fault}
+use Rattle.format_json.specs.declared.fault.Fault.TheVariants as faults
+use Rattle.format_json.specs.declared.fault.Location.{Location}
+use Rattle.format_json.specs.declared.fault.WriteFault.{WriteFault}
+use Rattle.format_json.specs.declared.fault.WriteFault.TheVariants as unwritten
+use Rattle.format_json_pieces.specs.Begun.{MayBegin}
+use Rattle.format_json_pieces.specs.Place.{IsPlace}
+use Rattle.format_json_pieces.specs.declared.expected.Expected.TheVariants.{NoDeeper}
+use Rattle.format_json_writer.specs.declared.error.WriteError.{WriteError}
+use Rattle.format_json_writer.specs.declared.error.WriteError.TheVariants as errors
+use Rattle.winnow.specs.Position.{IsPosition}
+
+-- The place is this byte, with the line and the column behind the text before it.
+abbrev pub IsLocation : List ℕ → ℕ → Location → Type 0
+IsLocation bytes offset at =
+    (at.offset ≡ offset) × (IsUtf8 bytes → IsCharBoundary bytes offset
+    → IsPosition (chars (take offset bytes)) at.line at.column)
+
+-- A place that is told with its line and column.
+abbrev pub IsLocated : List ℕ → Location → Type 0
+IsLocated bytes at = IsLocation bytes at.offset at
+
+abbrev pub Tells : ℕ → List ℕ → Fault → Type 0
+Tells level bytes (faults.Unexpected at expected) =
+    IsPlace level bytes at.offset expected × (at.offset < length bytes) × IsLocated bytes at
+Tells level bytes (faults.End at expected) =
+    IsPlace level bytes at.offset expected × (length bytes ≤ at.offset) × IsLocated bytes at
+Tells level bytes (faults.TooDeep at) =
+    IsPlace level bytes at.offset NoDeeper × IsLocated bytes at
+Tells level bytes (faults.NotUtf8 at) =
+    (IsUtf8 bytes → ⊥) × (at.offset ≡ utf8_valid_len bytes)
+    × MayBegin level (take at.offset bytes) × IsLocated bytes at
+Tells level bytes faults.NoMemory = ⊤
+
+abbrev pub location_of : Fault → Option Location
+location_of (faults.Unexpected at expected) = Some at
+location_of (faults.End at expected) = Some at
+location_of (faults.TooDeep at) = Some at
+location_of (faults.NotUtf8 at) = Some at
+location_of faults.NoMemory = None
+
+abbrev pub write_fault : WriteError → WriteFault
+write_fault errors.Number = unwritten.NotANumber
+write_fault errors.Level = unwritten.TooDeep
+write_fault errors.Memory = unwritten.NoMemory

@@ -1,0 +1,215 @@
+//! Why a text is no JSON, and where; and why a value is not written.
+ghost use Rattle.format_json.specs.Fault.{IsLocation, Tells, location_of, write_fault};
+ghost use Rattle.format_json_pieces.specs.Place.{IsPlace};
+ghost use Rattle.std.specs.Prelude.{◌≡◌, ℕ};
+
+use format_json_pieces::expected::Expected;
+use format_json_pieces::place::{Place, first_place};
+use format_json_writer::error::WriteError;
+use std::alloc::Allocator;
+use std::error::Error;
+use std::fmt::{Display, Formatter};
+use std::{fmt, str};
+use winnow::stream::position_in;
+
+/// A place in a text.
+///
+/// ```
+/// use format_json::{Fault, from_text};
+///
+/// if let Err(Fault::Unexpected { at, .. }) = from_text(alloc, 1, "[1,\n 2 3]") {
+///     assert_eq!(rt; (at.offset, at.line, at.column), (7, 2, 4));
+/// }
+/// ```
+#[derive(Clone, Copy, Debug, PartialEq, Eq, Drop)]
+pub struct Location {
+    /// How many bytes stand before it.
+    pub offset: usize,
+    /// The line, counted from 1. Lines end with a line feed.
+    pub line: usize,
+    /// The column, counted from 1, in characters.
+    pub column: usize,
+}
+
+impl Display for Location {
+    fn fmt<W: fmt::Write>(&self, f: &mut Formatter<W>) -> fmt::Result {
+        write!(f, "line {}, column {}", self.line, self.column)
+    }
+}
+
+/// Why a text is no JSON, and where.
+///
+/// ```
+/// use format_json::from_text;
+///
+/// let Err(fault) = from_text(alloc, 1, "{\"a\" 1}") else {
+///     return;
+/// };
+/// let said = format!(in alloc; "{fault}");
+/// let wanted = "line 1, column 6: expected a colon";
+/// assert!(rt; matches!(said, Ok(said) if said.as_str() == wanted));
+/// ```
+#[derive(Clone, Copy, Debug, PartialEq, Eq, Drop)]
+pub enum Fault {
+    /// What stands at the place may not stand there, whatever comes after it.
+    Unexpected {
+        /// The first such place.
+        at: Location,
+        /// What may stand there.
+        expected: Expected,
+    },
+    /// The text ends where it may go on to JSON, and is none yet.
+    End {
+        /// The end of the text.
+        at: Location,
+        /// What may stand there.
+        expected: Expected,
+    },
+    /// More arrays and objects stand in one another than the level lets.
+    TooDeep {
+        /// The bracket or brace that is one too many.
+        at: Location,
+    },
+    /// The bytes are no UTF-8.
+    NotUtf8 {
+        /// The end of the longest front that is UTF-8.
+        at: Location,
+    },
+    /// A request for memory was refused.
+    NoMemory,
+}
+
+impl Fault {
+    /// Where the text is no JSON; none where a request for memory was refused.
+    ///
+    /// ```
+    /// use format_json::from_text;
+    ///
+    /// if let Err(fault) = from_text(alloc, 1, "[1 2]") {
+    ///     assert!(rt; matches!(fault.location(), Some(at) if at.offset == 3));
+    /// }
+    /// ```
+    pub fn location(&self) -> Option<Location>
+        ensures { result ≡ location_of self.now }
+    {
+        match *self {
+            Fault::Unexpected { at, .. }
+            | Fault::End { at, .. }
+            | Fault::TooDeep { at }
+            | Fault::NotUtf8 { at } => Some(at),
+            Fault::NoMemory => None,
+        }
+    }
+}
+
+impl Display for Fault {
+    fn fmt<W: fmt::Write>(&self, f: &mut Formatter<W>) -> fmt::Result {
+        match *self {
+            Fault::Unexpected { at, expected } => write!(f, "{at}: expected {expected}"),
+            Fault::End { at, expected } => {
+                write!(f, "{at}: unexpected end, expected {expected}")
+            }
+            Fault::TooDeep { at } => write!(f, "{at}: nested too deep"),
+            Fault::NotUtf8 { at } => write!(f, "{at}: no UTF-8"),
+            Fault::NoMemory => f.write_str("out of memory"),
+        }
+    }
+}
+
+impl Error for Fault {}
+
+/// Why a value is not written.
+///
+/// ```
+/// use format_json::{Value, WriteFault, to_text};
+/// use std::alloc::Global;
+///
+/// let value: Value<Global> = Value::Number(String::from_str(alloc, "01").unwrap());
+/// assert!(rt; matches!(to_text(alloc, 0, &value), Err(WriteFault::NotANumber)));
+/// ```
+#[derive(Clone, Copy, Debug, PartialEq, Eq, Drop)]
+pub enum WriteFault {
+    /// A number in the value has a text that is no number of RFC 8259 (section 6).
+    NotANumber,
+    /// More arrays and objects stand in one another than the level lets.
+    TooDeep,
+    /// A request for memory was refused.
+    NoMemory,
+}
+
+impl WriteFault {
+    /// The same as another crate says it.
+    pub(crate) fn of(error: WriteError) -> WriteFault
+        ensures { result ≡ write_fault error }
+    {
+        match error {
+            WriteError::Number => WriteFault::NotANumber,
+            WriteError::Level => WriteFault::TooDeep,
+            WriteError::Memory => WriteFault::NoMemory,
+        }
+    }
+}
+
+impl Display for WriteFault {
+    fn fmt<W: fmt::Write>(&self, f: &mut Formatter<W>) -> fmt::Result {
+        f.write_str(match *self {
+            WriteFault::NotANumber => "a number in the value is none of JSON",
+            WriteFault::TooDeep => "nested too deep",
+            WriteFault::NoMemory => "out of memory",
+        })
+    }
+}
+
+impl Error for WriteFault {}
+
+/// A place, with its line and its column.
+fn located(bytes: &[u8], offset: usize) -> Location
+    ensures { IsLocation bytes.now offset result }
+{
+    let position = position_in(bytes, offset);
+    Location {
+        offset,
+        line: position.line,
+        column: position.column,
+    }
+}
+
+/// The fault at a place of a text.
+fn fault_at(text: &[u8], place: Place) -> Fault
+    ensures { (level : ℕ) → IsPlace level text.now place.offset place.expected
+        → Tells level text.now result }
+{
+    let at = located(text, place.offset);
+    match place.expected {
+        Expected::NoDeeper => Fault::TooDeep { at },
+        expected if place.offset < text.len() => Fault::Unexpected { at, expected },
+        expected => Fault::End { at, expected },
+    }
+}
+
+/// The fault of a text that is no JSON.
+pub(crate) fn fault_of_text<A: Allocator>(alloc: A, level: usize, text: &[u8]) -> Fault
+    ensures { Tells level text.now result }
+{
+    match first_place(alloc, level, text) {
+        Ok(place) => fault_at(text, place),
+        Err(_) => Fault::NoMemory,
+    }
+}
+
+/// The fault of bytes that are no JSON: where they are no UTF-8, and no other place is before that.
+pub(crate) fn fault_of_bytes<A: Allocator>(alloc: A, level: usize, bytes: &[u8]) -> Fault
+    ensures { Tells level bytes.now result }
+{
+    let valid = match str::from_utf8(bytes) {
+        Ok(_) => return fault_of_text(alloc, level, bytes),
+        Err(error) => error.valid_up_to(),
+    };
+    match first_place(alloc, level, bytes) {
+        Ok(place) if place.offset < valid => fault_at(bytes, place),
+        Ok(_) => Fault::NotUtf8 {
+            at: located(bytes, valid),
+        },
+        Err(_) => Fault::NoMemory,
+    }
+}
