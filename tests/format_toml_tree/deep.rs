@@ -14,28 +14,28 @@ fn key_of(alloc: Global, depth: usize, last: usize) -> Result<Key<Global>, Wrong
     Ok(Key { names })
 }
 
-/// A hundred thousand keys.
+/// Twenty thousand keys.
 fn many_keys(alloc: Global) -> Result<Vec<Option<Item<Global>>>, Wrong> {
     let mut lines = Vec::new(alloc);
-    for k in 0..100_000usize {
+    for k in 0..20_000usize {
         lines.push(Some(Item::Entry(key_of(alloc, 1, k)?, Value::Integer(1))))?;
     }
     Ok(lines)
 }
 
-/// A hundred thousand headers with dots.
+/// Twenty thousand headers with dots.
 fn many_headers(alloc: Global) -> Result<Vec<Option<Item<Global>>>, Wrong> {
     let mut lines = Vec::new(alloc);
-    for k in 0..100_000usize {
+    for k in 0..20_000usize {
         lines.push(Some(Item::Table(key_of(alloc, 4, k)?)))?;
     }
     Ok(lines)
 }
 
-/// A header of a hundred thousand names.
+/// A header of twenty thousand names.
 fn deep_header(alloc: Global) -> Result<Vec<Option<Item<Global>>>, Wrong> {
     let mut lines = Vec::new(alloc);
-    lines.push(Some(Item::Table(key_of(alloc, 100_000, 0)?)))?;
+    lines.push(Some(Item::Table(key_of(alloc, 20_000, 0)?)))?;
     Ok(lines)
 }
 
@@ -44,8 +44,8 @@ fn build_takes_many_keys(rt: HostRuntime) {
     match many_keys(rt.alloc()) {
         Ok(lines) => match build(rt.alloc(), lines.as_slice()) {
             Ok(tree) => {
-                assert_eq!(rt; tree.root().len(), 100_000);
-                assert!(rt; tree.root().get("99999").is_some_and(|n| n.as_i64() == Some(1)));
+                assert_eq!(rt; tree.root().len(), 20_000);
+                assert!(rt; tree.root().get("19999").is_some_and(|n| n.as_i64() == Some(1)));
             }
             Err(_) => assert!(rt; false),
         },
@@ -59,7 +59,7 @@ fn build_takes_many_headers(rt: HostRuntime) {
         Ok(lines) => match build(rt.alloc(), lines.as_slice()) {
             Ok(tree) => {
                 let node = tree.root().get_path(&["a", "a", "a"]);
-                assert_eq!(rt; node.map(|n| n.len()), Some(100_000));
+                assert_eq!(rt; node.map(|n| n.len()), Some(20_000));
             }
             Err(_) => assert!(rt; false),
         },
@@ -73,7 +73,7 @@ fn build_takes_deep_headers(rt: HostRuntime) {
         Ok(lines) => match build(rt.alloc(), lines.as_slice()) {
             Ok(tree) => {
                 let mut node = tree.root();
-                for _ in 1..100_000usize {
+                for _ in 1..20_000usize {
                     match node.get("a") {
                         Some(below) => node = below,
                         None => assert!(rt; false),
