@@ -9,7 +9,7 @@ ghost use Rattle.examples.specs.Pieces.Pieces.{SameSettings};
 ghost use Rattle.winnow.specs.ForGood.{IsForGood};
 
 use winnow::Parser;
-use winnow::ascii::impls::{Alpha1, DecInt, Digit1};
+use winnow::ascii::impls::{Alpha1, Digit1};
 use winnow::decided::parse_for_good;
 use winnow::error::{EmptyError, ErrMode, HasKind, ParserError};
 use winnow::stream::{Partial, Stream};
@@ -45,24 +45,4 @@ pub fn read_setting<'i>(
 {
     let mut setting = (Alpha1, b'=', Digit1);
     parse_for_good(&mut setting, input)
-}
-
-/// A whole number with its sign, at the beginning of a cut input of bytes.
-///
-/// ```
-/// use examples::pieces::read_offset;
-/// use winnow::stream::Partial;
-///
-/// assert_eq!(rt; read_offset(&mut Partial::new(b"-12;".as_slice())), Ok(-12));
-/// assert!(rt; read_offset(&mut Partial::new(b"-12".as_slice())).is_err());
-/// ```
-pub fn read_offset<'i>(input: &mut Partial<&'i [u8]>) -> Result<i32, ErrMode<EmptyError>>
-    requires is_cut { (⟦<Bytes as Stream>⟧.view input.old).status.cut ≡ true }
-    ensures for_good { IsForGood ⟦<Bytes as Stream>⟧.following tt
-        (⟦<DecInt as Parser<Bytes, i32, Error>>⟧.meaning modal) (λ m n. m ≡ n)
-        (⟦<Bytes as Stream>⟧.view input.old) (answer_by ⟦<Error as HasKind>⟧.kind result)
-        (⟦<Bytes as Stream>⟧.view input.new) }
-{
-    let mut offset = DecInt;
-    parse_for_good(&mut offset, input)
 }
