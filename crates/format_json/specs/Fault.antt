@@ -1,5 +1,5 @@
 -- What a fault tells of a text.
-use Rattle.std.specs.Prelude.{◌≡◌, ◌<◌, ◌≤◌, ℕ, List, Option, Some, None, length, take, ⊤}
+use Rattle.std.specs.Prelude.{◌≡◌, ◌⊎◌, ◌<◌, ◌≤◌, ℕ, List, Option, Some, None, length, take, ⊤}
 use Rattle.std.specs.Str.{IsCharBoundary, IsUtf8, chars}
 use Rattle.std.specs.Str.Lossy.{utf8_valid_len}
 use Rattle.format_json.specs.declared.fault.Fault.{Fault}
@@ -24,13 +24,20 @@ IsLocation bytes offset at =
 abbrev pub IsLocated : List ℕ → Location → Type 0
 IsLocated bytes at = IsLocation bytes at.offset at
 
+-- The bytes are UTF-8, or the place stands before the first that is none of it.
+abbrev pub IsReadable : List ℕ → ℕ → Type 0
+IsReadable bytes offset = IsUtf8 bytes ⊎ (offset < utf8_valid_len bytes)
+
+-- What a fault tells of the bytes.
 abbrev pub Tells : ℕ → List ℕ → Fault → Type 0
 Tells level bytes (faults.Unexpected at expected) =
-    IsPlace level bytes at.offset expected × (at.offset < length bytes) × IsLocated bytes at
+    IsPlace level bytes at.offset expected × (at.offset < length bytes)
+    × IsReadable bytes at.offset × IsLocated bytes at
 Tells level bytes (faults.End at expected) =
-    IsPlace level bytes at.offset expected × (length bytes ≤ at.offset) × IsLocated bytes at
+    IsPlace level bytes at.offset expected × (length bytes ≤ at.offset)
+    × IsReadable bytes at.offset × IsLocated bytes at
 Tells level bytes (faults.TooDeep at) =
-    IsPlace level bytes at.offset NoDeeper × IsLocated bytes at
+    IsPlace level bytes at.offset NoDeeper × IsReadable bytes at.offset × IsLocated bytes at
 Tells level bytes (faults.NotUtf8 at) =
     (IsUtf8 bytes → ⊥) × (at.offset ≡ utf8_valid_len bytes)
     × MayBegin level (take at.offset bytes) × IsLocated bytes at

@@ -1,7 +1,8 @@
 //! Why a text is no JSON, and where; and why a value is not written.
-ghost use Rattle.format_json.specs.Fault.{IsLocation, Tells, location_of, write_fault};
+ghost use Rattle.format_json.specs.Fault.{IsLocation, IsReadable, Tells, location_of, write_fault};
 ghost use Rattle.format_json_pieces.specs.Place.{IsPlace};
 ghost use Rattle.std.specs.Prelude.{◌≡◌, ℕ};
+ghost use Rattle.std.specs.Str.{IsUtf8};
 
 use format_json_pieces::expected::Expected;
 use format_json_pieces::place::{Place, first_place};
@@ -177,7 +178,7 @@ fn located(bytes: &[u8], offset: usize) -> Location
 /// The fault at a place of a text.
 fn fault_at(text: &[u8], place: Place) -> Fault
     ensures { (level : ℕ) → IsPlace level text.now place.offset place.expected
-        → Tells level text.now result }
+        → IsReadable text.now place.offset → Tells level text.now result }
 {
     let at = located(text, place.offset);
     match place.expected {
@@ -189,6 +190,7 @@ fn fault_at(text: &[u8], place: Place) -> Fault
 
 /// The fault of a text that is no JSON.
 pub(crate) fn fault_of_text<A: Allocator>(alloc: A, level: usize, text: &[u8]) -> Fault
+    requires { IsUtf8 text.now }
     ensures { Tells level text.now result }
 {
     match first_place(alloc, level, text) {

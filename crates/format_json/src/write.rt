@@ -1,8 +1,10 @@
 //! Values as text.
+ghost use Rattle.format_json.specs.Fault.{write_fault};
 ghost use Rattle.format_json.specs.declared.fault.WriteFault.TheVariants.{NoMemory};
 ghost use Rattle.format_json_texts.specs.Values.{ValueText};
 ghost use Rattle.format_json_writer.specs.Compact.{CompactValue};
-ghost use Rattle.format_json_writer.specs.Refused.{HasNoText};
+ghost use Rattle.format_json_writer.specs.Refused.{HasNoText, IsRefused};
+ghost use Rattle.format_json_writer.specs.declared.error.WriteError.{WriteError};
 ghost use Rattle.std.specs.Prelude.{◌≡◌, ◌⊎◌, IfErr, IfOk, string_bytes};
 ghost use Rattle.std.specs.Str.{chars};
 ghost use Rattle.winnow.specs.Accumulator.Holds.{HasCharacters};
@@ -39,6 +41,8 @@ pub fn to_text<A: Allocator, B: Allocator>(
     ensures text { IfOk result (λ text. ValueText HasCharacters level value.now
         (chars (string_bytes text))) }
     ensures none { IfErr result (λ e. (e ≡ NoMemory) ⊎ HasNoText level value.now) }
+    ensures refused { IfErr result (λ e. (w : WriteError) × (e ≡ write_fault w)
+        × IsRefused level value.now w) }
 {
     match writer::to_text(alloc, level, value) {
         Ok(text) => Ok(text),

@@ -68,7 +68,7 @@ module _ {level : ℕ} {bytes left : List ℕ} {mode : Mode} {items : List Brack
         omega (arith, ap (λ l. length l) whole, length-append w.front []),
         begins,
         tt,
-        inl (mode, w.held, w.leads, inl is),
+        inl (mode, w.held, w.leads, is),
       )
 
   module _ {b : ℕ} {more : List ℕ} (first : left ≡ b ∷ more) where
@@ -88,7 +88,7 @@ module _ {level : ℕ} {bytes left : List ℕ} {mode : Mode} {items : List Brack
         w.splits ∙ ap (λ l. w.front ++ l) first ∙ sym (append_assoc w.front (b ∷ []) more)
 
     placed : (expected : Expected) (n : ℕ) → n ≡ length bytes - length left
-        → (MayBegin level (w.front ++ b ∷ []) → ⊥) → IsWanted level w.front expected
+        → (MayBegin level (w.front ++ b ∷ []) → ⊥) → IsWanted level w.front (b ∷ more) expected
         → IsPlace level bytes n expected
     placed expected n is never asks = (
       w.front,
@@ -108,7 +108,7 @@ module _ {level : ℕ} {bytes left : List ℕ} {mode : Mode} {items : List Brack
         placed expected n is
         (λ x. (led steps.Refused refused []).1
         (subst (λ l. MayBegin level l) (sym (append-nil (w.front ++ b ∷ []))) x))
-        (mode, w.held, w.leads, inl wants)
+        (mode, w.held, w.leads, inl (sym refused, wants))
 
     -- it opens a bracket too many
     pub at_deep : (k : Bracket) (n : ℕ) → n ≡ length bytes - length left
@@ -124,25 +124,29 @@ module _ {level : ℕ} {bytes left : List ℕ} {mode : Mode} {items : List Brack
           ((led (steps.Opens k) opens []).1
               (subst (λ l. MayBegin level l) (sym (append-nil (w.front ++ b ∷ []))) x)).0,
         )))
-        (mode, w.held, w.leads, inr (refl, full))
+        (mode, w.held, w.leads, inr (k, sym opens, full, refl))
 
     -- nothing more is asked
     ended : (s : Step) → s ≡ next_step mode (last_open w.held) b
-        → IsNextStep (λ m o. IsBegun (suc level) m o more) (suc level) w.held s
+        → ((l : List ℕ) → IsNextStep (λ m o. IsBegun (suc level) m o l) (suc level) w.held s)
         → IsPlace level bytes (length bytes) what.End
-    ended s is x = (
-      bytes,
-      [],
-      sym (append-nil bytes),
-      refl,
-      subst (λ l. MayBegin level l) (sym passed) ((led s is more).0 x),
-      tt,
-      inr (refl, refl),
-    )
+    ended s is x =
+        let on : (l : List ℕ) → MayBegin level (bytes ++ l) =
+        λ l. subst (λ y. MayBegin level y)
+        (sym (append_assoc (w.front ++ b ∷ []) more l) ∙ ap (λ y. y ++ l) (sym passed))
+        ((led s is (more ++ l)).0 (x (more ++ l))) in (
+          bytes,
+          [],
+          sym (append-nil bytes),
+          refl,
+          subst (λ y. MayBegin level y) (append-nil bytes) (on []),
+          tt,
+          inr (refl, refl, on),
+        )
 
     pub at_ended : steps.Ended ≡ next_step mode (last_open w.held) b
         → IsPlace level bytes (length bytes) what.End
-    at_ended is = ended steps.Ended is tt
+    at_ended is = ended steps.Ended is (λ l. tt)
 
     pub at_closed : steps.Closes ≡ next_step mode (last_open w.held) b → (new : List Bracket)
         → new ≡ kept (others_open w.held) → length new ≡ 0
@@ -152,10 +156,10 @@ module _ {level : ℕ} {bytes left : List ℕ} {mode : Mode} {items : List Brack
         (by (others_open w.held)
         (sym (kept_length (others_open w.held)) ∙ sym (ap (λ l. length l) same) ∙ none))
       where
-        by : (held : List Bracket) → length held ≡ 0
-            → IsBehind (λ m o. IsBegun (suc level) m o more) held
-        by [] e = tt
-        by (k ∷ held) e = absurd (omega (arith, e))
+        by : (held : List Bracket) → length held ≡ 0 → (l : List ℕ)
+            → IsBehind (λ m o. IsBegun (suc level) m o l) held
+        by [] e l = tt
+        by (k ∷ held) e l = absurd (omega (arith, e))
 
     -- it goes on
     pub on_goes : (m : Mode) → steps.Goes m ≡ next_step mode (last_open w.held) b

@@ -1,7 +1,7 @@
 -- Where bytes can no longer begin a text of JSON, and what may stand there.
 use Rattle.std.specs.Prelude.{◌≡◌, ◌⊎◌, ◌↔◌, ◌<◌, ℕ, suc, List, [], ◌∷◌, ◌++◌, Option, Some, None}
 use Rattle.std.specs.Prelude.{length, ⊤}
-use Rattle.format_json_pieces.specs.Begun.{IsBegun, MayBegin, last_open}
+use Rattle.format_json_pieces.specs.Begun.{IsBegun, MayBegin, last_open, next_step}
 use Rattle.format_json_pieces.specs.Inside.{expected}
 use Rattle.format_json_pieces.specs.declared.begun.Bracket.{Bracket}
 use Rattle.format_json_pieces.specs.declared.begun.Bracket.TheVariants.{Array, Object, Whole}
@@ -9,6 +9,7 @@ use Rattle.format_json_pieces.specs.declared.begun.Mode.{Mode}
 use Rattle.format_json_pieces.specs.declared.begun.Mode.TheVariants.{After, Colon, First, Item}
 use Rattle.format_json_pieces.specs.declared.begun.Mode.TheVariants.{Name}
 use Rattle.format_json_pieces.specs.declared.begun.Mode.TheVariants.{Number, Text, Value, Word}
+use Rattle.format_json_pieces.specs.declared.begun.Step.TheVariants.{Opens, Refused}
 use Rattle.format_json_pieces.specs.declared.expected.Expected.{Expected}
 use Rattle.format_json_pieces.specs.declared.expected.Expected.TheVariants as what
 use Rattle.format_json_pieces.specs.declared.inside.Figure.{Figure}
@@ -79,18 +80,27 @@ abbrev pub LeadsTo : ℕ → List ℕ → Mode → List Bracket → Type 0
 LeadsTo level front mode held =
     (more : List ℕ) → IsBegun (suc level) mode held more ↔ MayBegin level (front ++ more)
 
--- What is expected behind the bytes: all that may stand there is of this name; or a bracket is to
--- be
--- opened there, where as many are open as the level lets.
-abbrev pub IsWanted : ℕ → List ℕ → Expected → Type 0
-IsWanted level front expected =
-    (mode : Mode) × (held : List Bracket) × LeadsTo level front mode held
-    × ((expected ≡ wanted mode (last_open held))
-    ⊎ ((expected ≡ what.NoDeeper) × (level < length held)))
+-- Where this is to come in these brackets, what is expected at the end of the bytes, or where the next
+-- one is refused, is by its name what may stand there; where the next one opens a bracket, and as
+-- many are open as the level lets, it is none.
+abbrev pub IsNamed : ℕ → Mode → List Bracket → List ℕ → Expected → Type 0
+IsNamed level mode held [] expected = expected ≡ wanted mode (last_open held)
+IsNamed level mode held (b ∷ rest) expected =
+    ((next_step mode (last_open held) b ≡ Refused) × (expected ≡ wanted mode (last_open held)))
+    ⊎ ((k : Bracket) × (next_step mode (last_open held) b ≡ Opens k) × (level < length held)
+    × (expected ≡ what.NoDeeper))
 
--- A place in bytes, and what is expected there.
+-- What is expected after the bytes, where the others are left.
+abbrev pub IsWanted : ℕ → List ℕ → List ℕ → Expected → Type 0
+IsWanted level front rest expected =
+    (mode : Mode) × (held : List Bracket) × LeadsTo level front mode held
+    × IsNamed level mode held rest expected
+
+-- A place in bytes, and what is expected there. The end is expected without such a name only where
+-- whatever comes after it may.
 abbrev pub IsPlace : ℕ → List ℕ → ℕ → Expected → Type 0
 IsPlace level bytes offset expected =
     (front : List ℕ) × (rest : List ℕ) × (bytes ≡ front ++ rest) × (length front ≡ offset)
     × MayBegin level front × IsStopped level front rest
-    × (IsWanted level front expected ⊎ ((expected ≡ what.End) × (rest ≡ [])))
+    × (IsWanted level front rest expected
+    ⊎ ((expected ≡ what.End) × (rest ≡ []) × ((more : List ℕ) → MayBegin level (front ++ more))))

@@ -1,9 +1,10 @@
-use Rattle.std.proofs.Common.{arith, rules}
+use Rattle.std.proofs.Common.{arith, inr, rules}
 use Rattle.format_json.proofs.Told.{told_utf8}
 use Rattle.format_json.proofs.fault.fault_of_bytes.Goals as goal
 
 pub returns-in-Ok-first_place : goal.returns-in-Ok-first_place
-returns-in-Ok-first_place g c = c.fault_at.ensures c.args.level c.in-Ok-first_place.ensures
+returns-in-Ok-first_place g c =
+    c.fault_at.ensures c.args.level c.in-Ok-first_place.ensures (inr (search rules))
 
 pub returns-in-Ok-2 : goal.returns-in-Ok-2
 returns-in-Ok-2 g c =
