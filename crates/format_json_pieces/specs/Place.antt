@@ -81,8 +81,8 @@ LeadsTo level front mode held =
     (more : List ℕ) → IsBegun (suc level) mode held more ↔ MayBegin level (front ++ more)
 
 -- Where this is to come in these brackets: at the end of the bytes, or where the next one is
--- refused, what is expected is by its name what may stand there; where the next one opens a bracket,
--- and as many are open as the level lets, it is that none is opened.
+-- refused, what is expected is by its name what may stand there; where the next one opens a
+-- bracket, and as many are open as the level lets, it is that none is opened.
 abbrev pub IsNamed : ℕ → Mode → List Bracket → List ℕ → Expected → Type 0
 IsNamed level mode held [] expected = expected ≡ wanted mode (last_open held)
 IsNamed level mode held (b ∷ rest) expected =
