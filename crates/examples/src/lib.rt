@@ -6,6 +6,7 @@
 //! - `lines`: lines of one letter, by their grammar and in the words of a standard.
 //! - `options`: options in brackets, by one composition, whole and in pieces.
 //! - `nested`: trees of numbers in brackets, nested to a level.
+//! - `brackets`: brackets in brackets, nested to a level, in pieces.
 //! - `pieces`: a setting that comes in pieces, answered for good.
 //! - `frames`: frames in pieces, by a loop that refills a buffer.
 //! - `errors`: lines of a log, with an error type of their own.
@@ -13,6 +14,7 @@
 //! - `strings`: texts with escapes.
 #![tactic(auto)]
 
+pub mod brackets;
 pub mod color;
 pub mod errors;
 pub mod frames;

@@ -5,6 +5,7 @@
 pub mod Rules
 -- The types of Rust.
 pub use Rattle.streams.specs.declared.needed.Needed.{Needed}
+pub use Rattle.streams.specs.declared.partial.Partial.{Partial}
 pub use Rattle.streams.specs.declared.needed.Needed.TheVariants as NeededCases
 pub use Rattle.streams.specs.declared.token_slice.TokenSlice.{TokenSlice}
 pub use Rattle.stream_sets.specs.declared.range.Range.{Range}
@@ -276,6 +277,7 @@ pub use Rattle.winnow_exact.specs.InTurn
 pub use Rattle.winnow_exact.specs.Longer
 pub use Rattle.winnow_exact.specs.Read
 pub use Rattle.winnow_exact.specs.Rule
+pub use Rattle.winnow_exact.specs.RulePieces
 pub use Rattle.winnow_exact.specs.RunByRun
 pub use Rattle.winnow_exact.specs.Steps
 pub use Rattle.winnow_exact.specs.Told

@@ -6,6 +6,7 @@ pub mod InTurn
 pub mod Longer
 pub mod Read
 pub mod Rule
+pub mod RulePieces
 pub mod RunByRun
 pub mod Steps
 pub mod Told

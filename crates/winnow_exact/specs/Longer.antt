@@ -3,7 +3,6 @@ use Rattle.std.specs.Prelude.{◌≡◌, Bool, true, List}
 use Rattle.std.proofs.Common.{sym, subst}
 use Rattle.streams.specs.Following.{Following, Follows}
 use Rattle.streams.specs.Input.{Input, with_more}
-use Rattle.streams.specs.Kind.{memory}
 use Rattle.stream_errors.specs.Form.{Answer, ErrorForm, modal}
 use Rattle.winnow_core.specs.Decided.{AlikeAnswers, IsDecided, NotMemory}
 use Rattle.winnow_core.specs.Runs.{Meaning, Runs}

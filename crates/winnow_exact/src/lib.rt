@@ -2,6 +2,7 @@
 //! what calls in turn tell.
 #![tactic(auto)]
 
+pub mod by_pieces;
 pub mod for_good;
 pub mod laws;
 pub mod pieces;

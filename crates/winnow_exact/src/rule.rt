@@ -4,7 +4,9 @@ ghost use Rattle.std.specs.Prelude.{◌≡◌, ⊤};
 ghost use Rattle.grammars.specs.Grammar.{Grammar, IsUnique, Takes};
 ghost use Rattle.winnow_exact.specs.Rule.{by_rule, by_run};
 ghost use Rattle.winnow_exact.specs.Rule.{ByRuns, CallsRead, CallsSpared, by_exact, by_fails};
+ghost use Rattle.winnow_exact.specs.RulePieces.{pieces_rule, pieces_run};
 
+use crate::by_pieces::ByPieces;
 use stream_errors::parser_error::ParserError;
 use streams::stream::Stream;
 use winnow_core::parser::Parser;
@@ -34,6 +36,18 @@ pub trait Rule<I: Stream, O>: Sized {
         ensures run { by_run result ≡ run }
     {
         By { rule: self, run }
+    }
+
+    /// As [`by`](Rule::by), of a function whose clause says what it answers on a cut input too: the
+    /// parser is stable, so [`read_cut`](crate::pieces::ReadsPieces::read_cut) runs it, and what is
+    /// made of it. Whoever runs it owes that what may come in two pieces may come in one (`Joins`),
+    /// as of bytes and of text.
+    #[inline(always)]
+    final fn by_pieces<F>(self, run: F) -> ByPieces<Self, F>
+        ensures rule { pieces_rule result ≡ self }
+        ensures run { pieces_run result ≡ run }
+    {
+        ByPieces::new(self, run)
     }
 }
 

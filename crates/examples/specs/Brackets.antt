@@ -1,0 +1,3 @@
+-- Written by scripts/registries.py: do not edit.
+pub mod Brackets
+pub mod Told

@@ -1,0 +1,49 @@
+-- What a call at a level tells of one by what it tells of the level below.
+use Rattle.std.specs.Prelude.{◌≡◌, ℕ, zero, suc, Ok, Err}
+use Rattle.std.specs.declared.vec.Vec.{Vec}
+use Rattle.std.proofs.Common.{sym, subst}
+use Rattle.winnow.specs.Cut.{ReadsOrAsks}
+use Rattle.winnow.specs.Following.{Following}
+use Rattle.winnow.specs.Grammar.{Made, Never}
+use Rattle.winnow.specs.InTurn.{failed, failed_as, refused, stood, stood_as, told_err, told_ok}
+use Rattle.winnow.specs.Input.{Input}
+use Rattle.winnow.specs.Kind.{Kind, backtrack}
+use Rattle.winnow.specs.Reading.{Reading}
+use Rattle.examples.specs.Brackets.Brackets.{InBrackets, AreBrackets, AreOf}
+use Rattle.examples.specs.declared.brackets.Brackets.{Brackets}
+
+module _ {A L E : Type 0} {reading : Reading ℕ L} {following : Following ℕ} {kind : E → Kind}
+    {i : Input ℕ} {level : ℕ} where
+  -- brackets with those that are read between them
+  pub brackets_told : {j : Input ℕ} {below : ℕ} {items : Vec (Brackets A) A}
+      {brackets : Brackets A} → level ≡ suc below
+      → AreOf items brackets
+      → ReadsOrAsks reading following kind (InBrackets (AreBrackets below)) i (Ok items) j
+      → ReadsOrAsks reading following kind (AreBrackets level) i (Ok brackets) j
+  unfolding AreBrackets Made
+  brackets_told {j} {below} {items} {brackets} is same r =
+      let P : ℕ → Type 0 =
+      λ l. ReadsOrAsks reading following kind (AreBrackets l) i (Ok brackets) j in
+      subst P (sym is) (told_ok (stood_as (λ tokens rest x. (items, x, same)) (stood r)))
+
+  -- none where none are
+  pub no_brackets_told : {j : Input ℕ} {below : ℕ} {e : E} → level ≡ suc below
+      → ReadsOrAsks reading following kind (InBrackets {A = A} (AreBrackets below)) i (Err e) j
+      → ReadsOrAsks reading following kind (AreBrackets {A = A} level) i (Err e) j
+  unfolding AreBrackets Made
+  no_brackets_told {j} {below} {e} is r =
+      let P : ℕ → Type 0 =
+      λ l. ReadsOrAsks reading following kind (AreBrackets {A = A} l) i (Err e) j in
+      subst P (sym is)
+      (told_err (failed_as (λ tokens none brackets rest (items, x, same). none items rest x)
+      (failed r)))
+
+  -- none of no level
+  pub no_level_told : {e : E} → level ≡ zero → kind e ≡ backtrack
+      → ReadsOrAsks reading following kind (AreBrackets {A = A} level) i (Err e) i
+  unfolding AreBrackets Never
+  no_level_told {e} is b =
+      let P : ℕ → Type 0 =
+      λ l. ReadsOrAsks reading following kind (AreBrackets {A = A} l) i (Err e) i in
+      subst P (sym is) (told_err {i = i} {j = i}
+      (refused {g = AreBrackets {A = A} zero} b (λ tokens brackets rest never. absurd never)))

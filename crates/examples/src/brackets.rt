@@ -1,0 +1,129 @@
+//! Brackets in brackets, as `[[][[]]]`, nested to a level that the caller gives, from bytes that
+//! may come in pieces.
+//!
+//! So what contains itself is read in pieces by its grammar: as in `nested`, a function of a level
+//! makes a parser of itself at the level below, here by `Rule::by_pieces`, which is stable.
+ghost use Rattle.std.specs.Prelude.{◌≡◌, ⊤, None, Vec};
+ghost use Rattle.std.specs.Fn.{CalledAtMut};
+ghost use Rattle.winnow.specs.Bytes.{bytes_follow, bytes_reading};
+ghost use Rattle.winnow.specs.Cut.{ReadsOrAsks};
+ghost use Rattle.winnow.specs.Form.{modal};
+ghost use Rattle.winnow.specs.Grammar.{Gathered, Many, Three};
+ghost use Rattle.winnow.specs.Range.{from_to};
+ghost use Rattle.winnow.specs.RulePieces.{CallsReadOrAsk, Joins};
+ghost use Rattle.examples.specs.Brackets.Brackets.{AreBrackets, brackets_take, brackets_unique};
+ghost use Rattle.examples.specs.Brackets.Brackets.{piece_input};
+ghost use Rattle.examples.specs.Nested.Trees.{no_memory_kind};
+
+use std::alloc::Allocator;
+use winnow::combinator::impls::Repeat;
+use winnow::combinator::{delimited, repeat};
+use winnow::error::{EmptyError, ErrMode, HasKind, ParserError};
+use winnow::exact::{ByPieces, ReadsPieces, Rule};
+use winnow::stable::Stable;
+use winnow::stream::{Partial, Range, Stream};
+
+type Bytes = Partial<&'static [u8]>;
+
+type Error = ErrMode<EmptyError>;
+
+/// Brackets, with those that stand in them.
+#[derive(Drop)]
+pub struct Brackets<A: Allocator> {
+    /// Those, in order.
+    pub inner: Vec<Brackets<A>, A>,
+}
+
+/// Items between the opening and the closing one, as many as stand. A function reads an item by a
+/// rule, in pieces.
+fn read_between<I, E, O, A, R, F, B>(
+    alloc: A,
+    rule: R,
+    item: F,
+    opening: B,
+    closing: B,
+    input: &mut I,
+) -> Result<Vec<O, A>, E>
+where
+    I: Stream,
+    E: ParserError<I>,
+    O: Drop,
+    A: Allocator + Copy,
+    R: Rule<I, O> + Drop,
+    F: FnMut(&mut I) -> Result<O, E> + Drop,
+    B: Stable<I, u8, E> + Drop,
+    requires modal { E.form ≡ modal }
+    requires joins { Joins I.following }
+    requires callable { F.IsAlwaysCallable item }
+    requires reads { CallsReadOrAsk I.reading I.following I.view E.kind (CalledAtMut F.FnMut)
+        (R.grammar rule) item }
+    requires takes { R.consumes rule }
+    requires opening { B.can_parse opening × (B.claim (B.state opening)).premise
+        × (B.claim (B.state opening)).backtracks }
+    requires closing { B.can_parse closing × (B.claim (B.state closing)).premise
+        × (B.claim (B.state closing)).backtracks }
+    ensures { ReadsOrAsks I.reading I.following E.kind
+        (Three (λ _ o _. o) (B.claim (B.state opening)).grammar
+        (Gathered (λ (list : Vec O A) os. list.items ≡ os)
+        (Many (R.grammar rule) (from_to 0 None))) (B.claim (B.state closing)).grammar)
+        (I.view input.old) result (I.view input.new) }
+{
+    let items: Repeat<ByPieces<R, F>, I, O, Vec<O, A>, E, A> = repeat(
+        alloc,
+        Range::from(0..),
+        rule.by_pieces(item),
+    );
+    delimited(opening, items, closing).read_cut(input)
+}
+
+/// The name of what [`read_brackets`] reads.
+#[derive(Clone, Copy, Drop)]
+struct AnyBrackets<A>(A, usize);
+
+impl<'i, A: Allocator> Rule<Partial<&'i [u8]>, Brackets<A>> for AnyBrackets<A> {
+    ghost grammar = { λ r. AreBrackets r.1 };
+
+    ghost consumes = { λ _. ⊤ };
+
+    fn name() {}
+
+    ghost unique = { λ r. brackets_unique r.1 };
+
+    ghost takes = { λ r _. brackets_take r.1 };
+}
+
+/// Brackets, of which no more than so many stand in one another.
+///
+/// What it answers on a cut input, it answers whatever follows; else it asks for more, or wants
+/// memory. A backtrack says that no such brackets stand first.
+///
+/// ```
+/// use examples::brackets::read_brackets;
+/// use winnow::stream::Partial;
+///
+/// let mut input = Partial::new(b"[[][[]]][".as_slice());
+/// let brackets = read_brackets(alloc, 3, &mut input);
+/// assert!(rt; matches!(brackets, Ok(brackets) if brackets.inner.len() == 2));
+/// assert_eq!(rt; *input.as_inner(), b"[".as_slice());
+/// ```
+pub fn read_brackets<'i, A: Allocator + Copy>(
+    alloc: A,
+    level: usize,
+    input: &mut Partial<&'i [u8]>,
+) -> Result<Brackets<A>, ErrMode<EmptyError>>
+    ensures { ReadsOrAsks bytes_reading bytes_follow ⟦<Error as HasKind>⟧.kind (AreBrackets level)
+        (⟦<Bytes as Stream>⟧.view input.old) result (⟦<Bytes as Stream>⟧.view input.new) }
+{
+    if level == 0 {
+        return Err(ErrMode::from_input(input));
+    }
+    let below = level - 1;
+    let item = |input: &mut Partial<&[u8]>|
+        ensures { ReadsOrAsks bytes_reading bytes_follow no_memory_kind (AreBrackets below)
+            (piece_input input.old) result (piece_input input.new) }
+    { read_brackets(alloc, below, input) };
+    match read_between(alloc, AnyBrackets(alloc, below), item, b'[', b']', input) {
+        Ok(inner) => Ok(Brackets { inner }),
+        Err(error) => Err(error),
+    }
+}

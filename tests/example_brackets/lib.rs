@@ -1,0 +1,5 @@
+//! The tests of brackets in brackets.
+#![tactic(auto)]
+
+#[cfg(test)]
+mod brackets;
