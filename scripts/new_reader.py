@@ -10,7 +10,7 @@ import subprocess
 import sys
 
 from formats import FORMATS
-from registry.common import CRATES, TOP, read
+from registry.common import CRATES, HEAD, TOP, read
 from vendor_beside import taken_names
 from wrap import wrapped
 
@@ -122,6 +122,7 @@ def files(crate):
         is_code = new.endswith((".rt", ".antt"))
         yield CRATES / crate / new, wrapped(text, new.endswith(".antt")) if is_code else text
     yield CRATES / crate / "src/lib.rt", ROOT
+    yield CRATES / crate / "specs/Lib.antt", f"-- {HEAD}\npub mod Settings\npub mod SettingsRead\n"
     yield CRATES / crate / "README.md", PAGE.format(crate=crate, what=WHAT)
     doc, _, tests = renamed(read(TEST), crate).partition("\n")
     yield TOP / "tests" / crate / "lib.rs", f"{doc}\n#![tactic(auto)]\n\n{tests}"
