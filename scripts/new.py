@@ -3,6 +3,7 @@
 
     ./x new leaf FILE NAME          as `./x new leaf crates/winnow_token/src/token.rt word`
     ./x new combinator FILE NAME
+    ./x new reader NAME             a format, as a crate `format_NAME` (`new_reader.py`)
 
 FILE is the one that gets the function NAME. The templates are two parsers of the library under the
 new name, `any` for a leaf and `opt` for a combinator, with their proofs: so what is laid out is
@@ -18,6 +19,7 @@ import sys
 sys.path.insert(0, str(pathlib.Path(__file__).resolve().parent))
 from new_beside import beside  # noqa: E402
 from new_names import fault_of_name, fault_of_place  # noqa: E402
+from new_reader import lay_reader  # noqa: E402
 from registry.common import CRATES, TOP, camel, read  # noqa: E402
 from wrap import wrapped  # noqa: E402
 
@@ -53,10 +55,11 @@ class Place:
 
 
 def renamed(text, of, to):
-    """A text of the model under the new name: all code, and in comments what is code."""
-    kind, new = camel(of.name), camel(to.name)
+    """A text of the model under the new name: all code, and in comments what is code. Marks stand
+    for the new names till the end, since these may begin with the model's."""
+    kind, new, name = camel(of.name), "\0", "\1"
     text = text.replace(f"Rattle.{of.crate.name}.specs.{kind}", f"Rattle.{to.crate.name}.specs.{new}")
-    text = text.replace(f"specs.declared.{of.module}.impls.{of.name}.", f"specs.declared.{to.module}.impls.{to.name}.")
+    text = text.replace(f"specs.declared.{of.module}.impls.{of.name}.", f"specs.declared.{to.module}.impls.{name}.")
     text = text.replace(f"Rattle.{of.crate.name}.specs.declared", f"Rattle.{to.crate.name}.specs.declared")
     text = re.sub(rf"\bcrate::{of.module}::", f"crate::{to.module}::", text)
     # what callers know of a run of the model beside its grammar is the model's own
@@ -66,13 +69,13 @@ def renamed(text, of, to):
         is_comment = line.lstrip().startswith(("//", "--"))
         is_code = is_comment and is_code != line.rstrip().endswith("```")
         if is_comment and not is_code:
-            line = re.sub(rf"(?<=[`:]){of.name}(?=[`)])|\b{of.name}(?=_)", to.name, line)
+            line = re.sub(rf"(?<=[`:]){of.name}(?=[`)])|\b{of.name}(?=_)", name, line)
             line = re.sub(rf"\b{kind}(?=[A-Z])", new, line)
         else:
             line = re.sub(rf"\b{kind}(?=[A-Z]|\b)", new, line)
-            line = re.sub(rf"\b{of.name}(?=_|\b)", to.name, line)
+            line = re.sub(rf"\b{of.name}(?=_|\b)", name, line)
         lines.append(line)
-    return "\n".join(lines)
+    return "\n".join(lines).replace(new, camel(to.name)).replace(name, to.name)
 
 
 def function(of):
@@ -149,6 +152,9 @@ def written():
 
 
 def main(words):
+    if words[:1] == ["reader"] and len(words) == 2:
+        print(lay_reader(words[1]))
+        return
     if len(words) != 3 or words[0] not in MODELS or not words[1].endswith(".rt"):
         sys.exit(__doc__.strip())
     of, file = Place(*MODELS[words[0]]), pathlib.Path(words[1]).resolve()

@@ -1,5 +1,6 @@
 """What `scripts/vendor` writes beside the crates that it copies: where they come from, their
-licence, the command `prove`, and what git is to leave out; and what it says at its end."""
+licence, the commands `prove` and `run`, and what git is to leave out; and what it says at its
+end."""
 import hashlib
 import os
 import shutil
@@ -12,13 +13,15 @@ from toolchain import toolchain
 # all parts. These figures stand nowhere else.
 MINUTES = {"text": 35, "all": 56}
 # Files that are copied as they are: where they stand over there, and here.
-FILES = {"prove": "scripts/prove", "crates/LICENSE-PERGIDAU": "LICENSE"}
+FILES = {"prove": "scripts/prove", "run": "scripts/run", "crates/LICENSE-PERGIDAU": "LICENSE"}
 ORIGIN = "crates/ORIGIN"
 IGNORED = "out/"
 COST = """
 What to do next, and what it costs:
-  rt try       in your crate's folder: runs it, unproved, in some 12 processor seconds, most of
-               which read the library
+  rt try       in your crate's folder: runs it, unproved and checked, in some 12 processor seconds,
+               most of which read std and the library
+  ./run NAME   here: builds the program of the crate NAME for speed, unproved, in as long, and runs
+               it with the shell's input; at once if nothing changed since
   ./prove F    here: proves the function F of yours and what it calls, in two to four processor
                minutes at first and in one or two after an edit, with no proof of the library before
   rt check     in your crate's folder, last: the crate's proof. The first one proves the library,

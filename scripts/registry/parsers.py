@@ -1,6 +1,6 @@
 """The tables of parsers, `docs/PARSERS.md`, by purpose: each with how it is called, what goes in and
-comes out, its struct, its names in nom, its definition and its first sentence; and an index of
-nom's names."""
+comes out, its struct, its names in nom and its definition; and an index of nom's other names. What
+each does stands in `docs/api/`."""
 import re
 
 from registry.common import CRATES, TOP, below_winnow, by_hand, camel, in_order, items_of
@@ -13,7 +13,7 @@ PAGE = TOP / "docs/PARSERS.md"
 FUNCTION = r"((?:^ *///.*\n)+)(?:^ *#\[.*\n)*^ *(?:pub|final) fn (\w+)"
 # What is asked of nearly every stream.
 STREAMS = ("Stream", "StreamIsPartial", "Copy", "")
-COLUMNS = ("Parser", "Call", "In and out", "Struct", "In nom", "Definition", "Is")
+COLUMNS = ("Parser", "Call", "In and out", "Struct", "In nom", "Definition")
 
 
 def sentence(comment):
@@ -48,12 +48,12 @@ def call(text, at, name):
 
 
 def functions(crate):
-    """Of each public function of a crate, by its name: its first sentence and how it is called."""
+    """How each documented public function of a crate is called, by its name."""
     found = {}
     for file in sorted((CRATES / crate / "src").rglob("*.rt")):
         text = read(file)
         for it in re.finditer(FUNCTION, text, re.MULTILINE):
-            found.setdefault(it[2], (sentence(it[1]), call(text, it.end(), it[2])))
+            found.setdefault(it[2], call(text, it.end(), it[2]))
     return found
 
 
@@ -119,11 +119,11 @@ def row(crate, path, said, reference):
     of = definition(crate, path)
     if path.stem not in said:
         raise SystemExit(f"{path}: {crate} has no documented function {path.stem}")
-    about, called = said[path.stem]
+    called = said[path.stem]
     nom = ", ".join(f"`{it}`" for it in in_nom(called))
     link = f"[{of.stem}](../{of.relative_to(TOP)})"
     bounds, types, struct = block(path)
-    cells = [reference.of_parser(crate, path.stem), f"`{called}`", goes(bounds, types), f"`{struct}`", nom, link, about]
+    cells = [reference.of_parser(crate, path.stem), f"`{called}`", goes(bounds, types), f"`{struct}`", nom, link]
     return "| " + " | ".join(it.replace("|", "\\|") for it in cells) + " |\n"
 
 
@@ -161,11 +161,10 @@ def tables(reference):
 
 
 def index():
-    """nom's names, and what is written here."""
-    plain = ", ".join(f"`{it}`" for it in sorted(SAME) if it[0] != ".")
+    """nom's names that are others here, and what is written for each."""
     calls = ", ".join(f"`{it[1:]}`" for it in sorted(SAME) if it[0] == ".")
-    text = f"\n## nom's names\n\nThe same here: {plain}.\n\n"
-    text += f"Functions in nom, and here calls of the parser: {calls}.\n\n"
+    text = "\n## nom's names\n\nThe column *In nom* has the names that are the same. "
+    text += f"Calls of the parser, and no functions, are {calls}.\n\n"
     text += "| In nom | Here |\n|---|---|\n"
     for names, module, here in sorted(others()):
         cell = ", ".join(f"`{it}`" for it in names) + (f", {module}" if module else "")
