@@ -10,6 +10,8 @@
  *
  * A call keeps nothing, and has no state: calls may run side by side. Memory that one takes,
  * by malloc, it gives back before it ends.
+ *
+ * COST
  */
 #ifndef PERGIDAU_H
 #define PERGIDAU_H
@@ -17,9 +19,35 @@
 #include <stddef.h>
 #include <stdint.h>
 
+/* The version that this header is of: the last release, or what follows it. */
+#define PERGIDAU_VERSION_MAJOR 0
+#define PERGIDAU_VERSION_MINOR 0
+#define PERGIDAU_VERSION_PATCH 0
+#define PERGIDAU_VERSION "0.0.0"
+
 #ifdef __cplusplus
 extern "C" {
 #endif
+
+/*
+ * Stands in a library of this version and with these declarations alone. Each file that
+ * includes this header refers to it, so that it links with no other library. Define
+ * PERGIDAU_NO_LINK_CHECK before the header for a file that is not linked with the library.
+ */
+extern const char pergidau_0_0_0_declared_ec0adfcb;
+#if defined(__GNUC__) && !defined(PERGIDAU_NO_LINK_CHECK)
+__attribute__((__used__, __unused__)) static const char *const pergidau_linked =
+    &pergidau_0_0_0_declared_ec0adfcb;
+#endif
+
+/* The version of the library that is linked, as PERGIDAU_VERSION is written. */
+const char *pergidau_version(void);
+
+/*
+ * 1 where each function of the library that is linked was proved before it was compiled; 0
+ * where it was built with no proof, by bindings/build --unproved, to try it.
+ */
+int pergidau_is_proved(void);
 
 /* How a call ended. */
 enum pergidau_code {
@@ -48,53 +76,50 @@ enum pergidau_code {
     PERGIDAU_END = 9,
 };
 
+/* What a code says, in English, with no full stop. The text is never freed. */
+const char *pergidau_message(enum pergidau_code code);
+
 /*
  * How many levels of arrays and objects in one another may be asked for. Each takes some of
  * the stack.
  */
 #define PERGIDAU_MOST_LEVELS 512
 
-/* The word null. */
-#define PERGIDAU_JSON_NULL 0
+/* What a value of JSON is: what kind of an item of JSON is. */
+enum pergidau_json_kind {
+    /* The word null. */
+    PERGIDAU_JSON_NULL = 0,
+    /* The word false. */
+    PERGIDAU_JSON_FALSE = 1,
+    /* The word true. */
+    PERGIDAU_JSON_TRUE = 2,
+    /* A number. */
+    PERGIDAU_JSON_NUMBER = 3,
+    /* A string: its place has the quotes round it, and escapes as they are written. */
+    PERGIDAU_JSON_STRING = 4,
+    /* An array: its place has the brackets round it. */
+    PERGIDAU_JSON_ARRAY = 5,
+    /* An object: its place has the brackets round it. */
+    PERGIDAU_JSON_OBJECT = 6,
+};
 
-/* The word false. */
-#define PERGIDAU_JSON_FALSE 1
-
-/* The word true. */
-#define PERGIDAU_JSON_TRUE 2
-
-/* A number. */
-#define PERGIDAU_JSON_NUMBER 3
-
-/* A string: its place has the quotes round it, and escapes as they are written. */
-#define PERGIDAU_JSON_STRING 4
-
-/* An array: its place has the brackets round it. */
-#define PERGIDAU_JSON_ARRAY 5
-
-/* An object: its place has the brackets round it. */
-#define PERGIDAU_JSON_OBJECT 6
-
-/* A simple string: bytes among which is neither a carriage return nor a line feed. */
-#define PERGIDAU_RESP_SIMPLE 0
-
-/* An error: such bytes. */
-#define PERGIDAU_RESP_ERROR 1
-
-/* An integer. */
-#define PERGIDAU_RESP_INTEGER 2
-
-/* A bulk string: any bytes. */
-#define PERGIDAU_RESP_BULK 3
-
-/* The null bulk string. */
-#define PERGIDAU_RESP_NULL_BULK 4
-
-/* An array. */
-#define PERGIDAU_RESP_ARRAY 5
-
-/* The null array. */
-#define PERGIDAU_RESP_NULL_ARRAY 6
+/* What a reply of Redis is: what kind of a reply is. */
+enum pergidau_resp_kind {
+    /* A simple string: bytes among which is neither a carriage return nor a line feed. */
+    PERGIDAU_RESP_SIMPLE = 0,
+    /* An error: such bytes. */
+    PERGIDAU_RESP_ERROR = 1,
+    /* An integer. */
+    PERGIDAU_RESP_INTEGER = 2,
+    /* A bulk string: any bytes. */
+    PERGIDAU_RESP_BULK = 3,
+    /* The null bulk string. */
+    PERGIDAU_RESP_NULL_BULK = 4,
+    /* An array. */
+    PERGIDAU_RESP_ARRAY = 5,
+    /* The null array. */
+    PERGIDAU_RESP_NULL_ARRAY = 6,
+};
 
 /* A place in the caller's bytes: so many of them, from one on. */
 struct pergidau_span {

@@ -1,6 +1,7 @@
-//! The exports of the static library.
+//! The exports of the library.
 //!
 //! Written by scripts/header.py from crates/exported: do not edit.
+use core::ffi::{c_char, c_int};
 
 /// The bytes were read, and what was found is written.
 pub const DONE: u32 = 0;
@@ -206,6 +207,16 @@ pub struct Position {
 }
 
 extern "C" {
+    /// Stands in a library of this version and with these declarations alone.
+    #[link_name = "pergidau_0_0_0_declared_ec0adfcb"]
+    static VERSION_LINKED: c_char;
+
+    /// The version of the library that is linked.
+    pub fn pergidau_version() -> *const c_char;
+
+    /// 1 where the library that is linked was proved, else 0.
+    pub fn pergidau_is_proved() -> c_int;
+
     /// The value of a formula of whole numbers, as `-2 * 3! ^ 2`.
     ///
     /// White space may stand before the formula and behind each number and operator. Operators are,
@@ -453,3 +464,14 @@ extern "C" {
         out: *mut Position,
     ) -> u32;
 }
+
+/// A place in the library that can be shared between threads: nothing is read there.
+#[repr(transparent)]
+pub struct Linked(*const c_char);
+
+// SAFETY: the pointer is never read through.
+unsafe impl Sync for Linked {}
+
+/// Has each program with this crate link with a library of this version alone.
+#[used]
+pub static LINKED: Linked = Linked(core::ptr::addr_of!(VERSION_LINKED));
