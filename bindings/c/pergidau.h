@@ -257,7 +257,7 @@ struct pergidau_position {
  * or a result in it does not fit 64 bits with a sign, a divisor is 0, an exponent is negative,
  * or a factorial is of a negative number; so is % where the quotient does not fit, as in -2 ^
  * 63 % -1. The place is written: an end of the text, or one between two of its characters.
- * That it is the operator or the character that is refused is tested, not proved.
+ * That the formula was read up to there when it was refused is tested, not proved.
  * PERGIDAU_NO_TEXT, PERGIDAU_NO_MEMORY.
  *
  * While it runs it holds up to 100 bytes of memory for each byte of the text.

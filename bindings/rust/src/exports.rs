@@ -228,8 +228,8 @@ extern "C" {
     /// `DONE`: the value is written. `REFUSED`: the text is no formula, or a number or a result in it
     /// does not fit 64 bits with a sign, a divisor is 0, an exponent is negative, or a factorial is of
     /// a negative number; so is `%` where the quotient does not fit, as in `-2 ^ 63 % -1`. The place is
-    /// written: an end of the text, or one between two of its characters. That it is the operator or
-    /// the character that is refused is tested, not proved. `NO_TEXT`, `NO_MEMORY`.
+    /// written: an end of the text, or one between two of its characters. That the formula was read up
+    /// to there when it was refused is tested, not proved. `NO_TEXT`, `NO_MEMORY`.
     ///
     /// While it runs it holds up to 100 bytes of memory for each byte of the text.
     ///

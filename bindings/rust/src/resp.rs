@@ -117,3 +117,19 @@ pub fn reply(bytes: &[u8], levels: usize) -> Result<(Reply<'_>, &[u8]), Error> {
 pub fn reply_in_pieces(bytes: &[u8], levels: usize) -> Result<(Reply<'_>, &[u8]), Error> {
     read(exports::exported_resp_reply_in_pieces, bytes, levels)
 }
+
+#[cfg(test)]
+mod tests {
+    use super::*;
+
+    /// An iterator ends behind an error, and says so before it is asked.
+    #[test]
+    fn elements_end_behind_an_error() {
+        let mut elements = Elements { left: b":1\r\nx:2\r\n", count: 3 };
+        assert_eq!(elements.next(), Some(Ok(Reply::Integer(1))));
+        assert_eq!(elements.len(), 2);
+        assert_eq!(elements.next(), Some(Err(Error::Refused(None))));
+        assert_eq!(elements.len(), 0);
+        assert_eq!(elements.next(), None);
+    }
+}

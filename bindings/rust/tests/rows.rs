@@ -4,7 +4,7 @@ use pergidau::http::{self, Field};
 use pergidau::ini::{self, Entry};
 use pergidau::json::{self, Kind, Value};
 use pergidau::resp::{self, Reply};
-use pergidau::{calc, Error, Place, Span, MOST_LEVELS};
+use pergidau::{calc, Error, Place, Span, Wanted, MOST_LEVELS};
 
 fn refused(offset: usize, column: usize) -> Error {
     Error::Refused(Some(Place { offset, line: 1, column }))
@@ -25,6 +25,8 @@ fn calc_value_of_formulas() {
         ("", Err(refused(0, 1))),
         ("2^63", Err(refused(4, 5))),
         ("1=2=1", Err(refused(3, 4))),
+        ("-2^63", Ok(i64::MIN)),
+        ("-2^63 % -1", Err(refused(10, 11))),
     ];
     for (text, want) in rows {
         assert_eq!(calc::value(text), want, "{text}");
@@ -108,6 +110,10 @@ fn json_walks() {
     ];
     assert_eq!(kinds.elements().map(|it| it.kind()).collect::<Vec<_>>(), want);
     assert_eq!(kinds.members().count(), 0);
+    let object = json::parse("{\"a\": [1], \"b\": {}}", 2).unwrap();
+    assert_eq!(object.elements().count(), 0);
+    assert_eq!(object.members().count(), 2);
+    assert_eq!(json::parse("\"[1]\"", 0).unwrap().elements().count(), 0);
     assert_eq!(json::parse("1", 0).unwrap().elements().count(), 0);
     assert_eq!(json::parse("[1,]", 9), Err(Error::Refused(None)));
     assert_eq!(json::parse("", 9), Err(Error::Refused(None)));
@@ -177,6 +183,10 @@ fn http_head_of_requests() {
     assert!(http::head_in_pieces(&HELLO[..whole], &mut fields).is_ok());
     let small = http::head(HELLO, &mut fields[..2]).unwrap_err();
     assert_eq!(small.to_string(), "the buffer is too small: 3 entries are wanted");
+    for (request, version) in [(&b"A b HTTP/1.0\r\n\r\n"[..], (1, 0)), (b"A b HTTP/2.9\r\n\r\n", (2, 9))] {
+        assert_eq!(http::head(request, &mut []).unwrap().version(), version);
+        assert_eq!(http::head_in_pieces(request, &mut []).unwrap().version(), version);
+    }
     let never = http::head_in_pieces(b"GET  / HTTP/1.1\r\n", &mut fields);
     assert_eq!(never.unwrap_err(), Error::Refused(None));
 }
@@ -284,8 +294,29 @@ fn resp_reply_of_arrays() {
 }
 
 #[test]
+fn library_says_what_it_is() {
+    assert_eq!(pergidau::version(), env!("CARGO_PKG_VERSION"));
+    let is_unproved = std::env::var("PERGIDAU_UNPROVED").is_ok_and(|it| it == "1");
+    assert_eq!(pergidau::is_proved(), !is_unproved);
+}
+
+#[test]
 fn errors_are_shown() {
     let error: Box<dyn std::error::Error> = Box::new(calc::value("1 +\n 2 / 0").unwrap_err());
     assert_eq!(error.to_string(), "refused at line 2, column 7");
-    assert_eq!(Error::NotText.to_string(), "the bytes are no UTF-8");
+    let wanted = Wanted { entries: 2, bytes: 4 };
+    let rows = [
+        (Error::Refused(None), "refused"),
+        (Error::Incomplete, "more bytes are needed"),
+        (Error::NoMemory, "a request for memory was refused"),
+        (Error::NotText, "the bytes are no UTF-8"),
+        (Error::TooSmall(wanted), "the buffer is too small: 2 entries and 4 bytes are wanted"),
+        (Error::TooDeep, "more levels are asked for than are read"),
+        (Error::Unknown(7), "the library answered the unknown code 7"),
+    ];
+    for (error, want) in rows {
+        assert_eq!(error.to_string(), want);
+    }
+    let place = Place::of("gr\u{f6}\u{df}e=1\nh\u{f6}he?2\n".as_bytes(), 15);
+    assert_eq!(place, Place { offset: 15, line: 2, column: 5 });
 }
