@@ -2,8 +2,6 @@
  * beside the input's length, and the stack. Prints a row for each; it is linked with
  * `-Wl,--wrap=malloc,--wrap=realloc,--wrap=free` and -pthread. Exits with 1 where a row is beyond what
  * the header says. */
-#define _GNU_SOURCE
-#include <malloc.h>
 #include <pthread.h>
 #include <stdbool.h>
 #include <stdio.h>
