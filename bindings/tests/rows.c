@@ -662,6 +662,14 @@ static void test_positions(void)
                                                            &out), PERGIDAU_DONE);
     same("the line", "a line", (long long)out.line, 2);
     same("the column", "a line", (long long)out.column, 5);
+    same("null", "position", pergidau_text_position(NULL, 1, 0, &out), PERGIDAU_NULL);
+    same("null", "position", pergidau_text_position((const uint8_t *)"1", 1, 0, NULL),
+         PERGIDAU_NULL);
+    same("too long", "position",
+         pergidau_text_position((const uint8_t *)"1", (size_t)PTRDIFF_MAX + 1, 0, &out),
+         PERGIDAU_TOO_LONG);
+    same("nothing", "position", pergidau_text_position(NULL, 0, 1, &out), PERGIDAU_DONE);
+    same("the line", "nothing", (long long)out.line, 1);
 }
 
 static void test_wrong_records(void)
@@ -718,6 +726,7 @@ static void test_wrong_use(void)
     same("nothing", "check", pergidau_json_check(NULL, 0, 1), PERGIDAU_REFUSED);
     same("null", "value", pergidau_json_value(NULL, 1, 1, &length), PERGIDAU_NULL);
     same("null", "value", pergidau_json_value(bytes, 1, 1, NULL), PERGIDAU_NULL);
+    same("too long", "value", pergidau_json_value(bytes, far, 1, &length), PERGIDAU_TOO_LONG);
     same("too deep", "value", pergidau_json_value(bytes, 1, SIZE_MAX, &length),
          PERGIDAU_TOO_DEEP);
     same("null", "head", pergidau_http_head(NULL, 1, fields, 1, &head), PERGIDAU_NULL);
@@ -766,6 +775,10 @@ static void test_library(void)
     same("kinds", "JSON", PERGIDAU_JSON_NULL, 0);
     same("kinds", "JSON", PERGIDAU_JSON_OBJECT, 6);
     same("kinds", "RESP", PERGIDAU_RESP_NULL_ARRAY, 6);
+    struct pergidau_json_item item;
+    struct pergidau_reply reply;
+    same("the size of a kind", "JSON", sizeof item.kind, sizeof(size_t));
+    same("the size of a kind", "RESP", sizeof reply.kind, sizeof(size_t));
 }
 
 int main(void)
