@@ -360,7 +360,9 @@ def rust(codes, constants, structs, exports):
     text += "#[repr(transparent)]\npub struct Linked(*const c_char);\n\n"
     text += "// SAFETY: the pointer is never read through.\nunsafe impl Sync for Linked {}\n\n"
     text += "/// Has each program with this crate link with a library of this version alone.\n#[used]\n"
-    text += "pub static LINKED: Linked = Linked(core::ptr::addr_of!(VERSION_LINKED));\n"
+    text += "// SAFETY: nothing is read there. Compilers before 1.82 ask for the block.\n"
+    text += "#[allow(unused_unsafe)]\n"
+    text += "pub static LINKED: Linked = Linked(unsafe { core::ptr::addr_of!(VERSION_LINKED) });\n"
     return text
 
 

@@ -501,4 +501,6 @@ unsafe impl Sync for Linked {}
 
 /// Has each program with this crate link with a library of this version alone.
 #[used]
-pub static LINKED: Linked = Linked(core::ptr::addr_of!(VERSION_LINKED));
+// SAFETY: nothing is read there. Compilers before 1.82 ask for the block.
+#[allow(unused_unsafe)]
+pub static LINKED: Linked = Linked(unsafe { core::ptr::addr_of!(VERSION_LINKED) });
