@@ -46,6 +46,11 @@ pub mod resp;
 pub use crate::error::{Error, Place, Wanted};
 pub use crate::exports::{Span, MOST_LEVELS};
 
+/// The examples of the page of this crate are run as those of its documentation.
+#[cfg(doctest)]
+#[doc = include_str!("../README.md")]
+pub struct Page;
+
 /// Nothing is wanted.
 const NOTHING: Wanted = Wanted { entries: 0, bytes: 0 };
 
