@@ -9,8 +9,13 @@ From each `pub extern "C" fn exported_NAME`, its documentation and what it names
 where that function refuses a pointer that is null and a length that no object has, and then calls the
 export; and `bindings/rust/src/exports.rs`, the declarations by which Rust calls the exports. What a
 caller owes is said by the documentation, and so in each of them.
+
+The version is that of `VERSION`. A symbol has it in its name, and a sum of the declarations, and the
+header and the crate refer to it: so each links with a library of this version and of these
+declarations alone.
 """
 import dataclasses
+import hashlib
 import pathlib
 import re
 import sys
@@ -22,6 +27,18 @@ BINDINGS = TOP / "bindings"
 WRITTEN = "Written by scripts/header.py from crates/exported: do not edit."
 # The codes that no export answers: those of the functions in C.
 OF_C = ("NULL", "TOO_LONG")
+# What a caller is to reckon with, of all calls: measured, not proved.
+COST = [
+    "What a call costs in memory and stack is measured, on inputs made to cost much",
+    "(`bindings/tests/cost.c`), and not proved. Memory is what is held at once, two blocks where one",
+    "grows. At 512 levels a call took up to 107 KiB of stack, and one without levels 4 KiB: what is",
+    "asked for leaves room. Where less is left, a guard page ends the program.",
+]
+# The constants that are the cases of an enum in C: how their names begin, its name, and its words.
+KINDS = {
+    "JSON_": ("json_kind", "What a value of JSON is: what `kind` of an item of JSON is."),
+    "RESP_": ("resp_kind", "What a reply of Redis is: what `kind` of a reply is."),
+}
 # The types of single values: as Rust has them, and as C has them.
 PLAIN = {"u8": "uint8_t", "u32": "uint32_t", "i64": "int64_t", "usize": "size_t", "bool": "bool"}
 EXPORT = re.compile(r'pub extern "C" fn exported_(\w+)\(\s*(.*?)\s*\)\s*->\s*u32\b', re.DOTALL)
@@ -91,6 +108,31 @@ def items():
     return codes, constants, structs, exports
 
 
+def version():
+    """The three numbers of the version."""
+    return (TOP / "VERSION").read_text(encoding="utf-8").strip().split(".")
+
+
+def linked(codes, constants, structs, exports):
+    """The symbol that says of which version the library is, and of which declarations."""
+    found = [[it.name, it.parts] for it in (*codes, *constants, *exports)]
+    found += [[it.name, [(part.name, part.parts) for part in it.parts]] for it in structs]
+    made = hashlib.sha256(repr(found).encode()).hexdigest()[:8]
+    return f"pergidau_{'_'.join(version())}_declared_{made}"
+
+
+def kind(name):
+    """The beginning of the names of an enum's cases, of which this constant is one, or nothing."""
+    return next((it for it in KINDS if name.startswith(it)), None)
+
+
+def message(code):
+    """What a code says, in words."""
+    text = " ".join(code.words).partition(". ")[0].rstrip(".")
+    text = text.replace("`PTRDIFF_MAX`", "PTRDIFF_MAX").replace("`", "PERGIDAU_", 1).replace("`", "")
+    return text[0].lower() + text[1:]
+
+
 def snake(name):
     """The name in C of a struct."""
     return "pergidau_" + re.sub(r"(?<!^)([A-Z])", r"_\1", name).lower()
@@ -144,6 +186,47 @@ def signature(prefix, returned, export, indent="    "):
     return f"{returned} {prefix}_{export.name}(\n{indent}{inside})"
 
 
+def of_version():
+    """The version, as macros."""
+    major, minor, patch = version()
+    return (
+        comment(["The version that this header is of: the last release, or what follows it."], [])
+        + f"#define PERGIDAU_VERSION_MAJOR {major}\n#define PERGIDAU_VERSION_MINOR {minor}\n"
+        + f"#define PERGIDAU_VERSION_PATCH {patch}\n"
+        + f'#define PERGIDAU_VERSION "{major}.{minor}.{patch}"\n\n'
+    )
+
+
+def calls_of_version(symbol):
+    """The calls that say what the library is, and what has it link by its version alone."""
+    return (
+        comment([
+            "Stands in a library of this version and with these declarations alone. Each file that",
+            "includes this header refers to it, so that it links with no other library. Define",
+            "PERGIDAU_NO_LINK_CHECK before the header for a file that is not linked with the library.",
+        ], [])
+        + f"extern const char {symbol};\n"
+        + "#if defined(__GNUC__) && !defined(PERGIDAU_NO_LINK_CHECK)\n"
+        + "__attribute__((__used__, __unused__)) static const char *const pergidau_linked =\n"
+        + f"    &{symbol};\n#endif\n\n"
+        + comment(['The version of the library that is linked, as PERGIDAU_VERSION is written.'], [])
+        + "const char *pergidau_version(void);\n\n"
+        + comment([
+            "1 where each function of the library that is linked was proved before it was compiled; 0",
+            "where it was built with no proof, by `bindings/build --unproved`, to try it.",
+        ], [])
+        + "int pergidau_is_proved(void);\n\n"
+    )
+
+
+def cases(items_of, names):
+    """The cases of an enum, with its end."""
+    text = ""
+    for item in items_of:
+        text += comment(item.words, names, "    ") + f"    PERGIDAU_{item.name} = {item.parts[0]},\n"
+    return text + "};\n\n"
+
+
 def header(codes, constants, structs, exports):
     names = [*codes, *constants]
     text = f"/* {WRITTEN} */\n"
@@ -158,14 +241,24 @@ def header(codes, constants, structs, exports):
         "",
         "A call keeps nothing, and has no state: calls may run side by side. Memory that one takes, by",
         "malloc, it gives back before it ends.",
+        "",
+        *COST,
     ], names)
     text += "#ifndef PERGIDAU_H\n#define PERGIDAU_H\n\n#include <stddef.h>\n#include <stdint.h>\n\n"
-    text += "#ifdef __cplusplus\nextern \"C\" {\n#endif\n\n/* How a call ended. */\nenum pergidau_code {\n"
-    for code in codes:
-        text += comment(code.words, names, "    ") + f"    PERGIDAU_{code.name} = {code.parts[0]},\n"
-    text += "};\n\n"
+    text += of_version()
+    text += "#ifdef __cplusplus\nextern \"C\" {\n#endif\n\n"
+    text += calls_of_version(linked(codes, constants, structs, exports))
+    text += "/* How a call ended. */\nenum pergidau_code {\n"
+    text += cases(codes, names)
+    text += comment(["What a code says, in English, with no full stop. The text is never freed."], names)
+    text += "const char *pergidau_message(enum pergidau_code code);\n\n"
     for constant in constants:
-        text += comment(constant.words, names) + f"#define PERGIDAU_{constant.name} {constant.parts[0]}\n\n"
+        if kind(constant.name) is None:
+            text += comment(constant.words, names)
+            text += f"#define PERGIDAU_{constant.name} {constant.parts[0]}\n\n"
+    for begin, (name, words) in KINDS.items():
+        text += comment([words], names) + f"enum pergidau_{name} {{\n"
+        text += cases([it for it in constants if kind(it.name) == begin], names)
     for struct in structs:
         text += comment(struct.words, names) + f"struct {snake(struct.name)} {{\n"
         for field in struct.parts:
@@ -200,7 +293,19 @@ def body(export):
     return text, nothing, ", ".join(passed)
 
 
-def glue(codes, structs, exports):
+def answers(codes, symbol):
+    """The functions of the library that are written in C alone."""
+    text = f"\nconst char {symbol} = 0;\n"
+    text += "\nconst char *pergidau_version(void)\n{\n    return PERGIDAU_VERSION;\n}\n"
+    text += "\nint pergidau_is_proved(void)\n{\n#ifdef PERGIDAU_UNPROVED\n    return 0;\n#else\n"
+    text += "    return 1;\n#endif\n}\n"
+    text += "\nconst char *pergidau_message(enum pergidau_code code)\n{\n    switch (code) {\n"
+    for code in codes:
+        text += f'    case PERGIDAU_{code.name}:\n        return "{message(code)}";\n'
+    return text + '    }\n    return "this is no code of Pergidau";\n}\n'
+
+
+def glue(codes, constants, structs, exports):
     text = f"/* {WRITTEN} */\n"
     text += comment([
         "What stands between a caller in C and the exports, each of which asks for pointers that are",
@@ -209,6 +314,7 @@ def glue(codes, structs, exports):
     text += '#include "pergidau.h"\n\n'
     for export in exports:
         text += signature("exported", "uint32_t", export) + ";\n"
+    text += answers(codes, linked(codes, constants, structs, exports))
     for export in exports:
         tests, nothing, passed = body(export)
         text += "\n" + signature("pergidau", "enum pergidau_code", export) + "\n{\n"
@@ -223,7 +329,8 @@ def rust_words(words, indent=""):
 
 
 def rust(codes, constants, structs, exports):
-    text = f"//! The exports of the static library.\n//!\n//! {WRITTEN}\n"
+    text = f"//! The exports of the library.\n//!\n//! {WRITTEN}\n"
+    text += "use core::ffi::{c_char, c_int};\n"
     for item, form in [*((it, "u32") for it in codes if it.name not in OF_C), *((it, "usize") for it in constants)]:
         text += f"\n{rust_words(item.words)}pub const {item.name}: {form} = {item.parts[0]};\n"
     for struct in structs:
@@ -232,7 +339,14 @@ def rust(codes, constants, structs, exports):
         for field in struct.parts:
             text += f"{rust_words(field.words, '    ')}    pub {field.name}: {field.parts[0]},\n"
         text += "}\n"
+    symbol = linked(codes, constants, structs, exports)
     text += '\nextern "C" {\n'
+    text += "    /// Stands in a library of this version and with these declarations alone.\n"
+    text += f'    #[link_name = "{symbol}"]\n    static VERSION_LINKED: c_char;\n\n'
+    text += "    /// The version of the library that is linked.\n"
+    text += "    pub fn pergidau_version() -> *const c_char;\n\n"
+    text += "    /// 1 where the library that is linked was proved, else 0.\n"
+    text += "    pub fn pergidau_is_proved() -> c_int;\n\n"
     for number, export in enumerate(exports):
         made = []
         for name, written in export.parts:
@@ -242,15 +356,29 @@ def rust(codes, constants, structs, exports):
             made += [f"{name}: {star}{inside}", *length]
         text += "\n" * (number > 0) + rust_words(export.words, "    ")
         text += f"    pub fn exported_{export.name}(\n        " + ",\n        ".join(made) + ",\n    ) -> u32;\n"
-    return text + "}\n"
+    text += "}\n\n/// A place in the library that can be shared between threads: nothing is read there.\n"
+    text += "#[repr(transparent)]\npub struct Linked(*const c_char);\n\n"
+    text += "// SAFETY: the pointer is never read through.\nunsafe impl Sync for Linked {}\n\n"
+    text += "/// Has each program with this crate link with a library of this version alone.\n#[used]\n"
+    text += "// SAFETY: nothing is read there. Compilers before 1.82 ask for the block.\n"
+    text += "#[allow(unused_unsafe)]\n"
+    text += "pub static LINKED: Linked = Linked(unsafe { core::ptr::addr_of!(VERSION_LINKED) });\n"
+    return text
+
+
+def manifest():
+    """The manifest of the crate for Rust, with the version."""
+    text = (BINDINGS / "rust/Cargo.toml").read_text(encoding="utf-8")
+    return re.sub(r'^version = ".*"$', f'version = "{".".join(version())}"', text, count=1, flags=re.M)
 
 
 def main(words):
     codes, constants, structs, exports = items()
     made = {
         "c/pergidau.h": header(codes, constants, structs, exports),
-        "c/pergidau.c": glue(codes, structs, exports),
+        "c/pergidau.c": glue(codes, constants, structs, exports),
         "rust/src/exports.rs": rust(codes, constants, structs, exports),
+        "rust/Cargo.toml": manifest(),
     }
     wrong = 0
     for name, text in made.items():

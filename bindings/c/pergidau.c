@@ -81,6 +81,49 @@ uint32_t exported_text_position(
     size_t offset,
     struct pergidau_position *out);
 
+const char pergidau_0_0_0_declared_ec0adfcb = 0;
+
+const char *pergidau_version(void)
+{
+    return PERGIDAU_VERSION;
+}
+
+int pergidau_is_proved(void)
+{
+#ifdef PERGIDAU_UNPROVED
+    return 0;
+#else
+    return 1;
+#endif
+}
+
+const char *pergidau_message(enum pergidau_code code)
+{
+    switch (code) {
+    case PERGIDAU_DONE:
+        return "the bytes were read, and what was found is written";
+    case PERGIDAU_REFUSED:
+        return "the bytes are not what is read";
+    case PERGIDAU_INCOMPLETE:
+        return "the bytes are not yet what is read, and with more behind them they may be";
+    case PERGIDAU_NO_MEMORY:
+        return "a request for memory was refused";
+    case PERGIDAU_NO_TEXT:
+        return "the bytes are no UTF-8, where text is asked for";
+    case PERGIDAU_TOO_SMALL:
+        return "the buffer has too few entries";
+    case PERGIDAU_TOO_DEEP:
+        return "more levels are asked for than PERGIDAU_MOST_LEVELS";
+    case PERGIDAU_NULL:
+        return "a pointer is null where something is to be read or written";
+    case PERGIDAU_TOO_LONG:
+        return "a length is more than PTRDIFF_MAX bytes";
+    case PERGIDAU_END:
+        return "nothing more stands there: white space at most, and a closing bracket or the end";
+    }
+    return "this is no code of Pergidau";
+}
+
 enum pergidau_code pergidau_calc_value(
     const uint8_t *text,
     size_t text_length,

@@ -10,6 +10,11 @@
  *
  * A call keeps nothing, and has no state: calls may run side by side. Memory that one takes,
  * by malloc, it gives back before it ends.
+ *
+ * What a call costs in memory and stack is measured, on inputs made to cost much
+ * (bindings/tests/cost.c), and not proved. Memory is what is held at once, two blocks where
+ * one grows. At 512 levels a call took up to 107 KiB of stack, and one without levels 4 KiB:
+ * what is asked for leaves room. Where less is left, a guard page ends the program.
  */
 #ifndef PERGIDAU_H
 #define PERGIDAU_H
@@ -17,9 +22,35 @@
 #include <stddef.h>
 #include <stdint.h>
 
+/* The version that this header is of: the last release, or what follows it. */
+#define PERGIDAU_VERSION_MAJOR 0
+#define PERGIDAU_VERSION_MINOR 0
+#define PERGIDAU_VERSION_PATCH 0
+#define PERGIDAU_VERSION "0.0.0"
+
 #ifdef __cplusplus
 extern "C" {
 #endif
+
+/*
+ * Stands in a library of this version and with these declarations alone. Each file that
+ * includes this header refers to it, so that it links with no other library. Define
+ * PERGIDAU_NO_LINK_CHECK before the header for a file that is not linked with the library.
+ */
+extern const char pergidau_0_0_0_declared_ec0adfcb;
+#if defined(__GNUC__) && !defined(PERGIDAU_NO_LINK_CHECK)
+__attribute__((__used__, __unused__)) static const char *const pergidau_linked =
+    &pergidau_0_0_0_declared_ec0adfcb;
+#endif
+
+/* The version of the library that is linked, as PERGIDAU_VERSION is written. */
+const char *pergidau_version(void);
+
+/*
+ * 1 where each function of the library that is linked was proved before it was compiled; 0
+ * where it was built with no proof, by bindings/build --unproved, to try it.
+ */
+int pergidau_is_proved(void);
 
 /* How a call ended. */
 enum pergidau_code {
@@ -48,53 +79,50 @@ enum pergidau_code {
     PERGIDAU_END = 9,
 };
 
+/* What a code says, in English, with no full stop. The text is never freed. */
+const char *pergidau_message(enum pergidau_code code);
+
 /*
  * How many levels of arrays and objects in one another may be asked for. Each takes some of
  * the stack.
  */
 #define PERGIDAU_MOST_LEVELS 512
 
-/* The word null. */
-#define PERGIDAU_JSON_NULL 0
+/* What a value of JSON is: what kind of an item of JSON is. */
+enum pergidau_json_kind {
+    /* The word null. */
+    PERGIDAU_JSON_NULL = 0,
+    /* The word false. */
+    PERGIDAU_JSON_FALSE = 1,
+    /* The word true. */
+    PERGIDAU_JSON_TRUE = 2,
+    /* A number. */
+    PERGIDAU_JSON_NUMBER = 3,
+    /* A string: its place has the quotes round it, and escapes as they are written. */
+    PERGIDAU_JSON_STRING = 4,
+    /* An array: its place has the brackets round it. */
+    PERGIDAU_JSON_ARRAY = 5,
+    /* An object: its place has the brackets round it. */
+    PERGIDAU_JSON_OBJECT = 6,
+};
 
-/* The word false. */
-#define PERGIDAU_JSON_FALSE 1
-
-/* The word true. */
-#define PERGIDAU_JSON_TRUE 2
-
-/* A number. */
-#define PERGIDAU_JSON_NUMBER 3
-
-/* A string: its place has the quotes round it, and escapes as they are written. */
-#define PERGIDAU_JSON_STRING 4
-
-/* An array: its place has the brackets round it. */
-#define PERGIDAU_JSON_ARRAY 5
-
-/* An object: its place has the brackets round it. */
-#define PERGIDAU_JSON_OBJECT 6
-
-/* A simple string: bytes among which is neither a carriage return nor a line feed. */
-#define PERGIDAU_RESP_SIMPLE 0
-
-/* An error: such bytes. */
-#define PERGIDAU_RESP_ERROR 1
-
-/* An integer. */
-#define PERGIDAU_RESP_INTEGER 2
-
-/* A bulk string: any bytes. */
-#define PERGIDAU_RESP_BULK 3
-
-/* The null bulk string. */
-#define PERGIDAU_RESP_NULL_BULK 4
-
-/* An array. */
-#define PERGIDAU_RESP_ARRAY 5
-
-/* The null array. */
-#define PERGIDAU_RESP_NULL_ARRAY 6
+/* What a reply of Redis is: what kind of a reply is. */
+enum pergidau_resp_kind {
+    /* A simple string: bytes among which is neither a carriage return nor a line feed. */
+    PERGIDAU_RESP_SIMPLE = 0,
+    /* An error: such bytes. */
+    PERGIDAU_RESP_ERROR = 1,
+    /* An integer. */
+    PERGIDAU_RESP_INTEGER = 2,
+    /* A bulk string: any bytes. */
+    PERGIDAU_RESP_BULK = 3,
+    /* The null bulk string. */
+    PERGIDAU_RESP_NULL_BULK = 4,
+    /* An array. */
+    PERGIDAU_RESP_ARRAY = 5,
+    /* The null array. */
+    PERGIDAU_RESP_NULL_ARRAY = 6,
+};
 
 /* A place in the caller's bytes: so many of them, from one on. */
 struct pergidau_span {
@@ -227,11 +255,15 @@ struct pergidau_position {
  *
  * PERGIDAU_DONE: the value is written. PERGIDAU_REFUSED: the text is no formula, or a number
  * or a result in it does not fit 64 bits with a sign, a divisor is 0, an exponent is negative,
- * or a factorial is of a negative number; the place is written. PERGIDAU_NO_TEXT,
- * PERGIDAU_NO_MEMORY.
+ * or a factorial is of a negative number; so is % where the quotient does not fit, as in -2 ^
+ * 63 % -1. The place is written: an end of the text, or one between two of its characters.
+ * That the formula was read up to there when it was refused is tested, not proved.
+ * PERGIDAU_NO_TEXT, PERGIDAU_NO_MEMORY.
+ *
+ * While it runs it holds up to 100 bytes of memory for each byte of the text.
  *
  * The caller owes text_length bytes at text that can be read and that nothing changes while
- * the call runs, and room for one number at out, apart from them.
+ * the call runs, room for one number at out, apart from them, and 16 KiB of stack.
  */
 enum pergidau_code pergidau_calc_value(
     const uint8_t *text,
@@ -251,9 +283,12 @@ enum pergidau_code pergidau_calc_value(
  * that wants more entries or more bytes than the buffers have; how many of both is written,
  * and the buffers are left as they were. PERGIDAU_NO_MEMORY.
  *
+ * While it runs it holds up to 80 bytes of memory for each byte of the record, also where it
+ * then answers PERGIDAU_REFUSED or PERGIDAU_TOO_SMALL.
+ *
  * The caller owes bytes_length bytes at bytes that can be read and that nothing changes while
  * the call runs, text_length bytes at text and fields_length entries at fields that can be
- * written, and room for one record at out, each apart from the others.
+ * written, room for one record at out, each apart from the others, and 16 KiB of stack.
  */
 enum pergidau_code pergidau_csv_record(
     const uint8_t *bytes,
@@ -266,18 +301,21 @@ enum pergidau_code pergidau_csv_record(
     struct pergidau_record *out);
 
 /*
- * The same record where the bytes come in pieces: what it answers is that of all longer bytes
- * too.
+ * The same record where the bytes come in pieces: a record or a refusal that it answers is
+ * that of all longer bytes too.
  *
  * PERGIDAU_DONE, PERGIDAU_TOO_SMALL, PERGIDAU_NO_MEMORY: as for a record that is whole.
- * PERGIDAU_INCOMPLETE: no record with its line end is there yet; also where none can come, so
- * the caller bounds how many bytes are held. PERGIDAU_REFUSED: whatever comes behind the
- * bytes, they begin with no record. The last record may have no line end: where no more bytes
- * come, the call for whole ones reads it.
+ * PERGIDAU_INCOMPLETE: no record with its line end is there. It does not say that one can
+ * come: so it answers of x"y too, with which no record begins, and the caller bounds how many
+ * bytes are held. PERGIDAU_REFUSED: whatever comes behind the bytes, they begin with no
+ * record; today that is answered only of more than 2^61 bytes. The last record may have no
+ * line end: where no more bytes come, the call for whole ones reads it.
+ *
+ * Each call reads from the first byte on, and holds as much memory as that for a whole record.
  *
  * The caller owes bytes_length bytes at bytes that can be read and that nothing changes while
  * the call runs, text_length bytes at text and fields_length entries at fields that can be
- * written, and room for one record at out, each apart from the others.
+ * written, room for one record at out, each apart from the others, and 16 KiB of stack.
  */
 enum pergidau_code pergidau_csv_record_in_pieces(
     const uint8_t *bytes,
@@ -298,9 +336,14 @@ enum pergidau_code pergidau_csv_record_in_pieces(
  * has more fields than the buffer has entries; how many it has is written, and the buffer is
  * left as it was. PERGIDAU_NO_MEMORY.
  *
+ * No empty line is passed before the request line: a server that is to be lenient, as section
+ * 2.2 of RFC 9112 has it, passes one CRLF there itself. While it runs it holds up to 32 bytes
+ * of memory for each byte of the head, also where it then answers PERGIDAU_REFUSED or
+ * PERGIDAU_TOO_SMALL.
+ *
  * The caller owes bytes_length bytes at bytes that can be read and that nothing changes while
- * the call runs, fields_length entries at fields that can be written, and room for one head at
- * out, each apart from the others.
+ * the call runs, fields_length entries at fields that can be written, room for one head at
+ * out, each apart from the others, and 16 KiB of stack.
  */
 enum pergidau_code pergidau_http_head(
     const uint8_t *bytes,
@@ -316,9 +359,11 @@ enum pergidau_code pergidau_http_head(
  * PERGIDAU_INCOMPLETE: the bytes begin with no head, and with more behind them they can.
  * PERGIDAU_REFUSED: whatever comes behind the bytes, they begin with no head.
  *
+ * Each call reads from the first byte on, and holds as much memory as that for a whole head.
+ *
  * The caller owes bytes_length bytes at bytes that can be read and that nothing changes while
- * the call runs, fields_length entries at fields that can be written, and room for one head at
- * out, each apart from the others.
+ * the call runs, fields_length entries at fields that can be written, room for one head at
+ * out, each apart from the others, and 16 KiB of stack.
  */
 enum pergidau_code pergidau_http_head_in_pieces(
     const uint8_t *bytes,
@@ -335,7 +380,7 @@ enum pergidau_code pergidau_http_head_in_pieces(
  * written is the length of their longest beginning that begins one.
  *
  * The caller owes bytes_length bytes at bytes that can be read and that nothing changes while
- * the call runs, and room for one pair at out, apart from them.
+ * the call runs, room for one pair at out, apart from them, and 16 KiB of stack.
  */
 enum pergidau_code pergidau_ini_pair(
     const uint8_t *bytes,
@@ -352,13 +397,18 @@ enum pergidau_code pergidau_ini_pair(
  * PERGIDAU_DONE: the bytes of its entries are written into text, those of the key before those
  * of the value and one entry behind the other, and so many places there, in order: of each
  * section its head, and then its pairs. PERGIDAU_REFUSED: the bytes are no document; written
- * is the length of their longest beginning that is made of such parts. PERGIDAU_TOO_SMALL:
- * they are one that wants more entries or more bytes than the buffers have; how many of both
- * is written, and the buffers are left as they were. PERGIDAU_NO_MEMORY.
+ * is the length of their longest beginning that is made of such parts, each of which is one
+ * where it stands in all of the bytes: a pair ends where its line does, so of [a], a line
+ * feed, and x= before a byte that is no UTF-8 it is 4. PERGIDAU_TOO_SMALL: they are one that
+ * wants more entries or more bytes than the buffers have; how many of both is written, and the
+ * buffers are left as they were. PERGIDAU_NO_MEMORY.
+ *
+ * While it runs it holds up to 100 bytes of memory for each byte of the document, also where
+ * it then answers PERGIDAU_REFUSED or PERGIDAU_TOO_SMALL.
  *
  * The caller owes bytes_length bytes at bytes that can be read and that nothing changes while
  * the call runs, text_length bytes at text and entries_length entries at entries that can be
- * written, and room for one document at out, each apart from the others.
+ * written, room for one document at out, each apart from the others, and 16 KiB of stack.
  */
 enum pergidau_code pergidau_ini_document(
     const uint8_t *bytes,
@@ -440,6 +490,9 @@ enum pergidau_code pergidau_json_next(
  * PERGIDAU_TOO_DEEP: more than 512 levels are asked for. PERGIDAU_NO_MEMORY. With these three
  * all that is written is 0.
  *
+ * While it runs it holds up to 32 bytes of memory for each byte of the reply, and 2 KiB for
+ * each level of arrays that has begun.
+ *
  * The caller owes bytes_length bytes at bytes that can be read and that nothing changes while
  * the call runs, room for one reply at out, apart from them, and 512 KiB of stack.
  */
@@ -458,6 +511,8 @@ enum pergidau_code pergidau_resp_reply(
  * there is tested, not proved. PERGIDAU_REFUSED: whatever comes behind the bytes, they begin
  * with no reply. With these two all that is written is 0 too.
  *
+ * Each call reads from the first byte on, and holds as much memory as that for a whole reply.
+ *
  * The caller owes bytes_length bytes at bytes that can be read and that nothing changes while
  * the call runs, room for one reply at out, apart from them, and 512 KiB of stack.
  */
@@ -474,7 +529,7 @@ enum pergidau_code pergidau_resp_reply_in_pieces(
  * printed, and a place behind the end is the end.
  *
  * The caller owes bytes_length bytes at bytes that can be read and that nothing changes while
- * the call runs, and room for one position at out, apart from them.
+ * the call runs, room for one position at out, apart from them, and 16 KiB of stack.
  */
 enum pergidau_code pergidau_text_position(
     const uint8_t *bytes,

@@ -1,15 +1,78 @@
-//! Links the static library, which `bindings/build` puts into `bindings/out`. `PERGIDAU_LIB` names
-//! another folder.
+//! Finds the library, and has it linked: in the folder that `PERGIDAU_LIB` names, else where
+//! `pkg-config` says, else in `bindings/out` beside this crate, where `bindings/build` puts it. Where
+//! `PERGIDAU_UNPROVED` is 1, it is the one that was built with no proof.
 use std::env;
-use std::path::PathBuf;
+use std::path::{Path, PathBuf};
+use std::process::Command;
+
+const VERSION: &str = env!("CARGO_PKG_VERSION");
+
+/// What `pkg-config` answers.
+fn asked(words: &[&str]) -> Option<String> {
+    let program = env::var("PKG_CONFIG").unwrap_or_else(|_| "pkg-config".to_string());
+    let done = Command::new(program).args(words).output().ok()?;
+    let text = String::from_utf8(done.stdout).ok()?;
+    done.status.success().then(|| text.trim().to_string())
+}
+
+/// Whether the library stands in a folder, and is then linked from there: the static one before the
+/// shared one.
+fn links(folder: &Path, name: &str) -> bool {
+    for (file, kind) in [(format!("lib{name}.a"), "static"), (format!("lib{name}.so"), "dylib")] {
+        println!("cargo:rerun-if-changed={}", folder.join(&file).display());
+        if folder.join(file).is_file() {
+            println!("cargo:rustc-link-search=native={}", folder.display());
+            println!("cargo:rustc-link-lib={kind}={name}");
+            return true;
+        }
+    }
+    false
+}
+
+/// The folder that `pkg-config` names, if the version is that of this crate.
+fn installed(name: &str) -> Result<PathBuf, String> {
+    let found = asked(&["--modversion", name]).ok_or("pkg-config knows none")?;
+    if found != VERSION {
+        return Err(format!("pkg-config knows the version {found}"));
+    }
+    asked(&["--variable=libdir", name]).map(PathBuf::from).ok_or("pkg-config names none".into())
+}
 
 fn main() {
-    println!("cargo:rerun-if-env-changed=PERGIDAU_LIB");
-    let folder = match env::var("PERGIDAU_LIB") {
-        Ok(folder) => PathBuf::from(folder),
-        Err(_) => PathBuf::from(env::var("CARGO_MANIFEST_DIR").unwrap()).join("../out"),
+    for name in ["PERGIDAU_LIB", "PERGIDAU_UNPROVED", "PKG_CONFIG", "PKG_CONFIG_PATH", "DOCS_RS"] {
+        println!("cargo:rerun-if-env-changed={name}");
+    }
+    // Where documentation alone is written, nothing is linked.
+    if env::var_os("DOCS_RS").is_some() {
+        return;
+    }
+    let is_unproved = env::var("PERGIDAU_UNPROVED").is_ok_and(|it| it == "1");
+    let name = if is_unproved { "pergidau_unproved" } else { "pergidau" };
+    let here = PathBuf::from(env::var("CARGO_MANIFEST_DIR").unwrap()).join("../out");
+    let asked_for = env::var("PERGIDAU_LIB").map(PathBuf::from);
+    let installed = installed(name);
+    let folders = match (&asked_for, &installed) {
+        (Ok(folder), _) => vec![folder],
+        (_, Ok(folder)) => vec![folder, &here],
+        _ => vec![&here],
     };
-    println!("cargo:rerun-if-changed={}", folder.join("libpergidau.a").display());
-    println!("cargo:rustc-link-search=native={}", folder.display());
-    println!("cargo:rustc-link-lib=static=pergidau");
+    if folders.iter().any(|it| links(it, name)) {
+        return;
+    }
+    let build = if is_unproved { "bindings/build --unproved" } else { "bindings/build" };
+    eprintln!("There is no lib{name}.a or lib{name}.so of the version {VERSION}:");
+    match (asked_for, installed) {
+        (Ok(folder), _) => eprintln!("- PERGIDAU_LIB names {}", folder.display()),
+        (_, Ok(folder)) => eprintln!("- pkg-config names {}", folder.display()),
+        (_, Err(why)) => eprintln!("- PERGIDAU_LIB is not set, and {why}"),
+    }
+    eprintln!("Build it in a clone of Pergidau, which needs Rattle's rt, a C compiler and ar:");
+    eprintln!("    {build}");
+    eprintln!("and set PERGIDAU_LIB to its folder bindings/out, or install it, and set PKG_CONFIG_PATH:");
+    eprintln!("    make -C bindings install PREFIX=/usr/local");
+    if !is_unproved {
+        eprintln!("To try it in half a minute, with no proof: bindings/build --unproved, and set");
+        eprintln!("PERGIDAU_UNPROVED=1 here.");
+    }
+    std::process::exit(1);
 }

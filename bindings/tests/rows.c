@@ -52,6 +52,11 @@ static const struct {
     {"9223372036854775807+1", PERGIDAU_REFUSED, 0, 21},
     {"(1)", PERGIDAU_REFUSED, 0, 0},
     {"\xff", PERGIDAU_NO_TEXT, 0, 0},
+    /* The remainder would be 0, and the quotient does not fit. */
+    {"-2^63", PERGIDAU_DONE, INT64_MIN, 0},
+    {"-2^63%-1", PERGIDAU_REFUSED, 0, 8},
+    {"-2^63/-1", PERGIDAU_REFUSED, 0, 8},
+    {"7%0", PERGIDAU_REFUSED, 0, 3},
 };
 
 static void test_formulas(void)
@@ -214,6 +219,9 @@ static const struct {
     {0, ":1]", PERGIDAU_DONE, PERGIDAU_JSON_NUMBER, 1, 1},
     {0, "01", PERGIDAU_DONE, PERGIDAU_JSON_NUMBER, 0, 1},
     {0, "nullx", PERGIDAU_DONE, PERGIDAU_JSON_NULL, 0, 4},
+    {0, ", false", PERGIDAU_DONE, PERGIDAU_JSON_FALSE, 2, 5},
+    {0, "true]", PERGIDAU_DONE, PERGIDAU_JSON_TRUE, 0, 4},
+    {1, ":{}", PERGIDAU_DONE, PERGIDAU_JSON_OBJECT, 1, 2},
     {0, " \t\r\n]", PERGIDAU_END, 0, 0, 0},
     {0, "}", PERGIDAU_END, 0, 0, 0},
     {0, "", PERGIDAU_END, 0, 0, 0},
@@ -283,6 +291,8 @@ static const struct {
     {"[a]\nx\n", PERGIDAU_REFUSED, {{0}}, 0, 4},
     {"[a]\nx=1\n [b", PERGIDAU_REFUSED, {{0}}, 0, 9},
     {"[a]\nx=\xff", PERGIDAU_REFUSED, {{0}}, 0, 4},
+    /* Its first 8 bytes are a document, but not where they stand: the pair goes to its line's end. */
+    {"[a]\nx=ab\xff\n", PERGIDAU_REFUSED, {{0}}, 0, 4},
 };
 
 static void test_document(size_t i)
@@ -366,27 +376,37 @@ static const char hello[] = "GET /hello.txt HTTP/1.1\r\nUser-Agent: curl/7.64.1\
 static const struct {
     const char *text, *method, *target, *fields[3][2];
     size_t count, rest;
+    /* The numbers of the version. */
+    int major, minor;
 } heads[] = {
     {hello,
      "GET",
      "/hello.txt",
      {{"User-Agent", "curl/7.64.1"}, {"Host", "www.example.com"}, {"Accept-Language", "en, mi"}},
      3,
-     0},
-    {"A b HTTP/1.1\r\n\r\n", "A", "b", {{0}}, 0, 0},
-    {"A b HTTP/1.1\r\n\r\n\r\n", "A", "b", {{0}}, 0, 2},
+     0,
+     1,
+     1},
+    {"A b HTTP/1.1\r\n\r\n", "A", "b", {{0}}, 0, 0, 1, 1},
+    {"A b HTTP/1.0\r\n\r\n", "A", "b", {{0}}, 0, 0, 1, 0},
+    {"A b HTTP/2.9\r\n\r\n", "A", "b", {{0}}, 0, 0, 2, 9},
+    {"A b HTTP/1.1\r\n\r\n\r\n", "A", "b", {{0}}, 0, 2, 1, 1},
     {"PUT /x HTTP/1.1\r\nX: 1\r\nX:\t2 \r\nY:\r\n\r\nX: 3\r\n\r\n",
      "PUT",
      "/x",
      {{"X", "1"}, {"X", "2"}, {"Y", ""}},
      3,
-     8},
+     8,
+     1,
+     1},
     {"PUT /x HTTP/1.1\r\nX: \t \r\nY:a\t \t\r\nZ: a b \r\n\r\n",
      "PUT",
      "/x",
      {{"X", ""}, {"Y", "a"}, {"Z", "a b"}},
      3,
-     0},
+     0,
+     1,
+     1},
 };
 
 /* With more behind them these are no heads either. */
@@ -417,7 +437,8 @@ static void test_heads(void)
                  PERGIDAU_DONE);
             shown(row, text, out.method, heads[i].method);
             shown(row, text, out.target, heads[i].target);
-            same("the version", row, out.major * 10 + out.minor, 11);
+            same("the major version", row, out.major, heads[i].major);
+            same("the minor version", row, out.minor, heads[i].minor);
             same("the length", row, (long long)out.length, (long long)(length - heads[i].rest));
             same("the fields", row, (long long)out.fields, (long long)count);
             for (size_t k = 0; k < count; k++) {
@@ -644,6 +665,14 @@ static void test_positions(void)
                                                            &out), PERGIDAU_DONE);
     same("the line", "a line", (long long)out.line, 2);
     same("the column", "a line", (long long)out.column, 5);
+    same("null", "position", pergidau_text_position(NULL, 1, 0, &out), PERGIDAU_NULL);
+    same("null", "position", pergidau_text_position((const uint8_t *)"1", 1, 0, NULL),
+         PERGIDAU_NULL);
+    same("too long", "position",
+         pergidau_text_position((const uint8_t *)"1", (size_t)PTRDIFF_MAX + 1, 0, &out),
+         PERGIDAU_TOO_LONG);
+    same("nothing", "position", pergidau_text_position(NULL, 0, 1, &out), PERGIDAU_DONE);
+    same("the line", "nothing", (long long)out.line, 1);
 }
 
 static void test_wrong_records(void)
@@ -700,6 +729,7 @@ static void test_wrong_use(void)
     same("nothing", "check", pergidau_json_check(NULL, 0, 1), PERGIDAU_REFUSED);
     same("null", "value", pergidau_json_value(NULL, 1, 1, &length), PERGIDAU_NULL);
     same("null", "value", pergidau_json_value(bytes, 1, 1, NULL), PERGIDAU_NULL);
+    same("too long", "value", pergidau_json_value(bytes, far, 1, &length), PERGIDAU_TOO_LONG);
     same("too deep", "value", pergidau_json_value(bytes, 1, SIZE_MAX, &length),
          PERGIDAU_TOO_DEEP);
     same("null", "head", pergidau_http_head(NULL, 1, fields, 1, &head), PERGIDAU_NULL);
@@ -717,8 +747,46 @@ static void test_wrong_use(void)
     test_wrong_records();
 }
 
+/* What the library says of itself, and of each code. */
+static void test_library(void)
+{
+    char version[32];
+    snprintf(version, sizeof version, "%d.%d.%d", PERGIDAU_VERSION_MAJOR, PERGIDAU_VERSION_MINOR,
+             PERGIDAU_VERSION_PATCH);
+    same("the version", PERGIDAU_VERSION, strcmp(version, PERGIDAU_VERSION), 0);
+    same("the version", pergidau_version(), strcmp(version, pergidau_version()), 0);
+#ifdef IS_PROVED
+    same("is proved", "the library", pergidau_is_proved(), IS_PROVED);
+#endif
+    static const char *const messages[] = {
+        "the bytes were read, and what was found is written",
+        "the bytes are not what is read",
+        "the bytes are not yet what is read, and with more behind them they may be",
+        "a request for memory was refused",
+        "the bytes are no UTF-8, where text is asked for",
+        "the buffer has too few entries",
+        "more levels are asked for than PERGIDAU_MOST_LEVELS",
+        "a pointer is null where something is to be read or written",
+        "a length is more than PTRDIFF_MAX bytes",
+        "nothing more stands there: white space at most, and a closing bracket or the end",
+        "this is no code of Pergidau",
+    };
+    for (int code = 0; code <= PERGIDAU_END + 1; code++) {
+        const char *message = pergidau_message((enum pergidau_code)code);
+        same("the message", messages[code], strcmp(message, messages[code]), 0);
+    }
+    same("kinds", "JSON", PERGIDAU_JSON_NULL, 0);
+    same("kinds", "JSON", PERGIDAU_JSON_OBJECT, 6);
+    same("kinds", "RESP", PERGIDAU_RESP_NULL_ARRAY, 6);
+    struct pergidau_json_item item;
+    struct pergidau_reply reply;
+    same("the size of a kind", "JSON", sizeof item.kind, sizeof(size_t));
+    same("the size of a kind", "RESP", sizeof reply.kind, sizeof(size_t));
+}
+
 int main(void)
 {
+    test_library();
     test_formulas();
     test_pairs();
     test_json();

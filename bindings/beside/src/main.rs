@@ -66,7 +66,7 @@ fn records_by_library(text: &[u8]) -> usize {
     let (mut bytes, mut fields) = ([0; 256], [pergidau::Span::default(); 16]);
     let (mut rest, mut sum) = (text, 0);
     while let Ok(record) =
-        pergidau::csv_record(rest, pergidau::LineEnd::Lf, &mut bytes, &mut fields)
+        pergidau::csv::record(rest, pergidau::csv::LineEnd::Lf, &mut bytes, &mut fields)
     {
         sum += record.fields().map(<[u8]>::len).sum::<usize>();
         rest = record.rest();
@@ -87,7 +87,7 @@ fn records_by_csv(text: &[u8]) -> usize {
 }
 
 /// How many values a text of JSON has, itself among them.
-fn values(value: pergidau::Json) -> usize {
+fn values(value: pergidau::json::Value) -> usize {
     1 + value.elements().map(values).sum::<usize>()
         + value.members().map(|(_, it)| values(it)).sum::<usize>()
 }
@@ -95,7 +95,7 @@ fn values(value: pergidau::Json) -> usize {
 fn values_by_library(text: &[u8]) -> usize {
     std::str::from_utf8(text)
         .ok()
-        .and_then(|it| pergidau::json(it, 16).ok())
+        .and_then(|it| pergidau::json::parse(it, 16).ok())
         .map_or(0, values)
 }
 
@@ -111,9 +111,9 @@ fn values_by_serde(text: &[u8]) -> usize {
 }
 
 fn by_library(text: &[u8]) -> usize {
-    let mut fields = [pergidau::Field::default(); 32];
+    let mut fields = [pergidau::http::Field::default(); 32];
     let (mut rest, mut sum) = (text, 0);
-    while let Ok(head) = pergidau::http_head(rest, &mut fields) {
+    while let Ok(head) = pergidau::http::head(rest, &mut fields) {
         sum += head.fields().map(|(_, value)| value.len()).sum::<usize>();
         rest = head.rest();
     }
@@ -139,7 +139,7 @@ fn main() {
     let turns = std::env::args().nth(1).and_then(|it| it.parse().ok()).unwrap_or(50);
     println!("| Work | Bytes | By | MB/s | Requests | Bytes asked for |\n|---|---|---|---|---|---|");
     row("check of a text of JSON", &json(), turns, &[
-        ("this library", &|text| usize::from(pergidau::json_check(text, 16).is_ok())),
+        ("this library", &|text| usize::from(pergidau::json::check(text, 16).is_ok())),
         ("serde_json, `IgnoredAny`", &|text| {
             usize::from(serde_json::from_slice::<serde::de::IgnoredAny>(text).is_ok())
         }),

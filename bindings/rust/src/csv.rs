@@ -1,8 +1,15 @@
-//! Records of comma separated values.
-use crate::exports::{self, Span};
-use crate::{at, Error, Wanted};
+//! Records of comma separated values (RFC 4180), whole and in pieces.
+//!
+//! ```
+//! use pergidau::csv::{self, LineEnd};
+//!
+//! let records: Result<Vec<_>, _> = csv::records(b"a,\"b, c\"\r\n1,2\r\n", LineEnd::CrLf).collect();
+//! assert_eq!(records?, [[b"a".to_vec(), b"b, c".to_vec()], [b"1".to_vec(), b"2".to_vec()]]);
+//! # Ok::<(), pergidau::Error>(())
+//! ```
 #[cfg(feature = "std")]
 use crate::Place;
+use crate::{at, exports, Error, Span, Wanted};
 
 /// What ends a line.
 #[derive(Clone, Copy, Debug, Default, PartialEq, Eq)]
@@ -62,7 +69,8 @@ fn read<'i, 'b>(
     let line_feeds = u32::from(end == LineEnd::Lf);
     let (room, most) = (text.as_mut_ptr(), text.len());
     let (entries, count) = (fields.as_mut_ptr(), fields.len());
-    // SAFETY: the pointers are those of live borrows, and the bytes are only read.
+    // SAFETY: the pointers are those of live borrows, and the bytes are only read. The call takes up to
+    // 4 KiB of stack (measured); where there is less, the thread's guard page ends the program.
     let code = unsafe {
         export(bytes.as_ptr(), bytes.len(), line_feeds, room, most, entries, count, &mut out)
     };
@@ -79,18 +87,19 @@ fn read<'i, 'b>(
 /// The record of comma separated values (RFC 4180) with which the bytes begin; a line end, or the
 /// end of the bytes, stands behind it. The bytes of its fields are written into `text`, and their
 /// places into `fields`; where one of them is too small, the error says how much is wanted. No bytes
-/// begin with no record.
+/// begin with no record. While it runs it holds up to 80 bytes of memory for each byte of the record.
 ///
 /// ```
-/// use pergidau::{csv_record, LineEnd, Span};
+/// use pergidau::csv::{self, LineEnd};
+/// use pergidau::Span;
 ///
 /// let (mut text, mut fields) = ([0; 64], [Span::default(); 8]);
-/// let record = csv_record(b"a,\"b \"\"c\"\"\"\nd", LineEnd::Lf, &mut text, &mut fields)?;
+/// let record = csv::record(b"a,\"b \"\"c\"\"\"\nd", LineEnd::Lf, &mut text, &mut fields)?;
 /// assert_eq!(record.fields().collect::<Vec<_>>(), [&b"a"[..], b"b \"c\""]);
 /// assert_eq!(record.rest(), b"d");
 /// # Ok::<(), pergidau::Error>(())
 /// ```
-pub fn csv_record<'i, 'b>(
+pub fn record<'i, 'b>(
     bytes: &'i [u8],
     end: LineEnd,
     text: &'b mut [u8],
@@ -99,17 +108,21 @@ pub fn csv_record<'i, 'b>(
     read(exports::exported_csv_record, bytes, end, text, fields)
 }
 
-/// The same record where the bytes come in pieces: [`Error::Incomplete`] says that no record with
-/// its line end is there yet, also where none can come. Where no more bytes come, [`csv_record`]
+/// The same record where the bytes come in pieces: [`Error::Incomplete`] says that no record with its
+/// line end is there. It does not say that one can come: it is the answer to `x"y` too, with which no
+/// record begins, so a caller bounds how many bytes are held. Where no more bytes come, [`record`]
 /// reads a last record that has no line end.
 ///
 /// ```
-/// use pergidau::{csv_record_in_pieces, Error, LineEnd};
+/// use pergidau::csv::{self, LineEnd};
+/// use pergidau::Error;
 ///
-/// let record = csv_record_in_pieces(b"a,b", LineEnd::CrLf, &mut [], &mut []);
+/// let record = csv::record_in_pieces(b"a,b", LineEnd::CrLf, &mut [], &mut []);
 /// assert_eq!(record.unwrap_err(), Error::Incomplete);
+/// let never = csv::record_in_pieces(b"x\"y", LineEnd::CrLf, &mut [], &mut []);
+/// assert_eq!(never.unwrap_err(), Error::Incomplete);
 /// ```
-pub fn csv_record_in_pieces<'i, 'b>(
+pub fn record_in_pieces<'i, 'b>(
     bytes: &'i [u8],
     end: LineEnd,
     text: &'b mut [u8],
@@ -122,7 +135,7 @@ pub fn csv_record_in_pieces<'i, 'b>(
 /// there are no more.
 #[cfg(feature = "std")]
 #[derive(Clone, Debug)]
-pub struct CsvRecords<'i> {
+pub struct Records<'i> {
     document: &'i [u8],
     left: &'i [u8],
     end: LineEnd,
@@ -131,12 +144,12 @@ pub struct CsvRecords<'i> {
 }
 
 #[cfg(feature = "std")]
-impl Iterator for CsvRecords<'_> {
+impl Iterator for Records<'_> {
     type Item = Result<Vec<Vec<u8>>, Error>;
 
     fn next(&mut self) -> Option<Self::Item> {
         while !self.left.is_empty() {
-            match csv_record(self.left, self.end, &mut self.text, &mut self.fields) {
+            match record(self.left, self.end, &mut self.text, &mut self.fields) {
                 Ok(record) => {
                     self.left = record.rest();
                     return Some(Ok(record.fields().map(<[u8]>::to_vec).collect()));
@@ -163,15 +176,15 @@ impl Iterator for CsvRecords<'_> {
 /// where it is wanted.
 ///
 /// ```
-/// use pergidau::{csv_records, LineEnd};
+/// use pergidau::csv::{self, LineEnd};
 ///
-/// let records: Result<Vec<_>, _> = csv_records(b"a,b\n\"c\nd\",\n", LineEnd::Lf).collect();
+/// let records: Result<Vec<_>, _> = csv::records(b"a,b\n\"c\nd\",\n", LineEnd::Lf).collect();
 /// assert_eq!(records?, [[b"a".to_vec(), b"b".to_vec()], [b"c\nd".to_vec(), Vec::new()]]);
-/// let refused = csv_records(b"a\nb\"\n", LineEnd::Lf).last();
+/// let refused = csv::records(b"a\nb\"\n", LineEnd::Lf).last();
 /// assert_eq!(refused.unwrap().unwrap_err().to_string(), "refused at line 2, column 1");
 /// # Ok::<(), pergidau::Error>(())
 /// ```
 #[cfg(feature = "std")]
-pub fn csv_records(document: &[u8], end: LineEnd) -> CsvRecords<'_> {
-    CsvRecords { document, left: document, end, text: Vec::new(), fields: Vec::new() }
+pub fn records(document: &[u8], end: LineEnd) -> Records<'_> {
+    Records { document, left: document, end, text: Vec::new(), fields: Vec::new() }
 }

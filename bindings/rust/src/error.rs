@@ -17,7 +17,8 @@ impl Place {
     /// The place behind the first `offset` bytes.
     pub fn of(bytes: &[u8], offset: usize) -> Place {
         let mut found = exports::Position::default();
-        // SAFETY: the pointers are those of live borrows, and the bytes are only read.
+        // SAFETY: the pointers are those of live borrows, and the bytes are only read. The call takes up to
+        // 4 KiB of stack (measured); where there is less, the thread's guard page ends the program.
         unsafe {
             exports::exported_text_position(bytes.as_ptr(), bytes.len(), offset, &mut found);
         }
@@ -37,7 +38,7 @@ impl fmt::Display for Place {
 pub enum Error {
     /// The bytes are not what is read, and where, if the reader says so.
     Refused(Option<Place>),
-    /// The bytes are not yet what is read, and with more behind them they can be.
+    /// The bytes are not yet what is read; whether more behind them can be is said at the function.
     Incomplete,
     /// A request for memory was refused.
     NoMemory,

@@ -1,6 +1,7 @@
-//! The exports of the static library.
+//! The exports of the library.
 //!
 //! Written by scripts/header.py from crates/exported: do not edit.
+use core::ffi::{c_char, c_int};
 
 /// The bytes were read, and what was found is written.
 pub const DONE: u32 = 0;
@@ -206,20 +207,34 @@ pub struct Position {
 }
 
 extern "C" {
+    /// Stands in a library of this version and with these declarations alone.
+    #[link_name = "pergidau_0_0_0_declared_ec0adfcb"]
+    static VERSION_LINKED: c_char;
+
+    /// The version of the library that is linked.
+    pub fn pergidau_version() -> *const c_char;
+
+    /// 1 where the library that is linked was proved, else 0.
+    pub fn pergidau_is_proved() -> c_int;
+
     /// The value of a formula of whole numbers, as `-2 * 3! ^ 2`.
     ///
-    /// White space may stand before the formula and behind each number and operator. Operators are,
-    /// the strongest first: `!` behind a number, its factorial; `+` and `-` before one; `^`, a power,
+    /// White space may stand before the formula and behind each number and operator. Operators are, the
+    /// strongest first: `!` behind a number, its factorial; `+` and `-` before one; `^`, a power,
     /// joined from the right; `*`, `/` and `%`, and then `+` and `-`, joined from the left; and `=`,
     /// which is 1 where both sides are equal and else 0. `/` cuts towards 0, and `%` has the sign of
     /// its left side.
     ///
     /// `DONE`: the value is written. `REFUSED`: the text is no formula, or a number or a result in it
     /// does not fit 64 bits with a sign, a divisor is 0, an exponent is negative, or a factorial is of
-    /// a negative number; the place is written. `NO_TEXT`, `NO_MEMORY`.
+    /// a negative number; so is `%` where the quotient does not fit, as in `-2 ^ 63 % -1`. The place is
+    /// written: an end of the text, or one between two of its characters. That the formula was read up
+    /// to there when it was refused is tested, not proved. `NO_TEXT`, `NO_MEMORY`.
+    ///
+    /// While it runs it holds up to 100 bytes of memory for each byte of the text.
     ///
     /// The caller owes `text_length` bytes at `text` that can be read and that nothing changes while
-    /// the call runs, and room for one number at `out`, apart from them.
+    /// the call runs, room for one number at `out`, apart from them, and 16 KiB of stack.
     pub fn exported_calc_value(
         text: *const u8,
         text_length: usize,
@@ -238,9 +253,12 @@ extern "C" {
     /// bytes than the buffers have; how many of both is written, and the buffers are left as they were.
     /// `NO_MEMORY`.
     ///
+    /// While it runs it holds up to 80 bytes of memory for each byte of the record, also where it then
+    /// answers `REFUSED` or `TOO_SMALL`.
+    ///
     /// The caller owes `bytes_length` bytes at `bytes` that can be read and that nothing changes while
     /// the call runs, `text_length` bytes at `text` and `fields_length` entries at `fields` that can be
-    /// written, and room for one record at `out`, each apart from the others.
+    /// written, room for one record at `out`, each apart from the others, and 16 KiB of stack.
     pub fn exported_csv_record(
         bytes: *const u8,
         bytes_length: usize,
@@ -252,16 +270,21 @@ extern "C" {
         out: *mut Record,
     ) -> u32;
 
-    /// The same record where the bytes come in pieces: what it answers is that of all longer bytes too.
+    /// The same record where the bytes come in pieces: a record or a refusal that it answers is that of
+    /// all longer bytes too.
     ///
     /// `DONE`, `TOO_SMALL`, `NO_MEMORY`: as for a record that is whole. `INCOMPLETE`: no record with
-    /// its line end is there yet; also where none can come, so the caller bounds how many bytes are
-    /// held. `REFUSED`: whatever comes behind the bytes, they begin with no record. The last record may
-    /// have no line end: where no more bytes come, the call for whole ones reads it.
+    /// its line end is there. It does not say that one can come: so it answers of `x"y` too, with which
+    /// no record begins, and the caller bounds how many bytes are held. `REFUSED`: whatever comes
+    /// behind the bytes, they begin with no record; today that is answered only of more than 2^61
+    /// bytes. The last record may have no line end: where no more bytes come, the call for whole ones
+    /// reads it.
+    ///
+    /// Each call reads from the first byte on, and holds as much memory as that for a whole record.
     ///
     /// The caller owes `bytes_length` bytes at `bytes` that can be read and that nothing changes while
     /// the call runs, `text_length` bytes at `text` and `fields_length` entries at `fields` that can be
-    /// written, and room for one record at `out`, each apart from the others.
+    /// written, room for one record at `out`, each apart from the others, and 16 KiB of stack.
     pub fn exported_csv_record_in_pieces(
         bytes: *const u8,
         bytes_length: usize,
@@ -280,9 +303,13 @@ extern "C" {
     /// bytes begin with no head. `TOO_SMALL`: they begin with one that has more fields than the buffer
     /// has entries; how many it has is written, and the buffer is left as it was. `NO_MEMORY`.
     ///
+    /// No empty line is passed before the request line: a server that is to be lenient, as section 2.2
+    /// of RFC 9112 has it, passes one CRLF there itself. While it runs it holds up to 32 bytes of
+    /// memory for each byte of the head, also where it then answers `REFUSED` or `TOO_SMALL`.
+    ///
     /// The caller owes `bytes_length` bytes at `bytes` that can be read and that nothing changes while
-    /// the call runs, `fields_length` entries at `fields` that can be written, and room for one head at
-    /// `out`, each apart from the others.
+    /// the call runs, `fields_length` entries at `fields` that can be written, room for one head at
+    /// `out`, each apart from the others, and 16 KiB of stack.
     pub fn exported_http_head(
         bytes: *const u8,
         bytes_length: usize,
@@ -297,9 +324,11 @@ extern "C" {
     /// with no head, and with more behind them they can. `REFUSED`: whatever comes behind the bytes,
     /// they begin with no head.
     ///
+    /// Each call reads from the first byte on, and holds as much memory as that for a whole head.
+    ///
     /// The caller owes `bytes_length` bytes at `bytes` that can be read and that nothing changes while
-    /// the call runs, `fields_length` entries at `fields` that can be written, and room for one head at
-    /// `out`, each apart from the others.
+    /// the call runs, `fields_length` entries at `fields` that can be written, room for one head at
+    /// `out`, each apart from the others, and 16 KiB of stack.
     pub fn exported_http_head_in_pieces(
         bytes: *const u8,
         bytes_length: usize,
@@ -315,7 +344,7 @@ extern "C" {
     /// of their longest beginning that begins one.
     ///
     /// The caller owes `bytes_length` bytes at `bytes` that can be read and that nothing changes while
-    /// the call runs, and room for one pair at `out`, apart from them.
+    /// the call runs, room for one pair at `out`, apart from them, and 16 KiB of stack.
     pub fn exported_ini_pair(
         bytes: *const u8,
         bytes_length: usize,
@@ -331,13 +360,17 @@ extern "C" {
     /// `DONE`: the bytes of its entries are written into `text`, those of the key before those of the
     /// value and one entry behind the other, and so many places there, in order: of each section its
     /// head, and then its pairs. `REFUSED`: the bytes are no document; written is the length of their
-    /// longest beginning that is made of such parts. `TOO_SMALL`: they are one that wants more entries
-    /// or more bytes than the buffers have; how many of both is written, and the buffers are left as
-    /// they were. `NO_MEMORY`.
+    /// longest beginning that is made of such parts, each of which is one where it stands in all of the
+    /// bytes: a pair ends where its line does, so of `[a]`, a line feed, and `x=` before a byte that is
+    /// no UTF-8 it is 4. `TOO_SMALL`: they are one that wants more entries or more bytes than the
+    /// buffers have; how many of both is written, and the buffers are left as they were. `NO_MEMORY`.
+    ///
+    /// While it runs it holds up to 100 bytes of memory for each byte of the document, also where it
+    /// then answers `REFUSED` or `TOO_SMALL`.
     ///
     /// The caller owes `bytes_length` bytes at `bytes` that can be read and that nothing changes while
     /// the call runs, `text_length` bytes at `text` and `entries_length` entries at `entries` that can
-    /// be written, and room for one document at `out`, each apart from the others.
+    /// be written, room for one document at `out`, each apart from the others, and 16 KiB of stack.
     pub fn exported_ini_document(
         bytes: *const u8,
         bytes_length: usize,
@@ -414,6 +447,9 @@ extern "C" {
     /// `DONE`: the reply is written. `REFUSED`: the bytes begin with none. `TOO_DEEP`: more than 512
     /// levels are asked for. `NO_MEMORY`. With these three all that is written is 0.
     ///
+    /// While it runs it holds up to 32 bytes of memory for each byte of the reply, and 2 KiB for each
+    /// level of arrays that has begun.
+    ///
     /// The caller owes `bytes_length` bytes at `bytes` that can be read and that nothing changes while
     /// the call runs, room for one reply at `out`, apart from them, and 512 KiB of stack.
     pub fn exported_resp_reply(
@@ -430,6 +466,8 @@ extern "C" {
     /// whatever comes behind the bytes, they begin with no reply. With these two all that is written is
     /// 0 too.
     ///
+    /// Each call reads from the first byte on, and holds as much memory as that for a whole reply.
+    ///
     /// The caller owes `bytes_length` bytes at `bytes` that can be read and that nothing changes while
     /// the call runs, room for one reply at `out`, apart from them, and 512 KiB of stack.
     pub fn exported_resp_reply_in_pieces(
@@ -445,7 +483,7 @@ extern "C" {
     /// and a place behind the end is the end.
     ///
     /// The caller owes `bytes_length` bytes at `bytes` that can be read and that nothing changes while
-    /// the call runs, and room for one position at `out`, apart from them.
+    /// the call runs, room for one position at `out`, apart from them, and 16 KiB of stack.
     pub fn exported_text_position(
         bytes: *const u8,
         bytes_length: usize,
@@ -453,3 +491,16 @@ extern "C" {
         out: *mut Position,
     ) -> u32;
 }
+
+/// A place in the library that can be shared between threads: nothing is read there.
+#[repr(transparent)]
+pub struct Linked(*const c_char);
+
+// SAFETY: the pointer is never read through.
+unsafe impl Sync for Linked {}
+
+/// Has each program with this crate link with a library of this version alone.
+#[used]
+// SAFETY: nothing is read there. Compilers before 1.82 ask for the block.
+#[allow(unused_unsafe)]
+pub static LINKED: Linked = Linked(unsafe { core::ptr::addr_of!(VERSION_LINKED) });

@@ -1,5 +1,19 @@
-//! The heads of requests.
-use crate::exports::{self, Field};
+//! Heads of requests of HTTP/1.1, whole and in pieces.
+//!
+//! ```
+//! use pergidau::http::{self, Field};
+//!
+//! let request = b"GET /hello.txt HTTP/1.1\r\nHost: www.example.com\r\n\r\nbody";
+//! let mut fields = [Field::default(); 16];
+//! let head = http::head(request, &mut fields)?;
+//! assert_eq!((head.method(), head.target()), (&b"GET"[..], &b"/hello.txt"[..]));
+//! assert_eq!(head.version(), (1, 1));
+//! assert_eq!(head.rest(), b"body");
+//! # Ok::<(), pergidau::Error>(())
+//! ```
+pub use crate::exports::Field;
+
+use crate::exports;
 use crate::{at, Error, Wanted};
 
 /// The head of a request: its parts, as slices of the bytes that were read.
@@ -50,7 +64,8 @@ fn read<'i, 'f>(
 ) -> Result<Head<'i, 'f>, Error> {
     let mut places = exports::Head::default();
     let (entries, count) = (fields.as_mut_ptr(), fields.len());
-    // SAFETY: the pointers are those of live borrows, and the bytes are only read.
+    // SAFETY: the pointers are those of live borrows, and the bytes are only read. The call takes up to
+    // 4 KiB of stack (measured); where there is less, the thread's guard page ends the program.
     let code = unsafe { export(bytes.as_ptr(), bytes.len(), entries, count, &mut places) };
     match code {
         exports::DONE => Ok(Head { bytes, places, fields: &fields[..places.fields] }),
@@ -59,16 +74,18 @@ fn read<'i, 'f>(
 }
 
 /// The head of a request of HTTP/1.1 (RFC 9112) with which the bytes begin. The places of its fields
-/// are written into `fields`; where these are too few, the error says how many are wanted.
+/// are written into `fields`; where these are too few, the error says how many are wanted. No empty
+/// line is passed before the request line. While it runs it holds up to 32 bytes of memory for each
+/// byte of the head.
 ///
 /// ```
-/// let mut fields = [pergidau::Field::default(); 16];
-/// let head = pergidau::http_head(b"GET / HTTP/1.1\r\nHost: a\r\n\r\nrest", &mut fields)?;
+/// let mut fields = [pergidau::http::Field::default(); 16];
+/// let head = pergidau::http::head(b"GET / HTTP/1.1\r\nHost: a\r\n\r\nrest", &mut fields)?;
 /// assert_eq!(head.fields().next(), Some((&b"Host"[..], &b"a"[..])));
 /// assert_eq!(head.rest(), b"rest");
 /// # Ok::<(), pergidau::Error>(())
 /// ```
-pub fn http_head<'i, 'f>(bytes: &'i [u8], fields: &'f mut [Field]) -> Result<Head<'i, 'f>, Error> {
+pub fn head<'i, 'f>(bytes: &'i [u8], fields: &'f mut [Field]) -> Result<Head<'i, 'f>, Error> {
     read(exports::exported_http_head, bytes, fields)
 }
 
@@ -76,10 +93,10 @@ pub fn http_head<'i, 'f>(bytes: &'i [u8], fields: &'f mut [Field]) -> Result<Hea
 /// behind them they can begin with one, and [`Error::Refused`] that they cannot.
 ///
 /// ```
-/// let head = pergidau::http_head_in_pieces(b"GET / HTT", &mut []);
+/// let head = pergidau::http::head_in_pieces(b"GET / HTT", &mut []);
 /// assert_eq!(head.unwrap_err(), pergidau::Error::Incomplete);
 /// ```
-pub fn http_head_in_pieces<'i, 'f>(
+pub fn head_in_pieces<'i, 'f>(
     bytes: &'i [u8],
     fields: &'f mut [Field],
 ) -> Result<Head<'i, 'f>, Error> {

@@ -1,6 +1,40 @@
-//! Documents of sections and pairs.
-use crate::exports::{self, Entry};
-use crate::{at, Error, Place, Wanted};
+//! Lines of a key and a value, and documents of them in sections.
+//!
+//! ```
+//! use pergidau::ini::{self, Entry};
+//!
+//! assert_eq!(ini::pair(b"key=value\n"), Ok((&b"key"[..], &b"value"[..])));
+//! let (mut text, mut entries) = ([0; 64], [Entry::default(); 8]);
+//! let document = ini::document(b"[server]\nport = 80 ; as usual\n", &mut text, &mut entries)?;
+//! for section in document.sections() {
+//!     assert_eq!(section.name(), b"server");
+//!     assert_eq!(section.pairs().next(), Some((&b"port"[..], &b"80"[..])));
+//! }
+//! # Ok::<(), pergidau::Error>(())
+//! ```
+pub use crate::exports::Entry;
+
+use crate::{at, exports, Error, Place, Wanted, NOTHING};
+
+/// The key and the value of one line, as `key=value`: a key of ASCII letters or digits, and a value
+/// of any bytes but a line feed; one line feed may stand at the end.
+///
+/// ```
+/// use pergidau::ini;
+///
+/// assert_eq!(ini::pair(b"a="), Ok((&b"a"[..], &b""[..])));
+/// assert!(ini::pair(b"a=b\nc").is_err());
+/// ```
+pub fn pair(line: &[u8]) -> Result<(&[u8], &[u8]), Error> {
+    let mut out = exports::Pair::default();
+    // SAFETY: the pointers are those of live borrows, and the bytes are only read. The call takes up to
+    // 4 KiB of stack (measured); where there is less, the thread's guard page ends the program.
+    let code = unsafe { exports::exported_ini_pair(line.as_ptr(), line.len(), &mut out) };
+    match code {
+        exports::DONE => Ok((at(line, out.key), at(line, out.value))),
+        code => Err(Error::of(code, Some(Place::of(line, out.place)), NOTHING)),
+    }
+}
 
 /// A document: its sections, as slices of the buffer that their texts were written into.
 #[derive(Clone, Copy, Debug)]
@@ -59,21 +93,23 @@ impl<'b> Section<'b> {
 /// A document of sections, each a name in brackets and pairs, with white space and comments between
 /// them. The bytes of its names, keys and values are written into `text`, and their places into
 /// `entries`; where one of them is too small, the error says how much is wanted. A refusal has the
-/// place where the first part begins that is no section, pair, white space or comment.
+/// place where the first part begins that is no section, pair, white space or comment; a pair ends
+/// where its line does, so a pair with bytes that are no UTF-8 is refused at its key. While it runs it
+/// holds up to 100 bytes of memory for each byte of the document.
 ///
 /// ```
-/// use pergidau::{ini_document, Entry};
+/// use pergidau::ini::{self, Entry};
 ///
 /// let (mut text, mut entries) = ([0; 64], [Entry::default(); 8]);
-/// let document = ini_document(b"[a]\nx = 1 ; one\ny=2\n", &mut text, &mut entries)?;
+/// let document = ini::document(b"[a]\nx = 1 ; one\ny=2\n", &mut text, &mut entries)?;
 /// let section = document.sections().next().unwrap();
 /// assert_eq!(section.name(), b"a");
 /// assert_eq!(section.pairs().collect::<Vec<_>>(), [(&b"x"[..], &b"1"[..]), (b"y", b"2")]);
-/// let refused = ini_document(b"[a]\nx\n", &mut text, &mut entries).unwrap_err();
+/// let refused = ini::document(b"[a]\nx\n", &mut text, &mut entries).unwrap_err();
 /// assert_eq!(refused.to_string(), "refused at line 2, column 1");
 /// # Ok::<(), pergidau::Error>(())
 /// ```
-pub fn ini_document<'b>(
+pub fn document<'b>(
     bytes: &[u8],
     text: &'b mut [u8],
     entries: &'b mut [Entry],
@@ -81,7 +117,8 @@ pub fn ini_document<'b>(
     let mut out = exports::Document::default();
     let (room, most) = (text.as_mut_ptr(), text.len());
     let (places, count) = (entries.as_mut_ptr(), entries.len());
-    // SAFETY: the pointers are those of live borrows, and the bytes are only read.
+    // SAFETY: the pointers are those of live borrows, and the bytes are only read. The call takes up to
+    // 4 KiB of stack (measured); where there is less, the thread's guard page ends the program.
     let code = unsafe {
         exports::exported_ini_document(
             bytes.as_ptr(), bytes.len(), room, most, places, count, &mut out,

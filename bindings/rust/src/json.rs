@@ -1,10 +1,19 @@
-//! The values of a text of JSON.
+//! Texts of JSON (RFC 8259), and the values in them one by one.
+//!
+//! ```
+//! use pergidau::json;
+//!
+//! for (name, value) in json::parse("{\"a\": [1, 2]}", 2)?.members() {
+//!     assert_eq!((name, value.elements().count()), ("a", 2));
+//! }
+//! # Ok::<(), pergidau::Error>(())
+//! ```
 use crate::exports::{self, JsonItem};
-use crate::{json_check, Error};
+use crate::{Error, NOTHING};
 
 /// What a value is.
 #[derive(Clone, Copy, Debug, PartialEq, Eq)]
-pub enum JsonKind {
+pub enum Kind {
     /// The word null.
     Null,
     /// The word false.
@@ -24,15 +33,15 @@ pub enum JsonKind {
 /// A value of a text of JSON: what it is, and its text. What stands in it is read when it is asked
 /// for, so a walk through all levels reads each byte once for each level that it stands in.
 #[derive(Clone, Copy, Debug, PartialEq, Eq)]
-pub struct Json<'i> {
-    kind: JsonKind,
+pub struct Value<'i> {
+    kind: Kind,
     text: &'i str,
     levels: usize,
 }
 
-impl<'i> Json<'i> {
+impl<'i> Value<'i> {
     /// What it is.
-    pub fn kind(&self) -> JsonKind {
+    pub fn kind(&self) -> Kind {
         self.kind
     }
 
@@ -43,14 +52,14 @@ impl<'i> Json<'i> {
     }
 
     /// The elements of an array, in order. What is none has none.
-    pub fn elements(&self) -> JsonElements<'i> {
-        JsonElements(Inside::of(self, JsonKind::Array))
+    pub fn elements(&self) -> Elements<'i> {
+        Elements(Inside::of(self, Kind::Array))
     }
 
     /// The members of an object, in order, repeats kept: of each the name, as it is written between
     /// its quotes, and the value. What is no object has none.
-    pub fn members(&self) -> JsonMembers<'i> {
-        JsonMembers(Inside::of(self, JsonKind::Object))
+    pub fn members(&self) -> Members<'i> {
+        Members(Inside::of(self, Kind::Object))
     }
 }
 
@@ -62,16 +71,18 @@ struct Inside<'i> {
 }
 
 impl<'i> Inside<'i> {
-    fn of(value: &Json<'i>, kind: JsonKind) -> Inside<'i> {
+    fn of(value: &Value<'i>, kind: Kind) -> Inside<'i> {
         let left = if value.kind == kind { &value.text[1..] } else { "" };
         Inside { left, levels: value.levels.saturating_sub(1) }
     }
 
     /// The next value. It is part of a text that was checked, so where there is none it is the end.
-    fn next(&mut self) -> Option<Json<'i>> {
+    fn next(&mut self) -> Option<Value<'i>> {
         let mut out = JsonItem::default();
         let bytes = self.left.as_bytes();
-        // SAFETY: the pointers are those of live borrows, and the bytes are only read.
+        // SAFETY: the pointers are those of live borrows, and the bytes are only read. The call takes up to
+        // 57 KiB of stack at `MOST_LEVELS` (measured); where there is less, the thread's guard page ends
+        // the program.
         let code = unsafe {
             exports::exported_json_next(bytes.as_ptr(), bytes.len(), self.levels, &mut out)
         };
@@ -80,39 +91,39 @@ impl<'i> Inside<'i> {
             return None;
         }
         let kind = match out.kind {
-            exports::JSON_NULL => JsonKind::Null,
-            exports::JSON_FALSE => JsonKind::False,
-            exports::JSON_TRUE => JsonKind::True,
-            exports::JSON_NUMBER => JsonKind::Number,
-            exports::JSON_STRING => JsonKind::String,
-            exports::JSON_ARRAY => JsonKind::Array,
-            exports::JSON_OBJECT => JsonKind::Object,
+            exports::JSON_NULL => Kind::Null,
+            exports::JSON_FALSE => Kind::False,
+            exports::JSON_TRUE => Kind::True,
+            exports::JSON_NUMBER => Kind::Number,
+            exports::JSON_STRING => Kind::String,
+            exports::JSON_ARRAY => Kind::Array,
+            exports::JSON_OBJECT => Kind::Object,
             _ => return None,
         };
         let (front, left) = self.left.split_at(out.place.offset + out.place.length);
         self.left = left;
-        Some(Json { kind, text: &front[out.place.offset..], levels: self.levels })
+        Some(Value { kind, text: &front[out.place.offset..], levels: self.levels })
     }
 }
 
 /// The elements of an array.
 #[derive(Clone, Copy, Debug)]
-pub struct JsonElements<'i>(Inside<'i>);
+pub struct Elements<'i>(Inside<'i>);
 
-impl<'i> Iterator for JsonElements<'i> {
-    type Item = Json<'i>;
+impl<'i> Iterator for Elements<'i> {
+    type Item = Value<'i>;
 
-    fn next(&mut self) -> Option<Json<'i>> {
+    fn next(&mut self) -> Option<Value<'i>> {
         self.0.next()
     }
 }
 
 /// The members of an object.
 #[derive(Clone, Copy, Debug)]
-pub struct JsonMembers<'i>(Inside<'i>);
+pub struct Members<'i>(Inside<'i>);
 
-impl<'i> Iterator for JsonMembers<'i> {
-    type Item = (&'i str, Json<'i>);
+impl<'i> Iterator for Members<'i> {
+    type Item = (&'i str, Value<'i>);
 
     fn next(&mut self) -> Option<Self::Item> {
         let name = self.0.next()?.text;
@@ -121,18 +132,59 @@ impl<'i> Iterator for JsonMembers<'i> {
 }
 
 /// The value of a text of JSON (RFC 8259), in which no more than `levels` arrays and objects stand
-/// in one another; a text that is none is refused as a whole, as [`json_check`] does it.
+/// in one another; a text that is none is refused as a whole, as [`check`] does it.
 ///
 /// ```
 /// let text = " {\"a\": [1, null], \"b\": \"x\"}";
-/// let value = pergidau::json(text, 2)?;
+/// let value = pergidau::json::parse(text, 2)?;
 /// let (name, list) = value.members().next().unwrap();
 /// assert_eq!(name, "a");
 /// assert_eq!(list.elements().map(|it| it.text()).collect::<Vec<_>>(), ["1", "null"]);
-/// assert_eq!(value.members().last().unwrap().1.kind(), pergidau::JsonKind::String);
+/// assert_eq!(value.members().last().unwrap().1.kind(), pergidau::json::Kind::String);
 /// # Ok::<(), pergidau::Error>(())
 /// ```
-pub fn json(text: &str, levels: usize) -> Result<Json<'_>, Error> {
-    json_check(text.as_bytes(), levels)?;
+pub fn parse(text: &str, levels: usize) -> Result<Value<'_>, Error> {
+    check(text.as_bytes(), levels)?;
     Inside { left: text, levels }.next().ok_or(Error::Refused(None))
+}
+
+/// Whether a text is one of JSON (RFC 8259), in which no more than `levels` arrays and objects stand
+/// in one another: an error says that it is none. Of a text that is none no place is told.
+///
+/// ```
+/// use pergidau::{json, Error};
+///
+/// assert_eq!(json::check(b" {\"a\": [1, 2.5e3, true]}\n", 2), Ok(()));
+/// assert_eq!(json::check(b"[1, 2,]", 2), Err(Error::Refused(None)));
+/// ```
+pub fn check(text: &[u8], levels: usize) -> Result<(), Error> {
+    // SAFETY: the pointer is that of a live borrow, and the bytes are only read. The call takes up to
+    // 57 KiB of stack at `MOST_LEVELS` (measured); where there is less, the thread's guard page ends
+    // the program.
+    match unsafe { exports::exported_json_check(text.as_ptr(), text.len(), levels) } {
+        exports::DONE => Ok(()),
+        code => Err(Error::of(code, None, NOTHING)),
+    }
+}
+
+/// The longest value of JSON (RFC 8259) with which the bytes begin, and what stands behind it. White
+/// space before it is not passed, and bytes of 128 and above are not looked at.
+///
+/// ```
+/// use pergidau::json;
+///
+/// assert_eq!(json::longest(b"[1, {}] , 2", 2), Ok((&b"[1, {}]"[..], &b" , 2"[..])));
+/// ```
+pub fn longest(bytes: &[u8], levels: usize) -> Result<(&[u8], &[u8]), Error> {
+    let mut length = 0;
+    // SAFETY: the pointers are those of live borrows, and the bytes are only read. The call takes up to
+    // 57 KiB of stack at `MOST_LEVELS` (measured); where there is less, the thread's guard page ends
+    // the program.
+    let code = unsafe {
+        exports::exported_json_value(bytes.as_ptr(), bytes.len(), levels, &mut length)
+    };
+    match code {
+        exports::DONE => Ok(bytes.split_at(length)),
+        code => Err(Error::of(code, None, NOTHING)),
+    }
 }

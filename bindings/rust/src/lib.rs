@@ -1,35 +1,55 @@
 //! Proved readers: what each answers is what its words say, for all bytes.
 //!
-//! They are written in Rattle, which is Rust with contracts, and linked as a static library; the
-//! crate `exported` has the contracts that were proved. This crate adds what a Rust programmer looks
-//! for: slices in, slices of these out, and errors. It has no state and takes no memory; the library
-//! takes some while a call runs, and gives it back.
+//! They are written in Rattle, which is Rust with contracts, and linked as a library of C; the crate
+//! `exported` of Pergidau has the contracts that were proved. This crate adds what a Rust programmer
+//! looks for: slices in, slices of these out, and errors. It has no state and takes no memory; the
+//! library takes some while a call runs, and gives it back. What a call holds is said at each, and so
+//! is the stack, where `unsafe` stands: both are measured, not proved.
+//!
+//! | Module | Reads |
+//! |---|---|
+//! | [`calc`] | formulas of whole numbers |
+//! | [`csv`] | records of comma separated values |
+//! | [`http`] | heads of requests of HTTP/1.1 |
+//! | [`ini`] | lines of a key and a value, and documents of them |
+//! | [`json`] | texts of JSON, and the values in them |
+//! | [`resp`] | replies of Redis |
 //!
 //! ```
-//! assert_eq!(pergidau::calc_value("2 + 3 * 4"), Ok(14));
-//! assert_eq!(pergidau::ini_pair(b"key=value\n"), Ok((&b"key"[..], &b"value"[..])));
-//! let refused = pergidau::calc_value("1 +\n 2 / 0").unwrap_err();
+//! use pergidau::{calc, ini};
+//!
+//! assert_eq!(calc::value("2 + 3 * 4"), Ok(14));
+//! assert_eq!(ini::pair(b"key=value\n"), Ok((&b"key"[..], &b"value"[..])));
+//! let refused = calc::value("1 +\n 2 / 0").unwrap_err();
 //! assert_eq!(refused.to_string(), "refused at line 2, column 7");
 //! ```
+//!
+//! # The library
+//!
+//! `build.rs` links it from the folder that `PERGIDAU_LIB` names, else as `pkg-config` says, else from
+//! `bindings/out` beside this crate; and says what to run where none of these has it. A program links
+//! with a library of this crate's version alone, since it refers to a symbol that has the version in
+//! its name. With `PERGIDAU_UNPROVED=1` the library is taken that was built with no proof, to try it:
+//! [`is_proved`] tells.
 #![cfg_attr(not(feature = "std"), no_std)]
+#![warn(missing_docs)]
 
-mod csv;
+pub mod calc;
+pub mod csv;
 mod error;
 mod exports;
-mod http;
-mod ini;
-mod json;
-mod resp;
+pub mod http;
+pub mod ini;
+pub mod json;
+pub mod resp;
 
-pub use crate::csv::{csv_record, csv_record_in_pieces, LineEnd, Record};
-#[cfg(feature = "std")]
-pub use crate::csv::{csv_records, CsvRecords};
 pub use crate::error::{Error, Place, Wanted};
-pub use crate::exports::{Entry, Field, Span, MOST_LEVELS};
-pub use crate::http::{http_head, http_head_in_pieces, Head};
-pub use crate::ini::{ini_document, Document, Section, Sections};
-pub use crate::json::{json, Json, JsonElements, JsonKind, JsonMembers};
-pub use crate::resp::{resp_reply, resp_reply_in_pieces, Elements, Reply};
+pub use crate::exports::{Span, MOST_LEVELS};
+
+/// The examples of the page of this crate are run as those of its documentation.
+#[cfg(doctest)]
+#[doc = include_str!("../README.md")]
+pub struct Page;
 
 /// Nothing is wanted.
 const NOTHING: Wanted = Wanted { entries: 0, bytes: 0 };
@@ -39,72 +59,20 @@ fn at(bytes: &[u8], place: Span) -> &[u8] {
     &bytes[place.offset..][..place.length]
 }
 
-/// The value of a formula of whole numbers.
-///
-/// Operators are, the strongest first: `!` behind a number, `+` and `-` before one, `^`, then `*`,
-/// `/` and `%`, then `+` and `-`, and `=`, which is 1 or 0. An error has the place where the formula
-/// is refused, or where it has no value that fits.
+/// The version of the library that is linked.
 ///
 /// ```
-/// assert_eq!(pergidau::calc_value("-2 ^ 2"), Ok(4));
-/// assert!(pergidau::calc_value("9223372036854775808").is_err());
+/// assert_eq!(pergidau::version(), env!("CARGO_PKG_VERSION"));
 /// ```
-pub fn calc_value(text: &str) -> Result<i64, Error> {
-    let mut out = exports::Number::default();
-    // SAFETY: the pointers are those of live borrows, and the text is only read.
-    let code = unsafe { exports::exported_calc_value(text.as_ptr(), text.len(), &mut out) };
-    match code {
-        exports::DONE => Ok(out.value),
-        code => Err(Error::of(code, Some(Place::of(text.as_bytes(), out.place)), NOTHING)),
-    }
+pub fn version() -> &'static str {
+    // SAFETY: the text is one of the library's own, is never changed, and ends with a byte that is 0.
+    let text = unsafe { core::ffi::CStr::from_ptr(exports::pergidau_version()) };
+    text.to_str().unwrap_or("")
 }
 
-/// The key and the value of one line, as `key=value`: a key of ASCII letters or digits, and a value
-/// of any bytes but a line feed; one line feed may stand at the end.
-///
-/// ```
-/// assert_eq!(pergidau::ini_pair(b"a="), Ok((&b"a"[..], &b""[..])));
-/// assert!(pergidau::ini_pair(b"a=b\nc").is_err());
-/// ```
-pub fn ini_pair(line: &[u8]) -> Result<(&[u8], &[u8]), Error> {
-    let mut out = exports::Pair::default();
-    // SAFETY: the pointers are those of live borrows, and the line is only read.
-    let code = unsafe { exports::exported_ini_pair(line.as_ptr(), line.len(), &mut out) };
-    match code {
-        exports::DONE => Ok((at(line, out.key), at(line, out.value))),
-        code => Err(Error::of(code, Some(Place::of(line, out.place)), NOTHING)),
-    }
-}
-
-/// Whether a text is one of JSON (RFC 8259), in which no more than `levels` arrays and objects stand
-/// in one another: an error says that it is none. Of a text that is none no place is told.
-///
-/// ```
-/// assert_eq!(pergidau::json_check(b" {\"a\": [1, 2.5e3, true]}\n", 2), Ok(()));
-/// assert_eq!(pergidau::json_check(b"[1, 2,]", 2), Err(pergidau::Error::Refused(None)));
-/// ```
-pub fn json_check(text: &[u8], levels: usize) -> Result<(), Error> {
-    // SAFETY: the pointer is that of a live borrow, and the text is only read.
-    match unsafe { exports::exported_json_check(text.as_ptr(), text.len(), levels) } {
-        exports::DONE => Ok(()),
-        code => Err(Error::of(code, None, NOTHING)),
-    }
-}
-
-/// The longest value of JSON (RFC 8259) with which the bytes begin, and what stands behind it. White
-/// space before it is not passed, and bytes of 128 and above are not looked at.
-///
-/// ```
-/// assert_eq!(pergidau::json_value(b"[1, {}] , 2", 2), Ok((&b"[1, {}]"[..], &b" , 2"[..])));
-/// ```
-pub fn json_value(bytes: &[u8], levels: usize) -> Result<(&[u8], &[u8]), Error> {
-    let mut length = 0;
-    // SAFETY: the pointers are those of live borrows, and the bytes are only read.
-    let code = unsafe {
-        exports::exported_json_value(bytes.as_ptr(), bytes.len(), levels, &mut length)
-    };
-    match code {
-        exports::DONE => Ok(bytes.split_at(length)),
-        code => Err(Error::of(code, None, NOTHING)),
-    }
+/// Whether each function of the library that is linked was proved before it was compiled. One that
+/// `bindings/build --unproved` built is not.
+pub fn is_proved() -> bool {
+    // SAFETY: it takes nothing, and reads nothing.
+    unsafe { exports::pergidau_is_proved() == 1 }
 }

@@ -1,4 +1,13 @@
-//! Replies of Redis.
+//! Replies of Redis (RESP2), whole and in pieces.
+//!
+//! ```
+//! use pergidau::resp::{self, Reply};
+//!
+//! let (reply, rest) = resp::reply(b"+OK\r\n:7\r\n", 0)?;
+//! assert_eq!(reply, Reply::Simple(b"OK"));
+//! assert_eq!(resp::reply(rest, 0)?, (Reply::Integer(7), &b""[..]));
+//! # Ok::<(), pergidau::Error>(())
+//! ```
 use crate::exports::{self, MOST_LEVELS};
 use crate::{at, Error, NOTHING};
 
@@ -34,7 +43,7 @@ impl<'i> Iterator for Elements<'i> {
 
     fn next(&mut self) -> Option<Self::Item> {
         self.count = self.count.checked_sub(1)?;
-        match resp_reply(self.left, MOST_LEVELS) {
+        match reply(self.left, MOST_LEVELS) {
             Ok((reply, rest)) => {
                 self.left = rest;
                 Some(Ok(reply))
@@ -57,7 +66,9 @@ type Export = unsafe extern "C" fn(*const u8, usize, usize, *mut exports::Reply)
 
 fn read(export: Export, bytes: &[u8], levels: usize) -> Result<(Reply<'_>, &[u8]), Error> {
     let mut out = exports::Reply::default();
-    // SAFETY: the pointers are those of live borrows, and the bytes are only read.
+    // SAFETY: the pointers are those of live borrows, and the bytes are only read. The call takes up to
+    // 107 KiB of stack at `MOST_LEVELS` (measured); where there is less, the thread's guard page ends
+    // the program.
     let code = unsafe { export(bytes.as_ptr(), bytes.len(), levels, &mut out) };
     if code != exports::DONE {
         return Err(Error::of(code, None, NOTHING));
@@ -77,19 +88,20 @@ fn read(export: Export, bytes: &[u8], levels: usize) -> Result<(Reply<'_>, &[u8]
 }
 
 /// The reply of Redis (RESP2) with which the bytes begin, in which no more than `levels` arrays stand
-/// in one another, and what stands behind it.
+/// in one another, and what stands behind it. While it runs it holds up to 32 bytes of memory for each
+/// byte of the reply, and 2 KiB for each level of arrays that has begun.
 ///
 /// ```
-/// use pergidau::{resp_reply, Reply};
+/// use pergidau::resp::{self, Reply};
 ///
-/// let (reply, rest) = resp_reply(b"*2\r\n$3\r\nfoo\r\n:7\r\n+", 1)?;
+/// let (reply, rest) = resp::reply(b"*2\r\n$3\r\nfoo\r\n:7\r\n+", 1)?;
 /// let Reply::Array(elements) = reply else { panic!() };
 /// let elements: Result<Vec<_>, _> = elements.collect();
 /// assert_eq!(elements?, [Reply::Bulk(b"foo"), Reply::Integer(7)]);
 /// assert_eq!(rest, b"+");
 /// # Ok::<(), pergidau::Error>(())
 /// ```
-pub fn resp_reply(bytes: &[u8], levels: usize) -> Result<(Reply<'_>, &[u8]), Error> {
+pub fn reply(bytes: &[u8], levels: usize) -> Result<(Reply<'_>, &[u8]), Error> {
     read(exports::exported_resp_reply, bytes, levels)
 }
 
@@ -97,11 +109,27 @@ pub fn resp_reply(bytes: &[u8], levels: usize) -> Result<(Reply<'_>, &[u8]), Err
 /// be needed, and [`Error::Refused`] that they begin with none, whatever comes behind them.
 ///
 /// ```
-/// use pergidau::{resp_reply_in_pieces, Error};
+/// use pergidau::{resp, Error};
 ///
-/// assert_eq!(resp_reply_in_pieces(b"$6\r\nfoo", 0), Err(Error::Incomplete));
-/// assert_eq!(resp_reply_in_pieces(b"$x\r\n", 0), Err(Error::Refused(None)));
+/// assert_eq!(resp::reply_in_pieces(b"$6\r\nfoo", 0), Err(Error::Incomplete));
+/// assert_eq!(resp::reply_in_pieces(b"$x\r\n", 0), Err(Error::Refused(None)));
 /// ```
-pub fn resp_reply_in_pieces(bytes: &[u8], levels: usize) -> Result<(Reply<'_>, &[u8]), Error> {
+pub fn reply_in_pieces(bytes: &[u8], levels: usize) -> Result<(Reply<'_>, &[u8]), Error> {
     read(exports::exported_resp_reply_in_pieces, bytes, levels)
+}
+
+#[cfg(test)]
+mod tests {
+    use super::*;
+
+    /// An iterator ends behind an error, and says so before it is asked.
+    #[test]
+    fn elements_end_behind_an_error() {
+        let mut elements = Elements { left: b":1\r\nx:2\r\n", count: 3 };
+        assert_eq!(elements.next(), Some(Ok(Reply::Integer(1))));
+        assert_eq!(elements.len(), 2);
+        assert_eq!(elements.next(), Some(Err(Error::Refused(None))));
+        assert_eq!(elements.len(), 0);
+        assert_eq!(elements.next(), None);
+    }
 }

@@ -1,8 +1,10 @@
 //! Rows of the readers' tests, from Rust.
-use pergidau::{calc_value, http_head, http_head_in_pieces, ini_pair, json_check, json_value};
-use pergidau::{csv_record, csv_record_in_pieces, csv_records, resp_reply, resp_reply_in_pieces};
-use pergidau::{ini_document, json, Json, JsonKind};
-use pergidau::{Entry, Error, Field, LineEnd, Place, Reply, Span, MOST_LEVELS};
+use pergidau::csv::{self, LineEnd};
+use pergidau::http::{self, Field};
+use pergidau::ini::{self, Entry};
+use pergidau::json::{self, Kind, Value};
+use pergidau::resp::{self, Reply};
+use pergidau::{calc, Error, Place, Span, Wanted, MOST_LEVELS};
 
 fn refused(offset: usize, column: usize) -> Error {
     Error::Refused(Some(Place { offset, line: 1, column }))
@@ -23,15 +25,17 @@ fn calc_value_of_formulas() {
         ("", Err(refused(0, 1))),
         ("2^63", Err(refused(4, 5))),
         ("1=2=1", Err(refused(3, 4))),
+        ("-2^63", Ok(i64::MIN)),
+        ("-2^63 % -1", Err(refused(10, 11))),
     ];
     for (text, want) in rows {
-        assert_eq!(calc_value(text), want, "{text}");
+        assert_eq!(calc::value(text), want, "{text}");
     }
 }
 
 #[test]
 fn calc_value_of_deep_formulas() {
-    assert_eq!(calc_value(&("-".repeat(20_000) + "1")), Ok(1));
+    assert_eq!(calc::value(&("-".repeat(20_000) + "1")), Ok(1));
 }
 
 #[test]
@@ -46,35 +50,35 @@ fn ini_pair_of_lines() {
         (b"", Err(refused(0, 1))),
     ];
     for (line, want) in rows {
-        assert_eq!(ini_pair(line), want, "{line:?}");
+        assert_eq!(ini::pair(line), want, "{line:?}");
     }
 }
 
 #[test]
 fn json_of_texts() {
     for text in ["null", " [1, -2.5e3, {\"a\": \"\\u00e9\"}] ", "\"\u{e9}\"", "\"\\ud83d\\ude00\""] {
-        assert_eq!(json_check(text.as_bytes(), 2), Ok(()), "{text}");
+        assert_eq!(json::check(text.as_bytes(), 2), Ok(()), "{text}");
     }
     let alone = ["\"\\ud800\"", "\"\\udead\"", "[\"\\ud83d\\u0041\"]", "{\"\\ude00\\ud83d\": 1}"];
     for text in alone.into_iter().chain(["", "nul", "[1,]", "01", "[[[]]]", "{\"a\" 1}", "1 2"]) {
-        assert_eq!(json_check(text.as_bytes(), 2), Err(Error::Refused(None)), "{text}");
+        assert_eq!(json::check(text.as_bytes(), 2), Err(Error::Refused(None)), "{text}");
     }
-    assert_eq!(json_check(b"\"\xff\"", 0), Err(Error::NotText));
-    assert_eq!(json_check(b"1", MOST_LEVELS + 1), Err(Error::TooDeep));
-    assert_eq!(json_value(b"-1.5e3 ", 0), Ok((&b"-1.5e3"[..], &b" "[..])));
-    assert_eq!(json_value(b"[ \t\r\n]]", 1), Ok((&b"[ \t\r\n]"[..], &b"]"[..])));
-    assert_eq!(json_value(b" 1", 1), Err(Error::Refused(None)));
-    assert_eq!(json_value(b"\"\\ud800\"", 1), Err(Error::Refused(None)));
+    assert_eq!(json::check(b"\"\xff\"", 0), Err(Error::NotText));
+    assert_eq!(json::check(b"1", MOST_LEVELS + 1), Err(Error::TooDeep));
+    assert_eq!(json::longest(b"-1.5e3 ", 0), Ok((&b"-1.5e3"[..], &b" "[..])));
+    assert_eq!(json::longest(b"[ \t\r\n]]", 1), Ok((&b"[ \t\r\n]"[..], &b"]"[..])));
+    assert_eq!(json::longest(b" 1", 1), Err(Error::Refused(None)));
+    assert_eq!(json::longest(b"\"\\ud800\"", 1), Err(Error::Refused(None)));
     let deep = "[".repeat(MOST_LEVELS) + &"]".repeat(MOST_LEVELS);
-    assert_eq!(json_check(deep.as_bytes(), MOST_LEVELS), Ok(()));
-    assert_eq!(json_check(deep.as_bytes(), MOST_LEVELS - 1), Err(Error::Refused(None)));
+    assert_eq!(json::check(deep.as_bytes(), MOST_LEVELS), Ok(()));
+    assert_eq!(json::check(deep.as_bytes(), MOST_LEVELS - 1), Err(Error::Refused(None)));
 }
 
 /// The texts of what is no array or object, in order, and the names, each with a colon.
-fn walk<'i>(value: Json<'i>, into: &mut Vec<String>) {
+fn walk<'i>(value: Value<'i>, into: &mut Vec<String>) {
     match value.kind() {
-        JsonKind::Array => value.elements().for_each(|it| walk(it, into)),
-        JsonKind::Object => value.members().for_each(|(name, it)| {
+        Kind::Array => value.elements().for_each(|it| walk(it, into)),
+        Kind::Object => value.members().for_each(|(name, it)| {
             into.push(format!("{name}:"));
             walk(it, into);
         }),
@@ -96,22 +100,26 @@ fn json_walks() {
     ];
     for (text, want) in rows {
         let mut got = Vec::new();
-        walk(json(text, 3).unwrap(), &mut got);
+        walk(json::parse(text, 3).unwrap(), &mut got);
         assert_eq!(got, want, "{text}");
     }
-    let kinds = json("[null, false, true, 0, \"\", [], {}]", 2).unwrap();
+    let kinds = json::parse("[null, false, true, 0, \"\", [], {}]", 2).unwrap();
     let want = [
-        JsonKind::Null, JsonKind::False, JsonKind::True, JsonKind::Number, JsonKind::String,
-        JsonKind::Array, JsonKind::Object,
+        Kind::Null, Kind::False, Kind::True, Kind::Number, Kind::String,
+        Kind::Array, Kind::Object,
     ];
     assert_eq!(kinds.elements().map(|it| it.kind()).collect::<Vec<_>>(), want);
     assert_eq!(kinds.members().count(), 0);
-    assert_eq!(json("1", 0).unwrap().elements().count(), 0);
-    assert_eq!(json("[1,]", 9), Err(Error::Refused(None)));
-    assert_eq!(json("", 9), Err(Error::Refused(None)));
-    assert_eq!(json("1", MOST_LEVELS + 1), Err(Error::TooDeep));
+    let object = json::parse("{\"a\": [1], \"b\": {}}", 2).unwrap();
+    assert_eq!(object.elements().count(), 0);
+    assert_eq!(object.members().count(), 2);
+    assert_eq!(json::parse("\"[1]\"", 0).unwrap().elements().count(), 0);
+    assert_eq!(json::parse("1", 0).unwrap().elements().count(), 0);
+    assert_eq!(json::parse("[1,]", 9), Err(Error::Refused(None)));
+    assert_eq!(json::parse("", 9), Err(Error::Refused(None)));
+    assert_eq!(json::parse("1", MOST_LEVELS + 1), Err(Error::TooDeep));
     let deep = "[".repeat(MOST_LEVELS) + &"]".repeat(MOST_LEVELS);
-    let (mut value, mut levels) = (json(&deep, MOST_LEVELS).unwrap(), 1);
+    let (mut value, mut levels) = (json::parse(&deep, MOST_LEVELS).unwrap(), 1);
     while let Some(inner) = value.elements().next() {
         (value, levels) = (inner, levels + 1);
     }
@@ -122,7 +130,7 @@ fn json_walks() {
 fn ini_document_of_sections() {
     let (mut text, mut entries) = ([0; 64], [Entry::default(); 8]);
     let bytes = b"; c\r\n[a]\nx = 1 ; one\ny=\n[]\n[b c]x=2\nx=\xc3\xa9";
-    let document = ini_document(bytes, &mut text, &mut entries).unwrap();
+    let document = ini::document(bytes, &mut text, &mut entries).unwrap();
     let want: [(&[u8], &[(&[u8], &[u8])]); 3] = [
         (b"a", &[(b"x", b"1"), (b"y", b"")]),
         (b"", &[]),
@@ -133,17 +141,17 @@ fn ini_document_of_sections() {
         assert_eq!(section.name(), name);
         assert_eq!(section.pairs().collect::<Vec<_>>(), pairs);
     }
-    let empty = ini_document(b" \n;x", &mut [], &mut []).unwrap();
+    let empty = ini::document(b" \n;x", &mut [], &mut []).unwrap();
     assert_eq!(empty.sections().count(), 0);
-    let small = ini_document(bytes, &mut text[..10], &mut entries).unwrap_err();
+    let small = ini::document(bytes, &mut text[..10], &mut entries).unwrap_err();
     assert_eq!(small.to_string(), "the buffer is too small: 7 entries and 12 bytes are wanted");
-    let small = ini_document(bytes, &mut text[..12], &mut entries[..6]).unwrap_err();
+    let small = ini::document(bytes, &mut text[..12], &mut entries[..6]).unwrap_err();
     assert_eq!(small.to_string(), "the buffer is too small: 7 entries and 12 bytes are wanted");
-    assert!(ini_document(bytes, &mut text[..12], &mut entries[..7]).is_ok());
+    assert!(ini::document(bytes, &mut text[..12], &mut entries[..7]).is_ok());
     for (bytes, offset, line, column) in
         [(&b"x=1"[..], 0, 1, 1), (b"[a]\nx\n", 4, 2, 1), (b"[a]\nx=1\n [b", 9, 3, 2)]
     {
-        let refused = ini_document(bytes, &mut text, &mut entries).unwrap_err();
+        let refused = ini::document(bytes, &mut text, &mut entries).unwrap_err();
         assert_eq!(refused, Error::Refused(Some(Place { offset, line, column })), "{bytes:?}");
     }
 }
@@ -160,7 +168,7 @@ fn http_head_of_requests() {
         (b"Accept-Language", b"en, mi"),
     ];
     let mut fields = [Field::default(); 3];
-    let head = http_head(HELLO, &mut fields).unwrap();
+    let head = http::head(HELLO, &mut fields).unwrap();
     assert_eq!(head.method(), b"GET");
     assert_eq!(head.target(), b"/hello.txt");
     assert_eq!(head.version(), (1, 1));
@@ -168,14 +176,18 @@ fn http_head_of_requests() {
     assert_eq!(head.fields().collect::<Vec<_>>(), want);
     let whole = HELLO.len() - 3;
     for end in 0..whole {
-        let piece = http_head_in_pieces(&HELLO[..end], &mut fields);
+        let piece = http::head_in_pieces(&HELLO[..end], &mut fields);
         assert_eq!(piece.unwrap_err(), Error::Incomplete, "{end}");
-        assert_eq!(http_head(&HELLO[..end], &mut fields).unwrap_err(), Error::Refused(None));
+        assert_eq!(http::head(&HELLO[..end], &mut fields).unwrap_err(), Error::Refused(None));
     }
-    assert!(http_head_in_pieces(&HELLO[..whole], &mut fields).is_ok());
-    let small = http_head(HELLO, &mut fields[..2]).unwrap_err();
+    assert!(http::head_in_pieces(&HELLO[..whole], &mut fields).is_ok());
+    let small = http::head(HELLO, &mut fields[..2]).unwrap_err();
     assert_eq!(small.to_string(), "the buffer is too small: 3 entries are wanted");
-    let never = http_head_in_pieces(b"GET  / HTTP/1.1\r\n", &mut fields);
+    for (request, version) in [(&b"A b HTTP/1.0\r\n\r\n"[..], (1, 0)), (b"A b HTTP/2.9\r\n\r\n", (2, 9))] {
+        assert_eq!(http::head(request, &mut []).unwrap().version(), version);
+        assert_eq!(http::head_in_pieces(request, &mut []).unwrap().version(), version);
+    }
+    let never = http::head_in_pieces(b"GET  / HTTP/1.1\r\n", &mut fields);
     assert_eq!(never.unwrap_err(), Error::Refused(None));
 }
 
@@ -191,18 +203,18 @@ fn csv_record_of_lines() {
     ];
     for (bytes, end, want, rest) in rows {
         let (mut text, mut fields) = ([0; 16], [Span::default(); 4]);
-        let record = csv_record(bytes, end, &mut text, &mut fields).unwrap();
+        let record = csv::record(bytes, end, &mut text, &mut fields).unwrap();
         assert_eq!(record.fields().collect::<Vec<_>>(), want, "{bytes:?}");
         assert_eq!(record.rest(), rest, "{bytes:?}");
         assert_eq!(record.get(want.len() - 1), want.last().copied());
         assert_eq!(record.get(want.len()), None);
     }
     for bytes in [&b""[..], b"a\"", b"\"a", b"\"a\"b", b"a\rb"] {
-        let record = csv_record(bytes, LineEnd::CrLf, &mut [], &mut []);
+        let record = csv::record(bytes, LineEnd::CrLf, &mut [], &mut []);
         assert_eq!(record.unwrap_err(), Error::Refused(None), "{bytes:?}");
     }
     let (mut text, mut fields) = ([0; 3], [Span::default(); 2]);
-    let small = csv_record(b"ab,cd", LineEnd::Lf, &mut text, &mut fields).unwrap_err();
+    let small = csv::record(b"ab,cd", LineEnd::Lf, &mut text, &mut fields).unwrap_err();
     assert_eq!(small.to_string(), "the buffer is too small: 2 entries and 4 bytes are wanted");
 }
 
@@ -211,11 +223,11 @@ fn csv_record_of_pieces() {
     let (mut text, mut fields) = ([0; 16], [Span::default(); 4]);
     let bytes = b"a,\"b\r\n\"\r\nc";
     for end in 0..9 {
-        let piece = csv_record_in_pieces(&bytes[..end], LineEnd::CrLf, &mut text, &mut fields);
+        let piece = csv::record_in_pieces(&bytes[..end], LineEnd::CrLf, &mut text, &mut fields);
         assert_eq!(piece.unwrap_err(), Error::Incomplete, "{end}");
     }
     for end in 9..=bytes.len() {
-        let piece = csv_record_in_pieces(&bytes[..end], LineEnd::CrLf, &mut text, &mut fields);
+        let piece = csv::record_in_pieces(&bytes[..end], LineEnd::CrLf, &mut text, &mut fields);
         let record = piece.unwrap();
         assert_eq!(record.fields().collect::<Vec<_>>(), [&b"a"[..], b"b\r\n"]);
         assert_eq!(record.rest(), &bytes[9..end]);
@@ -225,16 +237,16 @@ fn csv_record_of_pieces() {
 #[test]
 fn csv_records_of_a_document() {
     let document = b"a,b\r\n\"1\r\n2\",\r\nlong enough for more room,x,y\r\n";
-    let records: Result<Vec<_>, _> = csv_records(document, LineEnd::CrLf).collect();
+    let records: Result<Vec<_>, _> = csv::records(document, LineEnd::CrLf).collect();
     let want: [&[&[u8]]; 3] =
         [&[b"a", b"b"], &[b"1\r\n2", b""], &[b"long enough for more room", b"x", b"y"]];
     assert_eq!(records.unwrap(), want);
-    let mut refused = csv_records(b"a\r\nb\rc\r\n", LineEnd::CrLf);
+    let mut refused = csv::records(b"a\r\nb\rc\r\n", LineEnd::CrLf);
     assert_eq!(refused.next(), Some(Ok(vec![b"a".to_vec()])));
     let place = Place { offset: 3, line: 2, column: 1 };
     assert_eq!(refused.next(), Some(Err(Error::Refused(Some(place)))));
     assert_eq!(refused.next(), None);
-    assert_eq!(csv_records(b"", LineEnd::Lf).count(), 0);
+    assert_eq!(csv::records(b"", LineEnd::Lf).count(), 0);
 }
 
 #[test]
@@ -251,23 +263,23 @@ fn resp_reply_of_bytes() {
         (b"*-1\r\n", Reply::NullArray, b""),
     ];
     for (bytes, want, rest) in rows {
-        assert_eq!(resp_reply(bytes, 0), Ok((want, rest)), "{bytes:?}");
+        assert_eq!(resp::reply(bytes, 0), Ok((want, rest)), "{bytes:?}");
         for end in 0..bytes.len() - rest.len() {
-            assert_eq!(resp_reply(&bytes[..end], 0), Err(Error::Refused(None)), "{bytes:?}");
-            assert_eq!(resp_reply_in_pieces(&bytes[..end], 0), Err(Error::Incomplete), "{bytes:?}");
+            assert_eq!(resp::reply(&bytes[..end], 0), Err(Error::Refused(None)), "{bytes:?}");
+            assert_eq!(resp::reply_in_pieces(&bytes[..end], 0), Err(Error::Incomplete), "{bytes:?}");
         }
-        assert_eq!(resp_reply_in_pieces(bytes, 0), Ok((want, rest)), "{bytes:?}");
+        assert_eq!(resp::reply_in_pieces(bytes, 0), Ok((want, rest)), "{bytes:?}");
     }
     for bytes in [&b"x"[..], b":1a\r\n", b":01\r\n", b"$-2\r\n", b"+a\rb", b"$1\r\nab\r\n", b"*0\r\n"] {
-        assert_eq!(resp_reply(bytes, 0), Err(Error::Refused(None)), "{bytes:?}");
-        assert_eq!(resp_reply_in_pieces(bytes, 0), Err(Error::Refused(None)), "{bytes:?}");
+        assert_eq!(resp::reply(bytes, 0), Err(Error::Refused(None)), "{bytes:?}");
+        assert_eq!(resp::reply_in_pieces(bytes, 0), Err(Error::Refused(None)), "{bytes:?}");
     }
-    assert_eq!(resp_reply(b"+\r\n", MOST_LEVELS + 1), Err(Error::TooDeep));
+    assert_eq!(resp::reply(b"+\r\n", MOST_LEVELS + 1), Err(Error::TooDeep));
 }
 
 #[test]
 fn resp_reply_of_arrays() {
-    let (reply, rest) = resp_reply(b"*3\r\n*1\r\n:1\r\n$-1\r\n+a\r\n+b\r\n", 2).unwrap();
+    let (reply, rest) = resp::reply(b"*3\r\n*1\r\n:1\r\n$-1\r\n+a\r\n+b\r\n", 2).unwrap();
     let Reply::Array(mut elements) = reply else { panic!("{reply:?}") };
     assert_eq!(rest, b"+b\r\n");
     assert_eq!(elements.len(), 3);
@@ -277,13 +289,34 @@ fn resp_reply_of_arrays() {
     assert_eq!(elements.next(), Some(Ok(Reply::Simple(b"a"))));
     assert_eq!(elements.next(), None);
     let deep = "*1\r\n".repeat(MOST_LEVELS) + ":1\r\n";
-    assert!(resp_reply(deep.as_bytes(), MOST_LEVELS).is_ok());
-    assert_eq!(resp_reply(deep.as_bytes(), MOST_LEVELS - 1), Err(Error::Refused(None)));
+    assert!(resp::reply(deep.as_bytes(), MOST_LEVELS).is_ok());
+    assert_eq!(resp::reply(deep.as_bytes(), MOST_LEVELS - 1), Err(Error::Refused(None)));
+}
+
+#[test]
+fn library_says_what_it_is() {
+    assert_eq!(pergidau::version(), env!("CARGO_PKG_VERSION"));
+    let is_unproved = std::env::var("PERGIDAU_UNPROVED").is_ok_and(|it| it == "1");
+    assert_eq!(pergidau::is_proved(), !is_unproved);
 }
 
 #[test]
 fn errors_are_shown() {
-    let error: Box<dyn std::error::Error> = Box::new(calc_value("1 +\n 2 / 0").unwrap_err());
+    let error: Box<dyn std::error::Error> = Box::new(calc::value("1 +\n 2 / 0").unwrap_err());
     assert_eq!(error.to_string(), "refused at line 2, column 7");
-    assert_eq!(Error::NotText.to_string(), "the bytes are no UTF-8");
+    let wanted = Wanted { entries: 2, bytes: 4 };
+    let rows = [
+        (Error::Refused(None), "refused"),
+        (Error::Incomplete, "more bytes are needed"),
+        (Error::NoMemory, "a request for memory was refused"),
+        (Error::NotText, "the bytes are no UTF-8"),
+        (Error::TooSmall(wanted), "the buffer is too small: 2 entries and 4 bytes are wanted"),
+        (Error::TooDeep, "more levels are asked for than are read"),
+        (Error::Unknown(7), "the library answered the unknown code 7"),
+    ];
+    for (error, want) in rows {
+        assert_eq!(error.to_string(), want);
+    }
+    let place = Place::of("gr\u{f6}\u{df}e=1\nh\u{f6}he?2\n".as_bytes(), 15);
+    assert_eq!(place, Place { offset: 15, line: 2, column: 5 });
 }

@@ -50,18 +50,22 @@ fn read(alloc: Global, text: &str, out: &mut Number) -> u32
 
 /// The value of a formula of whole numbers, as `-2 * 3! ^ 2`.
 ///
-/// White space may stand before the formula and behind each number and operator. Operators are,
-/// the strongest first: `!` behind a number, its factorial; `+` and `-` before one; `^`, a power,
+/// White space may stand before the formula and behind each number and operator. Operators are, the
+/// strongest first: `!` behind a number, its factorial; `+` and `-` before one; `^`, a power,
 /// joined from the right; `*`, `/` and `%`, and then `+` and `-`, joined from the left; and `=`,
 /// which is 1 where both sides are equal and else 0. `/` cuts towards 0, and `%` has the sign of
 /// its left side.
 ///
 /// `DONE`: the value is written. `REFUSED`: the text is no formula, or a number or a result in it
 /// does not fit 64 bits with a sign, a divisor is 0, an exponent is negative, or a factorial is of
-/// a negative number; the place is written. `NO_TEXT`, `NO_MEMORY`.
+/// a negative number; so is `%` where the quotient does not fit, as in `-2 ^ 63 % -1`. The place is
+/// written: an end of the text, or one between two of its characters. That the formula was read up
+/// to there when it was refused is tested, not proved. `NO_TEXT`, `NO_MEMORY`.
+///
+/// While it runs it holds up to 100 bytes of memory for each byte of the text.
 ///
 /// The caller owes `text_length` bytes at `text` that can be read and that nothing changes while
-/// the call runs, and room for one number at `out`, apart from them.
+/// the call runs, room for one number at `out`, apart from them, and 16 KiB of stack.
 #[unsafe(no_mangle)]
 pub extern "C" fn exported_calc_value(alloc: Global, text: &[u8], out: &mut Number) -> u32
     ensures value { result ≡ done → IsUtf8 text.now × IsValue text.now out.new.value }

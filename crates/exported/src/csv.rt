@@ -93,9 +93,12 @@ fn write_record(
 /// bytes than the buffers have; how many of both is written, and the buffers are left as they were.
 /// `NO_MEMORY`.
 ///
+/// While it runs it holds up to 80 bytes of memory for each byte of the record, also where it then
+/// answers `REFUSED` or `TOO_SMALL`.
+///
 /// The caller owes `bytes_length` bytes at `bytes` that can be read and that nothing changes while
 /// the call runs, `text_length` bytes at `text` and `fields_length` entries at `fields` that can be
-/// written, and room for one record at `out`, each apart from the others.
+/// written, room for one record at `out`, each apart from the others, and 16 KiB of stack.
 #[unsafe(no_mangle)]
 pub extern "C" fn exported_csv_record(
     alloc: Global,
@@ -129,16 +132,21 @@ pub extern "C" fn exported_csv_record(
     }
 }
 
-/// The same record where the bytes come in pieces: what it answers is that of all longer bytes too.
+/// The same record where the bytes come in pieces: a record or a refusal that it answers is that of
+/// all longer bytes too.
 ///
 /// `DONE`, `TOO_SMALL`, `NO_MEMORY`: as for a record that is whole. `INCOMPLETE`: no record with
-/// its line end is there yet; also where none can come, so the caller bounds how many bytes are
-/// held. `REFUSED`: whatever comes behind the bytes, they begin with no record. The last record may
-/// have no line end: where no more bytes come, the call for whole ones reads it.
+/// its line end is there. It does not say that one can come: so it answers of `x"y` too, with which
+/// no record begins, and the caller bounds how many bytes are held. `REFUSED`: whatever comes
+/// behind the bytes, they begin with no record; today that is answered only of more than 2^61
+/// bytes. The last record may have no line end: where no more bytes come, the call for whole ones
+/// reads it.
+///
+/// Each call reads from the first byte on, and holds as much memory as that for a whole record.
 ///
 /// The caller owes `bytes_length` bytes at `bytes` that can be read and that nothing changes while
 /// the call runs, `text_length` bytes at `text` and `fields_length` entries at `fields` that can be
-/// written, and room for one record at `out`, each apart from the others.
+/// written, room for one record at `out`, each apart from the others, and 16 KiB of stack.
 #[unsafe(no_mangle)]
 pub extern "C" fn exported_csv_record_in_pieces(
     alloc: Global,

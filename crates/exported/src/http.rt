@@ -97,9 +97,13 @@ fn write_head(
 /// bytes begin with no head. `TOO_SMALL`: they begin with one that has more fields than the buffer
 /// has entries; how many it has is written, and the buffer is left as it was. `NO_MEMORY`.
 ///
+/// No empty line is passed before the request line: a server that is to be lenient, as section 2.2
+/// of RFC 9112 has it, passes one CRLF there itself. While it runs it holds up to 32 bytes of
+/// memory for each byte of the head, also where it then answers `REFUSED` or `TOO_SMALL`.
+///
 /// The caller owes `bytes_length` bytes at `bytes` that can be read and that nothing changes while
-/// the call runs, `fields_length` entries at `fields` that can be written, and room for one head at
-/// `out`, each apart from the others.
+/// the call runs, `fields_length` entries at `fields` that can be written, room for one head at
+/// `out`, each apart from the others, and 16 KiB of stack.
 #[unsafe(no_mangle)]
 pub extern "C" fn exported_http_head(
     alloc: Global,
@@ -135,9 +139,11 @@ pub extern "C" fn exported_http_head(
 /// with no head, and with more behind them they can. `REFUSED`: whatever comes behind the bytes,
 /// they begin with no head.
 ///
+/// Each call reads from the first byte on, and holds as much memory as that for a whole head.
+///
 /// The caller owes `bytes_length` bytes at `bytes` that can be read and that nothing changes while
-/// the call runs, `fields_length` entries at `fields` that can be written, and room for one head at
-/// `out`, each apart from the others.
+/// the call runs, `fields_length` entries at `fields` that can be written, room for one head at
+/// `out`, each apart from the others, and 16 KiB of stack.
 #[unsafe(no_mangle)]
 pub extern "C" fn exported_http_head_in_pieces(
     alloc: Global,

@@ -35,7 +35,7 @@ pub struct Pair {
 /// of their longest beginning that begins one.
 ///
 /// The caller owes `bytes_length` bytes at `bytes` that can be read and that nothing changes while
-/// the call runs, and room for one pair at `out`, apart from them.
+/// the call runs, room for one pair at `out`, apart from them, and 16 KiB of stack.
 #[unsafe(no_mangle)]
 pub extern "C" fn exported_ini_pair(bytes: &[u8], out: &mut Pair) -> u32
     ensures pair { result ≡ done → ShowsPair bytes.now out.new }
@@ -141,13 +141,17 @@ fn write_entries(
 /// `DONE`: the bytes of its entries are written into `text`, those of the key before those of the
 /// value and one entry behind the other, and so many places there, in order: of each section its
 /// head, and then its pairs. `REFUSED`: the bytes are no document; written is the length of their
-/// longest beginning that is made of such parts. `TOO_SMALL`: they are one that wants more entries
-/// or more bytes than the buffers have; how many of both is written, and the buffers are left as
-/// they were. `NO_MEMORY`.
+/// longest beginning that is made of such parts, each of which is one where it stands in all of the
+/// bytes: a pair ends where its line does, so of `[a]`, a line feed, and `x=` before a byte that is
+/// no UTF-8 it is 4. `TOO_SMALL`: they are one that wants more entries or more bytes than the
+/// buffers have; how many of both is written, and the buffers are left as they were. `NO_MEMORY`.
+///
+/// While it runs it holds up to 100 bytes of memory for each byte of the document, also where it
+/// then answers `REFUSED` or `TOO_SMALL`.
 ///
 /// The caller owes `bytes_length` bytes at `bytes` that can be read and that nothing changes while
 /// the call runs, `text_length` bytes at `text` and `entries_length` entries at `entries` that can
-/// be written, and room for one document at `out`, each apart from the others.
+/// be written, room for one document at `out`, each apart from the others, and 16 KiB of stack.
 #[unsafe(no_mangle)]
 pub extern "C" fn exported_ini_document(
     alloc: Global,

@@ -74,6 +74,9 @@ pub(crate) const NONE: Reply = Reply {
 /// `DONE`: the reply is written. `REFUSED`: the bytes begin with none. `TOO_DEEP`: more than 512
 /// levels are asked for. `NO_MEMORY`. With these three all that is written is 0.
 ///
+/// While it runs it holds up to 32 bytes of memory for each byte of the reply, and 2 KiB for each
+/// level of arrays that has begun.
+///
 /// The caller owes `bytes_length` bytes at `bytes` that can be read and that nothing changes while
 /// the call runs, room for one reply at `out`, apart from them, and 512 KiB of stack.
 #[unsafe(no_mangle)]
@@ -117,6 +120,8 @@ pub extern "C" fn exported_resp_reply(
 /// needed; that no more are asked for once the reply is there is tested, not proved. `REFUSED`:
 /// whatever comes behind the bytes, they begin with no reply. With these two all that is written is
 /// 0 too.
+///
+/// Each call reads from the first byte on, and holds as much memory as that for a whole reply.
 ///
 /// The caller owes `bytes_length` bytes at `bytes` that can be read and that nothing changes while
 /// the call runs, room for one reply at `out`, apart from them, and 512 KiB of stack.

@@ -24,7 +24,7 @@ pub struct Position {
 /// and a place behind the end is the end.
 ///
 /// The caller owes `bytes_length` bytes at `bytes` that can be read and that nothing changes while
-/// the call runs, and room for one position at `out`, apart from them.
+/// the call runs, room for one position at `out`, apart from them, and 16 KiB of stack.
 #[unsafe(no_mangle)]
 pub extern "C" fn exported_text_position(bytes: &[u8], offset: usize, out: &mut Position) -> u32
     ensures place { IsUtf8 bytes.now → IsCharBoundary bytes.now offset

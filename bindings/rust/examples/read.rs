@@ -1,16 +1,17 @@
 //! Reads a formula, and the head of a request that came in a buffer.
-use pergidau::{calc_value, http_head, Error, Field};
+use pergidau::http::{self, Field};
+use pergidau::{calc, Error};
 
 fn main() -> Result<(), Error> {
     for formula in ["2 + 3 * 4", "1 / 0"] {
-        match calc_value(formula) {
+        match calc::value(formula) {
             Ok(value) => println!("{formula} is {value}"),
             Err(error) => println!("{formula}: {error}"),
         }
     }
     let request = b"GET /hello.txt HTTP/1.1\r\nHost: www.example.com\r\nAccept: *\r\n\r\n";
     let mut fields = [Field::default(); 16];
-    let head = http_head(request, &mut fields)?;
+    let head = http::head(request, &mut fields)?;
     println!("{} has", String::from_utf8_lossy(head.target()));
     for (name, value) in head.fields() {
         let (name, value) = (String::from_utf8_lossy(name), String::from_utf8_lossy(value));

@@ -1,0 +1,34 @@
+//! Formulas of whole numbers.
+//!
+//! ```
+//! use pergidau::calc;
+//!
+//! assert_eq!(calc::value("2 + 3 * 4"), Ok(14));
+//! assert_eq!(calc::value("1 / 0").unwrap_err().to_string(), "refused at line 1, column 6");
+//! ```
+use crate::{exports, Error, Place, NOTHING};
+
+/// The value of a formula of whole numbers.
+///
+/// Operators are, the strongest first: `!` behind a number, `+` and `-` before one, `^`, then `*`,
+/// `/` and `%`, then `+` and `-`, and `=`, which is 1 or 0. An error has the place where the formula
+/// is refused, or where it has no value that fits; `%` has none where the quotient does not fit, as
+/// in `-2 ^ 63 % -1`. While it runs it holds up to 100 bytes of memory for each byte of the text.
+///
+/// ```
+/// use pergidau::calc;
+///
+/// assert_eq!(calc::value("-2 ^ 2"), Ok(4));
+/// assert!(calc::value("9223372036854775808").is_err());
+/// assert!(calc::value("-2 ^ 63 % -1").is_err());
+/// ```
+pub fn value(text: &str) -> Result<i64, Error> {
+    let mut out = exports::Number::default();
+    // SAFETY: the pointers are those of live borrows, and the bytes are only read. The call takes up to
+    // 4 KiB of stack (measured); where there is less, the thread's guard page ends the program.
+    let code = unsafe { exports::exported_calc_value(text.as_ptr(), text.len(), &mut out) };
+    match code {
+        exports::DONE => Ok(out.value),
+        code => Err(Error::of(code, Some(Place::of(text.as_bytes(), out.place)), NOTHING)),
+    }
+}

@@ -1,0 +1,246 @@
+/* What calls cost on inputs made to cost much: the memory that is held at once and that is asked for,
+ * beside the input's length, and the stack. Prints a row for each; it is linked with
+ * `-Wl,--wrap=malloc,--wrap=realloc,--wrap=free` and -pthread. Exits with 1 where a row is beyond what
+ * the header says. */
+#include <pthread.h>
+#include <stdbool.h>
+#include <stdio.h>
+#include <stdlib.h>
+#include <string.h>
+#include <sys/mman.h>
+
+#include "pergidau.h"
+
+/* Lists grow by doubling, so that one entry more than a power of two costs the most. */
+enum { STACK = 8 << 20, MARK = 0xa5, LENGTH = 1 << 20, POWER = LENGTH / 4 };
+
+static size_t held, most_held, asked;
+void *__real_malloc(size_t size);
+void *__real_realloc(void *block, size_t size);
+void __real_free(void *block);
+
+static void count(size_t size)
+{
+    asked += size;
+    held += size;
+    most_held = held > most_held ? held : most_held;
+}
+
+/* Each block says before itself how long it is. */
+void *__wrap_malloc(size_t size)
+{
+    size_t *block = __real_malloc(size + 16);
+    if (block == NULL) {
+        return NULL;
+    }
+    *block = size;
+    count(size);
+    return block + 2;
+}
+
+void __wrap_free(void *block)
+{
+    if (block != NULL) {
+        size_t *start = (size_t *)block - 2;
+        held -= *start;
+        __real_free(start);
+    }
+}
+
+/* A block that grows may be copied: both are held then. */
+void *__wrap_realloc(void *block, size_t size)
+{
+    void *grown = __wrap_malloc(size);
+    if (grown != NULL && block != NULL) {
+        size_t old = *((size_t *)block - 2);
+        memcpy(grown, block, old < size ? old : size);
+        __wrap_free(block);
+    }
+    return grown;
+}
+
+enum call { CALC, PAIR, DOCUMENT, CHECK, VALUE, NEXT, HEAD, HEAD_IN_PIECES, RECORD, RECORD_IN_PIECES,
+            REPLY, REPLY_IN_PIECES, POSITION };
+static const char *const names[] = {
+    "calc_value", "ini_pair", "ini_document", "json_check", "json_value", "json_next", "http_head",
+    "http_head_in_pieces", "csv_record", "csv_record_in_pieces", "resp_reply",
+    "resp_reply_in_pieces", "text_position",
+};
+
+/* Inputs: a beginning, what is repeated, and an end. The memory is that which the header says a call
+ * holds at once at most, in bytes for each byte of input; the stack, in KiB. */
+static const struct {
+    enum call call;
+    const char *front, *again, *end;
+    size_t turns, memory, stack;
+} rows[] = {
+    {CALC, "", "-", "1", LENGTH, 100, 16},
+    {CALC, "", "1^", "1", LENGTH / 2, 100, 16},
+    {CALC, "", "1+1*1^-", "1", LENGTH / 7, 100, 16},
+    {CALC, "1", "!", "", LENGTH, 100, 16},
+    {CALC, "", "1+", "1", LENGTH / 2, 100, 16},
+    {CALC, "", " ", "1", LENGTH, 100, 16},
+    {PAIR, "a=", "b", "\n", LENGTH, 0, 16},
+    {PAIR, "", "b", "\n", LENGTH, 0, 16},
+    {DOCUMENT, "", "[]", "", POWER + 1, 100, 16},
+    {DOCUMENT, "", "[]", "", POWER, 100, 16},
+    {DOCUMENT, "[]\n", "a=\n", "", POWER + 1, 100, 16},
+    {DOCUMENT, "", "[]a=\n", "", POWER / 2 + 1, 100, 16},
+    {DOCUMENT, "", "[]a=\n", "", POWER + 1, 100, 16},
+    {DOCUMENT, "", "[]a=\na=\n", "", POWER + 1, 100, 16},
+    {DOCUMENT, "", "[]", "x", POWER + 1, 100, 16},
+    {DOCUMENT, "[]\na=", "b", "", LENGTH, 100, 16},
+    {CHECK, "", "[", "", LENGTH, 0, 512},
+    {CHECK, "", "{\"a\":", "", LENGTH / 5, 0, 512},
+    {CHECK, "[", "[{}],", "1]", LENGTH / 5, 0, 512},
+    {VALUE, "", "[", "", LENGTH, 0, 512},
+    {VALUE, "", "{\"a\":", "", LENGTH / 5, 0, 512},
+    {NEXT, "", "[", "", LENGTH, 0, 512},
+    {NEXT, "", "{\"a\":", "", LENGTH / 5, 0, 512},
+    {HEAD, "GET / HTTP/1.1\r\n", "a:\r\n", "\r\n", LENGTH / 4, 32, 16},
+    {HEAD, "GET / HTTP/1.1\r\na: ", "b", "\r\n\r\n", LENGTH, 32, 16},
+    {HEAD, "GET / HTTP/1.1\r\n", "a:\r\n", "", POWER + 1, 32, 16},
+    {HEAD_IN_PIECES, "GET / HTTP/1.1\r\n", "a:\r\n", "\r\n", LENGTH / 4, 32, 16},
+    {HEAD_IN_PIECES, "GET / HTTP/1.1\r\n", "a:\r\n", "", POWER + 1, 32, 16},
+    {RECORD, "", ",", "\n", LENGTH, 80, 16},
+    {RECORD, "", "a,", "\n", LENGTH / 2, 80, 16},
+    {RECORD, "\"", "\"\"", "\"", LENGTH / 2, 80, 16},
+    {RECORD, "\"", "\"\"", "", LENGTH / 2, 80, 16},
+    {RECORD, "", ",", "\"", LENGTH, 80, 16},
+    {RECORD_IN_PIECES, "", ",", "\n", LENGTH, 80, 16},
+    {RECORD_IN_PIECES, "", "a,", "", LENGTH / 2, 80, 16},
+    {REPLY, "", "*1\r\n", ":1\r\n", 512, 32, 512},
+    {REPLY, "", "*1\r\n", ":1\r\n", LENGTH / 4, 32, 512},
+    {REPLY, "*262144\r\n", ":1\r\n", "", 262144, 32, 512},
+    {REPLY, "*262144\r\n", "*0\r\n", "", 262144, 32, 512},
+    {REPLY, "*174762\r\n", "$0\r\n\r\n", "", 174762, 32, 512},
+    {REPLY, "", "*1000000000000\r\n", "", 1, 32, 512},
+    {REPLY, "", "*1000000000000\r\n", "", 512, 32, 512},
+    {REPLY_IN_PIECES, "", "*1000000000000\r\n", "", 512, 32, 512},
+    {REPLY_IN_PIECES, "", "*1\r\n", ":1\r\n", 512, 32, 512},
+    {REPLY_IN_PIECES, "*262144\r\n", ":1\r\n", "", 262144, 32, 512},
+    {REPLY_IN_PIECES, "*262145\r\n", ":1\r\n", "", 262144, 32, 512},
+    {POSITION, "", "\xc3\xa9\n", "", LENGTH / 3, 0, 16},
+};
+
+static const uint8_t *bytes;
+static size_t length;
+
+static enum pergidau_code call(enum call which, size_t levels)
+{
+    struct pergidau_number number;
+    struct pergidau_pair pair;
+    struct pergidau_document document;
+    struct pergidau_json_item item;
+    struct pergidau_head head;
+    struct pergidau_record record;
+    struct pergidau_reply reply;
+    struct pergidau_position position;
+    size_t found;
+    switch (which) {
+    case CALC:
+        return pergidau_calc_value(bytes, length, &number);
+    case PAIR:
+        return pergidau_ini_pair(bytes, length, &pair);
+    case DOCUMENT:
+        return pergidau_ini_document(bytes, length, NULL, 0, NULL, 0, &document);
+    case CHECK:
+        return pergidau_json_check(bytes, length, levels);
+    case VALUE:
+        return pergidau_json_value(bytes, length, levels, &found);
+    case NEXT:
+        return pergidau_json_next(bytes, length, levels, &item);
+    case HEAD:
+        return pergidau_http_head(bytes, length, NULL, 0, &head);
+    case HEAD_IN_PIECES:
+        return pergidau_http_head_in_pieces(bytes, length, NULL, 0, &head);
+    case RECORD:
+        return pergidau_csv_record(bytes, length, 1, NULL, 0, NULL, 0, &record);
+    case RECORD_IN_PIECES:
+        return pergidau_csv_record_in_pieces(bytes, length, 1, NULL, 0, NULL, 0, &record);
+    case REPLY:
+        return pergidau_resp_reply(bytes, length, levels, &reply);
+    case REPLY_IN_PIECES:
+        return pergidau_resp_reply_in_pieces(bytes, length, levels, &reply);
+    default:
+        return pergidau_text_position(bytes, length, length / 2, &position);
+    }
+}
+
+static enum pergidau_code code;
+
+static void *called(void *row)
+{
+    code = call(rows[*(size_t *)row].call, PERGIDAU_MOST_LEVELS);
+    return NULL;
+}
+
+static void *nothing(void *row)
+{
+    return row;
+}
+
+/* How much of a stack a thread that runs this wrote to. */
+static size_t stack_of(void *(*run)(void *), void *row)
+{
+    pthread_t thread;
+    pthread_attr_t attributes;
+    uint8_t *stack = mmap(NULL, STACK, PROT_READ | PROT_WRITE, MAP_PRIVATE | MAP_ANONYMOUS, -1, 0);
+    if (stack == MAP_FAILED) {
+        exit(2);
+    }
+    memset(stack, MARK, STACK);
+    if (pthread_attr_init(&attributes) || pthread_attr_setstack(&attributes, stack, STACK)
+        || pthread_create(&thread, &attributes, run, row) || pthread_join(thread, NULL)) {
+        exit(2);
+    }
+    size_t unused = 0;
+    while (stack[unused] == MARK) {
+        unused++;
+    }
+    munmap(stack, STACK);
+    return STACK - unused;
+}
+
+static void make(size_t i)
+{
+    size_t front = strlen(rows[i].front), again = strlen(rows[i].again), end = strlen(rows[i].end);
+    length = front + rows[i].turns * again + end;
+    uint8_t *made = mmap(NULL, length, PROT_READ | PROT_WRITE, MAP_PRIVATE | MAP_ANONYMOUS, -1, 0);
+    if (made == MAP_FAILED) {
+        exit(2);
+    }
+    memcpy(made, rows[i].front, front);
+    for (size_t k = 0; k < rows[i].turns; k++) {
+        memcpy(made + front + k * again, rows[i].again, again);
+    }
+    memcpy(made + length - end, rows[i].end, end);
+    bytes = made;
+}
+
+int main(void)
+{
+    bool wrong = false;
+    size_t own = stack_of(nothing, NULL);
+    printf("| Call | Input | Bytes | Ends | Held at once, a byte | Asked for, a byte | Stack |\n");
+    for (size_t i = 0; i < sizeof rows / sizeof *rows; i++) {
+        make(i);
+        size_t stack = stack_of(called, &i) - own;
+        held = most_held = asked = 0;
+        called(&i);
+        double each = (double)most_held / (double)length;
+        printf("| %s | `", names[rows[i].call]);
+        for (const char *c = rows[i].again; *c; c++) {
+            (void)(*c >= ' ' && *c < 127 ? printf("%c", *c) : printf("\\%d", (uint8_t)*c));
+        }
+        printf("`.. | %zu | %s | %.1f | %.1f | %zu |\n", length, pergidau_message(code), each,
+               (double)asked / (double)length, stack);
+        /* An array that has begun has a list with room for some elements. */
+        size_t lists = rows[i].memory == 32 && rows[i].stack == 512 ? rows[i].turns << 11 : 0;
+        most_held -= most_held < lists ? most_held : lists;
+        wrong |= (double)most_held / (double)length > (double)rows[i].memory
+            || stack > rows[i].stack << 10 || held != 0;
+        munmap((void *)(uintptr_t)bytes, length);
+    }
+    return wrong;
+}

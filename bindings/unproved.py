@@ -1,0 +1,133 @@
+"""Compiles `exported` with no proof, for `bindings/build --unproved`.
+
+A program that calls each export goes through `rt try`, as the bench does it (`bench/unproved.py`).
+The code is close to that of a proved build, and need not be the same.
+"""
+import os
+import pathlib
+import shutil
+import sys
+import tempfile
+
+TOP = pathlib.Path(__file__).resolve().parent.parent
+sys.path[:0] = [str(TOP / "scripts"), str(TOP / "bench")]
+from header import SOURCE, items, kind_of  # noqa: E402
+from laid import copy_crate  # noqa: E402
+from llvm import compiled  # noqa: E402
+
+CPU = "x86-64-v2"
+PROGRAM = """//! Calls each export.
+#![tactic(auto)]
+use std::io;
+use std::io::Read;
+{imports}
+
+fn main(rt: HostRuntime) -> io::Result<()> {{
+    let mut bytes = Vec::new(rt.alloc());
+    rt.stdin().read_to_end(&mut bytes)?;
+    let mut sum = 0;
+{calls}
+    println!(rt; "{{}}", sum)
+}}
+"""
+LLVM = {"u8": "i8", "u32": "i32", "i64": "i64", "usize": "i64"}
+
+
+def below(crate):
+    """The crates that a crate stands on and itself, each with what it names."""
+    lines = {}
+    for line in (TOP / "crates.txt").read_text(encoding="utf-8").splitlines():
+        name, colon, others = line.partition(":")
+        if colon and not line.startswith("#"):
+            lines[name.split()[0]] = others.split()
+    found, left = set(), [crate]
+    while left:
+        name = left.pop()
+        if name in lines and name not in found:
+            found.add(name)
+            left += lines[name]
+    return {name: on for name, on in lines.items() if name in found}
+
+
+def modules():
+    """The module of each export and of each struct, by its name."""
+    found = {}
+    for file in sorted(SOURCE.glob("*.rt")):
+        text = file.read_text(encoding="utf-8")
+        found |= {word: file.stem for word in text.replace("(", " ").split() if word.startswith("exported_")}
+        found |= {it.split()[2]: file.stem for it in text.splitlines() if it.startswith("pub struct ")}
+    return found
+
+
+def nothing(name, structs):
+    """A value of a type whose numbers are 0."""
+    if name not in structs:
+        return "0"
+    inside = ", ".join(f"{it.name}: {nothing(it.parts[0], structs)}" for it in structs[name].parts)
+    return f"{name} {{ {inside} }}"
+
+
+def call(export, where, structs):
+    """The lines that call an export."""
+    lines, given = [], []
+    source = (SOURCE / f"{where}.rt").read_text(encoding="utf-8")
+    if f"fn exported_{export.name}(alloc: Global" in source or f"fn exported_{export.name}(\n    alloc: Global" in source:
+        given.append("rt.alloc()")
+    for name, written in export.parts:
+        kind, inside = kind_of(written)
+        local = f"{export.name}_{name}"
+        if kind == "read":
+            given.append("&bytes")
+        elif kind == "pass":
+            given.append("1")
+        elif kind == "write":
+            lines.append(f"    let mut {local} = [{nothing(inside, structs)}; 2];")
+            given.append(f"&mut {local}")
+        else:
+            lines.append(f"    let mut {local} = {nothing(inside, structs)};")
+            given.append(f"&mut {local}")
+    lines.append(f"    sum = sum ^ exported::{where}::exported_{export.name}({', '.join(given)});")
+    return "\n".join(lines)
+
+
+def wrapper(export, where):
+    """The function of LLVM that calls an export, by its name for callers."""
+    kinds = []
+    for _, written in export.parts:
+        kind, inside = kind_of(written)
+        kinds += {"read": ["ptr", "i64"], "write": ["ptr", "i64"], "out": ["ptr"]}.get(kind) or [LLVM[inside]]
+    given = ", ".join(f"{kind} %a{at}" for at, kind in enumerate(kinds))
+    name = f"exported_{export.name}"
+    called = f'@"exported::{where}::{name}"({given})'
+    return f"define i32 @{name}({given}) #92 {{\n  %r = call i32 {called}\n  ret i32 %r\n}}\n"
+
+
+def lay(room, exports, structs, where):
+    """Lays the crates and the program into a folder."""
+    lines = below("exported")
+    for name in lines:
+        copy_crate(name, room / "crates")
+    named = [f"{name}: {' '.join(on)}" for name, on in lines.items()]
+    named.append("exported_program: exported")
+    (room / "crates.txt").write_text("\n".join(named) + "\n", encoding="utf-8")
+    shutil.copyfile(TOP / "HANDLES", room / "HANDLES")
+    source = room / "crates/exported_program/src"
+    source.mkdir(parents=True)
+    used = sorted({f"use exported::{where[name]}::{name};" for name in structs})
+    calls = "\n".join(call(it, where[f"exported_{it.name}"], structs) for it in exports)
+    text = PROGRAM.format(imports="\n".join(used), calls=calls)
+    (source / "main.rt").write_text(text, encoding="utf-8")
+
+
+def make(archive):
+    """Compiles the exports into this archive."""
+    _, _, structs, exports = items()
+    structs, where = {it.name: it for it in structs}, modules()
+    with tempfile.TemporaryDirectory(prefix="unproved-") as made:
+        room, here = pathlib.Path(made), pathlib.Path.cwd()
+        lay(room, exports, structs, where)
+        named = [wrapper(it, where[f"exported_{it.name}"]) for it in exports]
+        compiled(room, CPU, "exported", named)
+        archive.parent.mkdir(parents=True, exist_ok=True)
+        shutil.copyfile(room / "libexported.a", archive)
+        os.chdir(here)
