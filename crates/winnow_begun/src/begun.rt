@@ -1,0 +1,54 @@
+//! The trait of parsers of which it is known when they ask for more.
+ghost use Rattle.std.specs.Prelude.{◌≡◌, true};
+ghost use Rattle.stream_errors.specs.Form.{answer_by, modal};
+ghost use Rattle.streams.specs.Following.{none_follows};
+ghost use Rattle.winnow_begun.specs.Begun.{AsksExactly, AsksWhere};
+ghost use Rattle.winnow_begun.specs.Begun.Words.{Begun};
+ghost use Rattle.winnow_core.specs.Stable.{IsStable};
+
+
+mod comb;
+mod literals;
+
+
+
+use stream_errors::parser_error::ParserError;
+use streams::stream::Stream;
+use winnow_core::parser::Parser;
+use winnow_core::stable::Stable;
+
+/// A stable parser of which it is known on which tokens of a cut input it asks for more.
+///
+/// ```
+/// ```
+pub trait Begun<I: Stream, O, E: ParserError<I>>: Stable<I, O, E> {
+    // The tokens of a cut input on which it asks for more.
+    ghost begun: { Self → Begun I.Seen };
+
+    /// Does nothing.
+    #[inline(always)]
+    fn begin() {}
+
+    // What it answers on a cut input, it answers where nothing follows.
+    ghost ended: { IsStable none_follows (Self.meaning modal) };
+
+    // It asks for more where its tokens are begun, and nowhere else.
+    ghost asks: { (p : Self) → (Self.claim (Self.state p)).premise
+        → AsksWhere (Self.state p) (Self.meaning modal) (begun p) };
+
+    /// As `parse_next`.
+    #[inline(always)]
+    final fn parse_asking(&mut self, input: &mut I) -> Result<O, E>
+        requires callable { Self.can_parse self.old }
+        requires premise { (Self.claim (Self.state self.old)).premise }
+        requires modal { E.form ≡ modal }
+        ensures again { Self.can_parse self.new }
+        ensures ran { Self.meaning E.form (Self.state self.old) (I.view input.old)
+            (answer_by E.kind result) (Self.state self.new) (I.view input.new) }
+        ensures asks { (I.view input.old).status.cut ≡ true
+            → (I.view input.old).left.possible ≡ true
+            → AsksExactly (Self.begun self.old) (I.view input.old) (answer_by E.kind result) }
+    {
+        self.parse_next(input)
+    }
+}
