@@ -12,9 +12,14 @@ use Rattle.winnow_core.specs.Runs.{Meaning, Runs}
 use Rattle.winnow_core.specs.Stable.{AsksForMore, IsFinal, IsFinalKind, WantsMemory}
 use Rattle.winnow_core.specs.Stable.Grows.{Grows, MayGrow}
 pub mod Adapters
+pub mod Choice
 pub mod InOrder
+pub mod Items
 pub mod Leaves
+pub mod Links
+pub mod Parted
 pub mod Passed
+pub mod Repeated
 pub mod Words
 
 -- The input is cut, and can be read at all; so it may also end where it is cut.

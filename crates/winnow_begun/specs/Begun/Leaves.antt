@@ -21,11 +21,11 @@ use Rattle.winnow_token.specs.Take.{TakeRuns}
 use Rattle.winnow_token.specs.TakeWhile.{IsOpen, TakeWhileRuns}
 
 -- a backtrack asks for no more
-back_asks : {P : Type 0} {need : Option ℕ} → ◌≡◌ {A = Kind} (incomplete need) backtrack → P
+pub back_asks : {P : Type 0} {need : Option ℕ} → ◌≡◌ {A = Kind} (incomplete need) backtrack → P
 back_asks e = absurd (cc)
 
 -- nor does a failure for good
-cut_asks : {P : Type 0} {need : Option ℕ} → ◌≡◌ {A = Kind} (incomplete need) cut → P
+pub cut_asks : {P : Type 0} {need : Option ℕ} → ◌≡◌ {A = Kind} (incomplete need) cut → P
 cut_asks e = absurd (cc)
 
 never_alike : {O : Type 0} (alike : O → O → Type 0) (need : Option ℕ) (answer : Answer O)

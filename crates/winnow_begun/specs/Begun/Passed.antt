@@ -23,7 +23,7 @@ Became {S} {T} {O} run s i answer =
     ⊎ (answer ≡ Err memory))
 
 -- want of memory asks for no more
-memory_asks : {P : Type 0} {need : Option ℕ} → ◌≡◌ {A = Kind} (incomplete need) memory → P
+pub memory_asks : {P : Type 0} {need : Option ℕ} → ◌≡◌ {A = Kind} (incomplete need) memory → P
 memory_asks e = absurd (cc)
 
 -- an output asks for no more
