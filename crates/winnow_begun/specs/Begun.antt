@@ -5,12 +5,15 @@ use Rattle.std.proofs.lemmas.List.{append-nil}
 use Rattle.streams.specs.Following.{none_follows}
 use Rattle.streams.specs.Input.{Input, with_more}
 use Rattle.streams.specs.Kind.{Kind, backtrack, cut, incomplete, memory}
+use Rattle.streams.specs.Reading.{Reading}
 use Rattle.grammars.specs.Grammar.{Grammar, NoneStands}
 use Rattle.stream_errors.specs.Form.{Answer, ErrorForm, modal}
+use Rattle.winnow_core.specs.Claim.{Claim, Claimed}
 use Rattle.winnow_core.specs.Exact.{IsExact, IsSoft}
-use Rattle.winnow_core.specs.Runs.{Meaning, Runs}
-use Rattle.winnow_core.specs.Stable.{AsksForMore, IsFinal, IsFinalKind, WantsMemory}
-use Rattle.winnow_core.specs.Stable.Grows.{Grows, MayGrow}
+use Rattle.winnow_core.specs.Runs.{LeaveEnds, Meaning, Runs}
+use Rattle.winnow_core.specs.Stable.{AsksForMore, IsFinal, IsFinalKind, IsStable}
+use Rattle.winnow_core.specs.Stable.{WantsMemory}
+use Rattle.winnow_core.specs.Stable.Grows.{Grows, MayGrow, grows}
 pub mod Adapters
 pub mod Choice
 pub mod InOrder
@@ -127,3 +130,16 @@ module _ {S T O : Type 0} {s : S} {run : Runs S T O} {g : Grammar T O} {b : List
         | inl e ↦ absurd (cc)
         | inr e ↦ absurd (cc)
       ]
+
+-- what is known of a part, by what it claims
+pub part_of : {S T L O : Type 0} {reading : Reading T L} {claim : Claim T O}
+    {meaning : Meaning S T O} {s : S} {begun : List T → Type 0} → Claimed claim s meaning
+    → ((form : ErrorForm) → LeaveEnds reading (meaning form))
+    → IsStable none_follows (meaning modal)
+    → (claim.premise → AsksWhere s (meaning modal) begun) → claim.premise
+    → Part s (meaning modal) claim.grammar begun
+part_of claimed ends ended asks is = record {
+  exact = claimed.exact modal is;
+  grows = grows (ends modal) ended;
+  asks = asks is;
+}

@@ -1,5 +1,5 @@
 -- The words in which it is said where parsers ask for more.
-use Rattle.std.specs.Prelude.{◌⊎◌, ◌≡◌, ◌<◌, ℕ, List, [], ◌∷◌, length, Option}
+use Rattle.std.specs.Prelude.{◌⊎◌, ◌≡◌, ◌<◌, ℕ, Bool, true, List, [], ◌∷◌, length, Option}
 use Rattle.grammars.specs.Grammar.{Both, Each, Grammar, NoneStands}
 use Rattle.stream_sets.specs.Range.{IsBelow}
 
@@ -18,6 +18,10 @@ NoneLeft tokens = tokens ≡ []
 -- There are fewer than so many.
 unfoldable pub Fewer : {T : Type 0} → ℕ → Begun T
 Fewer n tokens = length tokens < n
+
+-- It is begun, where the condition holds.
+unfoldable pub OnlyIf : {T : Type 0} → Bool → Begun T → Begun T
+OnlyIf condition begun tokens = (condition ≡ true) × begun tokens
 
 -- The first is begun; or it stands, and behind it the second is begun.
 unfoldable pub Behind : {T O : Type 0} → Grammar T O → Begun T → Begun T → Begun T
