@@ -23,6 +23,7 @@ pub mod Links
 pub mod Parted
 pub mod Passed
 pub mod Repeated
+pub mod Tuples
 pub mod Words
 
 -- The input is cut, and can be read at all; so it may also end where it is cut.

@@ -6,11 +6,20 @@ ghost use Rattle.winnow_begun.specs.Begun.{AsksExactly, AsksWhere};
 ghost use Rattle.winnow_begun.specs.Begun.Words.{Begun};
 ghost use Rattle.winnow_core.specs.Stable.{IsStable};
 
-
-mod comb;
+mod adapters;
+mod basic;
+mod big_integers;
+mod choice;
+mod classes;
+mod errors;
+mod line_ends;
 mod literals;
-
-
+mod little_integers;
+mod repeat;
+mod sequence;
+mod settled;
+mod token;
+mod tuples;
 
 use stream_errors::parser_error::ParserError;
 use streams::stream::Stream;

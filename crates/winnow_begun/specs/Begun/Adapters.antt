@@ -1,12 +1,14 @@
 -- Adapters ask for more where their part does.
-use Rattle.std.specs.Prelude.{◌≡◌, ⊤, ℕ, Bool, true, false, List, Option, Ok, Err}
-use Rattle.std.proofs.Common.{refl, sym, subst, inl, inr, ◌∙◌}
+use Rattle.std.specs.Prelude.{◌≡◌, ⊤, ℕ, Bool, true, false, List, Option, Result, Ok}
+use Rattle.std.specs.Prelude.{Err}
+use Rattle.std.proofs.Common.{refl, sym, ap, subst, inl, inr, ◌∙◌}
 use Rattle.streams.specs.Equal.{true_is_false}
 use Rattle.streams.specs.Input.{Input}
 use Rattle.streams.specs.Kind.{Kind, backtrack, cut, incomplete, memory}
 use Rattle.streams.specs.Reading.{Reading}
-use Rattle.stream_errors.specs.Form.{Answer}
+use Rattle.stream_errors.specs.Form.{Answer, ErrorForm, modal}
 use Rattle.stream_errors.specs.Form.Known.{ok_is_err, same_kind}
+use Rattle.stream_errors.specs.Given.{Keeping}
 use Rattle.winnow_begun.specs.Begun.{AsksWhere, IsCut}
 use Rattle.winnow_begun.specs.Begun.Passed.{Became, error_asks, output_asks, part_became}
 use Rattle.winnow_begun.specs.Begun.Passed.{part_failed, part_final}
@@ -16,16 +18,27 @@ use Rattle.winnow_comb.specs.CutErr.{CutErrRuns}
 use Rattle.winnow_comb.specs.Not.{NotRuns}
 use Rattle.winnow_comb.specs.Opt.{OptRuns}
 use Rattle.winnow_comb.specs.Peek.{PeekRuns}
+use Rattle.winnow_core.specs.AndThen.{AndThenSettles, completed}
 use Rattle.winnow_core.specs.ByRef.{ByRefRuns}
+use Rattle.winnow_core.specs.Closures.{Stays}
+use Rattle.winnow_core.specs.ErrInto.{ErrIntoBecomes, ErrIntoRuns}
+use Rattle.winnow_core.specs.Exact.{FailsBy}
+use Rattle.winnow_core.specs.Exact.Allowed.{Allowed}
+use Rattle.winnow_core.specs.Exact.Errors.{KeepsKinds, SameKinds, err_into_keeps}
+use Rattle.winnow_core.specs.Exact.Errors.{map_err_kept_keeps}
 use Rattle.winnow_core.specs.MakesError.{MakesError}
 use Rattle.winnow_core.specs.MakesOutput.{MakesOutput}
 use Rattle.winnow_core.specs.Map.{MapRuns}
-use Rattle.winnow_core.specs.Runs.{Runs}
+use Rattle.winnow_core.specs.MapErrKept.{MapErrKeptBecomes, MapErrKeptRuns}
+use Rattle.winnow_core.specs.ParseTo.{ParseToRuns, ParseToSettles}
+use Rattle.winnow_core.specs.Runs.{Meaning, Runs}
 use Rattle.winnow_core.specs.Settles.{Settles}
 use Rattle.winnow_core.specs.Stable.{IsFinal, IsFinalKind}
 use Rattle.winnow_core.specs.Stable.Grows.{final_by}
 use Rattle.winnow_core.specs.Take.{TakeRuns}
+use Rattle.winnow_core.specs.TryMap.{TryMapSettles}
 use Rattle.winnow_core.specs.Value.{ValueRuns}
+use Rattle.winnow_core.specs.Verify.{VerifySettles}
 use Rattle.winnow_core.specs.VerifyMap.{VerifyMapRuns}
 use Rattle.winnow_core.specs.Void.{VoidRuns}
 
@@ -119,19 +132,52 @@ take_became reading run s i answer t j (inr (k, r, e)) = part_failed run s k r e
 -- ---- an output that is settled
 
 -- what settles an output asks for no more
-abbrev pub SettlesAsNone : {G O U : Type 0} → (G → O → Answer U → G → Type 0) → Type 0
-SettlesAsNone {G} {O} {U} settle =
-    (g : G) (o : O) (k : Kind) (h : G) → settle g o (Err k) h → (need : Option ℕ)
-    → k ≡ incomplete need → ⊥
+abbrev pub SettlesAsNone : {G O U : Type 0} → (G → O → Answer U → G → Type 0) → G → Type 0
+SettlesAsNone {G} {O} {U} settle g =
+    (o : O) (k : Kind) (h : G) → settle g o (Err k) h → (need : Option ℕ) → k ≡ incomplete need → ⊥
 
 pub settles_became : {S G T O U : Type 0} (settle : G → O → Answer U → G → Type 0)
-    → SettlesAsNone settle → (run : Runs S T O) (s : S × G) (i : Input T) (answer : Answer U)
-    (t : S × G) (j : Input T) → Settles settle run s i answer t j → Became run s.0 i answer
-settles_became settle never run s i answer t j (inl (o, u, r, settled, e)) =
+    (run : Runs S T O) (s : S × G) → SettlesAsNone settle s.1 → (i : Input T)
+    (answer : Answer U) (t : S × G) (j : Input T) → Settles settle run s i answer t j
+    → Became run s.0 i answer
+settles_became settle run s never i answer t j (inl (o, u, r, settled, e)) =
     part_final run s.0 (Ok o) tt r (output_asks e)
-settles_became settle never run s i answer t j (inr (inl (o, k, a, r, settled, e, back))) =
-    part_final run s.0 (Ok o) tt r (error_asks k (never s.1 o k t.1 settled) e)
-settles_became settle never run s i answer t j (inr (inr (k, r, same, e))) = part_failed run s.0 k r e
+settles_became settle run s never i answer t j (inr (inl (o, k, a, r, settled, e, back))) =
+    part_final run s.0 (Ok o) tt r (error_asks k (never o k t.1 settled) e)
+settles_became settle run s never i answer t j (inr (inr (k, r, same, e))) =
+    part_failed run s.0 k r e
+
+-- a test
+pub verify_never : {G O : Type 0} (tests : G → O → Bool → G → Type 0) (g : G)
+    → SettlesAsNone (VerifySettles tests) g
+verify_never tests g o k h (inl (found, e)) need is = ok_is_err e refl
+verify_never tests g o k h (inr (found, e)) need is = back_never need (sym (same_kind e) ∙ is)
+
+-- a closure that may fail
+pub try_map_never : {G O U R : Type 0} (step : G → O → Result U R → G → Type 0)
+    (g : G × (R → Keeping)) → SettlesAsNone (TryMapSettles step) g
+try_map_never step g o k h (same, inl (u, gives, e)) need is = ok_is_err e refl
+try_map_never step g o k h (same, inr (r, l, gives, inl (kept, back), e)) need is =
+    back_never need (sym back ∙ sym (same_kind e) ∙ is)
+try_map_never step g o k h (same, inr (r, l, gives, inr (refused, wanted), e)) need is =
+    memory_never need (sym wanted ∙ sym (same_kind e) ∙ is)
+
+-- text that is read
+pub parse_to_became : {S T O U : Type 0} (reads : O → Option U → Type 0) (run : Runs S T O)
+    (s : S) (i : Input T) (answer : Answer U) (t : S) (j : Input T)
+    → ParseToRuns reads run s i answer t j → Became run s i answer
+parse_to_became reads run s i answer t j ran =
+    settles_became (ParseToSettles reads) run (s, tt) never i answer (t, tt) j ran
+  where
+    never : SettlesAsNone (ParseToSettles reads) tt
+    never o k h (inl (u, read, e)) need is = ok_is_err e refl
+    never o k h (inr (read, e)) need is = back_never need (sym (same_kind e) ∙ is)
+
+-- a parser of what was read, to which no more comes
+pub and_then_never : {W V O U b m : Type 0} (view : O → Input V) {inner : Runs W V U} {g : W}
+    → FailsBy (Allowed b m) g inner → SettlesAsNone (AndThenSettles view inner) g
+and_then_never view f o k h (rest, ran) need is =
+    (f.fails (completed (view o)) k h rest refl ran).asks_no_more need is
 
 pub verify_map_became : {S G T O U : Type 0} (step : G → O → Option U → G → Type 0)
     (run : Runs S T O) (s : S × G) (i : Input T) (answer : Answer U) (t : S × G) (j : Input T)
@@ -144,21 +190,41 @@ verify_map_became step run s i answer t j (inr (inr (k, r, same, e))) = part_fai
 
 -- ---- another error
 
--- a kind becomes a want of more where it is that
-abbrev pub KeepsAsking : {G : Type 0} → (G → Kind → Kind → G → Type 0) → Type 0
-KeepsAsking {G} becomes =
-    (g : G) (k l : Kind) (h : G) → becomes g k l h → (need : Option ℕ) → l ≡ incomplete need
-    → k ≡ l
-
 pub error_became : {S G T O : Type 0} (becomes : G → Kind → Kind → G → Type 0)
-    → KeepsAsking becomes
-    → ((g : G) (k l : Kind) (h : G) → becomes g k l h → IsFinalKind l → IsFinalKind k)
-    → (run : Runs S T O) (s : S × G) (i : Input T) (answer : Answer O) (t : S × G) (j : Input T)
-    → MakesError becomes run s i answer t j → Became run s.0 i answer
-error_became becomes asks keeps run s i answer t j (inl (o, r, same, e)) =
+    (run : Runs S T O) (s : S × G) → KeepsKinds becomes s.1 → (i : Input T) (answer : Answer O)
+    (t : S × G) (j : Input T) → MakesError becomes run s i answer t j → Became run s.0 i answer
+error_became becomes run s keeps i answer t j (inl (o, r, same, e)) =
     part_final run s.0 (Ok o) tt r (output_asks e)
-error_became becomes asks keeps run s i answer t j (inr (k, l, r, became, e)) =
-    part_became run s.0 k l r e (asks s.1 k l t.1 became) (keeps s.1 k l t.1 became)
+error_became becomes run s keeps i answer t j (inr (k, l, r, became, e)) =
+    elim (keeps.kind k l t.1 became) [
+      | inl same ↦ part_failed run s.0 k r (e ∙ ap Err same)
+      | inr wanted ↦ part_became run s.0 k l r e
+          (λ need is. absurd (memory_never need (sym wanted ∙ is)))
+          (λ final. absurd (subst IsFinalKind wanted final))
+    ]
+
+pub err_into_became : {S T O E D : Type 0} (kind : E → Kind) (new_kind : D → Kind)
+    (converts : E → D → Type 0) (run : Runs S T O) (s : S) → SameKinds kind new_kind converts
+    → (i : Input T) (answer : Answer O) (t : S) (j : Input T)
+    → ErrIntoRuns kind new_kind converts run s i answer t j → Became run s i answer
+err_into_became kind new_kind converts run s same i answer t j ran =
+    error_became (ErrIntoBecomes kind new_kind converts) run (s, tt)
+    (err_into_keeps kind new_kind converts same) i answer (t, tt) j ran
+
+pub map_err_kept_became : {S G T O E D : Type 0} (kind : E → Kind) (new_kind : D → Kind)
+    (step : G → E → D → G → Type 0) (run : Runs S T O) (s : S × G) → Stays step s.1
+    → (i : Input T) (answer : Answer O) (t : S × G) (j : Input T)
+    → MapErrKeptRuns kind new_kind step run s i answer t j → Became run s.0 i answer
+map_err_kept_became kind new_kind step run s stays =
+    error_became (MapErrKeptBecomes kind new_kind step) run s
+    (map_err_kept_keeps kind new_kind step stays)
+
+-- where errors have the form of those with a mode
+pub asks_at : {S T O : Type 0} {s : S} {begun : List T → Type 0} (meaning : Meaning S T O)
+    (form : ErrorForm) → form ≡ modal → AsksWhere s (meaning modal) begun
+    → AsksWhere s (meaning form) begun
+asks_at {s = s} {begun} meaning form is a =
+    let P : ErrorForm → Type 0 = λ f. AsksWhere s (meaning f) begun in subst P (sym is) a
 
 -- ---- a condition
 

@@ -1,20 +1,26 @@
 -- Where parsers that have no parts ask for more.
-use Rattle.std.specs.Prelude.{◌≡◌, ◌<◌, ℕ, Bool, true, List, [], length, Option, Some, None, Ok}
-use Rattle.std.specs.Prelude.{Err}
+use Rattle.std.specs.Prelude.{◌≡◌, ◌<◌, ⊤, ℕ, Bool, true, List, [], length, Option, Some, None}
+use Rattle.std.specs.Prelude.{Ok, Err}
 use Rattle.std.proofs.Common.{refl, sym, ap, subst, inl, inr}
 use Rattle.streams.specs.Input.{Input}
 use Rattle.streams.specs.Kind.{Kind, backtrack, cut, incomplete, memory}
 use Rattle.streams.specs.Reading.{Reading}
+use Rattle.streams.specs.Stream.{AnswersSeen}
+use Rattle.grammars.specs.Grammar.{InClass}
 use Rattle.stream_errors.specs.Form.{Answer, modal}
 use Rattle.stream_errors.specs.Form.Known.{ok_is_err, same_kind}
 use Rattle.stream_searches.specs.Compare.{IsShort}
-use Rattle.stream_sets.specs.Range.{Bounds, IsWithin}
+use Rattle.stream_sets.specs.Once.{SeesApart}
+use Rattle.stream_sets.specs.Range.{Bounds, IsWithin, from_to}
 use Rattle.winnow_core.specs.Decided.{AlikeAnswers, IsDecided}
 use Rattle.winnow_core.specs.Literal.{LiteralRuns}
 use Rattle.winnow_core.specs.Runs.{Keeps, Runs}
 use Rattle.winnow_core.specs.Stable.{IsFinal, IsFinalKind}
+use Rattle.winnow_ascii.specs.Class.{ClassRuns}
+use Rattle.winnow_ascii.specs.Class.Laws.{class_decided}
 use Rattle.winnow_begun.specs.Begun.{AsksWhere}
 use Rattle.winnow_begun.specs.Begun.Words.{Fewer, NoneLeft}
+use Rattle.winnow_integers.specs.Integer.{IntegerRuns}
 use Rattle.winnow_token.specs.Any.{AnyRuns, NoTokenRuns}
 use Rattle.winnow_token.specs.OneOf.{OneOfRuns}
 use Rattle.winnow_token.specs.Take.{TakeRuns}
@@ -62,6 +68,16 @@ never_asks never = record {
   asked = λ i need t j may r. absurd (never i need t j r);
   settled = λ i answer t j may final r is. is;
 }
+
+-- what always gives an output asks for no more
+pub empty_never : {O : Type 0} {o : O} {need : Option ℕ}
+    → ◌≡◌ {A = Answer O} (Err (incomplete need)) (Ok o) → ⊥
+empty_never e = absurd (cc)
+
+-- nor does what always backtracks
+pub fail_never : {O : Type 0} {need : Option ℕ}
+    → ◌≡◌ {A = Answer O} (Err (incomplete need)) (Err backtrack) → ⊥
+fail_never e = absurd (cc)
 
 -- ---- literals
 
@@ -153,3 +169,34 @@ take_asks {S} {T} reading counts n s c = leaf_asks c asked
         → length i.left.tokens < n s
     asked i need t j (inl (front, slice, as_many, takes, e), kept) = ok_is_err e refl
     asked i need t j (inr (k, few, short, e, same), kept) = few
+
+-- ---- characters of a class
+
+-- Nothing but characters of the class is there.
+abbrev pub AllOfClass : {K T : Type 0} → (ℕ → Type 0) → (K → ℕ) → (K → T) → List T → Type 0
+AllOfClass class code seen = IsOpen (AnswersSeen seen (InClass class code tt)) None
+
+pub class_asks : {K T L : Type 0} (class : ℕ → Type 0) (least : ℕ) (code : K → ℕ) (seen : K → T)
+    (reading : Reading T L) → SeesApart seen
+    → AsksWhere tt (Keeps (λ (_ : ⊤). ClassRuns class least code seen reading modal))
+    (AllOfClass class code seen)
+class_asks class least code seen reading apart = take_while_asks reading
+    (λ (_ : ⊤). AnswersSeen seen (InClass class code tt)) (λ _. from_to least None) tt tt
+    (class_decided class least code seen reading modal (λ k l e. ap code (apart k l e)))
+
+-- ---- integers
+
+pub integer_asks : {S O L : Type 0} {alike : O → O → Type 0} (width : ℕ) (value : S → List ℕ → O)
+    (reading : Reading ℕ L) (s : S)
+    → IsDecided s (Keeps (λ y. IntegerRuns width (value y) reading modal)) alike
+    → AsksWhere s (Keeps (λ y. IntegerRuns width (value y) reading modal)) (Fewer width)
+unfolding Fewer
+integer_asks {S} width value reading s c = leaf_asks c asked
+    (λ i is few. (_, (inr (_, few, inl (is, refl), refl, refl), refl)))
+  where
+    asked : (i : Input ℕ) (need : Option ℕ) (t : S) (j : Input ℕ)
+        → Keeps (λ y. IntegerRuns width (value y) reading modal) s i (Err (incomplete need)) t j
+        → length i.left.tokens < width
+    asked i need t j (inl (bytes, as_many, are, passes, e), kept) = ok_is_err e refl
+    asked i need t j (inr (k, few, short, e, same), kept) = few
+
