@@ -279,3 +279,5 @@ pub use Rattle.winnow_exact.specs.Rule
 pub use Rattle.winnow_exact.specs.RunByRun
 pub use Rattle.winnow_exact.specs.Steps
 pub use Rattle.winnow_exact.specs.Told
+-- Where stable parsers ask for more of a cut input.
+pub use Rattle.winnow_begun.specs.Begun

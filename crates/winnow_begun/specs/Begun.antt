@@ -19,10 +19,12 @@ pub mod Choice
 pub mod InOrder
 pub mod Items
 pub mod Leaves
+pub mod Lengths
 pub mod Links
 pub mod Parted
 pub mod Passed
 pub mod Repeated
+pub mod Searches
 pub mod Tuples
 pub mod Words
 

@@ -1,1 +1,2 @@
+-- Written by scripts/registries.py: do not edit.
 pub mod Begun

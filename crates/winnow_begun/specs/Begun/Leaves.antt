@@ -60,6 +60,22 @@ leaf_asks {s = s} {alike = alike} c asked can = record {
       (λ e. subst IsFinal e final) (λ e. asks_no_memory e) r q).0;
 }
 
+-- The same, where it may stand elsewhere after it.
+pub leaf_asks_behind : {S T O : Type 0} {s : S} {run : Runs S T O} {alike : O → O → Type 0}
+    {begun : List T → Type 0} → IsDecided s run alike
+    → ((i : Input T) (need : Option ℕ) (t : S) (j : Input T) → run s i (Err (incomplete need)) t j
+    → begun i.left.tokens)
+    → ((i : Input T) → i.status.cut ≡ true → begun i.left.tokens
+    → (need : Option ℕ) × (j : Input T) × run s i (Err (incomplete need)) s j)
+    → AsksWhere s run begun
+leaf_asks_behind {s = s} {alike = alike} c asked can = record {
+  asked = λ i need t j may r. asked i need t j r;
+  settled = λ i answer t j may final r is.
+      let (need, k, q) = can i may.0 is in
+      never_alike alike need answer final (c.decided i answer (Err (incomplete need)) t s j k
+      (λ e. subst IsFinal e final) (λ e. asks_no_memory e) r q).0;
+}
+
 -- what never asks for more
 pub never_asks : {S T O : Type 0} {s : S} {run : Runs S T O}
     → ((i : Input T) (need : Option ℕ) (t : S) (j : Input T)

@@ -96,33 +96,45 @@ module _ {S T O C : Type 0} {run : Runs S T O} {g : Grammar T O} {b : List T →
       → bounds.greatest ≡ Some most → most < bounds.least → P
   not_descending most within full below = absurd (omega (arith, within_is full within, below))
 
-  pub repeat_asked : (i : Input T) (need : Option ℕ) (t : S) (j : Input T) → IsCut i
+  many_asked : (i : Input T) (need : Option ℕ) (t : S) (j : Input T) → IsCut i
+      → RepeatManyRuns run into cut bounds s i (Err (incomplete need)) t j
+      → Among g b bounds.greatest i.left.tokens
+  many_asked i need t j may (inl (most, full, below, e, same, all)) = cut_asks (same_kind e)
+  many_asked i need t j may (inr (inl (within, grows, e, same, all))) = memory_asks (same_kind e)
+  many_asked i need t j may (inr (inr (empty, within, starts, items))) =
+      items_asked into bounds p takes empty i need t j may items
+
+  many_settled : IsWithin bounds.greatest bounds.least → (i : Input T) (answer : Answer C)
+      (t : S) (j : Input T) → IsCut i → IsFinal answer
+      → RepeatManyRuns run into cut bounds s i answer t j
+      → Among g b bounds.greatest i.left.tokens → ⊥
+  many_settled possible i answer t j may final (inl (most, full, below, e, same, all)) is =
+      not_descending most possible full below
+  many_settled possible i answer t j may final (inr (inl (within, grows, e, same, all))) is =
+      final_by (Err memory) e final
+  many_settled possible i answer t j may final (inr (inr (empty, within, starts, items))) is =
+      items_settled into bounds p takes empty i answer t j may final items is
+
+  -- without a rule of its own for the first item
+  pub many_asks : IsWithin bounds.greatest bounds.least
+      → AsksWhere s (RepeatManyRuns run into cut bounds) (Among g b bounds.greatest)
+  many_asks possible = record { asked = many_asked; settled = many_settled possible }
+
+  repeat_asked : (i : Input T) (need : Option ℕ) (t : S) (j : Input T) → IsCut i
       → RepeatRuns run into cut bounds s i (Err (incomplete need)) t j
       → Among g b bounds.greatest i.left.tokens
   repeat_asked i need t j may (inl (least, greatest, ran)) =
       one_asked greatest i need t j may ran
-  repeat_asked i need t j may (inr (other, inl (most, full, below, e, same, all))) =
-      cut_asks (same_kind e)
-  repeat_asked i need t j may (inr (other, inr (inl (within, grows, e, same, all)))) =
-      memory_asks (same_kind e)
-  repeat_asked i need t j may (inr (other, inr (inr (empty, within, starts, items)))) =
-      items_asked into bounds p takes empty i need t j may items
+  repeat_asked i need t j may (inr (other, ran)) = many_asked i need t j may ran
 
-  pub repeat_settled : IsWithin bounds.greatest bounds.least → (i : Input T) (answer : Answer C)
+  repeat_settled : IsWithin bounds.greatest bounds.least → (i : Input T) (answer : Answer C)
       (t : S) (j : Input T) → IsCut i → IsFinal answer
       → RepeatRuns run into cut bounds s i answer t j
       → Among g b bounds.greatest i.left.tokens → ⊥
   repeat_settled possible i answer t j may final (inl (least, greatest, ran)) is =
       one_settled i answer t j may final ran is
-  repeat_settled possible i answer t j may final
-      (inr (other, inl (most, full, below, e, same, all))) is =
-      not_descending most possible full below
-  repeat_settled possible i answer t j may final
-      (inr (other, inr (inl (within, grows, e, same, all)))) is =
-      final_by (Err memory) e final
-  repeat_settled possible i answer t j may final
-      (inr (other, inr (inr (empty, within, starts, items)))) is =
-      items_settled into bounds p takes empty i answer t j may final items is
+  repeat_settled possible i answer t j may final (inr (other, ran)) is =
+      many_settled possible i answer t j may final ran is
 
 pub repeat_asks : {S T O C : Type 0} {run : Runs S T O} {g : Grammar T O} {b : List T → Type 0}
     (into : Accumulator C O) (s : S × Range) → Part s.0 run g b → Takes g
