@@ -1,8 +1,8 @@
 -- Where choices ask for more.
 use Rattle.std.specs.Prelude.{◌≡◌, ◌⊎◌, ℕ, List, Option, Ok, Err}
-use Rattle.std.proofs.Common.{refl, sym, subst, inl, inr}
+use Rattle.std.proofs.Common.{refl, inl, inr}
 use Rattle.streams.specs.Input.{Input, back_at}
-use Rattle.streams.specs.Kind.{Kind, backtrack, cut, incomplete, memory}
+use Rattle.streams.specs.Kind.{backtrack, cut, incomplete, memory}
 use Rattle.grammars.specs.Grammar.{Grammar, NoneStands}
 use Rattle.stream_errors.specs.Form.{Answer}
 use Rattle.winnow_begun.specs.Begun.{AsksWhere, IsCut, Part, cut_at, part_kept, part_none}

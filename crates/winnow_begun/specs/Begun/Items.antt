@@ -1,5 +1,5 @@
 -- Where repetitions ask for more.
-use Rattle.std.specs.Prelude.{◌≡◌, ◌⊎◌, ◌<◌, ℕ, List, [], ◌∷◌, length, Option, Some, None}
+use Rattle.std.specs.Prelude.{◌≡◌, ◌⊎◌, ◌<◌, ℕ, List, [], ◌∷◌, length, Option, Some}
 use Rattle.std.specs.Prelude.{Ok, Err}
 use Rattle.std.specs.List.{FoldsTo}
 use Rattle.std.proofs.Common.{refl, sym, ap, subst, inl, inr, ◌∙◌, arith}
@@ -9,8 +9,8 @@ use Rattle.grammars.specs.Grammar.{Each, Grammar, Takes}
 use Rattle.stream_errors.specs.Form.{Answer}
 use Rattle.stream_errors.specs.Form.Known.{ok_is_err, same_kind}
 use Rattle.stream_sets.specs.Accumulator.{Accumulator}
-use Rattle.stream_sets.specs.Range.{Bounds, IsBelow, from_to}
-use Rattle.winnow_begun.specs.Begun.{AsksWhere, IsCut, Part, part_kept, part_none, part_stands}
+use Rattle.stream_sets.specs.Range.{Bounds, IsBelow}
+use Rattle.winnow_begun.specs.Begun.{IsCut, Part, part_kept, part_none, part_stands}
 use Rattle.winnow_begun.specs.Begun.Leaves.{cut_asks}
 use Rattle.winnow_begun.specs.Begun.Passed.{memory_asks}
 use Rattle.winnow_begun.specs.Begun.Words.{Among}
@@ -18,8 +18,7 @@ use Rattle.winnow_core.specs.Chain.{IsItem}
 use Rattle.winnow_core.specs.Runs.{Runs}
 use Rattle.winnow_core.specs.Stable.{IsFinal}
 use Rattle.winnow_core.specs.Stable.Grows.{final_by}
-use Rattle.winnow_repeat.specs.Repeat.{ItemsRun, RangedRuns, RepeatEnds, RepeatManyRuns}
-use Rattle.winnow_repeat.specs.Repeat.{RepeatOneRuns, RepeatRuns}
+use Rattle.winnow_repeat.specs.Repeat.{ItemsRun, RepeatEnds}
 
 -- a number below the greatest, which is known
 pub below_known : {greatest : Option ℕ} {most n : ℕ} → greatest ≡ Some most → IsBelow greatest n

@@ -1,7 +1,7 @@
 -- Where parsers that have no parts ask for more.
-use Rattle.std.specs.Prelude.{◌≡◌, ◌<◌, ⊤, ℕ, Bool, true, List, [], length, Option, Some, None}
+use Rattle.std.specs.Prelude.{◌≡◌, ◌<◌, ⊤, ℕ, Bool, true, List, length, Option, Some, None}
 use Rattle.std.specs.Prelude.{Ok, Err}
-use Rattle.std.proofs.Common.{refl, sym, ap, subst, inl, inr}
+use Rattle.std.proofs.Common.{refl, ap, subst, inl, inr}
 use Rattle.streams.specs.Input.{Input}
 use Rattle.streams.specs.Kind.{Kind, backtrack, cut, incomplete, memory}
 use Rattle.streams.specs.Reading.{Reading}
@@ -19,7 +19,7 @@ use Rattle.winnow_core.specs.Stable.{IsFinal, IsFinalKind}
 use Rattle.winnow_ascii.specs.Class.{ClassRuns}
 use Rattle.winnow_ascii.specs.Class.Laws.{class_decided}
 use Rattle.winnow_begun.specs.Begun.{AsksWhere}
-use Rattle.winnow_begun.specs.Begun.Words.{Fewer, NoneLeft}
+use Rattle.winnow_begun.specs.Begun.Words.{Fewer, NeverBegun, NoneLeft}
 use Rattle.winnow_integers.specs.Integer.{IntegerRuns}
 use Rattle.winnow_token.specs.Any.{AnyRuns, NoTokenRuns}
 use Rattle.winnow_token.specs.OneOf.{OneOfRuns}
@@ -79,7 +79,8 @@ leaf_asks_behind {s = s} {alike = alike} c asked can = record {
 -- what never asks for more
 pub never_asks : {S T O : Type 0} {s : S} {run : Runs S T O}
     → ((i : Input T) (need : Option ℕ) (t : S) (j : Input T)
-    → run s i (Err (incomplete need)) t j → ⊥) → AsksWhere s run (λ tokens. ⊥)
+    → run s i (Err (incomplete need)) t j → ⊥) → AsksWhere s run NeverBegun
+unfolding NeverBegun
 never_asks never = record {
   asked = λ i need t j may r. absurd (never i need t j r);
   settled = λ i answer t j may final r is. is;
@@ -128,8 +129,20 @@ take_while_asks {X} {T} reading member bounds x within c = leaf_asks c asked
         (Err (incomplete need)) t j → IsOpen (member x) (bounds x).greatest i.left.tokens
     asked i need t j (inl (most, full, below, e, same), kept) = cut_asks (same_kind e)
     asked i need t j (inr (inl (possible, opens, is, e, same)), kept) = opens
-    asked i need t j (inr (inr (inl (front, rest, slice, possible, longest, ended, enough, takes,
-        e))), kept) = ok_is_err e refl
+    asked i need t j (
+      inr (inr (inl (
+        front,
+        rest,
+        slice,
+        possible,
+        longest,
+        ended,
+        enough,
+        takes,
+        e,
+      ))),
+      kept,
+    ) = ok_is_err e refl
     asked i need t j (inr (inr (inr (front, rest, possible, longest, ended, few, e, same))), kept) =
         back_asks (same_kind e)
 
@@ -215,4 +228,3 @@ integer_asks {S} width value reading s c = leaf_asks c asked
         → length i.left.tokens < width
     asked i need t j (inl (bytes, as_many, are, passes, e), kept) = ok_is_err e refl
     asked i need t j (inr (k, few, short, e, same), kept) = few
-

@@ -1,5 +1,5 @@
 -- Where data behind its length asks for more.
-use Rattle.std.specs.Prelude.{◌≡◌, ◌<◌, ⊤, ℕ, Bool, List, length, Option, Some, Ok, Err}
+use Rattle.std.specs.Prelude.{◌<◌, ⊤, ℕ, Bool, List, length, Option, Some, Ok, Err}
 use Rattle.std.proofs.Common.{refl, sym, ap, subst, inl, inr, ◌∙◌, arith, length-append}
 use Rattle.streams.specs.Input.{Input}
 use Rattle.streams.specs.Kind.{Kind, backtrack, cut, incomplete, memory}
@@ -18,9 +18,9 @@ use Rattle.winnow_begun.specs.Begun.Repeated.{many_asks}
 use Rattle.winnow_begun.specs.Begun.Words.{Among, Fewer, SizedBegun}
 use Rattle.winnow_binary.specs.Length.{LengthRuns}
 use Rattle.winnow_binary.specs.LengthAndThen.{LengthAndThenRuns, TakenRuns, only_first}
-use Rattle.winnow_binary.specs.LengthRepeat.{ItemsBehind, LengthRepeatRuns}
+use Rattle.winnow_binary.specs.LengthRepeat.{LengthRepeatRuns}
 use Rattle.winnow_binary.specs.LengthTake.{LengthTakeRuns}
-use Rattle.winnow_core.specs.CompleteErr.{CompleteErrRuns, complete_kind}
+use Rattle.winnow_core.specs.CompleteErr.{CompleteErrRuns}
 use Rattle.winnow_core.specs.Decided.{IsDecided}
 use Rattle.winnow_core.specs.Literal.Laws.{ShowSame}
 use Rattle.winnow_core.specs.Runs.{Keeps, Runs}

@@ -1,6 +1,6 @@
 -- Where links ask for more: a separator, and an element behind it.
-use Rattle.std.specs.Prelude.{◌≡◌, ℕ, List, Option, Ok, Err}
-use Rattle.std.proofs.Common.{sym, subst, inl, inr}
+use Rattle.std.specs.Prelude.{ℕ, List, Option, Ok, Err}
+use Rattle.std.proofs.Common.{subst, inl, inr}
 use Rattle.streams.specs.Input.{Input}
 use Rattle.streams.specs.Kind.{incomplete}
 use Rattle.grammars.specs.Grammar.{Both, Grammar}

@@ -1,5 +1,5 @@
 -- Where elements with separators between them ask for more.
-use Rattle.std.specs.Prelude.{◌≡◌, ◌⊎◌, ◌<◌, ◌+◌, ◌-◌, ℕ, List, [], ◌∷◌, length, Option, Some, None}
+use Rattle.std.specs.Prelude.{◌≡◌, ◌<◌, ◌+◌, ◌-◌, ℕ, List, ◌∷◌, length, Option, Some, None}
 use Rattle.std.specs.Prelude.{Ok, Err}
 use Rattle.std.proofs.Common.{refl, sym, ap, subst, inl, inr, arith}
 use Rattle.streams.specs.Input.{Input}
@@ -22,7 +22,7 @@ use Rattle.winnow_core.specs.Runs.{Runs}
 use Rattle.winnow_core.specs.Stable.{IsFinal}
 use Rattle.winnow_core.specs.Stable.Grows.{final_by}
 use Rattle.winnow_repeat.specs.Repeat.{ItemsRun}
-use Rattle.winnow_separated.specs.Link.{LinkRuns, SeparatesNothing}
+use Rattle.winnow_separated.specs.Link.{LinkRuns}
 use Rattle.winnow_separated.specs.Separated.{ElementsRun, LinksRun, RangedElements, SeparatedRuns}
 use Rattle.winnow_separated.specs.Separated.{links_within, one_less}
 

@@ -1,11 +1,11 @@
 -- Parsers that ask for more where one other parser does.
-use Rattle.std.specs.Prelude.{◌≡◌, ◌⊎◌, ℕ, List, Option, Ok, Err}
-use Rattle.std.proofs.Common.{refl, subst, sym, inl, inr, ◌∙◌}
+use Rattle.std.specs.Prelude.{◌≡◌, ℕ, List, Option, Ok, Err}
+use Rattle.std.proofs.Common.{refl, subst, ◌∙◌}
 use Rattle.streams.specs.Input.{Input}
 use Rattle.streams.specs.Kind.{Kind, incomplete, memory}
 use Rattle.stream_errors.specs.Form.{Answer}
 use Rattle.stream_errors.specs.Form.Known.{same_err}
-use Rattle.winnow_begun.specs.Begun.{AsksWhere, IsCut}
+use Rattle.winnow_begun.specs.Begun.{AsksWhere}
 use Rattle.winnow_core.specs.Runs.{Runs}
 use Rattle.winnow_core.specs.Stable.{AsksForMore, IsFinal, IsFinalKind}
 use Rattle.winnow_core.specs.Stable.Grows.{final_by}
@@ -40,8 +40,14 @@ module _ {S T O U : Type 0} (run : Runs S T O) (s : S) {i : Input T} {answer : A
   -- the part failed, and the whole fails so
   pub part_failed : {m : S} {a : Input T} (k : Kind) → run s i (Err k) m a → answer ≡ Err k
       → Became run s i answer
-  part_failed {m} {a} k r e =
-      (Err k, m, a, r, (λ (need, f). (need, ap_err (same_err e f))), λ final. final_by (Err k) e final)
+  part_failed {m} {a} k r e = (
+    Err k,
+    m,
+    a,
+    r,
+    (λ (need, f). (need, ap_err (same_err e f))),
+    λ final. final_by (Err k) e final,
+  )
     where
       ap_err : {l : Kind} → k ≡ l → ◌≡◌ {A = Answer O} (Err k) (Err l)
       ap_err is = cc

@@ -1,18 +1,18 @@
 -- Where line ends, searches and numbers as text ask for more.
-use Rattle.std.specs.Prelude.{◌≡◌, ◌⊎◌, ◌≤◌, ⊤, ℕ, ℤ, Bool, true, false, List, [], ◌∷◌, length}
-use Rattle.std.specs.Prelude.{Option, Some, None, Ok, Err}
+use Rattle.std.specs.Prelude.{◌≡◌, ◌≤◌, ⊤, ℕ, ℤ, true, false, List, [], ◌∷◌, length}
+use Rattle.std.specs.Prelude.{Option, Some, None, Err}
 use Rattle.std.specs.Borrow.{Bor}
 use Rattle.std.specs.List.{All}
-use Rattle.std.proofs.Common.{refl, sym, ap, subst, inl, inr, ◌∙◌}
+use Rattle.std.proofs.Common.{refl, sym, subst, inl, inr, ◌∙◌}
 use Rattle.streams.specs.Equal.{true_is_false}
 use Rattle.streams.specs.Input.{Input}
-use Rattle.streams.specs.Kind.{Kind, backtrack, cut, incomplete}
+use Rattle.streams.specs.Kind.{Kind, incomplete}
 use Rattle.streams.specs.Reading.{Reading}
 use Rattle.grammars.specs.Grammar.{SpelledBy}
 use Rattle.stream_errors.specs.Form.{modal}
 use Rattle.stream_errors.specs.Form.Known.{ok_is_err, same_kind}
-use Rattle.stream_searches.specs.Compare.{IsShort, StandsFirst}
-use Rattle.stream_sets.specs.AsChar.{IsDecDigit, IsHexDigit}
+use Rattle.stream_searches.specs.Compare.{IsShort}
+use Rattle.stream_sets.specs.AsChar.{IsHexDigit}
 use Rattle.stream_sets.specs.Range.{Bounds, IsWithin}
 use Rattle.winnow_ascii.specs.Crlf.{CrlfRuns}
 use Rattle.winnow_ascii.specs.LineEnding.{LineEndingRuns}
@@ -21,13 +21,12 @@ use Rattle.winnow_begun.specs.Begun.Leaves.{back_asks, cut_asks, leaf_asks, leaf
 use Rattle.winnow_begun.specs.Begun.Words.{BeforeBegun, DigitsBegun, HexBegun, LineEndBegun}
 use Rattle.winnow_begun.specs.Begun.Words.{SignedBegun}
 use Rattle.winnow_core.specs.Decided.{IsDecided}
-use Rattle.winnow_core.specs.Literal.{LiteralRuns}
 use Rattle.winnow_core.specs.Runs.{Keeps}
 use Rattle.winnow_numbers.specs.DecInt.{DecIntRuns}
 use Rattle.winnow_numbers.specs.DecUint.{DecUintRuns}
 use Rattle.winnow_numbers.specs.Digits.{IsIn}
 use Rattle.winnow_numbers.specs.HexUint.{HexUintRuns}
-use Rattle.winnow_numbers.specs.Numeral.{LacksDigits, NoNumeral, SignRuns}
+use Rattle.winnow_numbers.specs.Numeral.{LacksDigits, NoNumeral}
 use Rattle.winnow_numbers.specs.Numeral.Known.{behind, leads_behind}
 use Rattle.winnow_token.specs.TakeUntil.{TakeUntilRuns}
 
@@ -69,12 +68,12 @@ module _ {T L : Type 0} (spells : Bor (List ℕ) → List T → Type 0) (reading
       back_asks (sym (same_kind e))
   line_ending_asked i need t j
       (inr (text, is, inr (inr (never, whole, e, same)), crlf), kept) = inr (
-    text,
-    is,
-    never,
-    (λ short. true_is_false (sym (crlf_cut i need j crlf) ∙ whole short)),
-    crlf_asked i need tt j (crlf, refl),
-  )
+        text,
+        is,
+        never,
+        (λ short. true_is_false (sym (crlf_cut i need j crlf) ∙ whole short)),
+        crlf_asked i need tt j (crlf, refl),
+      )
     where
       crlf_cut : (i : Input T) (need : Option ℕ) (j : Input T)
           → CrlfRuns spells reading modal i (Err (incomplete need)) j → i.status.cut ≡ true
@@ -89,7 +88,12 @@ module _ {T L : Type 0} (spells : Bor (List ℕ) → List T → Type 0) (reading
   line_ending_may i is (inl (x, more, (text, same, spelled))) = (
     None,
     (
-      inl (text, same, inr (inl ((x, more, spelled), is, refl, refl)), (λ e. back_asks (same_kind e))),
+      inl (
+        text,
+        same,
+        inr (inl ((x, more, spelled), is, refl, refl)),
+        (λ e. back_asks (same_kind e)),
+      ),
       refl,
     ),
   )
@@ -133,9 +137,10 @@ take_until_asks {X} {T} {L} reading sought bounds x within c = leaf_asks c asked
     asked i need t j
         (inr (inr (inr (inl (start, end, m, k, fits, few, inl (all, back), e, same)))), kept) =
         back_asks (same_kind e ∙ back)
-    asked i need t j
-        (inr (inr (inr (inl (start, end, m, k, fits, few, inr (most, full, short), e, same)))),
-        kept) = inr (start, end, most, m, few, full)
+    asked i need t j (
+      inr (inr (inr (inl (start, end, m, k, fits, few, inr (most, full, short), e, same)))),
+      kept,
+    ) = inr (start, end, most, m, few, full)
     asked i need t j
         (inr (inr (inr (inr (start, end, m, most, full, fits, many, e, same)))), kept) =
         back_asks (same_kind e)

@@ -62,12 +62,14 @@ pub four_asks : {S1 S2 S3 S4 T O1 O2 O3 O4 : Type 0} {run1 : Runs S1 T O1}
     {run2 : Runs S2 T O2}
     {run3 : Runs S3 T O3}
     {run4 : Runs S4 T O4}
-    {g1 : Grammar T O1} {g2 : Grammar T O2} {g3 : Grammar T O3} {g4 : Grammar T O4} {b1 b2 b3 b4 : List T → Type 0} {s : S1 × S2 × S3 × S4}
+    {g1 : Grammar T O1} {g2 : Grammar T O2} {g3 : Grammar T O3} {g4 : Grammar T O4}
+    {b1 b2 b3 b4 : List T → Type 0} {s : S1 × S2 × S3 × S4}
     → Part s.0 run1 g1 b1
     → Part s.1 run2 g2 b2
     → Part s.2 run3 g3 b3
     → Part s.3 run4 g4 b4
-    → AsksWhere s (SequenceRuns4 run1 run2 run3 run4) (Behind g1 b1 (Behind g2 b2 (Behind g3 b3 b4)))
+    → AsksWhere s (SequenceRuns4 run1 run2 run3 run4)
+    (Behind g1 b1 (Behind g2 b2 (Behind g3 b3 b4)))
 four_asks {S1} {S2} {S3} {S4} {O2 = O2} {O3} {O4}
     {run1 = run1} {run2} {run3} {run4} {s = s} p1 p2 p3 p4 =
     asks_along (λ (t : S1 × S2 × S3 × S4). (t.0, (t.1, t.2, t.3))) (along4 run1 run2 run3 run4 s)
@@ -87,7 +89,8 @@ along5 : {S1 S2 S3 S4 S5 T O1 O2 O3 O4 O5 : Type 0} (run1 : Runs S1 T O1)
     (t : S1 × S2 × S3 × S4 × S5) (j : Input T)
     → SequenceRuns5 run1 run2 run3 run4 run5 s i answer t j
     → BothRuns (λ o1 (rest : O2 × O3 × O4 × O5). (o1, rest.0, rest.1, rest.2, rest.3)) run1
-    (SequenceRuns4 run2 run3 run4 run5) (s.0, (s.1, s.2, s.3, s.4)) i answer (t.0, (t.1, t.2, t.3, t.4)) j
+    (SequenceRuns4 run2 run3 run4 run5) (s.0, (s.1, s.2, s.3, s.4)) i answer
+    (t.0, (t.1, t.2, t.3, t.4)) j
 along5 run1 run2 run3 run4 run5 s i answer t j
     (inl (o1, o2, o3, o4, o5, a, b, c, d, r1, r2, r3, r4, r5, is)) =
     inl (o1, (o2, o3, o4, o5), a, r1, inl (o2, o3, o4, o5, b, c, d, r2, r3, r4, r5, refl), is)
@@ -105,23 +108,33 @@ along5 run1 run2 run3 run4 run5 s i answer t j
     inr (inr (o1, k, a, r1, inr (inr (inr (inl (o2, o3, k, b, c, r2, r3, r4, same5, refl)))), is))
 along5 run1 run2 run3 run4 run5 s i answer t j
     (inr (inr (inr (inr (inr (o1, o2, o3, o4, k, a, b, c, d, r1, r2, r3, r4, r5, is)))))) =
-    inr (inr (o1, k, a, r1, inr (inr (inr (inr (o2, o3, o4, k, b, c, d, r2, r3, r4, r5, refl)))), is))
+    inr (inr (
+      o1,
+      k,
+      a,
+      r1,
+      inr (inr (inr (inr (o2, o3, o4, k, b, c, d, r2, r3, r4, r5, refl)))),
+      is,
+    ))
 
 pub five_asks : {S1 S2 S3 S4 S5 T O1 O2 O3 O4 O5 : Type 0} {run1 : Runs S1 T O1}
     {run2 : Runs S2 T O2}
     {run3 : Runs S3 T O3}
     {run4 : Runs S4 T O4}
     {run5 : Runs S5 T O5}
-    {g1 : Grammar T O1} {g2 : Grammar T O2} {g3 : Grammar T O3} {g4 : Grammar T O4} {g5 : Grammar T O5} {b1 b2 b3 b4 b5 : List T → Type 0} {s : S1 × S2 × S3 × S4 × S5}
+    {g1 : Grammar T O1} {g2 : Grammar T O2} {g3 : Grammar T O3} {g4 : Grammar T O4}
+    {g5 : Grammar T O5} {b1 b2 b3 b4 b5 : List T → Type 0} {s : S1 × S2 × S3 × S4 × S5}
     → Part s.0 run1 g1 b1
     → Part s.1 run2 g2 b2
     → Part s.2 run3 g3 b3
     → Part s.3 run4 g4 b4
     → Part s.4 run5 g5 b5
-    → AsksWhere s (SequenceRuns5 run1 run2 run3 run4 run5) (Behind g1 b1 (Behind g2 b2 (Behind g3 b3 (Behind g4 b4 b5))))
+    → AsksWhere s (SequenceRuns5 run1 run2 run3 run4 run5)
+    (Behind g1 b1 (Behind g2 b2 (Behind g3 b3 (Behind g4 b4 b5))))
 five_asks {S1} {S2} {S3} {S4} {S5} {O2 = O2} {O3} {O4} {O5}
     {run1 = run1} {run2} {run3} {run4} {run5} {s = s} p1 p2 p3 p4 p5 =
-    asks_along (λ (t : S1 × S2 × S3 × S4 × S5). (t.0, (t.1, t.2, t.3, t.4))) (along5 run1 run2 run3 run4 run5 s)
+    asks_along (λ (t : S1 × S2 × S3 × S4 × S5). (t.0, (t.1, t.2, t.3, t.4)))
+    (along5 run1 run2 run3 run4 run5 s)
     (both_asks (λ o1 (rest : O2 × O3 × O4 × O5). (o1, rest.0, rest.1, rest.2, rest.3)) p1 (record {
       exact = tuple4_exact p2.exact p3.exact p4.exact p5.exact;
       grows = sequence4_grows p2.grows p3.grows p4.grows p5.grows;
@@ -138,11 +151,20 @@ along6 : {S1 S2 S3 S4 S5 S6 T O1 O2 O3 O4 O5 O6 : Type 0} (run1 : Runs S1 T O1)
     (s : S1 × S2 × S3 × S4 × S5 × S6) (i : Input T) (answer : Answer (O1 × O2 × O3 × O4 × O5 × O6))
     (t : S1 × S2 × S3 × S4 × S5 × S6) (j : Input T)
     → SequenceRuns6 run1 run2 run3 run4 run5 run6 s i answer t j
-    → BothRuns (λ o1 (rest : O2 × O3 × O4 × O5 × O6). (o1, rest.0, rest.1, rest.2, rest.3, rest.4)) run1
-    (SequenceRuns5 run2 run3 run4 run5 run6) (s.0, (s.1, s.2, s.3, s.4, s.5)) i answer (t.0, (t.1, t.2, t.3, t.4, t.5)) j
+    → BothRuns (λ o1 (rest : O2 × O3 × O4 × O5 × O6).
+    (o1, rest.0, rest.1, rest.2, rest.3, rest.4)) run1
+    (SequenceRuns5 run2 run3 run4 run5 run6) (s.0, (s.1, s.2, s.3, s.4, s.5)) i answer
+    (t.0, (t.1, t.2, t.3, t.4, t.5)) j
 along6 run1 run2 run3 run4 run5 run6 s i answer t j
     (inl (o1, o2, o3, o4, o5, o6, a, b, c, d, e, r1, r2, r3, r4, r5, r6, is)) =
-    inl (o1, (o2, o3, o4, o5, o6), a, r1, inl (o2, o3, o4, o5, o6, b, c, d, e, r2, r3, r4, r5, r6, refl), is)
+    inl (
+      o1,
+      (o2, o3, o4, o5, o6),
+      a,
+      r1,
+      inl (o2, o3, o4, o5, o6, b, c, d, e, r2, r3, r4, r5, r6, refl),
+      is,
+    )
 along6 run1 run2 run3 run4 run5 run6 s i answer t j
     (inr (inl (k, r1, same2, same3, same4, same5, same6, is))) =
     inr (inl (k, r1, rest_is5 same2 same3 same4 same5 same6, is))
@@ -154,13 +176,56 @@ along6 run1 run2 run3 run4 run5 run6 s i answer t j
     inr (inr (o1, k, a, r1, inr (inr (inl (o2, k, b, r2, r3, same4, same5, same6, refl))), is))
 along6 run1 run2 run3 run4 run5 run6 s i answer t j
     (inr (inr (inr (inr (inl (o1, o2, o3, k, a, b, c, r1, r2, r3, r4, same5, same6, is)))))) =
-    inr (inr (o1, k, a, r1, inr (inr (inr (inl (o2, o3, k, b, c, r2, r3, r4, same5, same6, refl)))), is))
+    inr (inr (
+      o1,
+      k,
+      a,
+      r1,
+      inr (inr (inr (inl (o2, o3, k, b, c, r2, r3, r4, same5, same6, refl)))),
+      is,
+    ))
 along6 run1 run2 run3 run4 run5 run6 s i answer t j
-    (inr (inr (inr (inr (inr (inl (o1, o2, o3, o4, k, a, b, c, d, r1, r2, r3, r4, r5, same6, is))))))) =
-    inr (inr (o1, k, a, r1, inr (inr (inr (inr (inl (o2, o3, o4, k, b, c, d, r2, r3, r4, r5, same6, refl))))), is))
+    (inr (inr (inr (inr
+    (inr (inl (o1, o2, o3, o4, k, a, b, c, d, r1, r2, r3, r4, r5, same6, is))))))) =
+    inr (inr (
+      o1,
+      k,
+      a,
+      r1,
+      inr (inr (inr (inr (inl (o2, o3, o4, k, b, c, d, r2, r3, r4, r5, same6, refl))))),
+      is,
+    ))
 along6 run1 run2 run3 run4 run5 run6 s i answer t j
-    (inr (inr (inr (inr (inr (inr (o1, o2, o3, o4, o5, k, a, b, c, d, e, r1, r2, r3, r4, r5, r6, is))))))) =
-    inr (inr (o1, k, a, r1, inr (inr (inr (inr (inr (o2, o3, o4, o5, k, b, c, d, e, r2, r3, r4, r5, r6, refl))))), is))
+    (inr (inr (inr (inr
+    (inr (inr (
+      o1,
+      o2,
+      o3,
+      o4,
+      o5,
+      k,
+      a,
+      b,
+      c,
+      d,
+      e,
+      r1,
+      r2,
+      r3,
+      r4,
+      r5,
+      r6,
+      is,
+    ))))))) =
+    inr (inr (
+      o1,
+      k,
+      a,
+      r1,
+      inr (inr (inr (inr
+          (inr (o2, o3, o4, o5, k, b, c, d, e, r2, r3, r4, r5, r6, refl))))),
+      is,
+    ))
 
 pub six_asks : {S1 S2 S3 S4 S5 S6 T O1 O2 O3 O4 O5 O6 : Type 0} {run1 : Runs S1 T O1}
     {run2 : Runs S2 T O2}
@@ -168,18 +233,23 @@ pub six_asks : {S1 S2 S3 S4 S5 S6 T O1 O2 O3 O4 O5 O6 : Type 0} {run1 : Runs S1 
     {run4 : Runs S4 T O4}
     {run5 : Runs S5 T O5}
     {run6 : Runs S6 T O6}
-    {g1 : Grammar T O1} {g2 : Grammar T O2} {g3 : Grammar T O3} {g4 : Grammar T O4} {g5 : Grammar T O5} {g6 : Grammar T O6} {b1 b2 b3 b4 b5 b6 : List T → Type 0} {s : S1 × S2 × S3 × S4 × S5 × S6}
+    {g1 : Grammar T O1} {g2 : Grammar T O2} {g3 : Grammar T O3} {g4 : Grammar T O4}
+    {g5 : Grammar T O5} {g6 : Grammar T O6} {b1 b2 b3 b4 b5 b6 : List T → Type 0}
+    {s : S1 × S2 × S3 × S4 × S5 × S6}
     → Part s.0 run1 g1 b1
     → Part s.1 run2 g2 b2
     → Part s.2 run3 g3 b3
     → Part s.3 run4 g4 b4
     → Part s.4 run5 g5 b5
     → Part s.5 run6 g6 b6
-    → AsksWhere s (SequenceRuns6 run1 run2 run3 run4 run5 run6) (Behind g1 b1 (Behind g2 b2 (Behind g3 b3 (Behind g4 b4 (Behind g5 b5 b6)))))
+    → AsksWhere s (SequenceRuns6 run1 run2 run3 run4 run5 run6)
+    (Behind g1 b1 (Behind g2 b2 (Behind g3 b3 (Behind g4 b4 (Behind g5 b5 b6)))))
 six_asks {S1} {S2} {S3} {S4} {S5} {S6} {O2 = O2} {O3} {O4} {O5} {O6}
     {run1 = run1} {run2} {run3} {run4} {run5} {run6} {s = s} p1 p2 p3 p4 p5 p6 =
-    asks_along (λ (t : S1 × S2 × S3 × S4 × S5 × S6). (t.0, (t.1, t.2, t.3, t.4, t.5))) (along6 run1 run2 run3 run4 run5 run6 s)
-    (both_asks (λ o1 (rest : O2 × O3 × O4 × O5 × O6). (o1, rest.0, rest.1, rest.2, rest.3, rest.4)) p1 (record {
+    asks_along (λ (t : S1 × S2 × S3 × S4 × S5 × S6). (t.0, (t.1, t.2, t.3, t.4, t.5)))
+    (along6 run1 run2 run3 run4 run5 run6 s)
+    (both_asks (λ o1 (rest : O2 × O3 × O4 × O5 × O6).
+    (o1, rest.0, rest.1, rest.2, rest.3, rest.4)) p1 (record {
       exact = tuple5_exact p2.exact p3.exact p4.exact p5.exact p6.exact;
       grows = sequence5_grows p2.grows p3.grows p4.grows p5.grows p6.grows;
       asks = five_asks p2 p3 p4 p5 p6;

@@ -1,7 +1,8 @@
 //! Adapters of outputs.
 ghost use Rattle.std.specs.Prelude.{◌≡◌};
 ghost use Rattle.stream_errors.specs.Form.{modal};
-ghost use Rattle.winnow_begun.specs.Begun.Adapters.{by_ref_became, map_became, output_became, take_became, value_became, void_became};
+ghost use Rattle.winnow_begun.specs.Begun.Adapters.{by_ref_became, map_became, output_became};
+ghost use Rattle.winnow_begun.specs.Begun.Adapters.{take_became, value_became, void_became};
 ghost use Rattle.winnow_begun.specs.Begun.Passed.{passed_asks};
 ghost use Rattle.winnow_core.specs.ByRef.{by_ref_parser};
 ghost use Rattle.winnow_core.specs.ByRef.Laws.{by_ref_grows};
@@ -26,7 +27,9 @@ use crate::begun::Begun;
 use std::ops::Range;
 use stream_errors::parser_error::ParserError;
 use streams::stream::{Location, Stream};
-use winnow_core::combinator::impls::{ByRef, DefaultValue, Map, OutputInto, Span, Take, Value, Void, WithSpan, WithTaken};
+use winnow_core::combinator::impls::{
+    ByRef, DefaultValue, Map, OutputInto, Span, Take, Value, Void, WithSpan, WithTaken,
+};
 
 /// It asks for more where its part does.
 impl<F: Begun<I, O, E>, G: FnMut(O) -> O2, I: Stream, O, O2, E: ParserError<I>> Begun<I, O2, E>
@@ -37,7 +40,8 @@ impl<F: Begun<I, O, E>, G: FnMut(O) -> O2, I: Stream, O, O2, E: ParserError<I>> 
 
     ghost ended = { stays (map_grows G.step (grows (F.leaves_ends modal) F.ended)) };
 
-    ghost asks = { λ p is. passed_asks (map_became G.step (F.meaning modal) _) (F.asks (map_parser p) is.0) };
+    ghost asks = { λ p is. passed_asks (map_became G.step (F.meaning modal) _)
+        (F.asks (map_parser p) is.0) };
 }
 
 /// It asks for more where its part does.
@@ -50,7 +54,9 @@ impl<F: Begun<I, O, E>, I: Stream, O: Drop, O2: Clone, E: ParserError<I>> Begun<
     ghost ended = { stays
         (value_grows O2.is_clone O2.is_infallible (grows (F.leaves_ends modal) F.ended)) };
 
-    ghost asks = { λ p is. passed_asks (value_became O2.is_clone O2.is_infallible (F.meaning modal) _) (F.asks (value_parser p) is) };
+    ghost asks = { λ p is. passed_asks
+        (value_became O2.is_clone O2.is_infallible (F.meaning modal) _)
+        (F.asks (value_parser p) is) };
 }
 
 /// It asks for more where its part does.
@@ -62,7 +68,8 @@ impl<F: Begun<I, O, E>, I: Stream, O: Drop, E: ParserError<I>> Begun<I, (), E>
 
     ghost ended = { stays (void_grows (grows (F.leaves_ends modal) F.ended)) };
 
-    ghost asks = { λ p is. passed_asks (void_became (F.meaning modal) _) (F.asks (void_parser p) is) };
+    ghost asks = { λ p is. passed_asks (void_became (F.meaning modal) _)
+        (F.asks (void_parser p) is) };
 }
 
 /// It asks for more where its part does.
@@ -76,7 +83,8 @@ impl<F: Begun<I, O, E>, I: Stream, O: Drop, O2: Default, E: ParserError<I>> Begu
         (makes_output_grows (λ i o j u. O2.is_default u) (made_of_output _)
         (grows (F.leaves_ends modal) F.ended)) };
 
-    ghost asks = { λ p is. passed_asks (output_became _ (F.meaning modal) _) (F.asks (default_value_parser p) is) };
+    ghost asks = { λ p is. passed_asks (output_became _ (F.meaning modal) _)
+        (F.asks (default_value_parser p) is) };
 }
 
 /// It asks for more where its part does.
@@ -90,7 +98,8 @@ impl<F: Begun<I, O, E>, I: Stream, O, O2: From<O>, E: ParserError<I>> Begun<I, O
         (makes_output_grows (λ i o j u. O2.from_gives o u) (made_of_output _)
         (grows (F.leaves_ends modal) F.ended)) };
 
-    ghost asks = { λ p is. passed_asks (output_became _ (F.meaning modal) _) (F.asks (output_into_parser p) is) };
+    ghost asks = { λ p is. passed_asks (output_became _ (F.meaning modal) _)
+        (F.asks (output_into_parser p) is) };
 }
 
 /// It asks for more where its part does.
@@ -102,7 +111,8 @@ impl<F: Begun<I, O, E>, I: Stream, O: Drop, E: ParserError<I>> Begun<I, I::Slice
 
     ghost ended = { stays (take_adapter_grows I.reading (grows (F.leaves_ends modal) F.ended)) };
 
-    ghost asks = { λ p is. passed_asks (take_became I.reading (F.meaning modal) _) (F.asks (take_parser p) is) };
+    ghost asks = { λ p is. passed_asks (take_became I.reading (F.meaning modal) _)
+        (F.asks (take_parser p) is) };
 }
 
 /// It asks for more where its part does.
@@ -116,7 +126,8 @@ impl<F: Begun<I, O, E>, I: Stream, O, E: ParserError<I>> Begun<I, (O, I::Slice),
         (makes_output_grows _ (made_with_taken I.reading)
         (grows (F.leaves_ends modal) F.ended)) };
 
-    ghost asks = { λ p is. passed_asks (output_became _ (F.meaning modal) _) (F.asks (with_taken_parser p) is) };
+    ghost asks = { λ p is. passed_asks (output_became _ (F.meaning modal) _)
+        (F.asks (with_taken_parser p) is) };
 }
 
 /// It asks for more where its part does.
@@ -130,7 +141,8 @@ impl<F: Begun<I, O, E>, I: Location, O: Drop, E: ParserError<I>> Begun<I, Range<
         (makes_output_grows (λ i o j span. span ≡ places i j) (λ more flag i o j span is. is)
         (grows (F.leaves_ends modal) F.ended)) };
 
-    ghost asks = { λ p is. passed_asks (output_became _ (F.meaning modal) _) (F.asks (span_parser p) is) };
+    ghost asks = { λ p is. passed_asks (output_became _ (F.meaning modal) _)
+        (F.asks (span_parser p) is) };
 }
 
 /// It asks for more where its part does.
@@ -144,7 +156,8 @@ impl<F: Begun<I, O, E>, I: Location, O, E: ParserError<I>> Begun<I, (O, Range<us
         (makes_output_grows (λ i o j both. (both.0 ≡ o) × (both.1 ≡ places i j))
         (λ more flag i o j both is. is) (grows (F.leaves_ends modal) F.ended)) };
 
-    ghost asks = { λ p is. passed_asks (output_became _ (F.meaning modal) _) (F.asks (with_span_parser p) is) };
+    ghost asks = { λ p is. passed_asks (output_became _ (F.meaning modal) _)
+        (F.asks (with_span_parser p) is) };
 }
 
 /// It asks for more where its part does.
@@ -156,5 +169,6 @@ impl<'p, P: Begun<I, O, E>, I: Stream, O, E: ParserError<I>> Begun<I, O, E>
 
     ghost ended = { stays (by_ref_grows (grows (P.leaves_ends modal) P.ended)) };
 
-    ghost asks = { λ p is. passed_asks (by_ref_became (P.meaning modal) _) (P.asks (by_ref_parser p) is) };
+    ghost asks = { λ p is. passed_asks (by_ref_became (P.meaning modal) _)
+        (P.asks (by_ref_parser p) is) };
 }

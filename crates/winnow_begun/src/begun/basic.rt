@@ -4,7 +4,7 @@ ghost use Rattle.streams.specs.Following.{none_follows};
 ghost use Rattle.winnow_begun.specs.Begun.Adapters.{cond_asks, not_became, opt_became, peek_became};
 ghost use Rattle.winnow_begun.specs.Begun.Leaves.{empty_never, fail_never, never_asks};
 ghost use Rattle.winnow_begun.specs.Begun.Passed.{passed_asks};
-ghost use Rattle.winnow_begun.specs.Begun.Words.{OnlyIf};
+ghost use Rattle.winnow_begun.specs.Begun.Words.{NeverBegun, OnlyIf};
 ghost use Rattle.winnow_comb.specs.Cond.{cond_condition, cond_parser};
 ghost use Rattle.winnow_comb.specs.Cond.Laws.{cond_grows};
 ghost use Rattle.winnow_comb.specs.Empty.Laws.{empty_stays};
@@ -31,7 +31,8 @@ impl<P: Begun<I, O, E>, I: Stream, O, E: ParserError<I>> Begun<I, Option<O>, E>
 
     ghost ended = { stays (opt_grows (grows (P.leaves_ends modal) P.ended)) };
 
-    ghost asks = { λ p is. passed_asks (opt_became (P.meaning modal) _) (P.asks (opt_parser p) is.0) };
+    ghost asks = { λ p is. passed_asks (opt_became (P.meaning modal) _)
+        (P.asks (opt_parser p) is.0) };
 }
 
 /// It asks for more where its part does.
@@ -42,19 +43,20 @@ impl<P: Begun<I, O, E>, I: Stream, O, E: ParserError<I>> Begun<I, O, E> for Peek
 
     ghost ended = { stays (peek_grows (grows (P.leaves_ends modal) P.ended)) };
 
-    ghost asks = { λ p is. passed_asks (peek_became (P.meaning modal) _) (P.asks (peek_parser p) is) };
+    ghost asks = { λ p is. passed_asks (peek_became (P.meaning modal) _)
+        (P.asks (peek_parser p) is) };
 }
 
 /// It asks for more where its part does.
-impl<P: Begun<I, O, E>, I: Stream, O: Drop, E: ParserError<I>> Begun<I, (), E>
-    for Not<P, I, O, E> {
+impl<P: Begun<I, O, E>, I: Stream, O: Drop, E: ParserError<I>> Begun<I, (), E> for Not<P, I, O, E> {
     ghost begun = { λ p. P.begun (not_parser p) };
 
     fn begin() {}
 
     ghost ended = { stays (not_grows (grows (P.leaves_ends modal) P.ended)) };
 
-    ghost asks = { λ p is. passed_asks (not_became (P.meaning modal) _) (P.asks (not_parser p) is.0) };
+    ghost asks = { λ p is. passed_asks (not_became (P.meaning modal) _)
+        (P.asks (not_parser p) is.0) };
 }
 
 /// It asks for more where its part does, if it is run.
@@ -71,7 +73,7 @@ impl<I: Stream, O, E: ParserError<I>, P: Begun<I, O, E>> Begun<I, Option<O>, E>
 
 /// It never asks for more.
 impl<I: Stream, E: ParserError<I>> Begun<I, (), E> for Empty {
-    ghost begun = { λ p tokens. ⊥ };
+    ghost begun = { λ p. NeverBegun };
 
     fn begin() {}
 
@@ -82,7 +84,7 @@ impl<I: Stream, E: ParserError<I>> Begun<I, (), E> for Empty {
 
 /// It never asks for more.
 impl<I: Stream, O, E: ParserError<I>> Begun<I, O, E> for Fail {
-    ghost begun = { λ p tokens. ⊥ };
+    ghost begun = { λ p. NeverBegun };
 
     fn begin() {}
 

@@ -13,7 +13,9 @@ use crate::begun::Begun;
 use stream_errors::parser_error::ParserError;
 use streams::byte_stream::ByteStream;
 use streams::stream::StreamIsPartial;
-use winnow_integers::binary::impls::{BeI128, BeI16, BeI24, BeI32, BeI64, BeI8, BeU128, BeU16, BeU24, BeU32, BeU64, BeU8, I8, U8};
+use winnow_integers::binary::impls::{
+    BeI8, BeI16, BeI24, BeI32, BeI64, BeI128, BeU8, BeU16, BeU24, BeU32, BeU64, BeU128, I8, U8,
+};
 
 /// It asks for more of fewer bytes.
 impl<I: StreamIsPartial + ByteStream, E: ParserError<I>> Begun<I, u8, E> for BeU8 {
@@ -24,7 +26,8 @@ impl<I: StreamIsPartial + ByteStream, E: ParserError<I>> Begun<I, u8, E> for BeU
     ghost ended = { leaf_stays none_follows _
         (λ _. integer_stays 1 (unsigned_value Big) I.reading) };
 
-    ghost asks = { λ p is. integer_asks 1 (λ _. unsigned_value Big) I.reading tt (integer_decided 1 (λ (_ : ⊤). unsigned_value Big) I.reading modal tt) };
+    ghost asks = { λ p is. integer_asks 1 (λ _. unsigned_value Big) I.reading tt
+        (integer_decided 1 (λ (_ : ⊤). unsigned_value Big) I.reading modal tt) };
 }
 
 /// It asks for more of fewer bytes.
@@ -36,7 +39,8 @@ impl<I: StreamIsPartial + ByteStream, E: ParserError<I>> Begun<I, u16, E> for Be
     ghost ended = { leaf_stays none_follows _
         (λ _. integer_stays 2 (unsigned_value Big) I.reading) };
 
-    ghost asks = { λ p is. integer_asks 2 (λ _. unsigned_value Big) I.reading tt (integer_decided 2 (λ (_ : ⊤). unsigned_value Big) I.reading modal tt) };
+    ghost asks = { λ p is. integer_asks 2 (λ _. unsigned_value Big) I.reading tt
+        (integer_decided 2 (λ (_ : ⊤). unsigned_value Big) I.reading modal tt) };
 }
 
 /// It asks for more of fewer bytes.
@@ -48,7 +52,8 @@ impl<I: StreamIsPartial + ByteStream, E: ParserError<I>> Begun<I, u32, E> for Be
     ghost ended = { leaf_stays none_follows _
         (λ _. integer_stays 3 (unsigned_value Big) I.reading) };
 
-    ghost asks = { λ p is. integer_asks 3 (λ _. unsigned_value Big) I.reading tt (integer_decided 3 (λ (_ : ⊤). unsigned_value Big) I.reading modal tt) };
+    ghost asks = { λ p is. integer_asks 3 (λ _. unsigned_value Big) I.reading tt
+        (integer_decided 3 (λ (_ : ⊤). unsigned_value Big) I.reading modal tt) };
 }
 
 /// It asks for more of fewer bytes.
@@ -60,7 +65,8 @@ impl<I: StreamIsPartial + ByteStream, E: ParserError<I>> Begun<I, u32, E> for Be
     ghost ended = { leaf_stays none_follows _
         (λ _. integer_stays 4 (unsigned_value Big) I.reading) };
 
-    ghost asks = { λ p is. integer_asks 4 (λ _. unsigned_value Big) I.reading tt (integer_decided 4 (λ (_ : ⊤). unsigned_value Big) I.reading modal tt) };
+    ghost asks = { λ p is. integer_asks 4 (λ _. unsigned_value Big) I.reading tt
+        (integer_decided 4 (λ (_ : ⊤). unsigned_value Big) I.reading modal tt) };
 }
 
 /// It asks for more of fewer bytes.
@@ -72,7 +78,8 @@ impl<I: StreamIsPartial + ByteStream, E: ParserError<I>> Begun<I, u64, E> for Be
     ghost ended = { leaf_stays none_follows _
         (λ _. integer_stays 8 (unsigned_value Big) I.reading) };
 
-    ghost asks = { λ p is. integer_asks 8 (λ _. unsigned_value Big) I.reading tt (integer_decided 8 (λ (_ : ⊤). unsigned_value Big) I.reading modal tt) };
+    ghost asks = { λ p is. integer_asks 8 (λ _. unsigned_value Big) I.reading tt
+        (integer_decided 8 (λ (_ : ⊤). unsigned_value Big) I.reading modal tt) };
 }
 
 /// It asks for more of fewer bytes.
@@ -84,7 +91,8 @@ impl<I: StreamIsPartial + ByteStream, E: ParserError<I>> Begun<I, u128, E> for B
     ghost ended = { leaf_stays none_follows _
         (λ _. integer_stays 16 (unsigned_value Big) I.reading) };
 
-    ghost asks = { λ p is. integer_asks 16 (λ _. unsigned_value Big) I.reading tt (integer_decided 16 (λ (_ : ⊤). unsigned_value Big) I.reading modal tt) };
+    ghost asks = { λ p is. integer_asks 16 (λ _. unsigned_value Big) I.reading tt
+        (integer_decided 16 (λ (_ : ⊤). unsigned_value Big) I.reading modal tt) };
 }
 
 /// It asks for more of fewer bytes.
@@ -95,7 +103,8 @@ impl<I: StreamIsPartial + ByteStream, E: ParserError<I>> Begun<I, i8, E> for BeI
 
     ghost ended = { leaf_stays none_follows _ (λ _. integer_stays 1 (signed_value Big) I.reading) };
 
-    ghost asks = { λ p is. integer_asks 1 (λ _. signed_value Big) I.reading tt (integer_decided 1 (λ (_ : ⊤). signed_value Big) I.reading modal tt) };
+    ghost asks = { λ p is. integer_asks 1 (λ _. signed_value Big) I.reading tt
+        (integer_decided 1 (λ (_ : ⊤). signed_value Big) I.reading modal tt) };
 }
 
 /// It asks for more of fewer bytes.
@@ -106,7 +115,8 @@ impl<I: StreamIsPartial + ByteStream, E: ParserError<I>> Begun<I, i16, E> for Be
 
     ghost ended = { leaf_stays none_follows _ (λ _. integer_stays 2 (signed_value Big) I.reading) };
 
-    ghost asks = { λ p is. integer_asks 2 (λ _. signed_value Big) I.reading tt (integer_decided 2 (λ (_ : ⊤). signed_value Big) I.reading modal tt) };
+    ghost asks = { λ p is. integer_asks 2 (λ _. signed_value Big) I.reading tt
+        (integer_decided 2 (λ (_ : ⊤). signed_value Big) I.reading modal tt) };
 }
 
 /// It asks for more of fewer bytes.
@@ -117,7 +127,8 @@ impl<I: StreamIsPartial + ByteStream, E: ParserError<I>> Begun<I, i32, E> for Be
 
     ghost ended = { leaf_stays none_follows _ (λ _. integer_stays 3 (signed_value Big) I.reading) };
 
-    ghost asks = { λ p is. integer_asks 3 (λ _. signed_value Big) I.reading tt (integer_decided 3 (λ (_ : ⊤). signed_value Big) I.reading modal tt) };
+    ghost asks = { λ p is. integer_asks 3 (λ _. signed_value Big) I.reading tt
+        (integer_decided 3 (λ (_ : ⊤). signed_value Big) I.reading modal tt) };
 }
 
 /// It asks for more of fewer bytes.
@@ -128,7 +139,8 @@ impl<I: StreamIsPartial + ByteStream, E: ParserError<I>> Begun<I, i32, E> for Be
 
     ghost ended = { leaf_stays none_follows _ (λ _. integer_stays 4 (signed_value Big) I.reading) };
 
-    ghost asks = { λ p is. integer_asks 4 (λ _. signed_value Big) I.reading tt (integer_decided 4 (λ (_ : ⊤). signed_value Big) I.reading modal tt) };
+    ghost asks = { λ p is. integer_asks 4 (λ _. signed_value Big) I.reading tt
+        (integer_decided 4 (λ (_ : ⊤). signed_value Big) I.reading modal tt) };
 }
 
 /// It asks for more of fewer bytes.
@@ -139,7 +151,8 @@ impl<I: StreamIsPartial + ByteStream, E: ParserError<I>> Begun<I, i64, E> for Be
 
     ghost ended = { leaf_stays none_follows _ (λ _. integer_stays 8 (signed_value Big) I.reading) };
 
-    ghost asks = { λ p is. integer_asks 8 (λ _. signed_value Big) I.reading tt (integer_decided 8 (λ (_ : ⊤). signed_value Big) I.reading modal tt) };
+    ghost asks = { λ p is. integer_asks 8 (λ _. signed_value Big) I.reading tt
+        (integer_decided 8 (λ (_ : ⊤). signed_value Big) I.reading modal tt) };
 }
 
 /// It asks for more of fewer bytes.
@@ -151,7 +164,8 @@ impl<I: StreamIsPartial + ByteStream, E: ParserError<I>> Begun<I, i128, E> for B
     ghost ended = { leaf_stays none_follows _
         (λ _. integer_stays 16 (signed_value Big) I.reading) };
 
-    ghost asks = { λ p is. integer_asks 16 (λ _. signed_value Big) I.reading tt (integer_decided 16 (λ (_ : ⊤). signed_value Big) I.reading modal tt) };
+    ghost asks = { λ p is. integer_asks 16 (λ _. signed_value Big) I.reading tt
+        (integer_decided 16 (λ (_ : ⊤). signed_value Big) I.reading modal tt) };
 }
 
 /// It asks for more of fewer bytes.
@@ -163,7 +177,8 @@ impl<I: StreamIsPartial + ByteStream, E: ParserError<I>> Begun<I, u8, E> for U8 
     ghost ended = { leaf_stays none_follows _
         (λ _. integer_stays 1 (unsigned_value Big) I.reading) };
 
-    ghost asks = { λ p is. integer_asks 1 (λ _. unsigned_value Big) I.reading tt (integer_decided 1 (λ (_ : ⊤). unsigned_value Big) I.reading modal tt) };
+    ghost asks = { λ p is. integer_asks 1 (λ _. unsigned_value Big) I.reading tt
+        (integer_decided 1 (λ (_ : ⊤). unsigned_value Big) I.reading modal tt) };
 }
 
 /// It asks for more of fewer bytes.
@@ -174,5 +189,6 @@ impl<I: StreamIsPartial + ByteStream, E: ParserError<I>> Begun<I, i8, E> for I8 
 
     ghost ended = { leaf_stays none_follows _ (λ _. integer_stays 1 (signed_value Big) I.reading) };
 
-    ghost asks = { λ p is. integer_asks 1 (λ _. signed_value Big) I.reading tt (integer_decided 1 (λ (_ : ⊤). signed_value Big) I.reading modal tt) };
+    ghost asks = { λ p is. integer_asks 1 (λ _. signed_value Big) I.reading tt
+        (integer_decided 1 (λ (_ : ⊤). signed_value Big) I.reading modal tt) };
 }

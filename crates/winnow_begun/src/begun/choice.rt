@@ -28,7 +28,8 @@ impl<I: Stream, O, E: ParserError<I>, P1: Begun<I, O, E>> Begun<I, O, E>
 /// It asks for more where a branch does of which those before it do not stand.
 impl<I: Stream, O, E: ParserError<I>, P1: Begun<I, O, E>, P2: Begun<I, O, E>> Begun<I, O, E>
     for AltParser<(P1, P2), I, O, E> {
-    ghost begun = { λ p. EitherBegun (P1.claim (P1.state (alt_alternatives p).0)).grammar (P1.begun (alt_alternatives p).0) (P2.begun (alt_alternatives p).1) };
+    ghost begun = { λ p. EitherBegun (P1.claim (P1.state (alt_alternatives p).0)).grammar
+        (P1.begun (alt_alternatives p).0) (P2.begun (alt_alternatives p).1) };
 
     fn begin() {}
 
@@ -36,7 +37,11 @@ impl<I: Stream, O, E: ParserError<I>, P1: Begun<I, O, E>, P2: Begun<I, O, E>> Be
         (or_else_grows (grows (P1.leaves_ends modal) P1.ended)
         (grows (P2.leaves_ends modal) P2.ended)) };
 
-    ghost asks = { λ p is. either_asks (part_of (P1.claimed (P1.state (alt_alternatives p).0)) P1.leaves_ends P1.ended (P1.asks (alt_alternatives p).0) is.0) (softly is.1 ((P1.claimed (P1.state (alt_alternatives p).0)).fails modal is.0)) (P2.asks (alt_alternatives p).1 is.2) };
+    ghost asks = { λ p is. either_asks
+        (part_of (P1.claimed (P1.state (alt_alternatives p).0)) P1.leaves_ends P1.ended
+        (P1.asks (alt_alternatives p).0) is.0)
+        (softly is.1 ((P1.claimed (P1.state (alt_alternatives p).0)).fails modal is.0))
+        (P2.asks (alt_alternatives p).1 is.2) };
 }
 
 /// It asks for more where a branch does of which those before it do not stand.
@@ -48,7 +53,10 @@ impl<
     P2: Begun<I, O, E>,
     P3: Begun<I, O, E>,
 > Begun<I, O, E> for AltParser<(P1, P2, P3), I, O, E> {
-    ghost begun = { λ p. EitherBegun (P1.claim (P1.state (alt_alternatives p).0)).grammar (P1.begun (alt_alternatives p).0) (EitherBegun (P2.claim (P2.state (alt_alternatives p).1)).grammar (P2.begun (alt_alternatives p).1) (P3.begun (alt_alternatives p).2)) };
+    ghost begun = { λ p. EitherBegun (P1.claim (P1.state (alt_alternatives p).0)).grammar
+        (P1.begun (alt_alternatives p).0)
+        (EitherBegun (P2.claim (P2.state (alt_alternatives p).1)).grammar
+        (P2.begun (alt_alternatives p).1) (P3.begun (alt_alternatives p).2)) };
 
     fn begin() {}
 
@@ -57,7 +65,14 @@ impl<
         (or_else_grows (grows (P2.leaves_ends modal) P2.ended)
         (grows (P3.leaves_ends modal) P3.ended))) };
 
-    ghost asks = { λ p is. either_asks (part_of (P1.claimed (P1.state (alt_alternatives p).0)) P1.leaves_ends P1.ended (P1.asks (alt_alternatives p).0) is.0) (softly is.1 ((P1.claimed (P1.state (alt_alternatives p).0)).fails modal is.0)) (either_asks (part_of (P2.claimed (P2.state (alt_alternatives p).1)) P2.leaves_ends P2.ended (P2.asks (alt_alternatives p).1) is.2.0) (softly is.2.1 ((P2.claimed (P2.state (alt_alternatives p).1)).fails modal is.2.0)) (P3.asks (alt_alternatives p).2 is.2.2)) };
+    ghost asks = { λ p is. either_asks
+        (part_of (P1.claimed (P1.state (alt_alternatives p).0)) P1.leaves_ends P1.ended
+        (P1.asks (alt_alternatives p).0) is.0)
+        (softly is.1 ((P1.claimed (P1.state (alt_alternatives p).0)).fails modal is.0))
+        (either_asks (part_of (P2.claimed (P2.state (alt_alternatives p).1)) P2.leaves_ends
+        P2.ended (P2.asks (alt_alternatives p).1) is.2.0)
+        (softly is.2.1 ((P2.claimed (P2.state (alt_alternatives p).1)).fails modal is.2.0))
+        (P3.asks (alt_alternatives p).2 is.2.2)) };
 }
 
 /// It asks for more where a branch does of which those before it do not stand.
@@ -70,7 +85,12 @@ impl<
     P3: Begun<I, O, E>,
     P4: Begun<I, O, E>,
 > Begun<I, O, E> for AltParser<(P1, P2, P3, P4), I, O, E> {
-    ghost begun = { λ p. EitherBegun (P1.claim (P1.state (alt_alternatives p).0)).grammar (P1.begun (alt_alternatives p).0) (EitherBegun (P2.claim (P2.state (alt_alternatives p).1)).grammar (P2.begun (alt_alternatives p).1) (EitherBegun (P3.claim (P3.state (alt_alternatives p).2)).grammar (P3.begun (alt_alternatives p).2) (P4.begun (alt_alternatives p).3))) };
+    ghost begun = { λ p. EitherBegun (P1.claim (P1.state (alt_alternatives p).0)).grammar
+        (P1.begun (alt_alternatives p).0)
+        (EitherBegun (P2.claim (P2.state (alt_alternatives p).1)).grammar
+        (P2.begun (alt_alternatives p).1)
+        (EitherBegun (P3.claim (P3.state (alt_alternatives p).2)).grammar
+        (P3.begun (alt_alternatives p).2) (P4.begun (alt_alternatives p).3))) };
 
     fn begin() {}
 
@@ -80,7 +100,17 @@ impl<
         (or_else_grows (grows (P3.leaves_ends modal) P3.ended)
         (grows (P4.leaves_ends modal) P4.ended)))) };
 
-    ghost asks = { λ p is. either_asks (part_of (P1.claimed (P1.state (alt_alternatives p).0)) P1.leaves_ends P1.ended (P1.asks (alt_alternatives p).0) is.0) (softly is.1 ((P1.claimed (P1.state (alt_alternatives p).0)).fails modal is.0)) (either_asks (part_of (P2.claimed (P2.state (alt_alternatives p).1)) P2.leaves_ends P2.ended (P2.asks (alt_alternatives p).1) is.2.0) (softly is.2.1 ((P2.claimed (P2.state (alt_alternatives p).1)).fails modal is.2.0)) (either_asks (part_of (P3.claimed (P3.state (alt_alternatives p).2)) P3.leaves_ends P3.ended (P3.asks (alt_alternatives p).2) is.2.2.0) (softly is.2.2.1 ((P3.claimed (P3.state (alt_alternatives p).2)).fails modal is.2.2.0)) (P4.asks (alt_alternatives p).3 is.2.2.2))) };
+    ghost asks = { λ p is. either_asks
+        (part_of (P1.claimed (P1.state (alt_alternatives p).0)) P1.leaves_ends P1.ended
+        (P1.asks (alt_alternatives p).0) is.0)
+        (softly is.1 ((P1.claimed (P1.state (alt_alternatives p).0)).fails modal is.0))
+        (either_asks (part_of (P2.claimed (P2.state (alt_alternatives p).1)) P2.leaves_ends
+        P2.ended (P2.asks (alt_alternatives p).1) is.2.0)
+        (softly is.2.1 ((P2.claimed (P2.state (alt_alternatives p).1)).fails modal is.2.0))
+        (either_asks (part_of (P3.claimed (P3.state (alt_alternatives p).2)) P3.leaves_ends
+        P3.ended (P3.asks (alt_alternatives p).2) is.2.2.0)
+        (softly is.2.2.1 ((P3.claimed (P3.state (alt_alternatives p).2)).fails modal
+        is.2.2.0)) (P4.asks (alt_alternatives p).3 is.2.2.2))) };
 }
 
 /// It asks for more where a branch does of which those before it do not stand.
@@ -94,7 +124,14 @@ impl<
     P4: Begun<I, O, E>,
     P5: Begun<I, O, E>,
 > Begun<I, O, E> for AltParser<(P1, P2, P3, P4, P5), I, O, E> {
-    ghost begun = { λ p. EitherBegun (P1.claim (P1.state (alt_alternatives p).0)).grammar (P1.begun (alt_alternatives p).0) (EitherBegun (P2.claim (P2.state (alt_alternatives p).1)).grammar (P2.begun (alt_alternatives p).1) (EitherBegun (P3.claim (P3.state (alt_alternatives p).2)).grammar (P3.begun (alt_alternatives p).2) (EitherBegun (P4.claim (P4.state (alt_alternatives p).3)).grammar (P4.begun (alt_alternatives p).3) (P5.begun (alt_alternatives p).4)))) };
+    ghost begun = { λ p. EitherBegun (P1.claim (P1.state (alt_alternatives p).0)).grammar
+        (P1.begun (alt_alternatives p).0)
+        (EitherBegun (P2.claim (P2.state (alt_alternatives p).1)).grammar
+        (P2.begun (alt_alternatives p).1)
+        (EitherBegun (P3.claim (P3.state (alt_alternatives p).2)).grammar
+        (P3.begun (alt_alternatives p).2)
+        (EitherBegun (P4.claim (P4.state (alt_alternatives p).3)).grammar
+        (P4.begun (alt_alternatives p).3) (P5.begun (alt_alternatives p).4)))) };
 
     fn begin() {}
 
@@ -105,7 +142,22 @@ impl<
         (or_else_grows (grows (P4.leaves_ends modal) P4.ended)
         (grows (P5.leaves_ends modal) P5.ended))))) };
 
-    ghost asks = { λ p is. either_asks (part_of (P1.claimed (P1.state (alt_alternatives p).0)) P1.leaves_ends P1.ended (P1.asks (alt_alternatives p).0) is.0) (softly is.1 ((P1.claimed (P1.state (alt_alternatives p).0)).fails modal is.0)) (either_asks (part_of (P2.claimed (P2.state (alt_alternatives p).1)) P2.leaves_ends P2.ended (P2.asks (alt_alternatives p).1) is.2.0) (softly is.2.1 ((P2.claimed (P2.state (alt_alternatives p).1)).fails modal is.2.0)) (either_asks (part_of (P3.claimed (P3.state (alt_alternatives p).2)) P3.leaves_ends P3.ended (P3.asks (alt_alternatives p).2) is.2.2.0) (softly is.2.2.1 ((P3.claimed (P3.state (alt_alternatives p).2)).fails modal is.2.2.0)) (either_asks (part_of (P4.claimed (P4.state (alt_alternatives p).3)) P4.leaves_ends P4.ended (P4.asks (alt_alternatives p).3) is.2.2.2.0) (softly is.2.2.2.1 ((P4.claimed (P4.state (alt_alternatives p).3)).fails modal is.2.2.2.0)) (P5.asks (alt_alternatives p).4 is.2.2.2.2)))) };
+    ghost asks = { λ p is. either_asks
+        (part_of (P1.claimed (P1.state (alt_alternatives p).0)) P1.leaves_ends P1.ended
+        (P1.asks (alt_alternatives p).0) is.0)
+        (softly is.1 ((P1.claimed (P1.state (alt_alternatives p).0)).fails modal is.0))
+        (either_asks (part_of (P2.claimed (P2.state (alt_alternatives p).1)) P2.leaves_ends
+        P2.ended (P2.asks (alt_alternatives p).1) is.2.0)
+        (softly is.2.1 ((P2.claimed (P2.state (alt_alternatives p).1)).fails modal is.2.0))
+        (either_asks (part_of (P3.claimed (P3.state (alt_alternatives p).2)) P3.leaves_ends
+        P3.ended (P3.asks (alt_alternatives p).2) is.2.2.0)
+        (softly is.2.2.1 ((P3.claimed (P3.state (alt_alternatives p).2)).fails modal
+        is.2.2.0)) (either_asks
+        (part_of (P4.claimed (P4.state (alt_alternatives p).3)) P4.leaves_ends P4.ended
+        (P4.asks (alt_alternatives p).3) is.2.2.2.0)
+        (softly is.2.2.2.1
+        ((P4.claimed (P4.state (alt_alternatives p).3)).fails modal is.2.2.2.0))
+        (P5.asks (alt_alternatives p).4 is.2.2.2.2)))) };
 }
 
 /// It asks for more where a branch does of which those before it do not stand.
@@ -120,7 +172,16 @@ impl<
     P5: Begun<I, O, E>,
     P6: Begun<I, O, E>,
 > Begun<I, O, E> for AltParser<(P1, P2, P3, P4, P5, P6), I, O, E> {
-    ghost begun = { λ p. EitherBegun (P1.claim (P1.state (alt_alternatives p).0)).grammar (P1.begun (alt_alternatives p).0) (EitherBegun (P2.claim (P2.state (alt_alternatives p).1)).grammar (P2.begun (alt_alternatives p).1) (EitherBegun (P3.claim (P3.state (alt_alternatives p).2)).grammar (P3.begun (alt_alternatives p).2) (EitherBegun (P4.claim (P4.state (alt_alternatives p).3)).grammar (P4.begun (alt_alternatives p).3) (EitherBegun (P5.claim (P5.state (alt_alternatives p).4)).grammar (P5.begun (alt_alternatives p).4) (P6.begun (alt_alternatives p).5))))) };
+    ghost begun = { λ p. EitherBegun (P1.claim (P1.state (alt_alternatives p).0)).grammar
+        (P1.begun (alt_alternatives p).0)
+        (EitherBegun (P2.claim (P2.state (alt_alternatives p).1)).grammar
+        (P2.begun (alt_alternatives p).1)
+        (EitherBegun (P3.claim (P3.state (alt_alternatives p).2)).grammar
+        (P3.begun (alt_alternatives p).2)
+        (EitherBegun (P4.claim (P4.state (alt_alternatives p).3)).grammar
+        (P4.begun (alt_alternatives p).3)
+        (EitherBegun (P5.claim (P5.state (alt_alternatives p).4)).grammar
+        (P5.begun (alt_alternatives p).4) (P6.begun (alt_alternatives p).5))))) };
 
     fn begin() {}
 
@@ -132,5 +193,24 @@ impl<
         (or_else_grows (grows (P5.leaves_ends modal) P5.ended)
         (grows (P6.leaves_ends modal) P6.ended)))))) };
 
-    ghost asks = { λ p is. either_asks (part_of (P1.claimed (P1.state (alt_alternatives p).0)) P1.leaves_ends P1.ended (P1.asks (alt_alternatives p).0) is.0) (softly is.1 ((P1.claimed (P1.state (alt_alternatives p).0)).fails modal is.0)) (either_asks (part_of (P2.claimed (P2.state (alt_alternatives p).1)) P2.leaves_ends P2.ended (P2.asks (alt_alternatives p).1) is.2.0) (softly is.2.1 ((P2.claimed (P2.state (alt_alternatives p).1)).fails modal is.2.0)) (either_asks (part_of (P3.claimed (P3.state (alt_alternatives p).2)) P3.leaves_ends P3.ended (P3.asks (alt_alternatives p).2) is.2.2.0) (softly is.2.2.1 ((P3.claimed (P3.state (alt_alternatives p).2)).fails modal is.2.2.0)) (either_asks (part_of (P4.claimed (P4.state (alt_alternatives p).3)) P4.leaves_ends P4.ended (P4.asks (alt_alternatives p).3) is.2.2.2.0) (softly is.2.2.2.1 ((P4.claimed (P4.state (alt_alternatives p).3)).fails modal is.2.2.2.0)) (either_asks (part_of (P5.claimed (P5.state (alt_alternatives p).4)) P5.leaves_ends P5.ended (P5.asks (alt_alternatives p).4) is.2.2.2.2.0) (softly is.2.2.2.2.1 ((P5.claimed (P5.state (alt_alternatives p).4)).fails modal is.2.2.2.2.0)) (P6.asks (alt_alternatives p).5 is.2.2.2.2.2))))) };
+    ghost asks = { λ p is. either_asks
+        (part_of (P1.claimed (P1.state (alt_alternatives p).0)) P1.leaves_ends P1.ended
+        (P1.asks (alt_alternatives p).0) is.0)
+        (softly is.1 ((P1.claimed (P1.state (alt_alternatives p).0)).fails modal is.0))
+        (either_asks (part_of (P2.claimed (P2.state (alt_alternatives p).1)) P2.leaves_ends
+        P2.ended (P2.asks (alt_alternatives p).1) is.2.0)
+        (softly is.2.1 ((P2.claimed (P2.state (alt_alternatives p).1)).fails modal is.2.0))
+        (either_asks (part_of (P3.claimed (P3.state (alt_alternatives p).2)) P3.leaves_ends
+        P3.ended (P3.asks (alt_alternatives p).2) is.2.2.0)
+        (softly is.2.2.1 ((P3.claimed (P3.state (alt_alternatives p).2)).fails modal
+        is.2.2.0)) (either_asks
+        (part_of (P4.claimed (P4.state (alt_alternatives p).3)) P4.leaves_ends P4.ended
+        (P4.asks (alt_alternatives p).3) is.2.2.2.0)
+        (softly is.2.2.2.1
+        ((P4.claimed (P4.state (alt_alternatives p).3)).fails modal is.2.2.2.0))
+        (either_asks (part_of (P5.claimed (P5.state (alt_alternatives p).4))
+        P5.leaves_ends P5.ended (P5.asks (alt_alternatives p).4) is.2.2.2.2.0)
+        (softly is.2.2.2.2.1
+        ((P5.claimed (P5.state (alt_alternatives p).4)).fails modal is.2.2.2.2.0))
+        (P6.asks (alt_alternatives p).5 is.2.2.2.2.2))))) };
 }

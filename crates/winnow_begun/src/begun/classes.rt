@@ -1,6 +1,7 @@
 //! Characters of a class.
 ghost use Rattle.std.specs.Prelude.{None};
-ghost use Rattle.stream_sets.specs.AsChar.{IsAlpha, IsAlphanum, IsDecDigit, IsHexDigit, IsMultispace, IsOctDigit, IsSpace};
+ghost use Rattle.stream_sets.specs.AsChar.{IsAlpha, IsAlphanum, IsDecDigit, IsHexDigit};
+ghost use Rattle.stream_sets.specs.AsChar.{IsMultispace, IsOctDigit, IsSpace};
 ghost use Rattle.stream_sets.specs.Range.{from_to};
 ghost use Rattle.streams.specs.Following.{none_follows};
 ghost use Rattle.winnow_begun.specs.Begun.Leaves.{AllOfClass, class_asks};
@@ -11,7 +12,10 @@ use crate::begun::Begun;
 use stream_errors::parser_error::ParserError;
 use stream_sets::as_char::AsChar;
 use streams::stream::StreamIsPartial;
-use winnow_ascii::ascii::impls::{Alpha0, Alpha1, Alphanumeric0, Alphanumeric1, Digit0, Digit1, HexDigit0, HexDigit1, Multispace0, Multispace1, OctDigit0, OctDigit1, Space0, Space1};
+use winnow_ascii::ascii::impls::{
+    Alpha0, Alpha1, Alphanumeric0, Alphanumeric1, Digit0, Digit1, HexDigit0, HexDigit1,
+    Multispace0, Multispace1, OctDigit0, OctDigit1, Space0, Space1,
+};
 
 /// It asks for more of nothing but such characters.
 impl<I: StreamIsPartial, E: ParserError<I>> Begun<I, I::Slice, E> for Alpha0

@@ -29,7 +29,9 @@ impl<I: StreamIsPartial + Compare<char>, E: ParserError<I>> Begun<I, char, E> fo
     ghost ended = { leaf_stays none_follows _
         (λ _. literal_stays I.reading (I.spells 10) (λ _. 10)) };
 
-    ghost asks = { λ p is. literal_asks I.reading (λ _. I.spells 10) (λ _ _. 10) tt (literal_decided I.reading modal I.spells (λ s _. s) (λ _. 10) (λ o q. o ≡ q) tt (I.same_units 10) (λ slice other shown. refl)) };
+    ghost asks = { λ p is. literal_asks I.reading (λ _. I.spells 10) (λ _ _. 10) tt
+        (literal_decided I.reading modal I.spells (λ s _. s) (λ _. 10) (λ o q. o ≡ q) tt
+        (I.same_units 10) (λ slice other shown. refl)) };
 }
 
 /// It asks for more of no tokens.
@@ -41,19 +43,21 @@ impl<I: StreamIsPartial + Compare<char>, E: ParserError<I>> Begun<I, char, E> fo
     ghost ended = { leaf_stays none_follows _
         (λ _. literal_stays I.reading (I.spells 9) (λ _. 9)) };
 
-    ghost asks = { λ p is. literal_asks I.reading (λ _. I.spells 9) (λ _ _. 9) tt (literal_decided I.reading modal I.spells (λ s _. s) (λ _. 9) (λ o q. o ≡ q) tt (I.same_units 9) (λ slice other shown. refl)) };
+    ghost asks = { λ p is. literal_asks I.reading (λ _. I.spells 9) (λ _ _. 9) tt
+        (literal_decided I.reading modal I.spells (λ s _. s) (λ _. 9) (λ o q. o ≡ q) tt
+        (I.same_units 9) (λ slice other shown. refl)) };
 }
 
 /// It asks for more of a beginning of it.
-impl<I: StreamIsPartial + Compare<&'static str>, E: ParserError<I>> Begun<I, I::Slice, E>
-    for Crlf {
+impl<I: StreamIsPartial + Compare<&'static str>, E: ParserError<I>> Begun<I, I::Slice, E> for Crlf {
     ghost begun = { λ p. IsShort (SpelledBy I.spells (13 ∷ 10 ∷ [])) };
 
     fn begin() {}
 
     ghost ended = { leaf_stays none_follows _ (λ _. crlf_stays I.spells I.reading) };
 
-    ghost asks = { λ p is. crlf_asks I.spells I.reading (text_decided I.reading modal I.spells is I.same_units (13 ∷ 10 ∷ [])) };
+    ghost asks = { λ p is. crlf_asks I.spells I.reading
+        (text_decided I.reading modal I.spells is I.same_units (13 ∷ 10 ∷ [])) };
 }
 
 /// It asks for more of nothing, or of a carriage return alone.
@@ -65,5 +69,6 @@ impl<I: StreamIsPartial + Compare<&'static str>, E: ParserError<I>> Begun<I, I::
 
     ghost ended = { leaf_stays none_follows _ (λ _. line_ending_stays I.spells I.reading) };
 
-    ghost asks = { λ p is. line_ending_asks I.spells I.reading (line_ending_decided I.reading modal I.spells is I.same_units) };
+    ghost asks = { λ p is. line_ending_asks I.spells I.reading
+        (line_ending_decided I.reading modal I.spells is I.same_units) };
 }

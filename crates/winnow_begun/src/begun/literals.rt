@@ -24,7 +24,9 @@ impl<I: StreamIsPartial + Compare<u8>, E: ParserError<I>> Begun<I, u8, E> for u8
     ghost ended = { leaf_stays none_follows _
         (λ s. literal_stays I.reading (I.spells s) (λ _. s)) };
 
-    ghost asks = { λ p is. literal_asks I.reading I.spells (λ s _. s) p ((literal_claimed I.reading I.spells (λ s _. s) (λ o q. o ≡ q) p (I.same_units p) (λ slice other shown. refl)).decided modal tt) };
+    ghost asks = { λ p is. literal_asks I.reading I.spells (λ s _. s) p
+        ((literal_claimed I.reading I.spells (λ s _. s) (λ o q. o ≡ q) p (I.same_units p)
+        (λ slice other shown. refl)).decided modal tt) };
 }
 
 /// It asks for more of a proper beginning of what it stands for.
@@ -37,7 +39,9 @@ impl<'t, I: StreamIsPartial + Compare<&'t [u8]>, E: ParserError<I>> Begun<I, I::
     ghost ended = { leaf_stays none_follows _
         (λ s. literal_stays I.reading (I.spells s) (λ slice. slice)) };
 
-    ghost asks = { λ p is. literal_asks I.reading I.spells (λ _ slice. slice) p ((literal_claimed I.reading I.spells (λ _ slice. slice) (ShowSame I.reading) p (I.same_units p) (λ slice other shown. shown)).decided modal tt) };
+    ghost asks = { λ p is. literal_asks I.reading I.spells (λ _ slice. slice) p
+        ((literal_claimed I.reading I.spells (λ _ slice. slice) (ShowSame I.reading) p
+        (I.same_units p) (λ slice other shown. shown)).decided modal tt) };
 }
 
 /// It asks for more of a proper beginning of what it stands for.
@@ -53,7 +57,9 @@ impl<'t, const N: usize, I: StreamIsPartial + Compare<&'t [u8; N]>, E: ParserErr
     ghost ended = { leaf_stays none_follows _
         (λ s. literal_stays I.reading (I.spells s) (λ slice. slice)) };
 
-    ghost asks = { λ p is. literal_asks I.reading I.spells (λ _ slice. slice) p ((literal_claimed I.reading I.spells (λ _ slice. slice) (ShowSame I.reading) p (I.same_units p) (λ slice other shown. shown)).decided modal tt) };
+    ghost asks = { λ p is. literal_asks I.reading I.spells (λ _ slice. slice) p
+        ((literal_claimed I.reading I.spells (λ _ slice. slice) (ShowSame I.reading) p
+        (I.same_units p) (λ slice other shown. shown)).decided modal tt) };
 }
 
 /// It asks for more of a proper beginning of what it stands for.
@@ -65,7 +71,9 @@ impl<I: StreamIsPartial + Compare<char>, E: ParserError<I>> Begun<I, char, E> fo
     ghost ended = { leaf_stays none_follows _
         (λ s. literal_stays I.reading (I.spells s) (λ _. s)) };
 
-    ghost asks = { λ p is. literal_asks I.reading I.spells (λ s _. s) p ((literal_claimed I.reading I.spells (λ s _. s) (λ o q. o ≡ q) p (I.same_units p) (λ slice other shown. refl)).decided modal tt) };
+    ghost asks = { λ p is. literal_asks I.reading I.spells (λ s _. s) p
+        ((literal_claimed I.reading I.spells (λ s _. s) (λ o q. o ≡ q) p (I.same_units p)
+        (λ slice other shown. refl)).decided modal tt) };
 }
 
 /// It asks for more of a proper beginning of what it stands for.
@@ -78,7 +86,9 @@ impl<'t, I: StreamIsPartial + Compare<&'t str>, E: ParserError<I>> Begun<I, I::S
     ghost ended = { leaf_stays none_follows _
         (λ s. literal_stays I.reading (I.spells s) (λ slice. slice)) };
 
-    ghost asks = { λ p is. literal_asks I.reading I.spells (λ _ slice. slice) p ((literal_claimed I.reading I.spells (λ _ slice. slice) (ShowSame I.reading) p (I.same_units p) (λ slice other shown. shown)).decided modal tt) };
+    ghost asks = { λ p is. literal_asks I.reading I.spells (λ _ slice. slice) p
+        ((literal_claimed I.reading I.spells (λ _ slice. slice) (ShowSame I.reading) p
+        (I.same_units p) (λ slice other shown. shown)).decided modal tt) };
 }
 
 /// It asks for more of a proper beginning of what it stands for.
@@ -91,7 +101,9 @@ impl<'t, I: StreamIsPartial + Compare<Caseless<&'t [u8]>>, E: ParserError<I>> Be
     ghost ended = { leaf_stays none_follows _
         (λ s. literal_stays I.reading (I.spells s) (λ slice. slice)) };
 
-    ghost asks = { λ p is. literal_asks I.reading I.spells (λ _ slice. slice) p ((literal_claimed I.reading I.spells (λ _ slice. slice) (ShowSame I.reading) p (I.same_units p) (λ slice other shown. shown)).decided modal tt) };
+    ghost asks = { λ p is. literal_asks I.reading I.spells (λ _ slice. slice) p
+        ((literal_claimed I.reading I.spells (λ _ slice. slice) (ShowSame I.reading) p
+        (I.same_units p) (λ slice other shown. shown)).decided modal tt) };
 }
 
 /// It asks for more of a proper beginning of what it stands for.
@@ -108,7 +120,9 @@ impl<
     ghost ended = { leaf_stays none_follows _
         (λ s. literal_stays I.reading (I.spells s) (λ slice. slice)) };
 
-    ghost asks = { λ p is. literal_asks I.reading I.spells (λ _ slice. slice) p ((literal_claimed I.reading I.spells (λ _ slice. slice) (ShowSame I.reading) p (I.same_units p) (λ slice other shown. shown)).decided modal tt) };
+    ghost asks = { λ p is. literal_asks I.reading I.spells (λ _ slice. slice) p
+        ((literal_claimed I.reading I.spells (λ _ slice. slice) (ShowSame I.reading) p
+        (I.same_units p) (λ slice other shown. shown)).decided modal tt) };
 }
 
 /// It asks for more of a proper beginning of what it stands for.
@@ -121,5 +135,7 @@ impl<'t, I: StreamIsPartial + Compare<Caseless<&'t str>>, E: ParserError<I>> Beg
     ghost ended = { leaf_stays none_follows _
         (λ s. literal_stays I.reading (I.spells s) (λ slice. slice)) };
 
-    ghost asks = { λ p is. literal_asks I.reading I.spells (λ _ slice. slice) p ((literal_claimed I.reading I.spells (λ _ slice. slice) (ShowSame I.reading) p (I.same_units p) (λ slice other shown. shown)).decided modal tt) };
+    ghost asks = { λ p is. literal_asks I.reading I.spells (λ _ slice. slice) p
+        ((literal_claimed I.reading I.spells (λ _ slice. slice) (ShowSame I.reading) p
+        (I.same_units p) (λ slice other shown. shown)).decided modal tt) };
 }

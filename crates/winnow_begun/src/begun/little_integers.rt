@@ -13,7 +13,9 @@ use crate::begun::Begun;
 use stream_errors::parser_error::ParserError;
 use streams::byte_stream::ByteStream;
 use streams::stream::StreamIsPartial;
-use winnow_integers::binary::impls::{LeI128, LeI16, LeI24, LeI32, LeI64, LeI8, LeU128, LeU16, LeU24, LeU32, LeU64, LeU8};
+use winnow_integers::binary::impls::{
+    LeI8, LeI16, LeI24, LeI32, LeI64, LeI128, LeU8, LeU16, LeU24, LeU32, LeU64, LeU128,
+};
 
 /// It asks for more of fewer bytes.
 impl<I: StreamIsPartial + ByteStream, E: ParserError<I>> Begun<I, u8, E> for LeU8 {
@@ -24,7 +26,8 @@ impl<I: StreamIsPartial + ByteStream, E: ParserError<I>> Begun<I, u8, E> for LeU
     ghost ended = { leaf_stays none_follows _
         (λ _. integer_stays 1 (unsigned_value Little) I.reading) };
 
-    ghost asks = { λ p is. integer_asks 1 (λ _. unsigned_value Little) I.reading tt (integer_decided 1 (λ (_ : ⊤). unsigned_value Little) I.reading modal tt) };
+    ghost asks = { λ p is. integer_asks 1 (λ _. unsigned_value Little) I.reading tt
+        (integer_decided 1 (λ (_ : ⊤). unsigned_value Little) I.reading modal tt) };
 }
 
 /// It asks for more of fewer bytes.
@@ -36,7 +39,8 @@ impl<I: StreamIsPartial + ByteStream, E: ParserError<I>> Begun<I, u16, E> for Le
     ghost ended = { leaf_stays none_follows _
         (λ _. integer_stays 2 (unsigned_value Little) I.reading) };
 
-    ghost asks = { λ p is. integer_asks 2 (λ _. unsigned_value Little) I.reading tt (integer_decided 2 (λ (_ : ⊤). unsigned_value Little) I.reading modal tt) };
+    ghost asks = { λ p is. integer_asks 2 (λ _. unsigned_value Little) I.reading tt
+        (integer_decided 2 (λ (_ : ⊤). unsigned_value Little) I.reading modal tt) };
 }
 
 /// It asks for more of fewer bytes.
@@ -48,7 +52,8 @@ impl<I: StreamIsPartial + ByteStream, E: ParserError<I>> Begun<I, u32, E> for Le
     ghost ended = { leaf_stays none_follows _
         (λ _. integer_stays 3 (unsigned_value Little) I.reading) };
 
-    ghost asks = { λ p is. integer_asks 3 (λ _. unsigned_value Little) I.reading tt (integer_decided 3 (λ (_ : ⊤). unsigned_value Little) I.reading modal tt) };
+    ghost asks = { λ p is. integer_asks 3 (λ _. unsigned_value Little) I.reading tt
+        (integer_decided 3 (λ (_ : ⊤). unsigned_value Little) I.reading modal tt) };
 }
 
 /// It asks for more of fewer bytes.
@@ -60,7 +65,8 @@ impl<I: StreamIsPartial + ByteStream, E: ParserError<I>> Begun<I, u32, E> for Le
     ghost ended = { leaf_stays none_follows _
         (λ _. integer_stays 4 (unsigned_value Little) I.reading) };
 
-    ghost asks = { λ p is. integer_asks 4 (λ _. unsigned_value Little) I.reading tt (integer_decided 4 (λ (_ : ⊤). unsigned_value Little) I.reading modal tt) };
+    ghost asks = { λ p is. integer_asks 4 (λ _. unsigned_value Little) I.reading tt
+        (integer_decided 4 (λ (_ : ⊤). unsigned_value Little) I.reading modal tt) };
 }
 
 /// It asks for more of fewer bytes.
@@ -72,7 +78,8 @@ impl<I: StreamIsPartial + ByteStream, E: ParserError<I>> Begun<I, u64, E> for Le
     ghost ended = { leaf_stays none_follows _
         (λ _. integer_stays 8 (unsigned_value Little) I.reading) };
 
-    ghost asks = { λ p is. integer_asks 8 (λ _. unsigned_value Little) I.reading tt (integer_decided 8 (λ (_ : ⊤). unsigned_value Little) I.reading modal tt) };
+    ghost asks = { λ p is. integer_asks 8 (λ _. unsigned_value Little) I.reading tt
+        (integer_decided 8 (λ (_ : ⊤). unsigned_value Little) I.reading modal tt) };
 }
 
 /// It asks for more of fewer bytes.
@@ -84,7 +91,8 @@ impl<I: StreamIsPartial + ByteStream, E: ParserError<I>> Begun<I, u128, E> for L
     ghost ended = { leaf_stays none_follows _
         (λ _. integer_stays 16 (unsigned_value Little) I.reading) };
 
-    ghost asks = { λ p is. integer_asks 16 (λ _. unsigned_value Little) I.reading tt (integer_decided 16 (λ (_ : ⊤). unsigned_value Little) I.reading modal tt) };
+    ghost asks = { λ p is. integer_asks 16 (λ _. unsigned_value Little) I.reading tt
+        (integer_decided 16 (λ (_ : ⊤). unsigned_value Little) I.reading modal tt) };
 }
 
 /// It asks for more of fewer bytes.
@@ -96,7 +104,8 @@ impl<I: StreamIsPartial + ByteStream, E: ParserError<I>> Begun<I, i8, E> for LeI
     ghost ended = { leaf_stays none_follows _
         (λ _. integer_stays 1 (signed_value Little) I.reading) };
 
-    ghost asks = { λ p is. integer_asks 1 (λ _. signed_value Little) I.reading tt (integer_decided 1 (λ (_ : ⊤). signed_value Little) I.reading modal tt) };
+    ghost asks = { λ p is. integer_asks 1 (λ _. signed_value Little) I.reading tt
+        (integer_decided 1 (λ (_ : ⊤). signed_value Little) I.reading modal tt) };
 }
 
 /// It asks for more of fewer bytes.
@@ -108,7 +117,8 @@ impl<I: StreamIsPartial + ByteStream, E: ParserError<I>> Begun<I, i16, E> for Le
     ghost ended = { leaf_stays none_follows _
         (λ _. integer_stays 2 (signed_value Little) I.reading) };
 
-    ghost asks = { λ p is. integer_asks 2 (λ _. signed_value Little) I.reading tt (integer_decided 2 (λ (_ : ⊤). signed_value Little) I.reading modal tt) };
+    ghost asks = { λ p is. integer_asks 2 (λ _. signed_value Little) I.reading tt
+        (integer_decided 2 (λ (_ : ⊤). signed_value Little) I.reading modal tt) };
 }
 
 /// It asks for more of fewer bytes.
@@ -120,7 +130,8 @@ impl<I: StreamIsPartial + ByteStream, E: ParserError<I>> Begun<I, i32, E> for Le
     ghost ended = { leaf_stays none_follows _
         (λ _. integer_stays 3 (signed_value Little) I.reading) };
 
-    ghost asks = { λ p is. integer_asks 3 (λ _. signed_value Little) I.reading tt (integer_decided 3 (λ (_ : ⊤). signed_value Little) I.reading modal tt) };
+    ghost asks = { λ p is. integer_asks 3 (λ _. signed_value Little) I.reading tt
+        (integer_decided 3 (λ (_ : ⊤). signed_value Little) I.reading modal tt) };
 }
 
 /// It asks for more of fewer bytes.
@@ -132,7 +143,8 @@ impl<I: StreamIsPartial + ByteStream, E: ParserError<I>> Begun<I, i32, E> for Le
     ghost ended = { leaf_stays none_follows _
         (λ _. integer_stays 4 (signed_value Little) I.reading) };
 
-    ghost asks = { λ p is. integer_asks 4 (λ _. signed_value Little) I.reading tt (integer_decided 4 (λ (_ : ⊤). signed_value Little) I.reading modal tt) };
+    ghost asks = { λ p is. integer_asks 4 (λ _. signed_value Little) I.reading tt
+        (integer_decided 4 (λ (_ : ⊤). signed_value Little) I.reading modal tt) };
 }
 
 /// It asks for more of fewer bytes.
@@ -144,7 +156,8 @@ impl<I: StreamIsPartial + ByteStream, E: ParserError<I>> Begun<I, i64, E> for Le
     ghost ended = { leaf_stays none_follows _
         (λ _. integer_stays 8 (signed_value Little) I.reading) };
 
-    ghost asks = { λ p is. integer_asks 8 (λ _. signed_value Little) I.reading tt (integer_decided 8 (λ (_ : ⊤). signed_value Little) I.reading modal tt) };
+    ghost asks = { λ p is. integer_asks 8 (λ _. signed_value Little) I.reading tt
+        (integer_decided 8 (λ (_ : ⊤). signed_value Little) I.reading modal tt) };
 }
 
 /// It asks for more of fewer bytes.
@@ -156,5 +169,6 @@ impl<I: StreamIsPartial + ByteStream, E: ParserError<I>> Begun<I, i128, E> for L
     ghost ended = { leaf_stays none_follows _
         (λ _. integer_stays 16 (signed_value Little) I.reading) };
 
-    ghost asks = { λ p is. integer_asks 16 (λ _. signed_value Little) I.reading tt (integer_decided 16 (λ (_ : ⊤). signed_value Little) I.reading modal tt) };
+    ghost asks = { λ p is. integer_asks 16 (λ _. signed_value Little) I.reading tt
+        (integer_decided 16 (λ (_ : ⊤). signed_value Little) I.reading modal tt) };
 }

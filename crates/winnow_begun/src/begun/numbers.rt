@@ -13,8 +13,8 @@ use stream_errors::parser_error::ParserError;
 use stream_sets::as_bstr::{AsBStr, SlicesAsBytes};
 use stream_sets::as_char::AsChar;
 use streams::stream::StreamIsPartial;
-use winnow_numbers::ascii::{Int, Uint};
 use winnow_numbers::ascii::impls::{DecInt, DecUint, HexUint, HexUintParser};
+use winnow_numbers::ascii::{Int, Uint};
 
 /// It asks for more of nothing, or of a digit from 1 to 9 and digits.
 impl<I: StreamIsPartial + SlicesAsBytes, O: Uint, E: ParserError<I>> Begun<I, O, E> for DecUint
@@ -29,7 +29,9 @@ where
     ghost ended = { leaf_stays none_follows _
         (λ _. dec_uint_stays I.seen_as I.Token.code I.reading O.number O.bound) };
 
-    ghost asks = { λ p is. dec_uint_asks I.seen_as I.Token.code I.reading O.number O.bound (dec_uint_decided O.number O.bound I.seen_as I.Token.code I.reading modal I.one_code) };
+    ghost asks = { λ p is. dec_uint_asks I.seen_as I.Token.code I.reading O.number O.bound
+        (dec_uint_decided O.number O.bound I.seen_as I.Token.code I.reading modal
+        I.one_code) };
 }
 
 /// The same, behind a sign or where none stands.
@@ -45,7 +47,8 @@ where
     ghost ended = { leaf_stays none_follows _
         (λ _. dec_int_stays I.seen_as I.Token.code I.reading O.number O.fits) };
 
-    ghost asks = { λ p is. dec_int_asks I.seen_as I.Token.code I.reading O.number O.fits (dec_int_decided O.number O.fits I.seen_as I.Token.code I.reading modal I.one_code) };
+    ghost asks = { λ p is. dec_int_asks I.seen_as I.Token.code I.reading O.number O.fits
+        (dec_int_decided O.number O.fits I.seen_as I.Token.code I.reading modal I.one_code) };
 }
 
 /// It asks for more of nothing but digits, no more than the type holds.
@@ -62,5 +65,7 @@ where
     ghost ended = { leaf_stays none_follows _
         (λ _. hex_uint_stays I.seen_as I.Token.code I.reading O.number O.nibbles) };
 
-    ghost asks = { λ p is. hex_uint_asks O.number O.nibbles I.seen_as I.Token.code I.reading (hex_uint_decided O.number O.nibbles I.seen_as I.Token.code I.reading modal I.one_code) };
+    ghost asks = { λ p is. hex_uint_asks O.number O.nibbles I.seen_as I.Token.code I.reading
+        (hex_uint_decided O.number O.nibbles I.seen_as I.Token.code I.reading modal
+        I.one_code) };
 }

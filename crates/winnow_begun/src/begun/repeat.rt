@@ -8,7 +8,8 @@ ghost use Rattle.winnow_begun.specs.Begun.Words.{Among, Parting};
 ghost use Rattle.winnow_core.specs.Stable.Grows.{grows, stays};
 ghost use Rattle.winnow_repeat.specs.Repeat.{repeat_occurrences, repeat_parser};
 ghost use Rattle.winnow_repeat.specs.Repeat.Laws.{repeat_grows};
-ghost use Rattle.winnow_separated.specs.Separated.{separated_occurrences, separated_parser, separated_separator};
+ghost use Rattle.winnow_separated.specs.Separated.{separated_occurrences, separated_parser};
+ghost use Rattle.winnow_separated.specs.Separated.{separated_separator};
 ghost use Rattle.winnow_separated.specs.Separated.Laws.{separated_grows};
 
 use crate::begun::Begun;
@@ -28,7 +29,8 @@ impl<
     E: ParserError<I>,
     A: Allocator + Copy,
 > Begun<I, C, E> for Repeat<P, I, O, C, E, A> {
-    ghost begun = { λ p. Among (P.claim (P.state (repeat_parser p))).grammar (P.begun (repeat_parser p)) (bounds_of (repeat_occurrences p)).greatest };
+    ghost begun = { λ p. Among (P.claim (P.state (repeat_parser p))).grammar
+        (P.begun (repeat_parser p)) (bounds_of (repeat_occurrences p)).greatest };
 
     fn begin() {}
 
@@ -36,7 +38,11 @@ impl<
         (repeat_grows (P.meaning modal) C.accumulator (assert_kind modal)
         (grows (P.leaves_ends modal) P.ended)) };
 
-    ghost asks = { λ p is. repeat_asks C.accumulator (P.state (repeat_parser p), repeat_occurrences p) (part_of (P.claimed (P.state (repeat_parser p))) P.leaves_ends P.ended (P.asks (repeat_parser p)) is.0) ((P.claimed (P.state (repeat_parser p))).takes is.0 is.2) is.3 };
+    ghost asks = { λ p is. repeat_asks C.accumulator
+        (P.state (repeat_parser p), repeat_occurrences p)
+        (part_of (P.claimed (P.state (repeat_parser p))) P.leaves_ends P.ended
+        (P.asks (repeat_parser p)) is.0)
+        ((P.claimed (P.state (repeat_parser p))).takes is.0 is.2) is.3 };
 }
 
 /// It asks for more where an element or a separator does behind some that stand.
@@ -50,7 +56,9 @@ impl<
     E: ParserError<I>,
     A: Allocator + Copy,
 > Begun<I, C, E> for Separated<P, S, I, O, D, C, E, A> {
-    ghost begun = { λ p. Parting (P.claim (P.state (separated_parser p))).grammar (P.begun (separated_parser p)) (S.claim (S.state (separated_separator p))).grammar (S.begun (separated_separator p)) (bounds_of (separated_occurrences p)).greatest };
+    ghost begun = { λ p. Parting (P.claim (P.state (separated_parser p))).grammar
+        (P.begun (separated_parser p)) (S.claim (S.state (separated_separator p))).grammar
+        (S.begun (separated_separator p)) (bounds_of (separated_occurrences p)).greatest };
 
     fn begin() {}
 
@@ -58,5 +66,14 @@ impl<
         (separated_grows (P.meaning modal) (S.meaning modal) C.accumulator (assert_kind modal)
         (grows (P.leaves_ends modal) P.ended) (grows (S.leaves_ends modal) S.ended)) };
 
-    ghost asks = { λ p is. separated_asks C.accumulator (P.state (separated_parser p), S.state (separated_separator p), separated_occurrences p) (part_of (P.claimed (P.state (separated_parser p))) P.leaves_ends P.ended (P.asks (separated_parser p)) is.0) (part_of (S.claimed (S.state (separated_separator p))) S.leaves_ends S.ended (S.asks (separated_separator p)) is.2) ((S.claimed (S.state (separated_separator p))).takes is.2 is.4) is.5 };
+    ghost asks = { λ p is. separated_asks C.accumulator (
+      P.state (separated_parser p),
+      S.state (separated_separator p),
+      separated_occurrences p,
+    )
+        (part_of (P.claimed (P.state (separated_parser p))) P.leaves_ends P.ended
+        (P.asks (separated_parser p)) is.0)
+        (part_of (S.claimed (S.state (separated_separator p))) S.leaves_ends S.ended
+        (S.asks (separated_separator p)) is.2)
+        ((S.claimed (S.state (separated_separator p))).takes is.2 is.4) is.5 };
 }

@@ -18,7 +18,8 @@ use winnow_token::token::impls::TakeUntil;
 /// It asks for more where the literal stands nowhere.
 impl<T: Copy, I: StreamIsPartial + FindSlice<T>, E: ParserError<I>> Begun<I, I::Slice, E>
     for TakeUntil<T, I, E> {
-    ghost begun = { λ p. BeforeBegun I.reading (I.sought (take_until_literal p)) (bounds_of (take_until_occurrences p)) };
+    ghost begun = { λ p. BeforeBegun I.reading (I.sought (take_until_literal p))
+        (bounds_of (take_until_occurrences p)) };
 
     fn begin() {}
 
@@ -26,5 +27,8 @@ impl<T: Copy, I: StreamIsPartial + FindSlice<T>, E: ParserError<I>> Begun<I, I::
         (λ x. take_until_stays I.reading (I.sought x.1) (I.stays_first x.1)
         (bounds_of x.0)) };
 
-    ghost asks = { λ p is. take_until_asks I.reading (λ x. I.sought x.1) (λ x. bounds_of x.0) (take_until_occurrences p, take_until_literal p) is (take_until_decided I.reading modal (λ x. I.sought x.1) (λ x. bounds_of x.0) (take_until_occurrences p, take_until_literal p)) };
+    ghost asks = { λ p is. take_until_asks I.reading (λ x. I.sought x.1) (λ x. bounds_of x.0)
+        (take_until_occurrences p, take_until_literal p) is
+        (take_until_decided I.reading modal (λ x. I.sought x.1) (λ x. bounds_of x.0)
+        (take_until_occurrences p, take_until_literal p)) };
 }
