@@ -1,9 +1,12 @@
 //! Options in brackets, as `[mode=fast,debug]`: a composition of eleven parsers that reads by its
 //! grammar, on a whole input and in pieces.
-ghost use Rattle.std.specs.Prelude.{◌≡◌, []};
-ghost use Rattle.winnow.specs.Form.{modal};
+ghost use Rattle.std.specs.Prelude.{◌≡◌, [], true};
+ghost use Rattle.winnow.specs.Begun.{AsksExactly};
+ghost use Rattle.winnow.specs.Compare.{IsShort};
+ghost use Rattle.winnow.specs.Form.{answer_by, modal};
 ghost use Rattle.winnow.specs.Bytes.{bytes_follow, bytes_input, bytes_reading};
-ghost use Rattle.examples.specs.Options.Options.{AreOptions, OptionsOf};
+ghost use Rattle.examples.specs.Options.Options.{AreOptions, AreOptionsBegun, OptionsBegun};
+ghost use Rattle.examples.specs.Options.Options.{OptionsOf};
 ghost use Rattle.winnow.specs.Exact.{Reads};
 ghost use Rattle.winnow.specs.Cut.{ReadsOrAsks};
 ghost use Rattle.winnow.specs.Once.{SeesApart};
@@ -14,7 +17,7 @@ use winnow::Parser;
 use winnow::ascii::impls::{Alpha1, Alphanumeric1};
 use winnow::combinator::{delimited, opt, preceded, separated};
 use winnow::error::{EmptyError, ErrMode, HasKind, ParserError};
-use winnow::exact::ReadsPieces;
+use winnow::exact::Begun;
 use winnow::stream::{AsChar, Compare, Partial, Range, Stream, StreamIsPartial};
 
 /// Options in brackets, from any stream of bytes.
@@ -27,12 +30,16 @@ where
     requires modal { E.form ≡ modal }
     requires seen { SeesApart I.seen_as }
     requires comma { I.spells 44 [] → ⊥ }
-    ensures { ReadsOrAsks I.reading I.following E.kind (OptionsOf I.reading I.seen_as
+    ensures reads { ReadsOrAsks I.reading I.following E.kind (OptionsOf I.reading I.seen_as
         I.Token.code (Literally I.reading I.spells (λ s _. s))) (I.view input.old) result
         (I.view input.new) }
+    ensures asks { (I.view input.old).status.cut ≡ true → (I.view input.old).left.possible ≡ true
+        → AsksExactly (OptionsBegun I.reading I.seen_as I.Token.code
+        (Literally I.reading I.spells (λ s _. s)) (λ b. IsShort (I.spells b)) A)
+        (I.view input.old) (answer_by E.kind result) }
 {
     let option = (Alpha1, opt(preceded(b'=', Alphanumeric1)));
-    delimited(b'[', separated(alloc, Range::from(0..), option, b','), b']').read_cut(input)
+    delimited(b'[', separated(alloc, Range::from(0..), option, b','), b']').read_asking(input)
 }
 
 /// Options in brackets: names of letters, each with a value of letters and digits behind an equals
@@ -59,7 +66,8 @@ pub fn read_options<'i, A: Allocator + Copy>(
 }
 
 /// As [`read_options`], from an input to which more may come: what it answers there, it answers
-/// whatever follows. Else it asks for more, by `Incomplete`.
+/// whatever follows. It asks for more, by `Incomplete`, exactly where the bytes are the beginning of
+/// options and the next of them is not there (`asks`), want of memory aside.
 ///
 /// ```
 /// use examples::options::read_options_in_pieces;
@@ -74,9 +82,13 @@ pub fn read_options_in_pieces<'i, A: Allocator + Copy>(
     alloc: A,
     input: &mut Partial<&'i [u8]>,
 ) -> Result<Vec<(&'i [u8], Option<&'i [u8]>), A>, ErrMode<EmptyError>>
-    ensures { ReadsOrAsks bytes_reading bytes_follow ⟦<ErrMode<EmptyError> as HasKind>⟧.kind
-        AreOptions (⟦<Partial<&'static [u8]> as Stream>⟧.view input.old) result
+    ensures reads { ReadsOrAsks bytes_reading bytes_follow
+        ⟦<ErrMode<EmptyError> as HasKind>⟧.kind AreOptions
+        (⟦<Partial<&'static [u8]> as Stream>⟧.view input.old) result
         (⟦<Partial<&'static [u8]> as Stream>⟧.view input.new) }
+    ensures asks { (⟦<Partial<&'static [u8]> as Stream>⟧.view input.old).status.cut ≡ true
+        → AsksExactly (AreOptionsBegun A) (⟦<Partial<&'static [u8]> as Stream>⟧.view input.old)
+        (answer_by ⟦<ErrMode<EmptyError> as HasKind>⟧.kind result) }
 {
     options(alloc, input)
 }
