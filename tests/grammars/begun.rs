@@ -65,7 +65,7 @@ fn before_begun(bounds: Bounds, text: &str, tokens: &[u8]) -> bool {
 /// No line end stands anywhere; or the first is a carriage return, and the last token.
 fn line_begun(tokens: &[u8]) -> bool {
     match first_place(tokens, &[b"\r", b"\n"]) {
-        Some(place) => tokens[place..] == *b"\r",
+        Some(place) => &tokens[place..] == b"\r".as_slice(),
         None => true,
     }
 }
