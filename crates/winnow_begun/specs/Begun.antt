@@ -20,6 +20,7 @@ pub mod InOrder
 pub mod Items
 pub mod Leaves
 pub mod Lengths
+pub mod Lines
 pub mod Links
 pub mod Parted
 pub mod Passed

@@ -11,6 +11,7 @@ mod adapters;
 mod basic;
 mod big_integers;
 mod choice;
+mod chosen_integers;
 mod classes;
 mod errors;
 mod lengths;

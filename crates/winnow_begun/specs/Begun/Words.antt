@@ -1,10 +1,11 @@
 -- The words in which it is said where parsers ask for more.
-use Rattle.std.specs.Prelude.{◌⊎◌, ◌≡◌, ◌<◌, ◌≤◌, ℕ, Bool, true, List, [], ◌∷◌, length, Option}
-use Rattle.std.specs.Prelude.{Some}
+use Rattle.std.specs.Prelude.{◌⊎◌, ◌≡◌, ◌<◌, ◌≤◌, ℕ, Bool, true, List, [], ◌∷◌, ◌++◌, length}
+use Rattle.std.specs.Prelude.{Option, Some}
 use Rattle.std.specs.Borrow.{Bor}
 use Rattle.std.specs.List.{All}
 use Rattle.streams.specs.Reading.{Reading}
 use Rattle.grammars.specs.Grammar.{Both, Each, Grammar, NoneStands, SpelledBy}
+use Rattle.grammars.specs.Grammar.Searches.{HasNoLineEnd}
 use Rattle.stream_searches.specs.Compare.{IsShort, StandsFirst}
 use Rattle.stream_searches.specs.FindSlice.{IsFirstMatch}
 use Rattle.stream_sets.specs.AsChar.{IsDecDigit, IsHexDigit}
@@ -103,3 +104,16 @@ LineEndBegun {T} spells tokens =
     ⊎ ((feed : Bor (List ℕ)) × (feed.now ≡ 10 ∷ []) × (StandsFirst (spells feed) tokens → ⊥)
     × (IsShort (spells feed) tokens → ⊥)
     × IsShort (SpelledBy spells (13 ∷ 10 ∷ [])) tokens)
+
+-- No line end stands anywhere; or a carriage return is the first, a line feed behind it is begun,
+-- and a slice shows what stands before it.
+unfoldable pub LineBegun : {T L : Type 0} → Reading T L → (Bor (List ℕ) → List T → Type 0)
+    → (ℕ × ℕ → List T → Type 0) → Begun T
+LineBegun {T} {L} reading spells sought tokens =
+    HasNoLineEnd sought tokens
+    ⊎ ((start : ℕ) × (end : ℕ)
+    × (m : IsFirstMatch reading.units (sought (13, 10)) tokens start end)
+    × (slice : L) × reading.shows slice m.front × (return : Bor (List ℕ))
+    × (both : Bor (List ℕ)) × (return.now ≡ 13 ∷ []) × (both.now ≡ 13 ∷ 10 ∷ [])
+    × StandsFirst (spells return) (m.found ++ m.rest) × IsShort (spells both) (m.found ++ m.rest)
+    × (StandsFirst (spells both) (m.found ++ m.rest) → ⊥))

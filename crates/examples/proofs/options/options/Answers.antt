@@ -12,28 +12,13 @@ asks_by_words : {T O : Type 0} {begun words : Begun T} {i : Input T} {answer : A
 asks_by_words {T} {O} {begun} {words} {i} {answer} asks e = rw e at asks
 
 pub returns-clause-reads : goal.returns-clause-reads
-returns-clause-reads g c = told_by c.read_asking.ensures.reads (rw (
-  c.delimited.ensures.ignored1,
-  c.delimited.ensures.parser,
-  c.delimited.ensures.ignored2,
-  c.separated.ensures.occurrences,
-  c.separated.ensures.parser,
-  c.separated.ensures.separator,
+returns-clause-reads g c = told_by c.in_brackets.ensures.reads (rw (
   c.opt.ensures,
   c.preceded.ensures.ignored,
-  c.from.ensures,
 ))
 
 pub returns-clause-asks : goal.returns-clause-asks
-returns-clause-asks g c is possible = asks_by_words (c.read_asking.ensures.asks is possible) (rw (
-  c.delimited.ensures.ignored1,
-  c.delimited.ensures.parser,
-  c.delimited.ensures.ignored2,
-  c.separated.ensures.occurrences,
-  c.separated.ensures.parser,
-  c.separated.ensures.separator,
+returns-clause-asks g c is possible = asks_by_words (c.in_brackets.ensures.asks is possible) (rw (
   c.opt.ensures,
   c.preceded.ensures.ignored,
-  c.preceded.ensures.parser,
-  c.from.ensures,
 ))
