@@ -1,4 +1,5 @@
 //! Compositions made at random, beside their grammars.
+use crate::begun::is_begun;
 use crate::generator::Generator;
 use crate::leaves::Bytes;
 use crate::random::Random;
@@ -49,8 +50,8 @@ fn answer_by(found: Option<Standing>) -> Result<Standing, Kind> {
     }
 }
 
-/// Of an input that is cut, each answer but a call for more is that of each longer input. How many
-/// such answers there are.
+/// Of an input that is cut, more is asked for exactly where its tokens are begun, and each other
+/// answer is that of each longer input. How many such answers there are.
 fn agrees_when_cut(
     rt: &impl Abort,
     alloc: Global,
@@ -64,7 +65,10 @@ fn agrees_when_cut(
     let mut settled = 0;
     for first in 0..tokens.len() + 1 {
         let got = answer(tree, Partial::new(&tokens[..first]));
-        if !matches!(got, Err(Incomplete(_))) {
+        let asks = matches!(got, Err(Incomplete(_)));
+        let wanted = is_begun(tree, &tokens[..first])?;
+        assert!(rt; asks == wanted, "{tree:?} at the first {first} of {tokens:?}, cut: {got:?}");
+        if !asks {
             settled += 1;
             let is_so = wants[first..].iter().all(|want| *want == got);
             assert!(rt; is_so, "{tree:?} at the first {first} of {tokens:?}, cut: {got:?}");

@@ -122,7 +122,7 @@ impl<'t> Cut<'t> {
 }
 
 /// The first place of the tokens where one of the texts stands.
-fn first_place(tokens: &[u8], sought: &[&[u8]]) -> Option<usize> {
+pub(crate) fn first_place(tokens: &[u8], sought: &[&[u8]]) -> Option<usize> {
     for place in 0..tokens.len() {
         for text in sought {
             if tokens[place..].starts_with(*text) {

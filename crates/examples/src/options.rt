@@ -1,9 +1,12 @@
 //! Options in brackets, as `[mode=fast,debug]`: a composition of eleven parsers that reads by its
 //! grammar, on a whole input and in pieces.
-ghost use Rattle.std.specs.Prelude.{◌≡◌, []};
-ghost use Rattle.winnow.specs.Form.{modal};
+ghost use Rattle.std.specs.Prelude.{◌≡◌, [], true};
+ghost use Rattle.winnow.specs.Begun.{AsksExactly};
+ghost use Rattle.winnow.specs.Compare.{IsShort};
+ghost use Rattle.winnow.specs.Form.{answer_by, modal};
 ghost use Rattle.winnow.specs.Bytes.{bytes_follow, bytes_input, bytes_reading};
-ghost use Rattle.examples.specs.Options.Options.{AreOptions, OptionsOf};
+ghost use Rattle.examples.specs.Options.Options.{AreOptions, AreOptionsBegun, InBrackets};
+ghost use Rattle.examples.specs.Options.Options.{InBracketsBegun, OptionsBegun, OptionsOf};
 ghost use Rattle.winnow.specs.Exact.{Reads};
 ghost use Rattle.winnow.specs.Cut.{ReadsOrAsks};
 ghost use Rattle.winnow.specs.Once.{SeesApart};
@@ -14,8 +17,31 @@ use winnow::Parser;
 use winnow::ascii::impls::{Alpha1, Alphanumeric1};
 use winnow::combinator::{delimited, opt, preceded, separated};
 use winnow::error::{EmptyError, ErrMode, HasKind, ParserError};
-use winnow::exact::ReadsPieces;
+use winnow::exact::Begun;
 use winnow::stream::{AsChar, Compare, Partial, Range, Stream, StreamIsPartial};
+
+/// What `option` reads, with commas between them, in brackets, from any stream of bytes.
+fn in_brackets<I, E, O, A, P>(alloc: A, option: P, input: &mut I) -> Result<Vec<O, A>, E>
+where
+    I: StreamIsPartial + Compare<u8>,
+    E: ParserError<I>,
+    O: Drop,
+    A: Allocator + Copy,
+    P: Begun<I, O, E> + Drop,
+    requires modal { E.form ≡ modal }
+    requires comma { I.spells 44 [] → ⊥ }
+    requires option { P.can_parse option × (P.claim (P.state option)).premise
+        × (P.claim (P.state option)).backtracks }
+    ensures reads { ReadsOrAsks I.reading I.following E.kind
+        (InBrackets (Literally I.reading I.spells (λ s _. s)) (P.claim (P.state option)).grammar)
+        (I.view input.old) result (I.view input.new) }
+    ensures asks { (I.view input.old).status.cut ≡ true → (I.view input.old).left.possible ≡ true
+        → AsksExactly (InBracketsBegun (Literally I.reading I.spells (λ s _. s))
+        (P.claim (P.state option)).grammar A (λ b. IsShort (I.spells b)) (P.begun option))
+        (I.view input.old) (answer_by E.kind result) }
+{
+    delimited(b'[', separated(alloc, Range::from(0..), option, b','), b']').read_asking(input)
+}
 
 /// Options in brackets, from any stream of bytes.
 fn options<I, E, A>(alloc: A, input: &mut I) -> Result<Vec<(I::Slice, Option<I::Slice>), A>, E>
@@ -27,12 +53,15 @@ where
     requires modal { E.form ≡ modal }
     requires seen { SeesApart I.seen_as }
     requires comma { I.spells 44 [] → ⊥ }
-    ensures { ReadsOrAsks I.reading I.following E.kind (OptionsOf I.reading I.seen_as
+    ensures reads { ReadsOrAsks I.reading I.following E.kind (OptionsOf I.reading I.seen_as
         I.Token.code (Literally I.reading I.spells (λ s _. s))) (I.view input.old) result
         (I.view input.new) }
+    ensures asks { (I.view input.old).status.cut ≡ true → (I.view input.old).left.possible ≡ true
+        → AsksExactly (OptionsBegun I.reading I.seen_as I.Token.code
+        (Literally I.reading I.spells (λ s _. s)) A (λ b. IsShort (I.spells b)))
+        (I.view input.old) (answer_by E.kind result) }
 {
-    let option = (Alpha1, opt(preceded(b'=', Alphanumeric1)));
-    delimited(b'[', separated(alloc, Range::from(0..), option, b','), b']').read_cut(input)
+    in_brackets(alloc, (Alpha1, opt(preceded(b'=', Alphanumeric1))), input)
 }
 
 /// Options in brackets: names of letters, each with a value of letters and digits behind an equals
@@ -59,7 +88,8 @@ pub fn read_options<'i, A: Allocator + Copy>(
 }
 
 /// As [`read_options`], from an input to which more may come: what it answers there, it answers
-/// whatever follows. Else it asks for more, by `Incomplete`.
+/// whatever follows. It asks for more, by `Incomplete`, exactly where the bytes are the beginning
+/// of options and the next of them is not there (`asks`), want of memory aside.
 ///
 /// ```
 /// use examples::options::read_options_in_pieces;
@@ -74,9 +104,13 @@ pub fn read_options_in_pieces<'i, A: Allocator + Copy>(
     alloc: A,
     input: &mut Partial<&'i [u8]>,
 ) -> Result<Vec<(&'i [u8], Option<&'i [u8]>), A>, ErrMode<EmptyError>>
-    ensures { ReadsOrAsks bytes_reading bytes_follow ⟦<ErrMode<EmptyError> as HasKind>⟧.kind
-        AreOptions (⟦<Partial<&'static [u8]> as Stream>⟧.view input.old) result
+    ensures reads { ReadsOrAsks bytes_reading bytes_follow
+        ⟦<ErrMode<EmptyError> as HasKind>⟧.kind AreOptions
+        (⟦<Partial<&'static [u8]> as Stream>⟧.view input.old) result
         (⟦<Partial<&'static [u8]> as Stream>⟧.view input.new) }
+    ensures asks { (⟦<Partial<&'static [u8]> as Stream>⟧.view input.old).status.cut ≡ true
+        → AsksExactly (AreOptionsBegun A) (⟦<Partial<&'static [u8]> as Stream>⟧.view input.old)
+        (answer_by ⟦<ErrMode<EmptyError> as HasKind>⟧.kind result) }
 {
     options(alloc, input)
 }

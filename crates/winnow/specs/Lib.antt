@@ -281,3 +281,5 @@ pub use Rattle.winnow_exact.specs.RulePieces
 pub use Rattle.winnow_exact.specs.RunByRun
 pub use Rattle.winnow_exact.specs.Steps
 pub use Rattle.winnow_exact.specs.Told
+-- Where stable parsers ask for more of a cut input.
+pub use Rattle.winnow_begun.specs.Begun

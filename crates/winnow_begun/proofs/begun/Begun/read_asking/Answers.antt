@@ -1,0 +1,19 @@
+use Rattle.winnow_core.specs.Exact.Allowed.{softly}
+use Rattle.winnow_exact.specs.Cut.{told_or_asked}
+use Rattle.winnow_begun.specs.Begun.{asks_told}
+use Rattle.winnow_begun.proofs.begun.Begun.read_asking.Goals as goal
+
+pub returns-clause-reads : goal.returns-clause-reads
+returns-clause-reads g c =
+    let claimed = g.met.Self.Parser.claimed (g.Self.Parser.state c.args.self.now) in
+    let form = g.E.HasKind.form in
+    told_or_asked g.I.Stream.reading g.E.HasKind.kind g.Self.Parser.meaning form
+    c.requires.modal (claimed.exact form c.requires.premise)
+    (softly c.requires.backtracks (claimed.fails form c.requires.premise))
+    g.met.Self.Stable.stable _ c.parse_next.result _ _ c.parse_next.ensures.ends
+    c.parse_next.ensures.ran
+
+pub returns-clause-asks : goal.returns-clause-asks
+returns-clause-asks g c =
+    asks_told g.Self.Parser.meaning g.E.HasKind.form c.requires.modal
+    (g.met.Self.Begun.asks c.args.self.now c.requires.premise) _ _ _ _ c.parse_next.ensures.ran

@@ -1,0 +1,174 @@
+//! Integers of bytes, the lowest first.
+ghost use Rattle.std.specs.Prelude.{⊤};
+ghost use Rattle.stream_errors.specs.Form.{modal};
+ghost use Rattle.streams.specs.Following.{none_follows};
+ghost use Rattle.winnow_begun.specs.Begun.Leaves.{integer_asks};
+ghost use Rattle.winnow_begun.specs.Begun.Words.{Fewer};
+ghost use Rattle.winnow_core.specs.Stable.Grows.{leaf_stays};
+ghost use Rattle.winnow_integers.specs.Integer.{signed_value, unsigned_value};
+ghost use Rattle.winnow_integers.specs.Integer.Laws.{integer_decided, integer_stays};
+ghost use Rattle.winnow_integers.specs.declared.binary.endianness.Endianness.TheVariants.{Little};
+
+use crate::begun::Begun;
+use stream_errors::parser_error::ParserError;
+use streams::byte_stream::ByteStream;
+use streams::stream::StreamIsPartial;
+use winnow_integers::binary::impls::{
+    LeI8, LeI16, LeI24, LeI32, LeI64, LeI128, LeU8, LeU16, LeU24, LeU32, LeU64, LeU128,
+};
+
+/// It asks for more of fewer bytes.
+impl<I: StreamIsPartial + ByteStream, E: ParserError<I>> Begun<I, u8, E> for LeU8 {
+    ghost begun = { λ p. Fewer 1 };
+
+    fn begin() {}
+
+    ghost ended = { leaf_stays none_follows _
+        (λ _. integer_stays 1 (unsigned_value Little) I.reading) };
+
+    ghost asks = { λ p is. integer_asks 1 (λ _. unsigned_value Little) I.reading tt
+        (integer_decided 1 (λ (_ : ⊤). unsigned_value Little) I.reading modal tt) };
+}
+
+/// It asks for more of fewer bytes.
+impl<I: StreamIsPartial + ByteStream, E: ParserError<I>> Begun<I, u16, E> for LeU16 {
+    ghost begun = { λ p. Fewer 2 };
+
+    fn begin() {}
+
+    ghost ended = { leaf_stays none_follows _
+        (λ _. integer_stays 2 (unsigned_value Little) I.reading) };
+
+    ghost asks = { λ p is. integer_asks 2 (λ _. unsigned_value Little) I.reading tt
+        (integer_decided 2 (λ (_ : ⊤). unsigned_value Little) I.reading modal tt) };
+}
+
+/// It asks for more of fewer bytes.
+impl<I: StreamIsPartial + ByteStream, E: ParserError<I>> Begun<I, u32, E> for LeU24 {
+    ghost begun = { λ p. Fewer 3 };
+
+    fn begin() {}
+
+    ghost ended = { leaf_stays none_follows _
+        (λ _. integer_stays 3 (unsigned_value Little) I.reading) };
+
+    ghost asks = { λ p is. integer_asks 3 (λ _. unsigned_value Little) I.reading tt
+        (integer_decided 3 (λ (_ : ⊤). unsigned_value Little) I.reading modal tt) };
+}
+
+/// It asks for more of fewer bytes.
+impl<I: StreamIsPartial + ByteStream, E: ParserError<I>> Begun<I, u32, E> for LeU32 {
+    ghost begun = { λ p. Fewer 4 };
+
+    fn begin() {}
+
+    ghost ended = { leaf_stays none_follows _
+        (λ _. integer_stays 4 (unsigned_value Little) I.reading) };
+
+    ghost asks = { λ p is. integer_asks 4 (λ _. unsigned_value Little) I.reading tt
+        (integer_decided 4 (λ (_ : ⊤). unsigned_value Little) I.reading modal tt) };
+}
+
+/// It asks for more of fewer bytes.
+impl<I: StreamIsPartial + ByteStream, E: ParserError<I>> Begun<I, u64, E> for LeU64 {
+    ghost begun = { λ p. Fewer 8 };
+
+    fn begin() {}
+
+    ghost ended = { leaf_stays none_follows _
+        (λ _. integer_stays 8 (unsigned_value Little) I.reading) };
+
+    ghost asks = { λ p is. integer_asks 8 (λ _. unsigned_value Little) I.reading tt
+        (integer_decided 8 (λ (_ : ⊤). unsigned_value Little) I.reading modal tt) };
+}
+
+/// It asks for more of fewer bytes.
+impl<I: StreamIsPartial + ByteStream, E: ParserError<I>> Begun<I, u128, E> for LeU128 {
+    ghost begun = { λ p. Fewer 16 };
+
+    fn begin() {}
+
+    ghost ended = { leaf_stays none_follows _
+        (λ _. integer_stays 16 (unsigned_value Little) I.reading) };
+
+    ghost asks = { λ p is. integer_asks 16 (λ _. unsigned_value Little) I.reading tt
+        (integer_decided 16 (λ (_ : ⊤). unsigned_value Little) I.reading modal tt) };
+}
+
+/// It asks for more of fewer bytes.
+impl<I: StreamIsPartial + ByteStream, E: ParserError<I>> Begun<I, i8, E> for LeI8 {
+    ghost begun = { λ p. Fewer 1 };
+
+    fn begin() {}
+
+    ghost ended = { leaf_stays none_follows _
+        (λ _. integer_stays 1 (signed_value Little) I.reading) };
+
+    ghost asks = { λ p is. integer_asks 1 (λ _. signed_value Little) I.reading tt
+        (integer_decided 1 (λ (_ : ⊤). signed_value Little) I.reading modal tt) };
+}
+
+/// It asks for more of fewer bytes.
+impl<I: StreamIsPartial + ByteStream, E: ParserError<I>> Begun<I, i16, E> for LeI16 {
+    ghost begun = { λ p. Fewer 2 };
+
+    fn begin() {}
+
+    ghost ended = { leaf_stays none_follows _
+        (λ _. integer_stays 2 (signed_value Little) I.reading) };
+
+    ghost asks = { λ p is. integer_asks 2 (λ _. signed_value Little) I.reading tt
+        (integer_decided 2 (λ (_ : ⊤). signed_value Little) I.reading modal tt) };
+}
+
+/// It asks for more of fewer bytes.
+impl<I: StreamIsPartial + ByteStream, E: ParserError<I>> Begun<I, i32, E> for LeI24 {
+    ghost begun = { λ p. Fewer 3 };
+
+    fn begin() {}
+
+    ghost ended = { leaf_stays none_follows _
+        (λ _. integer_stays 3 (signed_value Little) I.reading) };
+
+    ghost asks = { λ p is. integer_asks 3 (λ _. signed_value Little) I.reading tt
+        (integer_decided 3 (λ (_ : ⊤). signed_value Little) I.reading modal tt) };
+}
+
+/// It asks for more of fewer bytes.
+impl<I: StreamIsPartial + ByteStream, E: ParserError<I>> Begun<I, i32, E> for LeI32 {
+    ghost begun = { λ p. Fewer 4 };
+
+    fn begin() {}
+
+    ghost ended = { leaf_stays none_follows _
+        (λ _. integer_stays 4 (signed_value Little) I.reading) };
+
+    ghost asks = { λ p is. integer_asks 4 (λ _. signed_value Little) I.reading tt
+        (integer_decided 4 (λ (_ : ⊤). signed_value Little) I.reading modal tt) };
+}
+
+/// It asks for more of fewer bytes.
+impl<I: StreamIsPartial + ByteStream, E: ParserError<I>> Begun<I, i64, E> for LeI64 {
+    ghost begun = { λ p. Fewer 8 };
+
+    fn begin() {}
+
+    ghost ended = { leaf_stays none_follows _
+        (λ _. integer_stays 8 (signed_value Little) I.reading) };
+
+    ghost asks = { λ p is. integer_asks 8 (λ _. signed_value Little) I.reading tt
+        (integer_decided 8 (λ (_ : ⊤). signed_value Little) I.reading modal tt) };
+}
+
+/// It asks for more of fewer bytes.
+impl<I: StreamIsPartial + ByteStream, E: ParserError<I>> Begun<I, i128, E> for LeI128 {
+    ghost begun = { λ p. Fewer 16 };
+
+    fn begin() {}
+
+    ghost ended = { leaf_stays none_follows _
+        (λ _. integer_stays 16 (signed_value Little) I.reading) };
+
+    ghost asks = { λ p is. integer_asks 16 (λ _. signed_value Little) I.reading tt
+        (integer_decided 16 (λ (_ : ⊤). signed_value Little) I.reading modal tt) };
+}

@@ -1,0 +1,4 @@
+//! Where stable parsers ask for more of a cut input.
+#![tactic(auto)]
+
+pub mod begun;
