@@ -1,0 +1,5 @@
+pub mod Deeper
+pub mod Dues
+pub mod FirstLines
+pub mod LineEnds
+pub mod Passing
