@@ -113,19 +113,19 @@ size_small n xs (z, (ys, (sign, digits, is, fits, d), e), s) = small_size n z fi
 
 bulk_back : (size : Option ℕ) (xs : List ℕ) → Behind (bulk_head size) xs
     → (reply : Replies ⊤) × BulkBehind size reply xs
-bulk_back None xs empty = (made.NullBulk, refl, empty)
-bulk_back (Some n) xs (bulk, t) = (made.Bulk bulk, bulk, refl, t)
+bulk_back None xs empty = (made.NullBulk, (refl, empty))
+bulk_back (Some n) xs (bulk, t) = (made.Bulk bulk, (bulk, refl, t))
 
 array_back : (size : Option ℕ) (us xs : List ℕ) → SizeText size us → Behind (array_head size) xs
     → (level : ℕ) × (reply : Replies ⊤) × ArrayBehind (Elements level) size reply xs
 unfolding Elements
-array_back None us xs s empty = (0, made.NullArray, refl, empty)
+array_back None us xs s empty = (0, made.NullArray, (refl, empty))
 array_back (Some n) us xs s many =
     let (level, os, count, row) = gather n xs many in
     let small = size_small n us s in
     let (list, same) = list_for os (omega (arith, count, small)) in
     let P : List (Replies ⊤) → Type 0 = λ l. (length l ≡ n) × Row (ReplyText level) l xs in
-    (suc level, made.Array list, list, refl, subst P (sym same) (count, row))
+    (suc level, made.Array list, (list, refl, subst P (sym same) (count, row)))
 
 body_back : (mark : Mark) (head : Head) (us vs : List ℕ) → Says mark head us → Behind head vs
     → (level : ℕ) × (reply : Replies ⊤) × Body (Elements level) mark reply (us ++ vs)
@@ -135,36 +135,42 @@ body_back Plus head us vs (line, is, t) behind =
     let Q : List ℕ → Type 0 = λ l. LineText line l in (
       0,
       made.Simple line,
-      line,
-      refl,
-      subst Q (sym (append-nil us) ∙ ap (λ l. us ++ l) (sym (subst P is behind))) t,
+      (
+        line,
+        refl,
+        subst Q (sym (append-nil us) ∙ ap (λ l. us ++ l) (sym (subst P is behind))) t,
+      ),
     )
 body_back Minus head us vs (line, is, t) behind =
     let P : Head → Type 0 = λ h. Behind h vs in
     let Q : List ℕ → Type 0 = λ l. LineText line l in (
       0,
       made.Error line,
-      line,
-      refl,
-      subst Q (sym (append-nil us) ∙ ap (λ l. us ++ l) (sym (subst P is behind))) t,
+      (
+        line,
+        refl,
+        subst Q (sym (append-nil us) ∙ ap (λ l. us ++ l) (sym (subst P is behind))) t,
+      ),
     )
 body_back Colon head us vs (n, is, t) behind =
     let P : Head → Type 0 = λ h. Behind h vs in
     let Q : List ℕ → Type 0 = λ l. IntegerText n l in (
       0,
       made.Integer n,
-      n,
-      refl,
-      subst Q (sym (append-nil us) ∙ ap (λ l. us ++ l) (sym (subst P is behind))) t,
+      (
+        n,
+        refl,
+        subst Q (sym (append-nil us) ∙ ap (λ l. us ++ l) (sym (subst P is behind))) t,
+      ),
     )
 body_back Dollar head us vs (size, is, s) behind =
     let P : Head → Type 0 = λ h. Behind h vs in
     let (reply, b) = bulk_back size vs (subst P is behind) in
-    (0, reply, size, us, vs, s, b, refl)
+    (0, reply, (size, us, vs, s, b, refl))
 body_back Star head us vs (size, is, s) behind =
     let P : Head → Type 0 = λ h. Behind h vs in
     let (level, reply, b) = array_back size us vs s (subst P is behind) in
-    (level, reply, size, us, vs, s, b, refl)
+    (level, reply, (size, us, vs, s, b, refl))
 
 pub head_back : (head : Head) (us vs : List ℕ) → HeadText head us → Behind head vs
     → IsReply (us ++ vs)
@@ -173,12 +179,7 @@ head_back head us vs (mark, ms, bs, m, says, d) behind =
     let (level, reply, body) = body_back mark head bs vs says behind in (
       level,
       reply,
-      mark,
-      ms,
-      bs ++ vs,
-      m,
-      body,
-      ap (λ l. l ++ vs) d ∙ append_assoc ms bs vs,
+      (mark, ms, bs ++ vs, m, body, ap (λ l. l ++ vs) d ∙ append_assoc ms bs vs),
     )
 
 -- ---- so many replies, and so many more

@@ -5,16 +5,92 @@ use Rattle.std.specs.Borrow.{Bor}
 use Rattle.std.specs.List.{AllByRecursion}
 use Rattle.std.proofs.Common.{refl, sym, ap, subst, inl, inr, ◌∙◌, arith, append_assoc}
 use Rattle.std.proofs.Common.{length-append}
-use Rattle.std.proofs.lemmas.List.{append-nil, drop_at, take-append-le}
+use Rattle.std.proofs.lemmas.List.{append-nil, drop_at, length-take-le, take-append-drop}
+use Rattle.std.proofs.lemmas.List.{take-append-le}
+use Rattle.std.specs.Prelude.{Err, OnOk, Result}
+use Rattle.std.specs.Result.{IsErrAnd}
+use Rattle.winnow.specs.Grammar.Known.{slice_for}
+use Rattle.winnow.specs.Grammar.Lengths.{same_beginnings}
 use Rattle.winnow.specs.InTurn.{First, Led}
+use Rattle.winnow.specs.Texts.{SoMany}
 use Rattle.format_resp.proofs.Dues.{data_passed, head_there, line_passed, small_head}
 use Rattle.format_resp.proofs.LineEnds.{unseen_rest}
-use Rattle.format_resp.specs.Extents.{AreDue, AreReplies, IsOf, IsReply, IsTold, Passed}
+use Rattle.format_resp.specs.Extents.{AreDue, AreReplies, IsDataEnd, IsLineEnd, IsOf, IsPart}
+use Rattle.format_resp.specs.Extents.{IsReply, IsTold, PartFound, Passed}
 use Rattle.format_resp.specs.Extents.{Stands, count_after, data_after}
 use Rattle.format_resp.specs.Heads.{HeadText}
-use Rattle.format_resp.specs.Resp.{DataText, Ended, InLine, MarkText}
+use Rattle.format_resp.specs.Resp.{DataText, Ended, InLine, MarkText, line_end}
 use Rattle.format_resp.specs.declared.extent.Extent.{Extent}
+use Rattle.format_resp.specs.declared.extent.Refused.{Refused}
 use Rattle.format_resp.specs.declared.heads.Head.{Head}
+
+-- ---- the bytes of a bulk string, and the line end behind them
+
+-- fewer bytes are there
+pub data_short : (size : ℕ) (tokens : List ℕ)
+    → (length tokens < size) ⊎ (length tokens < length tokens) → (bulk : Bor (List ℕ))
+    (left : List ℕ) → First (DataText size) tokens bulk left → ⊥
+unfolding First DataText Ended SoMany
+data_short size tokens (inl less) bulk left (front, (xs, (many, shown), e), d) =
+    omega (arith, less, many, ap (λ l. length l) d, ap (λ l. length l) e,
+        length-append front left, length-append xs line_end)
+data_short size tokens (inr less) bulk left x = omega (arith, less)
+
+-- what stands behind so many bytes
+behind_is : (size : ℕ) (tokens behind more xs rest : List ℕ) → size ≤ length tokens
+    → tokens ≡ take size tokens ++ behind → length xs ≡ size
+    → tokens ++ more ≡ (xs ++ line_end) ++ rest → behind ++ more ≡ line_end ++ rest
+behind_is size tokens behind more xs rest enough split many e =
+    (same_beginnings (take size tokens) xs (behind ++ more) (line_end ++ rest)
+    (length-take-le size tokens enough ∙ sym many)
+    (sym (append_assoc (take size tokens) behind more) ∙ ap (λ l. l ++ more) (sym split) ∙ e
+    ∙ append_assoc xs line_end rest)).1
+
+pub data_end : (size : ℕ) (tokens behind : List ℕ) → size ≤ length tokens
+    → behind ≡ take (length tokens - size) (drop size tokens) → (r : PartFound)
+    → IsLineEnd behind r → IsDataEnd size tokens r
+unfolding First DataText Ended SoMany
+data_end size tokens behind enough is (Ok (Some left)) ends =
+    let split : tokens ≡ take size tokens ++ behind = sym (take-append-drop size tokens)
+    ∙ ap (λ l. take size tokens ++ l) (sym (unseen_rest tokens behind size is)) in
+    let (slice, shown) = slice_for (take size tokens) in (
+      slice,
+      (
+        take size tokens ++ line_end,
+        (take size tokens, (length-take-le size tokens enough, shown), refl),
+        split ∙ ap (λ l. take size tokens ++ l) ends
+            ∙ sym (append_assoc (take size tokens) line_end left.now),
+      ),
+    )
+data_end size tokens behind enough is (Ok None) none =
+    let split : tokens ≡ take size tokens ++ behind = sym (take-append-drop size tokens)
+    ∙ ap (λ l. take size tokens ++ l) (sym (unseen_rest tokens behind size is)) in
+    λ bulk left (front, (xs, (many, shown), e), d).
+        none left (sym (append-nil behind)
+        ∙ behind_is size tokens behind [] xs left enough split many
+        (append-nil tokens ∙ d ∙ ap (λ l. l ++ left) e))
+data_end size tokens behind enough is (Err refused) none =
+    let split : tokens ≡ take size tokens ++ behind = sym (take-append-drop size tokens)
+    ∙ ap (λ l. take size tokens ++ l) (sym (unseen_rest tokens behind size is)) in
+    λ more bulk left (front, (xs, (many, shown), e), d).
+        none more left (behind_is size tokens behind more xs left enough split many
+        (d ∙ ap (λ l. l ++ left) e))
+
+-- an error that is passed on
+pub err_part : (f : Extent) (tokens rest : List ℕ) (r : PartFound) {e : Refused}
+    → IsErrAnd r (λ y. y ≡ e)
+    → ((more left : List ℕ) → Stands IsReply (tokens ++ more) left → ⊥)
+    → IsPart f tokens rest r
+err_part f tokens rest (Ok o) is none = absurd is
+err_part f tokens rest (Err y) is none = none
+
+pub err_told : (tokens : List ℕ) (r : Result (Option ℕ) Refused) {e : Refused}
+    → IsErrAnd r (λ y. y ≡ e)
+    → ((more left : List ℕ) → Stands IsReply (tokens ++ more) left → ⊥) → IsTold tokens r
+err_told tokens (Ok o) is none = absurd is
+err_told tokens (Err y) is none = none
+
+-- ---- parts
 
 -- nothing is sought in nothing
 pub all_none : (xs : List ℕ) → AllByRecursion InLine (take 0 xs)
@@ -126,23 +202,23 @@ module _ (e : Extent) (tokens rest : List ℕ) (p : Passed e tokens rest) where
   pub line_open : (n : ℕ) → e.bulk ≡ None → e.replies ≡ suc n
       → ((head : Head) (left : List ℕ) → First HeadText rest head left → ⊥) → (left : List ℕ)
       → Stands IsReply tokens left → ⊥
-  line_open n none one no =
+  line_open n none one never =
       let P : Option ℕ → Type 0 = λ d. (left : List ℕ) → Stands (AreDue d e.replies) rest left
           → ⊥ in
       let Q : ℕ → Type 0 = λ m. (left : List ℕ) → Stands (AreDue None m) rest left → ⊥ in
-      none_due (subst P (sym none) (subst Q (sym one) (no_line n rest no)))
+      none_due (subst P (sym none) (subst Q (sym one) (no_line n rest never)))
 
   -- and never will be
   pub line_never : (n : ℕ) → e.bulk ≡ None → e.replies ≡ suc n
       → ((more : List ℕ) (head : Head) (left : List ℕ) → First HeadText (rest ++ more) head left
       → ⊥) → (more left : List ℕ) → Stands IsReply (tokens ++ more) left → ⊥
-  line_never n none one no =
+  line_never n none one never =
       let P : Option ℕ → Type 0 = λ d. (more left : List ℕ)
           → Stands (AreDue d e.replies) (rest ++ more) left → ⊥ in
       let Q : ℕ → Type 0 = λ m. (more left : List ℕ) → Stands (AreDue None m) (rest ++ more) left
           → ⊥ in
       never_due (subst P (sym none) (subst Q (sym one)
-      (λ more. no_line n (rest ++ more) (no more))))
+      (λ more. no_line n (rest ++ more) (never more))))
 
   -- more replies than fit are never due
   pub line_fits : (n : ℕ) (head : Head) (left : List ℕ) → e.replies ≡ suc n
@@ -176,19 +252,19 @@ module _ (e : Extent) (tokens rest : List ℕ) (p : Passed e tokens rest) where
   pub data_open : (size : ℕ) → e.bulk ≡ Some size
       → ((bulk : Bor (List ℕ)) (left : List ℕ) → First (DataText size) rest bulk left → ⊥)
       → (left : List ℕ) → Stands IsReply tokens left → ⊥
-  data_open size some no =
+  data_open size some never =
       let P : Option ℕ → Type 0 = λ d. (left : List ℕ) → Stands (AreDue d e.replies) rest left
           → ⊥ in
-      none_due (subst P (sym some) (no_data size e.replies rest no))
+      none_due (subst P (sym some) (no_data size e.replies rest never))
 
   pub data_never : (size : ℕ) → e.bulk ≡ Some size
       → ((more : List ℕ) (bulk : Bor (List ℕ)) (left : List ℕ)
       → First (DataText size) (rest ++ more) bulk left → ⊥) → (more left : List ℕ)
       → Stands IsReply (tokens ++ more) left → ⊥
-  data_never size some no =
+  data_never size some never =
       let P : Option ℕ → Type 0 = λ d. (more left : List ℕ)
           → Stands (AreDue d e.replies) (rest ++ more) left → ⊥ in
-      never_due (subst P (sym some) (λ more. no_data size e.replies (rest ++ more) (no more)))
+      never_due (subst P (sym some) (λ more. no_data size e.replies (rest ++ more) (never more)))
 
   -- where nothing is due the reply is what is passed
   pub all_passed : e.bulk ≡ None → e.replies ≡ 0 → IsTold tokens (Ok (Some e.passed))
@@ -287,3 +363,13 @@ none_passed e tokens passed sought none one = (tokens, record {
         f ∙ ap (λ l. l ++ left) (d ∙ ap (λ l. us ++ l) empty ∙ append-nil us),
       ),
     )
+
+-- what is kept of bytes is kept of more
+pub kept_more : (r : Result (Option ℕ) Refused) (e f : Extent) (tokens left : List ℕ)
+    → left ≡ take (length tokens - e.passed) (drop e.passed tokens)
+    → OnOk r (Passed e tokens left → (rest : List ℕ) × Passed f tokens rest)
+    → OnOk r (IsOf e tokens → (more : List ℕ) → IsOf f (tokens ++ more))
+kept_more (Ok o) e f tokens left is kept = λ (rest, p) more.
+    let (after, q) = kept (left_is e tokens rest p left is) in
+    (after ++ more, more_passed f tokens after q more)
+kept_more (Err y) e f tokens left is kept = tt
