@@ -1,5 +1,5 @@
 -- A reply of a level is one of each higher level.
-use Rattle.std.specs.Prelude.{◌≡◌, ◌+◌, ◌<◌, ◌^◌, ⊤, ℕ, zero, suc, List, [], ◌∷◌, ◌++◌, length}
+use Rattle.std.specs.Prelude.{◌≡◌, ◌+◌, ◌<◌, ◌^◌, ⊤, ℕ, zero, suc, List, [], ◌∷◌, length}
 use Rattle.std.specs.Prelude.{Option, Some, None}
 use Rattle.std.specs.declared.vec.Vec.{Vec}
 use denote.RawPtr.{null_ptr}
@@ -7,7 +7,6 @@ use Rattle.std.proofs.Common.{refl, subst, arith}
 use Rattle.winnow.specs.InTurn.{Led}
 use Rattle.winnow.specs.Texts.{Row, Text}
 use Rattle.format_resp.specs.Resp.{ArrayBehind, Body, Elements, MarkText, Replies, ReplyText}
-use Rattle.format_resp.specs.Resp.{SizeText}
 use Rattle.format_resp.specs.declared.leaves.Mark.{Mark}
 use Rattle.format_resp.specs.declared.leaves.Mark.TheVariants.{Colon, Dollar, Minus, Plus, Star}
 
@@ -64,12 +63,15 @@ module _ {A : Type 0} where
 -- in the logic there is a list of each few elements
 pub list_for : {T : Type 0} (xs : List T) → length xs < 2 ^ 63
     → (list : Vec T ⊤) × (list.items ≡ xs)
-list_for xs few = (record {
-  ptr = null_ptr;
-  len = length xs;
-  cap = length xs;
-  alloc = tt;
-  items = xs;
-  ok = (refl, omega arith);
-  small = omega (arith, few);
-}, refl)
+list_for xs few = (
+  record {
+    ptr = null_ptr;
+    len = length xs;
+    cap = length xs;
+    alloc = tt;
+    items = xs;
+    ok = (refl, omega arith);
+    small = omega (arith, few);
+  },
+  refl,
+)

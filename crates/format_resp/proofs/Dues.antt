@@ -1,13 +1,12 @@
 -- What is due behind what is passed of a reply.
 use Rattle.std.specs.Prelude.{◌≡◌, ◌↔◌, ◌<◌, ◌≤◌, ◌+◌, ◌^◌, ⊤, ℕ, ℤ, zero, suc, List, [], ◌∷◌, ◌++◌}
-use Rattle.std.specs.Prelude.{length, Option, Some, None, pos, FitsSigned, unsigned_abs}
+use Rattle.std.specs.Prelude.{length, Option, Some, None, pos, FitsSigned}
 use Rattle.std.specs.Borrow.{Bor}
-use Rattle.std.specs.Int.{FitsUnsignedBits, w64}
-use Rattle.std.specs.declared.vec.Vec.{Vec}
+use Rattle.std.specs.Int.{w64}
 use Rattle.std.proofs.Common.{refl, sym, ap, subst, ◌∙◌, arith, append_assoc}
 use Rattle.std.proofs.lemmas.List.{append-nil}
 use Rattle.winnow.specs.InTurn.{First, Led}
-use Rattle.winnow.specs.Texts.{Row, Text}
+use Rattle.winnow.specs.Texts.{Row}
 use Rattle.format_resp.proofs.Deeper.{deeper, list_for, row_as}
 use Rattle.format_resp.proofs.FirstLines.{head_splits}
 use Rattle.format_resp.specs.Extents.{AreDue, AreReplies, IsReply, Stands, count_after}
@@ -15,7 +14,7 @@ use Rattle.format_resp.specs.Extents.{data_after}
 use Rattle.format_resp.specs.Heads.{HeadText, Says, array_head, bulk_head}
 use Rattle.format_resp.specs.Read.{data_unique}
 use Rattle.format_resp.specs.Resp.{ArrayBehind, Body, BulkBehind, DataText, Elements, Ended}
-use Rattle.format_resp.specs.Resp.{IntegerText, IsSize, LineText, MarkText, Replies}
+use Rattle.format_resp.specs.Resp.{IntegerText, IsSize, LineText, Replies}
 use Rattle.format_resp.specs.Resp.{ReplyText, SignedText, SizeText}
 use Rattle.format_resp.specs.declared.heads.Head.{Head}
 use Rattle.format_resp.specs.declared.heads.Head.TheVariants as heads
@@ -270,9 +269,12 @@ unfolding First
 data_passed size n bulk tokens left (hs, text, f) rest = (
   λ (front, (other, xs, ys, t, many, e), d).
       let split : tokens ≡ xs ++ (ys ++ rest) =
-      d ∙ ap (λ l. l ++ rest) e ∙ append_assoc xs ys rest in
-      (ys, many, sym ((data_unique size).one tokens other bulk (ys ++ rest) left (xs, t, split)
-      (hs, text, f))),
+      d ∙ ap (λ l. l ++ rest) e ∙ append_assoc xs ys rest in (
+        ys,
+        many,
+        sym ((data_unique size).one tokens other bulk (ys ++ rest) left (xs, t, split)
+            (hs, text, f)),
+      ),
   λ (front, many, d). (
     hs ++ front,
     (bulk, hs, front, text, many, refl),

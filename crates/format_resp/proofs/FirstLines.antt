@@ -6,7 +6,6 @@ use Rattle.std.specs.Borrow.{Bor}
 use Rattle.std.specs.List.{AllByRecursion}
 use Rattle.std.proofs.Common.{refl, sym, ap, subst, ◌∙◌, arith, append_assoc, length-append}
 use Rattle.std.proofs.lemmas.List.Elements.{All-from_recursion, recursion_from_All}
-use Rattle.winnow.specs.Bytes.{bytes_reading}
 use Rattle.winnow.specs.Equal.{same_first, same_others}
 use Rattle.winnow.specs.Grammar.{IsUnique}
 use Rattle.winnow.specs.Grammar.Known.{slice_for}
@@ -88,8 +87,12 @@ size_says size line (n, s, is) = (n, number_says n line s, is)
 -- and back
 ended_one : (xs ys : List ℕ) → xs ++ line_end ≡ ys ++ line_end → xs ≡ ys
 ended_one xs ys e =
-    (same_beginnings xs ys line_end line_end (omega (arith, ap (λ l. length l) e,
-    length-append xs line_end, length-append ys line_end)) e).0
+    (same_beginnings xs ys line_end line_end (omega (
+      arith,
+      ap (λ l. length l) e,
+      length-append xs line_end,
+      length-append ys line_end,
+    )) e).0
 
 pub says_number : (n : ℤ) (line : List ℕ) → IntegerText n (line ++ line_end) → SignedText n line
 unfolding IntegerText Ended
@@ -133,7 +136,8 @@ unfolding First Led MarkText
 start_stands mark head byte tokens text line left is split (all, e) says = (
   byte_of mark ∷ (line ++ line_end),
   (mark, byte_of mark ∷ [], line ++ line_end, refl, says, refl),
-  split ∙ ap (λ b. b ∷ text) is ∙ ap (λ l. byte_of mark ∷ l) (e ∙ sym (append_assoc line line_end left)),
+  split ∙ ap (λ b. b ∷ text) is
+      ∙ ap (λ l. byte_of mark ∷ l) (e ∙ sym (append_assoc line line_end left)),
 )
 
 pub start_line : (head : Head) (byte : ℕ) (text rest : List ℕ)

@@ -1,8 +1,10 @@
 -- Where a line ends: at the first byte that is in none.
-use Rattle.std.specs.Prelude.{◌≡◌, ◌≤◌, ◌<◌, ◌+◌, ℕ, zero, suc, List, [], ◌∷◌, ◌++◌, length, take, drop}
+use Rattle.std.specs.Prelude.{◌≡◌, ◌≤◌, ◌<◌, ◌+◌, ℕ, zero, suc, List, [], ◌∷◌, ◌++◌, length, take}
+use Rattle.std.specs.Prelude.{drop}
 use Rattle.std.specs.Prelude.{◌-◌, ◌⊎◌, slice_index, true}
 use Rattle.std.specs.List.{AllByRecursion}
-use Rattle.std.proofs.Common.{refl, sym, ap, subst, inl, inr, ◌∙◌, arith, append_assoc, get_or, length-append, length-drop}
+use Rattle.std.proofs.Common.{refl, sym, ap, subst, inl, inr, ◌∙◌, arith, append_assoc, get_or}
+use Rattle.std.proofs.Common.{length-append, length-drop}
 use Rattle.std.proofs.Math.Seq.{take-add, take-append_seam}
 use Rattle.std.proofs.lemmas.Bool.Decides.{nat_tests}
 use Rattle.std.proofs.lemmas.List.{get_or-drop, take_all}
@@ -78,10 +80,12 @@ feed_ends : (c : ℕ) → c ≡ 10 → InLine c → ⊥
 feed_ends c e a = a.1 e
 
 -- a return alone is no line end yet
-pub open_none : (xs line rest : List ℕ) → AllByRecursion InLine xs → EndsLine (xs ++ (13 ∷ [])) line rest
+pub open_none : (xs line rest : List ℕ) → AllByRecursion InLine xs
+    → EndsLine (xs ++ (13 ∷ [])) line rest
     → ⊥
 open_none xs line rest a (b, e) =
-    let (same, first, left) = until_end 13 13 xs line [] (10 ∷ rest) a b return_ends return_ends e in
+    let (same, first, left) =
+    until_end 13 13 xs line [] (10 ∷ rest) a b return_ends return_ends e in
     cc
 
 -- a feed alone never is

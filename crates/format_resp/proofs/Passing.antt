@@ -1,5 +1,5 @@
 -- What is passed of some bytes, a part more.
-use Rattle.std.specs.Prelude.{◌≡◌, ◌↔◌, ◌<◌, ◌≤◌, ◌+◌, ◌-◌, ◌*◌, ◌^◌, ◌⊎◌, ⊤, ℕ, ℤ, zero, suc}
+use Rattle.std.specs.Prelude.{◌≡◌, ◌↔◌, ◌<◌, ◌≤◌, ◌+◌, ◌-◌, ◌*◌, ◌^◌, ◌⊎◌, ℕ, suc}
 use Rattle.std.specs.Prelude.{List, [], ◌∷◌, ◌++◌, length, take, drop, Option, Some, None, Ok}
 use Rattle.std.specs.Borrow.{Bor}
 use Rattle.std.specs.List.{AllByRecursion}
@@ -32,8 +32,15 @@ pub data_short : (size : ℕ) (tokens : List ℕ)
     (left : List ℕ) → First (DataText size) tokens bulk left → ⊥
 unfolding First DataText Ended SoMany
 data_short size tokens (inl less) bulk left (front, (xs, (many, shown), e), d) =
-    omega (arith, less, many, ap (λ l. length l) d, ap (λ l. length l) e,
-        length-append front left, length-append xs line_end)
+    omega (
+      arith,
+      less,
+      many,
+      ap (λ l. length l) d,
+      ap (λ l. length l) e,
+      length-append front left,
+      length-append xs line_end,
+    )
 data_short size tokens (inr less) bulk left x = omega (arith, less)
 
 -- what stands behind so many bytes
@@ -66,15 +73,15 @@ data_end size tokens behind enough is (Ok None) none =
     let split : tokens ≡ take size tokens ++ behind = sym (take-append-drop size tokens)
     ∙ ap (λ l. take size tokens ++ l) (sym (unseen_rest tokens behind size is)) in
     λ bulk left (front, (xs, (many, shown), e), d).
-        none left (sym (append-nil behind)
-        ∙ behind_is size tokens behind [] xs left enough split many
-        (append-nil tokens ∙ d ∙ ap (λ l. l ++ left) e))
+    none left (sym (append-nil behind)
+    ∙ behind_is size tokens behind [] xs left enough split many
+    (append-nil tokens ∙ d ∙ ap (λ l. l ++ left) e))
 data_end size tokens behind enough is (Err refused) none =
     let split : tokens ≡ take size tokens ++ behind = sym (take-append-drop size tokens)
     ∙ ap (λ l. take size tokens ++ l) (sym (unseen_rest tokens behind size is)) in
     λ more bulk left (front, (xs, (many, shown), e), d).
-        none more left (behind_is size tokens behind more xs left enough split many
-        (d ∙ ap (λ l. l ++ left) e))
+    none more left (behind_is size tokens behind more xs left enough split many
+    (d ∙ ap (λ l. l ++ left) e))
 
 -- an error that is passed on
 pub err_part : (f : Extent) (tokens rest : List ℕ) (r : PartFound) {e : Refused}
@@ -174,8 +181,17 @@ module _ (e : Extent) (tokens rest : List ℕ) (p : Passed e tokens rest) where
       all = p.split ∙ ap (λ l. p.front ++ l) split ∙ sym (append_assoc p.front part left)
 
       fewer : f.replies ≤ 2 ^ 64 * f.passed + 1
-      fewer = omega (arith, few, p.few, count, some, p.count, ap (λ l. length l) all,
-          length-append (p.front ++ part) left, length-append p.front part)
+      fewer = omega (
+        arith,
+        few,
+        p.few,
+        count,
+        some,
+        p.count,
+        ap (λ l. length l) all,
+        length-append (p.front ++ part) left,
+        length-append p.front part,
+      )
 
   -- a first line is
   pub line_part : (f : Extent) (n : ℕ) (head : Head) (left : List ℕ) → e.bulk ≡ None
@@ -185,14 +201,14 @@ module _ (e : Extent) (tokens rest : List ℕ) (p : Passed e tokens rest) where
   unfolding First
   line_part f n head left none one (part, text, split) count sought bulk replies =
       let P : Option ℕ → Type 0 = λ d. (xs r : List ℕ)
-          → Stands (AreDue d e.replies) (part ++ xs) r
-          ↔ Stands (AreDue f.bulk f.replies) xs r in
+      → Stands (AreDue d e.replies) (part ++ xs) r
+      ↔ Stands (AreDue f.bulk f.replies) xs r in
       let Q : ℕ → Type 0 = λ m. (xs r : List ℕ) → Stands (AreDue None m) (part ++ xs) r
-          ↔ Stands (AreDue f.bulk f.replies) xs r in
+      ↔ Stands (AreDue f.bulk f.replies) xs r in
       let R : Option ℕ → Type 0 = λ d. (xs r : List ℕ)
-          → Stands (AreReplies (suc n)) (part ++ xs) r ↔ Stands (AreDue d f.replies) xs r in
+      → Stands (AreReplies (suc n)) (part ++ xs) r ↔ Stands (AreDue d f.replies) xs r in
       let S : ℕ → Type 0 = λ m. (xs r : List ℕ) → Stands (AreReplies (suc n)) (part ++ xs) r
-          ↔ Stands (AreDue (data_after head) m) xs r in
+      ↔ Stands (AreDue (data_after head) m) xs r in
       part_passed f part left split (head_some head part text) count sought
       (subst P (sym none) (subst Q (sym one) (subst R (sym bulk) (subst S (sym replies)
       (λ xs r. line_passed head n (part ++ xs) xs (part, text, refl) r)))))
@@ -204,7 +220,7 @@ module _ (e : Extent) (tokens rest : List ℕ) (p : Passed e tokens rest) where
       → Stands IsReply tokens left → ⊥
   line_open n none one never =
       let P : Option ℕ → Type 0 = λ d. (left : List ℕ) → Stands (AreDue d e.replies) rest left
-          → ⊥ in
+      → ⊥ in
       let Q : ℕ → Type 0 = λ m. (left : List ℕ) → Stands (AreDue None m) rest left → ⊥ in
       none_due (subst P (sym none) (subst Q (sym one) (no_line n rest never)))
 
@@ -214,9 +230,9 @@ module _ (e : Extent) (tokens rest : List ℕ) (p : Passed e tokens rest) where
       → ⊥) → (more left : List ℕ) → Stands IsReply (tokens ++ more) left → ⊥
   line_never n none one never =
       let P : Option ℕ → Type 0 = λ d. (more left : List ℕ)
-          → Stands (AreDue d e.replies) (rest ++ more) left → ⊥ in
+      → Stands (AreDue d e.replies) (rest ++ more) left → ⊥ in
       let Q : ℕ → Type 0 = λ m. (more left : List ℕ) → Stands (AreDue None m) (rest ++ more) left
-          → ⊥ in
+      → ⊥ in
       never_due (subst P (sym none) (subst Q (sym one)
       (λ more. no_line n (rest ++ more) (never more))))
 
@@ -225,8 +241,17 @@ module _ (e : Extent) (tokens rest : List ℕ) (p : Passed e tokens rest) where
       → First HeadText rest head left → length tokens < 2 ^ 63 → 2 ^ 128 ≤ count_after head n → ⊥
   unfolding First
   line_fits n head left one (part, text, split) short much =
-      omega (arith, one, short, much, small_head head n part text, p.few, p.count,
-          ap (λ l. length l) p.split, length-append p.front rest)
+      omega (
+        arith,
+        one,
+        short,
+        much,
+        small_head head n part text,
+        p.few,
+        p.count,
+        ap (λ l. length l) p.split,
+        length-append p.front rest,
+      )
 
   -- the bytes of a bulk string are
   pub data_part : (f : Extent) (size : ℕ) (bulk : Bor (List ℕ)) (left : List ℕ)
@@ -236,14 +261,14 @@ module _ (e : Extent) (tokens rest : List ℕ) (p : Passed e tokens rest) where
   unfolding First
   data_part f size bulk left some (part, text, split) count sought none replies =
       let P : Option ℕ → Type 0 = λ d. (xs r : List ℕ)
-          → Stands (AreDue d e.replies) (part ++ xs) r
-          ↔ Stands (AreDue f.bulk f.replies) xs r in
+      → Stands (AreDue d e.replies) (part ++ xs) r
+      ↔ Stands (AreDue f.bulk f.replies) xs r in
       let R : Option ℕ → Type 0 = λ d. (xs r : List ℕ)
-          → Stands (AreDue (Some size) e.replies) (part ++ xs) r
-          ↔ Stands (AreDue d f.replies) xs r in
+      → Stands (AreDue (Some size) e.replies) (part ++ xs) r
+      ↔ Stands (AreDue d f.replies) xs r in
       let S : ℕ → Type 0 = λ m. (xs r : List ℕ)
-          → Stands (AreDue (Some size) e.replies) (part ++ xs) r
-          ↔ Stands (AreDue None m) xs r in
+      → Stands (AreDue (Some size) e.replies) (part ++ xs) r
+      ↔ Stands (AreDue None m) xs r in
       part_passed f part left split (data_some size bulk part text) count sought
       (subst P (sym some) (subst R (sym none) (subst S (sym replies)
       (λ xs r. data_passed size e.replies bulk (part ++ xs) xs (part, text, refl) r))))
@@ -254,7 +279,7 @@ module _ (e : Extent) (tokens rest : List ℕ) (p : Passed e tokens rest) where
       → (left : List ℕ) → Stands IsReply tokens left → ⊥
   data_open size some never =
       let P : Option ℕ → Type 0 = λ d. (left : List ℕ) → Stands (AreDue d e.replies) rest left
-          → ⊥ in
+      → ⊥ in
       none_due (subst P (sym some) (no_data size e.replies rest never))
 
   pub data_never : (size : ℕ) → e.bulk ≡ Some size
@@ -263,18 +288,18 @@ module _ (e : Extent) (tokens rest : List ℕ) (p : Passed e tokens rest) where
       → Stands IsReply (tokens ++ more) left → ⊥
   data_never size some never =
       let P : Option ℕ → Type 0 = λ d. (more left : List ℕ)
-          → Stands (AreDue d e.replies) (rest ++ more) left → ⊥ in
+      → Stands (AreDue d e.replies) (rest ++ more) left → ⊥ in
       never_due (subst P (sym some) (λ more. no_data size e.replies (rest ++ more) (never more)))
 
   -- where nothing is due the reply is what is passed
   pub all_passed : e.bulk ≡ None → e.replies ≡ 0 → IsTold tokens (Ok (Some e.passed))
   all_passed none zeros =
       let P : Option ℕ → Type 0 = λ d. (xs left : List ℕ)
-          → Stands IsReply (p.front ++ xs) left ↔ Stands (AreDue d e.replies) xs left in
+      → Stands IsReply (p.front ++ xs) left ↔ Stands (AreDue d e.replies) xs left in
       let Q : ℕ → Type 0 = λ n. (xs left : List ℕ)
-          → Stands IsReply (p.front ++ xs) left ↔ Stands (AreDue None n) xs left in
+      → Stands IsReply (p.front ++ xs) left ↔ Stands (AreDue None n) xs left in
       let leads : (xs left : List ℕ)
-          → Stands IsReply (p.front ++ xs) left ↔ Stands (AreReplies 0) xs left =
+      → Stands IsReply (p.front ++ xs) left ↔ Stands (AreReplies 0) xs left =
       subst Q zeros (subst P none p.leads) in
       let (whole, reply, same) = (leads [] []).1 ([], refl, refl) in
       let R : List ℕ → Type 0 = λ l. IsReply l in (
@@ -337,22 +362,25 @@ module _ (e : Extent) (tokens rest : List ℕ) (p : Passed e tokens rest) where
 -- before the first byte
 pub none_passed : (e : Extent) (tokens : List ℕ) → e.passed ≡ 0 → e.sought ≡ 0 → e.bulk ≡ None
     → e.replies ≡ 1 → IsOf e tokens
-none_passed e tokens passed sought none one = (tokens, record {
-  front = [];
-  split = refl;
-  count = sym passed;
-  leads =
-      let P : Option ℕ → Type 0 = λ d. (xs left : List ℕ)
-          → Stands IsReply xs left ↔ Stands (AreDue d e.replies) xs left in
-      let Q : ℕ → Type 0 = λ n. (xs left : List ℕ)
-          → Stands IsReply xs left ↔ Stands (AreReplies n) xs left in
-      subst P (sym none) (subst Q (sym one) one_due);
-  few = omega (arith, one);
-  within = omega (arith, sought);
-  plain =
-      let Q : ℕ → Type 0 = λ n. AllByRecursion InLine (take n (drop 1 tokens)) in
-      subst Q (sym sought) (all_none (drop 1 tokens));
-})
+none_passed e tokens passed sought none one = (
+  tokens,
+  record {
+    front = [];
+    split = refl;
+    count = sym passed;
+    leads =
+        let P : Option ℕ → Type 0 = λ d. (xs left : List ℕ)
+        → Stands IsReply xs left ↔ Stands (AreDue d e.replies) xs left in
+        let Q : ℕ → Type 0 = λ n. (xs left : List ℕ)
+        → Stands IsReply xs left ↔ Stands (AreReplies n) xs left in
+        subst P (sym none) (subst Q (sym one) one_due);
+    few = omega (arith, one);
+    within = omega (arith, sought);
+    plain =
+        let Q : ℕ → Type 0 = λ n. AllByRecursion InLine (take n (drop 1 tokens)) in
+        subst Q (sym sought) (all_none (drop 1 tokens));
+  },
+)
   where
     one_due : (xs left : List ℕ) → Stands IsReply xs left ↔ Stands (AreReplies 1) xs left
     one_due xs left = (

@@ -1,5 +1,5 @@
 -- The first lines of replies, and what they say of the bytes behind them.
-use Rattle.std.specs.Prelude.{◌≡◌, ◌≤◌, ◌<◌, ⊤, ℕ, ℤ, List, ◌++◌, length, take, drop, Option}
+use Rattle.std.specs.Prelude.{◌≤◌, ◌<◌, ⊤, ℕ, ℤ, List, ◌++◌, length, take, drop, Option}
 use Rattle.std.specs.Prelude.{Some, None}
 use Rattle.std.specs.Borrow.{Bor}
 use Rattle.std.specs.List.{AllByRecursion}

@@ -224,3 +224,18 @@ impl Extent {
         }
     }
 }
+
+/// How many bytes the reply has that the bytes begin with, by one call of [`Extent::advance`].
+///
+/// ```
+/// use format_resp::extent::reply_length;
+///
+/// assert!(rt; matches!(reply_length(b"*1\r\n+OK\r\n:1"), Ok(Some(9))));
+/// assert!(rt; matches!(reply_length(b"*1\r\n+OK"), Ok(None)));
+/// assert!(rt; reply_length(b":x\r\n").is_err());
+/// ```
+pub fn reply_length(bytes: &[u8]) -> Result<Option<usize>, Refused>
+    ensures { IsTold bytes.now result }
+{
+    Extent::new().advance(bytes)
+}

@@ -53,13 +53,7 @@ fn number_of(line: &[u8]) -> Option<i64>
 {
     let mut left = line;
     match read_signed(&mut left) {
-        Ok(number) => {
-            if left.is_empty() {
-                Some(number)
-            } else {
-                None
-            }
-        }
+        Ok(number) => { if left.is_empty() { Some(number) } else { None } }
         Err(_) => None,
     }
 }

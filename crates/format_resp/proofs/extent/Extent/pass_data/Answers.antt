@@ -13,9 +13,11 @@ returns-in_err-behind_data-clause-told c p =
 pub returns-in-None-clause-told : goal.returns-in-None-clause-told
 returns-in-None-clause-told c p =
     let P : Option (Bor (List ℕ)) → Type 0 =
-    λ o. IsDataEnd c.args.size c.args.rest.now (Ok o) in
-    (p, data_open _ _ _ p c.args.size c.requires.due
-    (subst P c.in-None.is c.in_ok-behind_data.ensures.told))
+    λ o. IsDataEnd c.args.size c.args.rest.now (Ok o) in (
+      p,
+      data_open _ _ _ p c.args.size c.requires.due
+          (subst P c.in-None.is c.in_ok-behind_data.ensures.told),
+    )
 
 pub returns-in-Some-clause-told : goal.returns-in-Some-clause-told
 returns-in-Some-clause-told c p =
