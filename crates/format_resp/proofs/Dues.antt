@@ -6,7 +6,7 @@ use Rattle.std.specs.Int.{w64}
 use Rattle.std.proofs.Common.{refl, sym, ap, subst, ◌∙◌, arith, append_assoc}
 use Rattle.std.proofs.lemmas.List.{append-nil}
 use Rattle.winnow.specs.InTurn.{First, Led}
-use Rattle.winnow.specs.Texts.{Row}
+use Rattle.winnow.specs.Texts.{Row, Text}
 use Rattle.format_resp.proofs.Deeper.{deeper, list_for, row_as}
 use Rattle.format_resp.proofs.FirstLines.{head_splits}
 use Rattle.format_resp.specs.Extents.{AreDue, AreReplies, IsReply, Stands, count_after}
@@ -14,7 +14,7 @@ use Rattle.format_resp.specs.Extents.{data_after}
 use Rattle.format_resp.specs.Heads.{HeadText, Says, array_head, bulk_head}
 use Rattle.format_resp.specs.Read.{data_unique}
 use Rattle.format_resp.specs.Resp.{ArrayBehind, Body, BulkBehind, DataText, Elements, Ended}
-use Rattle.format_resp.specs.Resp.{IntegerText, IsSize, LineText, Replies}
+use Rattle.format_resp.specs.Resp.{IntegerText, IsSize, LineText, MarkText, Replies}
 use Rattle.format_resp.specs.Resp.{ReplyText, SignedText, SizeText}
 use Rattle.format_resp.specs.declared.heads.Head.{Head}
 use Rattle.format_resp.specs.declared.heads.Head.TheVariants as heads
@@ -44,12 +44,12 @@ gather (suc n) xs (ys, zs, (a, o, t), many, e) =
       ),
     )
 
-spread : (level : ℕ) (os : List (Replies ⊤)) (xs : List ℕ) → Row (ReplyText level) os xs
-    → AreReplies (length os) xs
-unfolding Row
-spread level [] xs e = e
-spread level (o ∷ os) xs (ys, zs, t, row, e) =
-    (ys, zs, (level, o, t), spread level os zs row, e)
+module _ {A : Type 0} (these : Text ℕ (Replies A))
+    (is : (o : Replies A) (xs : List ℕ) → these o xs → IsReply xs) where
+  spread : (os : List (Replies A)) (xs : List ℕ) → Row these os xs → AreReplies (length os) xs
+  unfolding Row
+  spread [] xs e = e
+  spread (o ∷ os) xs (ys, zs, t, row, e) = (ys, zs, is o ys t, spread os zs row, e)
 
 -- ---- what is behind a first line
 
@@ -58,46 +58,47 @@ Behind heads.Ends xs = xs ≡ []
 Behind (heads.Data n) xs = (bulk : Bor (List ℕ)) × DataText n bulk xs
 Behind (heads.Replies n) xs = AreReplies n xs
 
-bulk_there : (size : Option ℕ) (reply : Replies ⊤) (xs : List ℕ) → BulkBehind size reply xs
-    → Behind (bulk_head size) xs
-bulk_there None reply xs (is, empty) = empty
-bulk_there (Some n) reply xs (bulk, is, t) = (bulk, t)
+module _ {A : Type 0} (elements : Text ℕ (List (Replies A)))
+    (are : (os : List (Replies A)) (xs : List ℕ) → elements os xs → AreReplies (length os) xs) where
+  bulk_there : (size : Option ℕ) (reply : Replies A) (xs : List ℕ) → BulkBehind size reply xs
+      → Behind (bulk_head size) xs
+  bulk_there None reply xs (is, empty) = empty
+  bulk_there (Some n) reply xs (bulk, is, t) = (bulk, t)
 
-array_there : (level : ℕ) (size : Option ℕ) (reply : Replies ⊤) (xs : List ℕ)
-    → ArrayBehind (Elements level) size reply xs → Behind (array_head size) xs
-unfolding Elements
-array_there level None reply xs (is, empty) = empty
-array_there zero (Some n) reply xs (list, is, (many, never)) = absurd never
-array_there (suc level) (Some n) reply xs (list, is, (many, row)) =
-    let P : ℕ → Type 0 = λ k. AreReplies k xs in subst P many (spread level list.items xs row)
+  array_there : (size : Option ℕ) (reply : Replies A) (xs : List ℕ)
+      → ArrayBehind elements size reply xs → Behind (array_head size) xs
+  array_there None reply xs (is, empty) = empty
+  array_there (Some n) reply xs (list, is, (many, row)) =
+      let P : ℕ → Type 0 = λ k. AreReplies k xs in subst P many (are list.items xs row)
 
-body_there : (level : ℕ) (mark : Mark) (reply : Replies ⊤) (xs : List ℕ)
-    → Body (Elements level) mark reply xs → (head : Head) × (us : List ℕ) × (vs : List ℕ)
-    × Says mark head us × Behind head vs × (xs ≡ us ++ vs)
-unfolding Led
-body_there level Plus reply xs (line, is, t) =
-    (heads.Ends, xs, [], (line, refl, t), refl, sym (append-nil xs))
-body_there level Minus reply xs (line, is, t) =
-    (heads.Ends, xs, [], (line, refl, t), refl, sym (append-nil xs))
-body_there level Colon reply xs (n, is, t) =
-    (heads.Ends, xs, [], (n, refl, t), refl, sym (append-nil xs))
-body_there level Dollar reply xs (size, us, vs, s, b, e) =
-    (bulk_head size, us, vs, (size, refl, s), bulk_there size reply vs b, e)
-body_there level Star reply xs (size, us, vs, s, b, e) =
-    (array_head size, us, vs, (size, refl, s), array_there level size reply vs b, e)
+  body_there : (mark : Mark) (reply : Replies A) (xs : List ℕ) → Body elements mark reply xs
+      → (head : Head) × (us : List ℕ) × (vs : List ℕ) × Says mark head us × Behind head vs
+      × (xs ≡ us ++ vs)
+  unfolding Led
+  body_there Plus reply xs (line, is, t) =
+      (heads.Ends, xs, [], (line, refl, t), refl, sym (append-nil xs))
+  body_there Minus reply xs (line, is, t) =
+      (heads.Ends, xs, [], (line, refl, t), refl, sym (append-nil xs))
+  body_there Colon reply xs (n, is, t) =
+      (heads.Ends, xs, [], (n, refl, t), refl, sym (append-nil xs))
+  body_there Dollar reply xs (size, us, vs, s, b, e) =
+      (bulk_head size, us, vs, (size, refl, s), bulk_there size reply vs b, e)
+  body_there Star reply xs (size, us, vs, s, b, e) =
+      (array_head size, us, vs, (size, refl, s), array_there size reply vs b, e)
 
-pub head_there : (xs : List ℕ) → IsReply xs → (head : Head) × (us : List ℕ) × (vs : List ℕ)
-    × HeadText head us × Behind head vs × (xs ≡ us ++ vs)
-unfolding Led
-head_there xs (level, reply, (mark, ms, bs, m, body, e)) =
-    let (head, us, vs, says, behind, d) = body_there level mark reply bs body in (
-      head,
-      ms ++ us,
-      vs,
-      (mark, ms, us, m, says, refl),
-      behind,
-      e ∙ ap (λ l. ms ++ l) d ∙ sym (append_assoc ms us vs),
-    )
+  led_there : (reply : Replies A) (xs : List ℕ) → Led MarkText (Body elements) reply xs
+      → (head : Head) × (us : List ℕ) × (vs : List ℕ) × HeadText head us × Behind head vs
+      × (xs ≡ us ++ vs)
+  unfolding Led
+  led_there reply xs (mark, ms, bs, m, body, e) =
+      let (head, us, vs, says, behind, d) = body_there mark reply bs body in (
+        head,
+        ms ++ us,
+        vs,
+        (mark, ms, us, m, says, refl),
+        behind,
+        e ∙ ap (λ l. ms ++ l) d ∙ sym (append_assoc ms us vs),
+      )
 
 -- ---- and back
 
@@ -180,6 +181,37 @@ head_back head us vs (mark, ms, bs, m, says, d) behind =
       reply,
       (mark, ms, bs ++ vs, m, body, ap (λ l. l ++ vs) d ∙ append_assoc ms bs vs),
     )
+
+-- ---- replies of any allocator
+
+module _ {A : Type 0} where
+  are_replies : (level : ℕ) (os : List (Replies A)) (xs : List ℕ) → Elements level os xs
+      → AreReplies (length os) xs
+  unfolding Elements
+  are_replies zero os xs never = absurd never
+  are_replies (suc level) os xs row = spread (ReplyText level) (λ o ys t.
+      let (head, us, vs, text, behind, e) =
+      led_there (Elements level) (are_replies level) o ys t in
+      let P : List ℕ → Type 0 = λ l. IsReply l in
+      subst P (sym e) (head_back head us vs text behind)) os xs row
+
+  pub reply_any : (level : ℕ) (reply : Replies A) (xs : List ℕ) → ReplyText level reply xs
+      → IsReply xs
+  reply_any level reply xs t =
+      let (head, us, vs, text, behind, e) =
+      led_there (Elements level) (are_replies level) reply xs t in
+      let P : List ℕ → Type 0 = λ l. IsReply l in
+      subst P (sym e) (head_back head us vs text behind)
+
+pub head_there : (xs : List ℕ) → IsReply xs → (head : Head) × (us : List ℕ) × (vs : List ℕ)
+    × HeadText head us × Behind head vs × (xs ≡ us ++ vs)
+head_there xs (level, reply, t) = led_there (Elements level) (are_replies level) reply xs t
+
+-- what stands first as a reply of any allocator
+pub stands_any : {A : Type 0} (level : ℕ) (reply : Replies A) (tokens rest : List ℕ)
+    → First (ReplyText level) tokens reply rest → Stands IsReply tokens rest
+unfolding First
+stands_any level reply tokens rest (front, t, e) = (front, reply_any level reply front t, e)
 
 -- ---- so many replies, and so many more
 

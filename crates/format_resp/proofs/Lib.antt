@@ -1,3 +1,4 @@
+pub mod BulkEnds
 pub mod Deeper
 pub mod Dues
 pub mod FirstLines

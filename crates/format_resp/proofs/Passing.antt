@@ -5,83 +5,20 @@ use Rattle.std.specs.Borrow.{Bor}
 use Rattle.std.specs.List.{AllByRecursion}
 use Rattle.std.proofs.Common.{refl, sym, ap, subst, inl, inr, ◌∙◌, arith, append_assoc}
 use Rattle.std.proofs.Common.{length-append}
-use Rattle.std.proofs.lemmas.List.{append-nil, drop_at, length-take-le, take-append-drop}
-use Rattle.std.proofs.lemmas.List.{take-append-le}
+use Rattle.std.proofs.lemmas.List.{append-nil, drop_at, take-append-le}
 use Rattle.std.specs.Prelude.{Err, OnOk, Result}
 use Rattle.std.specs.Result.{IsErrAnd}
-use Rattle.winnow.specs.Grammar.Known.{slice_for}
-use Rattle.winnow.specs.Grammar.Lengths.{same_beginnings}
 use Rattle.winnow.specs.InTurn.{First, Led}
-use Rattle.winnow.specs.Texts.{SoMany}
 use Rattle.format_resp.proofs.Dues.{data_passed, head_there, line_passed, small_head}
 use Rattle.format_resp.proofs.LineEnds.{unseen_rest}
-use Rattle.format_resp.specs.Extents.{AreDue, AreReplies, IsDataEnd, IsLineEnd, IsOf, IsPart}
+use Rattle.format_resp.specs.Extents.{AreDue, AreReplies, IsOf, IsPart}
 use Rattle.format_resp.specs.Extents.{IsReply, IsTold, PartFound, Passed}
 use Rattle.format_resp.specs.Extents.{Stands, count_after, data_after}
 use Rattle.format_resp.specs.Heads.{HeadText}
-use Rattle.format_resp.specs.Resp.{DataText, Ended, InLine, MarkText, line_end}
+use Rattle.format_resp.specs.Resp.{DataText, Ended, InLine, MarkText}
 use Rattle.format_resp.specs.declared.extent.Extent.{Extent}
 use Rattle.format_resp.specs.declared.extent.Refused.{Refused}
 use Rattle.format_resp.specs.declared.heads.Head.{Head}
-
--- ---- the bytes of a bulk string, and the line end behind them
-
--- fewer bytes are there
-pub data_short : (size : ℕ) (tokens : List ℕ)
-    → (length tokens < size) ⊎ (length tokens < length tokens) → (bulk : Bor (List ℕ))
-    (left : List ℕ) → First (DataText size) tokens bulk left → ⊥
-unfolding First DataText Ended SoMany
-data_short size tokens (inl less) bulk left (front, (xs, (many, shown), e), d) =
-    omega (
-      arith,
-      less,
-      many,
-      ap (λ l. length l) d,
-      ap (λ l. length l) e,
-      length-append front left,
-      length-append xs line_end,
-    )
-data_short size tokens (inr less) bulk left x = omega (arith, less)
-
--- what stands behind so many bytes
-behind_is : (size : ℕ) (tokens behind more xs rest : List ℕ) → size ≤ length tokens
-    → tokens ≡ take size tokens ++ behind → length xs ≡ size
-    → tokens ++ more ≡ (xs ++ line_end) ++ rest → behind ++ more ≡ line_end ++ rest
-behind_is size tokens behind more xs rest enough split many e =
-    (same_beginnings (take size tokens) xs (behind ++ more) (line_end ++ rest)
-    (length-take-le size tokens enough ∙ sym many)
-    (sym (append_assoc (take size tokens) behind more) ∙ ap (λ l. l ++ more) (sym split) ∙ e
-    ∙ append_assoc xs line_end rest)).1
-
-pub data_end : (size : ℕ) (tokens behind : List ℕ) → size ≤ length tokens
-    → behind ≡ take (length tokens - size) (drop size tokens) → (r : PartFound)
-    → IsLineEnd behind r → IsDataEnd size tokens r
-unfolding First DataText Ended SoMany
-data_end size tokens behind enough is (Ok (Some left)) ends =
-    let split : tokens ≡ take size tokens ++ behind = sym (take-append-drop size tokens)
-    ∙ ap (λ l. take size tokens ++ l) (sym (unseen_rest tokens behind size is)) in
-    let (slice, shown) = slice_for (take size tokens) in (
-      slice,
-      (
-        take size tokens ++ line_end,
-        (take size tokens, (length-take-le size tokens enough, shown), refl),
-        split ∙ ap (λ l. take size tokens ++ l) ends
-            ∙ sym (append_assoc (take size tokens) line_end left.now),
-      ),
-    )
-data_end size tokens behind enough is (Ok None) none =
-    let split : tokens ≡ take size tokens ++ behind = sym (take-append-drop size tokens)
-    ∙ ap (λ l. take size tokens ++ l) (sym (unseen_rest tokens behind size is)) in
-    λ bulk left (front, (xs, (many, shown), e), d).
-    none left (sym (append-nil behind)
-    ∙ behind_is size tokens behind [] xs left enough split many
-    (append-nil tokens ∙ d ∙ ap (λ l. l ++ left) e))
-data_end size tokens behind enough is (Err refused) none =
-    let split : tokens ≡ take size tokens ++ behind = sym (take-append-drop size tokens)
-    ∙ ap (λ l. take size tokens ++ l) (sym (unseen_rest tokens behind size is)) in
-    λ more bulk left (front, (xs, (many, shown), e), d).
-    none more left (behind_is size tokens behind more xs left enough split many
-    (d ∙ ap (λ l. l ++ left) e))
 
 -- an error that is passed on
 pub err_part : (f : Extent) (tokens rest : List ℕ) (r : PartFound) {e : Refused}
@@ -90,12 +27,6 @@ pub err_part : (f : Extent) (tokens rest : List ℕ) (r : PartFound) {e : Refuse
     → IsPart f tokens rest r
 err_part f tokens rest (Ok o) is none = absurd is
 err_part f tokens rest (Err y) is none = none
-
-pub err_told : (tokens : List ℕ) (r : Result (Option ℕ) Refused) {e : Refused}
-    → IsErrAnd r (λ y. y ≡ e)
-    → ((more left : List ℕ) → Stands IsReply (tokens ++ more) left → ⊥) → IsTold tokens r
-err_told tokens (Ok o) is none = absurd is
-err_told tokens (Err y) is none = none
 
 -- ---- parts
 
@@ -235,23 +166,6 @@ module _ (e : Extent) (tokens rest : List ℕ) (p : Passed e tokens rest) where
       → ⊥ in
       never_due (subst P (sym none) (subst Q (sym one)
       (λ more. no_line n (rest ++ more) (never more))))
-
-  -- more replies than fit are never due
-  pub line_fits : (n : ℕ) (head : Head) (left : List ℕ) → e.replies ≡ suc n
-      → First HeadText rest head left → length tokens < 2 ^ 63 → 2 ^ 128 ≤ count_after head n → ⊥
-  unfolding First
-  line_fits n head left one (part, text, split) short much =
-      omega (
-        arith,
-        one,
-        short,
-        much,
-        small_head head n part text,
-        p.few,
-        p.count,
-        ap (λ l. length l) p.split,
-        length-append p.front rest,
-      )
 
   -- the bytes of a bulk string are
   pub data_part : (f : Extent) (size : ℕ) (bulk : Bor (List ℕ)) (left : List ℕ)

@@ -4,11 +4,15 @@
 //! is linear in its bytes, and is then read by one call of
 //! [`read_reply`](crate::read::read_reply).
 ghost use Rattle.format_resp.specs.Extents.{IsDataEnd, IsLessPart, IsLineEnd, IsOf, IsPart};
-ghost use Rattle.format_resp.specs.Extents.{IsTold, Passed, count_after, data_after};
+ghost use Rattle.format_resp.specs.Extents.{IsReply, IsTold, Passed, Stands, count_after};
+ghost use Rattle.format_resp.specs.Extents.{data_after};
+ghost use Rattle.format_resp.specs.Resp.{Replies, ReplyText};
 ghost use Rattle.std.specs.Prelude.{◌≡◌, ◌≤◌, ◌^◌, ◌++◌, ℕ, List, None, Some, length};
 ghost use Rattle.std.specs.Prelude.{IfSome, OnOk, suc};
+ghost use Rattle.winnow.specs.InTurn.{First};
 
 use crate::heads::{Head, Start, start_of};
+use std::alloc::Allocator;
 
 /// No reply stands first in the bytes, whatever follows them.
 ///
@@ -239,3 +243,20 @@ pub fn reply_length(bytes: &[u8]) -> Result<Option<usize>, Refused>
 {
     Extent::new().advance(bytes)
 }
+
+/// What [`Extent::advance`] says of replies it says of those that
+/// [`read_reply`](crate::read::read_reply) reads, of any level and with any allocator: what that
+/// reads first stands first.
+///
+/// ```
+/// use format_resp::extent::a_reply_that_is_read_stands;
+/// use std::alloc::Allocator;
+///
+/// fn of_an_allocator<A: Allocator>() {
+///     a_reply_that_is_read_stands::<A>();
+/// }
+/// ```
+pub fn a_reply_that_is_read_stands<A: Allocator>()
+    ensures { (level : ℕ) (reply : Replies A) (tokens rest : List ℕ)
+        → First (ReplyText level) tokens reply rest → Stands IsReply tokens rest }
+{}

@@ -30,7 +30,8 @@ pub returns-then-is_empty-clause-fits : goal.returns-then-is_empty-clause-fits
 returns-then-is_empty-clause-fits c =
     let left = c.read_signed.new.bytes.now in
     let n = c.in_ok-number.number in
-    let fits = signed_fits c.in_ok-bytes.bytes.now left n (c.in_ok-number.ensures.reads.stands refl) in
+    let fits = signed_fits c.in_ok-bytes.bytes.now left n
+    (c.in_ok-number.ensures.reads.stands refl) in
     rw (to_z-of_z w64 n fits) fits
 
 pub returns-else-is_empty-clause-told : goal.returns-else-is_empty-clause-told
