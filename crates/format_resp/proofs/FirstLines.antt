@@ -4,7 +4,7 @@ use Rattle.std.specs.Prelude.{Some, None, pos, neg_ℤ, FitsSigned}
 use Rattle.std.specs.Int.{FitsUnsignedBits, w64}
 use Rattle.std.specs.Borrow.{Bor}
 use Rattle.std.specs.List.{AllByRecursion}
-use Rattle.std.proofs.Common.{refl, sym, ap, subst, ◌∙◌, arith, append_assoc, length-append}
+use Rattle.std.proofs.Common.{refl, sym, inl, ap, subst, ◌∙◌, arith, append_assoc, length-append}
 use Rattle.std.proofs.lemmas.List.Elements.{All-from_recursion, recursion_from_All}
 use Rattle.winnow.specs.Equal.{same_first, same_others}
 use Rattle.winnow.specs.Grammar.{IsUnique}
@@ -14,9 +14,9 @@ use Rattle.winnow.specs.InTurn.{First, Led, Splits}
 use Rattle.winnow.specs.Kind.{Kind, backtrack, memory}
 use Rattle.std.proofs.lemmas.List.{append-nil}
 use Rattle.winnow.specs.Texts.{Members, Text}
-use Rattle.format_resp.proofs.LineEnds.{return_ends, until_end}
-use Rattle.format_resp.specs.Heads.{HeadText, IsSizeOf, Says, array_head, bulk_head}
-use Rattle.format_resp.specs.Lines.{EndsLine}
+use Rattle.format_resp.proofs.LineEnds.{open_endless, return_ends, until_end}
+use Rattle.format_resp.specs.Heads.{HeadText, IsBegun, IsSizeOf, Says, array_head, bulk_head}
+use Rattle.format_resp.specs.Lines.{EndsLine, IsOpen}
 use Rattle.format_resp.specs.Read.{integer_splits, line_unique, mark_splits, signed_plain}
 use Rattle.format_resp.specs.Read.{size_splits}
 use Rattle.format_resp.specs.Resp.{Ended, For, InLine, IntegerText, LineText, MarkText}
@@ -165,14 +165,22 @@ start_none head rest (front, (mark, xs, ys, is, says, d), e) =
     e ∙ ap (λ l. l ++ rest) (d ∙ ap (λ l. l ++ ys) is) in
     cc
 
--- none where no line is
-pub start_open : (tokens text : List ℕ) (byte : ℕ) → tokens ≡ byte ∷ text
-    → ((line rest : List ℕ) → EndsLine text line rest → ⊥) → (head : Head) (rest : List ℕ)
+-- none where it is not ended
+pub begun_none : (tokens : List ℕ) → IsBegun tokens → (head : Head) (rest : List ℕ)
     → First HeadText tokens head rest → ⊥
-start_open tokens text byte split none head rest x =
-    let P : List ℕ → Type 0 = λ l. First HeadText l head rest in
-    let (mark, line, is, ends, says) = start_line head byte text rest (subst P split x) in
-    none line rest ends
+begun_none [] b head rest x = start_none head rest x
+begun_none (byte ∷ text) b head rest x =
+    let (mark, line, is, ends, says) = start_line head byte text rest x in
+    open_endless text b.begun line rest ends
+
+nil_cons : (b : ℕ) (t : List ℕ) → [] ≡ b ∷ t → ⊥
+nil_cons b t e = cc
+
+pub none_begun : (tokens : List ℕ) → tokens ≡ [] → IsBegun tokens
+none_begun tokens e = record {
+  marked = λ b t d. absurd (nil_cons b t (sym e ∙ d));
+  begun = ([], tt, inl (ap (λ l. drop 1 l) e));
+}
 
 -- none where no reply begins
 pub start_unmarked : (tokens text : List ℕ) (byte : ℕ) → tokens ≡ byte ∷ text
@@ -225,16 +233,23 @@ sought_text tokens text byte n e =
     let P : List ℕ → Type 0 = λ l. AllByRecursion InLine (take n l) in
     subst P (text_is tokens text byte e)
 
-pub text_sought : (tokens text : List ℕ) (byte n : ℕ) → tokens ≡ byte ∷ text
-    → (n ≤ length text) × AllByRecursion InLine (take n text)
-    × ((line rest : List ℕ) → EndsLine text line rest → ⊥)
+pub text_sought : (tokens text : List ℕ) (byte n : ℕ) (mark : Mark) → tokens ≡ byte ∷ text
+    → byte ≡ byte_of mark
+    → (n ≤ length text) × AllByRecursion InLine (take n text) × IsOpen text
     → (n ≤ length (drop 1 tokens)) × AllByRecursion InLine (take n (drop 1 tokens))
-    × ((head : Head) (rest : List ℕ) → First HeadText tokens head rest → ⊥)
-text_sought tokens text byte n e (enough, all, none) =
+    × IsBegun tokens
+text_sought tokens text byte n mark e is (enough, all, begun) =
     let P : List ℕ → Type 0 = λ l. AllByRecursion InLine (take n l) in
     let Q : List ℕ → Type 0 = λ l. n ≤ length l in
-    let same = sym (text_is tokens text byte e) in
-    (subst Q same enough, subst P same all, start_open tokens text byte e none)
+    let R : List ℕ → Type 0 = λ l. IsOpen l in
+    let same = sym (text_is tokens text byte e) in (
+      subst Q same enough,
+      subst P same all,
+      record {
+        marked = λ b t d. (mark, same_first (sym d ∙ e) ∙ is);
+        begun = subst R same begun;
+      },
+    )
 
 -- ---- one number
 

@@ -9,7 +9,7 @@ use Rattle.std.proofs.Math.Seq.{take-add, take-append_seam}
 use Rattle.std.proofs.lemmas.Bool.Decides.{nat_tests}
 use Rattle.std.proofs.lemmas.List.{get_or-drop, take_all}
 use Rattle.memchr.specs.Find.{is_byte2}
-use Rattle.format_resp.specs.Lines.{EndsLine, IsLessLine}
+use Rattle.format_resp.specs.Lines.{EndsLine, IsLessLine, IsOpen}
 use Rattle.format_resp.specs.declared.lines.Line.{Line}
 use Rattle.format_resp.specs.declared.lines.Line.TheVariants.{Never, Open, Whole}
 use Rattle.format_resp.specs.Resp.{InLine}
@@ -88,6 +88,14 @@ open_none xs line rest a (b, e) =
     until_end 13 13 xs line [] (10 ∷ rest) a b return_ends return_ends e in
     cc
 
+-- no line ends in what is open
+pub open_endless : (tokens : List ℕ) → IsOpen tokens → (line rest : List ℕ)
+    → EndsLine tokens line rest → ⊥
+open_endless tokens (xs, all, inl e) line rest (a, f) =
+    plain_none xs line (10 ∷ rest) all (sym e ∙ f)
+open_endless tokens (xs, all, inr e) line rest (a, f) =
+    open_none xs line rest all (a, sym e ∙ f)
+
 -- a feed alone never is
 pub feed_never : (c : ℕ) (xs behind more line rest : List ℕ) → c ≡ 10 → AllByRecursion InLine xs
     → EndsLine ((xs ++ (c ∷ behind)) ++ more) line rest → ⊥
@@ -121,16 +129,13 @@ module _ (line behind left : List ℕ) (first : ℕ) (all : AllByRecursion InLin
       feed b not is = grind (arith, nat_tests)
 
   pub ended_open : first ≡ 13 → left ≡ [] → (length line ≤ length (line ++ behind))
-      × AllByRecursion InLine (take (length line) (line ++ behind))
-      × ((other rest : List ℕ) → EndsLine (line ++ behind) other rest → ⊥)
+      × AllByRecursion InLine (take (length line) (line ++ behind)) × IsOpen (line ++ behind)
   ended_open is none =
       let P : List ℕ → Type 0 = λ l. AllByRecursion InLine l in
       let e : behind ≡ 13 ∷ [] = cc in (
         omega (arith, length-append line behind),
         subst P (sym (take-append_seam line behind)) all,
-        λ other rest x.
-            let Q : List ℕ → Type 0 = λ l. EndsLine (line ++ l) other rest in
-            open_none line other rest all (subst Q e x),
+        (line, all, inr (ap (λ l. line ++ l) e)),
       )
 
   pub ended_other : (second : ℕ) (others : List ℕ) → first ≡ 13 → left ≡ second ∷ others
@@ -145,13 +150,12 @@ module _ (line behind left : List ℕ) (first : ℕ) (all : AllByRecursion InLin
 
 -- all of it
 pub open_all : (xs : List ℕ) → AllByRecursion InLine xs → (length xs ≤ length xs)
-    × AllByRecursion InLine (take (length xs) xs)
-    × ((line rest : List ℕ) → EndsLine xs line rest → ⊥)
+    × AllByRecursion InLine (take (length xs) xs) × IsOpen xs
 open_all xs all =
     let P : List ℕ → Type 0 = λ l. AllByRecursion InLine l in (
       omega arith,
       subst P (sym (take_all (length xs) xs (omega arith))) all,
-      λ line rest (a, e). plain_none xs line (10 ∷ rest) all e,
+      (xs, all, inl refl),
     )
 
 -- more than there is

@@ -1,9 +1,10 @@
 -- Where a reply ends: what of some bytes is passed, and what is due behind that.
-use Rattle.std.specs.Prelude.{◌≡◌, ◌≤◌, ◌+◌, ◌*◌, ◌^◌, ◌<◌, ◌↔◌, ⊤, ℕ, zero, suc, List, [], ◌++◌}
+use Rattle.std.specs.Prelude.{◌≡◌, ◌≤◌, ◌+◌, ◌*◌, ◌^◌, ◌<◌, ◌↔◌, ⊤, ℕ, zero, suc, List, [], ◌∷◌, ◌++◌}
 use Rattle.std.specs.Prelude.{length, take, drop, Option, Some, None, Result, Ok, Err}
 use Rattle.std.specs.Borrow.{Bor}
 use Rattle.std.specs.List.{AllByRecursion}
 use Rattle.winnow.specs.InTurn.{First}
+use Rattle.format_resp.specs.Heads.{IsBegun}
 use Rattle.format_resp.specs.Resp.{DataText, InLine, Replies, ReplyText, line_end}
 use Rattle.format_resp.specs.declared.extent.Extent.{Extent}
 use Rattle.format_resp.specs.declared.extent.Refused.{Refused}
@@ -61,6 +62,25 @@ IsTold tokens (Ok None) = (left : List ℕ) → Stands IsReply tokens left → �
 IsTold tokens (Err refused) =
     (more left : List ℕ) → Stands IsReply (tokens ++ more) left → ⊥
 
+-- Behind the bytes some more make them a bulk string of so many.
+pub record IsPartOfData (size : ℕ) (tokens : List ℕ) : Type 0 where
+  pub bulk : Bor (List ℕ)
+  pub more : List ℕ
+  pub some : 0 < length more
+  pub made : First (DataText size) (tokens ++ more) bulk []
+
+-- What is wanting behind what is passed: the end of a line, or bytes of a bulk string.
+abbrev pub Wants : Option ℕ → List ℕ → Type 0
+Wants None rest = IsBegun rest
+Wants (Some size) rest = IsPartOfData size rest
+
+-- And no more is answered as wanting: what was passed goes on as what is due does, and of that a
+-- line is not ended, or a bulk string is not whole.
+abbrev pub IsWanting : Extent → List ℕ → Option ℕ → Type 0
+IsWanting extent tokens None =
+    (rest : List ℕ) × Passed extent tokens rest × Wants extent.bulk rest
+IsWanting extent tokens (Some n) = ⊤
+
 -- ---- one step
 
 -- what is due behind a first line, where so many other replies are
@@ -78,18 +98,18 @@ count_after (heads.Replies k) n = n + k
 abbrev pub PartFound : Type 0
 PartFound = Result (Option (Bor (List ℕ))) Refused
 
--- A line end stands first, or does not yet, or never will.
+-- A line end stands first, or a part of one is all there is, or none ever will.
 abbrev pub IsLineEnd : List ℕ → PartFound → Type 0
 IsLineEnd tokens (Ok (Some left)) = tokens ≡ line_end ++ left.now
-IsLineEnd tokens (Ok None) = (left : List ℕ) → tokens ≡ line_end ++ left → ⊥
+IsLineEnd tokens (Ok None) = (x : ℕ) × (more : List ℕ) × (line_end ≡ tokens ++ (x ∷ more))
 IsLineEnd tokens (Err refused) = (more left : List ℕ) → tokens ++ more ≡ line_end ++ left → ⊥
 
--- The data of a bulk string stands first, or does not yet, or never will.
+-- The bytes of a bulk string and a line end stand first, or a part of them is all there is, or they
+-- never will.
 abbrev pub IsDataEnd : ℕ → List ℕ → PartFound → Type 0
 IsDataEnd size tokens (Ok (Some left)) =
     (bulk : Bor (List ℕ)) × First (DataText size) tokens bulk left.now
-IsDataEnd size tokens (Ok None) =
-    (bulk : Bor (List ℕ)) (left : List ℕ) → First (DataText size) tokens bulk left → ⊥
+IsDataEnd size tokens (Ok None) = IsPartOfData size tokens
 IsDataEnd size tokens (Err refused) =
     (more : List ℕ) (bulk : Bor (List ℕ)) (left : List ℕ)
     → First (DataText size) (tokens ++ more) bulk left → ⊥
@@ -105,5 +125,6 @@ abbrev pub IsPart : Extent → List ℕ → List ℕ → PartFound → Type 0
 IsPart extent tokens rest (Ok (Some left)) = Passed extent tokens left.now
 IsPart extent tokens rest (Ok None) =
     Passed extent tokens rest × ((left : List ℕ) → Stands IsReply tokens left → ⊥)
+    × Wants extent.bulk rest
 IsPart extent tokens rest (Err refused) =
     (more left : List ℕ) → Stands IsReply (tokens ++ more) left → ⊥

@@ -1,12 +1,13 @@
 -- The first lines of replies, and what they say of the bytes behind them.
-use Rattle.std.specs.Prelude.{◌≤◌, ◌<◌, ⊤, ℕ, ℤ, List, ◌++◌, length, take, drop, Option}
+use Rattle.std.specs.Prelude.{◌≡◌, ◌≤◌, ◌<◌, ⊤, ℕ, ℤ, List, ◌∷◌, ◌++◌, length, take, drop, Option}
 use Rattle.std.specs.Prelude.{Some, None}
 use Rattle.std.specs.Borrow.{Bor}
 use Rattle.std.specs.List.{AllByRecursion}
 use Rattle.winnow.specs.InTurn.{First, Led}
 use Rattle.winnow.specs.Texts.{Text}
 use Rattle.format_resp.specs.Resp.{For, InLine, IntegerText, IsSize, LineText, MarkText}
-use Rattle.format_resp.specs.Resp.{SignedText, SizeText}
+use Rattle.format_resp.specs.Lines.{IsOpen}
+use Rattle.format_resp.specs.Resp.{SignedText, SizeText, byte_of}
 use Rattle.format_resp.specs.declared.heads.Head.{Head}
 use Rattle.format_resp.specs.declared.heads.Head.TheVariants.{Data, Ends, Replies}
 use Rattle.format_resp.specs.declared.heads.Start.{Start}
@@ -39,13 +40,19 @@ HeadText = Led MarkText Says
 abbrev pub IsSizeOf : Option ℕ → List ℕ → Type 0
 IsSizeOf size line = (n : ℤ) × SignedText n line × IsSize size n
 
+-- A first line is begun, and its end is not there.
+pub record IsBegun (tokens : List ℕ) : Type 0 where
+  pub marked : (byte : ℕ) (text : List ℕ) → tokens ≡ byte ∷ text
+      → (mark : Mark) × (byte ≡ byte_of mark)
+  pub begun : IsOpen (drop 1 tokens)
+
 -- What of a first line stands first: a line; or none yet, and so many bytes behind the first have
 -- no part of a line end; or none, whatever follows.
 abbrev pub IsStart : List ℕ → Start → Type 0
 IsStart tokens (Whole head left) = First HeadText tokens head left.now
 IsStart tokens (Open n) =
     (n ≤ length (drop 1 tokens)) × AllByRecursion InLine (take n (drop 1 tokens))
-    × ((head : Head) (rest : List ℕ) → First HeadText tokens head rest → ⊥)
+    × IsBegun tokens
 IsStart tokens Never =
     (more : List ℕ) (head : Head) (rest : List ℕ) → First HeadText (tokens ++ more) head rest → ⊥
 

@@ -1,14 +1,14 @@
 //! Where a reply ends whose bytes come in pieces.
 //!
-//! Each byte is looked at once, however many pieces there are: so a reply is found in a time that
-//! is linear in its bytes, and is then read by one call of
-//! [`read_reply`](crate::read::read_reply).
+//! No byte is searched again for a line end, however many pieces there are, and those of a bulk
+//! string are not looked at: so a reply is found in a time that is linear in its bytes, and is then
+//! read by one call of [`read_reply`](crate::read::read_reply).
 ghost use Rattle.format_resp.specs.Extents.{IsDataEnd, IsLessPart, IsLineEnd, IsOf, IsPart};
-ghost use Rattle.format_resp.specs.Extents.{IsReply, IsTold, Passed, Stands, count_after};
-ghost use Rattle.format_resp.specs.Extents.{data_after};
+ghost use Rattle.format_resp.specs.Extents.{IsReply, IsTold, IsWanting, Passed, Stands};
+ghost use Rattle.format_resp.specs.Extents.{count_after, data_after};
 ghost use Rattle.format_resp.specs.Resp.{Replies, ReplyText};
 ghost use Rattle.std.specs.Prelude.{◌≡◌, ◌≤◌, ◌^◌, ◌++◌, ℕ, List, None, Some, length};
-ghost use Rattle.std.specs.Prelude.{IfSome, OnOk, suc};
+ghost use Rattle.std.specs.Prelude.{IfOk, IfSome, OnOk, suc};
 ghost use Rattle.winnow.specs.InTurn.{First};
 
 use crate::heads::{Head, Start, start_of};
@@ -177,6 +177,8 @@ impl Extent {
         ensures told { Passed self.old bytes.now from.now → IsTold bytes.now result }
         ensures kept { OnOk result (Passed self.old bytes.now from.now
             → (rest : List ℕ) × Passed self.new bytes.now rest) }
+        ensures wants { Passed self.old bytes.now from.now
+            → IfOk result (IsWanting self.new bytes.now) }
     {
         let mut rest = from;
         'parts: loop {
@@ -200,9 +202,10 @@ impl Extent {
     /// and more: what was passed then is not looked at again, so the time that all calls take is
     /// linear in the bytes.
     ///
-    /// `None` is for bytes that begin with no reply as yet, and [`Refused`] for those that begin
-    /// with none whatever follows: a line that can be none of a reply is refused where it ends, and
-    /// its first byte where it comes. How deep arrays may stand in one another is not asked:
+    /// `None` is for bytes that begin with no reply as yet: a line of them is not ended, or bytes of
+    /// a bulk string are wanting. [`Refused`] is for those that begin with none whatever follows: a
+    /// line that can be none of a reply is refused where it ends, and its first byte where it
+    /// comes. How deep arrays may stand in one another is not asked:
     /// [`read_reply`](crate::read::read_reply) says so, where the reply is whole. What is told is
     /// told of the extent of these bytes alone: of one that was taken for others it may be wrong.
     ///
@@ -221,6 +224,7 @@ impl Extent {
         ensures told { IsOf self.old bytes.now → IsTold bytes.now result }
         ensures kept { OnOk result (IsOf self.old bytes.now
             → (more : List ℕ) → IsOf self.new (bytes.now ++ more)) }
+        ensures wants { IsOf self.old bytes.now → IfOk result (IsWanting self.new bytes.now) }
     {
         match bytes.get(self.passed..) {
             None => Ok(None),

@@ -1,20 +1,12 @@
-use Rattle.std.specs.Prelude.{List, ℕ}
-use Rattle.std.proofs.Common.{arith, refl, subst}
+use Rattle.std.proofs.Common.{arith, refl}
 use Rattle.std.proofs.lemmas.List.{nil_from_length}
-use Rattle.winnow.specs.InTurn.{First}
-use Rattle.format_resp.proofs.FirstLines.{sought_text, start_never, start_none, start_silent}
+use Rattle.format_resp.proofs.FirstLines.{none_begun, sought_text, start_never, start_silent}
 use Rattle.format_resp.proofs.FirstLines.{start_stands, start_unmarked, text_sought}
-use Rattle.format_resp.specs.Heads.{HeadText}
 use Rattle.format_resp.proofs.heads.start_of.Goals as goal
 
 pub returns-in-None-clause-told : goal.returns-in-None-clause-told
-returns-in-None-clause-told c all = (
-  omega arith,
-  tt,
-  λ head rest x.
-      let P : List ℕ → Type 0 = λ l. First HeadText l head rest in
-      start_none head rest (subst P (nil_from_length _ c.in-None.ensures.cases) x),
-)
+returns-in-None-clause-told c all =
+    (omega arith, tt, none_begun c.args.bytes.now (nil_from_length _ c.in-None.ensures.cases))
 
 pub returns-in-None-mark_of-clause-told : goal.returns-in-None-mark_of-clause-told
 returns-in-None-mark_of-clause-told c all =
@@ -22,7 +14,8 @@ returns-in-None-mark_of-clause-told c all =
 
 pub returns-in-Open-clause-told : goal.returns-in-Open-clause-told
 returns-in-Open-clause-told c all =
-    text_sought _ _ _ c.in-Open.behind c.in-Some.ensures.cases.0
+    text_sought _ _ _ c.in-Open.behind c.in-Some-mark_of.mark c.in-Some.ensures.cases.0
+    c.in-Some-mark_of.ensures.some
     (c.in-Open.ensures.told (sought_text _ _ _ c.args.sought c.in-Some.ensures.cases.0 all))
 
 pub returns-in-Never-clause-told : goal.returns-in-Never-clause-told

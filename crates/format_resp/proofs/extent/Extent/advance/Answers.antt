@@ -19,3 +19,12 @@ returns-in-Some-clause-kept c =
     let (low, high, is, size) = c.in-Some.ensures.lookup.0 in
     kept_more c.walk.result c.args.self.now c.walk.new.self c.args.bytes.now c.in-Some.rest.now is
     c.walk.ensures.kept
+
+pub returns-in-None-clause-wants : goal.returns-in-None-clause-wants
+returns-in-None-clause-wants c (rest, p) =
+    absurd (passed_within _ _ rest p c.in-None.ensures.lookup.0)
+
+pub returns-in-Some-clause-wants : goal.returns-in-Some-clause-wants
+returns-in-Some-clause-wants c (rest, p) =
+    let (low, high, is, size) = c.in-Some.ensures.lookup.0 in
+    c.walk.ensures.wants (left_is _ _ rest p c.in-Some.rest.now is)

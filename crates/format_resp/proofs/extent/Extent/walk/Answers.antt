@@ -22,3 +22,19 @@ returns-in-None-3-clause-told c p =
     λ o. IsPart c.pass_line.new.self c.args.bytes.now c.parts.rest.now (Ok o) in
     (subst P c.in-None-3.is
     (c.in_ok-pass_line-in-Some-checked_sub.ensures.told (c.parts.invariant.1 p))).1
+
+pub returns-in-None-2-clause-wants : goal.returns-in-None-2-clause-wants
+returns-in-None-2-clause-wants c p =
+    let P : Option (Bor (List ℕ)) → Type 0 =
+    λ o. IsPart c.pass_data.new.self c.args.bytes.now c.parts.rest.now (Ok o) in
+    let (passed, none, wants) =
+    subst P c.in-None-2.is (c.in_ok-pass_data-in-Some.ensures.told (c.parts.invariant.1 p)) in
+    (c.parts.rest.now, passed, wants)
+
+pub returns-in-None-3-clause-wants : goal.returns-in-None-3-clause-wants
+returns-in-None-3-clause-wants c p =
+    let P : Option (Bor (List ℕ)) → Type 0 =
+    λ o. IsPart c.pass_line.new.self c.args.bytes.now c.parts.rest.now (Ok o) in
+    let (passed, none, wants) = subst P c.in-None-3.is
+    (c.in_ok-pass_line-in-Some-checked_sub.ensures.told (c.parts.invariant.1 p)) in
+    (c.parts.rest.now, passed, wants)
