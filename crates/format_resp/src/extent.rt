@@ -202,10 +202,10 @@ impl Extent {
     /// and more: what was passed then is not looked at again, so the time that all calls take is
     /// linear in the bytes.
     ///
-    /// `None` is for bytes that begin with no reply as yet: a line of them is not ended, or bytes of
-    /// a bulk string are wanting. [`Refused`] is for those that begin with none whatever follows: a
-    /// line that can be none of a reply is refused where it ends, and its first byte where it
-    /// comes. How deep arrays may stand in one another is not asked:
+    /// `None` is for bytes that begin with no reply as yet: a line of them is not ended, or bytes
+    /// of a bulk string are wanting. [`Refused`] is for those that begin with none whatever
+    /// follows: a line that can be none of a reply is refused where it ends, and its first byte
+    /// where it comes. How deep arrays may stand in one another is not asked:
     /// [`read_reply`](crate::read::read_reply) says so, where the reply is whole. What is told is
     /// told of the extent of these bytes alone: of one that was taken for others it may be wrong.
     ///
