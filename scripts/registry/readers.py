@@ -24,7 +24,8 @@ READERS = [
         "`Ok` exactly where the bytes are a document of these records, or a table; one record, "
         "whole and in pieces"),
     ("RESP2", "format_resp", "yes",
-        "the reply that bytes begin with, nested to a level, whole and in pieces"),
+        "the reply that bytes begin with, nested to a level, whole and in pieces; where it ends, "
+        "by one pass over pieces"),
     ("JSON (RFC 8259): numbers, strings, words", "format_json_scalars", "yes",
         "the number, string or word that a text begins with, its escapes undone"),
     ("JSON: values", "format_json_values", "yes",

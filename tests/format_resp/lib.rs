@@ -2,6 +2,8 @@
 #![tactic(auto)]
 
 #[cfg(test)]
+mod extents;
+#[cfg(test)]
 mod level;
 #[cfg(test)]
 mod pieces;

@@ -119,7 +119,7 @@ signed_of = record {
   );
 }
 
-signed_unique : IsUnique SignedRead
+pub signed_unique : IsUnique SignedRead
 signed_unique = (dec_int_exact (λ x. x) (λ x. x) bytes_reading (λ n. n) (FitsSigned w64) modal
     (λ t u e. e)).unique
 
@@ -128,12 +128,12 @@ unfolding SignedDecimal
 signed_fits xs rest n (front, sign, digits, e, chars, is, stops, fits) = fits
 
 -- what all of some bytes are
-all_signed : (n : ℤ) (xs : List ℕ) → SignedRead xs n [] → SignedText n xs
+pub all_signed : (n : ℤ) (xs : List ℕ) → SignedRead xs n [] → SignedText n xs
 all_signed n xs x =
     let (front, e, a) = signed_of.there xs n [] x in
     let P : List ℕ → Type 0 = λ l. SignedText n l in subst P (sym (append-nil front) ∙ sym e) a
 
-signed_all : (n : ℤ) (xs : List ℕ) → SignedText n xs → SignedRead xs n []
+pub signed_all : (n : ℤ) (xs : List ℕ) → SignedText n xs → SignedRead xs n []
 signed_all n xs a =
     let P : List ℕ → Type 0 = λ l. SignedRead l n [] in
     subst P (append-nil xs) (signed_of.back n xs [] a tt)

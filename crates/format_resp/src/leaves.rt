@@ -3,7 +3,7 @@
 ghost use Rattle.std.specs.Int.{w64};
 ghost use Rattle.std.specs.Prelude.{FitsSigned, IfOk};
 ghost use Rattle.winnow.specs.Bytes.{bytes_follow, bytes_input, bytes_reading};
-ghost use Rattle.winnow.specs.Exact.{Reads};
+ghost use Rattle.winnow.specs.Exact.{IsSpared, Reads};
 ghost use Rattle.winnow.specs.Cut.{ReadsOrAsks};
 ghost use Rattle.winnow.specs.InTurn.{First};
 ghost use Rattle.format_resp.specs.Leaves.{SignedRead};
@@ -58,9 +58,10 @@ pub(crate) fn read_line<'i>(input: &mut Partial<&'i [u8]>) -> Result<&'i [u8], E
 }
 
 /// The integer that bytes begin with.
-fn read_signed<'i>(bytes: &mut &'i [u8]) -> Result<i64, ErrMode<EmptyError>>
-    ensures { Reads bytes_reading ⟦<Error as HasKind>⟧.kind SignedRead (bytes_input bytes.old.now)
-        result (bytes_input bytes.new.now) }
+pub(crate) fn read_signed<'i>(bytes: &mut &'i [u8]) -> Result<i64, ErrMode<EmptyError>>
+    ensures reads { Reads bytes_reading ⟦<Error as HasKind>⟧.kind SignedRead
+        (bytes_input bytes.old.now) result (bytes_input bytes.new.now) }
+    ensures spared { IsSpared ⟦<Error as HasKind>⟧.kind (bytes_input bytes.old.now) result }
 {
     DecInt.read(bytes)
 }

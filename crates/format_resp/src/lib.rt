@@ -7,7 +7,10 @@
 //! may be of any length. Commands that are no arrays (inline ones) are no replies.
 #![tactic(auto)]
 
+pub mod extent;
+mod heads;
 mod leaves;
+mod lines;
 mod pieces;
 pub mod read;
 pub mod reply;

@@ -1,0 +1,341 @@
+-- What is due behind what is passed of a reply.
+use Rattle.std.specs.Prelude.{◌≡◌, ◌↔◌, ◌<◌, ◌≤◌, ◌+◌, ◌^◌, ⊤, ℕ, ℤ, zero, suc, List, [], ◌∷◌, ◌++◌}
+use Rattle.std.specs.Prelude.{length, Option, Some, None, pos, FitsSigned}
+use Rattle.std.specs.Borrow.{Bor}
+use Rattle.std.specs.Int.{w64}
+use Rattle.std.proofs.Common.{refl, sym, ap, subst, ◌∙◌, arith, append_assoc}
+use Rattle.std.proofs.lemmas.List.{append-nil}
+use Rattle.winnow.specs.InTurn.{First, Led}
+use Rattle.winnow.specs.Texts.{Row, Text}
+use Rattle.format_resp.proofs.Deeper.{deeper, list_for, row_as}
+use Rattle.format_resp.proofs.FirstLines.{head_splits}
+use Rattle.format_resp.specs.Extents.{AreDue, AreReplies, IsReply, Stands, count_after}
+use Rattle.format_resp.specs.Extents.{data_after}
+use Rattle.format_resp.specs.Heads.{HeadText, Says, array_head, bulk_head}
+use Rattle.format_resp.specs.Read.{data_unique}
+use Rattle.format_resp.specs.Resp.{ArrayBehind, Body, BulkBehind, DataText, Elements, Ended}
+use Rattle.format_resp.specs.Resp.{IntegerText, IsSize, LineText, MarkText, Replies}
+use Rattle.format_resp.specs.Resp.{ReplyText, SignedText, SizeText}
+use Rattle.format_resp.specs.declared.heads.Head.{Head}
+use Rattle.format_resp.specs.declared.heads.Head.TheVariants as heads
+use Rattle.format_resp.specs.declared.leaves.Mark.{Mark}
+use Rattle.format_resp.specs.declared.leaves.Mark.TheVariants.{Colon, Dollar, Minus, Plus, Star}
+use Rattle.format_resp.specs.declared.reply.Reply as made
+
+-- ---- replies of some levels, and of one
+
+gather : (n : ℕ) (xs : List ℕ) → AreReplies n xs → (level : ℕ) × (os : List (Replies ⊤))
+    × (length os ≡ n) × Row (ReplyText level) os xs
+unfolding Row
+gather zero xs e = (0, [], refl, e)
+gather (suc n) xs (ys, zs, (a, o, t), many, e) =
+    let (b, os, count, row) = gather n zs many in
+    let P : ℕ → Type 0 = λ k. Row (ReplyText {A = ⊤} k) os zs in
+    let same : a + b ≡ b + a = omega arith in (
+      b + a,
+      o ∷ os,
+      ap (λ k. suc k) count,
+      (
+        ys,
+        zs,
+        deeper b a o ys t,
+        subst P same (row_as (ReplyText b) (ReplyText (a + b)) (deeper a b) os zs row),
+        e,
+      ),
+    )
+
+module _ {A : Type 0} (these : Text ℕ (Replies A))
+    (is : (o : Replies A) (xs : List ℕ) → these o xs → IsReply xs) where
+  spread : (os : List (Replies A)) (xs : List ℕ) → Row these os xs → AreReplies (length os) xs
+  unfolding Row
+  spread [] xs e = e
+  spread (o ∷ os) xs (ys, zs, t, row, e) = (ys, zs, is o ys t, spread os zs row, e)
+
+-- ---- what is behind a first line
+
+abbrev pub Behind : Head → List ℕ → Type 0
+Behind heads.Ends xs = xs ≡ []
+Behind (heads.Data n) xs = (bulk : Bor (List ℕ)) × DataText n bulk xs
+Behind (heads.Replies n) xs = AreReplies n xs
+
+module _ {A : Type 0} (elements : Text ℕ (List (Replies A)))
+    (are : (os : List (Replies A)) (xs : List ℕ) → elements os xs → AreReplies (length os) xs) where
+  bulk_there : (size : Option ℕ) (reply : Replies A) (xs : List ℕ) → BulkBehind size reply xs
+      → Behind (bulk_head size) xs
+  bulk_there None reply xs (is, empty) = empty
+  bulk_there (Some n) reply xs (bulk, is, t) = (bulk, t)
+
+  array_there : (size : Option ℕ) (reply : Replies A) (xs : List ℕ)
+      → ArrayBehind elements size reply xs → Behind (array_head size) xs
+  array_there None reply xs (is, empty) = empty
+  array_there (Some n) reply xs (list, is, (many, row)) =
+      let P : ℕ → Type 0 = λ k. AreReplies k xs in subst P many (are list.items xs row)
+
+  body_there : (mark : Mark) (reply : Replies A) (xs : List ℕ) → Body elements mark reply xs
+      → (head : Head) × (us : List ℕ) × (vs : List ℕ) × Says mark head us × Behind head vs
+      × (xs ≡ us ++ vs)
+  unfolding Led
+  body_there Plus reply xs (line, is, t) =
+      (heads.Ends, xs, [], (line, refl, t), refl, sym (append-nil xs))
+  body_there Minus reply xs (line, is, t) =
+      (heads.Ends, xs, [], (line, refl, t), refl, sym (append-nil xs))
+  body_there Colon reply xs (n, is, t) =
+      (heads.Ends, xs, [], (n, refl, t), refl, sym (append-nil xs))
+  body_there Dollar reply xs (size, us, vs, s, b, e) =
+      (bulk_head size, us, vs, (size, refl, s), bulk_there size reply vs b, e)
+  body_there Star reply xs (size, us, vs, s, b, e) =
+      (array_head size, us, vs, (size, refl, s), array_there size reply vs b, e)
+
+  led_there : (reply : Replies A) (xs : List ℕ) → Led MarkText (Body elements) reply xs
+      → (head : Head) × (us : List ℕ) × (vs : List ℕ) × HeadText head us × Behind head vs
+      × (xs ≡ us ++ vs)
+  unfolding Led
+  led_there reply xs (mark, ms, bs, m, body, e) =
+      let (head, us, vs, says, behind, d) = body_there mark reply bs body in (
+        head,
+        ms ++ us,
+        vs,
+        (mark, ms, us, m, says, refl),
+        behind,
+        e ∙ ap (λ l. ms ++ l) d ∙ sym (append_assoc ms us vs),
+      )
+
+-- ---- and back
+
+-- a size is small
+small_size : (n : ℕ) (z : ℤ) → FitsSigned w64 z → IsSize (Some n) z → n < 2 ^ 63
+small_size n (pos m) fits (positive, e) = omega (arith, fits, e)
+small_size n z fits (positive, e) = absurd positive
+
+size_small : (n : ℕ) (xs : List ℕ) → SizeText (Some n) xs → n < 2 ^ 63
+unfolding SizeText IntegerText Ended SignedText
+size_small n xs (z, (ys, (sign, digits, is, fits, d), e), s) = small_size n z fits s
+
+bulk_back : (size : Option ℕ) (xs : List ℕ) → Behind (bulk_head size) xs
+    → (reply : Replies ⊤) × BulkBehind size reply xs
+bulk_back None xs empty = (made.NullBulk, (refl, empty))
+bulk_back (Some n) xs (bulk, t) = (made.Bulk bulk, (bulk, refl, t))
+
+array_back : (size : Option ℕ) (us xs : List ℕ) → SizeText size us → Behind (array_head size) xs
+    → (level : ℕ) × (reply : Replies ⊤) × ArrayBehind (Elements level) size reply xs
+unfolding Elements
+array_back None us xs s empty = (0, made.NullArray, (refl, empty))
+array_back (Some n) us xs s many =
+    let (level, os, count, row) = gather n xs many in
+    let small = size_small n us s in
+    let (list, same) = list_for os (omega (arith, count, small)) in
+    let P : List (Replies ⊤) → Type 0 = λ l. (length l ≡ n) × Row (ReplyText level) l xs in
+    (suc level, made.Array list, (list, refl, subst P (sym same) (count, row)))
+
+body_back : (mark : Mark) (head : Head) (us vs : List ℕ) → Says mark head us → Behind head vs
+    → (level : ℕ) × (reply : Replies ⊤) × Body (Elements level) mark reply (us ++ vs)
+unfolding Led
+body_back Plus head us vs (line, is, t) behind =
+    let P : Head → Type 0 = λ h. Behind h vs in
+    let Q : List ℕ → Type 0 = λ l. LineText line l in (
+      0,
+      made.Simple line,
+      (
+        line,
+        refl,
+        subst Q (sym (append-nil us) ∙ ap (λ l. us ++ l) (sym (subst P is behind))) t,
+      ),
+    )
+body_back Minus head us vs (line, is, t) behind =
+    let P : Head → Type 0 = λ h. Behind h vs in
+    let Q : List ℕ → Type 0 = λ l. LineText line l in (
+      0,
+      made.Error line,
+      (
+        line,
+        refl,
+        subst Q (sym (append-nil us) ∙ ap (λ l. us ++ l) (sym (subst P is behind))) t,
+      ),
+    )
+body_back Colon head us vs (n, is, t) behind =
+    let P : Head → Type 0 = λ h. Behind h vs in
+    let Q : List ℕ → Type 0 = λ l. IntegerText n l in (
+      0,
+      made.Integer n,
+      (
+        n,
+        refl,
+        subst Q (sym (append-nil us) ∙ ap (λ l. us ++ l) (sym (subst P is behind))) t,
+      ),
+    )
+body_back Dollar head us vs (size, is, s) behind =
+    let P : Head → Type 0 = λ h. Behind h vs in
+    let (reply, b) = bulk_back size vs (subst P is behind) in
+    (0, reply, (size, us, vs, s, b, refl))
+body_back Star head us vs (size, is, s) behind =
+    let P : Head → Type 0 = λ h. Behind h vs in
+    let (level, reply, b) = array_back size us vs s (subst P is behind) in
+    (level, reply, (size, us, vs, s, b, refl))
+
+pub head_back : (head : Head) (us vs : List ℕ) → HeadText head us → Behind head vs
+    → IsReply (us ++ vs)
+unfolding Led
+head_back head us vs (mark, ms, bs, m, says, d) behind =
+    let (level, reply, body) = body_back mark head bs vs says behind in (
+      level,
+      reply,
+      (mark, ms, bs ++ vs, m, body, ap (λ l. l ++ vs) d ∙ append_assoc ms bs vs),
+    )
+
+-- ---- replies of any allocator
+
+module _ {A : Type 0} where
+  are_replies : (level : ℕ) (os : List (Replies A)) (xs : List ℕ) → Elements level os xs
+      → AreReplies (length os) xs
+  unfolding Elements
+  are_replies zero os xs never = absurd never
+  are_replies (suc level) os xs row = spread (ReplyText level) (λ o ys t.
+      let (head, us, vs, text, behind, e) =
+      led_there (Elements level) (are_replies level) o ys t in
+      let P : List ℕ → Type 0 = λ l. IsReply l in
+      subst P (sym e) (head_back head us vs text behind)) os xs row
+
+  pub reply_any : (level : ℕ) (reply : Replies A) (xs : List ℕ) → ReplyText level reply xs
+      → IsReply xs
+  reply_any level reply xs t =
+      let (head, us, vs, text, behind, e) =
+      led_there (Elements level) (are_replies level) reply xs t in
+      let P : List ℕ → Type 0 = λ l. IsReply l in
+      subst P (sym e) (head_back head us vs text behind)
+
+pub head_there : (xs : List ℕ) → IsReply xs → (head : Head) × (us : List ℕ) × (vs : List ℕ)
+    × HeadText head us × Behind head vs × (xs ≡ us ++ vs)
+head_there xs (level, reply, t) = led_there (Elements level) (are_replies level) reply xs t
+
+-- what stands first as a reply of any allocator
+pub stands_any : {A : Type 0} (level : ℕ) (reply : Replies A) (tokens rest : List ℕ)
+    → First (ReplyText level) tokens reply rest → Stands IsReply tokens rest
+unfolding First
+stands_any level reply tokens rest (front, t, e) = (front, reply_any level reply front t, e)
+
+-- ---- so many replies, and so many more
+
+many_append : (k n : ℕ) (xs ys : List ℕ) → AreReplies k xs → AreReplies n ys
+    → AreReplies (k + n) (xs ++ ys)
+many_append zero n xs ys e many =
+    let P : List ℕ → Type 0 = λ l. AreReplies n (l ++ ys) in
+    let Q : ℕ → Type 0 = λ m. AreReplies m (xs ++ ys) in
+    let same : n ≡ 0 + n = omega arith in subst Q same (subst P (sym e) many)
+many_append (suc k) n xs ys (us, vs, reply, more, e) many =
+    let Q : ℕ → Type 0 = λ m. AreReplies m (xs ++ ys) in
+    let same : suc (k + n) ≡ suc k + n = omega arith in
+    subst Q same (
+      us,
+      vs ++ ys,
+      reply,
+      many_append k n vs ys more many,
+      ap (λ l. l ++ ys) e ∙ append_assoc us vs ys,
+    )
+
+many_split : (k n : ℕ) (zs : List ℕ) → AreReplies (k + n) zs
+    → (xs : List ℕ) × (ys : List ℕ) × AreReplies k xs × AreReplies n ys × (zs ≡ xs ++ ys)
+many_split zero n zs many =
+    let Q : ℕ → Type 0 = λ m. AreReplies m zs in
+    let same : 0 + n ≡ n = omega arith in ([], zs, refl, subst Q same many, refl)
+many_split (suc k) n zs all =
+    let Q : ℕ → Type 0 = λ m. AreReplies m zs in
+    let same : suc k + n ≡ suc (k + n) = omega arith in
+    let (us, vs, reply, many, e) = subst Q same all in
+    let (xs, ys, some, others, d) = many_split k n vs many in (
+      us ++ xs,
+      ys,
+      (us, xs, reply, some, refl),
+      others,
+      e ∙ ap (λ l. us ++ l) d ∙ sym (append_assoc us xs ys),
+    )
+
+-- ---- what is due behind a first line
+
+due_of : (head : Head) (n : ℕ) (us vs : List ℕ) → Behind head us → AreReplies n vs
+    → AreDue (data_after head) (count_after head n) (us ++ vs)
+due_of heads.Ends n us vs e many =
+    let P : List ℕ → Type 0 = λ l. AreReplies n (l ++ vs) in subst P (sym e) many
+due_of (heads.Data k) n us vs (bulk, t) many = (bulk, us, vs, t, many, refl)
+due_of (heads.Replies k) n us vs some many =
+    let P : ℕ → Type 0 = λ m. AreReplies m (us ++ vs) in
+    let same : k + n ≡ n + k = omega arith in subst P same (many_append k n us vs some many)
+
+of_due : (head : Head) (n : ℕ) (xs : List ℕ) → AreDue (data_after head) (count_after head n) xs
+    → (us : List ℕ) × (vs : List ℕ) × Behind head us × AreReplies n vs × (xs ≡ us ++ vs)
+of_due heads.Ends n xs many = ([], xs, refl, many, refl)
+of_due (heads.Data k) n xs (bulk, us, vs, t, many, e) = (us, vs, (bulk, t), many, e)
+of_due (heads.Replies k) n xs many =
+    let P : ℕ → Type 0 = λ m. AreReplies m xs in
+    let same : n + k ≡ k + n = omega arith in many_split k n xs (subst P same many)
+
+-- a first line is passed
+pub line_passed : (head : Head) (n : ℕ) (tokens left : List ℕ) → First HeadText tokens head left
+    → (rest : List ℕ) → Stands (AreReplies (suc n)) tokens rest
+    ↔ Stands (AreDue (data_after head) (count_after head n)) left rest
+unfolding First
+line_passed head n tokens left (hs, text, f) rest = (
+  λ (front, (xs, ys, reply, many, e), d).
+      let (other, us, vs, first, behind, g) = head_there xs reply in
+      let split : tokens ≡ us ++ ((vs ++ ys) ++ rest) =
+      d ∙ ap (λ l. l ++ rest) (e ∙ ap (λ l. l ++ ys) g ∙ append_assoc us vs ys)
+      ∙ append_assoc us (vs ++ ys) rest in
+      let (same, lefts) = head_splits.one other head tokens ((vs ++ ys) ++ rest) left
+      (us, first, split) (hs, text, f) in
+      let P : Head → Type 0 = λ h. Behind h vs in
+      (vs ++ ys, due_of head n vs ys (subst P same behind) many, sym lefts),
+  λ (front, due, d).
+      let (us, vs, behind, many, e) = of_due head n front due in (
+        (hs ++ us) ++ vs,
+        (hs ++ us, vs, head_back head hs us text behind, many, refl),
+        f ∙ ap (λ l. hs ++ l) (d ∙ ap (λ l. l ++ rest) e ∙ append_assoc us vs rest)
+            ∙ sym (append_assoc hs us (vs ++ rest)) ∙ sym (append_assoc (hs ++ us) vs rest),
+      ),
+)
+
+-- the data of a bulk string is passed
+pub data_passed : (size n : ℕ) (bulk : Bor (List ℕ)) (tokens left : List ℕ)
+    → First (DataText size) tokens bulk left
+    → (rest : List ℕ) → Stands (AreDue (Some size) n) tokens rest
+    ↔ Stands (AreDue None n) left rest
+unfolding First
+data_passed size n bulk tokens left (hs, text, f) rest = (
+  λ (front, (other, xs, ys, t, many, e), d).
+      let split : tokens ≡ xs ++ (ys ++ rest) =
+      d ∙ ap (λ l. l ++ rest) e ∙ append_assoc xs ys rest in (
+        ys,
+        many,
+        sym ((data_unique size).one tokens other bulk (ys ++ rest) left (xs, t, split)
+            (hs, text, f)),
+      ),
+  λ (front, many, d). (
+    hs ++ front,
+    (bulk, hs, front, text, many, refl),
+    f ∙ ap (λ l. hs ++ l) d ∙ sym (append_assoc hs front rest),
+  ),
+)
+
+-- ---- how many
+
+says_small : (mark : Mark) (head : Head) (n : ℕ) (us : List ℕ) → Says mark head us
+    → count_after head n ≤ n + 2 ^ 63
+says_small Plus head n us (line, is, t) =
+    let P : Head → Type 0 = λ h. count_after h n ≤ n + 2 ^ 63 in subst P (sym is) (omega arith)
+says_small Minus head n us (line, is, t) =
+    let P : Head → Type 0 = λ h. count_after h n ≤ n + 2 ^ 63 in subst P (sym is) (omega arith)
+says_small Colon head n us (m, is, t) =
+    let P : Head → Type 0 = λ h. count_after h n ≤ n + 2 ^ 63 in subst P (sym is) (omega arith)
+says_small Dollar head n us (None, is, s) =
+    let P : Head → Type 0 = λ h. count_after h n ≤ n + 2 ^ 63 in subst P (sym is) (omega arith)
+says_small Dollar head n us (Some k, is, s) =
+    let P : Head → Type 0 = λ h. count_after h n ≤ n + 2 ^ 63 in subst P (sym is) (omega arith)
+says_small Star head n us (None, is, s) =
+    let P : Head → Type 0 = λ h. count_after h n ≤ n + 2 ^ 63 in subst P (sym is) (omega arith)
+says_small Star head n us (Some k, is, s) =
+    let P : Head → Type 0 = λ h. count_after h n ≤ n + 2 ^ 63 in
+    subst P (sym is) (omega (arith, size_small k us s))
+
+-- a line says of fewer replies than a number of 64 bits counts
+pub small_head : (head : Head) (n : ℕ) (xs : List ℕ) → HeadText head xs
+    → count_after head n ≤ n + 2 ^ 63
+unfolding Led
+small_head head n xs (mark, ys, zs, m, says, e) = says_small mark head n zs says

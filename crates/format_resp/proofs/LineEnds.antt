@@ -1,0 +1,202 @@
+-- Where a line ends: at the first byte that is in none.
+use Rattle.std.specs.Prelude.{◌≡◌, ◌≤◌, ◌<◌, ◌+◌, ℕ, zero, suc, List, [], ◌∷◌, ◌++◌, length, take}
+use Rattle.std.specs.Prelude.{drop}
+use Rattle.std.specs.Prelude.{◌-◌, ◌⊎◌, slice_index, true}
+use Rattle.std.specs.List.{AllByRecursion}
+use Rattle.std.proofs.Common.{refl, sym, ap, subst, inl, inr, ◌∙◌, arith, append_assoc, get_or}
+use Rattle.std.proofs.Common.{length-append, length-drop}
+use Rattle.std.proofs.Math.Seq.{take-add, take-append_seam}
+use Rattle.std.proofs.lemmas.Bool.Decides.{nat_tests}
+use Rattle.std.proofs.lemmas.List.{get_or-drop, take_all}
+use Rattle.memchr.specs.Find.{is_byte2}
+use Rattle.format_resp.specs.Lines.{EndsLine, IsLessLine, IsOpen}
+use Rattle.format_resp.specs.declared.lines.Line.{Line}
+use Rattle.format_resp.specs.declared.lines.Line.TheVariants.{Never, Open, Whole}
+use Rattle.format_resp.specs.Resp.{InLine}
+
+pub all_append : (xs ys : List ℕ) → AllByRecursion InLine xs → AllByRecursion InLine ys
+    → AllByRecursion InLine (xs ++ ys)
+all_append [] ys a b = b
+all_append (x ∷ xs) ys a b = (a.0, all_append xs ys a.1 b)
+
+-- what has no byte of a line end
+pub none_plain : (ys : List ℕ) (k : ℕ)
+    → ((j : ℕ) → j < k → is_byte2 13 10 (slice_index ys j) ≡ true → ⊥)
+    → AllByRecursion InLine (take k ys)
+none_plain [] zero f = tt
+none_plain [] (suc k) f = tt
+none_plain (y ∷ ys) zero f = tt
+none_plain (y ∷ ys) (suc k) f = (
+  (
+    (λ e. f 0 (omega arith) (subst P (sym e) refl)),
+    (λ e. f 0 (omega arith) (subst P (sym e) refl)),
+  ),
+  none_plain ys k (λ j less. f (suc j) (omega (arith, less))),
+)
+  where
+    P : ℕ → Type 0
+    P z = is_byte2 13 10 z ≡ true
+
+-- and what is before it has none
+pub plain_before : (xs unseen : List ℕ) (n k : ℕ) → unseen ≡ drop n xs
+    → AllByRecursion InLine (take n xs)
+    → ((j : ℕ) → j < k → is_byte2 13 10 (slice_index unseen j) ≡ true → ⊥)
+    → AllByRecursion InLine (take (n + k) xs)
+plain_before xs unseen n k e all none =
+    let P : List ℕ → Type 0 = λ l. AllByRecursion InLine l in
+    let Q : List ℕ → Type 0 = λ l. AllByRecursion InLine (take k l) in
+    subst P (sym (take-add n k xs))
+    (all_append (take n xs) (take k (drop n xs)) all (subst Q e (none_plain unseen k none)))
+
+-- no line ends in a line
+pub plain_none : (xs line rest : List ℕ) → AllByRecursion InLine xs
+    → xs ≡ line ++ (13 ∷ rest) → ⊥
+plain_none [] [] rest a e = cc
+plain_none [] (l ∷ line) rest a e = cc
+plain_none (x ∷ xs) [] rest a e = a.0.0 (let d : x ≡ 13 = cc in d)
+plain_none (x ∷ xs) (l ∷ line) rest a e =
+    plain_none xs line rest a.1 (let d : xs ≡ line ++ (13 ∷ rest) = cc in d)
+
+-- a line ends at the first byte that is in none
+pub until_end : (c d : ℕ) (xs ys rest other : List ℕ) → AllByRecursion InLine xs
+    → AllByRecursion InLine ys → (InLine c → ⊥) → (InLine d → ⊥)
+    → xs ++ (c ∷ rest) ≡ ys ++ (d ∷ other) → (xs ≡ ys) × (c ≡ d) × (rest ≡ other)
+until_end c d [] [] rest other a b m n e = (refl, cc, cc)
+until_end c d [] (y ∷ ys) rest other a b m n e =
+    let P : ℕ → Type 0 = λ z. InLine z in
+    absurd (m (subst P (let f : y ≡ c = cc in f) b.0))
+until_end c d (x ∷ xs) [] rest other a b m n e =
+    let P : ℕ → Type 0 = λ z. InLine z in
+    absurd (n (subst P (let f : x ≡ d = cc in f) a.0))
+until_end c d (x ∷ xs) (y ∷ ys) rest other a b m n e =
+    let (same, first, left) = until_end c d xs ys rest other a.1 b.1 m n
+    (let f : xs ++ (c ∷ rest) ≡ ys ++ (d ∷ other) = cc in f) in
+    (let f : x ∷ xs ≡ y ∷ ys = cc in f, first, left)
+
+pub return_ends : InLine 13 → ⊥
+return_ends a = a.0 refl
+
+feed_ends : (c : ℕ) → c ≡ 10 → InLine c → ⊥
+feed_ends c e a = a.1 e
+
+-- a return alone is no line end yet
+pub open_none : (xs line rest : List ℕ) → AllByRecursion InLine xs
+    → EndsLine (xs ++ (13 ∷ [])) line rest
+    → ⊥
+open_none xs line rest a (b, e) =
+    let (same, first, left) =
+    until_end 13 13 xs line [] (10 ∷ rest) a b return_ends return_ends e in
+    cc
+
+-- no line ends in what is open
+pub open_endless : (tokens : List ℕ) → IsOpen tokens → (line rest : List ℕ)
+    → EndsLine tokens line rest → ⊥
+open_endless tokens (xs, all, inl e) line rest (a, f) =
+    plain_none xs line (10 ∷ rest) all (sym e ∙ f)
+open_endless tokens (xs, all, inr e) line rest (a, f) =
+    open_none xs line rest all (a, sym e ∙ f)
+
+-- a feed alone never is
+pub feed_never : (c : ℕ) (xs behind more line rest : List ℕ) → c ≡ 10 → AllByRecursion InLine xs
+    → EndsLine ((xs ++ (c ∷ behind)) ++ more) line rest → ⊥
+feed_never c xs behind more line rest is a (b, e) =
+    let (same, first, left) = until_end c 13 xs line (behind ++ more) (10 ∷ rest) a b
+    (feed_ends c is) return_ends (sym (append_assoc xs (c ∷ behind) more) ∙ e) in
+    absurd (omega (arith, first, is))
+
+-- nor a return and another byte
+pub return_never : (c : ℕ) (xs behind more line rest : List ℕ) → (c ≡ 10 → ⊥)
+    → AllByRecursion InLine xs
+    → EndsLine ((xs ++ (13 ∷ c ∷ behind)) ++ more) line rest → ⊥
+return_never c xs behind more line rest is a (b, e) =
+    let (same, first, left) = until_end 13 13 xs line (c ∷ behind ++ more) (10 ∷ rest) a b
+    return_ends return_ends (sym (append_assoc xs (13 ∷ c ∷ behind) more) ∙ e) in
+    is (let f : c ≡ 10 = cc in f)
+
+-- ---- of what stands behind a line
+
+module _ (line behind left : List ℕ) (first : ℕ) (all : AllByRecursion InLine line)
+    (split : behind ≡ first ∷ left) where
+  pub ended_feed : (first ≡ 13 → ⊥) → is_byte2 13 10 (slice_index behind 0) ≡ true
+      → (more other rest : List ℕ) → EndsLine ((line ++ behind) ++ more) other rest → ⊥
+  ended_feed not test more other rest x =
+      let P : List ℕ → Type 0 = λ l. is_byte2 13 10 (slice_index l 0) ≡ true in
+      let Q : List ℕ → Type 0 = λ l. EndsLine ((line ++ l) ++ more) other rest in
+      feed_never first line left more other rest (feed first not (subst P split test)) all
+      (subst Q split x)
+    where
+      feed : (b : ℕ) → (b ≡ 13 → ⊥) → is_byte2 13 10 b ≡ true → b ≡ 10
+      feed b not is = grind (arith, nat_tests)
+
+  pub ended_open : first ≡ 13 → left ≡ [] → (length line ≤ length (line ++ behind))
+      × AllByRecursion InLine (take (length line) (line ++ behind)) × IsOpen (line ++ behind)
+  ended_open is none =
+      let P : List ℕ → Type 0 = λ l. AllByRecursion InLine l in
+      let e : behind ≡ 13 ∷ [] = cc in (
+        omega (arith, length-append line behind),
+        subst P (sym (take-append_seam line behind)) all,
+        (line, all, inr (ap (λ l. line ++ l) e)),
+      )
+
+  pub ended_other : (second : ℕ) (others : List ℕ) → first ≡ 13 → left ≡ second ∷ others
+      → (second ≡ 10 → ⊥) → (more other rest : List ℕ)
+      → EndsLine ((line ++ behind) ++ more) other rest → ⊥
+  ended_other second others is e not more other rest x =
+      let d : behind ≡ 13 ∷ second ∷ others = cc in
+      let Q : List ℕ → Type 0 = λ l. EndsLine ((line ++ l) ++ more) other rest in
+      return_never second line others more other rest not all (subst Q d x)
+
+-- ---- of what was sought before
+
+-- all of it
+pub open_all : (xs : List ℕ) → AllByRecursion InLine xs → (length xs ≤ length xs)
+    × AllByRecursion InLine (take (length xs) xs) × IsOpen xs
+open_all xs all =
+    let P : List ℕ → Type 0 = λ l. AllByRecursion InLine l in (
+      omega arith,
+      subst P (sym (take_all (length xs) xs (omega arith))) all,
+      (xs, all, inl refl),
+    )
+
+-- more than there is
+pub open_past : (xs : List ℕ) (n : ℕ) → (length xs < n) ⊎ (length xs < length xs)
+    → AllByRecursion InLine (take n xs) → AllByRecursion InLine xs
+open_past xs n (inl less) all =
+    let P : List ℕ → Type 0 = λ l. AllByRecursion InLine l in
+    subst P (take_all n xs (omega (arith, less))) all
+open_past xs n (inr less) all = absurd (omega (arith, less))
+
+-- what is left is what is behind
+pub unseen_rest : (xs unseen : List ℕ) (n : ℕ) → unseen ≡ take (length xs - n) (drop n xs)
+    → unseen ≡ drop n xs
+unseen_rest xs unseen n e =
+    e ∙ take_all (length xs - n) (drop n xs) (omega (arith, length-drop n xs))
+
+pub open_rest : (xs unseen : List ℕ) (n : ℕ) → unseen ≡ take (length xs - n) (drop n xs)
+    → AllByRecursion InLine (take n xs)
+    → ((k : ℕ) → 0 ≤ k → k < length unseen → is_byte2 13 10 (slice_index unseen k) ≡ true → ⊥)
+    → AllByRecursion InLine xs
+open_rest xs unseen n e all none =
+    let P : List ℕ → Type 0 = λ l. AllByRecursion InLine l in
+    let d = unseen_rest xs unseen n e in
+    subst P (take_all (n + length unseen) xs
+    (omega (arith, ap (λ l. length l) d, length-drop n xs)))
+    (plain_before xs unseen n (length unseen) d all (λ j less. none j (omega arith) less))
+
+-- the first byte that is in no line
+pub found_first : (xs unseen : List ℕ) (n k : ℕ) → unseen ≡ take (length xs - n) (drop n xs)
+    → is_byte2 13 10 (slice_index unseen k) ≡ true
+    → is_byte2 13 10 (slice_index (drop (n + k) xs) 0) ≡ true
+found_first xs unseen n k e test =
+    let d = unseen_rest xs unseen n e in
+    let same : get_or unseen k 0 ≡ get_or (drop (n + k) xs) 0 0 =
+    ap (λ l. get_or l k 0) d ∙ get_or-drop n xs k 0
+    ∙ ap (λ j. get_or xs j 0) (let z : n + k ≡ n + k + 0 = omega arith in z)
+    ∙ sym (get_or-drop (n + k) xs 0 0) in
+    let P : ℕ → Type 0 = λ b. is_byte2 13 10 b ≡ true in subst P same test
+
+-- less than what is less
+pub less_line : (line : Line) (n m : ℕ) → n ≤ m → IsLessLine n line → IsLessLine m line
+less_line (Whole line rest) n m le less = omega (arith, le, less)
+less_line (Open k) n m le less = tt
+less_line Never n m le less = tt

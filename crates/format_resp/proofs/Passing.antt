@@ -1,0 +1,317 @@
+-- What is passed of some bytes, a part more.
+use Rattle.std.specs.Prelude.{◌≡◌, ◌↔◌, ◌<◌, ◌≤◌, ◌+◌, ◌-◌, ◌*◌, ◌^◌, ◌⊎◌, ℕ, suc}
+use Rattle.std.specs.Prelude.{List, [], ◌∷◌, ◌++◌, length, take, drop, Option, Some, None, Ok}
+use Rattle.std.specs.Borrow.{Bor}
+use Rattle.std.specs.List.{AllByRecursion}
+use Rattle.std.proofs.Common.{refl, sym, ap, subst, inl, inr, ◌∙◌, arith, append_assoc}
+use Rattle.std.proofs.Common.{length-append}
+use Rattle.std.proofs.lemmas.List.{append-nil, drop_at, take-append-le}
+use Rattle.std.specs.Prelude.{Err, OnOk, Result}
+use Rattle.std.specs.Result.{IsErrAnd}
+use Rattle.winnow.specs.InTurn.{First, Led}
+use Rattle.format_resp.proofs.Dues.{data_passed, head_there, line_passed, small_head}
+use Rattle.format_resp.proofs.LineEnds.{unseen_rest}
+use Rattle.format_resp.specs.Extents.{AreDue, AreReplies, IsOf, IsPart}
+use Rattle.format_resp.specs.Extents.{IsReply, IsTold, PartFound, Passed}
+use Rattle.format_resp.specs.Extents.{Stands, count_after, data_after}
+use Rattle.format_resp.specs.Heads.{HeadText}
+use Rattle.format_resp.specs.Resp.{DataText, Ended, InLine, MarkText}
+use Rattle.format_resp.specs.declared.extent.Extent.{Extent}
+use Rattle.format_resp.specs.declared.extent.Refused.{Refused}
+use Rattle.format_resp.specs.declared.heads.Head.{Head}
+
+-- an error that is passed on
+pub err_part : (f : Extent) (tokens rest : List ℕ) (r : PartFound) {e : Refused}
+    → IsErrAnd r (λ y. y ≡ e)
+    → ((more left : List ℕ) → Stands IsReply (tokens ++ more) left → ⊥)
+    → IsPart f tokens rest r
+err_part f tokens rest (Ok o) is none = absurd is
+err_part f tokens rest (Err y) is none = none
+
+-- ---- parts
+
+-- nothing is sought in nothing
+pub all_none : (xs : List ℕ) → AllByRecursion InLine (take 0 xs)
+all_none [] = tt
+all_none (x ∷ xs) = tt
+
+-- where no first line stands no replies do
+no_line : (n : ℕ) (tokens : List ℕ)
+    → ((head : Head) (rest : List ℕ) → First HeadText tokens head rest → ⊥) → (left : List ℕ)
+    → Stands (AreReplies (suc n)) tokens left → ⊥
+unfolding First
+no_line n tokens none left (front, (xs, ys, reply, many, e), d) =
+    let (head, us, vs, text, behind, g) = head_there xs reply in
+    none head ((vs ++ ys) ++ left) (
+      us,
+      text,
+      d ∙ ap (λ l. l ++ left) (e ∙ ap (λ l. l ++ ys) g ∙ append_assoc us vs ys)
+          ∙ append_assoc us (vs ++ ys) left,
+    )
+
+-- where no bulk string stands nothing that is behind it does
+no_data : (size n : ℕ) (tokens : List ℕ)
+    → ((bulk : Bor (List ℕ)) (rest : List ℕ) → First (DataText size) tokens bulk rest → ⊥)
+    → (left : List ℕ) → Stands (AreDue (Some size) n) tokens left → ⊥
+unfolding First
+no_data size n tokens none left (front, (bulk, xs, ys, t, many, e), d) =
+    none bulk (ys ++ left) (xs, t, d ∙ ap (λ l. l ++ left) e ∙ append_assoc xs ys left)
+
+head_some : (head : Head) (xs : List ℕ) → HeadText head xs → 0 < length xs
+unfolding Led MarkText
+head_some head xs (mark, ys, zs, is, says, e) =
+    omega (arith, ap (λ l. length l) e, ap (λ l. length l) is, length-append ys zs)
+
+data_some : (size : ℕ) (bulk : Bor (List ℕ)) (xs : List ℕ) → DataText size bulk xs → 0 < length xs
+unfolding DataText Ended
+data_some size bulk xs (ys, many, e) =
+    omega (arith, ap (λ l. length l) e, length-append ys (13 ∷ 10 ∷ []))
+
+module _ (e : Extent) (tokens rest : List ℕ) (p : Passed e tokens rest) where
+  -- where nothing that is due stands no reply does
+  none_due : ((left : List ℕ) → Stands (AreDue e.bulk e.replies) rest left → ⊥)
+      → (left : List ℕ) → Stands IsReply tokens left → ⊥
+  none_due none left x =
+      let P : List ℕ → Type 0 = λ l. Stands IsReply l left in
+      none left ((p.leads rest left).0 (subst P p.split x))
+
+  never_due : ((more left : List ℕ) → Stands (AreDue e.bulk e.replies) (rest ++ more) left → ⊥)
+      → (more left : List ℕ) → Stands IsReply (tokens ++ more) left → ⊥
+  never_due none more left x =
+      let P : List ℕ → Type 0 = λ l. Stands IsReply l left in
+      none more left ((p.leads (rest ++ more) left).0
+      (subst P (ap (λ l. l ++ more) p.split ∙ append_assoc p.front rest more) x))
+
+  -- a part that stands first is passed
+  part_passed : (f : Extent) (part left : List ℕ) → rest ≡ part ++ left → 0 < length part
+      → f.passed ≡ length tokens - length left → f.sought ≡ 0
+      → ((xs r : List ℕ) → Stands (AreDue e.bulk e.replies) (part ++ xs) r
+      ↔ Stands (AreDue f.bulk f.replies) xs r)
+      → f.replies ≤ e.replies + 2 ^ 63 → Passed f tokens left
+  part_passed f part left split some count sought step few = record {
+    front = p.front ++ part;
+    split = all;
+    count = omega (arith, count, ap (λ l. length l) all, length-append (p.front ++ part) left);
+    leads = λ xs r. (
+      λ x.
+          let P : List ℕ → Type 0 = λ l. Stands IsReply l r in
+          (step xs r).0 ((p.leads (part ++ xs) r).0 (subst P (append_assoc p.front part xs) x)),
+      λ y.
+          let P : List ℕ → Type 0 = λ l. Stands IsReply l r in
+          subst P (sym (append_assoc p.front part xs))
+          ((p.leads (part ++ xs) r).1 ((step xs r).1 y)),
+    );
+    few = fewer;
+    within = omega (arith, sought);
+    plain =
+        let Q : ℕ → Type 0 = λ n. AllByRecursion InLine (take n (drop 1 left)) in
+        subst Q (sym sought) (all_none (drop 1 left));
+  }
+    where
+      all : tokens ≡ (p.front ++ part) ++ left
+      all = p.split ∙ ap (λ l. p.front ++ l) split ∙ sym (append_assoc p.front part left)
+
+      fewer : f.replies ≤ 2 ^ 64 * f.passed + 1
+      fewer = omega (
+        arith,
+        few,
+        p.few,
+        count,
+        some,
+        p.count,
+        ap (λ l. length l) all,
+        length-append (p.front ++ part) left,
+        length-append p.front part,
+      )
+
+  -- a first line is
+  pub line_part : (f : Extent) (n : ℕ) (head : Head) (left : List ℕ) → e.bulk ≡ None
+      → e.replies ≡ suc n → First HeadText rest head left
+      → f.passed ≡ length tokens - length left → f.sought ≡ 0
+      → f.bulk ≡ data_after head → f.replies ≡ count_after head n → Passed f tokens left
+  unfolding First
+  line_part f n head left none one (part, text, split) count sought bulk replies =
+      let P : Option ℕ → Type 0 = λ d. (xs r : List ℕ)
+      → Stands (AreDue d e.replies) (part ++ xs) r
+      ↔ Stands (AreDue f.bulk f.replies) xs r in
+      let Q : ℕ → Type 0 = λ m. (xs r : List ℕ) → Stands (AreDue None m) (part ++ xs) r
+      ↔ Stands (AreDue f.bulk f.replies) xs r in
+      let R : Option ℕ → Type 0 = λ d. (xs r : List ℕ)
+      → Stands (AreReplies (suc n)) (part ++ xs) r ↔ Stands (AreDue d f.replies) xs r in
+      let S : ℕ → Type 0 = λ m. (xs r : List ℕ) → Stands (AreReplies (suc n)) (part ++ xs) r
+      ↔ Stands (AreDue (data_after head) m) xs r in
+      part_passed f part left split (head_some head part text) count sought
+      (subst P (sym none) (subst Q (sym one) (subst R (sym bulk) (subst S (sym replies)
+      (λ xs r. line_passed head n (part ++ xs) xs (part, text, refl) r)))))
+      (omega (arith, replies, one, small_head head n part text))
+
+  -- and is none as yet
+  pub line_open : (n : ℕ) → e.bulk ≡ None → e.replies ≡ suc n
+      → ((head : Head) (left : List ℕ) → First HeadText rest head left → ⊥) → (left : List ℕ)
+      → Stands IsReply tokens left → ⊥
+  line_open n none one never =
+      let P : Option ℕ → Type 0 = λ d. (left : List ℕ) → Stands (AreDue d e.replies) rest left
+      → ⊥ in
+      let Q : ℕ → Type 0 = λ m. (left : List ℕ) → Stands (AreDue None m) rest left → ⊥ in
+      none_due (subst P (sym none) (subst Q (sym one) (no_line n rest never)))
+
+  -- and never will be
+  pub line_never : (n : ℕ) → e.bulk ≡ None → e.replies ≡ suc n
+      → ((more : List ℕ) (head : Head) (left : List ℕ) → First HeadText (rest ++ more) head left
+      → ⊥) → (more left : List ℕ) → Stands IsReply (tokens ++ more) left → ⊥
+  line_never n none one never =
+      let P : Option ℕ → Type 0 = λ d. (more left : List ℕ)
+      → Stands (AreDue d e.replies) (rest ++ more) left → ⊥ in
+      let Q : ℕ → Type 0 = λ m. (more left : List ℕ) → Stands (AreDue None m) (rest ++ more) left
+      → ⊥ in
+      never_due (subst P (sym none) (subst Q (sym one)
+      (λ more. no_line n (rest ++ more) (never more))))
+
+  -- the bytes of a bulk string are
+  pub data_part : (f : Extent) (size : ℕ) (bulk : Bor (List ℕ)) (left : List ℕ)
+      → e.bulk ≡ Some size → First (DataText size) rest bulk left
+      → f.passed ≡ length tokens - length left → f.sought ≡ 0 → f.bulk ≡ None
+      → f.replies ≡ e.replies → Passed f tokens left
+  unfolding First
+  data_part f size bulk left some (part, text, split) count sought none replies =
+      let P : Option ℕ → Type 0 = λ d. (xs r : List ℕ)
+      → Stands (AreDue d e.replies) (part ++ xs) r
+      ↔ Stands (AreDue f.bulk f.replies) xs r in
+      let R : Option ℕ → Type 0 = λ d. (xs r : List ℕ)
+      → Stands (AreDue (Some size) e.replies) (part ++ xs) r
+      ↔ Stands (AreDue d f.replies) xs r in
+      let S : ℕ → Type 0 = λ m. (xs r : List ℕ)
+      → Stands (AreDue (Some size) e.replies) (part ++ xs) r
+      ↔ Stands (AreDue None m) xs r in
+      part_passed f part left split (data_some size bulk part text) count sought
+      (subst P (sym some) (subst R (sym none) (subst S (sym replies)
+      (λ xs r. data_passed size e.replies bulk (part ++ xs) xs (part, text, refl) r))))
+      (omega (arith, replies))
+
+  pub data_open : (size : ℕ) → e.bulk ≡ Some size
+      → ((bulk : Bor (List ℕ)) (left : List ℕ) → First (DataText size) rest bulk left → ⊥)
+      → (left : List ℕ) → Stands IsReply tokens left → ⊥
+  data_open size some never =
+      let P : Option ℕ → Type 0 = λ d. (left : List ℕ) → Stands (AreDue d e.replies) rest left
+      → ⊥ in
+      none_due (subst P (sym some) (no_data size e.replies rest never))
+
+  pub data_never : (size : ℕ) → e.bulk ≡ Some size
+      → ((more : List ℕ) (bulk : Bor (List ℕ)) (left : List ℕ)
+      → First (DataText size) (rest ++ more) bulk left → ⊥) → (more left : List ℕ)
+      → Stands IsReply (tokens ++ more) left → ⊥
+  data_never size some never =
+      let P : Option ℕ → Type 0 = λ d. (more left : List ℕ)
+      → Stands (AreDue d e.replies) (rest ++ more) left → ⊥ in
+      never_due (subst P (sym some) (λ more. no_data size e.replies (rest ++ more) (never more)))
+
+  -- where nothing is due the reply is what is passed
+  pub all_passed : e.bulk ≡ None → e.replies ≡ 0 → IsTold tokens (Ok (Some e.passed))
+  all_passed none zeros =
+      let P : Option ℕ → Type 0 = λ d. (xs left : List ℕ)
+      → Stands IsReply (p.front ++ xs) left ↔ Stands (AreDue d e.replies) xs left in
+      let Q : ℕ → Type 0 = λ n. (xs left : List ℕ)
+      → Stands IsReply (p.front ++ xs) left ↔ Stands (AreDue None n) xs left in
+      let leads : (xs left : List ℕ)
+      → Stands IsReply (p.front ++ xs) left ↔ Stands (AreReplies 0) xs left =
+      subst Q zeros (subst P none p.leads) in
+      let (whole, reply, same) = (leads [] []).1 ([], refl, refl) in
+      let R : List ℕ → Type 0 = λ l. IsReply l in (
+        p.front,
+        rest,
+        p.split,
+        p.count,
+        subst R (sym (sym (append-nil p.front) ∙ same ∙ append-nil whole)) reply,
+        λ more left x.
+            let S : List ℕ → Type 0 = λ l. Stands IsReply l left in
+            let (xs, empty, d) = (leads (rest ++ more) left).0
+            (subst S (ap (λ l. l ++ more) p.split ∙ append_assoc p.front rest more) x) in
+            sym (d ∙ ap (λ l. l ++ left) empty),
+      )
+
+  -- what is passed of bytes is passed of more
+  pub more_passed : (more : List ℕ) → Passed e (tokens ++ more) (rest ++ more)
+  more_passed more = record {
+    front = p.front;
+    split = ap (λ l. l ++ more) p.split ∙ append_assoc p.front rest more;
+    count = p.count;
+    leads = p.leads;
+    few = p.few;
+    within = more_within rest p.within;
+    plain = more_open rest p.within p.plain;
+  }
+    where
+      more_within : (xs : List ℕ) → e.sought ≤ length (drop 1 xs)
+          → e.sought ≤ length (drop 1 (xs ++ more))
+      more_within [] w = omega (arith, w)
+      more_within (x ∷ xs) w = omega (arith, w, length-append xs more)
+
+      more_open : (xs : List ℕ) → e.sought ≤ length (drop 1 xs)
+          → AllByRecursion InLine (take e.sought (drop 1 xs))
+          → AllByRecursion InLine (take e.sought (drop 1 (xs ++ more)))
+      more_open [] w a =
+          let Q : ℕ → Type 0 = λ n. AllByRecursion InLine (take n (drop 1 more)) in
+          let zeros : e.sought ≡ 0 = omega (arith, w) in
+          subst Q (sym zeros) (all_none (drop 1 more))
+      more_open (x ∷ xs) w a =
+          let Q : List ℕ → Type 0 = λ l. AllByRecursion InLine l in
+          subst Q (sym (take-append-le e.sought xs more w)) a
+
+  -- what is left is behind so many bytes
+  pub left_is : (left : List ℕ) → left ≡ take (length tokens - e.passed) (drop e.passed tokens)
+      → Passed e tokens left
+  left_is left is =
+      let P : List ℕ → Type 0 = λ l. Passed e tokens l in
+      let same : left ≡ rest =
+      unseen_rest tokens left e.passed is ∙ ap (λ l. drop e.passed l) p.split
+      ∙ drop_at p.front rest e.passed p.count in
+      subst P (sym same) p
+
+  -- so many bytes are there
+  pub passed_within : (length tokens < e.passed) ⊎ (length tokens < length tokens) → ⊥
+  passed_within (inl less) =
+      omega (arith, less, p.count, ap (λ l. length l) p.split, length-append p.front rest)
+  passed_within (inr less) = omega (arith, less)
+
+-- before the first byte
+pub none_passed : (e : Extent) (tokens : List ℕ) → e.passed ≡ 0 → e.sought ≡ 0 → e.bulk ≡ None
+    → e.replies ≡ 1 → IsOf e tokens
+none_passed e tokens passed sought none one = (
+  tokens,
+  record {
+    front = [];
+    split = refl;
+    count = sym passed;
+    leads =
+        let P : Option ℕ → Type 0 = λ d. (xs left : List ℕ)
+        → Stands IsReply xs left ↔ Stands (AreDue d e.replies) xs left in
+        let Q : ℕ → Type 0 = λ n. (xs left : List ℕ)
+        → Stands IsReply xs left ↔ Stands (AreReplies n) xs left in
+        subst P (sym none) (subst Q (sym one) one_due);
+    few = omega (arith, one);
+    within = omega (arith, sought);
+    plain =
+        let Q : ℕ → Type 0 = λ n. AllByRecursion InLine (take n (drop 1 tokens)) in
+        subst Q (sym sought) (all_none (drop 1 tokens));
+  },
+)
+  where
+    one_due : (xs left : List ℕ) → Stands IsReply xs left ↔ Stands (AreReplies 1) xs left
+    one_due xs left = (
+      λ (front, reply, d). (front, (front, [], reply, refl, sym (append-nil front)), d),
+      λ (front, (us, vs, reply, empty, d), f). (
+        us,
+        reply,
+        f ∙ ap (λ l. l ++ left) (d ∙ ap (λ l. us ++ l) empty ∙ append-nil us),
+      ),
+    )
+
+-- what is kept of bytes is kept of more
+pub kept_more : (r : Result (Option ℕ) Refused) (e f : Extent) (tokens left : List ℕ)
+    → left ≡ take (length tokens - e.passed) (drop e.passed tokens)
+    → OnOk r (Passed e tokens left → (rest : List ℕ) × Passed f tokens rest)
+    → OnOk r (IsOf e tokens → (more : List ℕ) → IsOf f (tokens ++ more))
+kept_more (Ok o) e f tokens left is kept = λ (rest, p) more.
+    let (after, q) = kept (left_is e tokens rest p left is) in
+    (after ++ more, more_passed f tokens after q more)
+kept_more (Err y) e f tokens left is kept = tt

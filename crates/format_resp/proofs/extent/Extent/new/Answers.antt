@@ -1,0 +1,6 @@
+use Rattle.std.proofs.Common.{refl}
+use Rattle.format_resp.proofs.Passing.{none_passed}
+use Rattle.format_resp.proofs.extent.Extent.new.Goals as goal
+
+pub returns : goal.returns
+returns c tokens = none_passed _ tokens refl refl refl refl

@@ -1,0 +1,35 @@
+use Rattle.std.specs.Prelude.{Option, ℕ}
+use Rattle.std.proofs.Common.{ap, refl, subst, sym}
+use Rattle.format_resp.proofs.FirstLines.{begun_none}
+use Rattle.format_resp.proofs.Passing.{line_never, line_open, line_part}
+use Rattle.format_resp.specs.Extents.{Wants}
+use Rattle.format_resp.proofs.extent.Extent.pass_line.Goals as goal
+
+pub returns-in-Never-clause-told : goal.returns-in-Never-clause-told
+returns-in-Never-clause-told c p =
+    line_never _ _ _ p c.args.others c.requires.due c.requires.one (c.in-Never.ensures.told p.plain)
+
+pub returns-in-Open-clause-told : goal.returns-in-Open-clause-told
+returns-in-Open-clause-told c p =
+    let (enough, all, begun) = c.in-Open.ensures.told p.plain in
+    let Q : Option ℕ → Type 0 = λ o. Wants o c.args.rest.now in (
+      record {
+        front = p.front;
+        split = p.split;
+        count = p.count;
+        leads = p.leads;
+        few = p.few;
+        within = enough;
+        plain = all;
+      },
+      line_open _ _ _ p c.args.others c.requires.due c.requires.one
+          (begun_none c.args.rest.now begun),
+      subst Q (sym c.requires.due) begun,
+    )
+
+pub returns-in-Some-clause-told : goal.returns-in-Some-clause-told
+returns-in-Some-clause-told c p =
+    line_part _ _ _ p _ c.args.others c.in-Whole.head c.in-Whole.left.now c.requires.due
+    c.requires.one (c.in-Whole.ensures.told p.plain) refl refl
+    (ap (λ (x : Option ℕ × ℕ). x.0) c.in-Some.ensures.some)
+    (ap (λ (x : Option ℕ × ℕ). x.1) c.in-Some.ensures.some)

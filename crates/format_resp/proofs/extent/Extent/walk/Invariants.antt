@@ -1,0 +1,12 @@
+use Rattle.std.proofs.Common.{◌≤◌, length}
+use Rattle.format_resp.specs.Extents.{Passed}
+use Rattle.format_resp.proofs.extent.Extent.walk.Given as goal
+
+-- what is left is behind what is passed
+abbrev pub invariant-parts : goal.invariant-parts
+invariant-parts l =
+    (length l.rest ≤ length l.bytes)
+    × (Passed l.fn.self l.bytes l.from → Passed l.self l.bytes l.rest)
+
+abbrev pub decreases-parts : goal.decreases-parts
+decreases-parts l = length l.rest

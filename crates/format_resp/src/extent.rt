@@ -1,0 +1,266 @@
+//! Where a reply ends whose bytes come in pieces.
+//!
+//! No byte is searched again for a line end, however many pieces there are, and those of a bulk
+//! string are not looked at: so a reply is found in a time that is linear in its bytes, and is then
+//! read by one call of [`read_reply`](crate::read::read_reply).
+ghost use Rattle.format_resp.specs.Extents.{IsDataEnd, IsLessPart, IsLineEnd, IsOf, IsPart};
+ghost use Rattle.format_resp.specs.Extents.{IsReply, IsTold, IsWanting, Passed, Stands};
+ghost use Rattle.format_resp.specs.Extents.{count_after, data_after};
+ghost use Rattle.format_resp.specs.Resp.{Replies, ReplyText};
+ghost use Rattle.std.specs.Prelude.{◌≡◌, ◌≤◌, ◌^◌, ◌++◌, ℕ, List, None, Some, length};
+ghost use Rattle.std.specs.Prelude.{IfOk, IfSome, OnOk, suc};
+ghost use Rattle.winnow.specs.InTurn.{First};
+
+use crate::heads::{Head, Start, start_of};
+use std::alloc::Allocator;
+
+/// No reply stands first in the bytes, whatever follows them.
+///
+/// ```
+/// use format_resp::extent::{Extent, Refused};
+///
+/// assert!(rt; matches!(Extent::new().advance(b"OK"), Err(Refused)));
+/// ```
+#[derive(Clone, Copy, Debug, PartialEq, Eq)]
+pub struct Refused;
+
+/// How far some bytes were searched for the end of the reply that they begin with.
+///
+/// ```
+/// use format_resp::extent::Extent;
+///
+/// let mut extent = Extent::new();
+/// assert!(rt; matches!(extent.advance(b"*2\r\n:1\r\n$3\r\nfo"), Ok(None)));
+/// assert!(rt; matches!(extent.advance(b"*2\r\n:1\r\n$3\r\nfoo\r\n+"), Ok(Some(17))));
+/// ```
+#[derive(Clone, Copy, Debug, PartialEq, Eq)]
+pub struct Extent {
+    /// How many bytes were passed.
+    passed: usize,
+    /// How many of the bytes behind the next one have no part of a line end.
+    sought: usize,
+    /// How many bytes a bulk string has that is due next, if one is whose size was passed.
+    bulk: Option<usize>,
+    /// How many replies are due behind that.
+    replies: u128,
+}
+
+/// What is behind the line end that the bytes begin with.
+fn behind_end<'i>(bytes: &'i [u8]) -> Result<Option<&'i [u8]>, Refused>
+    ensures told { IsLineEnd bytes.now result }
+    ensures less { IsLessPart (length bytes.now) result }
+{
+    match bytes.split_first() {
+        None => Ok(None),
+        Some((first, more)) => {
+            if *first != b'\r' {
+                return Err(Refused);
+            }
+            match more.split_first() {
+                None => Ok(None),
+                Some((second, left)) => {
+                    if *second == b'\n' {
+                        Ok(Some(left))
+                    } else {
+                        Err(Refused)
+                    }
+                }
+            }
+        }
+    }
+}
+
+/// What is behind the data of a bulk string of so many bytes, and its line end.
+fn behind_data<'i>(size: usize, bytes: &'i [u8]) -> Result<Option<&'i [u8]>, Refused>
+    ensures told { IsDataEnd size bytes.now result }
+    ensures less { IsLessPart (length bytes.now) result }
+{
+    match bytes.get(size..) {
+        None => Ok(None),
+        Some(behind) => behind_end(behind),
+    }
+}
+
+/// What is due behind a line, where so many other replies are; none if it is more than fits.
+fn due_behind(head: Head, others: u128) -> Option<(Option<usize>, u128)>
+    ensures some { IfSome result (λ due. due ≡ (data_after head, count_after head others)) }
+    ensures none { result ≡ None → 2 ^ 128 ≤ count_after head others }
+{
+    match head {
+        Head::Ends => Some((None, others)),
+        Head::Data(size) => Some((Some(size), others)),
+        Head::Replies(count) => match others.checked_add(count as u128) {
+            Some(sum) => Some((None, sum)),
+            None => None,
+        },
+    }
+}
+
+impl Extent {
+    /// Nothing is passed.
+    pub fn new() -> Extent
+        ensures { (tokens : List ℕ) → IsOf result tokens }
+    {
+        Extent {
+            passed: 0,
+            sought: 0,
+            bulk: None,
+            replies: 1,
+        }
+    }
+
+    /// Passes the data of a bulk string that is due next.
+    fn pass_data<'i>(
+        &mut self,
+        size: usize,
+        bytes: &[u8],
+        rest: &'i [u8],
+    ) -> Result<Option<&'i [u8]>, Refused>
+        requires within { length rest.now ≤ length bytes.now }
+        requires due { self.old.bulk ≡ Some size }
+        ensures told { Passed self.old bytes.now rest.now
+            → IsPart self.new bytes.now rest.now result }
+        ensures less { IsLessPart (length rest.now) result }
+    {
+        match behind_data(size, rest)? {
+            None => Ok(None),
+            Some(left) => {
+                *self = Extent {
+                    passed: bytes.len() - left.len(),
+                    sought: 0,
+                    bulk: None,
+                    replies: self.replies,
+                };
+                Ok(Some(left))
+            }
+        }
+    }
+
+    /// Passes the first line of a reply that is due next, where so many others are.
+    fn pass_line<'i>(
+        &mut self,
+        others: u128,
+        bytes: &[u8],
+        rest: &'i [u8],
+    ) -> Result<Option<&'i [u8]>, Refused>
+        requires within { length rest.now ≤ length bytes.now }
+        requires due { self.old.bulk ≡ None }
+        requires one { self.old.replies ≡ suc others }
+        ensures told { Passed self.old bytes.now rest.now
+            → IsPart self.new bytes.now rest.now result }
+        ensures less { IsLessPart (length rest.now) result }
+    {
+        match start_of(rest, self.sought) {
+            Start::Never => Err(Refused),
+            Start::Open(sought) => {
+                self.sought = sought;
+                Ok(None)
+            }
+            Start::Whole(head, left) => match due_behind(head, others) {
+                None => Err(Refused),
+                Some((bulk, replies)) => {
+                    *self = Extent {
+                        passed: bytes.len() - left.len(),
+                        sought: 0,
+                        bulk,
+                        replies,
+                    };
+                    Ok(Some(left))
+                }
+            },
+        }
+    }
+
+    /// Goes on where the rest is what was not passed.
+    fn walk(&mut self, bytes: &[u8], from: &[u8]) -> Result<Option<usize>, Refused>
+        requires within { length from.now ≤ length bytes.now }
+        ensures told { Passed self.old bytes.now from.now → IsTold bytes.now result }
+        ensures kept { OnOk result (Passed self.old bytes.now from.now
+            → (rest : List ℕ) × Passed self.new bytes.now rest) }
+        ensures wants { Passed self.old bytes.now from.now
+            → IfOk result (IsWanting self.new bytes.now) }
+    {
+        let mut rest = from;
+        'parts: loop {
+            match self.bulk {
+                Some(size) => match self.pass_data(size, bytes, rest)? {
+                    None => return Ok(None),
+                    Some(left) => rest = left,
+                },
+                None => match self.replies.checked_sub(1) {
+                    None => return Ok(Some(self.passed)),
+                    Some(others) => match self.pass_line(others, bytes, rest)? {
+                        None => return Ok(None),
+                        Some(left) => rest = left,
+                    },
+                },
+            }
+        }
+    }
+
+    /// How many bytes the reply has that the bytes begin with. They are those of the call before,
+    /// and more: what was passed then is not looked at again, so the time that all calls take is
+    /// linear in the bytes.
+    ///
+    /// `None` is for bytes that begin with no reply as yet: a line of them is not ended, or bytes
+    /// of a bulk string are wanting. [`Refused`] is for those that begin with none whatever
+    /// follows: a line that can be none of a reply is refused where it ends, and its first byte
+    /// where it comes. How deep arrays may stand in one another is not asked:
+    /// [`read_reply`](crate::read::read_reply) says so, where the reply is whole. What is told is
+    /// told of the extent of these bytes alone: of one that was taken for others it may be wrong.
+    ///
+    /// ```
+    /// use format_resp::extent::Extent;
+    /// use format_resp::read::{SAFE_LEVEL, read_reply};
+    /// use winnow::stream::Partial;
+    ///
+    /// let bytes = b"$6\r\nfoobar\r\n:1\r\n".as_slice();
+    /// let mut extent = Extent::new();
+    /// assert!(rt; matches!(extent.advance(&bytes[..7]), Ok(None)));
+    /// assert!(rt; matches!(extent.advance(bytes), Ok(Some(12))));
+    /// assert!(rt; read_reply(alloc, SAFE_LEVEL, &mut Partial::new(&bytes[..12])).is_ok());
+    /// ```
+    pub fn advance(&mut self, bytes: &[u8]) -> Result<Option<usize>, Refused>
+        ensures told { IsOf self.old bytes.now → IsTold bytes.now result }
+        ensures kept { OnOk result (IsOf self.old bytes.now
+            → (more : List ℕ) → IsOf self.new (bytes.now ++ more)) }
+        ensures wants { IsOf self.old bytes.now → IfOk result (IsWanting self.new bytes.now) }
+    {
+        match bytes.get(self.passed..) {
+            None => Ok(None),
+            Some(rest) => self.walk(bytes, rest),
+        }
+    }
+}
+
+/// How many bytes the reply has that the bytes begin with, by one call of [`Extent::advance`].
+///
+/// ```
+/// use format_resp::extent::reply_length;
+///
+/// assert!(rt; matches!(reply_length(b"*1\r\n+OK\r\n:1"), Ok(Some(9))));
+/// assert!(rt; matches!(reply_length(b"*1\r\n+OK"), Ok(None)));
+/// assert!(rt; reply_length(b":x\r\n").is_err());
+/// ```
+pub fn reply_length(bytes: &[u8]) -> Result<Option<usize>, Refused>
+    ensures { IsTold bytes.now result }
+{
+    Extent::new().advance(bytes)
+}
+
+/// What [`Extent::advance`] says of replies it says of those that
+/// [`read_reply`](crate::read::read_reply) reads, of any level and with any allocator: what that
+/// reads first stands first.
+///
+/// ```
+/// use format_resp::extent::a_reply_that_is_read_stands;
+/// use std::alloc::Allocator;
+///
+/// fn of_an_allocator<A: Allocator>() {
+///     a_reply_that_is_read_stands::<A>();
+/// }
+/// ```
+pub fn a_reply_that_is_read_stands<A: Allocator>()
+    ensures { (level : ℕ) (reply : Replies A) (tokens rest : List ℕ)
+        → First (ReplyText level) tokens reply rest → Stands IsReply tokens rest }
+{}
