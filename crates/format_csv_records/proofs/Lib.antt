@@ -1,0 +1,5 @@
+-- Written by scripts/registries.py: do not edit.
+pub mod Alone
+pub mod Cuts
+pub mod Runs
+pub mod Whole

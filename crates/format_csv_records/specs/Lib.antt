@@ -1,0 +1,6 @@
+-- Written by scripts/registries.py: do not edit.
+pub mod Apart
+pub mod Dialects
+pub mod Parts
+pub mod Records
+pub mod Refused
