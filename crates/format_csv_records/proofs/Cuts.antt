@@ -114,3 +114,10 @@ pub begun_more : {E : Type 0} (r : Result (Unit {0}) E) (new old more : List ℕ
     → OnOk r (drop k new ≡ drop k old ++ more)
 begun_more (Ok u) new old more k e le = rw e (drop-append-le k old more le)
 begun_more (Err x) new old more k e le = tt
+
+pub field_less : (fields : List (List ℕ)) (i : ℕ) (field : List ℕ)
+    → field_at fields i ≡ Some field → i < length fields
+unfolding field_at
+field_less [] i field e = cc
+field_less (f ∷ fs) zero field e = omega arith
+field_less (f ∷ fs) (suc i) field e = let h = field_less fs i field e in omega (arith, h)

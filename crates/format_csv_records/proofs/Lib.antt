@@ -3,3 +3,4 @@ pub mod Alone
 pub mod Cuts
 pub mod Runs
 pub mod Whole
+pub mod Writing

@@ -125,7 +125,7 @@ fields_more d field text here [] rest t it = absurd it
 fields_more d field text here (next ∷ fields) rest t it = (text, here, t, refl, it)
 
 -- behind fields with their delimiters
-done_fields : (d : Dialect) (done : List (List ℕ)) (before here : List ℕ)
+pub done_fields : (d : Dialect) (done : List (List ℕ)) (before here : List ℕ)
     (fields : List (List ℕ)) (rest : List ℕ) → Done d done before → AreFields d here fields rest
     → AreFields d (before ++ here) (done ++ fields) rest
 unfolding Done
@@ -151,7 +151,7 @@ done_more d (other ∷ done) before field text (front, more, u, e, others) t =
     done_more d done more field text others t)
 
 -- the last field
-last_field : (d : Dialect) (field text behind rest : List ℕ) → IsFieldText d field text
+pub last_field : (d : Dialect) (field text behind rest : List ℕ) → IsFieldText d field text
     → EndsHere d.ends behind rest → AreFields d (text ++ behind) (field ∷ []) rest
 unfolding AreFields
 last_field d field text behind rest t ends = (text, behind, t, refl, ends)

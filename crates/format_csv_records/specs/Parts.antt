@@ -72,3 +72,7 @@ WhyNot quote bytes QuoteInField = Begins (λ b. b ≡ quote) bytes
 WhyNot quote bytes WrongLineEnd = Begins IsBreak bytes
 WhyNot quote bytes ByteBehindQuote = Begins (λ b. (b ≡ quote → ⊥) × (IsBreak b → ⊥)) bytes
 WhyNot quote bytes OpenQuote = ⊥
+
+-- No byte order mark of UTF-8 stands first.
+abbrev pub NoMark : List ℕ → Type 0
+NoMark bytes = (rest : List ℕ) → bytes ≡ 239 ∷ 187 ∷ 191 ∷ rest → ⊥

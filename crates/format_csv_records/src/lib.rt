@@ -8,3 +8,5 @@
 pub mod dialect;
 pub mod read;
 pub mod record;
+pub mod records;
+pub mod write;

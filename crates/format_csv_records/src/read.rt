@@ -17,6 +17,21 @@ use crate::record::ByteRecord;
 use std::alloc::{AllocError, Allocator};
 
 /// Why no record can go on at a byte.
+///
+/// ```
+/// use format_csv_records::dialect::Dialect;
+/// use format_csv_records::read::{RecordError, Refusal, read_record_into};
+/// use format_csv_records::record::ByteRecord;
+///
+/// let mut fields = ByteRecord::new(alloc);
+/// let mut input = b"a,\"b\"c\r\n".as_slice();
+/// match read_record_into(Dialect::standard(), &mut fields, &mut input) {
+///     Err(RecordError::Refused(fault)) => {
+///         assert!(rt; fault.why == Refusal::ByteBehindQuote);
+///     }
+///     _ => assert!(rt; false),
+/// }
+/// ```
 #[derive(Clone, Copy, Debug, PartialEq, Eq)]
 pub enum Refusal {
     /// A quote stands behind bytes of a field without quotes.
@@ -30,7 +45,15 @@ pub enum Refusal {
     WrongLineEnd,
 }
 
-/// Where no record can go on, and why.
+/// The first place at which no record can go on, and why: what stands before it begins a record,
+/// and with the byte there none begins.
+///
+/// ```
+/// use format_csv_records::read::{RecordFault, Refusal};
+///
+/// let fault = RecordFault { offset: 3, why: Refusal::OpenQuote };
+/// assert_eq!(rt; fault.offset, 3);
+/// ```
 #[derive(Clone, Copy, Debug, PartialEq, Eq)]
 pub struct RecordFault {
     /// How many bytes stand before the byte at which no record can go on. They begin a record.
@@ -40,6 +63,12 @@ pub struct RecordFault {
 }
 
 /// Why no record was read.
+///
+/// ```
+/// use format_csv_records::read::RecordError;
+///
+/// assert!(rt; RecordError::OutOfMemory == RecordError::OutOfMemory);
+/// ```
 #[derive(Clone, Copy, Debug, PartialEq, Eq)]
 pub enum RecordError {
     /// The bytes begin with none.
@@ -63,7 +92,7 @@ fn is_plain(dialect: Dialect, byte: u8) -> bool
 }
 
 // The first bytes.
-fn front(bytes: &[u8], size: usize) -> &[u8]
+pub(crate) fn front(bytes: &[u8], size: usize) -> &[u8]
     requires { size ≤ length bytes.now }
     ensures { result.now ≡ take size bytes.now }
 {
@@ -71,7 +100,7 @@ fn front(bytes: &[u8], size: usize) -> &[u8]
 }
 
 // The bytes behind these.
-fn behind(bytes: &[u8], size: usize) -> &[u8]
+pub(crate) fn behind(bytes: &[u8], size: usize) -> &[u8]
     requires { size ≤ length bytes.now }
     ensures { result.now ≡ drop size bytes.now }
 {
@@ -79,7 +108,7 @@ fn behind(bytes: &[u8], size: usize) -> &[u8]
 }
 
 // How many bytes of a field without quotes stand first.
-fn plain_len(dialect: Dialect, bytes: &[u8]) -> usize
+pub(crate) fn plain_len(dialect: Dialect, bytes: &[u8]) -> usize
     ensures { SoMany (IsPlain dialect) bytes.now result }
 {
     for (place, byte) in bytes.iter().enumerate() {
@@ -91,7 +120,7 @@ fn plain_len(dialect: Dialect, bytes: &[u8]) -> usize
 }
 
 // How many bytes stand before the first quote, or in all.
-fn unquoted_len(quote: u8, bytes: &[u8]) -> usize
+pub(crate) fn unquoted_len(quote: u8, bytes: &[u8]) -> usize
     ensures run { SoMany (IsOther quote) bytes.now result }
     ensures size { length bytes.now < 2 ^ 64 }
 {
@@ -104,7 +133,7 @@ fn unquoted_len(quote: u8, bytes: &[u8]) -> usize
 }
 
 // Whether this byte stands first.
-fn first_is(bytes: &[u8], byte: u8) -> bool
+pub(crate) fn first_is(bytes: &[u8], byte: u8) -> bool
     ensures { MatchBool result (bytes.now ≡ byte ∷ drop 1 bytes.now)
         (NotFirst (λ b. b ≡ byte) bytes.now) }
 {
@@ -271,6 +300,23 @@ fn read_fields<'i, A: Allocator>(
 /// Reads the record that the bytes begin with, and leaves what is behind its line end. `true` says
 /// that one was read; `false` that there are no bytes. What was in the record before does not
 /// matter. At an error it has no fields, and the bytes stay as they are.
+///
+/// `Refused` says that the bytes begin with no record, where none can go on, and why; `OutOfMemory`
+/// that a request for memory was refused. Memory is wanted only where the record's two buffers grow.
+///
+/// ```
+/// use format_csv_records::dialect::Dialect;
+/// use format_csv_records::read::{RecordError, RecordFault, Refusal, read_record_into};
+/// use format_csv_records::record::ByteRecord;
+///
+/// let mut fields = ByteRecord::new(alloc);
+/// let mut input = b"a,\"b \"\"c\"\"\"\r\nd\"".as_slice();
+/// assert!(rt; read_record_into(Dialect::standard(), &mut fields, &mut input) == Ok(true));
+/// assert!(rt; matches!(fields.get(1), Some(field) if field == b"b \"c\"".as_slice()));
+/// let fault = RecordFault { offset: 1, why: Refusal::QuoteInField };
+/// let told = read_record_into(Dialect::standard(), &mut fields, &mut input);
+/// assert!(rt; told == Err(RecordError::Refused(fault)));
+/// ```
 pub fn read_record_into<A: Allocator>(
     dialect: Dialect,
     fields: &mut ByteRecord<A>,
