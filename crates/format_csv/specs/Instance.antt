@@ -1,5 +1,6 @@
 -- A record of RFC 4180 is one of the dialect of commas and double quotes, and the other way round.
-use Rattle.std.specs.Prelude.{◌≡◌, ◌⊎◌, ◌<◌, ◌≤◌, ℕ, zero, suc, List, [], ◌∷◌, ◌++◌, length, map}
+use Rattle.std.specs.Prelude.{◌≡◌, ◌⊎◌, ◌↔◌, ◌<◌, ◌≤◌, ℕ, zero, suc, List, [], ◌∷◌, ◌++◌, length}
+use Rattle.std.specs.Prelude.{map}
 use Rattle.std.specs.List.{All}
 use Rattle.std.specs.declared.vec.Vec.{Vec}
 use Rattle.std.proofs.Common.{refl, sym, ap, subst, inl, inr, ◌∙◌, arith, append_assoc}
@@ -40,6 +41,10 @@ is_end Lf = refl
 end_is_by : (ends : LineEnd) (end : List ℕ) → IsLineEnd (ends_as ends) end → end ≡ line_end ends
 end_is_by CrLf end is = is
 end_is_by Lf end is = is
+
+closes_there : (ends : LineEnd) (rest : List ℕ)
+    → EndsHere (ends_as ends) (line_end ends ++ rest) rest
+closes_there ends rest = inl (line_end ends, is_end ends, refl)
 
 -- ---- fields
 
@@ -83,7 +88,8 @@ module _ {A : Type 0} (ends : LineEnd) where
   field_there : (field : Vec ℕ A) (text : List ℕ) → FieldText field text
       → IsFieldText (commas ends) field.items text
   unfolding Among Then InList Spelled
-  field_there field text (inl (q, o, xs, ys, (_, e), (p, r, us, vs, inside, (_, f), g, same), h, last)) =
+  field_there field text
+        (inl (q, o, xs, ys, (_, e), (p, r, us, vs, inside, (_, f), g, same), h, last)) =
       let items : p.items ≡ field.items = ap (λ (v : Vec ℕ A). v.items) (sym (last ∙ same)) in
       inl (h ∙ ap (λ l. l ++ ys) e ∙ ap (λ l. 34 ∷ l) (g ∙ ap (λ l. l ++ vs)
       (quotes_there p.items us inside ∙ ap (λ l. doubled 34 l) items)
@@ -139,12 +145,6 @@ module _ {A : Type 0} (ends : LineEnd) where
 
   -- ---- records
 
-  closes_there : (rest : List ℕ) → EndsHere (ends_as ends) (line_end ends ++ rest) rest
-  closes_there rest = inl (line_end ends, is_end ends, refl)
-
-  end_is : (end : List ℕ) → IsLineEnd (ends_as ends) end → end ≡ line_end ends
-  end_is end is = end_is_by ends end is
-
   joined_there : (fields : List (Vec ℕ A)) (bytes text behind rest : List ℕ)
       → Joined (Itself 44) FieldText fields text → 1 ≤ length fields → bytes ≡ text ++ behind
       → EndsHere (ends_as ends) behind rest
@@ -152,7 +152,8 @@ module _ {A : Type 0} (ends : LineEnd) where
   unfolding Joined
   joined_there [] bytes text behind rest joined one e closes = absurd (omega (arith, one))
   joined_there (field ∷ fields) bytes text behind rest (xs, ys, t, row, f) one e closes =
-      let P : List ℕ → Type 0 = λ l. AreFields (commas ends) l (field.items ∷ bytes_of fields) rest in
+      let P : List ℕ → Type 0 =
+          λ l. AreFields (commas ends) l (field.items ∷ bytes_of fields) rest in
       subst P (sym (e ∙ ap (λ l. l ++ behind) f ∙ append_assoc xs ys behind))
       (others_there field fields xs ys behind rest t row closes)
 
@@ -174,7 +175,7 @@ module _ {A : Type 0} (ends : LineEnd) where
   unfolding IsRecord InList
   record_there bytes fields rest (some, text, (joined, one), inl e) =
       (some, joined_there fields.items bytes text (line_end ends ++ rest) rest joined one e
-      (closes_there rest))
+      (closes_there ends rest))
   record_there bytes fields rest (some, text, (joined, one), inr (e, none)) =
       (some, joined_there fields.items bytes text [] rest joined one
       (e ∙ sym (append-nil text)) (inr (refl, none)))
@@ -187,7 +188,17 @@ module _ {A : Type 0} (ends : LineEnd) where
       let (text, behind, joined, one, closes, e) = joined_back fields.items bytes rest them in
       elim closes [
         | inl (end, is, f) ↦ (some, text, (joined, one), inl (e ∙ ap (λ l. text ++ l)
-            (f ∙ ap (λ l. l ++ rest) (end_is end is))))
+            (f ∙ ap (λ l. l ++ rest) (end_is_by ends end is))))
         | inr (none, left) ↦ (some, text, (joined, one),
             inr (e ∙ ap (λ l. text ++ l) none ∙ append-nil text, left))
       ]
+
+-- The bytes begin with a record of these fields by the dialect of commas and double quotes.
+abbrev pub IsOfCommas : {A : Type 0} → LineEnd → List ℕ → Vec (Vec ℕ A) A → List ℕ → Type 0
+IsOfCommas {A} ends bytes fields rest =
+    dialects.IsRecord (commas ends) bytes (bytes_of {A = A} ends fields.items) rest
+
+pub record_of_commas : {A : Type 0} (ends : LineEnd) (bytes : List ℕ) (fields : Vec (Vec ℕ A) A)
+    (rest : List ℕ) → IsRecord ends bytes fields rest ↔ IsOfCommas ends bytes fields rest
+record_of_commas ends bytes fields rest =
+    (record_there ends bytes fields rest, record_back ends bytes fields rest)

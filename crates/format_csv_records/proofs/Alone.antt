@@ -1,19 +1,16 @@
 -- No bytes begin with two fields, and how a record goes on behind fields that are read.
-use Rattle.std.specs.Prelude.{◌≡◌, ◌⊎◌, ◌<◌, ℕ, List, [], ◌∷◌, ◌++◌, length}
+use Rattle.std.specs.Prelude.{◌≡◌, ◌⊎◌, ℕ, List, [], ◌∷◌, ◌++◌}
 use Rattle.std.specs.List.{All}
-use Rattle.std.proofs.Common.{refl, sym, ap, subst, inl, inr, ◌∙◌, arith, append_assoc, eq-eqb}
-use Rattle.std.proofs.lemmas.List.{append-nil}
+use Rattle.std.proofs.Common.{refl, sym, ap, subst, inl, inr, ◌∙◌, append_assoc, eq-eqb}
 use Rattle.std.proofs.lemmas.Bool.{ne_eqb}
 use Rattle.std.proofs.lemmas.Bool.Decides.{eqb_tells}
-use Rattle.std.proofs.lemmas.List.Elements.{All-cons, All-head, All-nil, All-tail}
+use Rattle.std.proofs.lemmas.List.Elements.{All-head, All-tail}
 use Rattle.format_csv_records.specs.Apart.{IsApart, IsBreak}
-use Rattle.format_csv_records.specs.Dialects.{AreFields, EndsHere, IsFieldText, IsLineEnd, IsPlain}
+use Rattle.format_csv_records.specs.Dialects.{IsFieldText, IsPlain}
 use Rattle.format_csv_records.specs.Dialects.{doubled}
-use Rattle.format_csv_records.specs.Parts.{Closed, Done, FieldFirst, IsOther, MayBegin, NotFirst}
-use Rattle.format_csv_records.specs.Parts.{OpenFirst, Unclosed}
+use Rattle.format_csv_records.specs.Parts.{FieldFirst, IsOther, MayBegin, NotFirst}
+use Rattle.format_csv_records.specs.Parts.{OpenFirst}
 use Rattle.format_csv_records.specs.declared.dialect.Dialect.{Dialect}
-use Rattle.format_csv_records.specs.declared.dialect.LineEnds.{LineEnds}
-use Rattle.format_csv_records.specs.declared.dialect.LineEnds.TheVariants.{CrLf, Lf, Either}
 
 pub same_first : {x y : ℕ} {xs ys : List ℕ} → x ∷ xs ≡ y ∷ ys → x ≡ y
 same_first e = cc
@@ -66,7 +63,6 @@ pub doubled_none : (quote : ℕ) → doubled quote [] ≡ []
 unfolding doubled
 doubled_none quote = refl
 
-
 -- what is written for a byte, and an end, differ
 end_apart : (quote x : ℕ) (xs tail ys : List ℕ) → NotFirst (λ b. b ≡ quote) ys
     → doubled quote (x ∷ xs) ++ tail ≡ quote ∷ ys → ⊥
@@ -89,7 +85,8 @@ byte_apart : (quote x z : ℕ) (xs zs tail other : List ℕ)
 byte_apart quote x z xs zs tail other e = elim (is_or_not x quote) [
   | inl is ↦ elim (is_or_not z quote) [
     | inl too ↦
-        let f : quote ∷ (quote ∷ (doubled quote xs ++ tail)) ≡ quote ∷ (quote ∷ (doubled quote zs ++ other)) =
+        let f : quote ∷ (quote ∷ (doubled quote xs ++ tail))
+        ≡ quote ∷ (quote ∷ (doubled quote zs ++ other)) =
         ap (λ l. l ++ tail) (sym (doubled_quote quote x xs is)) ∙ e
         ∙ ap (λ l. l ++ other) (doubled_quote quote z zs too) in
         (is ∙ sym too, same_others (same_others f))
@@ -206,8 +203,12 @@ text_first d apart bytes field text rest (inl is) e stop = inl (
 text_first d apart bytes field text rest (inr (is, all)) e stop =
     let P : List ℕ → Type 0 = λ l. NotFirst (λ b. b ≡ d.quote) l in
     let f = e ∙ ap (λ l. l ++ rest) is in
-    inr (f, all, stops_not_plain d rest stop,
-    subst P (sym f) (plain_not_quote d apart field rest all stop))
+    inr (
+      f,
+      all,
+      stops_not_plain d rest stop,
+      subst P (sym f) (plain_not_quote d apart field rest all stop),
+    )
 
 -- one field alone stands first
 pub field_apart : (d : Dialect) (bytes field rest other behind : List ℕ)

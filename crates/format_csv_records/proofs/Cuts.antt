@@ -1,7 +1,8 @@
 -- How the fields of a record follow its bytes and where they end.
-use Rattle.std.specs.Prelude.{◌≡◌, ◌≤◌, ◌<◌, ◌-◌, ◌+◌, ℕ, zero, suc, Option, Some, None, List, [], ◌∷◌}
+use Rattle.std.specs.Prelude.{◌≡◌, ◌≤◌, ◌<◌, ◌-◌, ◌+◌, ℕ, zero, suc, Some, None, List, []}
+use Rattle.std.specs.Prelude.{◌∷◌}
 use Rattle.std.specs.Prelude.{◌++◌, take, drop, length, if◌then◌else◌, is_ok, OnOk, Result, Ok, Err}
-use Rattle.std.proofs.Common.{refl, sym, ap, arith, get_or}
+use Rattle.std.proofs.Common.{refl, ap, arith, get_or}
 use Rattle.std.proofs.lemmas.List.{drop-append-le, length-drop, take-append-le, take_all}
 use Rattle.format_csv_records.specs.Records.{Rises, cut, field_at, last_of, start_of}
 
@@ -49,8 +50,10 @@ cut_more start (end ∷ ends) bytes more h =
     let at : start ≤ length bytes = omega arith in
     let size = length-drop start bytes in
     let fits : end - start ≤ length (drop start bytes) = omega arith in
-    let head : take (end - start) (drop start (bytes ++ more)) ≡ take (end - start) (drop start bytes) =
-    rw (drop-append-le start bytes more at) (take-append-le (end - start) (drop start bytes) more fits) in
+    let head : take (end - start) (drop start (bytes ++ more))
+    ≡ take (end - start) (drop start bytes) =
+    rw (drop-append-le start bytes more at)
+    (take-append-le (end - start) (drop start bytes) more fits) in
     rw (head, cut_more end ends bytes more h.1) refl
 
 -- an end more ends the bytes behind the last field

@@ -1,22 +1,16 @@
 -- How many bytes of a kind stand first, and what is read between quotes.
-use Rattle.std.specs.Prelude.{◌≡◌, ◌⊎◌, ◌≤◌, ◌<◌, ◌+◌, ◌-◌, ℕ, List, [], ◌∷◌, ◌++◌, length, take, drop}
+use Rattle.std.specs.Prelude.{◌≡◌, ◌≤◌, ◌<◌, ◌+◌, ℕ, List, [], ◌∷◌, ◌++◌, length, take}
+use Rattle.std.specs.Prelude.{drop}
 use Rattle.std.specs.List.{All}
 use Rattle.std.proofs.Common.{refl, sym, ap, subst, inl, inr, ◌∙◌, arith, get_or, append_assoc}
-use Rattle.std.proofs.lemmas.List.{append_cancel_left, drop_more, drop_all, take-append-drop, take_all}
+use Rattle.std.proofs.lemmas.List.{append_cancel_left, drop_more, drop_all, take-append-drop}
+use Rattle.std.proofs.lemmas.List.{take_all}
 use Rattle.std.proofs.lemmas.List.{take_more}
-use Rattle.format_csv_records.specs.Dialects.{EndsHere, IsLineEnd, doubled}
-use Rattle.format_csv_records.specs.Parts.{Closed, EndsNowhere, IsOther, NotFirst, SoMany, Unclosed}
-use Rattle.format_csv_records.proofs.Alone.{doubled_append, doubled_none, doubled_quote, doubled_run}
-use Rattle.format_csv_records.proofs.Alone.{is_or_not, same_first, same_others}
-use Rattle.format_csv_records.specs.declared.dialect.LineEnds.{LineEnds}
-use Rattle.format_csv_records.specs.declared.dialect.LineEnds.TheVariants.{CrLf, Lf, Either}
-
--- so many stand first, and then another
-pub some_first : (these : ℕ → Type 0) (xs : List ℕ) (i d : ℕ) → i < length xs
-    → All these (take i xs) → (these (get_or xs i d) → ⊥) → SoMany these xs i
-some_first these xs i d within all not =
-    let P : List ℕ → Type 0 = λ l. NotFirst these l in
-    (omega arith, all, subst P (sym (drop_more xs i d within)) not)
+use Rattle.format_csv_records.specs.Dialects.{doubled}
+use Rattle.format_csv_records.specs.Parts.{Closed, IsOther, NotFirst, SoMany, Unclosed}
+use Rattle.format_csv_records.proofs.Alone.{doubled_append, doubled_none, doubled_quote}
+use Rattle.format_csv_records.proofs.Alone.{doubled_run}
+use Rattle.format_csv_records.proofs.Alone.{is_or_not, same_first}
 
 -- all are such
 pub all_first : (these : ℕ → Type 0) (xs : List ℕ) (i n : ℕ) → length xs ≤ i → length xs ≡ n
@@ -41,8 +35,11 @@ run_quote quote rest n (within, all, not) some =
     let at : NotFirst (IsOther quote) (get_or rest n 0 ∷ drop (n + 1) rest) =
     subst P (drop_more rest n 0 less) not in
     elim (is_or_not (get_or rest n 0) quote) [
-      | inl is ↦ (sym (take-append-drop n rest) ∙ ap (λ l. take n rest ++ l)
-          (drop_more rest n 0 less ∙ ap (λ b. b ∷ drop (n + 1) rest) is), omega arith)
+      | inl is ↦ (
+        sym (take-append-drop n rest) ∙ ap (λ l. take n rest ++ l)
+            (drop_more rest n 0 less ∙ ap (λ b. b ∷ drop (n + 1) rest) is),
+        omega arith,
+      )
       | inr other ↦ absurd (at other)
     ]
 
@@ -76,12 +73,16 @@ module _ (quote : ℕ) (input rest base begun : List ℕ) (n : ℕ)
   closed_here some left added new is not adds e =
       let split = (run_quote quote rest n run some).0 in (
         it.done ++ take n rest,
-        (it.whole ∙ ap (λ l. doubled quote it.done ++ l) split
-        ∙ sym (append_assoc (doubled quote it.done) (take n rest) (quote ∷ drop (n + 1) rest))
-        ∙ ap (λ l. l ++ (quote ∷ drop (n + 1) rest)) (sym (doubled_behind quote it.done (take n rest) run.1))
-        ∙ ap (λ l. doubled quote (it.done ++ take n rest) ++ (quote ∷ l)) (sym is), not),
+        (
+          it.whole ∙ ap (λ l. doubled quote it.done ++ l) split
+              ∙ sym (append_assoc (doubled quote it.done) (take n rest) (quote ∷ drop (n + 1) rest))
+              ∙ ap (λ l. l ++ (quote ∷ drop (n + 1) rest))
+              (sym (doubled_behind quote it.done (take n rest) run.1))
+              ∙ ap (λ l. doubled quote (it.done ++ take n rest) ++ (quote ∷ l)) (sym is),
+          not,
+        ),
         e ∙ ap (λ l. begun ++ l) adds ∙ ap (λ l. l ++ take n rest) it.all
-        ∙ append_assoc base it.done (take n rest),
+            ∙ append_assoc base it.done (take n rest),
       )
 
   pub more_here : (n ≡ length rest → ⊥) → (left next added new : List ℕ) → left ≡ drop (n + 1) rest
@@ -91,7 +92,8 @@ module _ (quote : ℕ) (input rest base begun : List ℕ) (n : ℕ)
       let (split, within) = run_quote quote rest n run some in
       let runs = take n rest in
       let taken : take (n + 1) rest ≡ runs ++ quote ∷ [] =
-      take_quote quote rest n (omega arith) (append_cancel_left runs (drop n rest) (quote ∷ drop (n + 1) rest)
+      take_quote quote rest n (omega arith)
+      (append_cancel_left runs (drop n rest) (quote ∷ drop (n + 1) rest)
       (take-append-drop n rest ∙ split)) in
       record {
         done = it.done ++ (runs ++ quote ∷ []);
@@ -101,7 +103,8 @@ module _ (quote : ℕ) (input rest base begun : List ℕ) (n : ℕ)
             ∙ ap (λ l. l ++ (quote ∷ quote ∷ next)) (sym (doubled_behind quote it.done runs run.1))
             ∙ sym (append_assoc (doubled quote (it.done ++ runs)) (quote ∷ quote ∷ []) next)
             ∙ ap (λ l. (doubled quote (it.done ++ runs) ++ l) ++ next)
-            (sym (doubled_quote quote quote [] refl ∙ ap (λ l. quote ∷ quote ∷ l) (doubled_none quote)))
+            (sym (doubled_quote quote quote [] refl
+            ∙ ap (λ l. quote ∷ quote ∷ l) (doubled_none quote)))
             ∙ ap (λ l. l ++ next) (sym (doubled_append quote (it.done ++ runs) (quote ∷ []))
             ∙ ap (λ l. doubled quote l) (append_assoc it.done runs (quote ∷ [])));
         all = e ∙ ap (λ l. begun ++ l) (adds ∙ taken) ∙ ap (λ l. l ++ (runs ++ quote ∷ [])) it.all

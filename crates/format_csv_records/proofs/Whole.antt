@@ -1,23 +1,22 @@
 -- A record, field by field: what is read, and that nothing else could be.
-use Rattle.std.specs.Prelude.{◌≡◌, ◌⊎◌, ◌<◌, ◌≤◌, ◌+◌, ◌-◌, ℕ, List, [], ◌∷◌, ◌++◌, length, drop}
-use Rattle.std.specs.List.{All}
-use Rattle.std.proofs.Common.{refl, sym, ap, subst, inl, inr, ◌∙◌, arith, append_assoc, get_or}
+use Rattle.std.specs.Prelude.{◌≡◌, ◌⊎◌, ◌<◌, ◌+◌, ◌-◌, ℕ, List, [], ◌∷◌, ◌++◌, length, drop}
+use Rattle.std.proofs.Common.{refl, sym, ap, subst, inl, inr, ◌∙◌, arith, append_assoc}
 use Rattle.std.proofs.Common.{length-append}
 use Rattle.std.proofs.lemmas.List.{append-nil}
 use Rattle.format_csv_records.specs.Apart.{IsApart, IsBreak}
 use Rattle.format_csv_records.specs.Dialects.{AreFields, EndsHere, IsFieldText, IsLineEnd, IsPlain}
 use Rattle.format_csv_records.specs.Dialects.{IsRecord, doubled}
-use Rattle.format_csv_records.specs.Parts.{Begins, Closed, Done, EndsNowhere, FieldFirst, MayBegin}
+use Rattle.format_csv_records.specs.Parts.{Done, EndsNowhere, FieldFirst, MayBegin}
 use Rattle.format_csv_records.specs.Parts.{NotFirst, OpenFirst, WhyNot}
 use Rattle.format_csv_records.specs.Refused.{IsRefused, Lacks, NoneWith}
 use Rattle.format_csv_records.specs.declared.dialect.Dialect.{Dialect}
 use Rattle.format_csv_records.specs.declared.dialect.LineEnds.{LineEnds}
 use Rattle.format_csv_records.specs.declared.dialect.LineEnds.TheVariants.{CrLf, Lf, Either}
-use Rattle.format_csv_records.specs.declared.read.RecordFault.{RecordFault}
 use Rattle.format_csv_records.specs.declared.read.Refusal.{Refusal}
-use Rattle.format_csv_records.specs.declared.read.Refusal.TheVariants.{QuoteInField, ByteBehindQuote}
+use Rattle.format_csv_records.specs.declared.read.Refusal.TheVariants.{QuoteInField}
+use Rattle.format_csv_records.specs.declared.read.Refusal.TheVariants.{ByteBehindQuote}
 use Rattle.format_csv_records.specs.declared.read.Refusal.TheVariants.{OpenQuote, WrongLineEnd}
-use Rattle.format_csv_records.proofs.Alone.{IsStop, doubled_append, doubled_run, field_apart}
+use Rattle.format_csv_records.proofs.Alone.{IsStop, field_apart}
 use Rattle.format_csv_records.proofs.Alone.{open_apart, quoted_behind, same_first, same_others}
 use Rattle.format_csv_records.proofs.Alone.{text_first}
 use Rattle.format_csv_records.proofs.Runs.{doubled_behind}
@@ -101,8 +100,11 @@ first_text d bytes field left (inl (here, e, (f, not))) = record {
   split = e ∙ ap (λ l. d.quote ∷ l) f ∙ sym (quoted_behind d.quote field left);
   again = λ b bs after is.
       let P : List ℕ → Type 0 = λ l. NotFirst (λ c. c ≡ d.quote) l in
-      inl (doubled d.quote field ++ (d.quote ∷ (b ∷ after)),
-      quoted_behind d.quote field (b ∷ after), (refl, subst P is not));
+      inl (
+        doubled d.quote field ++ (d.quote ∷ (b ∷ after)),
+        quoted_behind d.quote field (b ∷ after),
+        (refl, subst P is not),
+      );
 }
 first_text d bytes field left (inr (e, all, stop, not)) = record {
   text = field;
@@ -111,8 +113,12 @@ first_text d bytes field left (inr (e, all, stop, not)) = record {
   again = λ b bs after is.
       let P : List ℕ → Type 0 = λ l. NotFirst (IsPlain d) l in
       let Q : List ℕ → Type 0 = λ l. NotFirst (λ c. c ≡ d.quote) l in
-      inr (refl, all, subst P is stop,
-      front_not d.quote b field bs after (subst Q (e ∙ ap (λ l. field ++ l) is) not));
+      inr (
+        refl,
+        all,
+        subst P is stop,
+        front_not d.quote b field bs after (subst Q (e ∙ ap (λ l. field ++ l) is) not),
+      );
 }
 
 -- ---- fields behind fields
@@ -144,11 +150,14 @@ done_more : (d : Dialect) (done : List (List ℕ)) (before field text : List ℕ
 unfolding Done
 done_more d [] before field text e t =
     (text, [], t, ap (λ l. l ++ (text ++ (d.delimiter ∷ []))) e, refl)
-done_more d (other ∷ done) before field text (front, more, u, e, others) t =
-    (front, more ++ (text ++ (d.delimiter ∷ [])), u,
-    ap (λ l. l ++ (text ++ (d.delimiter ∷ []))) e
-    ∙ append_assoc front (d.delimiter ∷ more) (text ++ (d.delimiter ∷ [])),
-    done_more d done more field text others t)
+done_more d (other ∷ done) before field text (front, more, u, e, others) t = (
+  front,
+  more ++ (text ++ (d.delimiter ∷ [])),
+  u,
+  ap (λ l. l ++ (text ++ (d.delimiter ∷ []))) e
+      ∙ append_assoc front (d.delimiter ∷ more) (text ++ (d.delimiter ∷ [])),
+  done_more d done more field text others t,
+)
 
 -- the last field
 pub last_field : (d : Dialect) (field text behind rest : List ℕ) → IsFieldText d field text
@@ -236,7 +245,8 @@ pub record Stuck (ends : LineEnds) (left : List ℕ) (begun : ℕ) : Type 0 wher
   pub b : ℕ
   pub bs : List ℕ
   pub is : left ≡ b ∷ bs
-  pub ends_not : ((begun ≡ 0) × ((after : List ℕ) (rest : List ℕ) → EndsHere ends (b ∷ after) rest → ⊥))
+  pub ends_not : ((begun ≡ 0)
+      × ((after : List ℕ) (rest : List ℕ) → EndsHere ends (b ∷ after) rest → ⊥))
       ⊎ ((begun ≡ 1) × (b ≡ 13) × IsLineEnd ends (13 ∷ 10 ∷ []) × NotFirst (λ c. c ≡ 10) bs)
 
 stuck : (ends : LineEnds) (left : List ℕ) (begun : ℕ) → EndsNowhere ends left begun
@@ -282,7 +292,8 @@ module _ (d : Dialect) (apart : IsApart d.delimiter d.quote) (bytes rest : List 
         → left ≡ d.delimiter ∷ drop 1 left → next ≡ drop 1 left → SoFar d bytes next new
     so_far_more next new e goes is =
         let t = first_text d rest field left f in
-        let P : List (List ℕ) → Type 0 = λ l. Done d l (it.before ++ (t.text ++ (d.delimiter ∷ []))) in
+        let P : List (List ℕ) → Type 0 =
+        λ l. Done d l (it.before ++ (t.text ++ (d.delimiter ∷ []))) in
         record {
           before = it.before ++ (t.text ++ (d.delimiter ∷ []));
           whole = it.whole ∙ ap (λ l. it.before ++ l) (t.split ∙ ap (λ l. t.text ++ l) (goes
@@ -346,10 +357,10 @@ module _ (d : Dialect) (apart : IsApart d.delimiter d.quote) (bytes rest : List 
         (λ o. lone_return d.ends [] o tt) before e all end them
     none_return (c ∷ bs) is not before e =
         λ after all end them.
-            let P : List ℕ → Type 0 = λ l. IsRecord d l all end in
-            goes_not 13 (c ∷ bs) (c ∷ after) is (λ g. apart.delimiter_stays.0 (sym g))
-            (λ o. lone_return d.ends (c ∷ after) o not) before e all end
-            (subst P (append_assoc before (13 ∷ []) (c ∷ after)) them)
+        let P : List ℕ → Type 0 = λ l. IsRecord d l all end in
+        goes_not 13 (c ∷ bs) (c ∷ after) is (λ g. apart.delimiter_stays.0 (sym g))
+        (λ o. lone_return d.ends (c ∷ after) o not) before e all end
+        (subst P (append_assoc before (13 ∷ []) (c ∷ after)) them)
 
     pub so_far_bad : (begun offset : ℕ) (why : Refusal) → NotFirst (λ b. b ≡ d.delimiter) left
         → EndsNowhere d.ends left begun → WhyNot d.quote left why
@@ -368,22 +379,29 @@ module _ (d : Dialect) (apart : IsApart d.delimiter d.quote) (bytes rest : List 
           | inl (none, ends) ↦
               let (end, is, some) = some_end d.ends in
               let B : List ℕ → Type 0 = λ l. NoneWith d before l in (
-                before, left, end, fields ++ field ∷ [], split,
+                before,
+                left,
+                end,
+                fields ++ field ∷ [],
+                split,
                 omega (arith, at, none, sizes),
                 closes before end refl (inl (end, is, sym (append-nil end))) some,
                 lacks d why end left whynot not is,
                 subst B (sym s.is) (λ after all o them. goes_not s.b s.bs after s.is
-                (subst N s.is not) (λ z. ends after z) before refl all o them),
+                    (subst N s.is not) (λ z. ends after z) before refl all o them),
               )
           | inr (one, cr, is, lone) ↦
               let W : List ℕ → Type 0 = λ l. WhyNot d.quote l why in
               let here : left ≡ 13 ∷ s.bs = s.is ∙ ap (λ b. b ∷ s.bs) cr in
               let R : List ℕ → Type 0 = λ l. IsRecord d l (fields ++ field ∷ []) [] in (
-                before ++ (13 ∷ []), s.bs, 10 ∷ [], fields ++ field ∷ [],
+                before ++ (13 ∷ []),
+                s.bs,
+                10 ∷ [],
+                fields ++ field ∷ [],
                 split ∙ ap (λ l. before ++ l) here ∙ sym (append_assoc before (13 ∷ []) s.bs),
                 omega (arith, at, one, sizes, length-append before (13 ∷ [])),
                 subst R (sym (append_assoc before (13 ∷ []) (10 ∷ [])))
-                (closes before (13 ∷ 10 ∷ []) refl (inl (13 ∷ 10 ∷ [], is, refl)) (omega arith)),
+                    (closes before (13 ∷ 10 ∷ []) refl (inl (13 ∷ 10 ∷ [], is, refl)) (omega arith)),
                 lacks_feed d apart why s.bs s.bs (subst W here whynot),
                 none_return s.bs here lone before refl,
               )
@@ -400,11 +418,16 @@ module _ (d : Dialect) (apart : IsApart d.delimiter d.quote) (bytes rest : List 
       let whole : bytes ++ q ∷ [] ≡ it.before ++ (text ++ []) =
       ap (λ l. l ++ q ∷ []) it.whole ∙ append_assoc it.before rest (q ∷ [])
       ∙ ap (λ l. it.before ++ l) (same ∙ sym (append-nil text)) in (
-        bytes, [], q ∷ [], fields ++ (done ++ run) ∷ [], sym (append-nil bytes), refl,
+        bytes,
+        [],
+        q ∷ [],
+        fields ++ (done ++ run) ∷ [],
+        sym (append-nil bytes),
+        refl,
         (
           omega (arith, length-append bytes (q ∷ [])),
           subst P (sym whole) (done_fields d fields it.before (text ++ []) ((done ++ run) ∷ []) []
-          it.texts (last_field d (done ++ run) text [] [] (inl refl) (inr (refl, refl)))),
+              it.texts (last_field d (done ++ run) text [] [] (inl refl) (inr (refl, refl)))),
         ),
         (refl, refl),
         λ ps end (some, them).

@@ -1,22 +1,23 @@
 -- What is written reads back.
-use Rattle.std.specs.Prelude.{◌≡◌, ◌⊎◌, ◌<◌, ◌+◌, ℕ, List, [], ◌∷◌, ◌++◌, length, take, drop, map}
+use Rattle.std.specs.Prelude.{◌≡◌, ◌<◌, ◌+◌, ℕ, List, [], ◌∷◌, ◌++◌, length, take, drop}
 use Rattle.std.specs.Prelude.{◌-◌, Bool, true, false, MatchBool, if◌then◌else◌, is_ok, OnOk}
 use Rattle.std.specs.Prelude.{Result, Ok, Err}
 use Rattle.std.specs.List.{All}
 use Rattle.std.specs.Borrow.{Bor}
 use Rattle.std.proofs.Common.{refl, sym, ap, subst, inl, inr, ◌∙◌, arith, append_assoc, get_or}
 use Rattle.std.proofs.Common.{length-append}
-use Rattle.std.proofs.lemmas.List.{append-nil, append_cancel_left, drop_more, map-append, take_more}
+use Rattle.std.proofs.lemmas.List.{append_cancel_left, drop_more, map-append, take_more}
 use Rattle.std.proofs.lemmas.List.{take-append-drop, take_all}
-use Rattle.format_csv_records.specs.Dialects.{AreFields, EndsHere, IsFieldText, IsLineEnd, IsPlain}
-use Rattle.format_csv_records.specs.Dialects.{IsRecord, doubled}
+use Rattle.format_csv_records.specs.Dialects.{AreFields, IsFieldText, IsLineEnd}
+use Rattle.format_csv_records.specs.Dialects.{doubled}
 use Rattle.format_csv_records.specs.Parts.{Done, IsOther, NotFirst, SoMany}
 use Rattle.format_csv_records.specs.Written.{IsLast, IsLastOf, IsWritten, ReadsBack, Writes, Wrote}
 use Rattle.format_csv_records.specs.Written.{bytes_of}
 use Rattle.format_csv_records.specs.declared.dialect.Dialect.{Dialect}
 use Rattle.format_csv_records.specs.declared.dialect.LineEnds.{LineEnds}
 use Rattle.format_csv_records.specs.declared.dialect.LineEnds.TheVariants.{CrLf, Lf, Either}
-use Rattle.format_csv_records.proofs.Alone.{doubled_append, doubled_none, doubled_quote, doubled_run}
+use Rattle.format_csv_records.proofs.Alone.{doubled_append, doubled_none, doubled_quote}
+use Rattle.format_csv_records.proofs.Alone.{doubled_run}
 use Rattle.format_csv_records.proofs.Runs.{doubled_behind, run_quote, take_quote}
 use Rattle.format_csv_records.proofs.Whole.{done_fields, last_field}
 
@@ -25,7 +26,8 @@ pub not_all : (these : ℕ → Type 0) (xs : List ℕ) (n : ℕ) → SoMany thes
 not_all these xs n (within, first, not) some all =
     let less : n < length xs = omega arith in
     let P : List ℕ → Type 0 = λ l. NotFirst these l in
-    let at : NotFirst these (get_or xs n 0 ∷ drop (n + 1) xs) = subst P (drop_more xs n 0 less) not in
+    let at : NotFirst these (get_or xs n 0 ∷ drop (n + 1) xs) =
+    subst P (drop_more xs n 0 less) not in
     at (all n 0 less)
 
 -- a run and its quote more
@@ -39,21 +41,27 @@ write_more quote field rest base out n done e o run some next added mid new is a
     let runs = take n rest in
     let D = doubled quote done in
     let taken : take (n + 1) rest ≡ runs ++ quote ∷ [] =
-    take_quote quote rest n (omega arith) (append_cancel_left runs (drop n rest) (quote ∷ drop (n + 1) rest)
+    take_quote quote rest n (omega arith)
+    (append_cancel_left runs (drop n rest) (quote ∷ drop (n + 1) rest)
     (take-append-drop n rest ∙ split)) in
     let two : doubled quote (quote ∷ []) ≡ quote ∷ quote ∷ [] =
     doubled_quote quote quote [] refl ∙ ap (λ l. quote ∷ quote ∷ l) (doubled_none quote) in
     let text : doubled quote (done ++ (runs ++ quote ∷ [])) ≡ D ++ (runs ++ (quote ∷ quote ∷ [])) =
-    doubled_append quote done (runs ++ quote ∷ []) ∙ ap (λ l. D ++ l) (doubled_append quote runs (quote ∷ [])
+    doubled_append quote done (runs ++ quote ∷ [])
+    ∙ ap (λ l. D ++ l) (doubled_append quote runs (quote ∷ [])
     ∙ ap (λ l. l ++ doubled quote (quote ∷ [])) (doubled_run quote runs run.1)
     ∙ ap (λ l. runs ++ l) two) in
-    let tidy : ((base ++ D) ++ (runs ++ quote ∷ [])) ++ quote ∷ [] ≡ base ++ (D ++ (runs ++ (quote ∷ quote ∷ []))) =
+    let tidy : ((base ++ D) ++ (runs ++ quote ∷ [])) ++ quote ∷ []
+    ≡ base ++ (D ++ (runs ++ (quote ∷ quote ∷ []))) =
     simp append_assoc in (
       done ++ (runs ++ quote ∷ []),
-      e ∙ ap (λ l. done ++ l) (sym (take-append-drop (n + 1) rest) ∙ ap (λ l. l ++ drop (n + 1) rest) taken
-      ∙ ap (λ l. (runs ++ quote ∷ []) ++ l) (sym is)) ∙ sym (append_assoc done (runs ++ quote ∷ []) next),
-      w ∙ ap (λ l. l ++ quote ∷ []) (m ∙ ap (λ l. l ++ added) o ∙ ap (λ l. (base ++ D) ++ l) (adds ∙ taken))
-      ∙ tidy ∙ ap (λ l. base ++ l) (sym text),
+      e ∙ ap (λ l. done ++ l)
+          (sym (take-append-drop (n + 1) rest) ∙ ap (λ l. l ++ drop (n + 1) rest) taken
+          ∙ ap (λ l. (runs ++ quote ∷ []) ++ l) (sym is)) ∙ sym (append_assoc done
+          (runs ++ quote ∷ []) next),
+      w ∙ ap (λ l. l ++ quote ∷ [])
+          (m ∙ ap (λ l. l ++ added) o ∙ ap (λ l. (base ++ D) ++ l) (adds ∙ taken))
+          ∙ tidy ∙ ap (λ l. base ++ l) (sym text),
     )
 
 -- the last run
@@ -67,7 +75,7 @@ write_end quote field rest base out n done e o run is mid new m w =
     ap (λ l. doubled quote l) e
     ∙ doubled_behind quote done rest (subst P (take_all n rest (omega arith)) run.1) in
     let tidy : ((base ++ doubled quote done) ++ rest) ++ quote ∷ []
-        ≡ base ++ ((doubled quote done ++ rest) ++ quote ∷ []) = simp append_assoc in
+    ≡ base ++ ((doubled quote done ++ rest) ++ quote ∷ []) = simp append_assoc in
     w ∙ ap (λ l. l ++ quote ∷ []) (m ∙ ap (λ l. l ++ rest) o) ∙ tidy
     ∙ ap (λ l. base ++ (l ++ quote ∷ [])) (sym text)
 
@@ -78,11 +86,14 @@ pub wrote_more : (d : Dialect) (fields : List (List ℕ)) (before field text : L
 unfolding Wrote
 wrote_more d [] before field text e t =
     (text, [], t, ap (λ l. l ++ (text ++ (d.delimiter ∷ []))) e, refl)
-wrote_more d (other ∷ fields) before field text (front, more, u, e, others) t =
-    (front, more ++ (text ++ (d.delimiter ∷ [])), u,
-    ap (λ l. l ++ (text ++ (d.delimiter ∷ []))) e
-    ∙ append_assoc front (d.delimiter ∷ more) (text ++ (d.delimiter ∷ [])),
-    wrote_more d fields more field text others t)
+wrote_more d (other ∷ fields) before field text (front, more, u, e, others) t = (
+  front,
+  more ++ (text ++ (d.delimiter ∷ [])),
+  u,
+  ap (λ l. l ++ (text ++ (d.delimiter ∷ []))) e
+      ∙ append_assoc front (d.delimiter ∷ more) (text ++ (d.delimiter ∷ [])),
+  wrote_more d fields more field text others t,
+)
 
 pub bytes_more : (fields : List (Bor (List ℕ))) (i : ℕ) (d : Bor (List ℕ)) → i < length fields
     → bytes_of (take (i + 1) fields) ≡ bytes_of (take i fields) ++ (get_or fields i d).now ∷ []
@@ -99,7 +110,8 @@ last_is_text : (d : Dialect) (others : List (List ℕ)) (last text : List ℕ)
     → IsLast d others last text → IsFieldText d last text
 last_is_text d others last text (inl (alone, none, is)) =
     let P : List ℕ → Type 0 = λ l. IsFieldText d l text in
-    subst P (sym none) (inl (is ∙ ap (λ l. d.quote ∷ (l ++ d.quote ∷ [])) (sym (doubled_none d.quote))))
+    subst P (sym none)
+    (inl (is ∙ ap (λ l. d.quote ∷ (l ++ d.quote ∷ [])) (sym (doubled_none d.quote))))
 last_is_text d others last text (inr (some, t)) = is_text d last text t
 
 wrote_done : (d : Dialect) (fields : List (List ℕ)) (before : List ℕ) → Wrote d fields before
@@ -125,7 +137,7 @@ reads_back d fields old new it = (
       λ l. AreFields d ((it.before ++ (it.text ++ it.end)) ++ rest) l rest in
       let Q : List ℕ → Type 0 = λ l. AreFields d l (it.others ++ it.last ∷ []) rest in
       let tidy : (it.before ++ (it.text ++ it.end)) ++ rest
-          ≡ it.before ++ (it.text ++ (it.end ++ rest)) = simp append_assoc in (
+      ≡ it.before ++ (it.text ++ (it.end ++ rest)) = simp append_assoc in (
         omega (
           arith,
           length-append (it.before ++ (it.text ++ it.end)) rest,
@@ -134,9 +146,10 @@ reads_back d fields old new it = (
           some_line_end d.ends it.end it.is_end,
         ),
         subst P (sym it.all) (subst Q (sym tidy) (done_fields d it.others it.before
-        (it.text ++ (it.end ++ rest)) (it.last ∷ []) rest (wrote_done d it.others it.before it.wrote)
-        (last_field d it.last it.text (it.end ++ rest) rest
-        (last_is_text d it.others it.last it.text it.is_last) (inl (it.end, it.is_end, refl))))),
+            (it.text ++ (it.end ++ rest)) (it.last ∷ []) rest
+            (wrote_done d it.others it.before it.wrote)
+            (last_field d it.last it.text (it.end ++ rest) rest
+            (last_is_text d it.others it.last it.text it.is_last) (inl (it.end, it.is_end, refl))))),
       ),
 )
 

@@ -19,7 +19,8 @@ doubled quote (b ∷ bs) =
 -- What is written for a field: in quotes, or as it is where all its bytes are plain.
 abbrev pub IsFieldText : Dialect → List ℕ → List ℕ → Type 0
 IsFieldText d field text =
-    (text ≡ d.quote ∷ (doubled d.quote field ++ d.quote ∷ [])) ⊎ ((text ≡ field) × All (IsPlain d) field)
+    (text ≡ d.quote ∷ (doubled d.quote field ++ d.quote ∷ []))
+    ⊎ ((text ≡ field) × All (IsPlain d) field)
 
 -- What ends a record.
 abbrev pub IsLineEnd : LineEnds → List ℕ → Type 0

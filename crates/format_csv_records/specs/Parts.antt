@@ -1,13 +1,14 @@
 -- What the parts of a reader of records read.
-use Rattle.std.specs.Prelude.{◌≡◌, ◌⊎◌, ◌≤◌, ◌<◌, ◌+◌, ℕ, List, [], ◌∷◌, ◌++◌, length, take, drop, ⊤}
-use Rattle.std.specs.Prelude.{Option, MatchOption}
+use Rattle.std.specs.Prelude.{◌≡◌, ◌⊎◌, ◌≤◌, ℕ, List, [], ◌∷◌, ◌++◌, length, take, drop}
+use Rattle.std.specs.Prelude.{⊤}
 use Rattle.std.specs.List.{All}
 use Rattle.format_csv_records.specs.Apart.{IsBreak}
 use Rattle.format_csv_records.specs.Dialects.{EndsHere, IsFieldText, IsLineEnd, IsPlain, doubled}
 use Rattle.format_csv_records.specs.declared.dialect.Dialect.{Dialect}
 use Rattle.format_csv_records.specs.declared.dialect.LineEnds.{LineEnds}
 use Rattle.format_csv_records.specs.declared.read.Refusal.{Refusal}
-use Rattle.format_csv_records.specs.declared.read.Refusal.TheVariants.{QuoteInField, ByteBehindQuote}
+use Rattle.format_csv_records.specs.declared.read.Refusal.TheVariants.{QuoteInField}
+use Rattle.format_csv_records.specs.declared.read.Refusal.TheVariants.{ByteBehindQuote}
 use Rattle.format_csv_records.specs.declared.read.Refusal.TheVariants.{OpenQuote, WrongLineEnd}
 
 -- There is no byte, or the first is one of these.

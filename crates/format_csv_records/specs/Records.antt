@@ -1,5 +1,5 @@
 -- The fields of a record, of which all bytes stand in one buffer.
-use Rattle.std.specs.Prelude.{◌≡◌, ◌≤◌, ◌-◌, ℕ, zero, suc, List, [], ◌∷◌, take, drop, length}
+use Rattle.std.specs.Prelude.{◌≤◌, ◌-◌, ℕ, zero, suc, List, [], ◌∷◌, take, drop, length}
 use Rattle.std.specs.Prelude.{Option, Some, None}
 use Rattle.format_csv_records.specs.declared.record.ByteRecord.TheInside.{Inside}
 

@@ -6,7 +6,8 @@ use Rattle.format_csv_records.specs.Dialects.{IsLineEnd, IsPlain, IsRecord}
 use Rattle.format_csv_records.specs.Parts.{Begins}
 use Rattle.format_csv_records.specs.declared.dialect.Dialect.{Dialect}
 use Rattle.format_csv_records.specs.declared.read.Refusal.{Refusal}
-use Rattle.format_csv_records.specs.declared.read.Refusal.TheVariants.{QuoteInField, ByteBehindQuote}
+use Rattle.format_csv_records.specs.declared.read.Refusal.TheVariants.{QuoteInField}
+use Rattle.format_csv_records.specs.declared.read.Refusal.TheVariants.{ByteBehindQuote}
 use Rattle.format_csv_records.specs.declared.read.Refusal.TheVariants.{OpenQuote, WrongLineEnd}
 use Rattle.format_csv_records.specs.declared.read.RecordFault.{RecordFault}
 use Rattle.format_csv_records.specs.declared.read.RecordError.{RecordError}

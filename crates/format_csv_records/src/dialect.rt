@@ -91,7 +91,11 @@ impl Dialect {
         if ends_lines(quote) {
             return Err(DialectFault::QuoteEndsLines);
         }
-        Ok(Dialect { delimiter, quote, ends })
+        Ok(Dialect {
+            delimiter,
+            quote,
+            ends,
+        })
     }
 
     /// The dialect of RFC 4180: commas, double quotes, and carriage returns with line feeds.
@@ -105,6 +109,10 @@ impl Dialect {
         ensures { (result.delimiter ≡ 44) × (result.quote ≡ 34)
             × (result.ends ≡ LineEnds.CrLf) }
     {
-        Dialect { delimiter: b',', quote: b'"', ends: LineEnds::CrLf }
+        Dialect {
+            delimiter: b',',
+            quote: b'"',
+            ends: LineEnds::CrLf,
+        }
     }
 }

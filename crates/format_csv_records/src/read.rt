@@ -1,13 +1,17 @@
 //! Records read into one buffer, by any dialect.
 //!
 //! These are loops over bytes and not parsers of the library: a byte of a field is looked at once
-//! and copied once, and the fields of a record are asked no memory for but where its two lists grow.
+//! and copied once, and the fields of a record are asked no memory for but where its two lists
+//! grow.
 
-ghost use Rattle.std.specs.Prelude.{◌≡◌, ◌⊎◌, ◌+◌, ◌<◌, ◌++◌, ◌∷◌, [], drop, length, IfOk, ◌≤◌, ◌^◌, MatchBool, MatchOption, MatchResult};
+ghost use Rattle.std.specs.Prelude.{◌≡◌, ◌⊎◌, ◌+◌, ◌<◌, ◌++◌, ◌∷◌, [], drop, length, IfOk, ◌≤◌};
+ghost use Rattle.std.specs.Prelude.{◌^◌, MatchBool, MatchOption, MatchResult};
 ghost use Rattle.std.specs.Prelude.{List, ℕ, OnErr, IsTrue, ◌↔◌, take, IfErr};
 ghost use Rattle.std.specs.List.{All};
-ghost use Rattle.format_csv_records.specs.Dialects.{AreFields, EndsHere, IsLineEnd, IsPlain, IsRecord};
-ghost use Rattle.format_csv_records.specs.Parts.{Closed, EndsNowhere, FieldFirst, IsOther, NotFirst, OpenFirst, SoMany, Unclosed, WhyNot};
+ghost use Rattle.format_csv_records.specs.Dialects.{AreFields, EndsHere, IsLineEnd, IsPlain};
+ghost use Rattle.format_csv_records.specs.Dialects.{IsRecord};
+ghost use Rattle.format_csv_records.specs.Parts.{Closed, EndsNowhere, FieldFirst, IsOther};
+ghost use Rattle.format_csv_records.specs.Parts.{NotFirst, OpenFirst, SoMany, Unclosed, WhyNot};
 ghost use Rattle.format_csv_records.specs.Records.{begun_of, fields_of};
 ghost use Rattle.format_csv_records.specs.Refused.{IsNoRecord, ReadsRecord};
 ghost use Rattle.format_csv_records.specs.declared.read.RecordError.TheVariants.{OutOfMemory};
@@ -244,13 +248,21 @@ fn read_end<'i>(ends: LineEnds, rest: &'i [u8]) -> Result<&'i [u8], usize>
         return Ok(rest);
     }
     if first_is(rest, b'\n') {
-        return if by_line_feed(ends) { Ok(behind(rest, 1)) } else { Err(0) };
+        return if by_line_feed(ends) {
+            Ok(behind(rest, 1))
+        } else {
+            Err(0)
+        };
     }
     if !first_is(rest, b'\r') || !by_both(ends) {
         return Err(0);
     }
     let left = behind(rest, 1);
-    if first_is(left, b'\n') { Ok(behind(left, 1)) } else { Err(1) }
+    if first_is(left, b'\n') {
+        Ok(behind(left, 1))
+    } else {
+        Err(1)
+    }
 }
 
 // Why a record neither ends nor goes on with the byte that stands first.
@@ -281,7 +293,10 @@ fn read_fields<'i, A: Allocator>(
     'fields: loop {
         if !read_field(dialect, fields, &mut rest)? {
             let why = Refusal::OpenQuote;
-            return Err(RecordError::Refused(RecordFault { offset: bytes.len(), why }));
+            return Err(RecordError::Refused(RecordFault {
+                offset: bytes.len(),
+                why,
+            }));
         }
         if !first_is(rest, dialect.delimiter) {
             return match read_end(dialect.ends, rest) {
@@ -302,7 +317,8 @@ fn read_fields<'i, A: Allocator>(
 /// matter. At an error it has no fields, and the bytes stay as they are.
 ///
 /// `Refused` says that the bytes begin with no record, where none can go on, and why; `OutOfMemory`
-/// that a request for memory was refused. Memory is wanted only where the record's two buffers grow.
+/// that a request for memory was refused. Memory is wanted only where the record's two buffers
+/// grow.
 ///
 /// ```
 /// use format_csv_records::dialect::Dialect;

@@ -1,6 +1,7 @@
 //! Records whose fields stand in one buffer, which is used again for the next record.
 
-ghost use Rattle.std.specs.Prelude.{◌≡◌, ◌++◌, ◌∷◌, [], ◌<◌, ◌≤◌, ◌^◌, ◌+◌, ◌-◌, ◌↔◌, length, IfSome, IsTrue, OnErr, OnOk, option_map, slice_index};
+ghost use Rattle.std.specs.Prelude.{◌≡◌, ◌++◌, ◌∷◌, [], ◌<◌, ◌≤◌, ◌^◌, ◌+◌, ◌-◌, ◌↔◌, length};
+ghost use Rattle.std.specs.Prelude.{IfSome, IsTrue, OnErr, OnOk, option_map, slice_index};
 ghost use Rattle.std.specs.Iterator.{at_most};
 ghost use Rattle.format_csv_records.specs.Records.{begun_of, field_at, fields_of, start_of};
 
@@ -93,7 +94,10 @@ impl<A: Allocator> ByteRecord<A> {
         ensures fields { result.fields.now ≡ self.now }
         ensures place { result.place ≡ 0 }
     {
-        Fields { fields: self, place: 0 }
+        Fields {
+            fields: self,
+            place: 0,
+        }
     }
 
     /// Takes all fields away, and keeps the room for them.

@@ -45,11 +45,16 @@ impl<'i> Records<'i> {
             × (result.rest.now ≡ bytes.now) }
     {
         let rest = bytes;
-        Records { dialect, bytes, rest }
+        Records {
+            dialect,
+            bytes,
+            rest,
+        }
     }
 
     /// Reads the next record. `true` says that one was read; `false` that none is left. Behind an
-    /// error no record is read: the next call answers it again, out of memory aside. The offset of a
+    /// error no record is read: the next call answers it again, out of memory aside. The offset of
+    /// a
     /// fault counts from where the record begins, which [`offset`](Records::offset) tells.
     pub fn next_record<A: Allocator>(
         &mut self,
@@ -94,7 +99,11 @@ pub fn behind_mark(bytes: &[u8]) -> Option<&[u8]>
         return None;
     }
     let third = behind(second, 1);
-    if first_is(third, 0xbf) { Some(behind(third, 1)) } else { None }
+    if first_is(third, 0xbf) {
+        Some(behind(third, 1))
+    } else {
+        None
+    }
 }
 
 /// The place of the first column of this name, counted from 0: of the first field of a header that

@@ -2,8 +2,10 @@
 
 ghost use Rattle.std.specs.Prelude.{◌≡◌, ◌++◌, ◌∷◌, [], List, ℕ, length, MatchBool, OnOk};
 ghost use Rattle.format_csv_records.specs.Dialects.{IsLineEnd, IsRecord, doubled};
-ghost use Rattle.format_csv_records.specs.Written.{IsLast, IsLastOf, IsWritten, Writes, WritesRecord, Wrote, bytes_of};
-ghost use Rattle.format_csv_records.specs.declared.write.WriteError.TheVariants.{NoFields, OutOfMemory};
+ghost use Rattle.format_csv_records.specs.Written.{IsLast, IsLastOf, IsWritten, Writes};
+ghost use Rattle.format_csv_records.specs.Written.{WritesRecord, Wrote, bytes_of};
+ghost use Rattle.format_csv_records.specs.declared.write.WriteError.TheVariants.{NoFields};
+ghost use Rattle.format_csv_records.specs.declared.write.WriteError.TheVariants.{OutOfMemory};
 
 use crate::dialect::{Dialect, LineEnds};
 use crate::read::{behind, front, plain_len, unquoted_len};
@@ -43,7 +45,8 @@ fn write_doubled<A: Allocator>(
     field: &[u8],
     out: &mut Vec<u8, A>,
 ) -> Result<(), AllocError>
-    ensures { OnOk result (out.new.items ≡ out.old.items ++ (doubled quote field.now ++ quote ∷ [])) }
+    ensures { OnOk result
+        (out.new.items ≡ out.old.items ++ (doubled quote field.now ++ quote ∷ [])) }
 {
     let mut rest = field;
     'runs: loop {

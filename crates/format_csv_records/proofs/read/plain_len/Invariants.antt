@@ -1,7 +1,6 @@
 use Rattle.std.proofs.Common.{take}
 use Rattle.std.specs.List.{All}
 use Rattle.format_csv_records.specs.Dialects.{IsPlain}
-use Rattle.format_csv_records.specs.Parts.{IsOther}
 use Rattle.format_csv_records.proofs.read.plain_len.Given as goal
 
 abbrev pub invariant-loop-place : goal.invariant-loop-place

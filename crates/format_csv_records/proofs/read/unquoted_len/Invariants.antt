@@ -1,6 +1,5 @@
 use Rattle.std.proofs.Common.{take}
 use Rattle.std.specs.List.{All}
-use Rattle.format_csv_records.specs.Dialects.{IsPlain}
 use Rattle.format_csv_records.specs.Parts.{IsOther}
 use Rattle.format_csv_records.proofs.read.unquoted_len.Given as goal
 

@@ -9,6 +9,7 @@ returns-clause-start g c = elim c.if-place-eq0.branch [
   | else-place-eq0 w ↦
       let one : (c.args.place - 1) + 1 ≡ c.args.place = search rules in
       let lt : (c.args.place - 1) + 1 < length c.args.ends.now.items = rw one c.requires in
-      let e = rw one at (start_next 0 c.args.ends.now.items (c.args.place - 1) w.index.result.now lt) in
+      let e = rw one at
+      (start_next 0 c.args.ends.now.items (c.args.place - 1) w.index.result.now lt) in
       w.start-is ∙ w.index.ensures ∙ sym e
 ]

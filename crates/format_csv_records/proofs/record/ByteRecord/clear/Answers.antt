@@ -1,5 +1,5 @@
 use Rattle.std.proofs.Common.{refl, arith}
-use Rattle.format_csv_records.specs.Records.{Rises, cut, last_of}
+use Rattle.format_csv_records.specs.Records.{Rises, cut}
 use Rattle.format_csv_records.proofs.record.ByteRecord.clear.Goals as goal
 
 pub returns-clause-fields : goal.returns-clause-fields

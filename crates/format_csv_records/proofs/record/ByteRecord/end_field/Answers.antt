@@ -1,4 +1,4 @@
-use Rattle.std.proofs.Common.{◌≡◌, ◌++◌, ◌∷◌, [], length, ◌∙◌, arith, rules, inl, inr, refl, true}
+use Rattle.std.proofs.Common.{◌≡◌, ◌++◌, ◌∷◌, [], length, ◌∙◌, arith, inl, inr}
 use Rattle.std.proofs.lemmas.List.{drop_all}
 use Rattle.std.proofs.lemmas.Bool.{cases_Bool}
 use Rattle.std.specs.Result.{is_ok}
@@ -11,9 +11,11 @@ returns-clause-fields g c = elim c.match-push.branch [
   | in-Ok w ↦
       let size : c.len-end.result ≡ length c.self.inside.bytes.items =
       c.len-end.ensures ∙ c.self.inside.bytes.ok.0 in
-      let e : c.push.new.self.items ≡ c.self.inside.ends.items ++ (length c.self.inside.bytes.items ∷ []) =
+      let e : c.push.new.self.items
+      ≡ c.self.inside.ends.items ++ (length c.self.inside.bytes.items ∷ []) =
       rw size at w.in-Ok.ensures.items in
-      rw (w.result-is, ← c.self.view_is, e) (cut_end 0 c.self.inside.ends.items c.self.inside.bytes.items c.self.invariant)
+      rw (w.result-is, ← c.self.view_is, e)
+      (cut_end 0 c.self.inside.ends.items c.self.inside.bytes.items c.self.invariant)
   | in-Err w ↦ rw w.result-is tt
 ]
 
@@ -22,9 +24,11 @@ returns-clause-begun g c = elim c.match-push.branch [
   | in-Ok w ↦
       let size : c.len-end.result ≡ length c.self.inside.bytes.items =
       c.len-end.ensures ∙ c.self.inside.bytes.ok.0 in
-      let e : c.push.new.self.items ≡ c.self.inside.ends.items ++ (length c.self.inside.bytes.items ∷ []) =
+      let e : c.push.new.self.items
+      ≡ c.self.inside.ends.items ++ (length c.self.inside.bytes.items ∷ []) =
       rw size at w.in-Ok.ensures.items in
-      rw (w.result-is, e, last_append 0 c.self.inside.ends.items _) (drop_all _ c.self.inside.bytes.items (omega arith))
+      rw (w.result-is, e, last_append 0 c.self.inside.ends.items _)
+      (drop_all _ c.self.inside.bytes.items (omega arith))
   | in-Err w ↦ rw w.result-is tt
 ]
 
@@ -33,7 +37,8 @@ invariant_of-self g c = elim (cases_Bool (is_ok c.push.result)) [
   | inl good ↦
       let size : c.len-end.result ≡ length c.self.inside.bytes.items =
       c.len-end.ensures ∙ c.self.inside.bytes.ok.0 in
-      let e : c.push.new.self.items ≡ c.self.inside.ends.items ++ (length c.self.inside.bytes.items ∷ []) =
+      let e : c.push.new.self.items
+      ≡ c.self.inside.ends.items ++ (length c.self.inside.bytes.items ∷ []) =
       rw (good, size) at c.push.ensures.items in
       rw e (rises_end 0 c.self.inside.ends.items _ c.self.invariant)
   | inr bad ↦ rw (rw bad at c.push.ensures.items) c.self.invariant

@@ -1,4 +1,4 @@
-use Rattle.std.proofs.Common.{◌<◌, ◌∙◌, length, sym, ap, arith, rules}
+use Rattle.std.proofs.Common.{◌<◌, ◌∙◌, length, ap, arith}
 use Rattle.format_csv_records.proofs.Cuts.{cut_length, field_cut, field_none, field_within}
 use Rattle.format_csv_records.proofs.record.ByteRecord.get.Goals as goal
 
@@ -48,5 +48,7 @@ pub returns-clause-place : goal.returns-clause-place
 returns-clause-place g c =
     let n = cut_length 0 c.self.inside.ends.items c.self.inside.bytes.items in
     let size = c.len.ensures ∙ c.self.inside.ends.ok.0 in
-    rw (← c.self.view_is) (omega (arith, n, size, c.if-place-len.false),
-    omega (arith, n, size, c.if-place-len.false, c.len.type_inv))
+    rw (← c.self.view_is) (
+      omega (arith, n, size, c.if-place-len.false),
+      omega (arith, n, size, c.if-place-len.false, c.len.type_inv),
+    )
