@@ -63,11 +63,20 @@ quotes_back : (bs : List ℕ) → Row InQuotes bs (doubled 34 bs)
 unfolding Row Among Then OneOf Spelled
 quotes_back [] = doubled_none 34
 quotes_back (b ∷ bs) = elim (is_or_not b 34) [
-  | inl is ↦ (34 ∷ 34 ∷ [], doubled 34 bs,
-      inl (34, 34, 34 ∷ [], 34 ∷ [], (refl, refl), (refl, refl), refl, is), quotes_back bs,
-      doubled_quote 34 b bs is)
-  | inr other ↦ (b ∷ [], doubled 34 bs, inr (other, refl), quotes_back bs,
-      doubled_other 34 b bs other)
+  | inl is ↦ (
+    34 ∷ 34 ∷ [],
+    doubled 34 bs,
+    inl (34, 34, 34 ∷ [], 34 ∷ [], (refl, refl), (refl, refl), refl, is),
+    quotes_back bs,
+    doubled_quote 34 b bs is,
+  )
+  | inr other ↦ (
+    b ∷ [],
+    doubled 34 bs,
+    inr (other, refl),
+    quotes_back bs,
+    doubled_other 34 b bs other,
+  )
 ]
 
 plain_there : (bs text : List ℕ) → Row (OneOf (λ b. b) IsPlain) bs text
@@ -81,15 +90,20 @@ plain_there (b ∷ bs) text (xs, ys, (is, e), more, h) =
 plain_back : (bs : List ℕ) → All IsPlain bs → Row (OneOf (λ b. b) IsPlain) bs bs
 unfolding Row OneOf
 plain_back [] all = refl
-plain_back (b ∷ bs) all = (b ∷ [], bs, (All-head IsPlain b bs all, refl),
-    plain_back bs (All-tail IsPlain b bs all), refl)
+plain_back (b ∷ bs) all = (
+  b ∷ [],
+  bs,
+  (All-head IsPlain b bs all, refl),
+  plain_back bs (All-tail IsPlain b bs all),
+  refl,
+)
 
 module _ {A : Type 0} (ends : LineEnd) where
   field_there : (field : Vec ℕ A) (text : List ℕ) → FieldText field text
       → IsFieldText (commas ends) field.items text
   unfolding Among Then InList Spelled
   field_there field text
-        (inl (q, o, xs, ys, (_, e), (p, r, us, vs, inside, (_, f), g, same), h, last)) =
+      (inl (q, o, xs, ys, (_, e), (p, r, us, vs, inside, (_, f), g, same), h, last)) =
       let items : p.items ≡ field.items = ap (λ (v : Vec ℕ A). v.items) (sym (last ∙ same)) in
       inl (h ∙ ap (λ l. l ++ ys) e ∙ ap (λ l. 34 ∷ l) (g ∙ ap (λ l. l ++ vs)
       (quotes_there p.items us inside ∙ ap (λ l. doubled 34 l) items)
@@ -99,9 +113,25 @@ module _ {A : Type 0} (ends : LineEnd) where
   field_back : (field : Vec ℕ A) (text : List ℕ) → IsFieldText (commas ends) field.items text
       → FieldText field text
   unfolding Among Then InList Spelled
-  field_back field text (inl e) = inl (34, field, 34 ∷ [], doubled 34 field.items ++ 34 ∷ [],
-      (refl, refl), (field, 34, doubled 34 field.items, 34 ∷ [], quotes_back field.items,
-      (refl, refl), refl, refl), e, refl)
+  field_back field text (inl e) = inl (
+    34,
+    field,
+    34 ∷ [],
+    doubled 34 field.items ++ 34 ∷ [],
+    (refl, refl),
+    (
+      field,
+      34,
+      doubled 34 field.items,
+      34 ∷ [],
+      quotes_back field.items,
+      (refl, refl),
+      refl,
+      refl,
+    ),
+    e,
+    refl,
+  )
   field_back field text (inr (e, all)) =
       let P : List ℕ → Type 0 = λ l. Row (OneOf (λ b. b) IsPlain) field.items l in
       inr (subst P (sym e) (plain_back field.items all))
@@ -122,9 +152,11 @@ module _ {A : Type 0} (ends : LineEnd) where
   others_there field (next ∷ fields) front text behind rest t
       (xs, ys, (c, o, us, vs, (_, e), is, f, same), more, g) closes =
       let P : Vec ℕ A → Type 0 = λ v. FieldText v vs in (
-        front, vs ++ (ys ++ behind), field_there field front t,
+        front,
+        vs ++ (ys ++ behind),
+        field_there field front t,
         ap (λ l. front ++ (l ++ behind)) (g ∙ ap (λ l. l ++ ys) (f ∙ ap (λ l. l ++ vs) e))
-        ∙ ap (λ l. front ++ (44 ∷ l)) (append_assoc vs ys behind),
+            ∙ ap (λ l. front ++ (44 ∷ l)) (append_assoc vs ys behind),
         others_there next fields vs ys behind rest (subst P (sym same) is) more closes,
       )
 
@@ -138,8 +170,12 @@ module _ {A : Type 0} (ends : LineEnd) where
       (text, [], behind, field_back field text t, refl, closes, e)
   others_back field (next ∷ fields) bytes rest (text, behind, t, e, more) =
       let (xs, ys, left, u, row, closes, f) = others_back next fields behind rest more in (
-        text, 44 ∷ (xs ++ ys), left, field_back field text t,
-        (44 ∷ xs, ys, (44, next, 44 ∷ [], xs, (refl, refl), u, refl, refl), row, refl), closes,
+        text,
+        44 ∷ (xs ++ ys),
+        left,
+        field_back field text t,
+        (44 ∷ xs, ys, (44, next, 44 ∷ [], xs, (refl, refl), u, refl, refl), row, refl),
+        closes,
         e ∙ ap (λ l. text ++ (44 ∷ l)) (f ∙ sym (append_assoc xs ys left)),
       )
 
@@ -153,7 +189,7 @@ module _ {A : Type 0} (ends : LineEnd) where
   joined_there [] bytes text behind rest joined one e closes = absurd (omega (arith, one))
   joined_there (field ∷ fields) bytes text behind rest (xs, ys, t, row, f) one e closes =
       let P : List ℕ → Type 0 =
-          λ l. AreFields (commas ends) l (field.items ∷ bytes_of fields) rest in
+      λ l. AreFields (commas ends) l (field.items ∷ bytes_of fields) rest in
       subst P (sym (e ∙ ap (λ l. l ++ behind) f ∙ append_assoc xs ys behind))
       (others_there field fields xs ys behind rest t row closes)
 
@@ -164,21 +200,29 @@ module _ {A : Type 0} (ends : LineEnd) where
   unfolding Joined AreFields
   joined_back [] bytes rest them = absurd them
   joined_back (field ∷ fields) bytes rest them =
-      let (front, text, behind, t, row, closes, e) = others_back field fields bytes rest them in
-      (front ++ text, behind, (front, text, t, row, refl), omega arith, closes,
-      e ∙ sym (append_assoc front text behind))
-
+      let (front, text, behind, t, row, closes, e) = others_back field fields bytes rest them in (
+        front ++ text,
+        behind,
+        (front, text, t, row, refl),
+        omega arith,
+        closes,
+        e ∙ sym (append_assoc front text behind),
+      )
 
   pub record_there : (bytes : List ℕ) (fields : Vec (Vec ℕ A) A) (rest : List ℕ)
       → IsRecord ends bytes fields rest
       → dialects.IsRecord (commas ends) bytes (bytes_of fields.items) rest
   unfolding IsRecord InList
-  record_there bytes fields rest (some, text, (joined, one), inl e) =
-      (some, joined_there fields.items bytes text (line_end ends ++ rest) rest joined one e
-      (closes_there ends rest))
-  record_there bytes fields rest (some, text, (joined, one), inr (e, none)) =
-      (some, joined_there fields.items bytes text [] rest joined one
-      (e ∙ sym (append-nil text)) (inr (refl, none)))
+  record_there bytes fields rest (some, text, (joined, one), inl e) = (
+    some,
+    joined_there fields.items bytes text (line_end ends ++ rest) rest joined one e
+        (closes_there ends rest),
+  )
+  record_there bytes fields rest (some, text, (joined, one), inr (e, none)) = (
+    some,
+    joined_there fields.items bytes text [] rest joined one
+        (e ∙ sym (append-nil text)) (inr (refl, none)),
+  )
 
   pub record_back : (bytes : List ℕ) (fields : Vec (Vec ℕ A) A) (rest : List ℕ)
       → dialects.IsRecord (commas ends) bytes (bytes_of fields.items) rest
@@ -187,10 +231,19 @@ module _ {A : Type 0} (ends : LineEnd) where
   record_back bytes fields rest (some, them) =
       let (text, behind, joined, one, closes, e) = joined_back fields.items bytes rest them in
       elim closes [
-        | inl (end, is, f) ↦ (some, text, (joined, one), inl (e ∙ ap (λ l. text ++ l)
-            (f ∙ ap (λ l. l ++ rest) (end_is_by ends end is))))
-        | inr (none, left) ↦ (some, text, (joined, one),
-            inr (e ∙ ap (λ l. text ++ l) none ∙ append-nil text, left))
+        | inl (end, is, f) ↦ (
+          some,
+          text,
+          (joined, one),
+          inl (e ∙ ap (λ l. text ++ l)
+              (f ∙ ap (λ l. l ++ rest) (end_is_by ends end is))),
+        )
+        | inr (none, left) ↦ (
+          some,
+          text,
+          (joined, one),
+          inr (e ∙ ap (λ l. text ++ l) none ∙ append-nil text, left),
+        )
       ]
 
 -- The bytes begin with a record of these fields by the dialect of commas and double quotes.

@@ -149,7 +149,8 @@ reads_back d fields old new it = (
             (it.text ++ (it.end ++ rest)) (it.last ∷ []) rest
             (wrote_done d it.others it.before it.wrote)
             (last_field d it.last it.text (it.end ++ rest) rest
-            (last_is_text d it.others it.last it.text it.is_last) (inl (it.end, it.is_end, refl))))),
+            (last_is_text d it.others it.last it.text it.is_last)
+            (inl (it.end, it.is_end, refl))))),
       ),
 )
 

@@ -6,6 +6,7 @@
 #![tactic(auto)]
 
 pub mod dialect;
+pub mod laws;
 pub mod read;
 pub mod record;
 pub mod records;
