@@ -7,7 +7,7 @@ from registry.common import TOP, read
 # The crates of each format. What they stand on is found in `crates.txt`.
 FORMATS = {
     "calculator": ["format_calculator"],
-    "csv": ["format_csv"],
+    "csv": ["format_csv", "format_csv_records"],
     "dns": ["format_dns"],
     "http": ["format_http"],
     "ini": ["readers"],

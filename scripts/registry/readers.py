@@ -23,6 +23,9 @@ READERS = [
     ("CSV (RFC 4180)", "format_csv", "yes",
         "`Ok` exactly where the bytes are a document of these records, or a table; one record, "
         "whole and in pieces"),
+    ("CSV in any dialect", "format_csv_records", "no",
+        "the record that bytes begin with, in one buffer, or the first byte at which none goes on; "
+        "the text of a record, which reads back"),
     ("RESP2", "format_resp", "yes",
         "the reply that bytes begin with, nested to a level, whole and in pieces; where it ends, "
         "by one pass over pieces"),

@@ -19,6 +19,7 @@ ghost use Rattle.format_csv.specs.Runs.{BytesRead, PlainRun, TwoQuotes, Unquoted
 ghost use Rattle.winnow.specs.Exact.{Reads};
 ghost use Rattle.winnow.specs.Exact.Whole.{ReadsAll};
 
+pub mod dialects;
 pub mod pieces;
 pub mod table;
 
@@ -314,6 +315,10 @@ pub fn read_record<'i, A: Allocator + Copy>(
 
 /// The records of a document, where all of the bytes are one. Else a fault: it says that they are
 /// none, and where the records ended, which is tested and not proved; or it wants memory.
+///
+/// All records are held at once, each field in a list of its own: 10 megabytes of line feeds want
+/// 1.3
+/// gigabytes. `format_csv_records::records::Records` holds one at a time, in one buffer.
 ///
 /// ```
 /// use format_csv::{LineEnd, parse_document};

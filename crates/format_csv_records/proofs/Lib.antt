@@ -1,0 +1,8 @@
+-- Written by scripts/registries.py: do not edit.
+pub mod Alone
+pub mod Cuts
+pub mod Ending
+pub mod One
+pub mod Runs
+pub mod Whole
+pub mod Writing

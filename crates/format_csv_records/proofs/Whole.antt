@@ -1,0 +1,382 @@
+-- A record, field by field: what is read, and that nothing else could be.
+use Rattle.std.specs.Prelude.{◌≡◌, ◌⊎◌, ◌<◌, ◌+◌, ◌-◌, ℕ, List, [], ◌∷◌, ◌++◌, length, drop}
+use Rattle.std.proofs.Common.{refl, sym, ap, subst, inl, inr, ◌∙◌, arith, append_assoc}
+use Rattle.std.proofs.Common.{length-append}
+use Rattle.std.proofs.lemmas.List.{append-nil}
+use Rattle.format_csv_records.specs.Apart.{IsApart}
+use Rattle.format_csv_records.specs.Dialects.{AreFields, EndsHere, IsFieldText, IsLineEnd, IsPlain}
+use Rattle.format_csv_records.specs.Dialects.{IsRecord, doubled}
+use Rattle.format_csv_records.specs.Parts.{Done, EndsNowhere, FieldFirst}
+use Rattle.format_csv_records.specs.Parts.{NotFirst, OpenFirst, WhyNot}
+use Rattle.format_csv_records.specs.Refused.{IsRefused, Lacks, NoneWith}
+use Rattle.format_csv_records.specs.declared.dialect.Dialect.{Dialect}
+use Rattle.format_csv_records.specs.declared.dialect.LineEnds.{LineEnds}
+use Rattle.format_csv_records.specs.declared.read.Refusal.{Refusal}
+use Rattle.format_csv_records.specs.declared.read.Refusal.TheVariants.{QuoteInField}
+use Rattle.format_csv_records.specs.declared.read.Refusal.TheVariants.{ByteBehindQuote}
+use Rattle.format_csv_records.specs.declared.read.Refusal.TheVariants.{OpenQuote, WrongLineEnd}
+use Rattle.format_csv_records.proofs.Alone.{field_apart}
+use Rattle.format_csv_records.proofs.Alone.{open_apart, quoted_behind, same_others}
+use Rattle.format_csv_records.proofs.Alone.{text_first}
+use Rattle.format_csv_records.proofs.Ending.{ends_apart, ends_stop, lone_return, some_end}
+use Rattle.format_csv_records.proofs.Runs.{doubled_behind}
+
+-- ---- the text of the field that stands first
+
+pub record FirstText (d : Dialect) (bytes field left : List ℕ) : Type 0 where
+  pub text : List ℕ
+  pub is_text : IsFieldText d field text
+  pub split : bytes ≡ text ++ left
+  pub again : (b : ℕ) (bs after : List ℕ) → left ≡ b ∷ bs
+      → FieldFirst d (text ++ (b ∷ after)) field (b ∷ after)
+
+front_not : (quote b : ℕ) (field xs ys : List ℕ) → NotFirst (λ c. c ≡ quote) (field ++ (b ∷ xs))
+    → NotFirst (λ c. c ≡ quote) (field ++ (b ∷ ys))
+front_not quote b [] xs ys not = not
+front_not quote b (c ∷ field) xs ys not = not
+
+pub first_text : (d : Dialect) (bytes field left : List ℕ) → FieldFirst d bytes field left
+    → FirstText d bytes field left
+first_text d bytes field left (inl (here, e, (f, not))) = record {
+  text = d.quote ∷ (doubled d.quote field ++ d.quote ∷ []);
+  is_text = inl refl;
+  split = e ∙ ap (λ l. d.quote ∷ l) f ∙ sym (quoted_behind d.quote field left);
+  again = λ b bs after is.
+      let P : List ℕ → Type 0 = λ l. NotFirst (λ c. c ≡ d.quote) l in
+      inl (
+        doubled d.quote field ++ (d.quote ∷ (b ∷ after)),
+        quoted_behind d.quote field (b ∷ after),
+        (refl, subst P is not),
+      );
+}
+first_text d bytes field left (inr (e, all, stop, not)) = record {
+  text = field;
+  is_text = inr (refl, all);
+  split = e;
+  again = λ b bs after is.
+      let P : List ℕ → Type 0 = λ l. NotFirst (IsPlain d) l in
+      let Q : List ℕ → Type 0 = λ l. NotFirst (λ c. c ≡ d.quote) l in
+      inr (
+        refl,
+        all,
+        subst P is stop,
+        front_not d.quote b field bs after (subst Q (e ∙ ap (λ l. field ++ l) is) not),
+      );
+}
+
+-- ---- fields behind fields
+
+fields_more : (d : Dialect) (field text here : List ℕ) (fields : List (List ℕ)) (rest : List ℕ)
+    → IsFieldText d field text → AreFields d here fields rest
+    → AreFields d (text ++ (d.delimiter ∷ here)) (field ∷ fields) rest
+unfolding AreFields
+fields_more d field text here [] rest t it = absurd it
+fields_more d field text here (next ∷ fields) rest t it = (text, here, t, refl, it)
+
+-- behind fields with their delimiters
+pub done_fields : (d : Dialect) (done : List (List ℕ)) (before here : List ℕ)
+    (fields : List (List ℕ)) (rest : List ℕ) → Done d done before → AreFields d here fields rest
+    → AreFields d (before ++ here) (done ++ fields) rest
+unfolding Done
+done_fields d [] before here fields rest e it =
+    let P : List ℕ → Type 0 = λ l. AreFields d (l ++ here) fields rest in subst P (sym e) it
+done_fields d (field ∷ done) before here fields rest (text, more, t, e, others) it =
+    let P : List ℕ → Type 0 = λ l. AreFields d l (field ∷ (done ++ fields)) rest in
+    subst P (sym (ap (λ l. l ++ here) e ∙ append_assoc text (d.delimiter ∷ more) here))
+    (fields_more d field text (more ++ here) (done ++ fields) rest t
+    (done_fields d done more here fields rest others it))
+
+-- one field more
+done_more : (d : Dialect) (done : List (List ℕ)) (before field text : List ℕ)
+    → Done d done before → IsFieldText d field text
+    → Done d (done ++ field ∷ []) (before ++ (text ++ (d.delimiter ∷ [])))
+unfolding Done
+done_more d [] before field text e t =
+    (text, [], t, ap (λ l. l ++ (text ++ (d.delimiter ∷ []))) e, refl)
+done_more d (other ∷ done) before field text (front, more, u, e, others) t = (
+  front,
+  more ++ (text ++ (d.delimiter ∷ [])),
+  u,
+  ap (λ l. l ++ (text ++ (d.delimiter ∷ []))) e
+      ∙ append_assoc front (d.delimiter ∷ more) (text ++ (d.delimiter ∷ [])),
+  done_more d done more field text others t,
+)
+
+-- the last field
+pub last_field : (d : Dialect) (field text behind rest : List ℕ) → IsFieldText d field text
+    → EndsHere d.ends behind rest → AreFields d (text ++ behind) (field ∷ []) rest
+unfolding AreFields
+last_field d field text behind rest t ends = (text, behind, t, refl, ends)
+
+-- ---- nothing else stands
+
+-- what stands behind the first field of a record
+pub record Behind (d : Dialect) (bytes : List ℕ) (fields : List (List ℕ)) (rest : List ℕ)
+    : Type 0 where
+  pub field : List ℕ
+  pub behind : List ℕ
+  pub first : FieldFirst d bytes field behind
+  pub way : EndsHere d.ends behind rest ⊎ ((more : List ℕ) × (others : List (List ℕ))
+      × (behind ≡ d.delimiter ∷ more) × AreFields d more others rest)
+
+behind_first : (d : Dialect) → IsApart d.delimiter d.quote → (bytes : List ℕ)
+    (fields : List (List ℕ)) (rest : List ℕ) → AreFields d bytes fields rest
+    → Behind d bytes fields rest
+unfolding AreFields
+behind_first d apart bytes [] rest it = absurd it
+behind_first d apart bytes (field ∷ []) rest (text, behind, t, e, ends) = record {
+  field = field;
+  behind = behind;
+  first = text_first d apart bytes field text behind t e (ends_stop d d.ends behind rest ends);
+  way = inl ends;
+}
+behind_first d apart bytes (field ∷ (next ∷ fields)) rest (text, more, t, e, it) = record {
+  field = field;
+  behind = d.delimiter ∷ more;
+  first = text_first d apart bytes field text (d.delimiter ∷ more) t e (inl refl);
+  way = inr (more, next ∷ fields, refl, it);
+}
+
+-- behind fields with their delimiters stand the others
+done_apart : (d : Dialect) → IsApart d.delimiter d.quote → (done : List (List ℕ))
+    (before here : List ℕ) (fields : List (List ℕ)) (rest : List ℕ) → Done d done before
+    → AreFields d (before ++ here) fields rest
+    → (others : List (List ℕ)) × AreFields d here others rest
+unfolding Done
+done_apart d apart [] before here fields rest e it =
+    let P : List ℕ → Type 0 = λ l. AreFields d (l ++ here) fields rest in (fields, subst P e it)
+done_apart d apart (field ∷ done) before here fields rest (text, more, t, e, others) it =
+    let b = behind_first d apart (before ++ here) fields rest it in
+    let f = text_first d apart (before ++ here) field text (d.delimiter ∷ (more ++ here)) t
+    (ap (λ l. l ++ here) e ∙ append_assoc text (d.delimiter ∷ more) here) (inl refl) in
+    let (same, left) = field_apart d (before ++ here) field (d.delimiter ∷ (more ++ here)) b.field
+    b.behind f b.first in
+    elim b.way [
+      | inl ends ↦ absurd (ends_apart d apart b.behind rest (more ++ here) ends (sym left))
+      | inr (further, fs, is, them) ↦
+          let P : List ℕ → Type 0 = λ l. AreFields d l fs rest in
+          done_apart d apart done more here fs rest others
+          (subst P (sym (same_others (left ∙ is))) them)
+    ]
+
+-- none stands where a field is read, and the record neither goes on nor ends behind it
+none_behind : (d : Dialect) → IsApart d.delimiter d.quote → (bytes field left : List ℕ)
+    (fields : List (List ℕ)) (rest : List ℕ) → FieldFirst d bytes field left
+    → NotFirst (λ b. b ≡ d.delimiter) left → (EndsHere d.ends left rest → ⊥)
+    → AreFields d bytes fields rest → ⊥
+none_behind d apart bytes field left fields rest f not ends it =
+    let b = behind_first d apart bytes fields rest it in
+    let (same, e) = field_apart d bytes field left b.field b.behind f b.first in
+    let P : List ℕ → Type 0 = λ l. NotFirst (λ c. c ≡ d.delimiter) l in
+    let Q : List ℕ → Type 0 = λ l. EndsHere d.ends l rest in
+    elim b.way [
+      | inl at ↦ ends (subst Q (sym e) at)
+      | inr (further, fs, is, them) ↦ subst P (e ∙ is) not refl
+    ]
+
+none_open : (d : Dialect) → IsApart d.delimiter d.quote → (bytes : List ℕ)
+    (fields : List (List ℕ)) (rest : List ℕ) → OpenFirst d bytes → AreFields d bytes fields rest
+    → ⊥
+none_open d apart bytes fields rest unclosed it =
+    let b = behind_first d apart bytes fields rest it in
+    open_apart d bytes b.field b.behind unclosed b.first
+
+-- ---- why not
+
+-- a byte at which the record does not end
+pub record Stuck (ends : LineEnds) (left : List ℕ) (begun : ℕ) : Type 0 where
+  pub b : ℕ
+  pub bs : List ℕ
+  pub is : left ≡ b ∷ bs
+  pub ends_not : ((begun ≡ 0)
+      × ((after : List ℕ) (rest : List ℕ) → EndsHere ends (b ∷ after) rest → ⊥))
+      ⊎ ((begun ≡ 1) × (b ≡ 13) × IsLineEnd ends (13 ∷ 10 ∷ []) × NotFirst (λ c. c ≡ 10) bs)
+
+stuck : (ends : LineEnds) (left : List ℕ) (begun : ℕ) → EndsNowhere ends left begun
+    → Stuck ends left begun
+stuck ends [] begun it = absurd it
+stuck ends (b ∷ bs) begun it = record { b = b; bs = bs; is = refl; ends_not = it }
+
+lacks : (d : Dialect) (why : Refusal) (more left : List ℕ) → WhyNot d.quote left why
+    → NotFirst (λ b. b ≡ d.delimiter) left → IsLineEnd d.ends more → Lacks d why more left
+lacks d QuoteInField more left it not is = (is, it)
+lacks d WrongLineEnd more left it not is = inl (is, it)
+lacks d OpenQuote more left it not is = absurd it
+lacks d ByteBehindQuote more [] it not is = absurd it
+lacks d ByteBehindQuote more (b ∷ left) (other, unbroken) not is =
+    (is, (other, (not, (λ e. unbroken (inl e), λ e. unbroken (inr e)))))
+
+lacks_feed : (d : Dialect) → IsApart d.delimiter d.quote → (why : Refusal) (back left : List ℕ)
+    → WhyNot d.quote (13 ∷ left) why → Lacks d why (10 ∷ []) back
+lacks_feed d apart QuoteInField back left it = absurd (apart.quote_stays.0 (sym it))
+lacks_feed d apart WrongLineEnd back left it = inr refl
+lacks_feed d apart OpenQuote back left it = absurd it
+lacks_feed d apart ByteBehindQuote back left (other, unbroken) = absurd (unbroken (inl refl))
+
+-- ---- a record that is read in part
+
+pub record SoFar (d : Dialect) (bytes rest : List ℕ) (fields : List (List ℕ)) : Type 0 where
+  pub before : List ℕ
+  pub whole : bytes ≡ before ++ rest
+  pub texts : Done d fields before
+
+pub so_far_none : (d : Dialect) (bytes : List ℕ) (fields : List (List ℕ)) → fields ≡ []
+    → SoFar d bytes bytes fields
+unfolding Done
+so_far_none d bytes fields e =
+    let P : List (List ℕ) → Type 0 = λ l. Done d l [] in
+    record { before = []; whole = refl; texts = subst P (sym e) refl }
+
+module _ (d : Dialect) (apart : IsApart d.delimiter d.quote) (bytes rest : List ℕ)
+    (fields : List (List ℕ)) (it : SoFar d bytes rest fields) where
+  module _ (field left : List ℕ) (f : FieldFirst d rest field left) where
+    -- a delimiter behind the field
+    pub so_far_more : (next : List ℕ) (new : List (List ℕ)) → new ≡ fields ++ field ∷ []
+        → left ≡ d.delimiter ∷ drop 1 left → next ≡ drop 1 left → SoFar d bytes next new
+    so_far_more next new e goes is =
+        let t = first_text d rest field left f in
+        let P : List (List ℕ) → Type 0 =
+        λ l. Done d l (it.before ++ (t.text ++ (d.delimiter ∷ []))) in
+        record {
+          before = it.before ++ (t.text ++ (d.delimiter ∷ []));
+          whole = it.whole ∙ ap (λ l. it.before ++ l) (t.split ∙ ap (λ l. t.text ++ l) (goes
+              ∙ ap (λ l. d.delimiter ∷ l) (sym is))
+              ∙ sym (append_assoc t.text (d.delimiter ∷ []) next))
+              ∙ sym (append_assoc it.before (t.text ++ (d.delimiter ∷ [])) next);
+          texts = subst P (sym e) (done_more d fields it.before field t.text it.texts t.is_text);
+        }
+
+    -- with what ends it behind the field
+    ended : (behind end : List ℕ) → EndsHere d.ends behind end
+        → AreFields d (it.before ++ ((first_text d rest field left f).text ++ behind))
+        (fields ++ field ∷ []) end
+    ended behind end ends =
+        let t = first_text d rest field left f in
+        done_fields d fields it.before (t.text ++ behind) (field ∷ []) end it.texts
+        (last_field d field t.text behind end t.is_text ends)
+
+    -- the end behind the field
+    pub so_far_ends : (end : List ℕ) (new : List (List ℕ)) → new ≡ fields ++ field ∷ []
+        → EndsHere d.ends left end → AreFields d bytes new end
+    so_far_ends end new e ends =
+        let t = first_text d rest field left f in
+        let P : List (List ℕ) → Type 0 = λ l. AreFields d bytes l end in
+        let Q : List ℕ → Type 0 = λ l. AreFields d l (fields ++ field ∷ []) end in
+        subst P (sym e) (subst Q (sym (it.whole ∙ ap (λ l. it.before ++ l) t.split))
+        (ended left end ends))
+
+    -- a record with this behind its last field
+    closes : (before more : List ℕ) → before ≡ it.before ++ (first_text d rest field left f).text
+        → EndsHere d.ends more [] → 0 < length more
+        → IsRecord d (before ++ more) (fields ++ field ∷ []) []
+    closes before more e ends some =
+        let t = first_text d rest field left f in
+        let g : before ++ more ≡ it.before ++ (t.text ++ more) =
+        ap (λ l. l ++ more) e ∙ append_assoc it.before t.text more in
+        let P : List ℕ → Type 0 = λ l. AreFields d l (fields ++ field ∷ []) [] in
+        (omega (arith, some, length-append before more), subst P (sym g) (ended more [] ends))
+
+    -- no record goes on so
+    goes_not : (b : ℕ) (bs after : List ℕ) → left ≡ b ∷ bs → (b ≡ d.delimiter → ⊥)
+        → ((end : List ℕ) → EndsHere d.ends (b ∷ after) end → ⊥) → (before : List ℕ)
+        → before ≡ it.before ++ (first_text d rest field left f).text
+        → (all : List (List ℕ)) (end : List ℕ) → IsRecord d (before ++ (b ∷ after)) all end → ⊥
+    goes_not b bs after is not ends before e all end (some, them) =
+        let t = first_text d rest field left f in
+        let g : before ++ (b ∷ after) ≡ it.before ++ (t.text ++ (b ∷ after)) =
+        ap (λ l. l ++ (b ∷ after)) e ∙ append_assoc it.before t.text (b ∷ after) in
+        let P : List ℕ → Type 0 = λ l. AreFields d l all end in
+        let (fs, o) = done_apart d apart fields it.before (t.text ++ (b ∷ after)) all end it.texts
+        (subst P g them) in
+        none_behind d apart (t.text ++ (b ∷ after)) field (b ∷ after) fs end
+        (t.again b bs after is) not (ends end) o
+
+    -- no record goes on behind a carriage return that lacks a line feed
+    none_return : (bs : List ℕ) → left ≡ 13 ∷ bs → NotFirst (λ c. c ≡ 10) bs → (before : List ℕ)
+        → before ≡ it.before ++ (first_text d rest field left f).text
+        → NoneWith d (before ++ (13 ∷ [])) bs
+    none_return [] is not before e =
+        λ all end them. goes_not 13 [] [] is (λ g. apart.delimiter_stays.0 (sym g))
+        (λ o. lone_return d.ends [] o tt) before e all end them
+    none_return (c ∷ bs) is not before e =
+        λ after all end them.
+        let P : List ℕ → Type 0 = λ l. IsRecord d l all end in
+        goes_not 13 (c ∷ bs) (c ∷ after) is (λ g. apart.delimiter_stays.0 (sym g))
+        (λ o. lone_return d.ends (c ∷ after) o not) before e all end
+        (subst P (append_assoc before (13 ∷ []) (c ∷ after)) them)
+
+    pub so_far_bad : (begun offset : ℕ) (why : Refusal) → NotFirst (λ b. b ≡ d.delimiter) left
+        → EndsNowhere d.ends left begun → WhyNot d.quote left why
+        → offset ≡ (length bytes - length left) + begun
+        → IsRefused d bytes (record { offset = offset; why = why })
+    so_far_bad begun offset why not nowhere whynot at =
+        let t = first_text d rest field left f in
+        let before = it.before ++ t.text in
+        let split : bytes ≡ before ++ left = it.whole ∙ ap (λ l. it.before ++ l) t.split
+        ∙ sym (append_assoc it.before t.text left) in
+        let sizes : length bytes ≡ length before + length left =
+        ap (λ l. length l) split ∙ length-append before left in
+        let s = stuck d.ends left begun nowhere in
+        let N : List ℕ → Type 0 = λ l. NotFirst (λ b. b ≡ d.delimiter) l in
+        elim s.ends_not [
+          | inl (none, ends) ↦
+              let (end, is, some) = some_end d.ends in
+              let B : List ℕ → Type 0 = λ l. NoneWith d before l in (
+                before,
+                left,
+                end,
+                fields ++ field ∷ [],
+                split,
+                omega (arith, at, none, sizes),
+                closes before end refl (inl (end, is, sym (append-nil end))) some,
+                lacks d why end left whynot not is,
+                subst B (sym s.is) (λ after all o them. goes_not s.b s.bs after s.is
+                    (subst N s.is not) (λ z. ends after z) before refl all o them),
+              )
+          | inr (one, cr, is, lone) ↦
+              let W : List ℕ → Type 0 = λ l. WhyNot d.quote l why in
+              let here : left ≡ 13 ∷ s.bs = s.is ∙ ap (λ b. b ∷ s.bs) cr in
+              let R : List ℕ → Type 0 = λ l. IsRecord d l (fields ++ field ∷ []) [] in (
+                before ++ (13 ∷ []),
+                s.bs,
+                10 ∷ [],
+                fields ++ field ∷ [],
+                split ∙ ap (λ l. before ++ l) here ∙ sym (append_assoc before (13 ∷ []) s.bs),
+                omega (arith, at, one, sizes, length-append before (13 ∷ [])),
+                subst R (sym (append_assoc before (13 ∷ []) (10 ∷ [])))
+                    (closes before (13 ∷ 10 ∷ []) refl (inl (13 ∷ 10 ∷ [], is, refl))
+                    (omega arith)),
+                lacks_feed d apart why s.bs s.bs (subst W here whynot),
+                none_return s.bs here lone before refl,
+              )
+        ]
+
+  pub so_far_open : OpenFirst d rest
+      → IsRefused d bytes (record { offset = length bytes; why = OpenQuote })
+  so_far_open (here, e, (done, run, g, all)) =
+      let q = d.quote in
+      let text = q ∷ (doubled q (done ++ run) ++ q ∷ []) in
+      let same : rest ++ q ∷ [] ≡ text =
+      ap (λ l. l ++ q ∷ []) (e ∙ ap (λ l. q ∷ l) (g ∙ sym (doubled_behind q done run all))) in
+      let P : List ℕ → Type 0 = λ l. AreFields d l (fields ++ (done ++ run) ∷ []) [] in
+      let whole : bytes ++ q ∷ [] ≡ it.before ++ (text ++ []) =
+      ap (λ l. l ++ q ∷ []) it.whole ∙ append_assoc it.before rest (q ∷ [])
+      ∙ ap (λ l. it.before ++ l) (same ∙ sym (append-nil text)) in (
+        bytes,
+        [],
+        q ∷ [],
+        fields ++ (done ++ run) ∷ [],
+        sym (append-nil bytes),
+        refl,
+        (
+          omega (arith, length-append bytes (q ∷ [])),
+          subst P (sym whole) (done_fields d fields it.before (text ++ []) ((done ++ run) ∷ []) []
+              it.texts (last_field d (done ++ run) text [] [] (inl refl) (inr (refl, refl)))),
+        ),
+        (refl, refl),
+        λ ps end (some, them).
+            let B : List ℕ → Type 0 = λ l. AreFields d l ps end in
+            let (fs, o) = done_apart d apart fields it.before rest ps end it.texts
+            (subst B it.whole them) in
+            none_open d apart rest fs end (here, e, (done, run, g, all)) o,
+      )

@@ -1,0 +1,181 @@
+-- What is written reads back.
+use Rattle.std.specs.Prelude.{◌≡◌, ◌<◌, ◌+◌, ℕ, List, [], ◌∷◌, ◌++◌, length, take, drop}
+use Rattle.std.specs.Prelude.{◌-◌, Bool, true, false, MatchBool, if◌then◌else◌, is_ok, OnOk}
+use Rattle.std.specs.Prelude.{Result, Ok, Err}
+use Rattle.std.specs.List.{All}
+use Rattle.std.specs.Borrow.{Bor}
+use Rattle.std.proofs.Common.{refl, sym, ap, subst, inl, inr, ◌∙◌, arith, append_assoc, get_or}
+use Rattle.std.proofs.Common.{length-append}
+use Rattle.std.proofs.lemmas.List.{append_cancel_left, drop_more, map-append, take_more}
+use Rattle.std.proofs.lemmas.List.{take-append-drop, take_all}
+use Rattle.format_csv_records.specs.Dialects.{AreFields, IsFieldText, IsLineEnd}
+use Rattle.format_csv_records.specs.Dialects.{doubled}
+use Rattle.format_csv_records.specs.Parts.{Done, IsOther, NotFirst, SoMany}
+use Rattle.format_csv_records.specs.Written.{IsLast, IsLastOf, IsWritten, ReadsBack, Writes, Wrote}
+use Rattle.format_csv_records.specs.Written.{bytes_of}
+use Rattle.format_csv_records.specs.declared.dialect.Dialect.{Dialect}
+use Rattle.format_csv_records.specs.declared.dialect.LineEnds.{LineEnds}
+use Rattle.format_csv_records.specs.declared.dialect.LineEnds.TheVariants.{CrLf, Lf, Either}
+use Rattle.format_csv_records.proofs.Alone.{doubled_append, doubled_none, doubled_quote}
+use Rattle.format_csv_records.proofs.Alone.{doubled_run}
+use Rattle.format_csv_records.proofs.Runs.{doubled_behind, run_quote, take_quote}
+use Rattle.format_csv_records.proofs.Whole.{done_fields, last_field}
+
+pub not_all : (these : ℕ → Type 0) (xs : List ℕ) (n : ℕ) → SoMany these xs n
+    → (n ≡ length xs → ⊥) → All these xs → ⊥
+not_all these xs n (within, first, not) some all =
+    let less : n < length xs = omega arith in
+    let P : List ℕ → Type 0 = λ l. NotFirst these l in
+    let at : NotFirst these (get_or xs n 0 ∷ drop (n + 1) xs) =
+    subst P (drop_more xs n 0 less) not in
+    at (all n 0 less)
+
+-- a run and its quote more
+pub write_more : (quote : ℕ) (field rest base out : List ℕ) (n : ℕ) (done : List ℕ)
+    → field ≡ done ++ rest → out ≡ base ++ doubled quote done → SoMany (IsOther quote) rest n
+    → (n ≡ length rest → ⊥) → (next added mid new : List ℕ) → next ≡ drop (n + 1) rest
+    → added ≡ take (n + 1) rest → mid ≡ out ++ added → new ≡ mid ++ quote ∷ []
+    → (all : List ℕ) × (field ≡ all ++ next) × (new ≡ base ++ doubled quote all)
+write_more quote field rest base out n done e o run some next added mid new is adds m w =
+    let (split, within) = run_quote quote rest n run some in
+    let runs = take n rest in
+    let D = doubled quote done in
+    let taken : take (n + 1) rest ≡ runs ++ quote ∷ [] =
+    take_quote quote rest n (omega arith)
+    (append_cancel_left runs (drop n rest) (quote ∷ drop (n + 1) rest)
+    (take-append-drop n rest ∙ split)) in
+    let two : doubled quote (quote ∷ []) ≡ quote ∷ quote ∷ [] =
+    doubled_quote quote quote [] refl ∙ ap (λ l. quote ∷ quote ∷ l) (doubled_none quote) in
+    let text : doubled quote (done ++ (runs ++ quote ∷ [])) ≡ D ++ (runs ++ (quote ∷ quote ∷ [])) =
+    doubled_append quote done (runs ++ quote ∷ [])
+    ∙ ap (λ l. D ++ l) (doubled_append quote runs (quote ∷ [])
+    ∙ ap (λ l. l ++ doubled quote (quote ∷ [])) (doubled_run quote runs run.1)
+    ∙ ap (λ l. runs ++ l) two) in
+    let tidy : ((base ++ D) ++ (runs ++ quote ∷ [])) ++ quote ∷ []
+    ≡ base ++ (D ++ (runs ++ (quote ∷ quote ∷ []))) =
+    simp append_assoc in (
+      done ++ (runs ++ quote ∷ []),
+      e ∙ ap (λ l. done ++ l)
+          (sym (take-append-drop (n + 1) rest) ∙ ap (λ l. l ++ drop (n + 1) rest) taken
+          ∙ ap (λ l. (runs ++ quote ∷ []) ++ l) (sym is)) ∙ sym (append_assoc done
+          (runs ++ quote ∷ []) next),
+      w ∙ ap (λ l. l ++ quote ∷ [])
+          (m ∙ ap (λ l. l ++ added) o ∙ ap (λ l. (base ++ D) ++ l) (adds ∙ taken))
+          ∙ tidy ∙ ap (λ l. base ++ l) (sym text),
+    )
+
+-- the last run
+pub write_end : (quote : ℕ) (field rest base out : List ℕ) (n : ℕ) (done : List ℕ)
+    → field ≡ done ++ rest → out ≡ base ++ doubled quote done → SoMany (IsOther quote) rest n
+    → n ≡ length rest → (mid new : List ℕ) → mid ≡ out ++ rest → new ≡ mid ++ quote ∷ []
+    → new ≡ base ++ (doubled quote field ++ quote ∷ [])
+write_end quote field rest base out n done e o run is mid new m w =
+    let P : List ℕ → Type 0 = λ l. All (IsOther quote) l in
+    let text : doubled quote field ≡ doubled quote done ++ rest =
+    ap (λ l. doubled quote l) e
+    ∙ doubled_behind quote done rest (subst P (take_all n rest (omega arith)) run.1) in
+    let tidy : ((base ++ doubled quote done) ++ rest) ++ quote ∷ []
+    ≡ base ++ ((doubled quote done ++ rest) ++ quote ∷ []) = simp append_assoc in
+    w ∙ ap (λ l. l ++ quote ∷ []) (m ∙ ap (λ l. l ++ rest) o) ∙ tidy
+    ∙ ap (λ l. base ++ (l ++ quote ∷ [])) (sym text)
+
+-- a field more
+pub wrote_more : (d : Dialect) (fields : List (List ℕ)) (before field text : List ℕ)
+    → Wrote d fields before → IsWritten d field text
+    → Wrote d (fields ++ field ∷ []) (before ++ (text ++ (d.delimiter ∷ [])))
+unfolding Wrote
+wrote_more d [] before field text e t =
+    (text, [], t, ap (λ l. l ++ (text ++ (d.delimiter ∷ []))) e, refl)
+wrote_more d (other ∷ fields) before field text (front, more, u, e, others) t = (
+  front,
+  more ++ (text ++ (d.delimiter ∷ [])),
+  u,
+  ap (λ l. l ++ (text ++ (d.delimiter ∷ []))) e
+      ∙ append_assoc front (d.delimiter ∷ more) (text ++ (d.delimiter ∷ [])),
+  wrote_more d fields more field text others t,
+)
+
+pub bytes_more : (fields : List (Bor (List ℕ))) (i : ℕ) (d : Bor (List ℕ)) → i < length fields
+    → bytes_of (take (i + 1) fields) ≡ bytes_of (take i fields) ++ (get_or fields i d).now ∷ []
+bytes_more fields i d less = ap (λ l. bytes_of l) (take_more fields i d less)
+    ∙ map-append (λ (f : Bor (List ℕ)). f.now) (take i fields) (get_or fields i d ∷ [])
+
+-- ---- back
+
+is_text : (d : Dialect) (field text : List ℕ) → IsWritten d field text → IsFieldText d field text
+is_text d field text (inl plain) = inr plain
+is_text d field text (inr (is, not)) = inl is
+
+last_is_text : (d : Dialect) (others : List (List ℕ)) (last text : List ℕ)
+    → IsLast d others last text → IsFieldText d last text
+last_is_text d others last text (inl (alone, none, is)) =
+    let P : List ℕ → Type 0 = λ l. IsFieldText d l text in
+    subst P (sym none)
+    (inl (is ∙ ap (λ l. d.quote ∷ (l ++ d.quote ∷ [])) (sym (doubled_none d.quote))))
+last_is_text d others last text (inr (some, t)) = is_text d last text t
+
+wrote_done : (d : Dialect) (fields : List (List ℕ)) (before : List ℕ) → Wrote d fields before
+    → Done d fields before
+unfolding Wrote Done
+wrote_done d [] before e = e
+wrote_done d (field ∷ fields) before (text, more, t, e, others) =
+    (text, more, is_text d field text t, e, wrote_done d fields more others)
+
+some_line_end : (ends : LineEnds) (end : List ℕ) → IsLineEnd ends end → 0 < length end
+some_line_end CrLf end is = omega (arith, ap (λ l. length l) is)
+some_line_end Lf end is = omega (arith, ap (λ l. length l) is)
+some_line_end Either end (inl is) = omega (arith, ap (λ l. length l) is)
+some_line_end Either end (inr is) = omega (arith, ap (λ l. length l) is)
+
+pub reads_back : (d : Dialect) (fields : List (List ℕ)) (old new : List ℕ)
+    → Writes d fields old new → ReadsBack d fields old new
+reads_back d fields old new it = (
+  it.before ++ (it.text ++ it.end),
+  it.behind,
+  λ rest.
+      let P : List (List ℕ) → Type 0 =
+      λ l. AreFields d ((it.before ++ (it.text ++ it.end)) ++ rest) l rest in
+      let Q : List ℕ → Type 0 = λ l. AreFields d l (it.others ++ it.last ∷ []) rest in
+      let tidy : (it.before ++ (it.text ++ it.end)) ++ rest
+      ≡ it.before ++ (it.text ++ (it.end ++ rest)) = simp append_assoc in (
+        omega (
+          arith,
+          length-append (it.before ++ (it.text ++ it.end)) rest,
+          length-append it.before (it.text ++ it.end),
+          length-append it.text it.end,
+          some_line_end d.ends it.end it.is_end,
+        ),
+        subst P (sym it.all) (subst Q (sym tidy) (done_fields d it.others it.before
+            (it.text ++ (it.end ++ rest)) (it.last ∷ []) rest
+            (wrote_done d it.others it.before it.wrote)
+            (last_field d it.last it.text (it.end ++ rest) rest
+            (last_is_text d it.others it.last it.text it.is_last)
+            (inl (it.end, it.is_end, refl))))),
+      ),
+)
+
+-- whether others stand before the last field, told by a test
+pub last_by : (d : Dialect) (others : List (Bor (List ℕ))) (alone : Bool) (last text : List ℕ)
+    → MatchBool alone (others ≡ []) (others ≡ [] → ⊥) → IsLastOf d alone last text
+    → IsLast d (bytes_of others) last text
+last_by d others true last text told (inl (is, none, t)) =
+    inl (ap (λ l. bytes_of l) told, none, t)
+last_by d others false last text told (inl (is, none, t)) = cc
+last_by d [] true last text told (inr (not, t)) = inr (λ both. not (refl, both.1), t)
+last_by d [] false last text told (inr (not, t)) = absurd (told refl)
+last_by d (field ∷ others) alone last text told (inr (not, t)) =
+    inr (λ both. let h = both.0 in cc, t)
+
+-- what was added, where a call that adds succeeds
+pub extended : {E : Type 0} (r : Result (Unit {0}) E) (new old more : List ℕ) (P : Type 0)
+    → new ≡ (if is_ok r then old ++ more else old) → (new ≡ old ++ more → P) → OnOk r P
+extended (Ok u) new old more P e f = f e
+extended (Err x) new old more P e f = tt
+
+pub bytes_last : (fields : List (Bor (List ℕ))) (d : Bor (List ℕ)) → (length fields ≡ 0 → ⊥)
+    → bytes_of (take (length fields - 1) fields) ++ (get_or fields (length fields - 1) d).now ∷ []
+    ≡ bytes_of fields
+bytes_last fields d some =
+    let n = length fields - 1 in
+    let less : n < length fields = omega arith in
+    sym (bytes_more fields n d less) ∙ ap (λ l. bytes_of l) (take_all (n + 1) fields (omega arith))

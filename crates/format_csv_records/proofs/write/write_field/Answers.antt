@@ -1,0 +1,20 @@
+use Rattle.std.proofs.Common.{[], ◌∷◌, ◌++◌, refl, ap, inr, ◌∙◌, append_assoc}
+use Rattle.std.proofs.lemmas.Result.{on_ok_weaker}
+use Rattle.format_csv_records.specs.Dialects.{IsPlain, doubled}
+use Rattle.format_csv_records.proofs.Writing.{not_all}
+use Rattle.format_csv_records.proofs.write.write_field.Goals as goal
+
+pub returns : goal.returns
+returns g c =
+    let q = c.args.dialect.quote in
+    let text = doubled q c.args.field.now ++ q ∷ [] in
+    on_ok_weaker c.write_doubled.result (λ e. (
+      q ∷ text,
+      inr (
+        refl,
+        not_all (IsPlain c.args.dialect)
+            c.args.field.now c.plain_len.result c.plain_len.ensures c.if-plain_len-field.false,
+      ),
+      e ∙ ap (λ l. l ++ text) c.in_ok-put.ensures ∙ append_assoc c.args.out.now.items (q ∷ []) text,
+    ))
+    c.write_doubled.ensures

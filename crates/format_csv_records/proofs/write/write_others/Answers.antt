@@ -1,0 +1,24 @@
+use Rattle.std.proofs.Common.{◌≡◌, List, ℕ, [], ◌∷◌, ◌++◌, refl, sym, ap, subst, ◌∙◌, append_assoc}
+use Rattle.std.proofs.lemmas.List.{append-nil}
+use Rattle.format_csv_records.specs.Written.{Wrote}
+use Rattle.format_csv_records.proofs.Writing.{bytes_more, wrote_more}
+use Rattle.format_csv_records.proofs.write.write_others.Goals as goal
+
+pub loop-field-init : goal.loop-field-init
+unfolding Wrote
+loop-field-init g c = ([], refl, sym (append-nil _))
+
+pub loop-field-preserved : goal.loop-field-preserved
+loop-field-preserved g c =
+    let h = c.in_ok-write_field.ensures in
+    let i = c.loop-field.invariant in
+    let end = h.0 ++ (c.args.dialect.delimiter ∷ []) in
+    let P : List (List ℕ) → Type 0 = λ l. Wrote c.args.dialect l (i.0 ++ end) in
+    let tidy : ((c.args.out.now.items ++ i.0) ++ h.0) ++ (c.args.dialect.delimiter ∷ [])
+    ≡ c.args.out.now.items ++ (i.0 ++ end) = simp append_assoc in (
+      i.0 ++ end,
+      subst P (sym (bytes_more c.args.fields.now c.loop-field.field-index _ c.loop-field-test.true))
+          (wrote_more c.args.dialect _ i.0 _ h.0 i.1 h.1),
+      c.in_ok-put.ensures ∙ ap (λ l. l ++ (c.args.dialect.delimiter ∷ []))
+          (h.2 ∙ ap (λ l. l ++ h.0) i.2) ∙ tidy,
+    )

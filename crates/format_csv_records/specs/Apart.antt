@@ -1,0 +1,23 @@
+-- The bytes that a dialect tells apart.
+use Rattle.std.specs.Prelude.{◌≡◌, ◌⊎◌, ℕ}
+use Rattle.format_csv_records.specs.declared.dialect.DialectFault.{DialectFault}
+use Rattle.format_csv_records.specs.declared.dialect.DialectFault.TheVariants.{DelimiterEndsLines}
+use Rattle.format_csv_records.specs.declared.dialect.DialectFault.TheVariants.{DelimiterIsQuote}
+use Rattle.format_csv_records.specs.declared.dialect.DialectFault.TheVariants.{QuoteEndsLines}
+
+-- The delimiter, the quote, the carriage return and the line feed are four bytes.
+pub record IsApart (delimiter quote : ℕ) : Type 0 where
+  pub others : delimiter ≡ quote → ⊥
+  pub delimiter_stays : (delimiter ≡ 13 → ⊥) × (delimiter ≡ 10 → ⊥)
+  pub quote_stays : (quote ≡ 13 → ⊥) × (quote ≡ 10 → ⊥)
+
+-- A carriage return or a line feed.
+abbrev pub IsBreak : ℕ → Type 0
+IsBreak b = (b ≡ 13) ⊎ (b ≡ 10)
+
+-- Why two bytes make no dialect; the first reason is told.
+abbrev pub WhyNone : ℕ → ℕ → DialectFault → Type 0
+WhyNone delimiter quote DelimiterIsQuote = delimiter ≡ quote
+WhyNone delimiter quote DelimiterEndsLines = (delimiter ≡ quote → ⊥) × IsBreak delimiter
+WhyNone delimiter quote QuoteEndsLines = (delimiter ≡ quote → ⊥) × (IsBreak delimiter → ⊥)
+    × IsBreak quote

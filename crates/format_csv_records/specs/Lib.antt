@@ -1,0 +1,8 @@
+-- Written by scripts/registries.py: do not edit.
+pub mod Apart
+pub mod Dialects
+pub mod Named
+pub mod Parts
+pub mod Records
+pub mod Refused
+pub mod Written

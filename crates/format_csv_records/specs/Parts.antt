@@ -1,0 +1,79 @@
+-- What the parts of a reader of records read.
+use Rattle.std.specs.Prelude.{◌≡◌, ◌⊎◌, ◌≤◌, ℕ, List, [], ◌∷◌, ◌++◌, length, take, drop}
+use Rattle.std.specs.Prelude.{⊤}
+use Rattle.std.specs.List.{All}
+use Rattle.format_csv_records.specs.Apart.{IsBreak}
+use Rattle.format_csv_records.specs.Dialects.{EndsHere, IsFieldText, IsLineEnd, IsPlain, doubled}
+use Rattle.format_csv_records.specs.declared.dialect.Dialect.{Dialect}
+use Rattle.format_csv_records.specs.declared.dialect.LineEnds.{LineEnds}
+use Rattle.format_csv_records.specs.declared.read.Refusal.{Refusal}
+use Rattle.format_csv_records.specs.declared.read.Refusal.TheVariants.{QuoteInField}
+use Rattle.format_csv_records.specs.declared.read.Refusal.TheVariants.{ByteBehindQuote}
+use Rattle.format_csv_records.specs.declared.read.Refusal.TheVariants.{OpenQuote, WrongLineEnd}
+
+-- There is no byte, or the first is one of these.
+abbrev pub MayBegin : (ℕ → Type 0) → List ℕ → Type 0
+MayBegin these [] = ⊤
+MayBegin these (b ∷ bs) = these b
+
+-- There is no byte, or the first is none of these.
+abbrev pub NotFirst : (ℕ → Type 0) → List ℕ → Type 0
+NotFirst these bytes = MayBegin (λ b. these b → ⊥) bytes
+
+-- There is a first byte, and it is one of these.
+abbrev pub Begins : (ℕ → Type 0) → List ℕ → Type 0
+Begins these [] = ⊥
+Begins these (b ∷ bs) = these b
+
+-- so many of these stand first, and no more
+abbrev pub SoMany : (ℕ → Type 0) → List ℕ → ℕ → Type 0
+SoMany these bytes n = (n ≤ length bytes) × All these (take n bytes) × NotFirst these (drop n bytes)
+
+-- no quote
+abbrev pub IsOther : ℕ → ℕ → Type 0
+IsOther quote b = b ≡ quote → ⊥
+
+-- between quotes these bytes, of which the closing quote is there
+abbrev pub Closed : ℕ → List ℕ → List ℕ → List ℕ → Type 0
+Closed quote bytes field rest =
+    (bytes ≡ doubled quote field ++ (quote ∷ rest)) × NotFirst (λ b. b ≡ quote) rest
+
+-- the closing quote is not there
+abbrev pub Unclosed : ℕ → List ℕ → Type 0
+Unclosed quote bytes = (done : List ℕ) × (run : List ℕ) × (bytes ≡ doubled quote done ++ run)
+    × All (IsOther quote) run
+
+-- a field stands first, as long as it may be
+abbrev pub FieldFirst : Dialect → List ℕ → List ℕ → List ℕ → Type 0
+FieldFirst d bytes field rest =
+    ((here : List ℕ) × (bytes ≡ d.quote ∷ here) × Closed d.quote here field rest)
+    ⊎ ((bytes ≡ field ++ rest) × All (IsPlain d) field × NotFirst (IsPlain d) rest
+    × NotFirst (λ b. b ≡ d.quote) bytes)
+
+-- a quote that nothing closes stands first
+abbrev pub OpenFirst : Dialect → List ℕ → Type 0
+OpenFirst d bytes = (here : List ℕ) × (bytes ≡ d.quote ∷ here) × Unclosed d.quote here
+
+-- fields, with a delimiter behind each
+unfoldable pub Done : Dialect → List (List ℕ) → List ℕ → Type 0
+Done d [] before = before ≡ []
+Done d (field ∷ fields) before = (text : List ℕ) × (more : List ℕ) × IsFieldText d field text
+    × (before ≡ text ++ (d.delimiter ∷ more)) × Done d fields more
+
+-- no record ends here: so many bytes of a line end stand here, and no byte more of one
+abbrev pub EndsNowhere : LineEnds → List ℕ → ℕ → Type 0
+EndsNowhere ends [] begun = ⊥
+EndsNowhere ends (b ∷ bs) begun =
+    ((begun ≡ 0) × ((after : List ℕ) (rest : List ℕ) → EndsHere ends (b ∷ after) rest → ⊥))
+    ⊎ ((begun ≡ 1) × (b ≡ 13) × IsLineEnd ends (13 ∷ 10 ∷ []) × NotFirst (λ c. c ≡ 10) bs)
+
+-- why a record neither ends nor goes on with the byte that stands first
+abbrev pub WhyNot : ℕ → List ℕ → Refusal → Type 0
+WhyNot quote bytes QuoteInField = Begins (λ b. b ≡ quote) bytes
+WhyNot quote bytes WrongLineEnd = Begins IsBreak bytes
+WhyNot quote bytes ByteBehindQuote = Begins (λ b. (b ≡ quote → ⊥) × (IsBreak b → ⊥)) bytes
+WhyNot quote bytes OpenQuote = ⊥
+
+-- No byte order mark of UTF-8 stands first.
+abbrev pub NoMark : List ℕ → Type 0
+NoMark bytes = (rest : List ℕ) → bytes ≡ 239 ∷ 187 ∷ 191 ∷ rest → ⊥

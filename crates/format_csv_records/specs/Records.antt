@@ -1,0 +1,50 @@
+-- The fields of a record, of which all bytes stand in one buffer.
+use Rattle.std.specs.Prelude.{◌≤◌, ◌-◌, ℕ, zero, suc, List, [], ◌∷◌, take, drop, length}
+use Rattle.std.specs.Prelude.{Option, Some, None}
+use Rattle.format_csv_records.specs.declared.record.ByteRecord.TheInside.{Inside}
+
+-- the fields that end at these places, from a start on
+unfoldable pub cut : ℕ → List ℕ → List ℕ → List (List ℕ)
+cut start [] bytes = []
+cut start (end ∷ ends) bytes = take (end - start) (drop start bytes) ∷ cut end ends bytes
+
+-- the last of the places, or the start
+unfoldable pub last_of : ℕ → List ℕ → ℕ
+last_of start [] = start
+last_of start (end ∷ ends) = last_of end ends
+
+-- the places rise, and none is past the size
+unfoldable pub Rises : ℕ → List ℕ → ℕ → Type 0
+Rises start [] size = start ≤ size
+Rises start (end ∷ ends) size = (start ≤ end) × Rises end ends size
+
+-- What a clause sees of a record: its bytes, and where each field ends.
+pub record Row : Type 0 where
+  pub bytes : List ℕ
+  pub ends : List ℕ
+
+abbrev pub row_of : {A : Type 0} → Inside A → Row
+row_of it = record { bytes = it.bytes.items; ends = it.ends.items }
+
+-- The fields of a record.
+abbrev pub fields_of : Row → List (List ℕ)
+fields_of row = cut 0 row.ends row.bytes
+
+-- The bytes behind the last field: what is there of the next one.
+abbrev pub begun_of : Row → List ℕ
+begun_of row = drop (last_of 0 row.ends) row.bytes
+
+abbrev pub IsWhole : Row → Type 0
+IsWhole row = Rises 0 row.ends (length row.bytes)
+
+-- The field at a place, counted from 0, if there is one.
+unfoldable pub field_at : List (List ℕ) → ℕ → Option (List ℕ)
+field_at [] place = None
+field_at (field ∷ fields) zero = Some field
+field_at (field ∷ fields) (suc place) = field_at fields place
+
+-- where the field at a place starts
+unfoldable pub start_of : ℕ → List ℕ → ℕ → ℕ
+start_of start [] place = start
+start_of start (end ∷ ends) zero = start
+start_of start (end ∷ ends) (suc place) = start_of end ends place

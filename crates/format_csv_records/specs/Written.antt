@@ -1,0 +1,61 @@
+-- What is written for a record: quotes where a field needs them.
+use Rattle.std.specs.Prelude.{◌≡◌, ◌⊎◌, ℕ, List, [], ◌∷◌, ◌++◌, map, Bool, true}
+use Rattle.std.specs.Prelude.{Result, Ok, Err, ⊤}
+use Rattle.std.specs.Borrow.{Bor}
+use Rattle.std.specs.List.{All}
+use Rattle.format_csv_records.specs.Dialects.{IsLineEnd, IsPlain, IsRecord, doubled}
+use Rattle.format_csv_records.specs.declared.dialect.Dialect.{Dialect}
+use Rattle.format_csv_records.specs.declared.write.WriteError.{WriteError}
+use Rattle.format_csv_records.specs.declared.write.WriteError.TheVariants.{NoFields, OutOfMemory}
+
+-- What is written for a field: as it is where all its bytes are plain, else in quotes.
+abbrev pub IsWritten : Dialect → List ℕ → List ℕ → Type 0
+IsWritten d field text = ((text ≡ field) × All (IsPlain d) field)
+    ⊎ ((text ≡ d.quote ∷ (doubled d.quote field ++ d.quote ∷ [])) × (All (IsPlain d) field → ⊥))
+
+-- What is written for fields, with a delimiter behind each.
+unfoldable pub Wrote : Dialect → List (List ℕ) → List ℕ → Type 0
+Wrote d [] before = before ≡ []
+Wrote d (field ∷ fields) before = (text : List ℕ) × (more : List ℕ) × IsWritten d field text
+    × (before ≡ text ++ (d.delimiter ∷ more)) × Wrote d fields more
+
+-- What is written for the last field, behind others: two quotes, where it is empty and alone.
+abbrev pub IsLast : Dialect → List (List ℕ) → List ℕ → List ℕ → Type 0
+IsLast d others last text =
+    ((others ≡ []) × (last ≡ []) × (text ≡ d.quote ∷ d.quote ∷ []))
+    ⊎ (((others ≡ []) × (last ≡ []) → ⊥) × IsWritten d last text)
+
+-- A record is written behind what was there: its fields with delimiters between, and a line end.
+pub record Writes (d : Dialect) (fields : List (List ℕ)) (old new : List ℕ) : Type 0 where
+  pub others : List (List ℕ)
+  pub last : List ℕ
+  pub before : List ℕ
+  pub text : List ℕ
+  pub end : List ℕ
+  pub all : fields ≡ others ++ last ∷ []
+  pub wrote : Wrote d others before
+  pub is_last : IsLast d others last text
+  pub is_end : IsLineEnd d.ends end
+  pub behind : new ≡ old ++ (before ++ (text ++ end))
+
+-- the bytes of fields
+abbrev pub bytes_of : List (Bor (List ℕ)) → List (List ℕ)
+bytes_of fields = map (λ f. f.now) fields
+
+-- so for the last field, of which it is known whether others stand before it
+abbrev pub IsLastOf : Dialect → Bool → List ℕ → List ℕ → Type 0
+IsLastOf d alone last text =
+    ((alone ≡ true) × (last ≡ []) × (text ≡ d.quote ∷ d.quote ∷ []))
+    ⊎ (((alone ≡ true) × (last ≡ []) → ⊥) × IsWritten d last text)
+
+-- The record that was written stands there, whatever follows.
+abbrev pub ReadsBack : Dialect → List (List ℕ) → List ℕ → List ℕ → Type 0
+ReadsBack d fields old new = (text : List ℕ) × (new ≡ old ++ text)
+    × ((rest : List ℕ) → IsRecord d (text ++ rest) fields rest)
+
+-- What a call with these fields answers, and what is there before and after it.
+abbrev pub WritesRecord : Dialect → List (List ℕ) → List ℕ → Result (Unit {0}) WriteError → List ℕ
+    → Type 0
+WritesRecord d fields old (Ok u) new = Writes d fields old new × ReadsBack d fields old new
+WritesRecord d fields old (Err NoFields) new = (fields ≡ []) × (new ≡ old)
+WritesRecord d fields old (Err OutOfMemory) new = ⊤

@@ -1,0 +1,118 @@
+//! Dialects: what separates fields, what quotes them, and what ends a record.
+
+ghost use Rattle.std.specs.Prelude.{◌≡◌, ◌⊎◌, ◌↔◌, IsTrue, MatchResult};
+ghost use Rattle.format_csv_records.specs.Apart.{IsApart, WhyNone};
+
+/// What ends a record.
+///
+/// ```
+/// use format_csv_records::dialect::LineEnds;
+///
+/// assert!(rt; LineEnds::Either != LineEnds::Lf);
+/// ```
+#[derive(Clone, Copy, Debug, PartialEq, Eq)]
+pub enum LineEnds {
+    /// A carriage return and a line feed, as RFC 4180 has it (section 2, item 1).
+    CrLf,
+    /// A line feed alone.
+    Lf,
+    /// One or the other, at each record anew.
+    Either,
+}
+
+/// Why two bytes make no dialect.
+///
+/// ```
+/// use format_csv_records::dialect::{Dialect, DialectFault, LineEnds};
+///
+/// let none = Dialect::new(b'"', b'"', LineEnds::Lf);
+/// assert!(rt; matches!(none, Err(DialectFault::DelimiterIsQuote)));
+/// ```
+#[derive(Clone, Copy, Debug, PartialEq, Eq)]
+pub enum DialectFault {
+    /// The delimiter and the quote are one byte.
+    DelimiterIsQuote,
+    /// The delimiter is a carriage return or a line feed.
+    DelimiterEndsLines,
+    /// The quote is a carriage return or a line feed.
+    QuoteEndsLines,
+}
+
+/// Which byte stands between two fields, which round a field, and what ends a record.
+///
+/// ```
+/// use format_csv_records::dialect::{Dialect, LineEnds};
+///
+/// match Dialect::new(b';', b'\'', LineEnds::Either) {
+///     Ok(dialect) => assert_eq!(rt; dialect.delimiter, b';'),
+///     Err(_) => assert!(rt; false),
+/// }
+/// ```
+#[derive(Clone, Copy, Debug)]
+pub struct Dialect {
+    /// What stands between two fields.
+    pub delimiter: u8,
+    /// What stands round a field in quotes, and twice for itself there.
+    pub quote: u8,
+    /// What ends a record.
+    pub ends: LineEnds,
+    ghost apart: { IsApart delimiter quote },
+}
+
+fn ends_lines(byte: u8) -> bool
+    ensures { IsTrue result ↔ ((byte ≡ 13) ⊎ (byte ≡ 10)) }
+{
+    byte == b'\r' || byte == b'\n'
+}
+
+impl Dialect {
+    /// The dialect of these, or why they make none: the delimiter, the quote, the carriage return
+    /// and the line feed must be four bytes. If there are two reasons, the first of
+    /// [`DialectFault`] is told.
+    ///
+    /// ```
+    /// use format_csv_records::dialect::{Dialect, DialectFault, LineEnds};
+    ///
+    /// assert!(rt; Dialect::new(b'\t', b'"', LineEnds::CrLf).is_ok());
+    /// let none = Dialect::new(b',', b'\r', LineEnds::CrLf);
+    /// assert!(rt; matches!(none, Err(DialectFault::QuoteEndsLines)));
+    /// ```
+    pub fn new(delimiter: u8, quote: u8, ends: LineEnds) -> Result<Dialect, DialectFault>
+        ensures { MatchResult result
+            (λ it. (it.delimiter ≡ delimiter) × (it.quote ≡ quote) × (it.ends ≡ ends))
+            (λ fault. WhyNone delimiter quote fault) }
+    {
+        if delimiter == quote {
+            return Err(DialectFault::DelimiterIsQuote);
+        }
+        if ends_lines(delimiter) {
+            return Err(DialectFault::DelimiterEndsLines);
+        }
+        if ends_lines(quote) {
+            return Err(DialectFault::QuoteEndsLines);
+        }
+        Ok(Dialect {
+            delimiter,
+            quote,
+            ends,
+        })
+    }
+
+    /// The dialect of RFC 4180: commas, double quotes, and carriage returns with line feeds.
+    ///
+    /// ```
+    /// use format_csv_records::dialect::{Dialect, LineEnds};
+    ///
+    /// assert_eq!(rt; Dialect::standard().ends, LineEnds::CrLf);
+    /// ```
+    pub fn standard() -> Dialect
+        ensures { (result.delimiter ≡ 44) × (result.quote ≡ 34)
+            × (result.ends ≡ LineEnds.CrLf) }
+    {
+        Dialect {
+            delimiter: b',',
+            quote: b'"',
+            ends: LineEnds::CrLf,
+        }
+    }
+}

@@ -1,0 +1,13 @@
+//! Records of comma separated values in one buffer, by any dialect (RFC 4180, section 2).
+//!
+//! A [`Dialect`](dialect::Dialect) says which byte separates fields, which byte quotes them, and
+//! what ends a record. A [`ByteRecord`](record::ByteRecord) holds the fields of one record, all in
+//! one buffer, and is used again for the next.
+#![tactic(auto)]
+
+pub mod dialect;
+pub mod laws;
+pub mod read;
+pub mod record;
+pub mod records;
+pub mod write;

@@ -1,0 +1,357 @@
+//! Records read into one buffer, by any dialect.
+//!
+//! These are loops over bytes and not parsers of the library: a byte of a field is looked at once
+//! and copied once, and the fields of a record are asked no memory for but where its two lists
+//! grow.
+
+ghost use Rattle.std.specs.Prelude.{◌≡◌, ◌⊎◌, ◌+◌, ◌<◌, ◌++◌, ◌∷◌, [], drop, length, IfOk, ◌≤◌};
+ghost use Rattle.std.specs.Prelude.{◌^◌, MatchBool, MatchOption, MatchResult};
+ghost use Rattle.std.specs.Prelude.{List, ℕ, OnErr, IsTrue, ◌↔◌, take, IfErr};
+ghost use Rattle.std.specs.List.{All};
+ghost use Rattle.format_csv_records.specs.Dialects.{AreFields, EndsHere, IsLineEnd, IsPlain};
+ghost use Rattle.format_csv_records.specs.Dialects.{IsRecord};
+ghost use Rattle.format_csv_records.specs.Parts.{Closed, EndsNowhere, FieldFirst, IsOther};
+ghost use Rattle.format_csv_records.specs.Parts.{NotFirst, OpenFirst, SoMany, Unclosed, WhyNot};
+ghost use Rattle.format_csv_records.specs.Records.{begun_of, fields_of};
+ghost use Rattle.format_csv_records.specs.Refused.{IsNoRecord, ReadsRecord};
+ghost use Rattle.format_csv_records.specs.declared.read.RecordError.TheVariants.{OutOfMemory};
+
+use crate::dialect::{Dialect, LineEnds};
+use crate::record::ByteRecord;
+use std::alloc::{AllocError, Allocator};
+
+/// Why no record can go on at a byte.
+///
+/// ```
+/// use format_csv_records::dialect::Dialect;
+/// use format_csv_records::read::{RecordError, Refusal, read_record_into};
+/// use format_csv_records::record::ByteRecord;
+///
+/// let mut fields = ByteRecord::new(alloc);
+/// let mut input = b"a,\"b\"c\r\n".as_slice();
+/// match read_record_into(Dialect::standard(), &mut fields, &mut input) {
+///     Err(RecordError::Refused(fault)) => {
+///         assert!(rt; fault.why == Refusal::ByteBehindQuote);
+///     }
+///     _ => assert!(rt; false),
+/// }
+/// ```
+#[derive(Clone, Copy, Debug, PartialEq, Eq)]
+pub enum Refusal {
+    /// A quote stands behind bytes of a field without quotes.
+    QuoteInField,
+    /// A byte of a field without quotes stands behind a closing quote.
+    ByteBehindQuote,
+    /// The bytes end within quotes.
+    OpenQuote,
+    /// A carriage return or a line feed is no line end of the dialect, or a line feed lacks behind
+    /// a carriage return.
+    WrongLineEnd,
+}
+
+/// The first place at which no record can go on, and why: what stands before it begins a record,
+/// and with the byte there none begins.
+///
+/// ```
+/// use format_csv_records::read::{RecordFault, Refusal};
+///
+/// let fault = RecordFault { offset: 3, why: Refusal::OpenQuote };
+/// assert_eq!(rt; fault.offset, 3);
+/// ```
+#[derive(Clone, Copy, Debug, PartialEq, Eq)]
+pub struct RecordFault {
+    /// How many bytes stand before the byte at which no record can go on. They begin a record.
+    pub offset: usize,
+    /// Why.
+    pub why: Refusal,
+}
+
+/// Why no record was read.
+///
+/// ```
+/// use format_csv_records::read::RecordError;
+///
+/// assert!(rt; RecordError::OutOfMemory == RecordError::OutOfMemory);
+/// ```
+#[derive(Clone, Copy, Debug, PartialEq, Eq)]
+pub enum RecordError {
+    /// The bytes begin with none.
+    Refused(RecordFault),
+    /// A request for memory was refused.
+    OutOfMemory,
+}
+
+impl From<AllocError> for RecordError {
+    ghost from_gives = { λ _ r. r ≡ OutOfMemory };
+
+    fn from(_error: AllocError) -> RecordError {
+        RecordError::OutOfMemory
+    }
+}
+
+fn is_plain(dialect: Dialect, byte: u8) -> bool
+    ensures { IsTrue result ↔ IsPlain dialect byte }
+{
+    byte != dialect.quote && byte != dialect.delimiter && byte != b'\r' && byte != b'\n'
+}
+
+// The first bytes.
+pub(crate) fn front(bytes: &[u8], size: usize) -> &[u8]
+    requires { size ≤ length bytes.now }
+    ensures { result.now ≡ take size bytes.now }
+{
+    &bytes[..size]
+}
+
+// The bytes behind these.
+pub(crate) fn behind(bytes: &[u8], size: usize) -> &[u8]
+    requires { size ≤ length bytes.now }
+    ensures { result.now ≡ drop size bytes.now }
+{
+    &bytes[size..]
+}
+
+// How many bytes of a field without quotes stand first.
+pub(crate) fn plain_len(dialect: Dialect, bytes: &[u8]) -> usize
+    ensures { SoMany (IsPlain dialect) bytes.now result }
+{
+    for (place, byte) in bytes.iter().enumerate() {
+        if !is_plain(dialect, *byte) {
+            return place;
+        }
+    }
+    bytes.len()
+}
+
+// How many bytes stand before the first quote, or in all.
+pub(crate) fn unquoted_len(quote: u8, bytes: &[u8]) -> usize
+    ensures run { SoMany (IsOther quote) bytes.now result }
+    ensures size { length bytes.now < 2 ^ 64 }
+{
+    for (place, byte) in bytes.iter().enumerate() {
+        if *byte == quote {
+            return place;
+        }
+    }
+    bytes.len()
+}
+
+// Whether this byte stands first.
+pub(crate) fn first_is(bytes: &[u8], byte: u8) -> bool
+    ensures { MatchBool result (bytes.now ≡ byte ∷ drop 1 bytes.now)
+        (NotFirst (λ b. b ≡ byte) bytes.now) }
+{
+    match bytes.first() {
+        Some(first) => *first == byte,
+        None => false,
+    }
+}
+
+// The bytes of a field up to its closing quote, of two quotes one; or false if there is none.
+fn read_quoted<A: Allocator>(
+    quote: u8,
+    fields: &mut ByteRecord<A>,
+    input: &mut &[u8],
+) -> Result<bool, AllocError>
+    ensures { IfOk result (λ closed. MatchBool closed
+        ((field : List ℕ) × Closed quote input.old.now field input.new.now
+        × (fields_of fields.new ≡ fields_of fields.old)
+        × (begun_of fields.new ≡ begun_of fields.old ++ field))
+        (Unclosed quote input.old.now)) }
+{
+    let mut rest = *input;
+    'runs: loop {
+        let run = unquoted_len(quote, rest);
+        if run == rest.len() {
+            return Ok(false);
+        }
+        let left = behind(rest, run + 1);
+        if !first_is(left, quote) {
+            fields.add(front(rest, run))?;
+            *input = left;
+            return Ok(true);
+        }
+        fields.add(front(rest, run + 1))?;
+        rest = behind(left, 1);
+    }
+}
+
+// The bytes of a field without quotes.
+fn read_plain<A: Allocator>(
+    dialect: Dialect,
+    fields: &mut ByteRecord<A>,
+    input: &mut &[u8],
+) -> Result<(), AllocError>
+    ensures { IfOk result (λ _. (field : List ℕ) × (input.old.now ≡ field ++ input.new.now)
+        × All (IsPlain dialect) field × NotFirst (IsPlain dialect) input.new.now
+        × (fields_of fields.new ≡ fields_of fields.old)
+        × (begun_of fields.new ≡ begun_of fields.old ++ field)) }
+{
+    let size = plain_len(dialect, input);
+    fields.add(front(input, size))?;
+    *input = behind(input, size);
+    Ok(())
+}
+
+// The field that stands first; or false if a quote there is open.
+fn read_field<A: Allocator>(
+    dialect: Dialect,
+    fields: &mut ByteRecord<A>,
+    input: &mut &[u8],
+) -> Result<bool, AllocError>
+    requires { begun_of fields.old ≡ [] }
+    ensures { IfOk result (λ closed. MatchBool closed
+        ((field : List ℕ) × FieldFirst dialect input.old.now field input.new.now
+        × (fields_of fields.new ≡ fields_of fields.old ++ field ∷ [])
+        × (begun_of fields.new ≡ []))
+        (OpenFirst dialect input.old.now)) }
+{
+    if first_is(input, dialect.quote) {
+        *input = behind(input, 1);
+        if !read_quoted(dialect.quote, fields, input)? {
+            return Ok(false);
+        }
+    } else {
+        read_plain(dialect, fields, input)?;
+    }
+    fields.end_field()?;
+    Ok(true)
+}
+
+// Whether a line feed alone ends a record.
+fn by_line_feed(ends: LineEnds) -> bool
+    ensures { MatchBool result (IsLineEnd ends (10 ∷ [])) (ends ≡ LineEnds.CrLf) }
+{
+    match ends {
+        LineEnds::CrLf => false,
+        LineEnds::Lf | LineEnds::Either => true,
+    }
+}
+
+// Whether a carriage return and a line feed end a record.
+fn by_both(ends: LineEnds) -> bool
+    ensures { MatchBool result (IsLineEnd ends (13 ∷ 10 ∷ [])) (ends ≡ LineEnds.Lf) }
+{
+    match ends {
+        LineEnds::Lf => false,
+        LineEnds::CrLf | LineEnds::Either => true,
+    }
+}
+
+// What is left behind a line end that stands first, or where there are no more bytes. Else how many
+// bytes of one stand there.
+fn read_end<'i>(ends: LineEnds, rest: &'i [u8]) -> Result<&'i [u8], usize>
+    ensures { MatchResult result (λ left. EndsHere ends rest.now left.now)
+        (λ begun. EndsNowhere ends rest.now begun) }
+{
+    if rest.is_empty() {
+        return Ok(rest);
+    }
+    if first_is(rest, b'\n') {
+        return if by_line_feed(ends) {
+            Ok(behind(rest, 1))
+        } else {
+            Err(0)
+        };
+    }
+    if !first_is(rest, b'\r') || !by_both(ends) {
+        return Err(0);
+    }
+    let left = behind(rest, 1);
+    if first_is(left, b'\n') {
+        Ok(behind(left, 1))
+    } else {
+        Err(1)
+    }
+}
+
+// Why a record neither ends nor goes on with the byte that stands first.
+fn why_not(quote: u8, bytes: &[u8]) -> Refusal
+    requires { 0 < length bytes.now }
+    ensures { WhyNot quote bytes.now result }
+{
+    match bytes.first() {
+        Some(byte) if *byte == quote => Refusal::QuoteInField,
+        Some(b'\r' | b'\n') => Refusal::WrongLineEnd,
+        _ => Refusal::ByteBehindQuote,
+    }
+}
+
+// The fields of the record that stands first, and what is left behind it.
+fn read_fields<'i, A: Allocator>(
+    dialect: Dialect,
+    fields: &mut ByteRecord<A>,
+    bytes: &'i [u8],
+) -> Result<&'i [u8], RecordError>
+    requires none { fields_of fields.old ≡ [] }
+    requires begun { begun_of fields.old ≡ [] }
+    ensures { MatchResult result
+        (λ rest. AreFields dialect bytes.now (fields_of fields.new) rest.now)
+        (λ error. IsNoRecord dialect bytes.now error) }
+{
+    let mut rest = bytes;
+    'fields: loop {
+        if !read_field(dialect, fields, &mut rest)? {
+            let why = Refusal::OpenQuote;
+            return Err(RecordError::Refused(RecordFault {
+                offset: bytes.len(),
+                why,
+            }));
+        }
+        if !first_is(rest, dialect.delimiter) {
+            return match read_end(dialect.ends, rest) {
+                Ok(left) => Ok(left),
+                Err(begun) => {
+                    let offset = bytes.len() - rest.len() + begun;
+                    let why = why_not(dialect.quote, rest);
+                    Err(RecordError::Refused(RecordFault { offset, why }))
+                }
+            };
+        }
+        rest = behind(rest, 1);
+    }
+}
+
+/// Reads the record that the bytes begin with, and leaves what is behind its line end. `true` says
+/// that one was read; `false` that there are no bytes. What was in the record before does not
+/// matter. At an error it has no fields, and the bytes stay as they are.
+///
+/// `Refused` says that the bytes begin with no record, where none can go on, and why; `OutOfMemory`
+/// that a request for memory was refused. Memory is wanted only where the record's two buffers
+/// grow.
+///
+/// ```
+/// use format_csv_records::dialect::Dialect;
+/// use format_csv_records::read::{RecordError, RecordFault, Refusal, read_record_into};
+/// use format_csv_records::record::ByteRecord;
+///
+/// let mut fields = ByteRecord::new(alloc);
+/// let mut input = b"a,\"b \"\"c\"\"\"\r\nd\"".as_slice();
+/// assert!(rt; read_record_into(Dialect::standard(), &mut fields, &mut input) == Ok(true));
+/// assert!(rt; matches!(fields.get(1), Some(field) if field == b"b \"c\"".as_slice()));
+/// let fault = RecordFault { offset: 1, why: Refusal::QuoteInField };
+/// let told = read_record_into(Dialect::standard(), &mut fields, &mut input);
+/// assert!(rt; told == Err(RecordError::Refused(fault)));
+/// ```
+pub fn read_record_into<A: Allocator>(
+    dialect: Dialect,
+    fields: &mut ByteRecord<A>,
+    input: &mut &[u8],
+) -> Result<bool, RecordError>
+    ensures { ReadsRecord dialect input.old.now result (fields_of fields.new) input.new.now }
+{
+    fields.clear();
+    if input.is_empty() {
+        return Ok(false);
+    }
+    match read_fields(dialect, fields, input) {
+        Ok(rest) => {
+            *input = rest;
+            Ok(true)
+        }
+        Err(error) => {
+            fields.clear();
+            Err(error)
+        }
+    }
+}

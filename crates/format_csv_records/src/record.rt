@@ -1,0 +1,168 @@
+//! Records whose fields stand in one buffer, which is used again for the next record.
+
+ghost use Rattle.std.specs.Prelude.{◌≡◌, ◌++◌, ◌∷◌, [], ◌<◌, ◌≤◌, ◌^◌, ◌+◌, ◌-◌, ◌↔◌, length};
+ghost use Rattle.std.specs.Prelude.{IfSome, IsTrue, OnErr, OnOk, option_map, slice_index};
+ghost use Rattle.std.specs.Iterator.{at_most};
+ghost use Rattle.format_csv_records.specs.Records.{begun_of, field_at, fields_of, start_of};
+
+use std::alloc::{AllocError, Allocator};
+use std::marker::Model;
+
+/// The fields of a record: the bytes of all of them, one behind the other, and where each ends. It
+/// is made once and read into again and again, so that memory is wanted for the longest record.
+///
+/// ```
+/// use format_csv_records::dialect::Dialect;
+/// use format_csv_records::read::read_record_into;
+/// use format_csv_records::record::ByteRecord;
+///
+/// let mut fields = ByteRecord::new(alloc);
+/// let mut input = b"a,b\r\n".as_slice();
+/// assert!(rt; read_record_into(Dialect::standard(), &mut fields, &mut input) == Ok(true));
+/// assert_eq!(rt; fields.len(), 2);
+/// ```
+#[derive(Drop)]
+pub struct ByteRecord<A: Allocator> {
+    bytes: Vec<u8, A>,
+    ends: Vec<usize, A>,
+}
+
+impl<A: Allocator> Model for ByteRecord<A> {
+    ghost use Rattle.format_csv_records.specs.Records.{IsWhole, Row, row_of};
+
+    ghost Value = { Row };
+
+    ghost view = { row_of };
+
+    ghost invariant = { λ it. IsWhole (row_of it) };
+}
+
+// Where the field at a place starts and ends.
+fn bounds<A: Allocator>(ends: &Vec<usize, A>, place: usize) -> (usize, usize)
+    requires { place < length ends.now.items }
+    ensures start { result.0 ≡ start_of 0 ends.now.items place }
+    ensures end { result.1 ≡ slice_index ends.now.items place }
+{
+    let start = if place == 0 { 0 } else { ends[place - 1] };
+    (start, ends[place])
+}
+
+impl<A: Allocator> ByteRecord<A> {
+    /// A record of no fields, which wants no memory yet.
+    pub fn new(alloc: A) -> ByteRecord<A>
+    where
+        A: Copy,
+        ensures fields { fields_of result ≡ [] }
+        ensures begun { begun_of result ≡ [] }
+    {
+        let bytes = Vec::new(alloc);
+        let ends = Vec::new(alloc);
+        ByteRecord { bytes, ends }
+    }
+
+    /// How many fields there are.
+    pub fn len(&self) -> usize
+        ensures { result ≡ length (fields_of self.now) }
+    {
+        self.ends.len()
+    }
+
+    /// Whether there are no fields, as before the first record is read and at an error.
+    pub fn is_empty(&self) -> bool
+        ensures { IsTrue result ↔ (length (fields_of self.now) ≡ 0) }
+    {
+        self.len() == 0
+    }
+
+    /// The fields, in order.
+    ///
+    /// ```
+    /// use format_csv_records::dialect::Dialect;
+    /// use format_csv_records::read::read_record_into;
+    /// use format_csv_records::record::ByteRecord;
+    ///
+    /// let mut fields = ByteRecord::new(alloc);
+    /// let mut input = b"a,bc\r\n".as_slice();
+    /// assert!(rt; read_record_into(Dialect::standard(), &mut fields, &mut input) == Ok(true));
+    /// let mut size = 0;
+    /// for field in fields.iter() {
+    ///     size += field.len();
+    /// }
+    /// assert_eq!(rt; size, 3);
+    /// ```
+    pub fn iter(&self) -> Fields<'_, A>
+        ensures fields { result.fields.now ≡ self.now }
+        ensures place { result.place ≡ 0 }
+    {
+        Fields {
+            fields: self,
+            place: 0,
+        }
+    }
+
+    /// Takes all fields away, and keeps the room for them.
+    pub fn clear(&mut self)
+        ensures fields { fields_of self.new ≡ [] }
+        ensures begun { begun_of self.new ≡ [] }
+    {
+        self.bytes.clear();
+        self.ends.clear();
+    }
+
+    /// The field at a place, counted from 0.
+    pub fn get(&self, place: usize) -> Option<&[u8]>
+        ensures place { IfSome result (λ f. (place < length (fields_of self.now))
+            × (place + 1 ≤ 2 ^ 64 - 1)) }
+        ensures value { option_map (λ s. s.now) result ≡ field_at (fields_of self.now) place }
+    {
+        if place >= self.ends.len() {
+            return None;
+        }
+        let (start, end) = bounds(&self.ends, place);
+        Some(&self.bytes.as_slice()[start..end])
+    }
+
+    // Adds bytes to the field that is begun.
+    pub(crate) fn add(&mut self, bytes: &[u8]) -> Result<(), AllocError>
+        ensures fields { fields_of self.new ≡ fields_of self.old }
+        ensures begun { OnOk result (begun_of self.new ≡ begun_of self.old ++ bytes.now) }
+    {
+        self.bytes.extend_from_slice(bytes)
+    }
+
+    // Ends the field that is begun.
+    pub(crate) fn end_field(&mut self) -> Result<(), AllocError>
+        ensures fields { OnOk result
+            (fields_of self.new ≡ fields_of self.old ++ begun_of self.old ∷ []) }
+        ensures begun { OnOk result (begun_of self.new ≡ []) }
+    {
+        let end = self.bytes.len();
+        match self.ends.push(end) {
+            Ok(()) => Ok(()),
+            Err(_) => Err(AllocError),
+        }
+    }
+}
+
+/// The fields of a record, one after the other.
+#[derive(Clone, Copy)]
+pub struct Fields<'f, A: Allocator> {
+    fields: &'f ByteRecord<A>,
+    place: usize,
+}
+
+impl<'f, A: Allocator> Iterator for Fields<'f, A> {
+    type Item = &'f [u8];
+
+    ghost remaining = { λ s. at_most (length (fields_of s.fields.now) - s.place) };
+
+    ghost next_gives = { λ a r b. (b.fields ≡ a.fields)
+        × (option_map (λ s. s.now) r ≡ field_at (fields_of a.fields.now) a.place)
+        × IfSome r (λ _. b.place ≡ a.place + 1) };
+
+    fn next(&mut self) -> Option<&'f [u8]> {
+        let field = self.fields.get(self.place)?;
+        self.place = self.place.saturating_add(1);
+        Some(field)
+    }
+}

@@ -1,0 +1,163 @@
+//! Documents: records one behind the other, a header, and a byte order mark.
+//!
+//! One record is held at a time, so memory is wanted for the longest record, and not for the
+//! document: 10 megabytes of line feeds take that of one empty record.
+
+ghost use Rattle.std.specs.Prelude.{◌≡◌, ◌∷◌, length, ◌-◌, List, ℕ, MatchOption, option_map};
+ghost use Rattle.format_csv_records.specs.Named.{FieldNamed, FirstNamed};
+ghost use Rattle.format_csv_records.specs.Parts.{NoMark};
+ghost use Rattle.format_csv_records.specs.Records.{field_at, fields_of};
+ghost use Rattle.format_csv_records.specs.Refused.{ReadsRecord};
+
+use crate::dialect::Dialect;
+use crate::read::{RecordError, behind, first_is, read_record_into};
+use crate::record::ByteRecord;
+use std::alloc::Allocator;
+
+/// The records of a document, one after the other.
+///
+/// ```
+/// use format_csv_records::dialect::Dialect;
+/// use format_csv_records::record::ByteRecord;
+/// use format_csv_records::records::Records;
+///
+/// let mut records = Records::new(Dialect::standard(), b"a,b\r\n1,2\r\n".as_slice());
+/// let mut fields = ByteRecord::new(alloc);
+/// assert!(rt; records.next_record(&mut fields) == Ok(true));
+/// assert!(rt; records.next_record(&mut fields) == Ok(true));
+/// assert!(rt; matches!(fields.get(1), Some(field) if field == b"2".as_slice()));
+/// assert!(rt; records.next_record(&mut fields) == Ok(false));
+/// ```
+#[derive(Clone, Copy)]
+pub struct Records<'i> {
+    /// How the records are written.
+    pub dialect: Dialect,
+    /// All bytes.
+    pub bytes: &'i [u8],
+    /// The bytes of the records that are not read yet.
+    pub rest: &'i [u8],
+}
+
+impl<'i> Records<'i> {
+    /// The records of these bytes, of which none is read.
+    pub fn new(dialect: Dialect, bytes: &'i [u8]) -> Records<'i>
+        ensures { (result.dialect ≡ dialect) × (result.bytes.now ≡ bytes.now)
+            × (result.rest.now ≡ bytes.now) }
+    {
+        let rest = bytes;
+        Records {
+            dialect,
+            bytes,
+            rest,
+        }
+    }
+
+    /// Reads the next record. `true` says that one was read; `false` that none is left. Behind an
+    /// error no record is read: the next call answers it again, out of memory aside. The offset of
+    /// a
+    /// fault counts from where the record begins, which [`offset`](Records::offset) tells.
+    pub fn next_record<A: Allocator>(
+        &mut self,
+        fields: &mut ByteRecord<A>,
+    ) -> Result<bool, RecordError>
+        ensures read { ReadsRecord self.old.dialect self.old.rest.now result
+            (fields_of fields.new) self.new.rest.now }
+        ensures same { (self.new.dialect ≡ self.old.dialect)
+            × (self.new.bytes.now ≡ self.old.bytes.now) }
+    {
+        read_record_into(self.dialect, fields, &mut self.rest)
+    }
+
+    /// How many bytes stand before those of the records that are not read yet.
+    /// `text_positions::excerpt::position_in` says line and column of an offset in all bytes.
+    pub fn offset(&self) -> usize
+        ensures { result ≡ length self.now.bytes.now - length self.now.rest.now }
+    {
+        self.bytes.len().saturating_sub(self.rest.len())
+    }
+}
+
+/// What is behind a byte order mark of UTF-8 (the bytes EF BB BF) that stands first; `None` where
+/// none does. The first field of a document that is read with its mark begins with it.
+///
+/// ```
+/// use format_csv_records::records::behind_mark;
+///
+/// let told = behind_mark(b"\xef\xbb\xbfa,b\n".as_slice());
+/// assert!(rt; matches!(told, Some(rest) if rest == b"a,b\n".as_slice()));
+/// assert!(rt; behind_mark(b"a,b\n".as_slice()).is_none());
+/// ```
+pub fn behind_mark(bytes: &[u8]) -> Option<&[u8]>
+    ensures { MatchOption result (NoMark bytes.now)
+        (λ rest. bytes.now ≡ 239 ∷ 187 ∷ 191 ∷ rest.now) }
+{
+    if !first_is(bytes, 0xef) {
+        return None;
+    }
+    let second = behind(bytes, 1);
+    if !first_is(second, 0xbb) {
+        return None;
+    }
+    let third = behind(second, 1);
+    if first_is(third, 0xbf) {
+        Some(behind(third, 1))
+    } else {
+        None
+    }
+}
+
+/// The place of the first column of this name, counted from 0: of the first field of a header that
+/// is the name.
+///
+/// ```
+/// use format_csv_records::dialect::Dialect;
+/// use format_csv_records::record::ByteRecord;
+/// use format_csv_records::records::{Records, column_of};
+///
+/// let mut header = ByteRecord::new(alloc);
+/// let mut records = Records::new(Dialect::standard(), b"name,size\r\n".as_slice());
+/// assert!(rt; records.next_record(&mut header) == Ok(true));
+/// assert_eq!(rt; column_of(&header, b"size".as_slice()), Some(1));
+/// assert_eq!(rt; column_of(&header, b"width".as_slice()), None);
+/// ```
+pub fn column_of<A: Allocator>(header: &ByteRecord<A>, name: &[u8]) -> Option<usize>
+    ensures { FirstNamed (fields_of header.now) name.now result }
+{
+    for place in 0..header.len() {
+        if let Some(field) = header.get(place) {
+            if field == name {
+                return Some(place);
+            }
+        }
+    }
+    None
+}
+
+/// The field of a record under the first column of this name. There is none where no column has the
+/// name, or where the record has too few fields.
+///
+/// ```
+/// use format_csv_records::dialect::{Dialect, LineEnds};
+/// use format_csv_records::record::ByteRecord;
+/// use format_csv_records::records::{Records, field_of};
+///
+/// let (mut header, mut fields) = (ByteRecord::new(alloc), ByteRecord::new(alloc));
+/// if let Ok(dialect) = Dialect::new(b';', b'"', LineEnds::Lf) {
+///     let mut records = Records::new(dialect, b"name;size\nfile;12\n".as_slice());
+///     assert!(rt; records.next_record(&mut header) == Ok(true));
+///     assert!(rt; records.next_record(&mut fields) == Ok(true));
+///     let size = field_of(&header, &fields, b"size".as_slice());
+///     assert!(rt; matches!(size, Some(bytes) if bytes == b"12".as_slice()));
+/// }
+/// ```
+pub fn field_of<'f, A: Allocator>(
+    header: &ByteRecord<A>,
+    fields: &'f ByteRecord<A>,
+    name: &[u8],
+) -> Option<&'f [u8]>
+    ensures { FieldNamed (fields_of header.now) (fields_of fields.now) name.now
+        (option_map (λ s. s.now) result) }
+{
+    let place = column_of(header, name)?;
+    fields.get(place)
+}

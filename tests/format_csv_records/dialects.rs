@@ -1,0 +1,35 @@
+//! Dialects that there are, and those that there are not.
+use format_csv_records::dialect::{Dialect, DialectFault, LineEnds};
+
+/// A delimiter, a quote, and what is wrong with them.
+const IMPOSSIBLE: &[(u8, u8, DialectFault)] = &[
+    (b',', b',', DialectFault::DelimiterIsQuote),
+    (b'\n', b'\n', DialectFault::DelimiterIsQuote),
+    (b'\n', b'"', DialectFault::DelimiterEndsLines),
+    (b'\r', b'\n', DialectFault::DelimiterEndsLines),
+    (b',', b'\r', DialectFault::QuoteEndsLines),
+    (b',', b'\n', DialectFault::QuoteEndsLines),
+];
+
+#[test]
+fn impossible_dialects_are_refused(rt: HostRuntime) {
+    for (delimiter, quote, fault) in IMPOSSIBLE {
+        match Dialect::new(*delimiter, *quote, LineEnds::Either) {
+            Err(told) => assert_eq!(rt; told, *fault),
+            Ok(_) => assert!(rt; false),
+        }
+    }
+}
+
+#[test]
+fn the_standard_is_one(rt: HostRuntime) {
+    match Dialect::new(b',', b'"', LineEnds::CrLf) {
+        Ok(dialect) => {
+            let standard = Dialect::standard();
+            assert_eq!(rt; dialect.delimiter, standard.delimiter);
+            assert_eq!(rt; dialect.quote, standard.quote);
+            assert_eq!(rt; dialect.ends, standard.ends);
+        }
+        Err(_) => assert!(rt; false),
+    }
+}

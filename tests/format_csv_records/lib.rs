@@ -1,0 +1,11 @@
+//! The tests of records in one buffer, by any dialect, of documents and of what is written.
+#![tactic(auto)]
+
+#[cfg(test)]
+mod dialects;
+#[cfg(test)]
+mod records;
+#[cfg(test)]
+mod refused;
+#[cfg(test)]
+mod written;
