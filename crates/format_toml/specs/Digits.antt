@@ -93,7 +93,7 @@ module _ (base : ℕ) (most : base ≤ 36) where
         subst P (sym (tail_of e)) row,
         v ∙ ap (λ l. digits_value_after base number l) f
             ∙ ap (λ k. digits_value_after base (number * base + digit_value k) es)
-                  (sym (head_of e)),
+            (sym (head_of e)),
       )
   digit_on false number c cs n is (ds, text, v) = elim (next ds (c ∷ cs) text) [
     | inl (f, e) ↦ absurd (no_cons (sym e))
@@ -103,7 +103,7 @@ module _ (base : ℕ) (most : base ≤ 36) where
           subst P (sym (tail_of e)) row,
           v ∙ ap (λ l. digits_value_after base number l) f
               ∙ ap (λ k. digits_value_after base (number * base + digit_value k) es)
-                    (sym (head_of e)),
+              (sym (head_of e)),
         )
     | inr (d, es, ys, less, row, inr e, f) ↦ absurd (no_under c is (sym (head_of e)))
   ]
@@ -247,7 +247,7 @@ module _ {base i number : ℕ} {text : List ℕ} {due : Bool} (some : 2 ≤ base
         let R : ℕ → Type 0 = λ c. Continues base due number (c ∷ drop (i + 1) text) n in (
           λ x. subst (λ b. P b more) (sym e) (subst (λ m. P true m) (sym f)
               (under_on base (omega (arith, most)) number _ n
-                      (subst Q ready (subst R is (here less n x))))),
+              (subst Q ready (subst R is (here less n x))))),
           λ y. back less n (subst R (sym is) (subst Q (sym ready)
               (under_back base (omega (arith, most)) number _ n
               (subst (λ m. P true m) f (subst (λ b. P b more) e y))))),
@@ -271,7 +271,7 @@ module _ {base i number : ℕ} {text : List ℕ} {due : Bool} (some : 2 ≤ base
       let Q : Bool → List ℕ → Type 0 = λ b l. Continues base b number l n in
       not_done base (omega (arith, most)) number n
       (subst (λ l. Q true l) (drop_past text i past)
-              (subst (λ b. Q b (drop i text)) ready ((so.same n).0 x)))
+      (subst (λ b. Q b (drop i text)) ready ((so.same n).0 x)))
 
   pub ends_done : length text ≤ i → due ≡ false
       → NumberText base number text × ((m : ℕ) → NumberText base m text → m ≡ number)

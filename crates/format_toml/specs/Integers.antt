@@ -167,9 +167,14 @@ zeroed {tokens} {rest} is = record {
   where
     from : (n : ℤ) → Sorted n (48 ∷ rest) → (m : ℕ) × BehindZero m rest × (n ≡ pos m)
     from n (inl (m, (x, lone), e)) =
-        let none = lone rest refl in
-        (m, inl (none,
-                alone 10 m 48 (omega arith) (subst (λ l. NumberText 10 m (48 ∷ l)) none x)), e)
+        let none = lone rest refl in (
+          m,
+          inl (
+            none,
+            alone 10 m 48 (omega arith) (subst (λ l. NumberText 10 m (48 ∷ l)) none x),
+          ),
+          e,
+        )
     from n (inr (inl (m, ys, x, e, g))) = absurd (omega (arith, head_of e))
     from n (inr (inr (inl (m, ys, x, e, g)))) = absurd (omega (arith, head_of e))
     from n (inr (inr (inr (m, ys, x, some, e, g)))) =
@@ -183,7 +188,7 @@ zeroed {tokens} {rest} is = record {
         inr (
           m,
           subst (λ l. Among (BasedText 120 16) (Among (BasedText 111 8) (BasedText 98 2)) m
-                  (48 ∷ l)) (sym e)
+              (48 ∷ l)) (sym e)
               (inl (based_back 120 16 m ys x)),
           g,
         )
@@ -191,7 +196,7 @@ zeroed {tokens} {rest} is = record {
         inr (
           m,
           subst (λ l. Among (BasedText 120 16) (Among (BasedText 111 8) (BasedText 98 2)) m
-                  (48 ∷ l)) (sym e)
+              (48 ∷ l)) (sym e)
               (inr (inl (based_back 111 8 m ys x))),
           g,
         )
@@ -199,7 +204,7 @@ zeroed {tokens} {rest} is = record {
         inr (
           m,
           subst (λ l. Among (BasedText 120 16) (Among (BasedText 111 8) (BasedText 98 2)) m
-                  (48 ∷ l)) (sym e)
+              (48 ∷ l)) (sym e)
               (inr (inr (based_back 98 2 m ys x))),
           g,
         )

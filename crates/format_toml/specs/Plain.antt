@@ -105,7 +105,7 @@ rest_are base most (d ∷ ds) tokens row = elim (next base most (d ∷ ds) token
   | inr (c, es, ys, less, others, inr e, f) ↦
       let here = subst (λ l. Row (NextText base) l ys) (sym (same_others f)) others in
       let one = more_are c ys (digit_is c (omega (arith, less, most)))
-            (rest_are base most ds ys here) in
+      (rest_are base most ds ys here) in
       (more_of 95 (inr (inr (inr (inr (inr refl))))) one.0 e).0
 ]
 

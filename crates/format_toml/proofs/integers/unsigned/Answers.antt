@@ -13,8 +13,8 @@ pub returns : goal.returns
 returns c = elim c.else-text-gt1.branch [
   | else-text-gt1-via-then-text-gt1+else-text-eq48 w ↦
       no_zero c.args.text.now c.number_in.result (λ more is. w.if-text-eq48.false is)
-            c.number_in.ensures
+      c.number_in.ensures
   | else-text-gt1-via-else-text-gt1 w ↦
       no_zero c.args.text.now c.number_in.result
-            (λ more is. absurd (omega (arith, more, w.if-text-gt1.false))) c.number_in.ensures
+      (λ more is. absurd (omega (arith, more, w.if-text-gt1.false))) c.number_in.ensures
 ]
