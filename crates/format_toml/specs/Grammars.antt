@@ -1,7 +1,5 @@
 -- TOML 1.0: what parsers read of keys, values and lines.
-use Rattle.std.specs.Prelude.{◌≡◌, ⊤, ℕ, ℤ, zero, suc, Bool, true, false, List, Option, None}
-use Rattle.std.specs.Prelude.{FitsSigned}
-use Rattle.std.specs.Int.{w64}
+use Rattle.std.specs.Prelude.{◌≡◌, ⊤, ℕ, zero, suc, Bool, true, false, List, Option, None}
 use Rattle.std.specs.declared.string.String.{String}
 use Rattle.std.specs.declared.vec.Vec.{Vec}
 use Rattle.winnow.specs.Text.{text_reading}
@@ -11,19 +9,19 @@ use Rattle.format_json_texts.specs.Number.{Slice}
 use Rattle.format_json_texts.specs.Strings.{CodeUnit, IsAlone}
 use Rattle.format_json_texts.specs.Words.{Char, RunOf, Word, former, latter, pair}
 use Rattle.format_toml.specs.Led.{Led}
-use Rattle.format_toml.specs.Toml.{IsArray, IsBoolean, IsEntry, IsInline, IsInteger, IsKey}
-use Rattle.format_toml.specs.Toml.{IsTable, IsTables, IsText, IsWide, StandsFor, Tells}
+use Rattle.format_toml.specs.Toml.{IsArray, IsBoolean, IsEntry, IsInline, IsKey}
+use Rattle.format_toml.specs.Toml.{IsTable, IsTables, IsText, IsWide, PlainText, StandsFor, Tells}
 use Rattle.format_toml.specs.Toml.{false_word, true_word}
 use Rattle.format_toml.specs.declared.characters.Characters.{Characters}
 use Rattle.format_toml.specs.declared.characters.Characters.TheVariants.{Bare, Basic, Comment}
-use Rattle.format_toml.specs.declared.characters.Characters.TheVariants.{Literal, White}
+use Rattle.format_toml.specs.declared.characters.Characters.TheVariants.{Literal, Unquoted}
+use Rattle.format_toml.specs.declared.characters.Characters.TheVariants.{White}
 use Rattle.format_toml_tree.specs.declared.value.Item.{Item}
 use Rattle.format_toml_tree.specs.declared.value.Key.{Key}
 use Rattle.format_toml_tree.specs.declared.value.Value.{Value}
 use Rattle.winnow.specs.Grammar.{Both, Either, Gathered, Grammar, Longest, Many, Maybe}
 use Rattle.winnow.specs.Grammar.{Parted, Three, Token, TokenOf}
 use Rattle.winnow.specs.Grammar.Meaning.{Meaning}
-use Rattle.winnow.specs.Numeral.Grammar.{SignedDecimal}
 use Rattle.winnow.specs.Accumulator.Holds.{HasCharacters}
 
 -- ---- white space
@@ -85,8 +83,9 @@ Escape =
 abbrev pub Character : Grammar ℕ ℕ
 Character = Either (TokenOf (λ c. c) Tells Basic) (Both latter (Char 92) Escape)
 
-abbrev pub Integer : Grammar ℕ ℤ
-Integer = SignedDecimal (λ n. n) (FitsSigned w64) (λ c. c) (λ c. c)
+-- as many characters of numbers, dates and times as stand, one at least
+abbrev pub Unquoteds : Grammar ℕ Slice
+Unquoteds = Longest text_reading (λ c. c) Tells Unquoted (from_to 1 None)
 
 module _ {A : Type 0} where
   abbrev pub AnyCharacters : Characters → ℕ → Grammar ℕ (String A)
@@ -104,15 +103,19 @@ module _ {A : Type 0} where
   abbrev pub AnyBoolean : List ℕ → Bool → Grammar ℕ (Value A)
   AnyBoolean word is = Meaning IsBoolean (Word word is)
 
-  abbrev pub Whole : Grammar ℕ (Value A)
-  Whole = Meaning IsInteger Integer
+  -- what they are, as bytes: each of them is one
+  abbrev pub IsPlain : Slice → Value A → Type 0
+  IsPlain slice v = PlainText v slice.now
+
+  abbrev pub Plain : Grammar ℕ (Value A)
+  Plain = Meaning IsPlain Unquoteds
 
   abbrev pub Scalar : Grammar ℕ (Value A)
   Scalar =
       Led (λ c. c ≡ 34) (Meaning IsText BasicString)
       (Led (λ c. c ≡ 39) (Meaning IsText LiteralString)
       (Led (λ c. c ≡ 116) (AnyBoolean true_word true)
-      (Led (λ c. c ≡ 102) (AnyBoolean false_word false) Whole)))
+      (Led (λ c. c ≡ 102) (AnyBoolean false_word false) Plain)))
 
   -- ---- keys
 

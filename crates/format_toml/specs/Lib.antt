@@ -1,14 +1,18 @@
 -- Written by scripts/registries.py: do not edit.
+pub mod Digits
 pub mod Escapes
 pub mod Expected
 pub mod Grammars
+pub mod Integers
 pub mod Keys
 pub mod Lacking
 pub mod Led
 pub mod Lines
 pub mod Messages
 pub mod Nested
+pub mod Numbers
 pub mod Places
+pub mod Plain
 pub mod Rows
 pub mod Scalars
 pub mod Spaces

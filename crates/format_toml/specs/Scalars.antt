@@ -1,37 +1,29 @@
 -- The grammars of values that have no others in them are those of what is written.
-use Rattle.std.specs.Prelude.{◌≡◌, ◌⊎◌, ◌≤◌, ◌<◌, ℕ, ℤ, Bool, true, false, List, [], ◌∷◌, ◌++◌}
-use Rattle.std.specs.Prelude.{FitsSigned}
-use Rattle.std.specs.Int.{w64}
-use Rattle.std.proofs.Common.{refl, sym, ap, subst, inl, inr, ◌∙◌, arith}
-use Rattle.winnow.specs.AsChar.{IsDecDigit, IsSpace}
+use Rattle.std.specs.Prelude.{◌≡◌, ◌<◌, ℕ, Bool, true, false, List, ◌∷◌, ◌++◌}
+use Rattle.std.proofs.Common.{refl, ap, inl, inr, arith}
+use Rattle.winnow.specs.AsChar.{IsSpace}
 use Rattle.format_json_texts.specs.Words.{For, Word, for_front, for_of}
-use Rattle.format_toml.specs.Grammars.{AnyBoolean, BasicString, Integer, LiteralString, Scalar}
-use Rattle.format_toml.specs.Grammars.{Whole}
+use Rattle.format_toml.specs.Grammars.{AnyBoolean, BasicString, LiteralString, Scalar}
+use Rattle.format_toml.specs.Grammars.{Plain}
 use Rattle.format_toml.specs.Led.{Led, led_of}
-use Rattle.format_toml.specs.Spaces.{IsBreak, IsTail, OpensGap, no_space}
+use Rattle.format_toml.specs.Spaces.{no_space}
 use Rattle.format_toml.specs.Strings.{basic_string_begins, basic_string_of, literal_string_begins}
 use Rattle.format_toml.specs.Strings.{literal_string_of}
-use Rattle.format_toml.specs.Toml.{BasicText, BooleanText, IntegerText, IsBoolean, IsInteger}
+use Rattle.format_toml.specs.Toml.{BasicText, BooleanText, IsBoolean, IsUnquoted}
+use Rattle.format_toml.specs.Plain.{plain_begins, plain_of}
 use Rattle.format_toml.specs.Toml.{IsText}
-use Rattle.format_toml.specs.Toml.{LiteralText, ScalarText, WholeText, false_word, true_word}
+use Rattle.format_toml.specs.Toml.{LiteralText, PlainText, ScalarText, false_word, true_word}
 use Rattle.winnow.specs.Grammar.Meaning.{Meaning}
-use Rattle.winnow.specs.Numeral.Grammar.{SignedDecimal}
-use Rattle.winnow.specs.Texts.{Among, Begins, BeginsIn, InFront, IsGrammarOf, NotFirst, Spelled}
-use Rattle.winnow.specs.Texts.Fronts.{among_front, begins_wider, front_begins, not_first}
+use Rattle.winnow.specs.Texts.{Among, BeginsIn, IsGrammarOf, NotFirst, Spelled}
+use Rattle.winnow.specs.Texts.Fronts.{among_front, begins_wider, front_begins}
 use Rattle.winnow.specs.Texts.Fronts.{spelled_begins}
 use Rattle.winnow.specs.Texts.Parts.{behind_less}
-use Rattle.winnow.specs.Decimal.{IsSignedDecimalOf}
-use Rattle.winnow.specs.DecimalText.{AreDigits}
-use Rattle.winnow.specs.Digits.{NoneFirst}
-use Rattle.winnow.specs.Digits.Known.{own_characters, same_characters}
 
 -- ---- what goes on with a word or a number
 
 -- letters, digits, and + - . : _
 abbrev pub GoesOn : ℕ → Type 0
-GoesOn c =
-    ((48 ≤ c) × (c ≤ 58)) ⊎ (((65 ≤ c) × (c ≤ 90)) ⊎ (((97 ≤ c) × (c ≤ 122))
-    ⊎ ((c ≡ 43) ⊎ (((45 ≤ c) × (c ≤ 46)) ⊎ (c ≡ 95)))))
+GoesOn = IsUnquoted
 
 pub goes_is : (c : ℕ) → GoesOn c
     → (42 < c) × (c < 123) × (c ≡ 44 → ⊥) × (c ≡ 93 → ⊥)
@@ -49,62 +41,6 @@ Goes = NotFirst GoesOn
 pub space_goes : (c : ℕ) → IsSpace c → GoesOn c → ⊥
 space_goes c s g =
     let above = (goes_is c g).0 in no_space c (omega (arith, above)) s
-
-digit_goes : (c : ℕ) → IsDecDigit c → GoesOn c
-digit_goes c d = inl (omega (arith, d))
-
--- ---- integers
-
-integer_of : IsGrammarOf Integer IntegerText (NotFirst IsDecDigit)
-unfolding SignedDecimal IntegerText
-integer_of = record {
-  there = λ tokens n rest (front, sign, digits, e, chars, is, stops, fits).
-      (front, e, (sign, digits, is, fits, same_characters front (sign ++ digits) chars));
-  back = λ n front rest (sign, digits, is, fits, e) not. (
-    sign ++ digits,
-    sign,
-    digits,
-    ap (λ l. l ++ rest) e,
-    own_characters (sign ++ digits),
-    is,
-    inr (stop rest not),
-    fits,
-  );
-}
-  where
-    stop : (tokens : List ℕ) → NotFirst IsDecDigit tokens
-        → NoneFirst (λ x. x) (λ x. x) IsDecDigit tokens
-    stop [] not = inl refl
-    stop (c ∷ cs) not = inr (c, cs, refl, (c, refl, not))
-
-pub integer_fits : (tokens rest : List ℕ) (n : ℤ) → Integer tokens n rest → FitsSigned w64 n
-unfolding SignedDecimal
-integer_fits tokens rest n (front, sign, digits, e, chars, is, stops, fits) = fits
-
--- a sign or a digit
-abbrev pub IsNumeric : ℕ → Type 0
-IsNumeric c = (43 ≤ c) × (c ≤ 57)
-
-integer_begins : BeginsIn IsNumeric IntegerText
-unfolding IntegerText
-integer_begins = record {
-  makes = λ n tokens rest (sign, digits, is, fits, e) any.
-      let P : List ℕ → Type 0 = λ l. Begins IsNumeric (l ++ rest) in
-      subst P (sym e) (first sign digits rest n is);
-}
-  where
-    digit : (digits rest : List ℕ) → AreDigits digits → Begins IsNumeric (digits ++ rest)
-    digit [] rest are = absurd (omega (arith, are.0))
-    digit (d ∷ ds) rest are = omega (arith, are.1.0)
-
-    first : (sign digits rest : List ℕ) (n : ℤ) → IsSignedDecimalOf sign digits n
-        → Begins IsNumeric ((sign ++ digits) ++ rest)
-    first sign digits rest n (m, is, way) =
-        let P : List ℕ → Type 0 = λ l. Begins IsNumeric ((l ++ digits) ++ rest) in elim way [
-          | inl (e, z) ↦ subst P (sym e) (digit digits rest is.are)
-          | inr (inl (e, some, z)) ↦ subst P (sym e) (omega arith)
-          | inr (inr (e, some, z)) ↦ subst P (sym e) (omega arith)
-        ]
 
 -- ---- values that have no others in them
 
@@ -139,55 +75,49 @@ module _ {A : Type 0} where
       → IsGrammarOf (AnyBoolean {A = A} word is) (BooleanText word is) Goes
   boolean_of word is = for_of IsBoolean (word_of word is)
 
-  whole_of : IsGrammarOf (Whole {A = A}) WholeText Goes
-  whole_of = behind_less (not_first IsDecDigit GoesOn digit_goes) (for_of IsInteger integer_of)
-
   boolean_begins : (first : ℕ) (word : List ℕ) (is : Bool)
       → BeginsIn (λ c. c ≡ first) (BooleanText {A = A} (first ∷ word) is)
   boolean_begins first word is = for_front IsBoolean (spelled_begins first word is)
 
-  whole_begins : BeginsIn IsNumeric (WholeText {A = A})
-  whole_begins = for_front IsInteger integer_begins
-
   -- ---- one or another, by what they begin with
 
-  after_true_of : IsGrammarOf (Led (λ c. c ≡ 102) (AnyBoolean {A = A} false_word false) Whole)
-      (Among (BooleanText false_word false) WholeText) Goes
+  after_true_of : IsGrammarOf (Led (λ c. c ≡ 102) (AnyBoolean {A = A} false_word false) Plain)
+      (Among (BooleanText false_word false) PlainText) Goes
   after_true_of =
-      led_of (boolean_of false_word false) whole_of (boolean_begins 102 _ false)
-      (front_begins (λ c n e. absurd (omega (arith, n, e))) whole_begins)
+      led_of (boolean_of false_word false) plain_of (boolean_begins 102 _ false)
+      (front_begins (λ c n e. absurd (omega (arith, n, e))) plain_begins)
 
   after_true_begins : BeginsIn (λ c. (42 < c) × (c < 103))
-      (Among (BooleanText {A = A} false_word false) WholeText)
+      (Among (BooleanText {A = A} false_word false) PlainText)
   after_true_begins =
       among_front (begins_wider (λ c e. omega (arith, e)) (boolean_begins 102 _ false))
-      (begins_wider (λ c n. omega (arith, n)) whole_begins)
+      (begins_wider (λ c n. omega (arith, n)) plain_begins)
 
   after_literal_of : IsGrammarOf (Led (λ c. c ≡ 116) (AnyBoolean {A = A} true_word true)
-      (Led (λ c. c ≡ 102) (AnyBoolean false_word false) Whole))
-      (Among (BooleanText true_word true) (Among (BooleanText false_word false) WholeText)) Goes
+      (Led (λ c. c ≡ 102) (AnyBoolean false_word false) Plain))
+      (Among (BooleanText true_word true) (Among (BooleanText false_word false) PlainText)) Goes
   after_literal_of =
       led_of (boolean_of true_word true) after_true_of (boolean_begins 116 _ true)
       (front_begins (λ c a e. absurd (omega (arith, a, e))) after_true_begins)
 
   after_literal_begins : BeginsIn (Above 42) (Among (BooleanText {A = A} true_word true)
-      (Among (BooleanText false_word false) WholeText))
+      (Among (BooleanText false_word false) PlainText))
   after_literal_begins =
       among_front (begins_wider (λ c e. omega (arith, e)) (boolean_begins 116 _ true))
       (among_front (begins_wider (λ c e. omega (arith, e)) (boolean_begins 102 _ false))
-      (begins_wider (λ c n. omega (arith, n)) whole_begins))
+      (begins_wider (λ c n. omega (arith, n)) plain_begins))
 
   after_basic_of : IsGrammarOf (Led (λ c. c ≡ 39) (Meaning IsText (LiteralString {A = A}))
       (Led (λ c. c ≡ 116) (AnyBoolean true_word true)
-      (Led (λ c. c ≡ 102) (AnyBoolean false_word false) Whole)))
+      (Led (λ c. c ≡ 102) (AnyBoolean false_word false) Plain)))
       (Among (For IsText LiteralText)
-      (Among (BooleanText true_word true) (Among (BooleanText false_word false) WholeText))) Goes
+      (Among (BooleanText true_word true) (Among (BooleanText false_word false) PlainText))) Goes
   after_basic_of =
       led_of literal_of after_literal_of literal_begins
       (front_begins (λ c a e. absurd (omega (arith, a.0, e))) after_literal_begins)
 
   after_basic_begins : BeginsIn (Above 38) (Among (For IsText (LiteralText {A = A}))
-      (Among (BooleanText true_word true) (Among (BooleanText false_word false) WholeText)))
+      (Among (BooleanText true_word true) (Among (BooleanText false_word false) PlainText)))
   after_basic_begins =
       among_front (begins_wider (λ c e. omega (arith, e)) literal_begins)
       (begins_wider (λ c a. (omega (arith, a.0), a.1, a.2, a.3, a.4)) after_literal_begins)

@@ -1,8 +1,7 @@
 -- TOML 1.0 (toml.io/en/v1.0.0): what is written for keys, values and lines, by its ABNF.
 use Rattle.std.specs.Prelude.{◌≡◌, ◌⊎◌, ◌≤◌, ◌↔◌, ◌+◌, ◌*◌, ⊤, ℕ, ℤ, zero, suc, Bool, true, false}
 use Rattle.std.specs.Prelude.{IsTrue}
-use Rattle.std.specs.Prelude.{List, [], ◌∷◌, ◌++◌, Option, Some, None, FitsSigned}
-use Rattle.std.specs.Int.{w64}
+use Rattle.std.specs.Prelude.{List, [], ◌∷◌, Option, Some, None}
 use Rattle.std.specs.declared.string.String.{String}
 use Rattle.std.specs.declared.vec.Vec.{Vec}
 use Rattle.winnow.specs.Text.{text_reading}
@@ -12,7 +11,8 @@ use Rattle.format_json_texts.specs.Strings.{IsAlone, UnitText}
 use Rattle.format_json_texts.specs.Words.{Between, For, One, Run, Whichever, former, latter, pair}
 use Rattle.format_toml.specs.declared.characters.Characters.{Characters}
 use Rattle.format_toml.specs.declared.characters.Characters.TheVariants.{Bare, Basic, Comment}
-use Rattle.format_toml.specs.declared.characters.Characters.TheVariants.{Literal, White}
+use Rattle.format_toml.specs.declared.characters.Characters.TheVariants.{Literal, Unquoted}
+use Rattle.format_toml.specs.declared.characters.Characters.TheVariants.{White}
 use Rattle.format_toml_tree.specs.declared.value.Item.{Item}
 use Rattle.format_toml_tree.specs.declared.value.Item.TheVariants as items
 use Rattle.format_toml_tree.specs.declared.value.Key.{Key}
@@ -21,7 +21,7 @@ use Rattle.format_toml_tree.specs.declared.value.Value as values
 use Rattle.winnow.specs.Accumulator.Holds.{HasCharacters}
 use Rattle.winnow.specs.Texts.{Among, AtLeast, Holding, InList, Joined, Members, OneOf}
 use Rattle.winnow.specs.Texts.{Perhaps, Row, Spelled, Text, Then}
-use Rattle.winnow.specs.Decimal.{IsSignedDecimalOf}
+use Rattle.format_toml.specs.Numbers.{IntegerText}
 
 -- ---- characters
 
@@ -35,14 +35,21 @@ IsBare c =
     ((65 ≤ c) × (c ≤ 90)) ⊎ (((97 ≤ c) × (c ≤ 122)) ⊎ (((48 ≤ c) × (c ≤ 57))
     ⊎ ((c ≡ 45) ⊎ (c ≡ 95))))
 
+-- of numbers, dates and times: letters, digits, and + - . : _
+abbrev pub IsUnquoted : ℕ → Type 0
+IsUnquoted c =
+    ((48 ≤ c) × (c ≤ 58)) ⊎ (((65 ≤ c) × (c ≤ 90)) ⊎ (((97 ≤ c) × (c ≤ 122))
+    ⊎ ((c ≡ 43) ⊎ (((45 ≤ c) × (c ≤ 46)) ⊎ (c ≡ 95)))))
+
 -- the characters of a bare key, of a comment, of a literal string, those of a basic string that
--- stand for themselves, and white space
+-- stand for themselves, white space, and those of numbers, dates and times
 abbrev pub IsOf : Characters → ℕ → Type 0
 IsOf Bare c = IsBare c
 IsOf Comment c = IsShown c
 IsOf Literal c = IsShown c × (c ≡ 39 → ⊥)
 IsOf Basic c = IsShown c × ((c ≡ 34 → ⊥) × (c ≡ 92 → ⊥))
 IsOf White c = IsSpace c
+IsOf Unquoted c = IsUnquoted c
 
 -- escape-seq-char: the character behind a backslash, and that for which both stand; of b a
 -- backspace, of t a tab, of n a line feed, of f a form feed, of r a carriage return, of " and \
@@ -149,12 +156,6 @@ true_word = 116 ∷ 114 ∷ 117 ∷ 101 ∷ []
 abbrev pub false_word : List ℕ
 false_word = 102 ∷ 97 ∷ 108 ∷ 115 ∷ 101 ∷ []
 
--- dec-int, of 64 bits: digits with a sign before them or without, and no leading zeros
-unfoldable pub IntegerText : Text ℕ ℤ
-IntegerText n tokens =
-    (sign : List ℕ) × (digits : List ℕ) × IsSignedDecimalOf sign digits n × FitsSigned w64 n
-    × (tokens ≡ sign ++ digits)
-
 module _ {A : Type 0} where
   -- so many characters of a set or more
   abbrev pub CharactersText : Characters → ℕ → Text ℕ (String A)
@@ -172,14 +173,15 @@ module _ {A : Type 0} where
   abbrev pub BooleanText : List ℕ → Bool → Text ℕ (Value A)
   BooleanText word is = For IsBoolean (Spelled word is)
 
-  abbrev pub WholeText : Text ℕ (Value A)
-  WholeText = For IsInteger IntegerText
+  -- an integer, for its value
+  abbrev pub PlainText : Text ℕ (Value A)
+  PlainText = For IsInteger IntegerText
 
   -- a string, a boolean or an integer
   abbrev pub ScalarText : Text ℕ (Value A)
   ScalarText =
       Among (For IsText BasicText) (Among (For IsText LiteralText)
-      (Among (BooleanText true_word true) (Among (BooleanText false_word false) WholeText)))
+      (Among (BooleanText true_word true) (Among (BooleanText false_word false) PlainText)))
 
   -- ---- keys
 

@@ -1,34 +1,28 @@
 -- What stands by the grammars of values and lines leaves one rest.
-use Rattle.std.specs.Prelude.{◌≡◌, ℕ, zero, suc, true, false, FitsSigned, None}
-use Rattle.std.specs.Int.{w64}
-use Rattle.winnow.specs.Text.{text_reading}
-use Rattle.winnow.specs.Form.{modal}
+use Rattle.std.specs.Prelude.{◌≡◌, ℕ, zero, suc, true, false, None}
 use Rattle.winnow.specs.Range.{from_to}
 use Rattle.format_toml.specs.Words.{char_unique, word_unique}
 use Rattle.format_json_texts.specs.Words.{former, latter}
 use Rattle.format_toml.specs.Escapes.{character_unique}
 use Rattle.format_toml.specs.Grammars.{AnyCharacters, AnyItem, AnyKey, AnyValue, Array, BasicString}
-use Rattle.format_toml.specs.Grammars.{Entry, Header, Inline, Integer, Line, LiteralString, Name}
+use Rattle.format_toml.specs.Grammars.{Entry, Header, Inline, IsPlain, Line, LiteralString, Name}
 use Rattle.format_toml.specs.Grammars.{Names, Pair, Scalar, Table}
 use Rattle.format_toml.specs.Led.{led_unique}
-use Rattle.format_toml.specs.Toml.{IsArray, IsBoolean, IsEntry, IsInline, IsInteger, IsKey}
+use Rattle.format_toml.specs.Toml.{IsArray, IsBoolean, IsEntry, IsInline, IsKey}
 use Rattle.format_toml.specs.Toml.{IsTable, IsTables, IsText, Tells, false_word, true_word}
 use Rattle.format_toml.specs.UniqueSpaces.{comment_unique, gapped_unique, mark_unique}
+use Rattle.format_toml.specs.UniqueSpaces.{members_unique}
 use Rattle.format_toml.specs.UniqueSpaces.{spaced_unique, wide_mark_unique, ws_unique}
 use Rattle.format_toml.specs.declared.characters.Characters.{Characters}
 use Rattle.format_toml.specs.declared.characters.Characters.TheVariants.{Bare, Literal}
+use Rattle.format_toml.specs.declared.characters.Characters.TheVariants.{Unquoted}
 use Rattle.format_toml_tree.specs.declared.value.Value.{Value}
-use Rattle.winnow.specs.Numeral.Exact.{dec_int_exact}
 use Rattle.winnow.specs.Grammar.{Grammar, IsUnique}
 use Rattle.winnow.specs.Grammar.Meaning.{meaning_unique}
 use Rattle.winnow.specs.Grammar.Sequences.{three_unique}
 use Rattle.winnow.specs.Grammar.Unique.{both_unique, gathered_unique, many_unique, maybe_unique}
 use Rattle.winnow.specs.Grammar.Unique.{parted_unique, token_of_unique}
 use Rattle.winnow.specs.Accumulator.Holds.{HasCharacters}
-
-integer_unique : IsUnique Integer
-integer_unique = (dec_int_exact (λ c. c) (λ c. c) text_reading (λ n. n) (FitsSigned w64) modal
-    (λ t u e. e)).unique
 
 module _ {A : Type 0} where
   characters_unique : (set : Characters) (least : ℕ) → IsUnique (AnyCharacters {A = A} set least)
@@ -52,7 +46,7 @@ module _ {A : Type 0} where
       (led_unique _ (meaning_unique IsText literal_unique)
       (led_unique _ (meaning_unique IsBoolean (word_unique true_word true))
       (led_unique _ (meaning_unique IsBoolean (word_unique false_word false))
-      (meaning_unique IsInteger integer_unique))))
+      (meaning_unique IsPlain (members_unique Unquoted 1)))))
 
   pub name_unique : IsUnique (Name {A = A})
   name_unique = led_unique _ basic_unique (led_unique _ literal_unique (characters_unique Bare 1))

@@ -30,7 +30,7 @@ newline_unique =
     either_unique (char_unique 10) (both_unique latter (char_unique 13) (char_unique 10))
 
 -- characters of a set, as they stand in the text
-members_unique : (set : Characters) (least : ℕ)
+pub members_unique : (set : Characters) (least : ℕ)
     → IsUnique (Longest text_reading (λ c. c) Tells set (from_to least None))
 members_unique set least =
     longest_unique text_reading (λ c. c) Tells set (from_to least None)

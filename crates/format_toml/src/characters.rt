@@ -1,6 +1,6 @@
 //! Characters of keys, strings and comments (TOML 1.0: Comment, Keys, String).
 ghost use Rattle.std.specs.Prelude.{◌↔◌, IsTrue};
-ghost use Rattle.format_toml.specs.Toml.{IsBare, IsOf, IsShown};
+ghost use Rattle.format_toml.specs.Toml.{IsBare, IsOf, IsShown, IsUnquoted};
 ghost use Rattle.winnow.specs.Once.{holds_once};
 
 use winnow::stream::ContainsToken;
@@ -16,6 +16,7 @@ use winnow::stream::ContainsToken;
 /// assert!(rt; !Characters::Comment.contains_token('\u{7f}'));
 /// assert!(rt; !Characters::Literal.contains_token('\''));
 /// assert!(rt; Characters::Basic.contains_token('\t'));
+/// assert!(rt; !Characters::Unquoted.contains_token(','));
 /// ```
 #[derive(Clone, Copy, Drop)]
 pub enum Characters {
@@ -29,6 +30,8 @@ pub enum Characters {
     Basic,
     /// Those of white space on a line: a space, and a tab.
     White,
+    /// Those of numbers, dates and times: letters and digits of ASCII, `+`, `-`, `.`, `:` and `_`.
+    Unquoted,
 }
 
 /// Whether it is one of a bare key.
@@ -49,6 +52,18 @@ fn is_shown(c: char) -> bool
     c == '\t' || (' ' <= c && c <= '~') || '\u{80}' <= c
 }
 
+/// Whether it is one of a number, a date or a time.
+fn is_unquoted(c: char) -> bool
+    ensures { IsTrue result ↔ IsUnquoted c }
+{
+    ('0' <= c && c <= ':')
+        || ('A' <= c && c <= 'Z')
+        || ('a' <= c && c <= 'z')
+        || c == '+'
+        || ('-' <= c && c <= '.')
+        || c == '_'
+}
+
 impl ContainsToken<char> for Characters {
     ghost tells = { λ s c b. IsTrue b ↔ IsOf s c };
 
@@ -61,6 +76,7 @@ impl ContainsToken<char> for Characters {
             Characters::Literal => is_shown(token) && token != '\'',
             Characters::Basic => is_shown(token) && token != '"' && token != '\\',
             Characters::White => token == ' ' || token == '\t',
+            Characters::Unquoted => is_unquoted(token),
         }
     }
 }

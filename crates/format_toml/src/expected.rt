@@ -264,8 +264,8 @@ fn line_of<'i, A: Allocator + Copy>(
 ///
 /// let lack = first_lack(alloc, 1, "[server]\nport 80");
 /// assert!(rt; lack == Ok(Some(Lack { expected: Expected::EqualsSign, rest: "80" })));
-/// let lack = first_lack(alloc, 1, "port = 080");
-/// assert!(rt; lack == Ok(Some(Lack { expected: Expected::LineEnd, rest: "80" })));
+/// let lack = first_lack(alloc, 1, "port = 80 90");
+/// assert!(rt; lack == Ok(Some(Lack { expected: Expected::LineEnd, rest: "90" })));
 /// assert!(rt; first_lack(alloc, 1, "port = 80 # of it\n") == Ok(None));
 /// ```
 pub fn first_lack<'i, A: Allocator + Copy>(

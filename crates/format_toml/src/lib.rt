@@ -23,8 +23,7 @@
 //! Where this differs from the standard:
 //!
 //! - Strings are on one line.
-//! - Integers are decimal, of 64 bits, without underscores, and a zero has no sign; floats, dates
-//!   and times are not read.
+//! - Floats, dates and times are not read. Integers are of 64 bits.
 //! - Arrays and inline tables are nested to a level, which the caller gives.
 //!
 //! The standard has no byte order mark, so a text that begins with one is none.
@@ -34,12 +33,14 @@ pub mod characters;
 mod escapes;
 pub mod expected;
 mod gaps;
+mod integers;
 mod keys;
 pub mod lines;
 mod marks;
 pub mod messages;
 mod parts;
 mod passed;
+mod plain;
 mod scalars;
 mod strings;
 mod turns;

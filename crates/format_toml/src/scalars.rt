@@ -2,17 +2,17 @@
 ghost use Rattle.std.specs.Prelude.{◌≡◌};
 ghost use Rattle.std.specs.Str.{chars};
 ghost use Rattle.winnow.specs.Text.{text_input, text_reading};
-ghost use Rattle.format_toml.specs.Grammars.{AnyBoolean, BasicString, Integer, LiteralString};
-ghost use Rattle.format_toml.specs.Grammars.{Scalar, Whole};
+ghost use Rattle.format_toml.specs.Grammars.{AnyBoolean, BasicString, LiteralString};
+ghost use Rattle.format_toml.specs.Grammars.{Scalar};
 ghost use Rattle.format_toml.specs.Toml.{IsText};
 ghost use Rattle.winnow.specs.Exact.{Reads};
 ghost use Rattle.winnow.specs.Grammar.Meaning.{Meaning};
 
+use crate::plain::read_plain;
 use crate::strings::{begins_with, read_basic, read_literal};
 use format_toml_tree::value::Value;
 use std::alloc::Allocator;
 use winnow::Parser;
-use winnow::ascii::impls::DecInt;
 use winnow::error::{EmptyError, ErrMode, HasKind};
 use winnow::token::literal;
 
@@ -62,25 +62,6 @@ fn read_boolean<A: Allocator>(
     }
 }
 
-/// An integer.
-fn read_integer<'i>(input: &mut &'i str) -> Result<i64, ErrMode<EmptyError>>
-    ensures { Reads text_reading ⟦<ErrMode<EmptyError> as HasKind>⟧.kind Integer
-        (text_input input.old.now) result (text_input input.new.now) }
-{
-    DecInt.read(input)
-}
-
-/// An integer, as a value.
-fn read_whole<A: Allocator>(input: &mut &str) -> Result<Value<A>, ErrMode<EmptyError>>
-    ensures { Reads text_reading ⟦<ErrMode<EmptyError> as HasKind>⟧.kind Whole
-        (text_input input.old.now) result (text_input input.new.now) }
-{
-    match read_integer(input) {
-        Ok(number) => Ok(Value::Integer(number)),
-        Err(error) => Err(error),
-    }
-}
-
 /// The string, the boolean or the integer that stands first.
 pub fn read_scalar<A: Allocator + Copy>(
     alloc: A,
@@ -101,5 +82,5 @@ pub fn read_scalar<A: Allocator + Copy>(
     if begins_with(input, 'f') {
         return read_boolean("false", false, input);
     }
-    read_whole(input)
+    read_plain(input)
 }

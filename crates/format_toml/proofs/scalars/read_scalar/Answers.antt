@@ -33,4 +33,4 @@ returns g c =
     reads_other _ _ _ (c.begins_with.ensures.no (search rules))
     (reads_other _ _ _ (c.begins_with-2.ensures.no (search rules))
     (reads_other _ _ _ (c.begins_with-3.ensures.no (search rules))
-    (reads_other _ _ _ (c.begins_with-4.ensures.no (search rules)) c.read_whole.ensures)))
+    (reads_other _ _ _ (c.begins_with-4.ensures.no (search rules)) c.read_plain.ensures)))
