@@ -45,6 +45,8 @@ READERS = [
         "the tree that lines give, or the first line that the standard refuses, and why"),
     ("HTTP/1.1 heads (RFC 9112)", "format_http/heads", "yes",
         "the request line, field line and head that bytes begin with"),
+    ("HTTP/1.1 lengths of bodies", "format_http/bodies", "no",
+        "how long the body of a message is, or why the message is refused, by the standard's rules"),
     ("HTTP/1.1 size lines of chunks", "format_http/chunks", "yes",
         "the size line that bytes begin with, with its extensions, whole and in pieces"),
     ("HTTP/1.1 heads, in pieces", "format_http/pieces", "no",
