@@ -47,6 +47,8 @@ READERS = [
         "the request line, field line and head that bytes begin with"),
     ("HTTP/1.1 lengths of bodies", "format_http/bodies", "no",
         "how long the body of a message is, or why the message is refused, by the standard's rules"),
+    ("HTTP/1.1 heads of responses", "format_http/responses", "yes",
+        "the status line and the head of a response that bytes begin with"),
     ("HTTP/1.1 size lines of chunks", "format_http/chunks", "yes",
         "the size line that bytes begin with, with its extensions, whole and in pieces"),
     ("HTTP/1.1 heads, in pieces", "format_http/pieces", "no",

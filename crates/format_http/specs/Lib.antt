@@ -3,3 +3,4 @@ pub mod Bodies
 pub mod Chunks
 pub mod Heads
 pub mod Pieces
+pub mod Responses
