@@ -7,4 +7,6 @@ mod field_lines;
 #[cfg(test)]
 mod heads;
 #[cfg(test)]
+mod named;
+#[cfg(test)]
 mod request_lines;

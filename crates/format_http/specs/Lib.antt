@@ -1,4 +1,6 @@
 -- Written by scripts/registries.py: do not edit.
+pub mod Bodies
 pub mod Chunks
 pub mod Heads
 pub mod Pieces
+pub mod Responses

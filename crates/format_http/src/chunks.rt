@@ -7,9 +7,9 @@
 //! and no line feed alone; the data of a chunk, which is as many bytes as the size says, and its
 //! line end, are for the caller to take, and so is the trailer section behind the last chunk
 //! (section 7.1.2).
-mod framing;
+pub(crate) mod framing;
 mod lines;
-mod numbers;
+pub(crate) mod numbers;
 pub mod refusals;
 mod sets;
 pub mod size_line;

@@ -1,7 +1,10 @@
-//! Requests of HTTP/1.1 (RFC 9112): their heads, whole and in pieces; the size lines of chunks; and
-//! why a server must refuse a request.
+//! Messages of HTTP/1.1 (RFC 9112): the heads of requests, whole and in pieces, and of responses;
+//! how long the body of a message is; the size lines of chunks; and why a server must refuse a
+//! request.
 #![tactic(auto)]
 
+pub mod bodies;
 pub mod chunks;
 pub mod heads;
 pub mod pieces;
+pub mod responses;

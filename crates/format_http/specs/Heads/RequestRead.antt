@@ -60,7 +60,7 @@ VersionStands bytes v rest =
     (v.0 < 10) × (v.1 < 10) × (bytes ≡ protocol ++ (digits v.0 v.1 ++ (line_end ++ rest)))
 
 -- by `separated_pair(.., b'.', ..)`
-abbrev Numbers : Grammar ℕ (ℕ × ℕ)
+abbrev pub Numbers : Grammar ℕ (ℕ × ℕ)
 Numbers = Three (λ major _ minor. (major, minor)) DigitStands (Byte 46) DigitStands
 
 -- by `delimited(b" HTTP/", .., b"\r\n")`
@@ -115,7 +115,7 @@ module _ (first last : Bor (List ℕ)) (begins : first.now ≡ protocol) (ends :
     pub same_version : Same (VersionRead first last) VersionStands
     same_version = record { there = version_there; back = version_back }
 
-numbers_unique : IsUnique Numbers
+pub numbers_unique : IsUnique Numbers
 numbers_unique = three_unique {O = ℕ × ℕ} (λ major _ minor. (major, minor)) digit_unique
     (byte_unique 46) digit_unique
 

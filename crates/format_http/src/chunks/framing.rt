@@ -25,7 +25,7 @@ pub(crate) fn first_value<'i>(fields: &[Field<'i>], name: &[u8]) -> Option<&'i [
 }
 
 /// Whether two values are the same.
-fn is_same(one: &[u8], other: &[u8]) -> bool
+pub(crate) fn is_same(one: &[u8], other: &[u8]) -> bool
     ensures { IsTrue result ↔ one.now ≡ other.now }
 {
     one == other

@@ -10,7 +10,7 @@ ghost use Rattle.winnow.specs.Digits.{value_in};
 use crate::chunks::size_line::Size;
 
 /// What a digit or a letter counts, from 0 for '0' to 35 for 'Z' and 'z'; 36 for any other byte.
-fn value_of(byte: u8) -> u64
+pub(crate) fn value_of(byte: u8) -> u64
     ensures { result ≡ digit_value byte }
 {
     match char::from(byte).to_digit(36) {

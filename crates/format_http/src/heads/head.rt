@@ -61,7 +61,7 @@ fn read_field_lines<'i, A: Allocator + Copy>(
 }
 
 /// The fields up to the empty line, and that line.
-fn read_fields<'i, A: Allocator + Copy>(
+pub(crate) fn read_fields<'i, A: Allocator + Copy>(
     alloc: A,
     input: &mut &'i [u8],
 ) -> Result<Vec<Field<'i>, A>, ErrMode<EmptyError>>

@@ -42,7 +42,7 @@ pub struct RequestLine<'i> {
 
 /// The name of what [`read_digit`] reads.
 #[derive(Clone, Copy, Drop)]
-struct Digit;
+pub(crate) struct Digit;
 
 impl<'i> Rule<&'i [u8], u8> for Digit {
     ghost grammar = { λ _. DigitStands };
@@ -57,7 +57,7 @@ impl<'i> Rule<&'i [u8], u8> for Digit {
 }
 
 /// The number of a digit.
-fn read_digit<'i>(input: &mut &'i [u8]) -> Result<u8, ErrMode<EmptyError>>
+pub(crate) fn read_digit<'i>(input: &mut &'i [u8]) -> Result<u8, ErrMode<EmptyError>>
     ensures reads { Reads bytes_reading ⟦<ErrMode<EmptyError> as HasKind>⟧.kind DigitStands
         (bytes_input input.old.now) result (bytes_input input.new.now) }
     ensures spared { IsSpared ⟦<ErrMode<EmptyError> as HasKind>⟧.kind

@@ -1,0 +1,6 @@
+pub mod Decimal
+pub mod Declared
+pub mod Elements
+pub mod Lengths
+pub mod Parts
+pub mod Unique

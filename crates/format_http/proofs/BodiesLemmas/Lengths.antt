@@ -1,0 +1,86 @@
+-- What was found so far, one step on.
+use Rattle.std.specs.Prelude.{◌≡◌, ◌⊎◌, ◌↔◌, ℕ, List, [], ◌∷◌, Option, Some, None}
+use Rattle.std.specs.Prelude.{Bool, IfSome, IsTrue}
+use Rattle.std.specs.Option.{is_some}
+use Rattle.std.specs.Borrow.{Bor}
+use Rattle.winnow.specs.Equal.{true_is_false}
+use Rattle.std.proofs.Common.{refl, sym, subst, ◌∙◌, inl, inr}
+use Rattle.format_http.specs.Bodies.Lengths.{HasLength}
+use Rattle.format_http.specs.Bodies.Lists.{HasElement, IsElement, IsThe, parts_of}
+use Rattle.format_http.specs.Chunks.Framing.{HasNone, HasOne, HasValue, IsNamed}
+use Rattle.format_http.specs.Chunks.Framing.{content_length}
+use Rattle.format_http.specs.Heads.Head.{Pair}
+
+pub both_ways : {P Q R : Type 0} → (P ↔ Q) → (Q ↔ R) → P ↔ R
+both_ways x y = ((λ p. y.0 (x.0 p)), (λ r. x.1 (y.1 r)))
+
+-- the element of a part is one of the whole
+pub part_has : (other : Option (Bor (List ℕ))) (part : List ℕ) (parts whole : List (List ℕ))
+    (text : List ℕ) → whole ≡ part ∷ parts → (IsElement text part ↔ IsThe other text)
+    → IsThe other text → HasElement text whole
+part_has other part parts whole text e is x =
+    let P : List (List ℕ) → Type 0 = λ l. HasElement text l in subst P (sym e) (inl (is.1 x))
+
+-- one field more
+pub field_more : (found one : Option (Bor (List ℕ))) (field : Pair) (fields : List Pair)
+    (text : List ℕ) → IsNamed content_length field.0
+    → ((IsThe found text ⊎ HasElement text (parts_of field.1)) ↔ IsThe one text)
+    → (IsThe one text ⊎ HasLength text fields)
+    ↔ (IsThe found text ⊎ HasLength text (field ∷ fields))
+field_more found one field fields text named is = (there, back)
+  where
+    there : IsThe one text ⊎ HasLength text fields
+        → IsThe found text ⊎ HasLength text (field ∷ fields)
+    there (inl x) = elim (is.1 x) [
+      | inl y ↦ inl y
+      | inr y ↦ inr (inl (named, y))
+    ]
+    there (inr x) = inr (inr x)
+
+    back : IsThe found text ⊎ HasLength text (field ∷ fields)
+        → IsThe one text ⊎ HasLength text fields
+    back (inl x) = inl (is.0 (inl x))
+    back (inr (inl x)) = inl (is.0 (inr x.1))
+    back (inr (inr x)) = inr x
+
+-- a field of another name
+pub other_more : (found : Option (Bor (List ℕ))) (field : Pair) (fields : List Pair)
+    (text : List ℕ) → (IsNamed content_length field.0 → ⊥)
+    → (IsThe found text ⊎ HasLength text fields)
+    ↔ (IsThe found text ⊎ HasLength text (field ∷ fields))
+other_more found field fields text not = (there, back)
+  where
+    there : IsThe found text ⊎ HasLength text fields
+        → IsThe found text ⊎ HasLength text (field ∷ fields)
+    there (inl x) = inl x
+    there (inr x) = inr (inr x)
+
+    back : IsThe found text ⊎ HasLength text (field ∷ fields)
+        → IsThe found text ⊎ HasLength text fields
+    back (inl x) = inl x
+    back (inr (inl x)) = absurd (not x.0)
+    back (inr (inr x)) = inr x
+
+-- a field has a name, or none has
+pub none_has : (name : List ℕ) (fields : List Pair) → HasNone name fields → HasOne name fields → ⊥
+none_has name [] none (value, has) = has
+none_has name (field ∷ fields) none (value, inl x) = none.0 x.0
+none_has name (field ∷ fields) none (value, inr x) = none_has name fields none.1 (value, x)
+
+-- so the value of the first says whether any has
+pub has_told : (name : List ℕ) (fields : List Pair) (found : Option (Bor (List ℕ))) (some : Bool)
+    → IfSome found (λ value. HasValue name value.now fields)
+    → (found ≡ None → HasNone name fields) → some ≡ is_some found
+    → IsTrue some ↔ HasOne name fields
+has_told name fields (Some value) some has none is =
+    ((λ t. (value.now, has)), (λ x. is))
+has_told name fields None some has none is =
+    ((λ t. true_is_false (sym t ∙ is)), (λ x. absurd (none_has name fields (none refl) x)))
+
+-- what a field of the name has, all have
+pub field_has : (found : Option (Bor (List ℕ))) (field : Pair) (fields : List Pair)
+    (text : List ℕ) → IsNamed content_length field.0
+    → IsThe found text ⊎ HasElement text (parts_of field.1)
+    → IsThe found text ⊎ HasLength text (field ∷ fields)
+field_has found field fields text named (inl x) = inl x
+field_has found field fields text named (inr x) = inr (inl (named, x))

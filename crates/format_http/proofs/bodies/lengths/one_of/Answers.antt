@@ -1,0 +1,20 @@
+use Rattle.std.proofs.Common.{refl, subst, sym}
+use Rattle.std.specs.Borrow.{Bor}
+use Rattle.std.specs.Prelude.{List, Option, ℕ}
+use Rattle.format_http.specs.Bodies.Lists.{IsThe}
+use Rattle.winnow.specs.Equal.{true_is_false}
+use Rattle.format_http.proofs.bodies.lengths.one_of.Goals as goal
+
+pub returns-else-is_same-clause-many : goal.returns-else-is_same-clause-many
+returns-else-is_same-clause-many c =
+    let text = c.in-Some-Some.text.now in
+    let more = c.in-Some-Some.more.now in
+    let P : Option (Bor (List ℕ)) → Type 0 = λ o. IsThe o text in
+    let Q : Option (Bor (List ℕ)) → Type 0 = λ o. IsThe o more in (
+      refl,
+      text,
+      more,
+      subst P (sym c.in-Some-Some.is-0) refl,
+      subst Q (sym c.in-Some-Some.is-1) refl,
+      λ e. true_is_false (sym (c.if-is_same.ensures.1 e)),
+    )

@@ -1,0 +1,5 @@
+use Rattle.format_http.specs.Heads.Parts.{err_at}
+use Rattle.format_http.proofs.responses.head.read_response_head.Goals as goal
+
+pub returns-in-Err-clause-head : goal.returns-in-Err-clause-head
+returns-in-Err-clause-head g c = err_at c.in-Err.ensures

@@ -1,0 +1,40 @@
+-- Lists in the values of fields (RFC 9110, section 5.6.1): elements with commas between them.
+use Rattle.std.specs.Prelude.{◌≡◌, ◌==◌, ◌<◌, ◌⊎◌, ◌++◌, ℕ, List, [], ◌∷◌, length, Option, Some}
+use Rattle.std.specs.Prelude.{None}
+use Rattle.std.specs.Borrow.{Bor}
+use Rattle.std.specs.List.{All, slice_split}
+use Rattle.format_http.specs.Heads.Bytes.{IsWhite}
+use Rattle.format_http.specs.Heads.FieldLine.{BeginsBare, EndsBare}
+
+-- What stands between the commas of a list.
+abbrev pub parts_of : List ℕ → List (List ℕ)
+parts_of = slice_split (λ b. b == 44)
+
+-- The element that stands in a part of a list: one byte or more, with white space alone around it,
+-- which is no part of it.
+pub record IsElement (element part : List ℕ) : Type 0 where
+  pub before : List ℕ
+  pub behind : List ℕ
+  pub splits : part ≡ before ++ (element ++ behind)
+  pub some : 0 < length element
+  pub white_before : All IsWhite before
+  pub white_behind : All IsWhite behind
+  pub begins_bare : BeginsBare element
+  pub ends_bare : EndsBare element
+
+-- The element stands in one of the parts. A part of white space alone has none, and is passed over.
+abbrev pub HasElement : List ℕ → List (List ℕ) → Type 0
+HasElement element [] = ⊥
+HasElement element (part ∷ parts) = IsElement element part ⊎ HasElement element parts
+
+-- ---- what functions return
+
+-- This text is what there is.
+abbrev pub IsThe : Option (Bor (List ℕ)) → List ℕ → Type 0
+IsThe None text = ⊥
+IsThe (Some slice) text = slice.now ≡ text
+
+-- the parts of the list, where there is one
+abbrev pub parts_in : Option (Bor (List ℕ)) → List (List ℕ)
+parts_in None = []
+parts_in (Some list) = parts_of list.now

@@ -1,0 +1,17 @@
+-- The fields of a name, in letters of either case (RFC 9110, section 5.1).
+use Rattle.std.specs.Prelude.{◌≡◌, ◌++◌, ◌∷◌, ℕ, List}
+use Rattle.std.specs.List.{All}
+use Rattle.format_http.specs.Chunks.Framing.{IsNamed}
+use Rattle.format_http.specs.declared.heads.field_line.Field.{Field}
+
+-- No field has the name.
+abbrev pub HasNo : List ℕ → List Field → Type 0
+HasNo name = All (λ field. IsNamed name field.name.now → ⊥)
+
+-- This is the first field of the name, and these fields are behind it.
+pub record IsNext (name : List ℕ) (fields : List Field) (field : Field) (behind : List Field)
+    : Type 0 where
+  pub before : List Field
+  pub splits : fields ≡ before ++ field ∷ behind
+  pub none_before : HasNo name before
+  pub is_named : IsNamed name field.name.now

@@ -1,0 +1,240 @@
+//! How long the body of a message is, by its head, or why the message must be refused (RFC 9112,
+//! section 6.3).
+#![tactic(auto)]
+
+ghost use Rattle.format_http.specs.Bodies.Framing.{IsBefore, IsBodyLength, IsCodedLength};
+ghost use Rattle.format_http.specs.Bodies.Framing.{IsTunnel, IsUndeclared, IsWithoutBody};
+ghost use Rattle.format_http.specs.Chunks.Framing.{HasOne};
+ghost use Rattle.format_http.specs.Heads.Head.{pair};
+ghost use Rattle.format_http.specs.declared.bodies.framing.Message.TheVariants.{Request};
+ghost use Rattle.std.specs.Prelude.{◌↔◌, IsTrue, map};
+
+use crate::bodies::lengths::declared_length;
+use crate::chunks::framing::{end_chunked, first_value};
+use crate::heads::field_line::Field;
+use crate::heads::head::Head;
+use std::alloc::Allocator;
+
+/// Which message a head begins.
+///
+/// ```
+/// use format_http::bodies::framing::Message;
+///
+/// let found = Message::Response { method: b"GET", status: 200 };
+/// assert!(rt; found != Message::Request);
+/// ```
+#[derive(Clone, Copy, Debug, PartialEq, Drop)]
+pub enum Message<'m> {
+    /// A request.
+    Request,
+    /// A response.
+    Response {
+        /// The method of the request that it answers, in capital letters where the request has
+        /// them: names of methods are not the same in letters of either case (RFC 9110, section
+        /// 9.1).
+        method: &'m [u8],
+        /// Its status code.
+        status: u16,
+    },
+}
+
+/// How long the body of a message is.
+///
+/// ```
+/// use format_http::bodies::framing::BodyLength;
+///
+/// assert!(rt; BodyLength::Length(0) != BodyLength::NoBody);
+/// ```
+#[derive(Clone, Copy, Debug, PartialEq, Eq, Drop)]
+pub enum BodyLength {
+    /// The message has no body: the next message begins behind its head.
+    NoBody,
+    /// The body is chunks and a trailer section, which say where they end (section 7.1). Other
+    /// codings may stand before `chunked`: what the chunks hold is then coded by these.
+    Chunked,
+    /// The body is so many bytes.
+    Length(u64),
+    /// The body is all bytes up to the end of the connection.
+    UntilClose,
+    /// What is behind the head is no body: the connection has become a tunnel.
+    Tunnel,
+}
+
+/// Why a message must be refused, since nothing says for certain where its body ends. A server
+/// answers such a request with status 400, and closes the connection; a user agent closes it and
+/// throws the response away, and a proxy answers with status 502.
+///
+/// ```
+/// use format_http::bodies::framing::FramingFault;
+///
+/// assert!(rt; FramingFault::NotChunked != FramingFault::LengthsDiffer);
+/// ```
+#[derive(Clone, Copy, Debug, PartialEq, Eq, Drop)]
+pub enum FramingFault {
+    /// A message of a version before 1.1 has a Transfer-Encoding field (section 6.1).
+    CodingBeforeVersion,
+    /// A message has both a Transfer-Encoding and a Content-Length field, by which two recipients
+    /// may take different bytes for its body (rule 3).
+    LengthBesideCoding,
+    /// The last transfer coding of a request is not `chunked`, or its Transfer-Encoding fields have
+    /// none (rule 4).
+    NotChunked,
+    /// Two elements of the Content-Length fields are not the same text (rule 5), be it in zeros
+    /// before a number.
+    LengthsDiffer,
+    /// The one element of the Content-Length fields is no number, or they have none (rule 5).
+    LengthIsNoNumber,
+    /// The length is 2<sup>64</sup> or more.
+    LengthTooLarge,
+}
+
+/// Whether the message has no body whatever its fields say.
+fn is_without_body(message: Message<'_>) -> bool
+    ensures { IsTrue result ↔ IsWithoutBody message.entry }
+{
+    match message {
+        Message::Request => false,
+        Message::Response { method, status } => {
+            method == b"HEAD".as_slice()
+                || (100 <= status && status < 200)
+                || status == 204
+                || status == 304
+        }
+    }
+}
+
+/// Whether the message makes the connection a tunnel.
+fn is_tunnel(message: Message<'_>) -> bool
+    ensures { IsTrue result ↔ IsTunnel message.entry }
+{
+    match message {
+        Message::Request => false,
+        Message::Response { method, status } => {
+            method == b"CONNECT".as_slice() && 200 <= status && status < 300
+        }
+    }
+}
+
+/// Whether a version is before 1.1.
+fn is_before(major: u8, minor: u8) -> bool
+    ensures { IsTrue result ↔ IsBefore major minor }
+{
+    major < 1 || (major == 1 && minor < 1)
+}
+
+/// Whether a field has this name.
+fn has(fields: &[Field<'_>], name: &[u8]) -> bool
+    ensures { IsTrue result ↔ HasOne name.now (map pair fields.now) }
+{
+    first_value(fields, name).is_some()
+}
+
+/// The length of a body with a transfer coding.
+fn coded_length(message: Message<'_>, fields: &[Field<'_>]) -> Result<BodyLength, FramingFault>
+    ensures { IsCodedLength message.entry (map pair fields.now) result }
+{
+    if end_chunked(fields) {
+        return Ok(BodyLength::Chunked);
+    }
+    match message {
+        Message::Request => Err(FramingFault::NotChunked),
+        Message::Response { .. } => Ok(BodyLength::UntilClose),
+    }
+}
+
+/// The length of a body of which no field says it.
+fn undeclared_length(message: Message<'_>) -> Result<BodyLength, FramingFault>
+    ensures { IsUndeclared message.entry result }
+{
+    match message {
+        Message::Request => Ok(BodyLength::NoBody),
+        Message::Response { .. } => Ok(BodyLength::UntilClose),
+    }
+}
+
+/// How long the body of a message of this version with these fields is, or why the message is
+/// refused, by the rules of section 6.3 in order.
+///
+/// 1. A response to HEAD, or of status 1xx, 204 or 304, has no body, whatever its fields say.
+/// 2. A response of status 2xx to CONNECT makes the connection a tunnel.
+/// 3. A Transfer-Encoding field in a version before 1.1, or beside a Content-Length field, is a
+///    fault.
+/// 4. Where the last transfer coding is `chunked` the body is chunks. Where it is another, a
+/// request
+///    is refused, and the body of a response ends with the connection.
+/// 5. Content-Length fields must be one numeral, be it several times, in a list or in several
+///    fields.
+/// 6. Its number is the length.
+/// 7. With neither field a request has no body.
+/// 8. With neither field the body of a response ends with the connection.
+///
+/// Names of fields and of codings are the same in letters of either case. Codings before the last
+/// one are not looked at. No memory is asked for; the time is linear in the lengths of the fields.
+///
+/// ```
+/// use format_http::bodies::framing::{BodyLength, FramingFault, Message, body_length};
+/// use format_http::heads::field_line::Field;
+///
+/// let length = Field { name: b"content-length", value: b"42, 42" };
+/// let fields = [length];
+/// let body = body_length(Message::Request, 1, 1, fields.as_slice());
+/// assert!(rt; body == Ok(BodyLength::Length(42)));
+/// let head = Message::Response { method: b"HEAD", status: 200 };
+/// assert!(rt; body_length(head, 1, 1, fields.as_slice()) == Ok(BodyLength::NoBody));
+/// let coding = Field { name: b"Transfer-Encoding", value: b"chunked" };
+/// let both = body_length(Message::Request, 1, 1, [coding, length].as_slice());
+/// assert!(rt; both == Err(FramingFault::LengthBesideCoding));
+/// ```
+pub fn body_length(
+    message: Message<'_>,
+    major: u8,
+    minor: u8,
+    fields: &[Field<'_>],
+) -> Result<BodyLength, FramingFault>
+    ensures { IsBodyLength message.entry major minor (map pair fields.now) result }
+{
+    if is_without_body(message) {
+        return Ok(BodyLength::NoBody);
+    }
+    if is_tunnel(message) {
+        return Ok(BodyLength::Tunnel);
+    }
+    let declared = has(fields, b"content-length".as_slice());
+    if has(fields, b"transfer-encoding".as_slice()) {
+        if is_before(major, minor) {
+            return Err(FramingFault::CodingBeforeVersion);
+        }
+        if declared {
+            return Err(FramingFault::LengthBesideCoding);
+        }
+        return coded_length(message, fields);
+    }
+    if declared {
+        return declared_length(fields);
+    }
+    undeclared_length(message)
+}
+
+/// How long the body of the request of this head is, or why the request is refused:
+/// [`body_length`].
+///
+/// ```
+/// use format_http::bodies::framing::{BodyLength, request_body_length};
+/// use format_http::heads::head::read_head;
+///
+/// let text = b"POST / HTTP/1.1\r\nHost: a\r\nTransfer-Encoding: gzip, chunked\r\n\r\n";
+/// let head = read_head(alloc, &mut text.as_slice());
+/// assert!(rt; matches!(head, Ok(head)
+///     if request_body_length(&head) == Ok(BodyLength::Chunked)));
+/// ```
+pub fn request_body_length<A: Allocator>(head: &Head<'_, A>) -> Result<BodyLength, FramingFault>
+    ensures { IsBodyLength Request head.now.line.major head.now.line.minor
+        (map pair head.now.fields.items) result }
+{
+    body_length(
+        Message::Request,
+        head.line.major,
+        head.line.minor,
+        &head.fields,
+    )
+}
