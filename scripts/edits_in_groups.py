@@ -141,6 +141,8 @@ class Trial:
         self.lib, self.laid, self.folder, self.edits, self.say = lib, laid, folder, edits, say
         # The names of the edits that are not refused, and of those that an answer alone refuses.
         self.missed, self.by_answer = [], []
+        # Files of proofs that a check goes without.
+        self.without = ()
 
     def checked(self, texts, only, over):
         """Checks the crate with these texts in place of its own: the status and the lines said."""
@@ -151,6 +153,8 @@ class Trial:
             for path, text in texts.items():
                 with open(f"{room}/{path}", "w", encoding="utf-8") as file:
                     file.write(text)
+            for path in self.without:
+                os.remove(f"{room}/{path}")
             words = [word for it in only for word in ("--only", it)]
             words = self.laid.words(["--jobs", "1", *words], keeps=False)
             ran = subprocess.run(

@@ -104,7 +104,24 @@ impl<'a> Stream for &'a [u8] {
     #[inline(always)]
     fn offset_for<P: TokenTest<u8> + Drop>(&self, predicate: P) -> Option<usize> {
         let all = *self;
-        for i in 0..all.len() {
+        let mut from = 0;
+        // Four in a turn: what the loop itself costs is as much as a test.
+        while all.len() - from >= 4 {
+            if predicate.test(all[from]) {
+                return Some(from);
+            }
+            if predicate.test(all[from + 1]) {
+                return Some(from + 1);
+            }
+            if predicate.test(all[from + 2]) {
+                return Some(from + 2);
+            }
+            if predicate.test(all[from + 3]) {
+                return Some(from + 3);
+            }
+            from += 4;
+        }
+        for i in from..all.len() {
             if predicate.test(all[i]) {
                 return Some(i);
             }

@@ -1,8 +1,10 @@
-use Rattle.std.proofs.Common.{rules, arith, ◌≡◌, ◌∙◌, sym, ap, ℕ, ◌+◌, ◌<◌, List, ◌∷◌, ◌++◌, length}
-use Rattle.std.proofs.Common.{false, take, drop, refl, get_or}
+use Rattle.std.proofs.Common.{rules, arith, ◌≡◌, ◌∙◌, sym, ap, subst, ℕ, ◌+◌, ◌<◌, List, ◌∷◌, ◌++◌}
+use Rattle.std.proofs.Common.{Bool, true, false, take, drop, refl, get_or, length, Some}
+use Rattle.std.specs.List.{All}
 use Rattle.std.proofs.lemmas.List.{take-append-drop, drop_more, length-take-le, take_all}
 use Rattle.std.proofs.lemmas.List.Elements.{All-more}
-use Rattle.streams.specs.Stream.{AnswersSeen}
+use Rattle.streams.specs.Bytes.{bytes_reading}
+use Rattle.streams.specs.Stream.{AnswersSeen, FindsFirst}
 use Rattle.streams.proofs.bytes.RefSliceU8Stream.offset_for.Goals as goal
 
 -- a list about its element i
@@ -10,26 +12,81 @@ about : {X : Type 0} (xs : List X) (i : ℕ) (d : X) → i < length xs
     → xs ≡ take i xs ++ get_or xs i d ∷ drop (i + 1) xs
 about xs i d h = sym (take-append-drop i xs) ∙ ap (λ ys. take i xs ++ ys) (drop_more xs i d h)
 
+module _ (answers : ℕ → Bool → Type 0) where
+  -- none of these is one that is sought
+  abbrev Without : List ℕ → Type 0
+  Without xs = All (λ x. AnswersSeen (λ t. t) answers x false) xs
+
+  -- so of one more
+  past : (xs : List ℕ) (i : ℕ) → i < length xs → Without (take i xs) → answers (get_or xs i 0) false
+      → (next : ℕ) → i + 1 ≡ next → Without (take next xs)
+  past xs i h none not next e =
+      subst (λ n. Without (take n xs)) e
+      (All-more (λ x. AnswersSeen (λ t. t) answers x false) xs i 0 h none (get_or xs i 0, refl, not))
+
+  -- the first that is sought
+  found : (xs : List ℕ) (i : ℕ) → i < length xs → Without (take i xs) → answers (get_or xs i 0) true
+      → FindsFirst (AnswersSeen (λ t. t) answers) bytes_reading.units xs (Some i)
+  found xs i h none is = (
+    take i xs,
+    get_or xs i 0,
+    drop (i + 1) xs,
+    about xs i 0 h,
+    none,
+    (get_or xs i 0, refl, is),
+    sym (length-take-le i xs (omega (arith, h))),
+  )
+
 pub returns-then-test : goal.returns-then-test
 returns-then-test g c =
+    found (g.P.TokenTest.answers c.args.predicate) c.args.self.now.now c.loop-from.from (omega arith) c.loop-from.invariant.1 (search rules)
+
+pub returns-then-test-2 : goal.returns-then-test-2
+returns-then-test-2 g c =
     let xs = c.args.self.now.now in
-    let i = c.loop-i.i in
-    let h : i < length xs = omega arith in (
-      take i xs,
-      get_or xs i 0,
-      drop (i + 1) xs,
-      about xs i 0 h,
-      c.loop-i.invariant,
-      (get_or xs i 0, refl, search rules),
-      sym (length-take-le i xs (omega arith)),
-    )
+    let i = c.loop-from.from in
+    let a = g.P.TokenTest.answers c.args.predicate in
+    let one = past a xs i (omega arith) c.loop-from.invariant.1 (search rules) (i + 1) refl in
+    found a xs (i + 1) (omega arith) one (search rules)
+
+pub returns-then-test-3 : goal.returns-then-test-3
+returns-then-test-3 g c =
+    let xs = c.args.self.now.now in
+    let i = c.loop-from.from in
+    let a = g.P.TokenTest.answers c.args.predicate in
+    let one = past a xs i (omega arith) c.loop-from.invariant.1 (search rules) (i + 1) refl in
+    let two = past a xs (i + 1) (omega arith) one (search rules) (i + 2) (omega arith) in
+    found a xs (i + 2) (omega arith) two (search rules)
+
+pub returns-then-test-4 : goal.returns-then-test-4
+returns-then-test-4 g c =
+    let xs = c.args.self.now.now in
+    let i = c.loop-from.from in
+    let a = g.P.TokenTest.answers c.args.predicate in
+    let one = past a xs i (omega arith) c.loop-from.invariant.1 (search rules) (i + 1) refl in
+    let two = past a xs (i + 1) (omega arith) one (search rules) (i + 2) (omega arith) in
+    let three = past a xs (i + 2) (omega arith) two (search rules) (i + 3) (omega arith) in
+    found a xs (i + 3) (omega arith) three (search rules)
+
+pub loop-from-preserved : goal.loop-from-preserved
+loop-from-preserved g c =
+    let xs = c.args.self.now.now in
+    let i = c.loop-from.from in
+    let a = g.P.TokenTest.answers c.args.predicate in
+    let one = past a xs i (omega arith) c.loop-from.invariant.1 (search rules) (i + 1) refl in
+    let two = past a xs (i + 1) (omega arith) one (search rules) (i + 2) (omega arith) in
+    let three = past a xs (i + 2) (omega arith) two (search rules) (i + 3) (omega arith) in
+    let four = past a xs (i + 3) (omega arith) three (search rules) (i + 4) (omega arith) in
+    (omega arith, four)
+
+pub returns-then-test-5 : goal.returns-then-test-5
+returns-then-test-5 g c =
+    found (g.P.TokenTest.answers c.args.predicate) c.args.self.now.now c.loop-i.i (omega arith) c.loop-i.invariant (search rules)
 
 pub loop-i-preserved : goal.loop-i-preserved
 loop-i-preserved g c =
-    let xs = c.args.self.now.now in
-    All-more (λ x. AnswersSeen (λ t. t) (g.P.TokenTest.answers c.args.predicate) x false) xs
-    c.loop-i.i 0 (omega arith) c.loop-i.invariant
-    (get_or xs c.loop-i.i 0, refl, search rules)
+    past (g.P.TokenTest.answers c.args.predicate) c.args.self.now.now c.loop-i.i (omega arith) c.loop-i.invariant (search rules)
+    (c.loop-i.i + 1) refl
 
 pub returns : goal.returns
 returns g c = let xs = c.args.self.now.now
