@@ -105,8 +105,8 @@ impl<'a> Stream for &'a [u8] {
     fn offset_for<P: TokenTest<u8> + Drop>(&self, predicate: P) -> Option<usize> {
         let all = *self;
         let mut from = 0;
-        // Four in a turn: what the loop itself costs is as much as a test.
-        while all.len() - from >= 4 {
+        // Most runs are short. Four tests in a turn: the loop itself costs as much as one.
+        'short: while from < 16 && all.len() - from >= 4 {
             if predicate.test(all[from]) {
                 return Some(from);
             }
@@ -120,6 +120,17 @@ impl<'a> Stream for &'a [u8] {
                 return Some(from + 3);
             }
             from += 4;
+        }
+        // In a long one sixteen, with no exit between them, so that they can be vectors.
+        'long: while all.len() - from >= 16 {
+            let mut is_found = false;
+            for next in 0..16 {
+                is_found = predicate.test(all[from + next]) | is_found;
+            }
+            if is_found {
+                break 'long;
+            }
+            from += 16;
         }
         for i in from..all.len() {
             if predicate.test(all[i]) {
