@@ -37,3 +37,17 @@ fn slices(rt: HostRuntime) {
     assert_eq!(rt; input.next_slice(4), b"ab;c".as_slice());
     assert_eq!(rt; input.next_token(), None);
 }
+
+/// Looks in texts of each length up to 64 for a byte that stands at each place.
+#[test]
+fn runs_of_each_length(rt: HostRuntime) {
+    for place in 0..64 {
+        let mut text = [b'a'; 64];
+        text[place] = b';';
+        for length in 0..65 {
+            let input = &text[..length];
+            let wanted = if place < length { Some(place) } else { None };
+            assert_eq!(rt; input.offset_for(|b: u8| b == b';'), wanted, "{place} of {length}");
+        }
+    }
+}

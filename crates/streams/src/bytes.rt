@@ -121,16 +121,16 @@ impl<'a> Stream for &'a [u8] {
             }
             from += 4;
         }
-        // In a long one sixteen, with no exit between them, so that they can be vectors.
-        'long: while all.len() - from >= 16 {
+        // In a longer run eight, with no exit between them, so that they can be vectors.
+        'long: while all.len() - from >= 8 {
             let mut is_found = false;
-            for next in 0..16 {
+            for next in 0..8 {
                 is_found = predicate.test(all[from + next]) | is_found;
             }
             if is_found {
                 break 'long;
             }
-            from += 16;
+            from += 8;
         }
         for i in from..all.len() {
             if predicate.test(all[i]) {

@@ -106,7 +106,7 @@ long-preserved g c =
     let xs = c.args.self.now.now in
     let none = c.loop-next.invariant c.if-is_found.false in
     let a = g.P.TokenTest.answers c.args.predicate in
-    (omega arith, at a xs (c.long.from + c.loop-next.next) (c.long.from + 16) none (omega arith))
+    (omega arith, at a xs (c.long.from + c.loop-next.next) (c.long.from + 8) none (omega arith))
 
 pub returns-then-test-5 : goal.returns-then-test-5
 returns-then-test-5 g c =
