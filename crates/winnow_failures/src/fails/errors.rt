@@ -1,0 +1,39 @@
+//! Adapters of errors.
+ghost use Rattle.winnow_comb.specs.BacktrackErr.{backtrack_err_parser};
+ghost use Rattle.winnow_comb.specs.CutErr.{cut_err_parser};
+ghost use Rattle.winnow_failures.specs.Fails.Errors.{backtrack_err_fail, cut_err_fail};
+ghost use Rattle.winnow_failures.specs.Fails.Words.{ForGood, NotForGood};
+
+use crate::fails::Fails;
+use stream_errors::modal::ModalError;
+use stream_errors::parser_error::ParserError;
+use streams::stream::Stream;
+use winnow_comb::combinator::impls::{BacktrackErr, CutErr};
+
+/// It fails where its part does, and cuts.
+impl<P: Fails<I, O, E>, I: Stream, O, E: ParserError<I> + ModalError> Fails<I, O, E>
+    for CutErr<P, I, O, E> {
+    ghost told = { λ p. record (P.told (cut_err_parser p)) {
+      failure = ForGood (P.told (cut_err_parser p)).failure;
+    } };
+
+    fn tell() {}
+
+    ghost tells = { λ form p is. cut_err_fail (P.tells form (cut_err_parser p) is) };
+
+    ghost takes = { λ p is some. P.takes (cut_err_parser p) is some };
+}
+
+/// It fails where its part does, and backtracks.
+impl<P: Fails<I, O, E>, I: Stream, O, E: ParserError<I> + ModalError> Fails<I, O, E>
+    for BacktrackErr<P, I, O, E> {
+    ghost told = { λ p. record (P.told (backtrack_err_parser p)) {
+      failure = NotForGood (P.told (backtrack_err_parser p)).failure;
+    } };
+
+    fn tell() {}
+
+    ghost tells = { λ form p is. backtrack_err_fail (P.tells form (backtrack_err_parser p) is) };
+
+    ghost takes = { λ p is some. P.takes (backtrack_err_parser p) is some };
+}
