@@ -65,14 +65,6 @@ pub record FailsWhere {S T O : Type 0} (s : S) (run : Runs S T O) (spares : Type
 
 -- ---- general
 
--- a failure is no want of memory
-pub never_memory : {T O P : Type 0} {g : Grammar T O} {f : Failure T} → IsFailureOf g f
-    → (tokens : List T) (rest : List T) → f tokens memory rest → P
-never_memory law tokens rest x = elim (law.kinds tokens memory rest x) [
-  | inl is ↦ absurd (cc)
-  | inr is ↦ absurd (cc)
-]
-
 -- where a failure backtracks it does not cut
 pub back_or_cut : {T O P : Type 0} {g : Grammar T O} {f : Failure T} → IsFailureOf g f
     → (tokens : List T) (rest other : List T) → f tokens backtrack rest → f tokens cut other → P

@@ -30,6 +30,19 @@ use winnow_core::parser::Parser;
 /// So a choice around `cut_err` reads by a grammar too, and the place of a fault is a function of
 /// the tokens. The words are of lists of tokens and of the grammars of the parts, and stand in
 /// `specs/Fails/Words.antt`.
+///
+/// ```
+/// use stream_errors::empty::EmptyError;
+/// use stream_errors::mode::ErrMode;
+/// use winnow_comb::combinator::cut_err;
+/// use winnow_failures::fails::Fails;
+///
+/// let mut input = b"a;".as_slice();
+/// let cuts: Result<(u8, u8), ErrMode<EmptyError>> =
+///     (b'a', cut_err(b'=')).read_failing(&mut input);
+/// assert!(rt; matches!(cuts, Err(ErrMode::Cut(_))));
+/// assert_eq!(rt; input, b";".as_slice());
+/// ```
 pub trait Fails<I: Stream, O, E: ParserError<I>>: Parser<I, O, E> {
     // What is told of it: what it reads, and how it fails.
     ghost told: { Self → Told I.Seen O };

@@ -273,7 +273,8 @@ module _ {S T O C : Type 0} {run : Runs S T O} {m : Type 0} {g : Grammar T O} {f
       → Fell all (FailsAmong g f bounds) i.left.tokens k j.left.tokens
   many_failed takes spared never i k t j is (inl (most, full, below, e, a, b)) =
       let P : Option ℕ → Type 0 = λ x. IsWithin x bounds.least in
-      let enough : bounds.least ≤ most = subst P full within in absurd (omega (arith, below, enough))
+      let enough : bounds.least ≤ most =
+      subst P full within in absurd (omega (arith, below, enough))
   many_failed {all} takes spared never i k t j is (inr (inl (some, grows, e, a, b))) =
       at_kind (λ x. Fell all (FailsAmong g f bounds) i.left.tokens x j.left.tokens) e
       (record { how = inl (refl, λ x. never x (inl (_, grows))) })

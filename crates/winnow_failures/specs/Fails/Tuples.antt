@@ -14,7 +14,8 @@ use Rattle.winnow_failures.specs.Fails.{law_beside}
 use Rattle.winnow_failures.specs.Fails.InOrder.{behind_fell, behind_law, first_fell, three_law}
 use Rattle.winnow_failures.specs.Fails.Words.{Failure, FailsBehind}
 
-pub four_law : {T O1 O2 O3 O4 : Type 0} {g1 : Grammar T O1} {g2 : Grammar T O2} {g3 : Grammar T O3} {g4 : Grammar T O4}
+pub four_law : {T O1 O2 O3 O4 : Type 0} {g1 : Grammar T O1} {g2 : Grammar T O2}
+    {g3 : Grammar T O3} {g4 : Grammar T O4}
     {f1 f2 f3 f4 : Failure T} → IsUnique g1 → IsFailureOf g1 f1
     → IsUnique g2 → IsFailureOf g2 f2
     → IsUnique g3 → IsFailureOf g3 f3
@@ -22,7 +23,8 @@ pub four_law : {T O1 O2 O3 O4 : Type 0} {g1 : Grammar T O1} {g2 : Grammar T O2} 
     → IsFailureOf (Four g1 g2 g3 g4) (FailsBehind g1 f1 (FailsBehind g2 f2 (FailsBehind g3 f3 f4)))
 unfolding Both Three Four Five Six
 four_law {O1 = O1} {O2} {O3} {O4} u1 l1 u2 l2 u3 l3 l4 =
-    law_beside {O = O1 × (O2 × O3 × O4)} (λ tokens o rest (o1, o2, o3, o4, a, b, c, x1, x2, x3, x4, e). (
+    law_beside {O = O1 × (O2 × O3 × O4)}
+    (λ tokens o rest (o1, o2, o3, o4, a, b, c, x1, x2, x3, x4, e). (
       (o1, (o2, o3, o4)),
       rest,
       (o1, (o2, o3, o4), a, x1, (o2, o3, o4, b, c, x2, x3, x4, refl), refl),
@@ -30,8 +32,10 @@ four_law {O1 = O1} {O2} {O3} {O4} u1 l1 u2 l2 u3 l3 l4 =
     (behind_law (λ o1 (others : O2 × O3 × O4). (o1, others)) u1 l1
     (three_law (λ o2 o3 o4. (o2, o3, o4)) u2 l2 u3 l3 l4))
 
-module _ {S1 S2 S3 S4 T O1 O2 O3 O4 : Type 0} {run1 : Runs S1 T O1} {run2 : Runs S2 T O2} {run3 : Runs S3 T O3} {run4 : Runs S4 T O4}
-    {m1 m2 m3 m4 : Type 0} {g1 : Grammar T O1} {g2 : Grammar T O2} {g3 : Grammar T O3} {g4 : Grammar T O4}
+module _ {S1 S2 S3 S4 T O1 O2 O3 O4 : Type 0} {run1 : Runs S1 T O1} {run2 : Runs S2 T O2}
+    {run3 : Runs S3 T O3} {run4 : Runs S4 T O4}
+    {m1 m2 m3 m4 : Type 0} {g1 : Grammar T O1} {g2 : Grammar T O2} {g3 : Grammar T O3}
+    {g4 : Grammar T O4}
     {f1 f2 f3 f4 : Failure T} {s : S1 × S2 × S3 × S4}
     (p1 : FailsWhere s.0 run1 m1 g1 f1)
     (p2 : FailsWhere s.1 run2 m2 g2 f2)
@@ -39,7 +43,8 @@ module _ {S1 S2 S3 S4 T O1 O2 O3 O4 : Type 0} {run1 : Runs S1 T O1} {run2 : Runs
     (p4 : FailsWhere s.3 run4 m4 g4 f4) where
   abbrev Falls4 : List T → Kind → List T → Type 0
   Falls4 tokens k rest =
-      Fell (m1 × m2 × m3 × m4) (FailsBehind g1 f1 (FailsBehind g2 f2 (FailsBehind g3 f3 f4))) tokens k rest
+      Fell (m1 × m2 × m3 × m4) (FailsBehind g1 f1 (FailsBehind g2 f2 (FailsBehind g3 f3 f4)))
+      tokens k rest
 
   failed4 : (i : Input T) (k : Kind) (t : S1 × S2 × S3 × S4) (j : Input T) → i.status.cut ≡ false
       → SequenceRuns4 run1 run2 run3 run4 s i (Err k) t j
@@ -79,20 +84,25 @@ module _ {S1 S2 S3 S4 T O1 O2 O3 O4 : Type 0} {run1 : Runs S1 T O1} {run2 : Runs
       (p4.failed c l t.3 j on3 r4))))
 
   pub four_fail : FailsWhere s (SequenceRuns4 run1 run2 run3 run4)
-      (m1 × m2 × m3 × m4) (Four g1 g2 g3 g4) (FailsBehind g1 f1 (FailsBehind g2 f2 (FailsBehind g3 f3 f4)))
-  four_fail = fails_where (tuple4_exact (exact_of p1) (exact_of p2) (exact_of p3) (exact_of p4)) failed4
+      (m1 × m2 × m3 × m4) (Four g1 g2 g3 g4)
+      (FailsBehind g1 f1 (FailsBehind g2 f2 (FailsBehind g3 f3 f4)))
+  four_fail = fails_where (tuple4_exact (exact_of p1) (exact_of p2) (exact_of p3) (exact_of p4))
+      failed4
       (four_law p1.unique p1.law p2.unique p2.law p3.unique p3.law p4.law)
 
-pub five_law : {T O1 O2 O3 O4 O5 : Type 0} {g1 : Grammar T O1} {g2 : Grammar T O2} {g3 : Grammar T O3} {g4 : Grammar T O4} {g5 : Grammar T O5}
+pub five_law : {T O1 O2 O3 O4 O5 : Type 0} {g1 : Grammar T O1} {g2 : Grammar T O2}
+    {g3 : Grammar T O3} {g4 : Grammar T O4} {g5 : Grammar T O5}
     {f1 f2 f3 f4 f5 : Failure T} → IsUnique g1 → IsFailureOf g1 f1
     → IsUnique g2 → IsFailureOf g2 f2
     → IsUnique g3 → IsFailureOf g3 f3
     → IsUnique g4 → IsFailureOf g4 f4
     → IsFailureOf g5 f5
-    → IsFailureOf (Five g1 g2 g3 g4 g5) (FailsBehind g1 f1 (FailsBehind g2 f2 (FailsBehind g3 f3 (FailsBehind g4 f4 f5))))
+    → IsFailureOf (Five g1 g2 g3 g4 g5)
+    (FailsBehind g1 f1 (FailsBehind g2 f2 (FailsBehind g3 f3 (FailsBehind g4 f4 f5))))
 unfolding Both Three Four Five Six
 five_law {O1 = O1} {O2} {O3} {O4} {O5} u1 l1 u2 l2 u3 l3 u4 l4 l5 =
-    law_beside {O = O1 × (O2 × O3 × O4 × O5)} (λ tokens o rest (o1, o2, o3, o4, o5, a, b, c, d, x1, x2, x3, x4, x5, e). (
+    law_beside {O = O1 × (O2 × O3 × O4 × O5)}
+    (λ tokens o rest (o1, o2, o3, o4, o5, a, b, c, d, x1, x2, x3, x4, x5, e). (
       (o1, (o2, o3, o4, o5)),
       rest,
       (o1, (o2, o3, o4, o5), a, x1, (o2, o3, o4, o5, b, c, d, x2, x3, x4, x5, refl), refl),
@@ -100,8 +110,10 @@ five_law {O1 = O1} {O2} {O3} {O4} {O5} u1 l1 u2 l2 u3 l3 u4 l4 l5 =
     (behind_law (λ o1 (others : O2 × O3 × O4 × O5). (o1, others)) u1 l1
     (four_law u2 l2 u3 l3 u4 l4 l5))
 
-module _ {S1 S2 S3 S4 S5 T O1 O2 O3 O4 O5 : Type 0} {run1 : Runs S1 T O1} {run2 : Runs S2 T O2} {run3 : Runs S3 T O3} {run4 : Runs S4 T O4} {run5 : Runs S5 T O5}
-    {m1 m2 m3 m4 m5 : Type 0} {g1 : Grammar T O1} {g2 : Grammar T O2} {g3 : Grammar T O3} {g4 : Grammar T O4} {g5 : Grammar T O5}
+module _ {S1 S2 S3 S4 S5 T O1 O2 O3 O4 O5 : Type 0} {run1 : Runs S1 T O1} {run2 : Runs S2 T O2}
+    {run3 : Runs S3 T O3} {run4 : Runs S4 T O4} {run5 : Runs S5 T O5}
+    {m1 m2 m3 m4 m5 : Type 0} {g1 : Grammar T O1} {g2 : Grammar T O2} {g3 : Grammar T O3}
+    {g4 : Grammar T O4} {g5 : Grammar T O5}
     {f1 f2 f3 f4 f5 : Failure T} {s : S1 × S2 × S3 × S4 × S5}
     (p1 : FailsWhere s.0 run1 m1 g1 f1)
     (p2 : FailsWhere s.1 run2 m2 g2 f2)
@@ -110,9 +122,12 @@ module _ {S1 S2 S3 S4 S5 T O1 O2 O3 O4 O5 : Type 0} {run1 : Runs S1 T O1} {run2 
     (p5 : FailsWhere s.4 run5 m5 g5 f5) where
   abbrev Falls5 : List T → Kind → List T → Type 0
   Falls5 tokens k rest =
-      Fell (m1 × m2 × m3 × m4 × m5) (FailsBehind g1 f1 (FailsBehind g2 f2 (FailsBehind g3 f3 (FailsBehind g4 f4 f5)))) tokens k rest
+      Fell (m1 × m2 × m3 × m4 × m5)
+      (FailsBehind g1 f1 (FailsBehind g2 f2 (FailsBehind g3 f3 (FailsBehind g4 f4 f5))))
+      tokens k rest
 
-  failed5 : (i : Input T) (k : Kind) (t : S1 × S2 × S3 × S4 × S5) (j : Input T) → i.status.cut ≡ false
+  failed5 : (i : Input T) (k : Kind) (t : S1 × S2 × S3 × S4 × S5) (j : Input T)
+      → i.status.cut ≡ false
       → SequenceRuns5 run1 run2 run3 run4 run5 s i (Err k) t j
       → Falls5 i.left.tokens k j.left.tokens
   failed5 i k t j is (inl (o1, o2, o3, o4, o5, a, b, c, d, r1, r2, r3, r4, r5, e)) =
@@ -163,30 +178,47 @@ module _ {S1 S2 S3 S4 S5 T O1 O2 O3 O4 O5 : Type 0} {run1 : Runs S1 T O1} {run2 
       (p5.failed d l t.4 j on4 r5)))))
 
   pub five_fail : FailsWhere s (SequenceRuns5 run1 run2 run3 run4 run5)
-      (m1 × m2 × m3 × m4 × m5) (Five g1 g2 g3 g4 g5) (FailsBehind g1 f1 (FailsBehind g2 f2 (FailsBehind g3 f3 (FailsBehind g4 f4 f5))))
-  five_fail = fails_where (tuple5_exact (exact_of p1) (exact_of p2) (exact_of p3) (exact_of p4) (exact_of p5)) failed5
+      (m1 × m2 × m3 × m4 × m5) (Five g1 g2 g3 g4 g5)
+      (FailsBehind g1 f1 (FailsBehind g2 f2 (FailsBehind g3 f3 (FailsBehind g4 f4 f5))))
+  five_fail = fails_where
+      (tuple5_exact (exact_of p1) (exact_of p2) (exact_of p3) (exact_of p4) (exact_of p5))
+      failed5
       (five_law p1.unique p1.law p2.unique p2.law p3.unique p3.law p4.unique p4.law p5.law)
 
-pub six_law : {T O1 O2 O3 O4 O5 O6 : Type 0} {g1 : Grammar T O1} {g2 : Grammar T O2} {g3 : Grammar T O3} {g4 : Grammar T O4} {g5 : Grammar T O5} {g6 : Grammar T O6}
+pub six_law : {T O1 O2 O3 O4 O5 O6 : Type 0} {g1 : Grammar T O1} {g2 : Grammar T O2}
+    {g3 : Grammar T O3} {g4 : Grammar T O4} {g5 : Grammar T O5} {g6 : Grammar T O6}
     {f1 f2 f3 f4 f5 f6 : Failure T} → IsUnique g1 → IsFailureOf g1 f1
     → IsUnique g2 → IsFailureOf g2 f2
     → IsUnique g3 → IsFailureOf g3 f3
     → IsUnique g4 → IsFailureOf g4 f4
     → IsUnique g5 → IsFailureOf g5 f5
     → IsFailureOf g6 f6
-    → IsFailureOf (Six g1 g2 g3 g4 g5 g6) (FailsBehind g1 f1 (FailsBehind g2 f2 (FailsBehind g3 f3 (FailsBehind g4 f4 (FailsBehind g5 f5 f6)))))
+    → IsFailureOf (Six g1 g2 g3 g4 g5 g6)
+    (FailsBehind g1 f1
+    (FailsBehind g2 f2 (FailsBehind g3 f3 (FailsBehind g4 f4 (FailsBehind g5 f5 f6)))))
 unfolding Both Three Four Five Six
 six_law {O1 = O1} {O2} {O3} {O4} {O5} {O6} u1 l1 u2 l2 u3 l3 u4 l4 u5 l5 l6 =
-    law_beside {O = O1 × (O2 × O3 × O4 × O5 × O6)} (λ tokens o rest (o1, o2, o3, o4, o5, o6, a, b, c, d, q, x1, x2, x3, x4, x5, x6, e). (
+    law_beside {O = O1 × (O2 × O3 × O4 × O5 × O6)}
+    (λ tokens o rest (o1, o2, o3, o4, o5, o6, a, b, c, d, q, x1, x2, x3, x4, x5, x6, e). (
       (o1, (o2, o3, o4, o5, o6)),
       rest,
-      (o1, (o2, o3, o4, o5, o6), a, x1, (o2, o3, o4, o5, o6, b, c, d, q, x2, x3, x4, x5, x6, refl), refl),
+      (
+        o1,
+        (o2, o3, o4, o5, o6),
+        a,
+        x1,
+        (o2, o3, o4, o5, o6, b, c, d, q, x2, x3, x4, x5, x6, refl),
+        refl,
+      ),
     ))
     (behind_law (λ o1 (others : O2 × O3 × O4 × O5 × O6). (o1, others)) u1 l1
     (five_law u2 l2 u3 l3 u4 l4 u5 l5 l6))
 
-module _ {S1 S2 S3 S4 S5 S6 T O1 O2 O3 O4 O5 O6 : Type 0} {run1 : Runs S1 T O1} {run2 : Runs S2 T O2} {run3 : Runs S3 T O3} {run4 : Runs S4 T O4} {run5 : Runs S5 T O5} {run6 : Runs S6 T O6}
-    {m1 m2 m3 m4 m5 m6 : Type 0} {g1 : Grammar T O1} {g2 : Grammar T O2} {g3 : Grammar T O3} {g4 : Grammar T O4} {g5 : Grammar T O5} {g6 : Grammar T O6}
+module _ {S1 S2 S3 S4 S5 S6 T O1 O2 O3 O4 O5 O6 : Type 0} {run1 : Runs S1 T O1}
+    {run2 : Runs S2 T O2} {run3 : Runs S3 T O3} {run4 : Runs S4 T O4} {run5 : Runs S5 T O5}
+    {run6 : Runs S6 T O6}
+    {m1 m2 m3 m4 m5 m6 : Type 0} {g1 : Grammar T O1} {g2 : Grammar T O2} {g3 : Grammar T O3}
+    {g4 : Grammar T O4} {g5 : Grammar T O5} {g6 : Grammar T O6}
     {f1 f2 f3 f4 f5 f6 : Failure T} {s : S1 × S2 × S3 × S4 × S5 × S6}
     (p1 : FailsWhere s.0 run1 m1 g1 f1)
     (p2 : FailsWhere s.1 run2 m2 g2 f2)
@@ -196,9 +228,13 @@ module _ {S1 S2 S3 S4 S5 S6 T O1 O2 O3 O4 O5 O6 : Type 0} {run1 : Runs S1 T O1} 
     (p6 : FailsWhere s.5 run6 m6 g6 f6) where
   abbrev Falls6 : List T → Kind → List T → Type 0
   Falls6 tokens k rest =
-      Fell (m1 × m2 × m3 × m4 × m5 × m6) (FailsBehind g1 f1 (FailsBehind g2 f2 (FailsBehind g3 f3 (FailsBehind g4 f4 (FailsBehind g5 f5 f6))))) tokens k rest
+      Fell (m1 × m2 × m3 × m4 × m5 × m6)
+      (FailsBehind g1 f1
+      (FailsBehind g2 f2
+      (FailsBehind g3 f3 (FailsBehind g4 f4 (FailsBehind g5 f5 f6))))) tokens k rest
 
-  failed6 : (i : Input T) (k : Kind) (t : S1 × S2 × S3 × S4 × S5 × S6) (j : Input T) → i.status.cut ≡ false
+  failed6 : (i : Input T) (k : Kind) (t : S1 × S2 × S3 × S4 × S5 × S6) (j : Input T)
+      → i.status.cut ≡ false
       → SequenceRuns6 run1 run2 run3 run4 run5 run6 s i (Err k) t j
       → Falls6 i.left.tokens k j.left.tokens
   failed6 i k t j is (inl (o1, o2, o3, o4, o5, o6, a, b, c, d, q, r1, r2, r3, r4, r5, r6, e)) =
@@ -206,7 +242,9 @@ module _ {S1 S2 S3 S4 S5 S6 T O1 O2 O3 O4 O5 O6 : Type 0} {run1 : Runs S1 T O1} 
   failed6 i k t j is
       (inr (inl (l, r1, same2, same3, same4, same5, same6, e))) =
       at_kind (λ x. Falls6 i.left.tokens x j.left.tokens) e
-      (first_fell g1 (FailsBehind g2 f2 (FailsBehind g3 f3 (FailsBehind g4 f4 (FailsBehind g5 f5 f6)))) (λ m. m.0)
+      (first_fell g1
+      (FailsBehind g2 f2 (FailsBehind g3 f3 (FailsBehind g4 f4 (FailsBehind g5 f5 f6))))
+      (λ m. m.0)
       (p1.failed i l t.0 j is r1))
   failed6 i k t j is
       (inr (inr (inl (o1, l, a, r1, r2, same3, same4, same5, same6, e)))) =
@@ -236,7 +274,25 @@ module _ {S1 S2 S3 S4 S5 S6 T O1 O2 O3 O4 O5 O6 : Type 0} {run1 : Runs S1 T O1} 
       (first_fell g4 (FailsBehind g5 f5 f6) (λ m. m.3)
       (p4.failed c l t.3 j on3 r4)))))
   failed6 i k t j is
-      (inr (inr (inr (inr (inr (inl (o1, o2, o3, o4, l, a, b, c, d, r1, r2, r3, r4, r5, same6, e))))))) =
+      (inr (inr (inr
+      (inr (inr (inl (
+        o1,
+        o2,
+        o3,
+        o4,
+        l,
+        a,
+        b,
+        c,
+        d,
+        r1,
+        r2,
+        r3,
+        r4,
+        r5,
+        same6,
+        e,
+      ))))))) =
       let on1 = (p1.kept i (Ok o1) t.0 a is r1).1 in
       let on2 = (p2.kept a (Ok o2) t.1 b on1 r2).1 in
       let on3 = (p3.kept b (Ok o3) t.2 c on2 r3).1 in
@@ -249,7 +305,27 @@ module _ {S1 S2 S3 S4 S5 S6 T O1 O2 O3 O4 O5 O6 : Type 0} {run1 : Runs S1 T O1} 
       (first_fell g5 (f6) (λ m. m.4)
       (p5.failed d l t.4 j on4 r5))))))
   failed6 i k t j is
-      (inr (inr (inr (inr (inr (inr (o1, o2, o3, o4, o5, l, a, b, c, d, q, r1, r2, r3, r4, r5, r6, e))))))) =
+      (inr (inr (inr
+      (inr (inr (inr (
+        o1,
+        o2,
+        o3,
+        o4,
+        o5,
+        l,
+        a,
+        b,
+        c,
+        d,
+        q,
+        r1,
+        r2,
+        r3,
+        r4,
+        r5,
+        r6,
+        e,
+      ))))))) =
       let on1 = (p1.kept i (Ok o1) t.0 a is r1).1 in
       let on2 = (p2.kept a (Ok o2) t.1 b on1 r2).1 in
       let on3 = (p3.kept b (Ok o3) t.2 c on2 r3).1 in
@@ -264,6 +340,12 @@ module _ {S1 S2 S3 S4 S5 S6 T O1 O2 O3 O4 O5 O6 : Type 0} {run1 : Runs S1 T O1} 
       (p6.failed q l t.5 j on5 r6))))))
 
   pub six_fail : FailsWhere s (SequenceRuns6 run1 run2 run3 run4 run5 run6)
-      (m1 × m2 × m3 × m4 × m5 × m6) (Six g1 g2 g3 g4 g5 g6) (FailsBehind g1 f1 (FailsBehind g2 f2 (FailsBehind g3 f3 (FailsBehind g4 f4 (FailsBehind g5 f5 f6)))))
-  six_fail = fails_where (tuple6_exact (exact_of p1) (exact_of p2) (exact_of p3) (exact_of p4) (exact_of p5) (exact_of p6)) failed6
-      (six_law p1.unique p1.law p2.unique p2.law p3.unique p3.law p4.unique p4.law p5.unique p5.law p6.law)
+      (m1 × m2 × m3 × m4 × m5 × m6) (Six g1 g2 g3 g4 g5 g6)
+      (FailsBehind g1 f1
+      (FailsBehind g2 f2
+      (FailsBehind g3 f3 (FailsBehind g4 f4 (FailsBehind g5 f5 f6)))))
+  six_fail = fails_where
+      (tuple6_exact (exact_of p1) (exact_of p2) (exact_of p3) (exact_of p4) (exact_of p5)
+      (exact_of p6)) failed6
+      (six_law p1.unique p1.law p2.unique p2.law p3.unique p3.law p4.unique p4.law p5.unique
+      p5.law p6.law)

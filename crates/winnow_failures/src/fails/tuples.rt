@@ -43,7 +43,8 @@ impl<
     P2: Fails<I, O2, E>,
     P3: Fails<I, O3, E>,
 > Fails<I, (O1, O2, O3), E> for (P1, P2, P3) {
-    ghost told = { λ p. three_told (λ o1 o2 o3. (o1, o2, o3)) (P1.told p.0) (P2.told p.1) (P3.told p.2) };
+    ghost told = { λ p. three_told (λ o1 o2 o3. (o1, o2, o3)) (P1.told p.0) (P2.told p.1)
+        (P3.told p.2) };
 
     fn tell() {}
 
@@ -51,8 +52,10 @@ impl<
         (P1.tells form p.0 is.0) (P2.tells form p.1 is.1) (P3.tells form p.2 is.2) };
 
     ghost takes = { λ p is some. three_takes (λ o1 o2 o3. (o1, o2, o3))
-        (exact_of (P1.tells modal p.0 is.0)) (exact_of (P2.tells modal p.1 is.1)) (exact_of (P3.tells modal p.2 is.2))
-        (either_way (either_way (P1.takes p.0 is.0) (P2.takes p.1 is.1)) (P3.takes p.2 is.2) some) };
+        (exact_of (P1.tells modal p.0 is.0)) (exact_of (P2.tells modal p.1 is.1))
+        (exact_of (P3.tells modal p.2 is.2))
+        (either_way (either_way (P1.takes p.0 is.0) (P2.takes p.1 is.1)) (P3.takes p.2 is.2)
+        some) };
 }
 
 /// It fails as its first that fails, behind those before it.
@@ -73,11 +76,14 @@ impl<
     fn tell() {}
 
     ghost tells = { λ form p is. four_fail
-        (P1.tells form p.0 is.0) (P2.tells form p.1 is.1) (P3.tells form p.2 is.2) (P4.tells form p.3 is.3) };
+        (P1.tells form p.0 is.0) (P2.tells form p.1 is.1) (P3.tells form p.2 is.2)
+        (P4.tells form p.3 is.3) };
 
     ghost takes = { λ p is some. tuple4_takes
-        (exact_of (P1.tells modal p.0 is.0)) (exact_of (P2.tells modal p.1 is.1)) (exact_of (P3.tells modal p.2 is.2)) (exact_of (P4.tells modal p.3 is.3))
-        (either_way (either_way (either_way (P1.takes p.0 is.0) (P2.takes p.1 is.1)) (P3.takes p.2 is.2)) (P4.takes p.3 is.3) some) };
+        (exact_of (P1.tells modal p.0 is.0)) (exact_of (P2.tells modal p.1 is.1))
+        (exact_of (P3.tells modal p.2 is.2)) (exact_of (P4.tells modal p.3 is.3))
+        (either_way (either_way (either_way (P1.takes p.0 is.0) (P2.takes p.1 is.1))
+        (P3.takes p.2 is.2)) (P4.takes p.3 is.3) some) };
 }
 
 /// It fails as its first that fails, behind those before it.
@@ -95,16 +101,22 @@ impl<
     P4: Fails<I, O4, E>,
     P5: Fails<I, O5, E>,
 > Fails<I, (O1, O2, O3, O4, O5), E> for (P1, P2, P3, P4, P5) {
-    ghost told = { λ p. five_told (P1.told p.0) (P2.told p.1) (P3.told p.2) (P4.told p.3) (P5.told p.4) };
+    ghost told = { λ p. five_told (P1.told p.0) (P2.told p.1) (P3.told p.2) (P4.told p.3)
+        (P5.told p.4) };
 
     fn tell() {}
 
     ghost tells = { λ form p is. five_fail
-        (P1.tells form p.0 is.0) (P2.tells form p.1 is.1) (P3.tells form p.2 is.2) (P4.tells form p.3 is.3) (P5.tells form p.4 is.4) };
+        (P1.tells form p.0 is.0) (P2.tells form p.1 is.1) (P3.tells form p.2 is.2)
+        (P4.tells form p.3 is.3) (P5.tells form p.4 is.4) };
 
     ghost takes = { λ p is some. tuple5_takes
-        (exact_of (P1.tells modal p.0 is.0)) (exact_of (P2.tells modal p.1 is.1)) (exact_of (P3.tells modal p.2 is.2)) (exact_of (P4.tells modal p.3 is.3)) (exact_of (P5.tells modal p.4 is.4))
-        (either_way (either_way (either_way (either_way (P1.takes p.0 is.0) (P2.takes p.1 is.1)) (P3.takes p.2 is.2)) (P4.takes p.3 is.3)) (P5.takes p.4 is.4) some) };
+        (exact_of (P1.tells modal p.0 is.0)) (exact_of (P2.tells modal p.1 is.1))
+        (exact_of (P3.tells modal p.2 is.2)) (exact_of (P4.tells modal p.3 is.3))
+        (exact_of (P5.tells modal p.4 is.4))
+        (either_way (either_way
+        (either_way (either_way (P1.takes p.0 is.0) (P2.takes p.1 is.1))
+        (P3.takes p.2 is.2)) (P4.takes p.3 is.3)) (P5.takes p.4 is.4) some) };
 }
 
 /// It fails as its first that fails, behind those before it.
@@ -124,14 +136,21 @@ impl<
     P5: Fails<I, O5, E>,
     P6: Fails<I, O6, E>,
 > Fails<I, (O1, O2, O3, O4, O5, O6), E> for (P1, P2, P3, P4, P5, P6) {
-    ghost told = { λ p. six_told (P1.told p.0) (P2.told p.1) (P3.told p.2) (P4.told p.3) (P5.told p.4) (P6.told p.5) };
+    ghost told = { λ p. six_told (P1.told p.0) (P2.told p.1) (P3.told p.2) (P4.told p.3)
+        (P5.told p.4) (P6.told p.5) };
 
     fn tell() {}
 
     ghost tells = { λ form p is. six_fail
-        (P1.tells form p.0 is.0) (P2.tells form p.1 is.1) (P3.tells form p.2 is.2) (P4.tells form p.3 is.3) (P5.tells form p.4 is.4) (P6.tells form p.5 is.5) };
+        (P1.tells form p.0 is.0) (P2.tells form p.1 is.1) (P3.tells form p.2 is.2)
+        (P4.tells form p.3 is.3) (P5.tells form p.4 is.4) (P6.tells form p.5 is.5) };
 
     ghost takes = { λ p is some. tuple6_takes
-        (exact_of (P1.tells modal p.0 is.0)) (exact_of (P2.tells modal p.1 is.1)) (exact_of (P3.tells modal p.2 is.2)) (exact_of (P4.tells modal p.3 is.3)) (exact_of (P5.tells modal p.4 is.4)) (exact_of (P6.tells modal p.5 is.5))
-        (either_way (either_way (either_way (either_way (either_way (P1.takes p.0 is.0) (P2.takes p.1 is.1)) (P3.takes p.2 is.2)) (P4.takes p.3 is.3)) (P5.takes p.4 is.4)) (P6.takes p.5 is.5) some) };
+        (exact_of (P1.tells modal p.0 is.0)) (exact_of (P2.tells modal p.1 is.1))
+        (exact_of (P3.tells modal p.2 is.2)) (exact_of (P4.tells modal p.3 is.3))
+        (exact_of (P5.tells modal p.4 is.4)) (exact_of (P6.tells modal p.5 is.5))
+        (either_way (either_way
+        (either_way (either_way (either_way (P1.takes p.0 is.0) (P2.takes p.1 is.1))
+        (P3.takes p.2 is.2)) (P4.takes p.3 is.3)) (P5.takes p.4 is.4))
+        (P6.takes p.5 is.5) some) };
 }
