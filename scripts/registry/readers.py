@@ -57,8 +57,9 @@ READERS = [
         "the size line that bytes begin with, with its extensions, whole and in pieces"),
     ("HTTP/1.1 heads, in pieces", "format_http/pieces", "no",
         "request lines, field lines and heads in pieces, and when more bytes are asked for"),
-    ("DNS: headers, and compressed names", "format_dns", "names",
-        "the header, and which part is missing; the name at a place, or why and where none is"),
+    ("DNS: headers, compressed names, questions", "format_dns", "names",
+        "the header, and which part is missing; the name at a place, and questions, or why and where "
+        "none is"),
     ("INI", "readers", "no", "`Ok` exactly where the bytes are a document of these sections"),
     ("formulas", "format_calculator", "no", "`Ok(v)` exactly where the one tree has this value"),
 ]
@@ -66,7 +67,7 @@ READERS = [
 # it explains.
 BRIEF = [
     ("CSV (RFC 4180)", ["format_csv"], "exactly; first, in pieces"),
-    ("DNS", ["format_dns"], "the header of 12 bytes; the name at a place"),
+    ("DNS", ["format_dns"], "the header; the name at a place; questions"),
     ("formulas", ["format_calculator"], "exactly"),
     ("HTTP/1.1 heads, chunk sizes", ["format_http"], "first, in pieces"),
     ("INI", ["readers"], "exactly"),

@@ -4,4 +4,8 @@
 #[cfg(test)]
 mod names;
 #[cfg(test)]
+mod questions;
+#[cfg(test)]
 mod refused;
+#[cfg(test)]
+mod shown;

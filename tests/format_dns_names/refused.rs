@@ -1,5 +1,7 @@
 //! Memory that is refused.
-use format_dns::name::{NameFault, read_name};
+use format_dns::fault::Fault;
+use format_dns::name::read_name;
+use format_dns::question::read_questions;
 use std::alloc::Global;
 use test_support::refusing::Refusing;
 
@@ -10,10 +12,26 @@ fn read_name_refused_memory(rt: HostRuntime) {
     while met {
         let heap: Refusing<Global> = Refusing::once(rt.alloc(), n);
         let name = read_name(&heap, 1, b"\x01a\0\x01b\xc0\0".as_slice(), 3);
-        let wants = matches!(name, Err(NameFault::NoMemory));
+        let wants = matches!(name, Err(Fault::NoMemory));
         met = heap.met();
         assert_eq!(rt; wants, met, "{n}");
         n += 1;
     }
     assert!(rt; n > 2);
+}
+
+#[test]
+fn read_questions_refused_memory(rt: HostRuntime) {
+    let mut met = true;
+    let mut n = 0u64;
+    while met {
+        let heap: Refusing<Global> = Refusing::once(rt.alloc(), n);
+        let message = b"\x01a\0\0\x01\0\x01\x01b\xc0\0\0\x01\0\x01".as_slice();
+        let questions = read_questions(&heap, 1, message, 0, 2);
+        let wants = matches!(questions, Err(Fault::NoMemory));
+        met = heap.met();
+        assert_eq!(rt; wants, met, "{n}");
+        n += 1;
+    }
+    assert!(rt; n > 3);
 }

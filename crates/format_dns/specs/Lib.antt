@@ -1,4 +1,11 @@
 -- Written by scripts/registries.py: do not edit.
+pub mod Alike
+pub mod FieldLaws
+pub mod Fields
 pub mod Header
 pub mod Laws
+pub mod NameLaws
 pub mod Names
+pub mod Octets
+pub mod PartLaws
+pub mod Questions

@@ -1,13 +1,13 @@
 -- Names in a message of the Domain Name System (RFC 1035, sections 3.1 and 4.1.4).
-use Rattle.std.specs.Prelude.{◌≡◌, ◌⊎◌, ◌≤◌, ◌<◌, ◌+◌, ◌*◌, ◌++◌, ℕ, zero, suc, List, [], ◌∷◌}
+use Rattle.std.specs.Prelude.{◌≡◌, ◌⊎◌, ◌≤◌, ◌<◌, ◌+◌, ◌-◌, ◌*◌, ◌++◌, ℕ, zero, suc, List, [], ◌∷◌}
 use Rattle.std.specs.Prelude.{length, None, Result, Ok, Err, ⊤}
 use Rattle.std.specs.Borrow.{Bor}
 use Rattle.winnow.specs.Range.{from_to}
-use Rattle.winnow.specs.Grammar.{Grammar, Many}
+use Rattle.winnow.specs.Grammar.{Each, Grammar, Many}
 use Rattle.format_dns.specs.declared.name.Name.{Name}
-use Rattle.format_dns.specs.declared.name.NameFault.{NameFault}
-use Rattle.format_dns.specs.declared.name.NameFault.TheVariants.{Ends, NoMemory, NotPrior}
-use Rattle.format_dns.specs.declared.name.NameFault.TheVariants.{Reserved, TooMany}
+use Rattle.format_dns.specs.declared.fault.Fault.{Fault}
+use Rattle.format_dns.specs.declared.fault.Fault.TheVariants.{Ends, NoMemory, NotPrior}
+use Rattle.format_dns.specs.declared.fault.Fault.TheVariants.{Reserved, TooLong, TooMany}
 use Rattle.format_dns.specs.declared.name.Ending.{Ending}
 use Rattle.format_dns.specs.declared.name.Ending.TheVariants.{Pointer, Root}
 
@@ -20,6 +20,11 @@ abbrev pub IsLabel : Grammar ℕ Label
 IsLabel tokens label rest =
     (1 ≤ length label.now) × (length label.now ≤ 63)
     × (tokens ≡ length label.now ∷ (label.now ++ rest))
+
+-- How many octets labels are on the wire: of each its length, and its bytes.
+abbrev pub octets : List Label → ℕ
+octets [] = 0
+octets (label ∷ labels) = 1 + length label.now + octets labels
 
 -- The root: a label of no bytes.
 abbrev pub IsRoot : List ℕ → Type 0
@@ -44,12 +49,12 @@ IsReserved tokens =
     (b : ℕ) × (rest : List ℕ) × (tokens ≡ b ∷ rest) × (64 ≤ b) × (b < 192)
 
 -- Why labels, a pointer or the root do not go on behind labels, at a place.
-abbrev pub NoEnding : List ℕ → ℕ → NameFault → Type 0
+abbrev pub NoEnding : List ℕ → ℕ → Fault → Type 0
 NoEnding tokens place fault =
     ((fault ≡ Ends place) × IsCut tokens) ⊎ ((fault ≡ Reserved place) × IsReserved tokens)
 
 -- what is told of some bytes that begin with no label
-abbrev pub EndingTold : List ℕ → ℕ → Result Ending NameFault → Type 0
+abbrev pub EndingTold : List ℕ → ℕ → Result Ending Fault → Type 0
 EndingTold tokens place (Ok Root) = IsRoot tokens
 EndingTold tokens place (Ok (Pointer to)) = IsPointer tokens to
 EndingTold tokens place (Err fault) = NoEnding tokens place fault
@@ -64,7 +69,7 @@ GoesOn others start here end rest labels behind =
     × ((more : List Label) × others to more × (labels ≡ here ++ more) × (behind ≡ end + 2)))
 
 -- Behind labels is no ending, or a pointer to no earlier place, or one to where no name begins.
-abbrev pub GoesNot : (ℕ → ℕ → NameFault → Type 0) → ℕ → ℕ → List ℕ → NameFault → Type 0
+abbrev pub GoesNot : (ℕ → ℕ → Fault → Type 0) → ℕ → ℕ → List ℕ → Fault → Type 0
 GoesNot faults start end rest fault =
     NoEnding rest end fault
     ⊎ ((to : ℕ) × IsPointer rest to
@@ -95,23 +100,39 @@ module _ (message : List ℕ) where
   IsName zero = NameBy (λ to more. ⊥)
   IsName (suc level) = NameBy (λ to more. (behind : ℕ) × IsName level to more behind)
 
-  -- the place is past the end, or behind the labels at it is nothing that a name has there
-  abbrev pub FaultBy : (ℕ → ℕ → NameFault → Type 0) → ℕ → NameFault → Type 0
-  FaultBy faults start fault =
+  -- From a place on labels stand, maybe not all that do, of more octets than these.
+  abbrev pub HasMore : ℕ → ℕ → Type 0
+  HasMore start room =
+      (tokens : List ℕ) × (here : List Label) × (rest : List ℕ) × At start tokens
+      × Each IsLabel tokens here rest × (room < octets here)
+
+  -- the place is past the end, or the labels at it have more octets than there is room for, or
+  -- behind them is nothing that a name has there
+  abbrev pub FaultBy : (ℕ → ℕ → ℕ → Fault → Type 0) → ℕ → ℕ → Fault → Type 0
+  FaultBy faults room start fault =
       ((fault ≡ Ends start) × (length message < start))
+      ⊎ (((fault ≡ TooLong start) × HasMore start room)
       ⊎ ((here : List Label) × (end : ℕ) × (rest : List ℕ) × AreLabels start here end rest
-      × GoesNot faults start end rest fault)
+      × (octets here ≤ room) × GoesNot (faults (room - octets here)) start end rest fault))
 
-  -- Why no name begins at a place, by no more than so many pointers.
-  abbrev pub HasNoName : ℕ → ℕ → NameFault → Type 0
-  HasNoName zero = FaultBy (λ end to fault. fault ≡ TooMany end)
-  HasNoName (suc level) = FaultBy (λ end to fault. HasNoName level to fault)
+  -- Why no name begins at a place, by no more than so many pointers, whose labels have no more than
+  -- so many octets.
+  abbrev pub HasNoName : ℕ → ℕ → ℕ → Fault → Type 0
+  HasNoName zero = FaultBy (λ room end to fault. fault ≡ TooMany end)
+  HasNoName (suc level) = FaultBy (λ room end to fault. HasNoName level room to fault)
 
-  -- What is told of the name that begins at a place: it is that; or why there is none, and there is
-  -- none; or memory is wanting.
-  abbrev pub NameTold : {A : Type 0} → ℕ → ℕ → Result (Name A) NameFault → Type 0
-  NameTold level start (Ok name) = IsName level start name.labels.items name.behind
-  NameTold level start (Err fault) =
+  -- What is told of the name that begins at a place, by no more than so many pointers, whose labels
+  -- have no more than so many octets: it is that; or why there is none, and there is none; or
+  -- memory is wanting.
+  abbrev pub NameWithin : {A : Type 0} → ℕ → ℕ → ℕ → Result (Name A) Fault → Type 0
+  NameWithin level room start (Ok name) =
+      IsName level start name.labels.items name.behind × (octets name.labels.items ≤ room)
+  NameWithin level room start (Err fault) =
       (fault ≡ NoMemory)
-      ⊎ (HasNoName level start fault
-      × ((labels : List Label) (behind : ℕ) → IsName level start labels behind → ⊥))
+      ⊎ (HasNoName level room start fault
+      × ((labels : List Label) (behind : ℕ) → IsName level start labels behind
+      → octets labels ≤ room → ⊥))
+
+  -- The same of any name: it has 255 octets or less, of which the last is the root's.
+  abbrev pub NameTold : {A : Type 0} → ℕ → ℕ → Result (Name A) Fault → Type 0
+  NameTold level = NameWithin level 254

@@ -119,7 +119,9 @@ fn low_flags<I: ByteStream + StreamIsPartial + Copy>(
 }
 
 /// A number of two bytes, the higher first.
-fn number<I: ByteStream + StreamIsPartial>(input: &mut I) -> Result<u16, ErrMode<EmptyError>>
+pub(crate) fn number<I: ByteStream + StreamIsPartial>(
+    input: &mut I,
+) -> Result<u16, ErrMode<EmptyError>>
     ensures number { IfOk result (λ n. IsNumber n
         (I.view input.old).left.tokens (I.view input.new).left.tokens) }
     ensures left { IfOk result (λ _. length (I.view input.old).left.tokens

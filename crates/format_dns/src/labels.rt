@@ -1,6 +1,6 @@
 //! Labels, one behind the other.
 ghost use Rattle.format_dns.specs.Names.{IsLabel};
-ghost use Rattle.std.specs.Prelude.{◌≡◌, None};
+ghost use Rattle.std.specs.Prelude.{◌≡◌, Some};
 ghost use Rattle.winnow.specs.Range.{from_to};
 ghost use Rattle.winnow.specs.Bytes.{bytes_input, bytes_reading};
 ghost use Rattle.winnow.specs.Exact.{Reads};
@@ -15,8 +15,13 @@ use winnow::error::{EmptyError, ErrMode, HasKind, ParserError};
 use winnow::stream::{Range, StreamIsPartial, ToUsize};
 use winnow::token::one_of;
 
-/// Tokens behind their number, as often as they stand one behind the other.
-fn read_sized<I, E, N, P, A>(alloc: A, count: P, input: &mut I) -> Result<Vec<I::Slice, A>, E>
+/// Tokens behind their number, as often as they stand one behind the other, up to `most` times.
+fn read_sized<I, E, N, P, A>(
+    alloc: A,
+    most: usize,
+    count: P,
+    input: &mut I,
+) -> Result<Vec<I::Slice, A>, E>
 where
     I: StreamIsPartial,
     E: ParserError<I>,
@@ -29,19 +34,21 @@ where
     ensures { Reads I.reading E.kind
         (Gathered (λ list parts. list.items ≡ parts)
         (Many (Sized N.number (Counted I.reading) (P.claim (P.state count)).grammar)
-        (from_to 0 None))) (I.view input.old) result (I.view input.new) }
+        (from_to 0 (Some most)))) (I.view input.old) result (I.view input.new) }
 {
-    repeat(alloc, Range::from(0..), length_take(count)).read(input)
+    repeat(alloc, Range::from(..=most), length_take(count)).read(input)
 }
 
-/// The labels that the bytes begin with, each behind its length from 1 to 63.
+/// The labels that the bytes begin with, each behind its length from 1 to 63: as many as stand, up
+/// to `most`.
 pub fn read_labels<'i, A: Allocator + Copy>(
     alloc: A,
+    most: usize,
     input: &mut &'i [u8],
 ) -> Result<Vec<&'i [u8], A>, ErrMode<EmptyError>>
     ensures { Reads bytes_reading ⟦<ErrMode<EmptyError> as HasKind>⟧.kind
-        (Gathered (λ list labels. list.items ≡ labels) (Many IsLabel (from_to 0 None)))
+        (Gathered (λ list labels. list.items ≡ labels) (Many IsLabel (from_to 0 (Some most))))
         (bytes_input input.old.now) result (bytes_input input.new.now) }
 {
-    read_sized(alloc, one_of(1..=63), input)
+    read_sized(alloc, most, one_of(1..=63), input)
 }

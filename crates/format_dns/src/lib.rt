@@ -1,19 +1,24 @@
-//! The header of a message of the Domain Name System (RFC 1035, section 4.1.1), and names in it
-//! with their compression (sections 3.1 and 4.1.4).
+//! The header of a message of the Domain Name System (RFC 1035, section 4.1.1), names in it with
+//! their compression (sections 3.1 and 4.1.4), and its questions (section 4.1.2).
 //!
 //! Where this differs from the standard, or chooses what it leaves open:
 //!
 //! - No value of a field of the header is refused. The three reserved bits, which are to be zero,
 //! are answered as they are, and so is an opcode or a response code that has no meaning there. The
-//!   sections after the header are for the caller to read.
+//!   records after the questions are for the caller to read.
 //! - A pointer leads to a place before the labels after which it stands ("a prior occurrence"), so
 //!   pointers never lead in a circle; and no more of them are followed than the caller says. It may
 //!   be any such place, in the header too, or in the middle of a label.
 //! - The bytes of a label are any: section 2.3.1 only prefers letters, digits and hyphens.
-//! - A name may have more than 255 octets, which section 2.3.4 forbids: whoever must refuse that
-//!   adds the lengths of its labels.
+//! - Of a name that is too long, that is what is said, whatever is behind its first 255 octets. So
+//!   of a name no more than 128 labels are looked at, whatever the message.
+//! - The name of a mailbox or a host is a name as any other, and so is that of a question. No type
+//!   and no class of a question is refused.
 #![tactic(auto)]
 
+pub mod fault;
 pub mod header;
 mod labels;
 pub mod name;
+pub mod question;
+pub mod text;

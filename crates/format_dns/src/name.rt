@@ -1,7 +1,8 @@
 //! Names.
-ghost use Rattle.format_dns.specs.Names.{EndingTold, IsLabel, NameTold};
+ghost use Rattle.format_dns.specs.Names.{EndingTold, IsLabel, NameTold, NameWithin};
 ghost use Rattle.winnow.specs.Grammar.{NoneStands};
 
+use crate::fault::Fault;
 use crate::labels::read_labels;
 use std::alloc::Allocator;
 
@@ -14,27 +15,6 @@ pub struct Name<'m, A: Allocator> {
     pub behind: usize,
 }
 
-/// Why no name begins at a place. Places are in bytes, from the start of the message.
-///
-/// ```
-/// use format_dns::name::NameFault;
-///
-/// assert!(rt; NameFault::Ends(3) != NameFault::Reserved(3));
-/// ```
-#[derive(Clone, Copy, Debug, PartialEq, Eq)]
-pub enum NameFault {
-    /// The message ends within the label, the pointer or the end of the name that begins here.
-    Ends(usize),
-    /// The byte here has one alone of its two highest bits: such labels are reserved.
-    Reserved(usize),
-    /// The pointer here leads to no place before the labels that it stands behind.
-    NotPrior(usize),
-    /// The pointer here is one more than are followed.
-    TooMany(usize),
-    /// A request for memory was refused.
-    NoMemory,
-}
-
 /// What stands behind labels.
 enum Ending {
     /// The root, which ends the name.
@@ -44,31 +24,82 @@ enum Ending {
 }
 
 /// What stands behind labels, at this place, where no label does.
-fn read_ending(rest: &[u8], place: usize) -> Result<Ending, NameFault>
+fn read_ending(rest: &[u8], place: usize) -> Result<Ending, Fault>
     requires { NoneStands IsLabel rest.now }
     ensures { EndingTold rest.now place result }
 {
     let Some((first, behind)) = rest.split_first() else {
-        return Err(NameFault::Ends(place));
+        return Err(Fault::Ends(place));
     };
     match *first {
         0 => Ok(Ending::Root),
-        1..=63 => Err(NameFault::Ends(place)),
-        64..=191 => Err(NameFault::Reserved(place)),
+        1..=63 => Err(Fault::Ends(place)),
+        64..=191 => Err(Fault::Reserved(place)),
         high => match behind.split_first() {
             Some((low, _)) => {
                 let to = usize::from(high - 192) * 256 + usize::from(*low);
                 Ok(Ending::Pointer(to))
             }
-            None => Err(NameFault::Ends(place)),
+            None => Err(Fault::Ends(place)),
         },
     }
 }
 
-/// The name that begins at a place of a message, in bytes from its start. No more than `level`
-/// pointers are followed, one after the other.
+/// The name that begins at a place, by no more than `level` pointers, whose labels have no more
+/// than `room` octets.
+fn read_within<'m, A: Allocator + Copy>(
+    alloc: A,
+    level: usize,
+    room: usize,
+    message: &'m [u8],
+    place: usize,
+) -> Result<Name<'m, A>, Fault>
+    ensures { NameWithin message.now level room place result }
+{
+    let Some(mut rest) = message.get(place..) else {
+        return Err(Fault::Ends(place));
+    };
+    let Ok(mut labels) = read_labels(alloc, room / 2 + 1, &mut rest) else {
+        return Err(Fault::NoMemory);
+    };
+    let end = message.len() - rest.len();
+    let Some(left) = room.checked_sub(end - place) else {
+        return Err(Fault::TooLong(place));
+    };
+    match read_ending(rest, end)? {
+        Ending::Root => Ok(Name {
+            labels,
+            behind: end + 1,
+        }),
+        Ending::Pointer(to) => {
+            if to >= place {
+                return Err(Fault::NotPrior(end));
+            }
+            let Some(below) = level.checked_sub(1) else {
+                return Err(Fault::TooMany(end));
+            };
+            let further = read_within(alloc, below, left, message, to)?;
+            if labels.extend_from_slice(&further.labels).is_err() {
+                return Err(Fault::NoMemory);
+            }
+            Ok(Name {
+                labels,
+                behind: end + 2,
+            })
+        }
+    }
+}
+
+/// The name that begins at a place of a message, in bytes from its start: of 255 octets or less,
+/// with those of the lengths and of the root (RFC 1035, sections 2.3.4 and 4.1.4). No more than
+/// `level` pointers are followed, one after the other; 127 suffice where each leads to a label.
 ///
-/// An error says that no name begins there, and where it fails; or that memory is wanting.
+/// No more than 128 labels are looked at, whatever the message; each that is kept is copied, as a
+/// slice, once for each pointer by which it was come to. So the time is that of 128 labels times
+/// one more than `level`.
+///
+/// An error says that no such name begins there, and where it fails first; or that memory is
+/// wanting.
 ///
 /// ```
 /// use format_dns::name::read_name;
@@ -83,36 +114,8 @@ pub fn read_name<'m, A: Allocator + Copy>(
     level: usize,
     message: &'m [u8],
     place: usize,
-) -> Result<Name<'m, A>, NameFault>
+) -> Result<Name<'m, A>, Fault>
     ensures { NameTold message.now level place result }
 {
-    let Some(mut rest) = message.get(place..) else {
-        return Err(NameFault::Ends(place));
-    };
-    let Ok(mut labels) = read_labels(alloc, &mut rest) else {
-        return Err(NameFault::NoMemory);
-    };
-    let end = message.len() - rest.len();
-    match read_ending(rest, end)? {
-        Ending::Root => Ok(Name {
-            labels,
-            behind: end + 1,
-        }),
-        Ending::Pointer(to) => {
-            if to >= place {
-                return Err(NameFault::NotPrior(end));
-            }
-            let Some(below) = level.checked_sub(1) else {
-                return Err(NameFault::TooMany(end));
-            };
-            let further = read_name(alloc, below, message, to)?;
-            if labels.extend_from_slice(&further.labels).is_err() {
-                return Err(NameFault::NoMemory);
-            }
-            Ok(Name {
-                labels,
-                behind: end + 2,
-            })
-        }
-    }
+    read_within(alloc, level, 254, message, place)
 }

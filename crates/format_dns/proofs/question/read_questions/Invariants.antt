@@ -1,0 +1,13 @@
+use Rattle.std.proofs.Common.{length, ◌≤◌, ◌-◌}
+use Rattle.format_dns.specs.Questions.{IsQuestion, Rows}
+use Rattle.format_dns.proofs.question.read_questions.Given as goal
+
+-- the list has what was read so far, and no more than is wanted
+abbrev pub invariant-loop-alloc : goal.invariant-loop-alloc
+invariant-loop-alloc g l =
+    Rows (λ place question. IsQuestion l.fn.message l.fn.level place question)
+    (λ question. question.behind) l.fn.place l.list.items l.behind
+    × (length l.list.items ≤ l.fn.count)
+
+abbrev pub decreases-loop-alloc : goal.decreases-loop-alloc
+decreases-loop-alloc g l = l.fn.count - length l.list.items

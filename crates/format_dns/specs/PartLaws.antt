@@ -1,0 +1,115 @@
+-- Where a fault is no part stands.
+use Rattle.std.specs.Prelude.{◌≡◌, ◌⊎◌, ◌≤◌, ◌<◌, ◌+◌, ◌-◌, ◌++◌, ℕ, List, [], ◌∷◌, length, Result}
+use Rattle.std.specs.Prelude.{Ok, Err, drop, slice_range, take}
+use Rattle.std.specs.Result.{IsErrAnd}
+use Rattle.std.proofs.Common.{refl, sym, ap, subst, inl, inr, ◌∙◌, arith, length-append}
+use Rattle.std.proofs.Common.{length-drop}
+use Rattle.std.proofs.lemmas.List.{length-take-le, take-append-drop, take_all}
+use Rattle.format_dns.specs.FieldLaws.{asked_length}
+use Rattle.format_dns.specs.NameLaws.{no_name, one_behind}
+use Rattle.format_dns.specs.Names.{At}
+use Rattle.format_dns.specs.Questions.{AreQuestions, HasNoQuestion, HaveNoQuestions, IsQuestion}
+use Rattle.format_dns.specs.Questions.{PartTold, Rows, RowsFail}
+use Rattle.format_dns.specs.declared.fault.Fault.{Fault}
+use Rattle.format_dns.specs.declared.fault.Fault.TheVariants.{NoMemory}
+use Rattle.format_dns.specs.declared.question.Question.{Question}
+use Rattle.format_dns.specs.declared.question.Questions.{Questions}
+
+-- what is told where a fault is passed on
+pub part_err : {X : Type 0} (Is : X → Type 0) (Fails : Fault → Type 0) {fault : Fault}
+    (r : Result X Fault) → IsErrAnd r (λ y. y ≡ fault)
+    → (fault ≡ NoMemory) ⊎ (Fails fault × ((part : X) → Is part → ⊥)) → PartTold Is Fails r
+part_err Is Fails (Ok part) is why = elim is [ ]
+part_err Is Fails (Err y) is (inl memory) = inl (is ∙ memory)
+part_err Is Fails (Err y) is (inr (fails, none)) = inr (subst Fails (sym is) fails, none)
+
+-- ---- lists
+
+module _ {X : Type 0} (Is : ℕ → X → Type 0) (behind : X → ℕ) where
+  -- one more behind some
+  pub rows_push : (parts : List X) (start place : ℕ) (part : X) → Rows Is behind start parts place
+      → Is place part → Rows Is behind start (parts ++ part ∷ []) (behind part)
+  rows_push [] start place part e is =
+      let P : ℕ → Type 0 = λ n. Is n part in (subst P e is, refl)
+  rows_push (first ∷ parts) start place part (it, rows) is =
+      (it, rows_push parts (behind first) place part rows is)
+
+  module _ (one : (start : ℕ) (x y : X) → Is start x → Is start y → behind x ≡ behind y) where
+    -- where fewer end, one of more stands
+    pub rows_next : (parts others : List X) (start place other : ℕ)
+        → Rows Is behind start parts place → Rows Is behind start others other
+        → length parts < length others → (y : X) × Is place y
+    rows_next parts [] start place other e f few = absurd (omega (arith, few))
+    rows_next [] (y ∷ others) start place other e (b, more) few =
+        let P : ℕ → Type 0 = λ n. Is n y in (y, subst P (sym e) b)
+    rows_next (x ∷ parts) (y ∷ others) start place other (a, rows) (b, more) few =
+        let P : ℕ → Type 0 = λ n. Rows Is behind n parts place in
+        rows_next parts others (behind y) place other (subst P (one start x y a b) rows) more
+        (omega (arith, few))
+
+    -- where the next fails there are not as many
+    pub rows_none : (Fails : ℕ → Fault → Type 0)
+        → ((start : ℕ) (fault : Fault) (x : X) → Fails start fault → Is start x → ⊥)
+        → (start count : ℕ) (fault : Fault) → RowsFail Is behind Fails start count fault
+        → (others : List X) (other : ℕ) → Rows Is behind start others other
+        → length others ≡ count → ⊥
+    rows_none Fails never start count fault (parts, place, rows, few, fails) others other more
+        many =
+        let (y, is) = rows_next parts others start place other rows more (omega (arith, few, many))
+        in never place fault y fails is
+
+-- ---- questions
+
+-- what is left of a message from a place on stands there
+pub at_from : (message : List ℕ) (place : ℕ) {tokens : List ℕ} → place ≤ length message
+    → tokens ≡ slice_range message place (length message) → At message place tokens
+at_from message place enough is = (
+  take place message,
+  length-take-le place message enough,
+  sym (take-append-drop place message)
+      ∙ ap (λ l. take place message ++ l) (sym (is
+      ∙ take_all (length message - place) (drop place message)
+      (omega (arith, length-drop place message)))),
+)
+
+-- what stands at a place ends no later than the message
+pub at_length : {message tokens : List ℕ} {place : ℕ} → At message place tokens
+    → length message ≡ place + length tokens
+at_length {tokens = tokens} (front, size, e) =
+    omega (arith, size, ap (λ l. length l) e, length-append front tokens)
+
+module _ (message : List ℕ) (level : ℕ) where
+  pub no_question : {A : Type 0} (start : ℕ) (fault : Fault) (question : Question A)
+      → HasNoQuestion message level start fault → IsQuestion message level start question → ⊥
+  no_question start fault question (inl none) q =
+      no_name message level 254 start fault none question.name.labels.items question.name.behind
+      q.name.0 q.name.1
+  no_question start fault question (inr (labels, behind, name, is, short)) q =
+      omega (
+        arith,
+        short,
+        at_length q.fields_at,
+        asked_length q.fields,
+        one_behind message level start labels question.name.labels.items behind
+            question.name.behind name.0 q.name.0,
+      )
+
+  pub one_question : {A : Type 0} (start : ℕ) (x y : Question A)
+      → IsQuestion message level start x → IsQuestion message level start y → x.behind ≡ y.behind
+  one_question start x y a b =
+      omega (
+        arith,
+        a.behind,
+        b.behind,
+        one_behind message level start x.name.labels.items y.name.labels.items x.name.behind
+            y.name.behind a.name.0 b.name.0,
+      )
+
+  pub no_questions : {A : Type 0} (start count : ℕ) (fault : Fault) (questions : Questions A)
+      → HaveNoQuestions message level A start count fault
+      → AreQuestions message level start count questions → ⊥
+  no_questions {A} start count fault questions fails (rows, many) =
+      rows_none (λ place (question : Question A). IsQuestion message level place question)
+      (λ question. question.behind) (λ place x y. one_question place x y)
+      (HasNoQuestion message level) (λ place f x. no_question place f x) start count fault fails
+      questions.list.items questions.behind rows many

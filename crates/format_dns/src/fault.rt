@@ -1,0 +1,26 @@
+//! Why a message, or a part of one, is refused.
+
+/// Why no such part begins at a place. Places are in bytes, from the start of the message.
+///
+/// ```
+/// use format_dns::fault::Fault;
+///
+/// assert!(rt; Fault::Ends(3) != Fault::Reserved(3));
+/// ```
+#[derive(Clone, Copy, Debug, PartialEq, Eq)]
+pub enum Fault {
+    /// The message ends within what begins here: a label, a pointer, the end of a name, fields of a
+    /// fixed length, or data.
+    Ends(usize),
+    /// The byte here has one alone of its two highest bits: such labels are reserved (RFC 1035,
+    /// section 4.1.4).
+    Reserved(usize),
+    /// The pointer here leads to no place before the labels that it stands behind.
+    NotPrior(usize),
+    /// The pointer here is one more than are followed.
+    TooMany(usize),
+    /// With the labels from here on a name has more than 255 octets (RFC 1035, section 2.3.4).
+    TooLong(usize),
+    /// A request for memory was refused.
+    NoMemory,
+}
