@@ -28,7 +28,7 @@ READERS = [
         "the text of a record, which reads back"),
     ("RESP2", "format_resp", "yes",
         "the reply that bytes begin with, nested to a level, whole and in pieces; where it ends, "
-        "by one pass over pieces"),
+        "by one pass over pieces; the text of a reply or a command, which reads back"),
     ("JSON (RFC 8259): numbers, strings, words", "format_json_scalars", "yes",
         "the number, string or word that a text begins with, its escapes undone"),
     ("JSON: values", "format_json_values", "yes",

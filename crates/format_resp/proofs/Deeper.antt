@@ -1,5 +1,5 @@
 -- A reply of a level is one of each higher level.
-use Rattle.std.specs.Prelude.{◌≡◌, ◌+◌, ◌<◌, ◌^◌, ⊤, ℕ, zero, suc, List, [], ◌∷◌, length}
+use Rattle.std.specs.Prelude.{◌≡◌, ◌+◌, ◌<◌, ◌^◌, ℕ, zero, suc, List, [], ◌∷◌, length}
 use Rattle.std.specs.Prelude.{Option, Some, None}
 use Rattle.std.specs.declared.vec.Vec.{Vec}
 use denote.RawPtr.{null_ptr}
@@ -61,14 +61,14 @@ module _ {A : Type 0} where
       (elements_deeper (more + level)) reply xs (deeper more level reply xs x))
 
 -- in the logic there is a list of each few elements
-pub list_for : {T : Type 0} (xs : List T) → length xs < 2 ^ 63
-    → (list : Vec T ⊤) × (list.items ≡ xs)
-list_for xs few = (
+pub list_for : {T A : Type 0} (alloc : A) (xs : List T) → length xs < 2 ^ 63
+    → (list : Vec T A) × (list.items ≡ xs)
+list_for alloc xs few = (
   record {
     ptr = null_ptr;
     len = length xs;
     cap = length xs;
-    alloc = tt;
+    alloc = alloc;
     items = xs;
     ok = (refl, omega arith);
     small = omega (arith, few);

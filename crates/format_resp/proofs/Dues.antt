@@ -123,7 +123,7 @@ array_back None us xs s empty = (0, made.NullArray, (refl, empty))
 array_back (Some n) us xs s many =
     let (level, os, count, row) = gather n xs many in
     let small = size_small n us s in
-    let (list, same) = list_for os (omega (arith, count, small)) in
+    let (list, same) = list_for tt os (omega (arith, count, small)) in
     let P : List (Replies ⊤) → Type 0 = λ l. (length l ≡ n) × Row (ReplyText level) l xs in
     (suc level, made.Array list, (list, refl, subst P (sym same) (count, row)))
 

@@ -1,6 +1,11 @@
+pub mod AlikeReplies
 pub mod BulkEnds
 pub mod Deeper
 pub mod Dues
 pub mod FirstLines
 pub mod LineEnds
 pub mod Passing
+pub mod ReadBack
+pub mod Refusals
+pub mod Writing
+pub mod WrittenTexts

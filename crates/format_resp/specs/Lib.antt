@@ -1,4 +1,5 @@
 -- Written by scripts/registries.py: do not edit.
+pub mod Alike
 pub mod Extents
 pub mod Heads
 pub mod Leaves
@@ -7,3 +8,4 @@ pub mod Parts
 pub mod Read
 pub mod Resp
 pub mod Room
+pub mod Written

@@ -1,5 +1,5 @@
 //! Replies of Redis (RESP2, the second version of its protocol), by what is written for them, over
-//! bytes that may come in pieces.
+//! bytes that may come in pieces, and replies and commands written.
 //!
 //! Where this differs from the protocol: a number has no leading zero, and 0 has no sign; a size
 //! may have a plus sign before it; an array is read where no more than so many arrays stand in one
@@ -7,6 +7,7 @@
 //! may be of any length. Commands that are no arrays (inline ones) are no replies.
 #![tactic(auto)]
 
+pub mod back;
 pub mod extent;
 mod heads;
 mod leaves;
@@ -14,3 +15,4 @@ mod lines;
 mod pieces;
 pub mod read;
 pub mod reply;
+pub mod write;

@@ -1,0 +1,221 @@
+-- What is read of what was written.
+use Rattle.std.specs.Prelude.{◌≡◌, ◌<◌, ◌≤◌, ◌^◌, ℕ, suc, List, [], ◌∷◌, ◌++◌, length, false}
+use Rattle.std.specs.Prelude.{Err, Ok}
+use Rattle.std.specs.Borrow.{Bor}
+use Rattle.std.specs.Fmt.{decimal}
+use Rattle.std.specs.declared.vec.Vec.{Vec}
+use Rattle.std.proofs.Common.{refl, sym, ap, subst, inl, inr, ◌∙◌, arith, length-append}
+use Rattle.winnow.specs.Bytes.{bytes_follow, bytes_input, bytes_reading}
+use Rattle.winnow.specs.Cut.{ReadsOrAsks}
+use Rattle.winnow.specs.InTurn.{First}
+use Rattle.winnow.specs.Input.{Input}
+use Rattle.winnow.specs.Kind.{Kind, memory}
+use Rattle.winnow.specs.Partial.{with_flag}
+use Rattle.winnow.specs.Texts.{Row}
+use Rattle.format_resp.proofs.AlikeReplies.{replies_alike}
+use Rattle.format_resp.proofs.Deeper.{list_for}
+use Rattle.format_resp.proofs.WrittenTexts.{written_text}
+use Rattle.format_resp.specs.Alike.{AreAlike, AreAlikeAs, ArePairwise, IsBulkAs, IsCommand}
+use Rattle.format_resp.specs.Alike.{IsCommandAs}
+use Rattle.format_resp.specs.Parts.{Opened, array_is, bulk_is}
+use Rattle.format_resp.specs.Read.{reply_unique}
+use Rattle.format_resp.specs.Resp.{Replies, ReplyText, line_end}
+use Rattle.format_resp.specs.Written.{Adds, WrittenElements, WrittenText, bulk_of, bulks_of}
+use Rattle.format_resp.specs.Written.{command_of, marked}
+use Rattle.format_resp.specs.declared.reply.Reply as made
+use Rattle.format_resp.specs.declared.reply.Reply.{out-Reply}
+use Rattle.format_resp.specs.declared.reply.Reply.TheOpen.{Reply-F}
+
+module _ {A : Type 0} (level : ℕ) where
+  -- what stands first where another reply does is alike, and leaves the same
+  pub one_reply : (written read : Replies A) (tokens more rest : List ℕ)
+      → First (ReplyText level) tokens written more → First (ReplyText level) tokens read rest
+      → AreAlike level written read × (rest ≡ more)
+  one_reply written read tokens more rest a b = (
+    replies_alike level written read tokens more rest a b,
+    (reply_unique level).one tokens read written rest more b a,
+  )
+
+  pub written_back : (written read : Replies A) (text more rest : List ℕ)
+      → ReplyText level written text → First (ReplyText level) (text ++ more) read rest
+      → AreAlike level written read × (rest ≡ more)
+  unfolding First
+  written_back written read text more rest a b =
+      one_reply written read (text ++ more) more rest (text, a, refl) b
+
+  -- what is put behind nothing, with more behind it
+  pub put_first : {reply : Replies A} {before between after bytes : List ℕ} (more : List ℕ)
+      → before ≡ [] → Adds (ReplyText level) reply before between → after ≡ between ++ more
+      → bytes ≡ after → First (ReplyText level) bytes reply more
+  unfolding First
+  put_first more none added e same = (
+    added.tokens,
+    added.is,
+    same ∙ e
+        ∙ ap (λ l. l ++ more) (added.behind ∙ ap (λ l. l ++ added.tokens) none),
+  )
+
+-- what is read of a whole input
+module _ {A E : Type 0} (level : ℕ) (bytes : List ℕ) {i j : Input ℕ} {kind : E → Kind}
+    (is : i ≡ with_flag (bytes_input bytes) false) where
+  pub whole_stands : (reply : Replies A)
+      → ReadsOrAsks bytes_reading bytes_follow kind (First (ReplyText level)) i (Ok reply) j
+      → First (ReplyText level) bytes reply j.left.tokens
+  whole_stands reply r =
+      let P : Input ℕ → Type 0 = λ x. ReadsOrAsks bytes_reading bytes_follow kind
+      (First (ReplyText level)) x (Ok reply) j in
+      (subst P is r).whole.stands refl
+
+  -- where a reply stands it fails only if memory is refused
+  pub whole_wants : (e : E) → (kind e ≡ memory → ⊥)
+      → (reply : Replies A) × (rest : List ℕ) × First (ReplyText level) bytes reply rest
+      → ReadsOrAsks {O = Replies A} bytes_reading bytes_follow kind (First (ReplyText level)) i
+      (Err e) j → ⊥
+  whole_wants e not_memory (reply, rest, a) r =
+      let P : Input ℕ → Type 0 = λ x. ReadsOrAsks {O = Replies A} bytes_reading bytes_follow
+      kind (First (ReplyText level)) x (Err e) j in
+      elim ((subst P is r).whole.none refl) [
+        | inl m ↦ not_memory m
+        | inr (_, none) ↦ none reply rest a
+      ]
+
+-- ---- commands
+
+-- bulk strings of these bytes
+abbrev bulk_replies : {A : Type 0} → List (Bor (List ℕ)) → List (Replies A)
+bulk_replies [] = []
+bulk_replies (part ∷ parts) = made.Bulk part ∷ bulk_replies parts
+
+as_many : (A : Type 0) (parts : List (Bor (List ℕ)))
+    → length (bulk_replies {A = A} parts) ≡ length parts
+as_many A [] = refl
+as_many A (part ∷ parts) = ap suc (as_many A parts)
+
+-- a bulk string has more bytes than it holds
+longer : (bytes : List ℕ) → length bytes < length (bulk_of bytes)
+longer bytes =
+    omega (
+      arith,
+      length-append (marked 36 (decimal (length bytes))) (bytes ++ line_end),
+      length-append bytes line_end,
+    )
+
+few_parts : (parts : List (Bor (List ℕ))) → length parts ≤ length (bulks_of parts)
+few_parts [] = omega arith
+few_parts (part ∷ parts) =
+    omega (
+      arith,
+      few_parts parts,
+      longer part.now,
+      length-append (bulk_of part.now) (bulks_of parts),
+    )
+
+bulks_row : (A : Type 0) (parts : List (Bor (List ℕ))) → length (bulks_of parts) < 2 ^ 63
+    → Row (WrittenText {A = A} 0) (bulk_replies parts) (bulks_of parts)
+unfolding Row
+bulks_row A [] small = refl
+bulks_row A (part ∷ parts) small =
+    let long = length-append (bulk_of part.now) (bulks_of parts) in (
+      bulk_of part.now,
+      bulks_of parts,
+      inr (inr (inr (inl (part, refl, omega (arith, small, long, longer part.now), refl)))),
+      bulks_row A parts (omega (arith, small, long)),
+      refl,
+    )
+
+command_text : {A : Type 0} (parts : List (Bor (List ℕ))) (list : Vec (Replies A) A)
+    → list.items ≡ bulk_replies parts → length (bulks_of parts) < 2 ^ 63
+    → ReplyText 1 (made.Array list) (command_of parts)
+unfolding WrittenElements
+command_text {A} parts list are small =
+    let P : List (Replies A) → Type 0 = λ l. Row (WrittenText 0) l (bulks_of parts) in
+    let many : length list.items ≡ length parts = ap (λ l. length l) are ∙ as_many A parts in
+    written_text 1 (made.Array list) (command_of parts) (inr (inr (inr (inr (inr (inr (
+      list,
+      bulks_of parts,
+      refl,
+      subst P (sym are) (bulks_row A parts small),
+      ap (λ n. marked 42 (decimal n) ++ bulks_of parts) (sym many),
+    )))))))
+
+-- where a command was put behind nothing, an array stands first
+pub command_first : {A : Type 0} (alloc : A) (parts : List (Bor (List ℕ)))
+    {before between after bytes : List ℕ} (more : List ℕ) → before ≡ []
+    → between ≡ before ++ command_of parts → length between < 2 ^ 63
+    → after ≡ between ++ more → bytes ≡ after
+    → (list : Vec (Replies A) A) × (list.items ≡ bulk_replies parts)
+    × First (ReplyText 1) bytes (made.Array list) more
+unfolding First
+command_first {A} alloc parts {before} {between} more none put small e same =
+    let is : between ≡ command_of parts = put ∙ ap (λ l. l ++ command_of parts) none in
+    let long : length (bulks_of parts) < 2 ^ 63 = omega (
+      arith,
+      small,
+      ap (λ l. length l) is,
+      length-append (marked 42 (decimal (length parts))) (bulks_of parts),
+    ) in
+    let (list, are) = list_for {A = A} alloc (bulk_replies {A = A} parts)
+    (omega (arith, as_many A parts, few_parts parts, long)) in (
+      list,
+      are,
+      (
+        command_of parts,
+        command_text parts list are long,
+        same ∙ e ∙ ap (λ l. l ++ more) is,
+      ),
+    )
+
+module _ {A : Type 0} where
+  bulk_kind : (alike : Replies A → Replies A → Type 0) (part : Bor (List ℕ)) (kind : Opened A)
+      → AreAlikeAs alike (Reply-F.Bulk part) kind → IsBulkAs part kind
+  bulk_kind alike part (Reply-F.Simple x) never = never
+  bulk_kind alike part (Reply-F.Error x) never = never
+  bulk_kind alike part (Reply-F.Integer x) never = never
+  bulk_kind alike part (Reply-F.Bulk x) e = e
+  bulk_kind alike part Reply-F.NullBulk never = never
+  bulk_kind alike part (Reply-F.Array x) never = never
+  bulk_kind alike part Reply-F.NullArray never = never
+
+  bulk_back : (part : Bor (List ℕ)) (reply : Replies A) → AreAlike 0 (made.Bulk part) reply
+      → IsBulkAs part (out-Reply (Bor (List ℕ)) A reply)
+  unfolding AreAlike
+  bulk_back part reply alike =
+      let P : Opened A → Type 0 = λ k.
+      AreAlikeAs (λ v w. ⊥) k (out-Reply (Bor (List ℕ)) A reply) in
+      bulk_kind (λ v w. ⊥) part (out-Reply (Bor (List ℕ)) A reply) (subst P (bulk_is part) alike)
+
+  bulks_back : (parts : List (Bor (List ℕ))) (replies : List (Replies A))
+      → ArePairwise (AreAlike 0) (bulk_replies parts) replies
+      → ArePairwise (λ part reply. IsBulkAs part (out-Reply (Bor (List ℕ)) A reply)) parts replies
+  bulks_back [] [] are = tt
+  bulks_back [] (r ∷ rs) never = never
+  bulks_back (p ∷ ps) [] never = never
+  bulks_back (p ∷ ps) (r ∷ rs) (one, more) = (bulk_back p r one, bulks_back ps rs more)
+
+  command_kind : (parts : List (Bor (List ℕ))) (list : Vec (Replies A) A)
+      → list.items ≡ bulk_replies parts → (kind : Opened A)
+      → AreAlikeAs (AreAlike 0) (Reply-F.Array list) kind → IsCommandAs parts kind
+  command_kind parts list are (Reply-F.Simple x) never = never
+  command_kind parts list are (Reply-F.Error x) never = never
+  command_kind parts list are (Reply-F.Integer x) never = never
+  command_kind parts list are (Reply-F.Bulk x) never = never
+  command_kind parts list are Reply-F.NullBulk never = never
+  command_kind parts list are (Reply-F.Array x) pairs =
+      let P : List (Replies A) → Type 0 = λ l. ArePairwise (AreAlike 0) l x.items in
+      bulks_back parts x.items (subst P are pairs)
+  command_kind parts list are Reply-F.NullArray never = never
+
+  -- what is read of it is the command
+  pub command_back : (parts : List (Bor (List ℕ))) (list : Vec (Replies A) A) (read : Replies A)
+      (tokens more rest : List ℕ) → list.items ≡ bulk_replies parts
+      → First (ReplyText 1) tokens (made.Array list) more → First (ReplyText 1) tokens read rest
+      → IsCommand parts read × (rest ≡ more)
+  unfolding AreAlike
+  command_back parts list read tokens more rest are a b =
+      let (alike, left) = one_reply 1 (made.Array list) read tokens more rest a b in
+      let P : Opened A → Type 0 = λ k.
+      AreAlikeAs (AreAlike 0) k (out-Reply (Bor (List ℕ)) A read) in (
+        command_kind parts list are (out-Reply (Bor (List ℕ)) A read)
+            (subst P (array_is list) alike),
+        left,
+      )

@@ -1,0 +1,11 @@
+use Rattle.std.proofs.Common.{◌≡◌, ◌++◌, drop}
+use Rattle.format_resp.specs.Written.{Keeps, bulks_of}
+use Rattle.format_resp.proofs.write.write_bulks.Given as goal
+
+-- what was put and what is left are all
+abbrev pub invariant-loop-part : goal.invariant-loop-part
+invariant-loop-part g l = record {
+  told : l.into.items ++ bulks_of (drop l.part-index l.parts)
+      ≡ l.initial.into.items ++ bulks_of l.parts;
+  kept : Keeps l.initial.into.items l.into.items;
+}
