@@ -4,39 +4,40 @@
 use format_ini::dialect::{Continued, Delimiters, Dialect, Marks};
 use format_ini::documents::read_document;
 use format_ini::lines::Entry;
+use std::alloc::Global;
 use std::process::Abort;
 
 /// Adds a text behind another.
-fn put(rt: &impl Abort, shown: &mut Vec<u8>, text: &str) {
+fn put(rt: &impl Abort, shown: &mut Vec<u8, Global>, text: &str) {
     assert!(rt; shown.extend_from_slice(text.as_bytes()).is_ok());
 }
 
 /// Checks what a document says: a line for each entry, a section in brackets, a pair with `=`
 /// between, a key without a value alone, and a line that goes on behind `+`.
-fn says(rt: HostRuntime, dialect: Dialect, text: &str, wanted: &str) {
-    match read_document(rt.alloc(), dialect, text) {
+fn says(rt: &impl Abort, alloc: Global, dialect: Dialect, text: &str, wanted: &str) {
+    match read_document(alloc, dialect, text) {
         Ok(entries) => {
-            let mut shown = Vec::new(rt.alloc());
+            let mut shown = Vec::new(alloc);
             for entry in entries.iter() {
                 match entry {
                     Entry::Section(name) => {
-                        put(&rt, &mut shown, "[");
-                        put(&rt, &mut shown, name);
-                        put(&rt, &mut shown, "]");
+                        put(rt, &mut shown, "[");
+                        put(rt, &mut shown, name);
+                        put(rt, &mut shown, "]");
                     }
                     Entry::Pair { key, value } => {
-                        put(&rt, &mut shown, key);
+                        put(rt, &mut shown, key);
                         if let Some(value) = value {
-                            put(&rt, &mut shown, "=");
-                            put(&rt, &mut shown, value);
+                            put(rt, &mut shown, "=");
+                            put(rt, &mut shown, value);
                         }
                     }
                     Entry::More(line) => {
-                        put(&rt, &mut shown, "+");
-                        put(&rt, &mut shown, line);
+                        put(rt, &mut shown, "+");
+                        put(rt, &mut shown, line);
                     }
                 }
-                put(&rt, &mut shown, "\n");
+                put(rt, &mut shown, "\n");
             }
             assert_eq!(rt; shown.as_slice(), wanted.as_bytes());
         }
@@ -78,7 +79,7 @@ const PYTHON: &[(&str, &str)] = &[
 #[test]
 fn the_dialect_of_python(rt: HostRuntime) {
     for (text, wanted) in PYTHON {
-        says(rt, Dialect::python(), text, wanted);
+        says(&rt, rt.alloc(), Dialect::python(), text, wanted);
     }
 }
 
@@ -89,42 +90,42 @@ fn dialects_that_differ_in_one_thing(rt: HostRuntime) {
         delimiters: Delimiters::Equals,
         ..Dialect::python()
     };
-    says(rt, equals, "[s]\na:b = c\n", "[s]\na:b=c\n");
+    says(&rt, rt.alloc(), equals, "[s]\na:b = c\n", "[s]\na:b=c\n");
     let colon = Dialect {
         delimiters: Delimiters::Colon,
         ..Dialect::python()
     };
-    says(rt, colon, "[s]\na=b : c\n", "[s]\na=b=c\n");
+    says(&rt, rt.alloc(), colon, "[s]\na=b : c\n", "[s]\na=b=c\n");
     let valueless = Dialect {
         valueless: true,
         ..Dialect::python()
     };
-    says(rt, valueless, "[s]\nskip-bdb\na = b\nc\n", "[s]\nskip-bdb\na=b\nc\n");
+    says(&rt, rt.alloc(), valueless, "[s]\nskip-bdb\na = b\nc\n", "[s]\nskip-bdb\na=b\nc\n");
     let semicolon = Dialect {
         comments: Marks::Semicolon,
         ..Dialect::python()
     };
-    says(rt, semicolon, "[s]\n# a = b\n; c\n", "[s]\n# a=b\n");
+    says(&rt, rt.alloc(), semicolon, "[s]\n# a = b\n; c\n", "[s]\n# a=b\n");
     let neither = Dialect {
         comments: Marks::Neither,
         ..Dialect::python()
     };
-    says(rt, neither, "[s]\n#a = b\n;c = d\n", "[s]\n#a=b\n;c=d\n");
+    says(&rt, rt.alloc(), neither, "[s]\n#a = b\n;c = d\n", "[s]\n#a=b\n;c=d\n");
     let inline = Dialect {
         inline_comments: Marks::Semicolon,
         ..Dialect::python()
     };
-    says(rt, inline, "[s] ; t\na = b;c ; d\ne = # f\n", "[s]\na=b;c\ne=# f\n");
+    says(&rt, rt.alloc(), inline, "[s] ; t\na = b;c ; d\ne = # f\n", "[s]\na=b;c\ne=# f\n");
     let until_empty = Dialect {
         continued: Continued::UntilEmpty,
         ..Dialect::python()
     };
-    says(rt, until_empty, "[s]\na = b\n  c\n\n  d = e\n", "[s]\na=b\n+c\nd=e\n");
+    says(&rt, rt.alloc(), until_empty, "[s]\na = b\n  c\n\n  d = e\n", "[s]\na=b\n+c\nd=e\n");
     let before = Dialect {
         before_sections: true,
         ..Dialect::python()
     };
-    says(rt, before, "a = b\n[s]\nc = d\n", "a=b\n[s]\nc=d\n");
+    says(&rt, rt.alloc(), before, "a = b\n[s]\nc = d\n", "a=b\n[s]\nc=d\n");
 }
 
 /// A desktop entry as its specification has it, shorter.
@@ -134,12 +135,12 @@ fn a_desktop_entry(rt: HostRuntime) {
         Exec=fooview %F\nMimeType=image/x-foo;\n\n[Desktop Action Gallery]\n Exec=fooview -g\n";
     let wanted = "[Desktop Entry]\nVersion=1.0\nName=Foo Viewer\nName[de]=Betrachter\n\
         Exec=fooview %F\nMimeType=image/x-foo;\n[Desktop Action Gallery]\nExec=fooview -g\n";
-    says(rt, Dialect::desktop(), text, wanted);
+    says(&rt, rt.alloc(), Dialect::desktop(), text, wanted);
 }
 
 #[test]
 fn the_dialect_that_reads_most(rt: HostRuntime) {
     let text = "top\nuser = me # here\n[s];t = u\n";
-    says(rt, Dialect::lenient(), "top\nuser = me # here\n[s] ; t\n  u\n", "top\nuser=me\n[s]\nu\n");
+    says(&rt, rt.alloc(), Dialect::lenient(), "top\nuser = me # here\n[s] ; t\n  u\n", "top\nuser=me\n[s]\nu\n");
     assert!(rt; read_document(rt.alloc(), Dialect::lenient(), text).is_err());
 }

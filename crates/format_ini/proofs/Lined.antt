@@ -36,8 +36,11 @@ own_line d s line kept text depth on is e h o never some not (Ok l) own =
     let S : ℕ → Type 0 = λ n. is_deeper s.pair n ≡ false in (
       kept,
       is,
-      inr (inr (subst P e (not_idle d text some not), other (subst S h (sym o ∙ never)),
-          subst Q e (subst R h own))),
+      inr (inr (
+        subst P e (not_idle d text some not),
+        other (subst S h (sym o ∙ never)),
+        subst Q e (subst R h own),
+      )),
     )
 own_line d s line kept text depth on is e h o never some not (Err why) lacks =
     let P : List ℕ → Type 0 = λ t. IsIdle d t → ⊥ in

@@ -126,18 +126,25 @@ module _ (d d' : Dialect) (same : d' ≡ d) (text : List ℕ) (said : List Said)
       → NextEntry d' s here (Ok (Some entry)) next rest
       → SoFar d text (said ++ said_in entry ∷ []) next rest
   so_far_more entry next rest (on, less) =
-      let P : Dialect → Type 0 = λ x. Reads x s here (said_in entry ∷ []) next rest in
-      (it.0, it.1, reads_more d start s next it.0 here rest said (said_in entry ∷ []) it.2
-      (subst P same on))
+      let P : Dialect → Type 0 = λ x. Reads x s here (said_in entry ∷ []) next rest in (
+        it.0,
+        it.1,
+        reads_more d start s next it.0 here rest said (said_in entry ∷ []) it.2
+            (subst P same on),
+      )
 
   pub so_far_all : (next : State) (rest : List ℕ) → NextEntry d' s here (Ok None) next rest
       → IsDocument d text said
   so_far_all next rest (on, none) =
       let P : Dialect → Type 0 = λ x. Reads x s here [] next rest in
       let Q : List ℕ → Type 0 = λ t. Reads d start it.0 said next t in
-      let R : List Said → Type 0 = λ l. Reads d start it.0 l next rest in
-      (it.0, next, it.1, subst Q none (subst R (append-nil said)
-      (reads_more d start s next it.0 here rest said [] it.2 (subst P same on))))
+      let R : List Said → Type 0 = λ l. Reads d start it.0 l next rest in (
+        it.0,
+        next,
+        it.1,
+        subst Q none (subst R (append-nil said)
+            (reads_more d start s next it.0 here rest said [] it.2 (subst P same on))),
+      )
 
   pub so_far_err : (next : State) (rest : List ℕ) (fault : Fault) (why : Refusal)
       → NextEntry d' s here (Err why) next rest → fault.why ≡ why
@@ -145,10 +152,18 @@ module _ (d d' : Dialect) (same : d' ≡ d) (text : List ℕ) (said : List Said)
   so_far_err next rest fault why (on, (line, behind, first, lacks)) is place =
       let P : Dialect → Type 0 = λ x. Reads x s here [] next rest in
       let Q : Dialect → Type 0 = λ x. Lacks x next line why in
-      let S : Refusal → Type 0 = λ w. Lacks d next line w in
-      (it.0, said ++ [], next, rest, it.1,
-      (reads_more d start s next it.0 here rest said [] it.2 (subst P same on),
-      (line, behind, first, subst S (sym is) (subst Q same lacks))), place)
+      let S : Refusal → Type 0 = λ w. Lacks d next line w in (
+        it.0,
+        said ++ [],
+        next,
+        rest,
+        it.1,
+        (
+          reads_more d start s next it.0 here rest said [] it.2 (subst P same on),
+          (line, behind, first, subst S (sym is) (subst Q same lacks)),
+        ),
+        place,
+      )
 
   pub so_far_within : (next : State) (rest : List ℕ) (why : Refusal)
       → NextEntry d' s here (Err why) next rest → length rest ≤ length text

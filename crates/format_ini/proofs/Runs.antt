@@ -134,9 +134,16 @@ kept_more marks line n opened next less none may never not is =
 -- what is kept of a line
 pub kept_part : (marks : Marks) (line : List ℕ) (n : ℕ) → KeepsSoMany marks line n
     → n < length line → IsKept marks line (take n line)
-kept_part marks line n (within, none, is) less =
-    (none, inr (slice_index line n, drop (n + 1) line, around_is line n less, (is less).0,
-    (is less).1))
+kept_part marks line n (within, none, is) less = (
+  none,
+  inr (
+    slice_index line n,
+    drop (n + 1) line,
+    around_is line n less,
+    (is less).0,
+    (is less).1,
+  ),
+)
 
 pub kept_all : (marks : Marks) (line : List ℕ) (n : ℕ) → KeepsSoMany marks line n
     → length line ≤ n → IsKept marks line line
