@@ -10,7 +10,7 @@ FORMATS = {
     "csv": ["format_csv", "format_csv_records"],
     "dns": ["format_dns"],
     "http": ["format_http"],
-    "ini": ["readers"],
+    "ini": ["readers", "format_ini"],
     "json": ["format_json"],
     "json_extents": ["format_json_extents"],
     "resp": ["format_resp"],

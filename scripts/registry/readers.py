@@ -26,6 +26,9 @@ READERS = [
     ("CSV in any dialect", "format_csv_records", "no",
         "the record that bytes begin with, in one buffer, or the first byte at which none goes on; "
         "the text of a record, which reads back"),
+    ("INI files, in any dialect", "format_ini", "no",
+        "`Ok` exactly where the text is lines of the dialect, with what they say; else the first "
+        "line that says nothing of it, and why"),
     ("RESP2", "format_resp", "yes",
         "the reply that bytes begin with, nested to a level, whole and in pieces; where it ends, "
         "by one pass over pieces; the text of a reply or a command, which reads back"),
@@ -70,7 +73,7 @@ BRIEF = [
     ("DNS", ["format_dns"], "the header; the name at a place; questions"),
     ("formulas", ["format_calculator"], "exactly"),
     ("HTTP/1.1 heads, chunk sizes", ["format_http"], "first, in pieces"),
-    ("INI", ["readers"], "exactly"),
+    ("INI", ["readers", "format_ini"], "exactly"),
     ("JSON", ["format_json"], "exactly; first, in pieces; written values read back"),
     ("JSON extents", ["format_json_extents"], "where the first value ends"),
     ("RESP2", ["format_resp"], "first, in pieces"),

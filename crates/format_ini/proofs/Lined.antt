@@ -1,0 +1,54 @@
+-- A line that is neither empty nor a comment.
+use Rattle.std.specs.Prelude.{◌≡◌, ◌<◌, ℕ, List, [], ◌∷◌, length, Result, Ok, Err, MatchResult}
+use Rattle.std.proofs.Common.{subst, inl, inr, arith, sym, ◌∙◌}
+use Rattle.std.specs.Prelude.{Bool, true, false}
+use Rattle.format_ini.specs.Front.{IsKept, NotFirst, indent_of, trimmed}
+use Rattle.format_ini.specs.Lines.{IsIdle, Lacks, LacksOwn, OwnSays, Step, is_deeper}
+use Rattle.format_ini.specs.Lines.{said_of}
+use Rattle.format_ini.specs.Marks.{IsMark}
+use Rattle.format_ini.specs.declared.dialect.Dialect.{Dialect}
+use Rattle.format_ini.specs.declared.lines.Line.{Line}
+use Rattle.format_ini.specs.declared.lines.Refusal.{Refusal}
+use Rattle.format_ini.specs.declared.lines.State.{State}
+
+not_idle : (d : Dialect) (text : List ℕ) → 0 < length text → NotFirst (IsMark d.comments) text
+    → IsIdle d text → ⊥
+not_idle d [] some not (inl none) = omega (arith, some)
+not_idle d [] some not (inr is) = is
+not_idle d (b ∷ bs) some not (inl none) = cc
+not_idle d (b ∷ bs) some not (inr is) = not is
+
+other : {b : Bool} → b ≡ false → b ≡ true → ⊥
+other {b} e f = cc
+
+-- what a line of its own says the line says
+pub own_line : (d : Dialect) (s : State) (line kept text : List ℕ) (depth : ℕ) (on : Bool)
+    → IsKept d.inline_comments line kept → text ≡ trimmed kept → depth ≡ indent_of line
+    → on ≡ is_deeper s.pair depth → on ≡ false → 0 < length text
+    → NotFirst (IsMark d.comments) text → (result : Result Line Refusal)
+    → MatchResult result (λ l. OwnSays d s depth text (said_of l.entry) l.next)
+    (λ why. LacksOwn d s text why)
+    → MatchResult result (λ l. Step d s line (said_of l.entry) l.next) (λ why. Lacks d s line why)
+own_line d s line kept text depth on is e h o never some not (Ok l) own =
+    let P : List ℕ → Type 0 = λ t. IsIdle d t → ⊥ in
+    let Q : List ℕ → Type 0 = λ t. OwnSays d s (indent_of line) t (said_of l.entry) l.next in
+    let R : ℕ → Type 0 = λ n. OwnSays d s n text (said_of l.entry) l.next in
+    let S : ℕ → Type 0 = λ n. is_deeper s.pair n ≡ false in (
+      kept,
+      is,
+      inr (inr (
+        subst P e (not_idle d text some not),
+        other (subst S h (sym o ∙ never)),
+        subst Q e (subst R h own),
+      )),
+    )
+own_line d s line kept text depth on is e h o never some not (Err why) lacks =
+    let P : List ℕ → Type 0 = λ t. IsIdle d t → ⊥ in
+    let Q : List ℕ → Type 0 = λ t. LacksOwn d s t why in
+    let S : ℕ → Type 0 = λ n. is_deeper s.pair n ≡ false in (
+      kept,
+      is,
+      subst P e (not_idle d text some not),
+      other (subst S h (sym o ∙ never)),
+      subst Q e lacks,
+    )

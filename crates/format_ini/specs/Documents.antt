@@ -1,0 +1,73 @@
+-- Documents: lists of lines, and what they say one after the other.
+use Rattle.std.specs.Prelude.{◌≡◌, ◌⊎◌, ◌+◌, ◌<◌, ℕ, List, [], ◌∷◌, ◌++◌, length, false, ⊤}
+use Rattle.std.specs.Prelude.{Result, Ok, Err, Option, Some, None}
+use Rattle.format_ini.specs.Front.{FirstLine}
+use Rattle.format_ini.specs.Lines.{Lacks, Said, Step, said_of}
+use Rattle.format_ini.specs.declared.dialect.Dialect.{Dialect}
+use Rattle.format_ini.specs.declared.documents.Fault.{Fault}
+use Rattle.format_ini.specs.declared.documents.IniError.{IniError}
+use Rattle.format_ini.specs.declared.documents.IniError.TheVariants.{OutOfMemory, Refused}
+use Rattle.format_ini.specs.declared.lines.Entry.{Entry}
+use Rattle.format_ini.specs.declared.lines.Refusal.{Refusal}
+use Rattle.format_ini.specs.declared.lines.State.{State}
+
+-- No byte order mark of UTF-8 stands first.
+abbrev pub NoMark : List ℕ → Type 0
+NoMark text = (rest : List ℕ) → text ≡ 239 ∷ 187 ∷ 191 ∷ rest → ⊥
+
+-- This is left of a text without the byte order mark that may stand first.
+abbrev pub BehindMark : List ℕ → List ℕ → Type 0
+BehindMark text rest = (text ≡ 239 ∷ 187 ∷ 191 ∷ rest) ⊎ ((rest ≡ text) × NoMark text)
+
+-- A text begins with these lines, behind which this is left.
+unfoldable pub AreLines : List ℕ → List (List ℕ) → List ℕ → Type 0
+AreLines text [] rest = text ≡ rest
+AreLines text (line ∷ lines) rest =
+    (behind : List ℕ) × FirstLine text line behind × AreLines behind lines rest
+
+-- Lines say this, one after the other, from one state to another.
+unfoldable pub LinesSay : Dialect → State → List (List ℕ) → List Said → State → Type 0
+LinesSay d s [] said next = (said ≡ []) × (next ≡ s)
+LinesSay d s (line ∷ lines) said next = (one : List Said) × (others : List Said) × (mid : State)
+    × Step d s line one mid × (said ≡ one ++ others) × LinesSay d mid lines others next
+
+-- A text begins with lines that say this, behind which that is left.
+abbrev pub Reads : Dialect → State → List ℕ → List Said → State → List ℕ → Type 0
+Reads d s text said next rest =
+    (lines : List (List ℕ)) × AreLines text lines rest × LinesSay d s lines said next
+
+-- before the first line
+abbrev pub start : State
+start = record { section = false; pair = None }
+
+-- The text, without a byte order mark, is lines that say this.
+abbrev pub IsDocument : Dialect → List ℕ → List Said → Type 0
+IsDocument d text said = (lines : List ℕ) × (next : State) × BehindMark text lines
+    × Reads d start lines said next []
+
+-- Lines that say something stand first, and then a line that says nothing of this dialect, with
+-- this left from there on.
+abbrev pub StopsBy : Dialect → State → List ℕ → List Said → State → List ℕ → Refusal → Type 0
+StopsBy d s text said next rest why = Reads d s text said next rest
+    × ((line : List ℕ) × (behind : List ℕ) × FirstLine rest line behind × Lacks d next line why)
+
+-- The first line that says nothing of this dialect begins so many bytes behind the text's start.
+abbrev pub IsRefused : Dialect → List ℕ → Fault → Type 0
+IsRefused d text fault = (lines : List ℕ) × (said : List Said) × (next : State) × (rest : List ℕ)
+    × BehindMark text lines × StopsBy d start lines said next rest fault.why
+    × (fault.offset + length rest ≡ length text)
+
+-- what an error says of a text; want of memory says nothing of it
+abbrev pub IsNoDocument : Dialect → List ℕ → IniError → Type 0
+IsNoDocument d text (Refused fault) = IsRefused d text fault
+IsNoDocument d text OutOfMemory = ⊤
+
+-- what a call answers, and the state and the text that it leaves: the next entry; that there is
+-- none, for all other lines say nothing; or why the next line that is neither empty nor a comment
+-- is none of the dialect, and then that line is left
+abbrev pub NextEntry : Dialect → State → List ℕ → Result (Option Entry) Refusal → State → List ℕ
+    → Type 0
+NextEntry d s text (Ok None) next rest = Reads d s text [] next rest × (rest ≡ [])
+NextEntry d s text (Ok (Some entry)) next rest =
+    Reads d s text (said_of (Some entry)) next rest × (length rest < length text)
+NextEntry d s text (Err why) next rest = StopsBy d s text [] next rest why

@@ -1,0 +1,81 @@
+-- What stands first in a text: lines, runs of bytes, blanks, comments behind them.
+use Rattle.std.specs.Prelude.{◌≡◌, ◌⊎◌, ◌≤◌, ◌<◌, ◌-◌, ℕ, List, [], ◌∷◌, ◌++◌, length, take, drop}
+use Rattle.std.specs.Prelude.{⊤, slice_index}
+use Rattle.std.specs.Char.{is_ascii_whitespace}
+use Rattle.std.specs.List.{All, prefix_len, suffix_len}
+use Rattle.format_ini.specs.Marks.{IsBlank, IsDelimiter, IsMark}
+use Rattle.format_ini.specs.declared.dialect.Marks.{Marks}
+use Rattle.format_ini.specs.declared.front.Stop.{Stop}
+use Rattle.format_ini.specs.declared.front.Stop.TheVariants.{Bracket, Delimiter, LineFeed}
+
+-- There is no byte, or the first is one of these.
+abbrev pub MayBegin : (ℕ → Type 0) → List ℕ → Type 0
+MayBegin these [] = ⊤
+MayBegin these (b ∷ bs) = these b
+
+-- There is no byte, or the first is none of these.
+abbrev pub NotFirst : (ℕ → Type 0) → List ℕ → Type 0
+NotFirst these bytes = MayBegin (λ b. these b → ⊥) bytes
+
+-- There is a first byte, and it is one of these.
+abbrev pub Begins : (ℕ → Type 0) → List ℕ → Type 0
+Begins these [] = ⊥
+Begins these (b ∷ bs) = these b
+
+-- another byte
+abbrev pub IsOther : ℕ → ℕ → Type 0
+IsOther mark b = b ≡ mark → ⊥
+
+-- what a text is cut at: a line feed, `]`, or what ends a key
+abbrev pub IsStop : Stop → ℕ → Type 0
+IsStop LineFeed b = b ≡ 10
+IsStop Bracket b = b ≡ 93
+IsStop (Delimiter delimiters) b = IsDelimiter delimiters b
+
+-- so many bytes stand before the first of these, or in all
+abbrev pub StopsAt : Stop → List ℕ → ℕ → Type 0
+StopsAt stop bytes n = (n ≤ length bytes) × All (λ b. IsStop stop b → ⊥) (take n bytes)
+    × (n < length bytes → IsStop stop (slice_index bytes n))
+
+-- this stands before the first of these, and that behind it
+abbrev pub CutAt : Stop → List ℕ → List ℕ → List ℕ → Type 0
+CutAt stop text before behind = (mark : ℕ) × (text ≡ before ++ (mark ∷ behind))
+    × IsStop stop mark × All (λ b. IsStop stop b → ⊥) before
+
+-- A text begins with this line, behind which this is left: a line feed ends it, or the text ends.
+abbrev pub FirstLine : List ℕ → List ℕ → List ℕ → Type 0
+FirstLine text line rest = All (IsOther 10) line
+    × ((text ≡ line ++ (10 ∷ rest)) ⊎ ((text ≡ line) × (rest ≡ []) × (0 < length line)))
+
+-- How many blanks stand first in a line.
+abbrev pub indent_of : List ℕ → ℕ
+indent_of line = prefix_len is_ascii_whitespace line
+
+-- A text without the blanks that stand last in it.
+abbrev pub trimmed_end : List ℕ → List ℕ
+trimmed_end text = take (length text - suffix_len is_ascii_whitespace text) text
+
+-- A text without the blanks at both ends.
+unfoldable pub trimmed : List ℕ → List ℕ
+trimmed text = trimmed_end (drop (prefix_len is_ascii_whitespace text) text)
+
+-- A comment may begin behind these bytes of a line: there are none, or the last is a blank.
+abbrev pub MayOpen : List ℕ → Type 0
+MayOpen before = (before ≡ [])
+    ⊎ ((front : List ℕ) × (b : ℕ) × (before ≡ front ++ b ∷ []) × IsBlank b)
+
+-- No comment of these marks begins in a line.
+abbrev pub NoComment : Marks → List ℕ → Type 0
+NoComment marks line = (before : List ℕ) (mark : ℕ) (rest : List ℕ) → line ≡ before ++ (mark ∷ rest)
+    → IsMark marks mark → MayOpen before → ⊥
+
+-- What is kept of a line: all of it, where no comment of these marks begins in it; else what stands
+-- before the first.
+abbrev pub IsKept : Marks → List ℕ → List ℕ → Type 0
+IsKept marks line kept = NoComment marks kept × ((line ≡ kept) ⊎ ((mark : ℕ) × (rest : List ℕ)
+    × (line ≡ kept ++ (mark ∷ rest)) × IsMark marks mark × MayOpen kept))
+
+-- so many bytes are kept of a line
+abbrev pub KeepsSoMany : Marks → List ℕ → ℕ → Type 0
+KeepsSoMany marks line n = (n ≤ length line) × NoComment marks (take n line)
+    × (n < length line → IsMark marks (slice_index line n) × MayOpen (take n line))

@@ -1,0 +1,150 @@
+-- What a line says, by its text: the line without an inline comment, and without the blanks at both
+-- ends.
+use Rattle.std.specs.Prelude.{◌≡◌, ◌⊎◌, ◌<◌, ℕ, List, [], ◌∷◌, ◌++◌, length, Bool, true, false}
+use Rattle.std.specs.Prelude.{Option, Some, None, option_map, nat_lt}
+use Rattle.std.specs.Borrow.{Bor}
+use Rattle.std.specs.List.{All}
+use Rattle.format_ini.specs.Front.{Begins, IsKept, IsOther, NotFirst, indent_of, trimmed}
+use Rattle.format_ini.specs.Marks.{IsDelimiter, IsMark}
+use Rattle.format_ini.specs.declared.dialect.Continued.{Continued}
+use Rattle.format_ini.specs.declared.dialect.Continued.TheVariants.{Never, UntilEmpty, PastEmpty}
+use Rattle.format_ini.specs.declared.dialect.Dialect.{Dialect}
+use Rattle.format_ini.specs.declared.lines.Entry.{Entry}
+use Rattle.format_ini.specs.declared.lines.Entry.TheVariants as entries
+use Rattle.format_ini.specs.declared.lines.Refusal.{Refusal}
+use Rattle.format_ini.specs.declared.lines.Refusal.TheVariants as why
+use Rattle.format_ini.specs.declared.lines.State.{State}
+
+-- What a line says: a section by its name; a pair, with its key and the value, or the first line of
+-- that; or one more line of the value of the pair before.
+pub data Said : Type 0 where
+  section : (name : List ℕ) → Said
+  pair : (key : List ℕ) (value : Option (List ℕ)) → Said
+  more : (value : List ℕ) → Said
+
+abbrev pub value_of : Option (Bor (List ℕ)) → Option (List ℕ)
+value_of value = option_map (λ v. v.now) value
+
+-- what an entry says
+abbrev pub said_in : Entry → Said
+said_in (entries.Section name) = section name.now
+said_in (entries.Pair key value) = pair key.now (value_of value)
+said_in (entries.More value) = more value.now
+
+abbrev pub said_of : Option Entry → List Said
+said_of None = []
+said_of (Some entry) = said_in entry ∷ []
+
+-- The text is the name of a section in brackets, of one byte or more.
+abbrev pub IsSection : List ℕ → List ℕ → Type 0
+IsSection text name = (text ≡ 91 ∷ (name ++ 93 ∷ [])) × All (IsOther 93) name × (0 < length name)
+
+-- The text is a pair: what stands before its first delimiter, without blanks behind it, is the key,
+-- and what stands behind, without blanks at both ends, the value. Without a delimiter the text is
+-- the key, where the dialect lets keys be without values. A text begins with no blank, so no key is
+-- empty.
+abbrev pub IsPair : Dialect → List ℕ → List ℕ → Option (List ℕ) → Type 0
+IsPair d text key value =
+    ((before : List ℕ) × (mark : ℕ) × (behind : List ℕ) × (text ≡ before ++ (mark ∷ behind))
+    × IsDelimiter d.delimiters mark × All (λ b. IsDelimiter d.delimiters b → ⊥) before
+    × (0 < length before) × (key ≡ trimmed before) × (value ≡ Some (trimmed behind)))
+    ⊎ (All (λ b. IsDelimiter d.delimiters b → ⊥) text × (d.valueless ≡ true) × (key ≡ text)
+    × (value ≡ None))
+
+-- Why a text that begins with `[` is no section.
+abbrev pub NoSection : List ℕ → Refusal → Type 0
+NoSection text why.OpenSection = (inside : List ℕ) × (text ≡ 91 ∷ inside) × All (IsOther 93) inside
+NoSection text why.EmptySection = (behind : List ℕ) × (text ≡ 91 ∷ 93 ∷ behind)
+NoSection text why.TextBehindSection = (name : List ℕ) × (behind : List ℕ)
+    × (text ≡ 91 ∷ (name ++ 93 ∷ behind)) × All (IsOther 93) name × (0 < length behind)
+NoSection text why.NoSection = ⊥
+NoSection text why.NoKey = ⊥
+NoSection text why.NoDelimiter = ⊥
+
+-- Why a text is no pair.
+abbrev pub NoPair : Dialect → List ℕ → Refusal → Type 0
+NoPair d text why.OpenSection = ⊥
+NoPair d text why.EmptySection = ⊥
+NoPair d text why.TextBehindSection = ⊥
+NoPair d text why.NoSection = ⊥
+NoPair d text why.NoKey = Begins (IsDelimiter d.delimiters) text
+NoPair d text why.NoDelimiter =
+    All (λ b. IsDelimiter d.delimiters b → ⊥) text × (d.valueless ≡ false)
+
+-- how deep the pair is indented that the next line may go on
+abbrev pub pair_at : Continued → ℕ → Option (List ℕ) → Option ℕ
+pair_at Never indent value = None
+pair_at UntilEmpty indent None = None
+pair_at UntilEmpty indent (Some v) = Some indent
+pair_at PastEmpty indent None = None
+pair_at PastEmpty indent (Some v) = Some indent
+
+-- Pairs may stand here: behind a section, or where the dialect lets them be before the first.
+abbrev pub MayPair : Dialect → State → Type 0
+MayPair d s = (s.section ≡ true) ⊎ (d.before_sections ≡ true)
+
+-- What a line of its own says, and the state behind it: `[` begins a section, anything else a pair.
+abbrev pub OwnSays : Dialect → State → ℕ → List ℕ → List Said → State → Type 0
+OwnSays d s indent text said next =
+    ((name : List ℕ) × IsSection text name × (said ≡ section name ∷ [])
+    × (next ≡ record { section = true; pair = None }))
+    ⊎ ((key : List ℕ) × (value : Option (List ℕ)) × NotFirst (λ b. b ≡ 91) text × MayPair d s
+    × IsPair d text key value × (said ≡ pair key value ∷ [])
+    × (next ≡ record { section = s.section; pair = pair_at d.continued indent value }))
+
+-- Why it is none.
+abbrev pub LacksOwn : Dialect → State → List ℕ → Refusal → Type 0
+LacksOwn d s text reason =
+    (Begins (λ b. b ≡ 91) text × NoSection text reason)
+    ⊎ (NotFirst (λ b. b ≡ 91) text × (((reason ≡ why.NoSection) × (MayPair d s → ⊥))
+    ⊎ (MayPair d s × NoPair d text reason)))
+
+-- What a line says that is empty or a comment, and the state behind it: nothing, but for an empty
+-- line within a value, where the dialect has such.
+abbrev pub IdleSays : Continued → State → Bool → List Said → State → Type 0
+IdleSays Never s empty said next = (said ≡ []) × (next ≡ s)
+IdleSays UntilEmpty s empty said next =
+    (said ≡ []) × (next ≡ record { section = s.section; pair = None })
+IdleSays PastEmpty s empty said next = (next ≡ s)
+    × (((empty ≡ true) × ((n : ℕ) × (s.pair ≡ Some n)) × (said ≡ more [] ∷ []))
+    ⊎ (((empty ≡ false) ⊎ (s.pair ≡ None)) × (said ≡ [])))
+
+-- An empty line or a comment.
+abbrev pub IsIdle : Dialect → List ℕ → Type 0
+IsIdle d text = (text ≡ []) ⊎ Begins (IsMark d.comments) text
+
+-- whether a line is indented deeper than the pair that it may go on, if there is one
+abbrev pub is_deeper : Option ℕ → ℕ → Bool
+is_deeper None indent = false
+is_deeper (Some n) indent = nat_lt n indent
+
+-- A line goes on the value of the pair before.
+abbrev pub GoesOn : State → ℕ → Type 0
+GoesOn s indent = is_deeper s.pair indent ≡ true
+
+-- The line is empty: it has neither text nor an inline comment.
+abbrev pub IsEmpty : List ℕ → List ℕ → Bool → Type 0
+IsEmpty line kept true = (trimmed kept ≡ []) × (line ≡ kept)
+IsEmpty line kept false = (trimmed kept ≡ []) × (line ≡ kept) → ⊥
+
+-- What a line says of which this is kept. It is empty or a comment; or it goes on the value of the
+-- pair before; or it is a line of its own.
+abbrev pub StepOf : Dialect → State → List ℕ → List ℕ → List Said → State → Type 0
+StepOf d s line kept said next =
+    (IsIdle d (trimmed kept)
+    × ((empty : Bool) × IsEmpty line kept empty × IdleSays d.continued s empty said next))
+    ⊎ (((IsIdle d (trimmed kept) → ⊥) × GoesOn s (indent_of line)
+    × (said ≡ more (trimmed kept) ∷ []) × (next ≡ s))
+    ⊎ ((IsIdle d (trimmed kept) → ⊥) × (GoesOn s (indent_of line) → ⊥)
+    × OwnSays d s (indent_of line) (trimmed kept) said next))
+
+-- What a line says behind the lines before it, and the state behind it.
+abbrev pub Step : Dialect → State → List ℕ → List Said → State → Type 0
+Step d s line said next = (kept : List ℕ) × IsKept d.inline_comments line kept
+    × StepOf d s line kept said next
+
+-- Why a line says nothing of this dialect.
+abbrev pub Lacks : Dialect → State → List ℕ → Refusal → Type 0
+Lacks d s line reason = (kept : List ℕ) × IsKept d.inline_comments line kept
+    × (IsIdle d (trimmed kept) → ⊥) × (GoesOn s (indent_of line) → ⊥)
+    × LacksOwn d s (trimmed kept) reason

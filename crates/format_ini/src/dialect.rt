@@ -1,0 +1,160 @@
+//! Dialects: what ends a key, what begins a comment, and what goes on a value.
+
+ghost use Rattle.std.specs.Prelude.{◌≡◌, MatchBool, false, true};
+ghost use Rattle.format_ini.specs.Marks.{IsDelimiter, IsMark};
+
+/// What ends a key: the first of these in a line.
+#[derive(Clone, Copy, Debug, PartialEq, Eq)]
+pub enum Delimiters {
+    /// `=` alone; a colon is part of a key.
+    Equals,
+    /// `:` alone; an equals sign is part of a key.
+    Colon,
+    /// One or the other.
+    Either,
+}
+
+/// What begins a comment.
+#[derive(Clone, Copy, Debug, PartialEq, Eq)]
+pub enum Marks {
+    /// Nothing: there are no such comments.
+    Neither,
+    /// `#` alone.
+    NumberSign,
+    /// `;` alone.
+    Semicolon,
+    /// One or the other.
+    Either,
+}
+
+/// What a line means that is indented deeper than the pair before it.
+#[derive(Clone, Copy, Debug, PartialEq, Eq)]
+pub enum Continued {
+    /// It is a line of its own.
+    Never,
+    /// It goes on the value of that pair, until an empty line or a comment.
+    UntilEmpty,
+    /// It goes on the value of that pair, and empty lines within are part of the value. Comments
+    /// within are passed over.
+    PastEmpty,
+}
+
+/// How lines are read.
+///
+/// ```
+/// use format_ini::dialect::{Dialect, Delimiters};
+///
+/// let only_equals = Dialect {
+///     delimiters: Delimiters::Equals,
+///     ..Dialect::python()
+/// };
+/// assert!(rt; only_equals.delimiters == Delimiters::Equals);
+/// ```
+#[derive(Clone, Copy, Debug, PartialEq, Eq)]
+pub struct Dialect {
+    /// What ends a key.
+    pub delimiters: Delimiters,
+    /// What begins a comment where it is the first of a line, behind white space.
+    pub comments: Marks,
+    /// What begins a comment at the start of a line, or behind white space in it.
+    pub inline_comments: Marks,
+    /// What a line means that is indented deeper than the pair before it.
+    pub continued: Continued,
+    /// Whether a line without a delimiter is a key without a value; else it is refused.
+    pub valueless: bool,
+    /// Whether pairs may stand before the first section; else they are refused.
+    pub before_sections: bool,
+}
+
+impl Dialect {
+    /// The dialect of Python's `configparser`, unless it is told another: `=` and `:`, `#` and `;`
+    /// at the start of lines, continued lines with empty lines within.
+    ///
+    /// ```
+    /// use format_ini::dialect::{Dialect, Marks};
+    ///
+    /// assert!(rt; Dialect::python().inline_comments == Marks::Neither);
+    /// ```
+    pub fn python() -> Dialect
+        ensures { (result.delimiters ≡ Delimiters.Either) × (result.comments ≡ Marks.Either)
+            × (result.inline_comments ≡ Marks.Neither)
+            × (result.continued ≡ Continued.PastEmpty)
+            × (result.valueless ≡ false) × (result.before_sections ≡ false) }
+    {
+        Dialect {
+            delimiters: Delimiters::Either,
+            comments: Marks::Either,
+            inline_comments: Marks::Neither,
+            continued: Continued::PastEmpty,
+            valueless: false,
+            before_sections: false,
+        }
+    }
+
+    /// The dialect of desktop entries (Desktop Entry Specification, "Basic format of the file"):
+    /// `=`, `#` at the start of lines, a line for each pair.
+    ///
+    /// ```
+    /// use format_ini::dialect::{Delimiters, Dialect};
+    ///
+    /// assert!(rt; Dialect::desktop().delimiters == Delimiters::Equals);
+    /// ```
+    pub fn desktop() -> Dialect
+        ensures { (result.delimiters ≡ Delimiters.Equals) × (result.comments ≡ Marks.NumberSign)
+            × (result.inline_comments ≡ Marks.Neither) × (result.continued ≡ Continued.Never)
+            × (result.valueless ≡ false) × (result.before_sections ≡ false) }
+    {
+        Dialect {
+            delimiters: Delimiters::Equals,
+            comments: Marks::NumberSign,
+            inline_comments: Marks::Neither,
+            continued: Continued::Never,
+            valueless: false,
+            before_sections: false,
+        }
+    }
+
+    /// The dialect that reads most: `=` and `:`, comments behind white space too, keys without
+    /// values, pairs before the first section, a line for each pair.
+    ///
+    /// ```
+    /// use format_ini::dialect::Dialect;
+    ///
+    /// assert!(rt; Dialect::lenient().valueless);
+    /// ```
+    pub fn lenient() -> Dialect
+        ensures { (result.delimiters ≡ Delimiters.Either) × (result.comments ≡ Marks.Either)
+            × (result.inline_comments ≡ Marks.Either) × (result.continued ≡ Continued.Never)
+            × (result.valueless ≡ true) × (result.before_sections ≡ true) }
+    {
+        Dialect {
+            delimiters: Delimiters::Either,
+            comments: Marks::Either,
+            inline_comments: Marks::Either,
+            continued: Continued::Never,
+            valueless: true,
+            before_sections: true,
+        }
+    }
+}
+
+pub(crate) fn is_delimiter(delimiters: Delimiters, byte: u8) -> bool
+    ensures { MatchBool result (IsDelimiter delimiters byte) (IsDelimiter delimiters byte → ⊥) }
+{
+    match delimiters {
+        Delimiters::Equals => byte == b'=',
+        Delimiters::Colon => byte == b':',
+        Delimiters::Either => byte == b'=' || byte == b':',
+    }
+}
+
+pub(crate) fn is_mark(marks: Marks, byte: u8) -> bool
+    ensures { MatchBool result (IsMark marks byte) (IsMark marks byte → ⊥) }
+{
+    match marks {
+        Marks::Neither => false,
+        Marks::NumberSign => byte == b'#',
+        Marks::Semicolon => byte == b';',
+        Marks::Either => byte == b'#' || byte == b';',
+    }
+}

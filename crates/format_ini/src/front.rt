@@ -1,0 +1,150 @@
+//! What stands first in a text, and texts cut at a byte.
+
+ghost use Rattle.std.specs.Prelude.{◌≡◌, ◌<◌, ◌+◌, ◌∷◌, [], true, length, take, drop, slice_index};
+ghost use Rattle.std.specs.Prelude.{MatchBool, MatchOption};
+ghost use Rattle.std.specs.List.{All};
+ghost use Rattle.format_ini.specs.Front.{Begins, CutAt, FirstLine, IsKept, IsStop, KeepsSoMany};
+ghost use Rattle.format_ini.specs.Front.{NotFirst, StopsAt, indent_of, trimmed};
+ghost use Rattle.format_ini.specs.Marks.{IsMark};
+
+use crate::dialect::{Delimiters, Marks, is_delimiter, is_mark};
+
+// What stands before a byte of ASCII, and what behind it.
+pub(crate) fn around(text: &str, place: usize) -> (&str, &str)
+    requires within { place < length text.now }
+    requires ascii { slice_index text.now place < 128 }
+    ensures before { result.0.now ≡ take place text.now }
+    ensures behind { result.1.now ≡ drop (place + 1) text.now }
+{
+    (&text[..place], &text[place + 1..])
+}
+
+/// What a text is cut at.
+#[derive(Clone, Copy)]
+pub(crate) enum Stop {
+    /// The end of a line.
+    LineFeed,
+    /// The end of a section's name.
+    Bracket,
+    /// The end of a key.
+    Delimiter(Delimiters),
+}
+
+fn is_stop(stop: Stop, byte: u8) -> bool
+    ensures { MatchBool result (IsStop stop byte) (IsStop stop byte → ⊥) }
+{
+    match stop {
+        Stop::LineFeed => byte == b'\n',
+        Stop::Bracket => byte == b']',
+        Stop::Delimiter(delimiters) => is_delimiter(delimiters, byte),
+    }
+}
+
+// How many bytes stand before the first of these, or in all.
+fn run_len(stop: Stop, bytes: &[u8]) -> usize
+    ensures { StopsAt stop bytes.now result }
+{
+    for (place, byte) in bytes.iter().enumerate() {
+        if is_stop(stop, *byte) {
+            return place;
+        }
+    }
+    bytes.len()
+}
+
+// What stands before the first of these, and what behind it; `None` where there is none.
+pub(crate) fn cut(stop: Stop, text: &str) -> Option<(&str, &str)>
+    ensures { MatchOption result (All (λ b. IsStop stop b → ⊥) text.now)
+        (λ it. CutAt stop text.now it.0.now it.1.now) }
+{
+    let size = run_len(stop, text.as_bytes());
+    if size < text.len() {
+        Some(around(text, size))
+    } else {
+        None
+    }
+}
+
+// Whether this byte stands first.
+pub(crate) fn first_is(text: &str, byte: u8) -> bool
+    ensures { MatchBool result (text.now ≡ byte ∷ drop 1 text.now)
+        (NotFirst (λ b. b ≡ byte) text.now) }
+{
+    match text.as_bytes().first() {
+        Some(first) => *first == byte,
+        None => false,
+    }
+}
+
+// Whether a mark stands first.
+pub(crate) fn is_comment(marks: Marks, text: &str) -> bool
+    ensures { MatchBool result (Begins (IsMark marks) text.now)
+        (NotFirst (IsMark marks) text.now) }
+{
+    match text.as_bytes().first() {
+        Some(first) => is_mark(marks, *first),
+        None => false,
+    }
+}
+
+// The first line, and what is left behind it; `None` where there is no text.
+pub(crate) fn first_line(text: &str) -> Option<(&str, &str)>
+    ensures { MatchOption result (text.now ≡ [])
+        (λ it. FirstLine text.now it.0.now it.1.now) }
+{
+    if text.is_empty() {
+        return None;
+    }
+    match cut(Stop::LineFeed, text) {
+        Some(parts) => Some(parts),
+        None => Some((text, "")),
+    }
+}
+
+// How many blanks stand first in a line.
+pub(crate) fn indent(line: &str) -> usize
+    ensures { result ≡ indent_of line.now }
+{
+    line.len() - line.trim_ascii_start().len()
+}
+
+// A text without the blanks at both ends.
+pub(crate) fn trim(text: &str) -> &str
+    ensures { result.now ≡ trimmed text.now }
+{
+    text.trim_ascii()
+}
+
+// Whether a comment begins with this byte, where one may.
+fn begins_comment(marks: Marks, may_open: bool, byte: u8) -> bool
+    ensures { MatchBool result ((may_open ≡ true) × IsMark marks byte)
+        (may_open ≡ true → IsMark marks byte → ⊥) }
+{
+    may_open && is_mark(marks, byte)
+}
+
+// How many bytes stand before the first comment of these marks, or in all.
+fn kept_len(marks: Marks, line: &[u8]) -> usize
+    ensures { KeepsSoMany marks line.now result }
+{
+    let mut may_open = true;
+    for (place, byte) in line.iter().enumerate() {
+        if begins_comment(marks, may_open, *byte) {
+            return place;
+        }
+        may_open = byte.is_ascii_whitespace();
+    }
+    line.len()
+}
+
+// A line without a comment of these marks.
+pub(crate) fn without_comment(marks: Marks, line: &str) -> &str
+    ensures { IsKept marks line.now result.now }
+{
+    let size = kept_len(marks, line.as_bytes());
+    if size < line.len() {
+        around(line, size).0
+    } else {
+        line
+    }
+}

@@ -1,0 +1,20 @@
+//! What the words of the contracts say together.
+
+ghost use Rattle.std.specs.Prelude.{◌≡◌, List, ℕ};
+ghost use Rattle.format_ini.specs.Documents.{IsDocument, IsRefused};
+ghost use Rattle.format_ini.specs.Lines.{Said};
+ghost use Rattle.format_ini.specs.declared.documents.Fault.{Fault};
+
+use crate::dialect::Dialect;
+
+/// A text is one document of a dialect at most. So the document that is read is the one that it is.
+pub fn a_text_is_one_document(dialect: Dialect)
+    ensures { (text : List ℕ) (said others : List Said) → IsDocument dialect text said
+        → IsDocument dialect text others → said ≡ others }
+{}
+
+/// A text that is refused is no document of the dialect.
+pub fn a_refused_text_is_none(dialect: Dialect)
+    ensures { (text : List ℕ) (fault : Fault) (said : List Said)
+        → IsRefused dialect text fault → IsDocument dialect text said → ⊥ }
+{}

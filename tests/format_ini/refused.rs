@@ -1,0 +1,48 @@
+//! Texts that are no documents: where the first line begins that is refused, and why.
+use format_ini::dialect::Dialect;
+use format_ini::documents::{Entries, Fault, IniError, read_document};
+use format_ini::lines::{Entry, Refusal};
+
+/// A text, the bytes before the line that is refused, and why. Python's `configparser` refuses the
+/// same lines, but for what stands behind a section, and `[` at a key's start.
+const REFUSED: &[(&str, usize, Refusal)] = &[
+    ("a = b\n", 0, Refusal::NoSection),
+    ("\n# c\na\n", 5, Refusal::NoSection),
+    ("\u{feff}a = b\n", 3, Refusal::NoSection),
+    ("[s]\na\n", 4, Refusal::NoDelimiter),
+    ("[s]\na = b\nc\n", 10, Refusal::NoDelimiter),
+    ("[s]\n= b\n", 4, Refusal::NoKey),
+    ("[s]\n  : b\n", 4, Refusal::NoKey),
+    ("[s\na = b\n", 0, Refusal::OpenSection),
+    ("[s]\na = b\n[t = c\n", 10, Refusal::OpenSection),
+    ("[]\n", 0, Refusal::EmptySection),
+    ("[s] t\n", 0, Refusal::TextBehindSection),
+    ("[s]]\n", 0, Refusal::TextBehindSection),
+];
+
+#[test]
+fn lines_that_are_refused(rt: HostRuntime) {
+    for (text, offset, why) in REFUSED {
+        match read_document(rt.alloc(), Dialect::python(), text) {
+            Err(IniError::Refused(fault)) => {
+                assert_eq!(rt; fault, Fault { offset: *offset, why: *why });
+            }
+            _ => assert!(rt; false),
+        }
+    }
+}
+
+/// What stands before a line that is refused is read, and the line is refused again.
+#[test]
+fn entries_before_a_refusal(rt: HostRuntime) {
+    let mut entries = Entries::new(Dialect::python(), "[s]\na = b\n\n= c\n");
+    assert!(rt; entries.next_entry() == Ok(Some(Entry::Section("s"))));
+    let pair = Entry::Pair {
+        key: "a",
+        value: Some("b"),
+    };
+    assert!(rt; entries.next_entry() == Ok(Some(pair)));
+    assert!(rt; entries.next_entry() == Ok(Some(Entry::More(""))));
+    assert!(rt; entries.next_entry() == Err(Refusal::NoKey));
+    assert!(rt; entries.next_entry() == Err(Refusal::NoKey));
+}
