@@ -49,7 +49,8 @@ fn read_whole<'i, A: Allocator + Copy>(
 /// let reply = Reply::Bulk(b"foo".as_slice());
 /// let mut bytes = Vec::new(alloc);
 /// let both = reads_back(alloc, 0, &reply, b"+OK".as_slice(), &mut bytes);
-/// assert!(rt; matches!(both, Ok((Reply::Bulk(text), rest)) if text == b"foo" && rest == b"+OK"));
+/// assert!(rt; matches!(both, Ok((Reply::Bulk(text), rest))
+///     if text == b"foo".as_slice() && rest == b"+OK".as_slice()));
 /// ```
 pub fn reads_back<'i, A: Allocator + Copy, B: Allocator>(
     alloc: A,
@@ -79,7 +80,8 @@ pub fn reads_back<'i, A: Allocator + Copy, B: Allocator>(
 /// let parts = [b"LLEN".as_slice(), b"mylist".as_slice()];
 /// let mut bytes = Vec::new(alloc);
 /// let both = command_reads_back(alloc, parts.as_slice(), b"*".as_slice(), &mut bytes);
-/// assert!(rt; matches!(both, Ok((Reply::Array(list), rest)) if list.len() == 2 && rest == b"*"));
+/// assert!(rt; matches!(both, Ok((Reply::Array(list), rest))
+///     if list.len() == 2 && rest == b"*".as_slice()));
 /// ```
 pub fn command_reads_back<'i, A: Allocator + Copy, B: Allocator>(
     alloc: A,
