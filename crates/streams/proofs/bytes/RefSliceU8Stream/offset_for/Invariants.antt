@@ -6,7 +6,8 @@ use Rattle.streams.proofs.bytes.RefSliceU8Stream.offset_for.Given as goal
 abbrev pub invariant-short : goal.invariant-short
 invariant-short g l =
     (l.from ≤ length l.all)
-    × All (λ x. AnswersSeen (λ t. t) (g.P.TokenTest.answers l.predicate) x false) (take l.from l.all)
+    × All (λ x. AnswersSeen (λ t. t) (g.P.TokenTest.answers l.predicate) x false)
+          (take l.from l.all)
 
 abbrev pub decreases-short : goal.decreases-short
 decreases-short g l = 16 - l.from
@@ -20,7 +21,8 @@ invariant-loop-next g l =
 abbrev pub invariant-long : goal.invariant-long
 invariant-long g l =
     (l.from ≤ length l.all)
-    × All (λ x. AnswersSeen (λ t. t) (g.P.TokenTest.answers l.predicate) x false) (take l.from l.all)
+    × All (λ x. AnswersSeen (λ t. t) (g.P.TokenTest.answers l.predicate) x false)
+          (take l.from l.all)
 
 abbrev pub decreases-long : goal.decreases-long
 decreases-long g l = length l.all - l.from
