@@ -2,6 +2,7 @@
 use format_ini::dialect::Dialect;
 use format_ini::documents::{Entries, Fault, IniError, read_document};
 use format_ini::lines::{Entry, Refusal};
+use text_positions::Position;
 
 /// A text, the bytes before the line that is refused, and why. Python's `configparser` refuses the
 /// same lines, but for what stands behind a section, and `[` at a key's start.
@@ -45,4 +46,24 @@ fn entries_before_a_refusal(rt: HostRuntime) {
     assert!(rt; entries.next_entry() == Ok(Some(Entry::More(""))));
     assert!(rt; entries.next_entry() == Err(Refusal::NoKey));
     assert!(rt; entries.next_entry() == Err(Refusal::NoKey));
+}
+
+/// Faults as they are shown, with the line and the column of the line that is refused.
+#[test]
+fn faults_are_shown(rt: HostRuntime) {
+    let text = "[gr\u{f6}\u{df}e]\n\n= b\n";
+    match read_document(rt.alloc(), Dialect::python(), text) {
+        Err(IniError::Refused(fault)) => {
+            let position = Position { line: 3, column: 1 };
+            assert_eq!(rt; fault.position(text), Some(position));
+            match format!(in rt.alloc(); "{fault}") {
+                Ok(shown) => {
+                    let wanted = "no key before the delimiter in the line at byte 11";
+                    assert_eq!(rt; shown.as_str(), wanted);
+                }
+                Err(_) => assert!(rt; false),
+            }
+        }
+        _ => assert!(rt; false),
+    }
 }

@@ -152,11 +152,13 @@ idle_one PastEmpty s empty said other next left (n, inl (holds, it, e)) (m, inl 
     (e ∙ sym f, n ∙ sym m)
 idle_one PastEmpty s empty said other next left (n, inl (holds, it, e)) (m, inr (inl never, f)) =
     absurd (unlike never holds)
-idle_one PastEmpty s empty said other next left (n, inl (holds, (k, it), e)) (m, inr (inr none, f)) =
+idle_one PastEmpty s empty said other next left (n, inl (holds, (k, it), e))
+    (m, inr (inr none, f)) =
     let h : None ≡ Some k = sym none ∙ it in absurd cc
 idle_one PastEmpty s empty said other next left (n, inr (inl never, e)) (m, inl (holds, it, f)) =
     absurd (unlike never holds)
-idle_one PastEmpty s empty said other next left (n, inr (inr none, e)) (m, inl (holds, (k, it), f)) =
+idle_one PastEmpty s empty said other next left (n, inr (inr none, e))
+    (m, inl (holds, (k, it), f)) =
     let h : None ≡ Some k = sym none ∙ it in absurd cc
 idle_one PastEmpty s empty said other next left (n, inr (why, e)) (m, inr (too, f)) =
     (e ∙ sym f, n ∙ sym m)

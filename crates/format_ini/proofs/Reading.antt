@@ -101,9 +101,6 @@ module _ (d d' : Dialect) (same : d' ≡ d) (s mid : State) (text here : List �
         omega (arith, h, k),
       )
 
-  pub next_none : here ≡ [] → NextEntry d s text (Ok None) mid here
-  next_none none = (it, none)
-
   pub next_err : (line behind : List ℕ) (why : Refusal) → FirstLine here line behind
       → Lacks d' mid line why → NextEntry d s text (Err why) mid here
   next_err line behind why first lacks =

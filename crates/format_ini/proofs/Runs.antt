@@ -1,57 +1,20 @@
 -- Runs of bytes, and comments behind them.
-use Rattle.std.specs.Prelude.{◌≡◌, ◌⊎◌, ◌≤◌, ◌<◌, ◌+◌, ℕ, List, [], ◌∷◌, ◌++◌, length, take, drop}
+use Rattle.std.specs.Prelude.{◌≡◌, ◌⊎◌, ◌<◌, ◌+◌, ℕ, List, [], ◌∷◌, ◌++◌, length, take, drop}
 use Rattle.std.specs.Prelude.{Bool, true, false, slice_index}
 use Rattle.std.specs.Char.{is_ascii_whitespace}
-use Rattle.std.specs.List.{All}
 use Rattle.std.proofs.Common.{refl, sym, ap, subst, inl, inr, ◌∙◌, arith}
 use Rattle.std.proofs.lemmas.List.{drop_more, length-append, same_from_push, take-append-drop}
-use Rattle.std.proofs.lemmas.List.{take_all, take_more}
-use Rattle.format_ini.specs.Front.{CutAt, FirstLine, IsKept, IsStop, KeepsSoMany, MayOpen}
-use Rattle.format_ini.specs.Front.{NoComment, StopsAt}
+use Rattle.std.proofs.lemmas.List.{take_more}
+use Rattle.format_ini.specs.Front.{FirstLine, IsKept, KeepsSoMany, MayOpen}
+use Rattle.format_ini.specs.Front.{NoComment}
 use Rattle.format_ini.specs.Marks.{IsBlank, IsMark}
-use Rattle.format_ini.specs.declared.dialect.Delimiters.TheVariants.{Colon, Either, Equals}
 use Rattle.format_ini.specs.declared.dialect.Marks.{Marks}
-use Rattle.format_ini.specs.declared.dialect.Marks.TheVariants as marks
-use Rattle.format_ini.specs.declared.front.Stop.{Stop}
-use Rattle.format_ini.specs.declared.front.Stop.TheVariants.{Bracket, Delimiter, LineFeed}
-
--- what stops is of ASCII
-pub stop_ascii : (stop : Stop) (b : ℕ) → IsStop stop b → b < 128
-stop_ascii LineFeed b is = omega (arith, is)
-stop_ascii Bracket b is = omega (arith, is)
-stop_ascii (Delimiter Equals) b is = omega (arith, is)
-stop_ascii (Delimiter Colon) b is = omega (arith, is)
-stop_ascii (Delimiter Either) b (inl is) = omega (arith, is)
-stop_ascii (Delimiter Either) b (inr is) = omega (arith, is)
-
-pub mark_ascii : (marks : Marks) (b : ℕ) → IsMark marks b → b < 128
-mark_ascii marks.Neither b is = absurd is
-mark_ascii marks.NumberSign b is = omega (arith, is)
-mark_ascii marks.Semicolon b is = omega (arith, is)
-mark_ascii marks.Either b (inl is) = omega (arith, is)
-mark_ascii marks.Either b (inr is) = omega (arith, is)
 
 -- a list in two parts and what stands between them
 pub around_is : (xs : List ℕ) (n : ℕ) → n < length xs
     → xs ≡ take n xs ++ (slice_index xs n ∷ drop (n + 1) xs)
 around_is xs n less = sym (take-append-drop n xs)
     ∙ ap (λ l. take n xs ++ l) (drop_more xs n 0 less)
-
-pub cut_at : (stop : Stop) (xs : List ℕ) (n : ℕ) → StopsAt stop xs n → n < length xs
-    → CutAt stop xs (take n xs) (drop (n + 1) xs)
-cut_at stop xs n (within, others, is) less =
-    (slice_index xs n, around_is xs n less, is less, others)
-
-pub all_others : (stop : Stop) (xs : List ℕ) (n : ℕ) → StopsAt stop xs n → length xs ≤ n
-    → All (λ b. IsStop stop b → ⊥) xs
-all_others stop xs n (within, others, is) past =
-    let P : List ℕ → Type 0 = λ l. All (λ b. IsStop stop b → ⊥) l in
-    subst P (take_all n xs past) others
-
--- a line that a line feed ends
-pub line_cut : (text line rest : List ℕ) → CutAt LineFeed text line rest → FirstLine text line rest
-line_cut text line rest (mark, e, is, others) =
-    (others, inl (e ∙ ap (λ b. line ++ (b ∷ rest)) is))
 
 -- what is left behind a line is less
 pub line_less : (text line rest : List ℕ) → FirstLine text line rest → length rest < length text
@@ -84,10 +47,6 @@ no_comment_more marks xs x none not before m rest e is opens =
       | inl p ↦ not (subst P p.0 opens) (subst Q p.1 is)
       | inr p ↦ none before m p.0 p.1 is opens
     ]
-
-pub no_comment_none : (marks : Marks) → NoComment marks []
-no_comment_none marks [] m rest e is opens = absurd cc
-no_comment_none marks (b ∷ bs) m rest e is opens = absurd cc
 
 pub opens_behind : (xs : List ℕ) (x : ℕ) → IsBlank x → MayOpen (xs ++ x ∷ [])
 opens_behind xs x blank = inr (xs, x, refl, blank)
@@ -144,9 +103,3 @@ kept_part marks line n (within, none, is) less = (
     (is less).1,
   ),
 )
-
-pub kept_all : (marks : Marks) (line : List ℕ) (n : ℕ) → KeepsSoMany marks line n
-    → length line ≤ n → IsKept marks line line
-kept_all marks line n (within, none, is) past =
-    let P : List ℕ → Type 0 = λ l. NoComment marks l in
-    (subst P (take_all n line past) none, inl refl)

@@ -30,3 +30,4 @@ pub mod documents;
 mod front;
 pub mod laws;
 pub mod lines;
+mod shown;
