@@ -305,11 +305,12 @@ enum pergidau_code pergidau_csv_record(
  * that of all longer bytes too.
  *
  * PERGIDAU_DONE, PERGIDAU_TOO_SMALL, PERGIDAU_NO_MEMORY: as for a record that is whole.
- * PERGIDAU_INCOMPLETE: no record with its line end is there. It does not say that one can
- * come: so it answers of x"y too, with which no record begins, and the caller bounds how many
- * bytes are held. PERGIDAU_REFUSED: whatever comes behind the bytes, they begin with no
- * record; today that is answered only of more than 2^61 bytes. The last record may have no
- * line end: where no more bytes come, the call for whole ones reads it.
+ * PERGIDAU_INCOMPLETE: no record with its line end is there, and with three bytes more at most
+ * they can begin with one. PERGIDAU_REFUSED: whatever comes behind the bytes, they begin with
+ * no record, and that is answered as soon as the byte is there at which none goes on: so of
+ * x". More than 2^61 bytes are refused too. A field in quotes that are not closed goes on for
+ * ever, so the caller bounds how many bytes are held. The last record may have no line end:
+ * where no more bytes come, the call for whole ones reads it.
  *
  * Each call reads from the first byte on, and holds as much memory as that for a whole record.
  *

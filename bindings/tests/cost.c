@@ -109,6 +109,7 @@ static const struct {
     {RECORD, "", ",", "\"", LENGTH, 80, 16},
     {RECORD_IN_PIECES, "", ",", "\n", LENGTH, 80, 16},
     {RECORD_IN_PIECES, "", "a,", "", LENGTH / 2, 80, 16},
+    {RECORD_IN_PIECES, "", ",", "\"\"x", LENGTH, 80, 16},
     {REPLY, "", "*1\r\n", ":1\r\n", 512, 32, 512},
     {REPLY, "", "*1\r\n", ":1\r\n", LENGTH / 4, 32, 512},
     {REPLY, "*262144\r\n", ":1\r\n", "", 262144, 32, 512},

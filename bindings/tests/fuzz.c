@@ -212,6 +212,26 @@ static void read_head(const uint8_t *bytes, size_t length)
     }
 }
 
+/* Whether a line end, or a quote and one, makes the bytes begin with a record. */
+static bool may_go_on(const uint8_t *bytes, size_t length, uint32_t line_feeds)
+{
+    static const char *ends[] = {"\n", "\r\n", "\"\n", "\"\r\n"};
+    struct pergidau_record out;
+    bool goes_on = false;
+    uint8_t *more = malloc(length + 3);
+    HOLDS(more != NULL);
+    memcpy(more, bytes, length);
+    for (size_t i = 0; i < sizeof ends / sizeof *ends; i++) {
+        size_t size = strlen(ends[i]);
+        memcpy(more + length, ends[i], size);
+        goes_on = goes_on
+            || pergidau_csv_record(more, length + size, line_feeds, NULL, 0, NULL, 0, &out)
+                != PERGIDAU_REFUSED;
+    }
+    free(more);
+    return goes_on;
+}
+
 static void read_record(const uint8_t *bytes, size_t length)
 {
     struct pergidau_record out, cut;
@@ -257,7 +277,8 @@ static void read_record(const uint8_t *bytes, size_t length)
         HOLDS(code == PERGIDAU_REFUSED);
         code = pergidau_csv_record_in_pieces(bytes, length, line_feeds, text, most, places, count,
                                              &cut);
-        HOLDS(code == PERGIDAU_INCOMPLETE);
+        HOLDS(code == (may_go_on(bytes, length, line_feeds) ? PERGIDAU_INCOMPLETE
+                                                            : PERGIDAU_REFUSED));
     }
 }
 

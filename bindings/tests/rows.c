@@ -494,8 +494,16 @@ static const struct {
     {",,\"\",", 1, {"", "", "", ""}, 4, 0},
 };
 
-/* With a line end behind them these are no records either. */
-static const char *no_records[] = {"a\"", "\"a\"b", "a\r\n", "\"a\" ", "a\rb"};
+/* With a line end behind them these are no records either; and how many of their bytes can begin
+ * one: in pieces they are refused at the next. */
+static const struct {
+    const char *text;
+    uint32_t line_feeds;
+    size_t begins;
+} no_records[] = {
+    {"a\"", 1, 1},   {"\"a\"b", 1, 3}, {"a\r\n", 1, 1}, {"\"a\" ", 1, 3}, {"a\rb", 1, 1},
+    {"x\"y,z", 0, 1}, {"a\n\r\n", 0, 1}, {"a\rb", 0, 2},  {"b,\"\"\"", 7, 5},
+};
 
 static void test_record(size_t i)
 {
@@ -558,12 +566,23 @@ static void test_records(void)
     for (size_t i = 0; i < sizeof no_records / sizeof *no_records; i++) {
         uint8_t text[8];
         struct pergidau_span places[MOST_CSV];
-        size_t length = strlen(no_records[i]);
-        uint8_t *input = copied(no_records[i], length);
-        same("no record", no_records[i],
-             pergidau_csv_record(input, length, 1, text, sizeof text, places, MOST_CSV, &out),
+        const char *row = no_records[i].text;
+        uint32_t line_feeds = no_records[i].line_feeds;
+        size_t length = strlen(row);
+        uint8_t *input = copied(row, length);
+        same("no record", row,
+             pergidau_csv_record(input, length, line_feeds, text, sizeof text, places, MOST_CSV,
+                                 &out),
              PERGIDAU_REFUSED);
         free(input);
+        for (size_t room = 0; room <= length; room++) {
+            uint8_t *piece = copied(row, room);
+            same("no record of a piece", row,
+                 pergidau_csv_record_in_pieces(piece, room, line_feeds, text, sizeof text, places,
+                                               MOST_CSV, &out),
+                 room > no_records[i].begins ? PERGIDAU_REFUSED : PERGIDAU_INCOMPLETE);
+            free(piece);
+        }
     }
 }
 

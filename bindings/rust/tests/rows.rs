@@ -234,6 +234,26 @@ fn csv_record_of_pieces() {
     }
 }
 
+/// The bytes before the first at which no record goes on can begin one; with that byte none begins.
+#[test]
+fn csv_record_of_pieces_is_refused_where_none_goes_on() {
+    let rows: [(&[u8], LineEnd, usize); 6] = [
+        (b"x\"y,z", LineEnd::CrLf, 1),
+        (b"\"a\"b\r\n", LineEnd::CrLf, 3),
+        (b"a\nb\r\n", LineEnd::CrLf, 1),
+        (b"a\rb", LineEnd::CrLf, 2),
+        (b"a\r\n", LineEnd::Lf, 1),
+        (b"a,\"\"\"\",\"", LineEnd::Lf, 8),
+    ];
+    for (bytes, end, begins) in rows {
+        for cut in 0..=bytes.len() {
+            let piece = csv::record_in_pieces(&bytes[..cut], end, &mut [], &mut []);
+            let want = if cut > begins { Error::Refused(None) } else { Error::Incomplete };
+            assert_eq!(piece.unwrap_err(), want, "{bytes:?} {cut}");
+        }
+    }
+}
+
 #[test]
 fn csv_records_of_a_document() {
     let document = b"a,b\r\n\"1\r\n2\",\r\nlong enough for more room,x,y\r\n";
