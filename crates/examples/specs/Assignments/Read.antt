@@ -1,8 +1,8 @@
 -- What the parser of assignments reads and how it fails, and that these are lines and faults.
-use Rattle.std.specs.Prelude.{◌≡◌, ◌⊎◌, ⊤, ℕ, List, [], ◌∷◌, length, None, Result, Ok, Err}
+use Rattle.std.specs.Prelude.{◌⊎◌, ⊤, ℕ, List, [], ◌∷◌, length, None, Result, Ok, Err}
 use Rattle.std.specs.Borrow.{Bor}
 use Rattle.std.proofs.Common.{refl, sym, ap, subst, inl, inr, ◌∙◌, arith}
-use Rattle.examples.specs.Assignments.Assignments.{AreLines, Digits, IsFlag, IsSetting, IsTold}
+use Rattle.examples.specs.Assignments.Assignments.{AreLines, Digits, IsTold}
 use Rattle.examples.specs.Assignments.Assignments.{LacksValue, Line, Name, NoLine, NoValue}
 use Rattle.winnow.specs.AsChar.{IsAlpha, IsDecDigit}
 use Rattle.winnow.specs.Class.Laws.{class_takes, class_unique, one_is_some}
