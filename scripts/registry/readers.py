@@ -20,6 +20,9 @@ READERS = [
         "the tree to a level that bytes begin with, and none where none stands"),
     ("options in brackets", "examples/options", "yes",
         "the options that bytes begin with, whole and in pieces, by one composition"),
+    ("lines of settings and flags", "examples/assignments", "yes",
+        "`Ok` exactly where the bytes are these lines; at which byte a value lacks, or what is no "
+        "line begins"),
     ("CSV (RFC 4180)", "format_csv", "yes",
         "`Ok` exactly where the bytes are a document of these records, or a table; one record, "
         "whole and in pieces"),

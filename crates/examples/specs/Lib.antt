@@ -1,4 +1,5 @@
 -- Written by scripts/registries.py: do not edit.
+pub mod Assignments
 pub mod Brackets
 pub mod Color
 pub mod Errors

@@ -5,6 +5,7 @@
 //! - `color`: a color as `#a0b1c2`.
 //! - `lines`: lines of one letter, by their grammar and in the words of a standard.
 //! - `options`: options in brackets, by one composition, whole and in pieces.
+//! - `assignments`: lines of settings and flags, and at which place a value lacks.
 //! - `nested`: trees of numbers in brackets, nested to a level.
 //! - `brackets`: brackets in brackets, nested to a level, in pieces.
 //! - `pieces`: a setting that comes in pieces, answered for good.
@@ -14,6 +15,7 @@
 //! - `strings`: texts with escapes.
 #![tactic(auto)]
 
+pub mod assignments;
 pub mod brackets;
 pub mod color;
 pub mod errors;

@@ -1,0 +1,61 @@
+-- Lines of settings and flags: a setting is a name, an equals sign and a value, a flag a name.
+use Rattle.std.specs.Prelude.{◌≡◌, ◌⊎◌, ℕ, List, [], ◌∷◌, length, Result, IfOk, IfErr, MatchResult}
+use Rattle.std.specs.Borrow.{Bor}
+use Rattle.winnow.specs.AsChar.{IsAlpha, IsDecDigit}
+use Rattle.winnow.specs.Counted.{counted_reading}
+use Rattle.winnow.specs.Fails.Calls.{IsBefore}
+use Rattle.winnow.specs.Grammar.{Class, Each, Grammar, NoneStands}
+use Rattle.winnow.specs.Kind.{Kind}
+use Rattle.winnow.specs.{Needed, ParseFault}
+
+-- the longest beginning of letters, at least one
+abbrev pub Name : Grammar ℕ (Bor (List ℕ))
+Name = Class IsAlpha 1 (λ b. b) (λ b. b) counted_reading
+
+-- the longest beginning of digits, at least one
+abbrev pub Digits : Grammar ℕ (Bor (List ℕ))
+Digits = Class IsDecDigit 1 (λ b. b) (λ b. b) counted_reading
+
+-- a name, an equals sign, digits and a line feed
+abbrev pub IsSetting : List ℕ → List ℕ → Type 0
+IsSetting tokens rest =
+    (name : Bor (List ℕ)) × (value : List ℕ) × (digits : Bor (List ℕ))
+    × Name tokens name (61 ∷ value) × Digits value digits (10 ∷ rest)
+
+-- a name and a line feed
+abbrev pub IsFlag : List ℕ → List ℕ → Type 0
+IsFlag tokens rest = (name : Bor (List ℕ)) × Name tokens name (10 ∷ rest)
+
+-- a line
+abbrev pub Line : Grammar ℕ (Unit {0})
+Line tokens u rest = IsSetting tokens rest ⊎ IsFlag tokens rest
+
+-- lines, one behind the other
+abbrev pub AreLines : List ℕ → List ℕ → Type 0
+AreLines tokens rest = (us : List (Unit {0})) × Each Line tokens us rest
+
+-- behind a name and an equals sign no digit is
+abbrev pub NoValue : List ℕ → List ℕ → Type 0
+NoValue tokens rest = (name : Bor (List ℕ)) × Name tokens name (61 ∷ rest) × NoneStands Digits rest
+
+-- Behind lines a value lacks, at the rest.
+abbrev pub LacksValue : List ℕ → List ℕ → Type 0
+LacksValue tokens rest = (mid : List ℕ) × AreLines tokens mid × NoValue mid rest
+
+-- Behind lines is the rest, which is no line and no name with a value that lacks.
+abbrev pub NoLine : List ℕ → List ℕ → Type 0
+NoLine tokens rest =
+    AreLines tokens rest × NoneStands Line rest × ((end : List ℕ) → NoValue rest end → ⊥)
+    × (rest ≡ [] → ⊥)
+
+-- What a text is told to be. It is lines, or a fault says at which byte a value lacks, or what is
+-- no
+-- line begins; lines have no fault, and where a value lacks there is that fault.
+pub record IsTold {I X : Type 0} (inner_kind : X → Kind) (text : List ℕ)
+    (result : Result (Unit {0}) (ParseFault I X Needed)) : Type 0 where
+  pub lines : IfOk result (λ o. AreLines text [])
+  pub all : AreLines text [] → IfErr result (λ fault. ⊥)
+  pub fault : IfErr result (λ fault. (rest : List ℕ) × (LacksValue text rest ⊎ NoLine text rest)
+      × IsBefore length inner_kind text rest fault)
+  pub lacks : (rest : List ℕ) → LacksValue text rest
+      → MatchResult result (λ o. ⊥) (IsBefore length inner_kind text rest)

@@ -1,0 +1,92 @@
+//! Lines of settings and flags, as `width=12` and `debug`: behind an equals sign a value is due, so
+//! that a line lacks it is told for good, where the value is due.
+ghost use Rattle.std.specs.Prelude.{◌≡◌, [], ⊤, false};
+ghost use Rattle.examples.specs.Assignments.Assignments.{IsTold};
+ghost use Rattle.examples.specs.Assignments.Read.{LineFails, LineRead, LinesFail, LinesRead};
+ghost use Rattle.winnow.specs.Exact.Whole.{ReadsAll};
+ghost use Rattle.winnow.specs.Fails.Calls.{FaultsBy};
+ghost use Rattle.winnow.specs.Grammar.{Literally};
+ghost use Rattle.winnow.specs.Once.{SeesApart};
+
+use std::alloc::Allocator;
+use winnow::Parser;
+use winnow::ascii::impls::{Alpha1, Digit1};
+use winnow::combinator::{alt, cut_err, repeat};
+use winnow::error::{EmptyError, ErrMode, ModalError, ParseFault, ParserError};
+use winnow::exact::Fails;
+use winnow::stream::{AsChar, Compare, Range, StreamIsPartial};
+
+/// Lines that `line` reads, one behind the other, up to the end of the input.
+fn lines_of<I, E, A, P>(alloc: A, line: P, input: I) -> Result<(), ParseFault<I, E::Inner>>
+where
+    I: StreamIsPartial,
+    E: ParserError<I>,
+    A: Allocator + Copy,
+    P: Fails<I, (), E> + Drop,
+    requires whole { I.supports_partial ≡ false }
+    requires line { P.can_parse line × (P.told line).premise × (P.told line).consumes }
+    ensures reads { ReadsAll E.inner_kind
+        (LinesRead (P.told line).grammar (P.told line).failure) (I.view input).left.tokens
+        result }
+    ensures fails { FaultsBy I.reading.units E.inner_kind ((P.told line).spares_memory × ⊤)
+        (LinesRead (P.told line).grammar (P.told line).failure)
+        (LinesFail (P.told line).grammar (P.told line).failure) (I.view input).left.tokens
+        result }
+{
+    repeat(alloc, Range::from(0..), line).parse_failing(input)
+}
+
+/// Lines of settings and flags, from any stream of bytes.
+fn lines<I, E, A>(alloc: A, input: I) -> Result<(), ParseFault<I, E::Inner>>
+where
+    I: StreamIsPartial + Compare<u8>,
+    I::Token: AsChar,
+    E: ParserError<I> + ModalError,
+    A: Allocator + Copy,
+    requires whole { I.supports_partial ≡ false }
+    requires seen { SeesApart I.seen_as }
+    ensures reads { ReadsAll E.inner_kind
+        (LinesRead (LineRead I.reading I.seen_as I.Token.code
+        (Literally I.reading I.spells (λ s _. s)))
+        (LineFails I.reading I.seen_as I.Token.code
+        (Literally I.reading I.spells (λ s _. s)))) (I.view input).left.tokens result }
+    ensures fails { FaultsBy I.reading.units E.inner_kind
+        (((⊤ × ⊤ × ⊤ × ⊤) × (⊤ × ⊤)) × ⊤)
+        (LinesRead (LineRead I.reading I.seen_as I.Token.code
+        (Literally I.reading I.spells (λ s _. s)))
+        (LineFails I.reading I.seen_as I.Token.code
+        (Literally I.reading I.spells (λ s _. s))))
+        (LinesFail (LineRead I.reading I.seen_as I.Token.code
+        (Literally I.reading I.spells (λ s _. s)))
+        (LineFails I.reading I.seen_as I.Token.code
+        (Literally I.reading I.spells (λ s _. s)))) (I.view input).left.tokens result }
+{
+    let setting = Parser::<I, _, E>::void((Alpha1, b'=', cut_err(Digit1), b'\n'));
+    let flag = Parser::<I, _, E>::void((Alpha1, b'\n'));
+    lines_of::<I, E, A, _>(alloc, alt((setting, flag)), input)
+}
+
+/// Whether a text is lines of settings and flags: a setting is a name of letters, an equals sign
+/// and a value of digits, a flag is a name, and a line feed ends each. A fault says at which byte a
+/// value lacks, right behind its equals sign; or at which byte what is no line begins. Memory is
+/// not asked for.
+///
+/// ```
+/// use examples::assignments::check_assignments;
+/// use winnow::error::ParseFault;
+///
+/// assert!(rt; check_assignments(alloc, b"width=12\ndebug\n".as_slice()).is_ok());
+/// // The value lacks at byte 12; a line that has no name begins at byte 14.
+/// let lacks = check_assignments(alloc, b"debug\nwidth=\n=1\n".as_slice());
+/// assert!(rt; matches!(lacks, Err(ParseFault::Refused(fault)) if fault.offset() == 12));
+/// let other = check_assignments(alloc, b"debug\nwidth=1\n=1\n".as_slice());
+/// assert!(rt; matches!(other, Err(ParseFault::Refused(fault)) if fault.offset() == 14));
+/// ```
+pub fn check_assignments<'i, A: Allocator + Copy>(
+    alloc: A,
+    text: &'i [u8],
+) -> Result<(), ParseFault<&'i [u8], EmptyError>>
+    ensures { IsTold ⟦<ErrMode<EmptyError> as ParserError<&'i [u8]>>⟧.inner_kind text.now result }
+{
+    lines::<&'i [u8], ErrMode<EmptyError>, A>(alloc, text)
+}
