@@ -1,9 +1,9 @@
 -- What nodes tell of the kind of what there is: a table, or an array.
-use Rattle.std.specs.Prelude.{◌≡◌, ◌↔◌, ◌≤◌, ⊤, ℕ, Bool, true, false, IsTrue, List, length}
+use Rattle.std.specs.Prelude.{◌≡◌, ◌↔◌, ◌≤◌, ⊤, ℕ, Bool, true, false, IsTrue, length}
 use Rattle.std.specs.Prelude.{Option, Some, None, slice_get}
 use Rattle.std.specs.Borrow.{Bor}
 use Rattle.std.specs.declared.vec.Vec.{Vec}
-use Rattle.std.proofs.Common.{sym, ap, subst, ◌∙◌, arith, refl}
+use Rattle.std.proofs.Common.{sym, ap, subst, ◌∙◌, refl}
 use Rattle.format_toml_tree.specs.Holds.{node_at, node_of}
 use Rattle.format_toml_tree.specs.Nodes.{IsAt}
 use Rattle.format_toml_tree.specs.Paths.{Path}
@@ -64,9 +64,6 @@ module _ {A : Type 0} where
     tells_at slot there told tree path p is =
         subst (λ n. IsTrue b ↔ so n) (sym (is.holds.there node.place slot.now there)
         ∙ ap tree is.at) told
-
-    pub tells_nowhere : IsSlot node None → Tells so node b
-    tells_nowhere out tree path p is = absurd (omega (arith, out, is.within))
 
     true_false : true ≡ false → ⊥
     true_false e = cc
