@@ -30,7 +30,7 @@ module _ (answers : ℕ → Bool → Type 0) where
   past xs i h none not next e =
       at xs (i + 1) next
       (All-more (λ x. AnswersSeen (λ t. t) answers x false) xs i 0 h none
-              (get_or xs i 0, refl, not)) e
+      (get_or xs i 0, refl, not)) e
 
   -- the first that is sought
   found : (xs : List ℕ) (i : ℕ) → i < length xs → Without (take i xs) → answers (get_or xs i 0) true
@@ -48,7 +48,7 @@ module _ (answers : ℕ → Bool → Type 0) where
 pub returns-then-test : goal.returns-then-test
 returns-then-test g c =
     found (g.P.TokenTest.answers c.args.predicate) c.args.self.now.now c.short.from
-          (omega arith) c.short.invariant.1 (search rules)
+    (omega arith) c.short.invariant.1 (search rules)
 
 pub returns-then-test-2 : goal.returns-then-test-2
 returns-then-test-2 g c =
@@ -113,12 +113,12 @@ long-preserved g c =
 pub returns-then-test-5 : goal.returns-then-test-5
 returns-then-test-5 g c =
     found (g.P.TokenTest.answers c.args.predicate) c.args.self.now.now c.loop-i.i (omega arith)
-          c.loop-i.invariant (search rules)
+    c.loop-i.invariant (search rules)
 
 pub loop-i-preserved : goal.loop-i-preserved
 loop-i-preserved g c =
     past (g.P.TokenTest.answers c.args.predicate) c.args.self.now.now c.loop-i.i (omega arith)
-          c.loop-i.invariant (search rules)
+    c.loop-i.invariant (search rules)
     (c.loop-i.i + 1) refl
 
 pub returns : goal.returns

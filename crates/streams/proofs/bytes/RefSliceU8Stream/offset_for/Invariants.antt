@@ -7,7 +7,7 @@ abbrev pub invariant-short : goal.invariant-short
 invariant-short g l =
     (l.from ≤ length l.all)
     × All (λ x. AnswersSeen (λ t. t) (g.P.TokenTest.answers l.predicate) x false)
-          (take l.from l.all)
+    (take l.from l.all)
 
 abbrev pub decreases-short : goal.decreases-short
 decreases-short g l = 16 - l.from
@@ -22,7 +22,7 @@ abbrev pub invariant-long : goal.invariant-long
 invariant-long g l =
     (l.from ≤ length l.all)
     × All (λ x. AnswersSeen (λ t. t) (g.P.TokenTest.answers l.predicate) x false)
-          (take l.from l.all)
+    (take l.from l.all)
 
 abbrev pub decreases-long : goal.decreases-long
 decreases-long g l = length l.all - l.from
