@@ -39,7 +39,7 @@ const NONE: &[(&[u8], usize)] = &[
 /// The same, where the line end is a line feed alone.
 const NONE_BY_LINE_FEEDS: &[(&[u8], usize)] = &[
     (b"x\"\n", 1),
-    (b"\"x\"\"\"\"\n", 5),
+    (b"\"x\"\"\"y\n", 5),
     (b"a\r\n", 1),
     (b"\"a\"\r\n", 3),
     (b"\r", 0),
