@@ -159,8 +159,8 @@ fn undeclared_length(message: Message<'_>) -> Result<BodyLength, FramingFault>
 /// 2. A response of status 2xx to CONNECT makes the connection a tunnel.
 /// 3. A Transfer-Encoding field in a version before 1.1, or beside a Content-Length field, is a
 ///    fault.
-/// 4. Where the last transfer coding is `chunked` the body is chunks. Where it is another, a request
-///    is refused, and the body of a response ends with the connection.
+/// 4. Where the last transfer coding is `chunked` the body is chunks. Where it is another, a
+///    request is refused, and the body of a response ends with the connection.
 /// 5. Content-Length fields must be one numeral, be it several times, in a list or in several
 ///    fields.
 /// 6. Its number is the length.

@@ -1,10 +1,14 @@
 //! The size line of a chunk: a size, extensions, and a line end.
 #![tactic(auto)]
 
+ghost use Rattle.format_http.specs.Chunks.Lines.{SizeLineBegun};
 ghost use Rattle.format_http.specs.Chunks.SizeLine.{SizeLineText};
+ghost use Rattle.std.specs.Prelude.{◌≡◌, true};
+ghost use Rattle.winnow.specs.Begun.{AsksExactly};
 ghost use Rattle.winnow.specs.Bytes.{bytes_follow, bytes_input, bytes_reading};
 ghost use Rattle.winnow.specs.Exact.{Reads};
 ghost use Rattle.winnow.specs.Cut.{ReadsOrAsks};
+ghost use Rattle.winnow.specs.Form.{answer_by};
 ghost use Rattle.winnow.specs.InTurn.{First};
 
 use crate::chunks::lines::line;
@@ -76,9 +80,10 @@ pub fn read_size_line<'i, A: Allocator + Copy>(
 }
 
 /// As [`read_size_line`], from an input to which more may come. What it answers there, it answers
-/// whatever follows, and where it backtracks no size line stands whatever follows. Else it asks for
-/// more, by `Incomplete`; a caller bounds how many bytes it holds then. Behind an error some bytes
-/// may have been passed: read again from the start, with more of them there.
+/// whatever follows, and where it backtracks no size line stands whatever follows. It asks for
+/// more, by `Incomplete`, exactly where a size line is begun (`asks`), want of memory aside; a
+/// caller bounds how many bytes it holds then. Behind an error some bytes may have been passed:
+/// read again from the start, with more of them there.
 ///
 /// ```
 /// use format_http::chunks::size_line::{Size, read_size_line_in_pieces};
@@ -98,9 +103,13 @@ pub fn read_size_line_in_pieces<'i, A: Allocator + Copy>(
     alloc: A,
     input: &mut Partial<&'i [u8]>,
 ) -> Result<SizeLine<'i, A>, ErrMode<EmptyError>>
-    ensures { ReadsOrAsks bytes_reading bytes_follow ⟦<ErrMode<EmptyError> as HasKind>⟧.kind
-        (First SizeLineText) (⟦<Partial<&'static [u8]> as Stream>⟧.view input.old) result
+    ensures reads { ReadsOrAsks bytes_reading bytes_follow
+        ⟦<ErrMode<EmptyError> as HasKind>⟧.kind (First SizeLineText)
+        (⟦<Partial<&'static [u8]> as Stream>⟧.view input.old) result
         (⟦<Partial<&'static [u8]> as Stream>⟧.view input.new) }
+    ensures asks { (⟦<Partial<&'static [u8]> as Stream>⟧.view input.old).status.cut ≡ true
+        → AsksExactly (SizeLineBegun A) (⟦<Partial<&'static [u8]> as Stream>⟧.view input.old)
+        (answer_by ⟦<ErrMode<EmptyError> as HasKind>⟧.kind result) }
 {
     let (digits, extensions) = line(alloc, input)?;
     Ok(SizeLine {
