@@ -9,7 +9,7 @@ use Rattle.std.proofs.Common.{refl, sym, ap, subst, inl, inr, ◌∙◌, arith, 
 use Rattle.std.proofs.lemmas.Bool.{cases_eq, cases_lt}
 use Rattle.std.proofs.lemmas.Str.{digit_value_digit}
 use Rattle.std.proofs.lemmas.Str.Parse.{digit_from_value}
-use Rattle.format_toml.specs.Digits.{Continues, at, digit_back, digit_on, drop_past, first}
+use Rattle.format_toml.specs.Digits.{Continues, at, digit_back, digit_on, drop_past}
 use Rattle.format_toml.specs.Digits.{no_digit, not_done, under_back, under_due}
 use Rattle.format_toml.specs.Digits.{done_back, under_on}
 use Rattle.format_toml.specs.Floats.{AreDigits}
