@@ -283,7 +283,6 @@ const NONE: &[(&str, usize)] = &[
     ("[a\n]", 0),
     ("[a] [b]", 4),
     // What the standard has, and this does not.
-    ("a = 3.14", 0),
     ("a = 1979-05-27", 0),
     ("a = '''x'''", 6),
 ];

@@ -4,6 +4,8 @@
 #[cfg(test)]
 mod documents;
 #[cfg(test)]
+mod floats;
+#[cfg(test)]
 mod integers;
 #[cfg(test)]
 mod level;

@@ -66,7 +66,8 @@ fn show_value<A: Allocator>(
             }
             into.push_str("}")
         }
-        Value::Float(_) | Value::DateTime(_) => into.push_str("?"),
+        Value::Float(float) => into.push_str(float.text.as_str()),
+        Value::DateTime(_) => into.push_str("?"),
     }
 }
 

@@ -193,12 +193,13 @@ pub begins_so : (base : ℕ) (text : List ℕ) → GoesSo base text 0 true 0
 unfolding NumberText
 begins_so base text = record { same = λ n. (λ x. x, λ x. x) }
 
-at : (text : List ℕ) (i : ℕ) → i < length text → drop i text ≡ get_or text i 0 ∷ drop (i + 1) text
+pub at : (text : List ℕ) (i : ℕ) → i < length text
+    → drop i text ≡ get_or text i 0 ∷ drop (i + 1) text
 at text i less =
     let more : suc i ≡ i + 1 = omega arith in
     drop-cons text i 0 less ∙ ap (λ k. get_or text i 0 ∷ drop k text) more
 
-drop_past : (xs : List ℕ) (i : ℕ) → length xs ≤ i → drop i xs ≡ []
+pub drop_past : (xs : List ℕ) (i : ℕ) → length xs ≤ i → drop i xs ≡ []
 drop_past [] zero past = refl
 drop_past [] (suc i) past = refl
 drop_past (x ∷ xs) zero past = absurd (omega (arith, past))

@@ -2,6 +2,10 @@
 pub mod Digits
 pub mod Escapes
 pub mod Expected
+pub mod FloatCuts
+pub mod FloatFronts
+pub mod FloatParts
+pub mod Floats
 pub mod Grammars
 pub mod Integers
 pub mod Keys

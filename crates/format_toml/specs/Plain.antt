@@ -7,17 +7,21 @@ use Rattle.std.specs.Int.{w64}
 use Rattle.std.specs.List.{All}
 use Rattle.std.proofs.Common.{refl, sym, ap, subst, inl, inr, ◌∙◌, arith, length-append}
 use Rattle.std.proofs.lemmas.Bool.Decides.{nat_tests}
-use Rattle.std.proofs.lemmas.List.Elements.{All-cons, All-tail}
+use Rattle.std.proofs.lemmas.List.Elements.{All-tail}
 use Rattle.std.proofs.lemmas.Str.{encodes-IsAscii}
 use Rattle.std.proofs.lemmas.Str.Parse.{digit_from_value}
 use Rattle.format_json_texts.specs.Number.{Slice}
-use Rattle.format_json_texts.specs.Words.{for_front, for_of}
+use Rattle.format_json_texts.specs.Words.{For, for_front, for_of}
+use Rattle.format_toml.specs.FloatFronts.{Are, IsNumeric, float_are, float_begins, more_of}
+use Rattle.format_toml.specs.FloatFronts.{more_are, no_tokens}
+use Rattle.format_toml.specs.Floats.{FloatText, IsFloat}
 use Rattle.format_toml.specs.Digits.{first, next}
 use Rattle.format_toml.specs.Grammars.{IsPlain, Plain, Unquoteds}
 use Rattle.format_toml.specs.Integers.{sort}
 use Rattle.format_toml.specs.Numbers.{BehindZero, IntegerText, IsIntegerOf}
 use Rattle.format_toml.specs.Numbers.{NextText, NumberText, UnsignedText}
-use Rattle.format_toml.specs.Toml.{IsInteger, IsOf, IsUnquoted, PlainText, Tells}
+use Rattle.format_toml.specs.Toml.{IsInteger, IsOf, IsUnquoted, MeansFloat, PlainText}
+use Rattle.format_toml.specs.Toml.{Tells}
 use Rattle.format_toml.specs.UniqueSpaces.{members_unique}
 use Rattle.format_toml.specs.declared.characters.Characters.TheVariants.{Unquoted}
 use Rattle.format_toml_tree.specs.declared.value.Value.{Value}
@@ -30,7 +34,8 @@ use Rattle.winnow.specs.Kind.{Kind, backtrack, memory}
 use Rattle.winnow.specs.Range.{from_to}
 use Rattle.winnow.specs.Read.{reads_meaning}
 use Rattle.winnow.specs.Text.{text_reading}
-use Rattle.winnow.specs.Texts.{Begins, BeginsIn, IsGrammarOf, Members, NotFirst, Of, Row}
+use Rattle.winnow.specs.Texts.{Among, Begins, BeginsIn, IsGrammarOf, Members, NotFirst, Of, Row}
+use Rattle.winnow.specs.Texts.Fronts.{among_front}
 use Rattle.winnow.specs.Texts.Parts.{text_of}
 use Rattle.winnow.specs.Texts.Tokens.{divides_seen, divides_where, longest_of}
 
@@ -77,21 +82,6 @@ digit_is c is = elim (split 48 c) [
     ]
   ]
 ]
-
--- one at least, and all of these
-abbrev Are : List ℕ → Type 0
-Are tokens = All IsUnquoted tokens × (1 ≤ length tokens)
-
-no_tokens : All IsUnquoted []
-no_tokens k d less = absurd (omega (arith, less))
-
--- one more before
-more_are : (c : ℕ) (tokens : List ℕ) → IsUnquoted c → All IsUnquoted tokens → Are (c ∷ tokens)
-more_are c tokens is all = (All-cons IsUnquoted c tokens is all, omega arith)
-
-more_of : (c : ℕ) {rest tokens : List ℕ} → IsUnquoted c → All IsUnquoted rest
-    → tokens ≡ c ∷ rest → Are tokens
-more_of c {rest} is all e = subst (λ l. Are l) (sym e) (more_are c rest is all)
 
 rest_are : (base : ℕ) → base ≤ 36 → (ds tokens : List ℕ) → Row (NextText base) ds tokens
     → All IsUnquoted tokens
@@ -143,17 +133,13 @@ integer_are n tokens (x, fits) = elim (sort n tokens x) [
 
 -- ---- what is first
 
--- a sign or a digit
-abbrev pub IsNumeric : ℕ → Type 0
-IsNumeric c = (43 ≤ c) × (c ≤ 57)
-
 unsigned_begins : (n : ℕ) (tokens rest : List ℕ) → UnsignedText n tokens
     → Begins IsNumeric (tokens ++ rest)
 unfolding UnsignedText NumberText
 unsigned_begins n tokens rest ((ds, text, v), lone) =
     let (d, es, ys, less, row, e, f) = first 10 (omega arith) ds tokens text in
     let P : List ℕ → Type 0 = λ l. Begins IsNumeric (l ++ rest) in
-    subst P (sym e) (omega (arith, digit_from_value d less))
+    subst P (sym e) (inl (omega (arith, digit_from_value d less)))
 
 integer_begins : BeginsIn IsNumeric IntegerText
 unfolding IntegerText
@@ -161,9 +147,9 @@ integer_begins = record {
   makes = λ n tokens rest (x, fits) any.
       let P : List ℕ → Type 0 = λ l. Begins IsNumeric (l ++ rest) in elim (sort n tokens x) [
         | inl (m, u, e) ↦ unsigned_begins m tokens rest u
-        | inr (inl (m, ys, u, e, g)) ↦ subst P (sym e) (omega arith)
-        | inr (inr (inl (m, ys, u, e, g))) ↦ subst P (sym e) (omega arith)
-        | inr (inr (inr (m, ys, u, some, e, g))) ↦ subst P (sym e) (omega arith)
+        | inr (inl (m, ys, u, e, g)) ↦ subst P (sym e) (inl (omega arith))
+        | inr (inr (inl (m, ys, u, e, g))) ↦ subst P (sym e) (inl (omega arith))
+        | inr (inr (inr (m, ys, u, some, e, g))) ↦ subst P (sym e) (inl (omega arith))
       ];
 }
 
@@ -177,7 +163,7 @@ unquoted_low c (inr (inr (inr (inl e)))) = omega (arith, e)
 unquoted_low c (inr (inr (inr (inr (inl e))))) = omega (arith, e)
 unquoted_low c (inr (inr (inr (inr (inr e))))) = omega (arith, e)
 
-ascii : (tokens : List ℕ) → All IsUnquoted tokens → IsAscii tokens
+pub ascii : (tokens : List ℕ) → All IsUnquoted tokens → IsAscii tokens
 ascii [] all zero = omega arith
 ascii [] all (suc i) = omega arith
 ascii (x ∷ xs) all zero = unquoted_low x (all 0 x (omega arith))
@@ -192,12 +178,18 @@ unquoteds_of =
     (divides_seen (Tells Unquoted) (divides_where (IsOf Unquoted)))
 
 module _ {A : Type 0} where
+  float_begins_so : BeginsIn IsNumeric (FloatText {A = A})
+  unfolding FloatText
+  float_begins_so = record { makes = λ f tokens rest (x, b) any. float_begins tokens rest x }
+
   plain_are : (v : Value A) (tokens : List ℕ) → PlainText v tokens → Are tokens
-  unfolding Of
-  plain_are v tokens (n, x, e) = integer_are n tokens x
+  unfolding Of Among FloatText
+  plain_are v tokens (inl (n, x, e)) = integer_are n tokens x
+  plain_are v tokens (inr (f, (x, b), e)) = float_are tokens x
 
   pub plain_begins : BeginsIn IsNumeric (PlainText {A = A})
-  plain_begins = for_front IsInteger integer_begins
+  plain_begins =
+      among_front (for_front IsInteger integer_begins) (for_front MeansFloat float_begins_so)
 
   pub plain_of : IsGrammarOf (Plain {A = A}) PlainText (NotFirst IsUnquoted)
   unfolding Of Members
@@ -226,15 +218,27 @@ IsPlainAnswer kind bytes (Ok v) = PlainText v bytes
 IsPlainAnswer {A} kind bytes (Err e) =
     (kind e ≡ memory) ⊎ ((kind e ≡ backtrack) × ((v : Value A) → PlainText v bytes → ⊥))
 
+-- The float of the bytes; or an error, where they are none, or memory was refused for one.
+unfoldable pub IsFloatAnswer : {A E : Type 0} → (E → Kind) → List ℕ → Result (Value A) E → Type 0
+IsFloatAnswer kind bytes (Ok v) = For MeansFloat FloatText v bytes
+IsFloatAnswer kind bytes (Err e) =
+    ((kind e ≡ memory) × IsFloat bytes) ⊎ ((kind e ≡ backtrack) × (IsFloat bytes → ⊥))
+
 pub integer_told : (A : Type 0) (n : ℤ) (v : Value A) (bytes : List ℕ) → IsIntegerOf bytes (Some n)
     → (FitsSigned w64 n → v ≡ values.Integer n) → PlainText v bytes
-unfolding Of IsIntegerOf IntegerText
-integer_told A n v bytes is same = (n, is, same is.1)
+unfolding Of IsIntegerOf IntegerText Among
+integer_told A n v bytes is same = inl (n, is, same is.1)
 
-pub none_told : (A : Type 0) (bytes : List ℕ) → IsIntegerOf bytes None → (v : Value A)
-    → PlainText v bytes → ⊥
-unfolding Of IsIntegerOf
-none_told A bytes none v (n, x, e) = none n x
+pub float_told : {A E : Type 0} (kind : E → Kind) (bytes : List ℕ) (result : Result (Value A) E)
+    → IsIntegerOf bytes None → IsFloatAnswer kind bytes result → IsPlainAnswer kind bytes result
+unfolding Of IsIntegerOf Among FloatText IsFloatAnswer IsPlainAnswer
+float_told kind bytes (Ok v) none x = inr x
+float_told kind bytes (Err e) none (inl (m, is)) = inl m
+float_told {A} kind bytes (Err e) none (inr (b, not)) = inr (b, no)
+  where
+    no : (v : Value A) → PlainText v bytes → ⊥
+    no v (inl (n, x, e)) = none n x
+    no v (inr (f, (x, _), e)) = not x
 
 same_front : (f g rest : List ℕ) → f ++ rest ≡ g ++ rest → f ≡ g
 same_front [] [] rest e = refl

@@ -10,6 +10,7 @@ use Rattle.format_toml.specs.Spaces.{no_space}
 use Rattle.format_toml.specs.Strings.{basic_string_begins, basic_string_of, literal_string_begins}
 use Rattle.format_toml.specs.Strings.{literal_string_of}
 use Rattle.format_toml.specs.Toml.{BasicText, BooleanText, IsBoolean, IsUnquoted}
+use Rattle.format_toml.specs.FloatFronts.{numeric_is}
 use Rattle.format_toml.specs.Plain.{plain_begins, plain_of}
 use Rattle.format_toml.specs.Toml.{IsText}
 use Rattle.format_toml.specs.Toml.{LiteralText, PlainText, ScalarText, false_word, true_word}
@@ -85,27 +86,32 @@ module _ {A : Type 0} where
       (Among (BooleanText false_word false) PlainText) Goes
   after_true_of =
       led_of (boolean_of false_word false) plain_of (boolean_begins 102 _ false)
-      (front_begins (λ c n e. absurd (omega (arith, n, e))) plain_begins)
+      (front_begins (λ c n e. (numeric_is c n).4 e) plain_begins)
 
-  after_true_begins : BeginsIn (λ c. (42 < c) × (c < 103))
+  after_true_begins : BeginsIn (λ c. (42 < c) × (c < 112) × (c ≡ 91 → ⊥) × (c ≡ 93 → ⊥))
       (Among (BooleanText {A = A} false_word false) PlainText)
   after_true_begins =
       among_front (begins_wider (λ c e. omega (arith, e)) (boolean_begins 102 _ false))
-      (begins_wider (λ c n. omega (arith, n)) plain_begins)
+      (begins_wider (λ c n. let m = numeric_is c n in (m.0, m.1, m.2, m.3)) plain_begins)
 
   after_literal_of : IsGrammarOf (Led (λ c. c ≡ 116) (AnyBoolean {A = A} true_word true)
       (Led (λ c. c ≡ 102) (AnyBoolean false_word false) Plain))
       (Among (BooleanText true_word true) (Among (BooleanText false_word false) PlainText)) Goes
   after_literal_of =
       led_of (boolean_of true_word true) after_true_of (boolean_begins 116 _ true)
-      (front_begins (λ c a e. absurd (omega (arith, a, e))) after_true_begins)
+      (front_begins (λ c a e. absurd (omega (arith, a.1, e))) after_true_begins)
 
   after_literal_begins : BeginsIn (Above 42) (Among (BooleanText {A = A} true_word true)
       (Among (BooleanText false_word false) PlainText))
   after_literal_begins =
       among_front (begins_wider (λ c e. omega (arith, e)) (boolean_begins 116 _ true))
       (among_front (begins_wider (λ c e. omega (arith, e)) (boolean_begins 102 _ false))
-      (begins_wider (λ c n. omega (arith, n)) plain_begins))
+      (begins_wider (λ c n. above c (numeric_is c n)) plain_begins))
+    where
+      above : (c : ℕ) → (42 < c) × (c < 112) × (c ≡ 91 → ⊥) × (c ≡ 93 → ⊥) × (c ≡ 102 → ⊥)
+          → Above 42 c
+      above c (least, most, opens, closes, f) =
+          (least, omega (arith, most), opens, closes, λ e. absurd (omega (arith, least, e)))
 
   after_basic_of : IsGrammarOf (Led (λ c. c ≡ 39) (Meaning IsText (LiteralString {A = A}))
       (Led (λ c. c ≡ 116) (AnyBoolean true_word true)

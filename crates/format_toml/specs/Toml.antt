@@ -13,6 +13,7 @@ use Rattle.format_toml.specs.declared.characters.Characters.{Characters}
 use Rattle.format_toml.specs.declared.characters.Characters.TheVariants.{Bare, Basic, Comment}
 use Rattle.format_toml.specs.declared.characters.Characters.TheVariants.{Literal, Unquoted}
 use Rattle.format_toml.specs.declared.characters.Characters.TheVariants.{White}
+use Rattle.format_toml_tree.specs.declared.value.Float.{Float}
 use Rattle.format_toml_tree.specs.declared.value.Item.{Item}
 use Rattle.format_toml_tree.specs.declared.value.Item.TheVariants as items
 use Rattle.format_toml_tree.specs.declared.value.Key.{Key}
@@ -21,6 +22,7 @@ use Rattle.format_toml_tree.specs.declared.value.Value as values
 use Rattle.winnow.specs.Accumulator.Holds.{HasCharacters}
 use Rattle.winnow.specs.Texts.{Among, AtLeast, Holding, InList, Joined, Members, OneOf}
 use Rattle.winnow.specs.Texts.{Perhaps, Row, Spelled, Text, Then}
+use Rattle.format_toml.specs.Floats.{FloatText}
 use Rattle.format_toml.specs.Numbers.{IntegerText}
 
 -- ---- characters
@@ -80,6 +82,9 @@ module _ {A : Type 0} where
   abbrev pub IsInteger : ℤ → Value A → Type 0
   IsInteger n v = v ≡ values.Integer n
 
+  abbrev pub MeansFloat : Float A → Value A → Type 0
+  MeansFloat float v = v ≡ values.Float float
+
   abbrev pub IsBoolean : Bool → Value A → Type 0
   IsBoolean is v = v ≡ values.Boolean is
 
@@ -135,7 +140,7 @@ MarkText c = Then pair (One c) WsText
 abbrev pub WideMarkText : ℕ → Text ℕ (ℕ × ⊤)
 WideMarkText c = Then pair (One c) GapText
 
--- ---- strings, booleans and integers
+-- ---- strings, booleans and values without quotes
 
 -- escape-seq-char: %x75 4HEXDIG / %x55 8HEXDIG, of a character that is no surrogate; or one that a
 -- backslash escapes by itself
@@ -173,11 +178,11 @@ module _ {A : Type 0} where
   abbrev pub BooleanText : List ℕ → Bool → Text ℕ (Value A)
   BooleanText word is = For IsBoolean (Spelled word is)
 
-  -- an integer, for its value
+  -- an integer, for its value, or a float
   abbrev pub PlainText : Text ℕ (Value A)
-  PlainText = For IsInteger IntegerText
+  PlainText = Among (For IsInteger IntegerText) (For MeansFloat FloatText)
 
-  -- a string, a boolean or an integer
+  -- a string, a boolean or a value without quotes
   abbrev pub ScalarText : Text ℕ (Value A)
   ScalarText =
       Among (For IsText BasicText) (Among (For IsText LiteralText)

@@ -23,7 +23,8 @@
 //! Where this differs from the standard:
 //!
 //! - Strings are on one line.
-//! - Floats, dates and times are not read. Integers are of 64 bits.
+//! - Dates and times are not read. Integers are of 64 bits. A float is its text, with no
+//!   underscores.
 //! - Arrays and inline tables are nested to a level, which the caller gives.
 //!
 //! The standard has no byte order mark, so a text that begins with one is none.
@@ -32,6 +33,7 @@
 pub mod characters;
 mod escapes;
 pub mod expected;
+mod floats;
 mod gaps;
 mod integers;
 mod keys;

@@ -1,12 +1,13 @@
-//! Values without quotes (TOML 1.0: Integer).
+//! Values without quotes (TOML 1.0: Integer, Float).
 ghost use Rattle.format_toml.specs.Grammars.{Plain, Unquoteds};
-ghost use Rattle.format_toml.specs.Plain.{IsPlainAnswer};
+ghost use Rattle.format_toml.specs.Plain.{IsFloatAnswer, IsPlainAnswer};
 ghost use Rattle.winnow.specs.Exact.{Reads};
 ghost use Rattle.winnow.specs.Text.{text_input, text_reading};
 
 use crate::characters::Characters;
+use crate::floats::{is_float, without_underscores};
 use crate::integers::integer;
-use format_toml_tree::value::Value;
+use format_toml_tree::value::{Float, Value};
 use std::alloc::Allocator;
 use winnow::Parser;
 use winnow::error::{EmptyError, ErrMode, HasKind, ParserError};
@@ -21,23 +22,36 @@ fn read_unquoted<'i>(input: &mut &'i str) -> Result<&'i str, ErrMode<EmptyError>
     take_while(Range::from(1..), Characters::Unquoted).read(input)
 }
 
+/// The float that a text is.
+fn float_value<A: Allocator>(alloc: A, text: &[u8]) -> Result<Value<A>, ErrMode<EmptyError>>
+    ensures { IsFloatAnswer ⟦<ErrMode<EmptyError> as HasKind>⟧.kind text.now result }
+{
+    if is_float(text) {
+        return match without_underscores(alloc, text) {
+            Ok(kept) => Ok(Value::Float(Float { text: kept })),
+            Err(_) => Err(ErrMode::no_memory(&text)),
+        };
+    }
+    Err(ErrMode::from_input(&text))
+}
+
 /// The value that a text is, of those without quotes.
-fn plain_value<A: Allocator>(text: &str) -> Result<Value<A>, ErrMode<EmptyError>>
+fn plain_value<A: Allocator>(alloc: A, text: &[u8]) -> Result<Value<A>, ErrMode<EmptyError>>
     ensures { IsPlainAnswer ⟦<ErrMode<EmptyError> as HasKind>⟧.kind text.now result }
 {
-    match integer(text.as_bytes()) {
+    match integer(text) {
         Some(number) => Ok(Value::Integer(number)),
-        None => Err(ErrMode::from_input(&text)),
+        None => float_value(alloc, text),
     }
 }
 
 /// The value without quotes that stands first: it takes all characters of numbers.
-pub fn read_plain<A: Allocator>(input: &mut &str) -> Result<Value<A>, ErrMode<EmptyError>>
+pub fn read_plain<A: Allocator>(alloc: A, input: &mut &str) -> Result<Value<A>, ErrMode<EmptyError>>
     ensures { Reads text_reading ⟦<ErrMode<EmptyError> as HasKind>⟧.kind Plain
         (text_input input.old.now) result (text_input input.new.now) }
 {
     match read_unquoted(input) {
-        Ok(text) => plain_value(text),
+        Ok(text) => plain_value(alloc, text.as_bytes()),
         Err(error) => Err(error),
     }
 }

@@ -1,4 +1,4 @@
-//! Values that have no others in them (TOML 1.0: String, Integer, Boolean).
+//! Values that have no others in them (TOML 1.0: String, Integer, Float, Boolean).
 ghost use Rattle.std.specs.Prelude.{◌≡◌};
 ghost use Rattle.std.specs.Str.{chars};
 ghost use Rattle.winnow.specs.Text.{text_input, text_reading};
@@ -62,7 +62,7 @@ fn read_boolean<A: Allocator>(
     }
 }
 
-/// The string, the boolean or the integer that stands first.
+/// The string, the boolean or the number that stands first.
 pub fn read_scalar<A: Allocator + Copy>(
     alloc: A,
     input: &mut &str,
@@ -82,5 +82,5 @@ pub fn read_scalar<A: Allocator + Copy>(
     if begins_with(input, 'f') {
         return read_boolean("false", false, input);
     }
-    read_plain(input)
+    read_plain(alloc, input)
 }

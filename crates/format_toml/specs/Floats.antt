@@ -1,0 +1,94 @@
+-- TOML 1.0 (Float): what is written for floats, by its ABNF.
+use Rattle.std.specs.Borrow.{Bor}
+use Rattle.std.specs.List.{All, filter}
+use Rattle.std.specs.Prelude.{◌≡◌, ◌⊎◌, ◌==◌, ℕ, List, [], ◌∷◌, ◌++◌, Option, Some, None, not}
+use Rattle.std.specs.Prelude.{string_bytes}
+use Rattle.format_toml.specs.Numbers.{DigitsText}
+use Rattle.format_toml_tree.specs.declared.value.Float.{Float}
+use Rattle.winnow.specs.Texts.{Text}
+
+-- ---- its parts
+
+-- zero-prefixable-int = DIGIT *( DIGIT / underscore DIGIT )
+unfoldable pub AreDigits : List ℕ → Type 0
+AreDigits tokens = (digits : List ℕ) × DigitsText 10 digits tokens
+
+-- unsigned-dec-int = DIGIT / digit1-9 1*( DIGIT / underscore DIGIT ): a zero is first only alone
+unfoldable pub IsWhole : List ℕ → Type 0
+IsWhole tokens = AreDigits tokens × ((others : List ℕ) → tokens ≡ 48 ∷ others → others ≡ [])
+
+-- minus / plus
+abbrev pub IsSign : ℕ → Type 0
+IsSign c = (c ≡ 45) ⊎ (c ≡ 43)
+
+-- a text with a sign before it or none
+unfoldable pub Signed : (List ℕ → Type 0) → List ℕ → Type 0
+Signed text tokens =
+    text tokens ⊎ ((sign : ℕ) × (rest : List ℕ) × IsSign sign × (tokens ≡ sign ∷ rest) × text rest)
+
+-- frac = decimal-point zero-prefixable-int
+unfoldable pub IsFraction : List ℕ → Type 0
+IsFraction tokens = (digits : List ℕ) × (tokens ≡ 46 ∷ digits) × AreDigits digits
+
+-- the letter "e", of either case as in each string of an ABNF
+abbrev pub IsLetterE : ℕ → Type 0
+IsLetterE c = (c ≡ 101) ⊎ (c ≡ 69)
+
+-- exp = "e" float-exp-part, with float-exp-part = [ minus / plus ] zero-prefixable-int
+unfoldable pub IsExponent : List ℕ → Type 0
+IsExponent tokens =
+    (letter : ℕ) × (power : List ℕ) × IsLetterE letter × (tokens ≡ letter ∷ power)
+    × Signed AreDigits power
+
+-- exp / frac [ exp ]
+unfoldable pub IsTail : List ℕ → Type 0
+IsTail tokens =
+    IsExponent tokens ⊎ (IsFraction tokens
+    ⊎ ((fraction : List ℕ) × (exponent : List ℕ) × IsFraction fraction × IsExponent exponent
+    × (tokens ≡ fraction ++ exponent)))
+
+-- float = float-int-part ( exp / frac [ exp ] ) without the sign of its
+-- float-int-part = dec-int = [ minus / plus ] unsigned-dec-int
+unfoldable pub IsMagnitude : List ℕ → Type 0
+IsMagnitude tokens =
+    (whole : List ℕ) × (tail : List ℕ) × IsWhole whole × IsTail tail × (tokens ≡ whole ++ tail)
+
+-- inf = %x69.6e.66, nan = %x6e.61.6e
+abbrev pub inf_word : List ℕ
+inf_word = 105 ∷ 110 ∷ 102 ∷ []
+
+abbrev pub nan_word : List ℕ
+nan_word = 110 ∷ 97 ∷ 110 ∷ []
+
+abbrev pub Unsigned : List ℕ → Type 0
+Unsigned tokens = (tokens ≡ inf_word) ⊎ ((tokens ≡ nan_word) ⊎ IsMagnitude tokens)
+
+-- float, with special-float = [ minus / plus ] ( inf / nan )
+abbrev pub IsFloat : List ℕ → Type 0
+IsFloat tokens = Signed Unsigned tokens
+
+-- the same for its text without underscores
+unfoldable pub FloatText : {A : Type 0} → Text ℕ (Float A)
+FloatText float tokens =
+    IsFloat tokens × (string_bytes float.text ≡ filter (λ c. not (c == 95)) tokens)
+
+-- ---- what functions answer of them
+
+-- a whole part, a point and digits
+unfoldable pub IsDecimal : List ℕ → Type 0
+IsDecimal tokens =
+    (whole : List ℕ) × (digits : List ℕ) × IsWhole whole × AreDigits digits
+    × (tokens ≡ whole ++ 46 ∷ digits)
+
+-- What stands before the first of two tokens, and what behind it; none, where neither stands.
+unfoldable pub SplitsAt : ℕ → ℕ → List ℕ → Option (Bor (List ℕ) × Bor (List ℕ)) → Type 0
+SplitsAt one other text None = All (λ c. ((c ≡ one) ⊎ (c ≡ other)) → ⊥) text
+SplitsAt one other text (Some parts) =
+    (c : ℕ) × ((c ≡ one) ⊎ (c ≡ other)) × (text ≡ parts.0.now ++ c ∷ parts.1.now)
+    × All (λ c. ((c ≡ one) ⊎ (c ≡ other)) → ⊥) parts.0.now
+
+-- What stands behind a sign that is first; all, where none is.
+unfoldable pub SignsOff : List ℕ → List ℕ → Type 0
+SignsOff text rest =
+    ((sign : ℕ) × IsSign sign × (text ≡ sign ∷ rest))
+    ⊎ ((rest ≡ text) × ((sign : ℕ) (others : List ℕ) → IsSign sign → text ≡ sign ∷ others → ⊥))
