@@ -40,7 +40,7 @@ KINDS = {
     "RESP_": ("resp_kind", "What a reply of Redis is: what `kind` of a reply is."),
 }
 # The types of single values: as Rust has them, and as C has them.
-PLAIN = {"u8": "uint8_t", "u32": "uint32_t", "i64": "int64_t", "usize": "size_t", "bool": "bool"}
+PLAIN = {"u8": "uint8_t", "u32": "uint32_t", "u64": "uint64_t", "i64": "int64_t", "usize": "size_t", "bool": "bool"}
 EXPORT = re.compile(r'pub extern "C" fn exported_(\w+)\(\s*(.*?)\s*\)\s*->\s*u32\b', re.DOTALL)
 CONSTANT = re.compile(r"pub const (\w+): (u32|usize) = (\d+);")
 STRUCT = re.compile(r"pub struct (\w+) \{\n(.*?)\n\}", re.DOTALL)
@@ -239,8 +239,8 @@ def header(codes, constants, structs, exports):
         "and a length that no object can have by `TOO_LONG`. Then nothing is read or written. A null",
         "pointer to no bytes or to no entries is right.",
         "",
-        "A call keeps nothing, and has no state: calls may run side by side. Memory that one takes, by",
-        "malloc, it gives back before it ends.",
+        "A call keeps nothing but what it writes where its caller says: calls may run side by side.",
+        "Memory that one takes, by malloc, it gives back before it ends.",
         "",
         *COST,
     ], names)

@@ -212,6 +212,26 @@ static void read_head(const uint8_t *bytes, size_t length)
     }
 }
 
+/* Whether a line end, or a quote and one, makes the bytes begin with a record. */
+static bool may_go_on(const uint8_t *bytes, size_t length, uint32_t line_feeds)
+{
+    static const char *ends[] = {"\n", "\r\n", "\"\n", "\"\r\n"};
+    struct pergidau_record out;
+    bool goes_on = false;
+    uint8_t *more = malloc(length + 3);
+    HOLDS(more != NULL);
+    memcpy(more, bytes, length);
+    for (size_t i = 0; i < sizeof ends / sizeof *ends; i++) {
+        size_t size = strlen(ends[i]);
+        memcpy(more + length, ends[i], size);
+        goes_on = goes_on
+            || pergidau_csv_record(more, length + size, line_feeds, NULL, 0, NULL, 0, &out)
+                != PERGIDAU_REFUSED;
+    }
+    free(more);
+    return goes_on;
+}
+
 static void read_record(const uint8_t *bytes, size_t length)
 {
     struct pergidau_record out, cut;
@@ -257,7 +277,8 @@ static void read_record(const uint8_t *bytes, size_t length)
         HOLDS(code == PERGIDAU_REFUSED);
         code = pergidau_csv_record_in_pieces(bytes, length, line_feeds, text, most, places, count,
                                              &cut);
-        HOLDS(code == PERGIDAU_INCOMPLETE);
+        HOLDS(code == (may_go_on(bytes, length, line_feeds) ? PERGIDAU_INCOMPLETE
+                                                            : PERGIDAU_REFUSED));
     }
 }
 
@@ -289,6 +310,24 @@ static void read_reply(const uint8_t *bytes, size_t length)
     HOLDS(pergidau_resp_reply_in_pieces(bytes, cut, levels, &part) == PERGIDAU_INCOMPLETE);
 }
 
+/* Where a reply ends, by calls in turn and by one, is where it is read to. */
+static void read_extent(const uint8_t *bytes, size_t length)
+{
+    struct pergidau_resp_extent state = {0}, once = {0};
+    struct pergidau_reply reply;
+    size_t end = 0, whole = 0, have = 0;
+    enum pergidau_code code = PERGIDAU_INCOMPLETE;
+    enum pergidau_code all = pergidau_resp_extent(&once, bytes, length, &whole);
+    while (code == PERGIDAU_INCOMPLETE && have < length) {
+        have += 1 + below(length - have);
+        code = pergidau_resp_extent(&state, bytes, have, &end);
+    }
+    HOLDS(code == all && end == whole);
+    enum pergidau_code read = pergidau_resp_reply(bytes, length, PERGIDAU_MOST_LEVELS, &reply);
+    HOLDS((read == PERGIDAU_DONE) == (all == PERGIDAU_DONE));
+    HOLDS(read != PERGIDAU_DONE || reply.length == end);
+}
+
 static void read_place(const uint8_t *bytes, size_t length)
 {
     struct pergidau_position out;
@@ -306,6 +345,7 @@ static void read_all(const uint8_t *bytes, size_t length)
     read_head(bytes, length);
     read_record(bytes, length);
     read_reply(bytes, length);
+    read_extent(bytes, length);
     read_place(bytes, length);
 }
 

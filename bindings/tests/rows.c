@@ -475,6 +475,56 @@ static void test_heads(void)
     }
 }
 
+static const struct {
+    const char *bytes;
+    uint64_t size;
+    size_t rest;
+} sizes[] = {
+    {"5\r\nhello\r\n", 5, 7},
+    {"0\r\n\r\n", 0, 2},
+    {"aBc\r\n", 2748, 0},
+    {"ffffffffffffffff\r\n1", UINT64_MAX, 1},
+    {"1F;name=value\r\nx", 31, 1},
+};
+
+static const char *no_sizes[] = {"\r\n", "-1\r\n", "0x1\r\n", "1\n", "10000000000000000\r\n", "1;\r\n"};
+
+static void test_sizes(void)
+{
+    struct pergidau_chunk_size out;
+    for (size_t i = 0; i < sizeof sizes / sizeof *sizes; i++) {
+        const char *row = sizes[i].bytes;
+        size_t length = strlen(row), whole = length - sizes[i].rest;
+        for (size_t end = 0; end <= length; end++) {
+            uint8_t *bytes = copied(row, end);
+            same("chunk_size", row, pergidau_http_chunk_size(bytes, end, &out),
+                 end < whole ? PERGIDAU_REFUSED : PERGIDAU_DONE);
+            same("the length", row, (long long)out.length, end < whole ? 0 : (long long)whole);
+            same("a piece", row, pergidau_http_chunk_size_in_pieces(bytes, end, &out),
+                 end < whole ? PERGIDAU_INCOMPLETE : PERGIDAU_DONE);
+            same("the length", row, (long long)out.length, end < whole ? 0 : (long long)whole);
+            same("the size", row, (long long)out.size, end < whole ? 0 : (long long)sizes[i].size);
+            free(bytes);
+        }
+    }
+    for (size_t i = 0; i < sizeof no_sizes / sizeof *no_sizes; i++) {
+        size_t length = strlen(no_sizes[i]);
+        uint8_t *bytes = copied(no_sizes[i], length);
+        same("no size", no_sizes[i], pergidau_http_chunk_size(bytes, length, &out),
+             PERGIDAU_REFUSED);
+        same("no size", no_sizes[i], pergidau_http_chunk_size_in_pieces(bytes, length, &out),
+             PERGIDAU_REFUSED);
+        free(bytes);
+    }
+    const uint8_t *bytes = (const uint8_t *)"0\r\n";
+    same("null", "size", pergidau_http_chunk_size(NULL, 1, &out), PERGIDAU_NULL);
+    same("null", "size", pergidau_http_chunk_size(bytes, 3, NULL), PERGIDAU_NULL);
+    same("null", "size", pergidau_http_chunk_size_in_pieces(bytes, 3, NULL), PERGIDAU_NULL);
+    same("too long", "size", pergidau_http_chunk_size(bytes, (size_t)PTRDIFF_MAX + 1, &out),
+         PERGIDAU_TOO_LONG);
+    same("nothing", "size", pergidau_http_chunk_size_in_pieces(NULL, 0, &out), PERGIDAU_INCOMPLETE);
+}
+
 enum { MOST_CSV = 4 };
 
 /* Of line feeds alone, and of carriage returns and line feeds. */
@@ -494,8 +544,16 @@ static const struct {
     {",,\"\",", 1, {"", "", "", ""}, 4, 0},
 };
 
-/* With a line end behind them these are no records either. */
-static const char *no_records[] = {"a\"", "\"a\"b", "a\r\n", "\"a\" ", "a\rb"};
+/* With a line end behind them these are no records either; and how many of their bytes can begin
+ * one: in pieces they are refused at the next. */
+static const struct {
+    const char *text;
+    uint32_t line_feeds;
+    size_t begins;
+} no_records[] = {
+    {"a\"", 1, 1},   {"\"a\"b", 1, 3}, {"a\r\n", 1, 1}, {"\"a\" ", 1, 3}, {"a\rb", 1, 1},
+    {"x\"y,z", 0, 1}, {"a\n\r\n", 0, 1}, {"a\rb", 0, 2},  {"b,\"\"\"", 7, 5},
+};
 
 static void test_record(size_t i)
 {
@@ -558,12 +616,23 @@ static void test_records(void)
     for (size_t i = 0; i < sizeof no_records / sizeof *no_records; i++) {
         uint8_t text[8];
         struct pergidau_span places[MOST_CSV];
-        size_t length = strlen(no_records[i]);
-        uint8_t *input = copied(no_records[i], length);
-        same("no record", no_records[i],
-             pergidau_csv_record(input, length, 1, text, sizeof text, places, MOST_CSV, &out),
+        const char *row = no_records[i].text;
+        uint32_t line_feeds = no_records[i].line_feeds;
+        size_t length = strlen(row);
+        uint8_t *input = copied(row, length);
+        same("no record", row,
+             pergidau_csv_record(input, length, line_feeds, text, sizeof text, places, MOST_CSV,
+                                 &out),
              PERGIDAU_REFUSED);
         free(input);
+        for (size_t room = 0; room <= length; room++) {
+            uint8_t *piece = copied(row, room);
+            same("no record of a piece", row,
+                 pergidau_csv_record_in_pieces(piece, room, line_feeds, text, sizeof text, places,
+                                               MOST_CSV, &out),
+                 room > no_records[i].begins ? PERGIDAU_REFUSED : PERGIDAU_INCOMPLETE);
+            free(piece);
+        }
     }
 }
 
@@ -655,6 +724,92 @@ static void test_replies(void)
          PERGIDAU_TOO_DEEP);
     same("nothing", "reply", pergidau_resp_reply(NULL, 0, 0, &out), PERGIDAU_REFUSED);
     same("nothing", "reply", pergidau_resp_reply_in_pieces(NULL, 0, 0, &out), PERGIDAU_INCOMPLETE);
+}
+
+/* Calls in turn, each with so many bytes more: where the reply ends, or what the last one answers. */
+static enum pergidau_code extent_in_pieces(const char *row, size_t length, size_t step, size_t *end)
+{
+    struct pergidau_resp_extent state = {0};
+    enum pergidau_code code = PERGIDAU_INCOMPLETE;
+    for (size_t have = 0; code == PERGIDAU_INCOMPLETE && have <= length;
+         have += length - have < step && have < length ? length - have : step) {
+        uint8_t *bytes = copied(row, have);
+        code = pergidau_resp_extent(&state, bytes, have, end);
+        free(bytes);
+    }
+    return code;
+}
+
+/* These are no replies, of any level, and how many of their bytes can begin one. */
+static const struct {
+    const char *bytes;
+    size_t begins;
+} no_extents[] = {
+    {"x", 0},        {":1a\r\n", 4}, {":01\r\n", 4},        {"$-2\r\n", 4},
+    {"+a\rb", 3},    {"+a\n", 2},    {"$1\r\nab\r\n", 5}, {"*1\r\nx", 4},
+    {"*2\r\n+\r\n,", 7},
+};
+
+static void test_extents(void)
+{
+    size_t end = 1;
+    for (size_t i = 0; i < sizeof replies / sizeof *replies; i++) {
+        const char *row = replies[i].bytes;
+        size_t length = strlen(row), whole = length - replies[i].rest;
+        for (size_t step = 1; step <= length; step++) {
+            same("an extent", row, extent_in_pieces(row, length, step, &end), PERGIDAU_DONE);
+            same("its end", row, (long long)end, (long long)whole);
+        }
+        for (size_t cut = 0; cut < whole; cut++) {
+            struct pergidau_resp_extent state = {0};
+            uint8_t *bytes = copied(row, cut);
+            same("a part", row, pergidau_resp_extent(&state, bytes, cut, &end),
+                 PERGIDAU_INCOMPLETE);
+            same("no end", row, (long long)end, 0);
+            same("a part again", row, pergidau_resp_extent(&state, bytes, cut, &end),
+                 PERGIDAU_INCOMPLETE);
+            free(bytes);
+        }
+    }
+    for (size_t i = 0; i < sizeof no_extents / sizeof *no_extents; i++) {
+        const char *row = no_extents[i].bytes;
+        size_t length = strlen(row), begins = no_extents[i].begins;
+        for (size_t step = 1; step <= length; step++) {
+            same("no extent", row, extent_in_pieces(row, length, step, &end), PERGIDAU_REFUSED);
+            same("no end", row, (long long)end, 0);
+        }
+        same("it begins", row, extent_in_pieces(row, begins, 1, &end), PERGIDAU_INCOMPLETE);
+        same("it is refused", row, extent_in_pieces(row, begins + 1, 1, &end), PERGIDAU_REFUSED);
+    }
+    /* More replies are due than 64 bits count: two arrays of as many as a size may say. */
+    const char *many = "*2\r\n*9223372036854775807\r\n*9223372036854775807\r\n"
+                       "*9223372036854775807\r\n:1\r\n";
+    for (size_t step = 1; step <= strlen(many); step++) {
+        same("an extent", many, extent_in_pieces(many, strlen(many), step, &end),
+             PERGIDAU_INCOMPLETE);
+    }
+    struct pergidau_resp_extent state = {0};
+    same("an extent", many, pergidau_resp_extent(&state, (const uint8_t *)many, strlen(many), &end),
+         PERGIDAU_INCOMPLETE);
+    /* One, two and three times 2^63 - 1 were due, and the lines of five are passed. */
+    same("what is due", many, (long long)state.high, 1);
+    same("what is due", many, (long long)(state.low >> 1), (1LL << 62) - 3);
+    const uint8_t *bytes = (const uint8_t *)"+\r\n";
+    same("null", "state", pergidau_resp_extent(NULL, bytes, 3, &end), PERGIDAU_NULL);
+    same("null", "extent", pergidau_resp_extent(&state, NULL, 1, &end), PERGIDAU_NULL);
+    same("null", "extent", pergidau_resp_extent(&state, bytes, 3, NULL), PERGIDAU_NULL);
+    same("too long", "extent",
+         pergidau_resp_extent(&state, bytes, (size_t)PTRDIFF_MAX + 1, &end), PERGIDAU_TOO_LONG);
+    state = (struct pergidau_resp_extent){0};
+    same("nothing", "extent", pergidau_resp_extent(&state, NULL, 0, &end), PERGIDAU_INCOMPLETE);
+    same("a state that went on", "extent", pergidau_resp_extent(&state, bytes, 3, &end),
+         PERGIDAU_DONE);
+    /* Of numbers that no call left, it may say anything, and reads the bytes alone. */
+    state = (struct pergidau_resp_extent){SIZE_MAX, SIZE_MAX, SIZE_MAX,
+                                          SIZE_MAX, SIZE_MAX, SIZE_MAX};
+    (void)pergidau_resp_extent(&state, bytes, 3, &end);
+    state = (struct pergidau_resp_extent){1, 1, SIZE_MAX, 0, 0, 0};
+    (void)pergidau_resp_extent(&state, bytes, 3, &end);
 }
 
 static void test_positions(void)
@@ -793,8 +948,10 @@ int main(void)
     test_walks();
     test_documents();
     test_heads();
+    test_sizes();
     test_records();
     test_replies();
+    test_extents();
     test_positions();
     test_wrong_use();
     return wrong;

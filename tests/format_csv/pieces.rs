@@ -24,27 +24,60 @@ const BY_LINE_FEEDS: &[(&[u8], usize)] = &[
     (b"\"\"\n\r\n", 3),
 ];
 
-/// How many bytes the record of a piece takes; none where more is asked for.
-fn taken<A: Allocator + Copy>(
+/// Texts that begin with no record, and with how many of their bytes one can begin: at the byte
+/// behind these the standard's grammar goes on nowhere.
+const NONE: &[(&[u8], usize)] = &[
+    (b"x\"y,z", 1),
+    (b"\"x\"y,z", 3),
+    (b"a,\"\" ,", 4),
+    (b"a\nb\r\n", 1),
+    (b"a,b\rc\r\n", 4),
+    (b"\"\r\n\"\"\"\r\r", 7),
+    (b"\n", 0),
+];
+
+/// The same, where the line end is a line feed alone.
+const NONE_BY_LINE_FEEDS: &[(&[u8], usize)] = &[
+    (b"x\"\n", 1),
+    (b"\"x\"\"\"\"\n", 5),
+    (b"a\r\n", 1),
+    (b"\"a\"\r\n", 3),
+    (b"\r", 0),
+];
+
+/// What is answered of a piece.
+#[derive(Clone, Copy, Debug, PartialEq, Eq)]
+enum Answered {
+    /// A record of so many bytes, with its line end.
+    Taken(usize),
+    /// More is asked for.
+    Asks,
+    /// No longer input begins with a record.
+    Never,
+}
+
+fn answered<A: Allocator + Copy>(
     rt: &impl Abort,
     alloc: A,
     end: LineEnd,
     piece: &[u8],
-) -> Option<usize> {
+) -> Answered {
     let mut input = Partial::new(piece);
     let answer = read_record_in_pieces(alloc, end, &mut input);
     assert!(rt; input.is_partial());
-    match answer {
-        Ok(_) => Some(piece.len() - input.as_inner().len()),
-        Err(ErrMode::Incomplete(_)) => {
-            assert_eq!(rt; *input.as_inner(), piece);
-            None
-        }
-        Err(_) => {
+    let answered = match answer {
+        Ok(_) => Answered::Taken(piece.len() - input.as_inner().len()),
+        Err(ErrMode::Incomplete(_)) => Answered::Asks,
+        Err(ErrMode::Backtrack(_)) => Answered::Never,
+        Err(ErrMode::Cut(_)) => {
             assert!(rt; false, "{piece:?}");
-            None
+            Answered::Never
         }
+    };
+    if !matches!(answered, Answered::Taken(_)) {
+        assert_eq!(rt; *input.as_inner(), piece);
     }
+    answered
 }
 
 #[test]
@@ -52,8 +85,22 @@ fn read_record_at_every_cut(rt: HostRuntime) {
     for (end, rows) in [(LineEnd::CrLf, LINES), (LineEnd::Lf, BY_LINE_FEEDS)] {
         for (text, length) in rows {
             for cut in 0..text.len() + 1 {
-                let want = if cut < *length { None } else { Some(*length) };
-                assert_eq!(rt; taken(&rt, rt.alloc(), end, &text[..cut]), want, "{text:?} {cut}");
+                let want = if cut < *length { Answered::Asks } else { Answered::Taken(*length) };
+                let got = answered(&rt, rt.alloc(), end, &text[..cut]);
+                assert_eq!(rt; got, want, "{text:?} {cut}");
+            }
+        }
+    }
+}
+
+#[test]
+fn refuse_at_the_first_byte_at_which_no_record_goes_on(rt: HostRuntime) {
+    for (end, rows) in [(LineEnd::CrLf, NONE), (LineEnd::Lf, NONE_BY_LINE_FEEDS)] {
+        for (text, begins) in rows {
+            for cut in 0..text.len() + 1 {
+                let want = if cut > *begins { Answered::Never } else { Answered::Asks };
+                let got = answered(&rt, rt.alloc(), end, &text[..cut]);
+                assert_eq!(rt; got, want, "{text:?} {cut}");
             }
         }
     }

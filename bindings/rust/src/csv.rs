@@ -109,9 +109,10 @@ pub fn record<'i, 'b>(
 }
 
 /// The same record where the bytes come in pieces: [`Error::Incomplete`] says that no record with its
-/// line end is there. It does not say that one can come: it is the answer to `x"y` too, with which no
-/// record begins, so a caller bounds how many bytes are held. Where no more bytes come, [`record`]
-/// reads a last record that has no line end.
+/// line end is there, and that with three bytes more at most they can begin with one;
+/// [`Error::Refused`], that they begin with none, whatever comes behind them. A field in quotes that
+/// are not closed goes on for ever, so a caller bounds how many bytes are held. Where no more bytes
+/// come, [`record`] reads a last record that has no line end.
 ///
 /// ```
 /// use pergidau::csv::{self, LineEnd};
@@ -120,7 +121,7 @@ pub fn record<'i, 'b>(
 /// let record = csv::record_in_pieces(b"a,b", LineEnd::CrLf, &mut [], &mut []);
 /// assert_eq!(record.unwrap_err(), Error::Incomplete);
 /// let never = csv::record_in_pieces(b"x\"y", LineEnd::CrLf, &mut [], &mut []);
-/// assert_eq!(never.unwrap_err(), Error::Incomplete);
+/// assert_eq!(never.unwrap_err(), Error::Refused(None));
 /// ```
 pub fn record_in_pieces<'i, 'b>(
     bytes: &'i [u8],

@@ -135,6 +135,17 @@ pub struct Head {
     pub minor: u8,
 }
 
+/// What a size line says.
+#[repr(C)]
+#[derive(Clone, Copy, Debug, Default, PartialEq, Eq)]
+pub struct ChunkSize {
+    /// How many bytes the data of the chunk has, which stand behind the line. That of the last
+    /// chunk has none.
+    pub size: u64,
+    /// How many bytes the line has, its line end among them.
+    pub length: usize,
+}
+
 /// The places of a key and its value.
 #[repr(C)]
 #[derive(Clone, Copy, Debug, Default, PartialEq, Eq)]
@@ -196,6 +207,26 @@ pub struct Reply {
     pub length: usize,
 }
 
+/// How far bytes that come in pieces were searched for the end of the reply that they begin with.
+/// Its numbers are for the calls alone, and all zeros say that nothing was passed: so it is begun
+/// for each reply.
+#[repr(C)]
+#[derive(Clone, Copy, Debug, Default, PartialEq, Eq)]
+pub struct RespExtent {
+    /// What is due: 0 where nothing was passed, 1 for a line, 2 for the bytes of a string.
+    pub due: usize,
+    /// How many bytes were passed.
+    pub passed: usize,
+    /// How many of the bytes behind the next one have no part of a line end.
+    pub sought: usize,
+    /// How many bytes the string has.
+    pub bulk: usize,
+    /// How many replies are due, by the lower 64 bits of their number.
+    pub low: usize,
+    /// By the upper 64 bits.
+    pub high: usize,
+}
+
 /// A place in a text, as a reader of the text would say it.
 #[repr(C)]
 #[derive(Clone, Copy, Debug, Default, PartialEq, Eq)]
@@ -208,7 +239,7 @@ pub struct Position {
 
 extern "C" {
     /// Stands in a library of this version and with these declarations alone.
-    #[link_name = "pergidau_0_0_0_declared_ec0adfcb"]
+    #[link_name = "pergidau_0_0_0_declared_038739e8"]
     static VERSION_LINKED: c_char;
 
     /// The version of the library that is linked.
@@ -274,11 +305,12 @@ extern "C" {
     /// all longer bytes too.
     ///
     /// `DONE`, `TOO_SMALL`, `NO_MEMORY`: as for a record that is whole. `INCOMPLETE`: no record with
-    /// its line end is there. It does not say that one can come: so it answers of `x"y` too, with which
-    /// no record begins, and the caller bounds how many bytes are held. `REFUSED`: whatever comes
-    /// behind the bytes, they begin with no record; today that is answered only of more than 2^61
-    /// bytes. The last record may have no line end: where no more bytes come, the call for whole ones
-    /// reads it.
+    /// its line end is there, and with three bytes more at most they can begin with one. `REFUSED`:
+    /// whatever comes behind the bytes, they begin with no record, and that is answered as soon as the
+    /// byte is there at which none goes on: so of `x"`. More than 2^61 bytes are refused too. A field
+    /// in quotes that are not closed goes on for ever, so the caller bounds how many bytes are held.
+    /// The last record may have no line end: where no more bytes come, the call for whole ones reads
+    /// it.
     ///
     /// Each call reads from the first byte on, and holds as much memory as that for a whole record.
     ///
@@ -335,6 +367,43 @@ extern "C" {
         fields: *mut Field,
         fields_length: usize,
         out: *mut Head,
+    ) -> u32;
+
+    /// The size line of a chunk of HTTP/1.1 (RFC 9112, section 7.1) with which the bytes begin: a
+    /// number of hexadecimal digits, any extensions, of which nothing is told, and a line end. What
+    /// stands behind it is not looked at: the data of the chunk, and a line end, which is the caller's
+    /// to see.
+    ///
+    /// `DONE`: the size and the length of the line are written. `REFUSED`: the bytes begin with no size
+    /// line, or with one whose size is 2^64 or more. `NO_MEMORY`. With these two all that is written is
+    /// 0.
+    ///
+    /// While it runs it holds up to 32 bytes of memory for each byte of the line.
+    ///
+    /// The caller owes `bytes_length` bytes at `bytes` that can be read and that nothing changes while
+    /// the call runs, room for one size at `out`, apart from them, and 16 KiB of stack.
+    pub fn exported_http_chunk_size(
+        bytes: *const u8,
+        bytes_length: usize,
+        out: *mut ChunkSize,
+    ) -> u32;
+
+    /// The same size line where the bytes come in pieces: what it answers is that of all longer bytes
+    /// too.
+    ///
+    /// `DONE`, `NO_MEMORY`: as for a line that is whole. `INCOMPLETE`: more bytes may be needed; that
+    /// no more are asked for once the line is there is tested, not proved. `REFUSED`: whatever comes
+    /// behind the bytes, they begin with no size line, or with one whose size is 2^64 or more. Only
+    /// where `DONE` is answered is anything but 0 written.
+    ///
+    /// Each call reads from the first byte on, and holds as much memory as that for a whole line.
+    ///
+    /// The caller owes `bytes_length` bytes at `bytes` that can be read and that nothing changes while
+    /// the call runs, room for one size at `out`, apart from them, and 16 KiB of stack.
+    pub fn exported_http_chunk_size_in_pieces(
+        bytes: *const u8,
+        bytes_length: usize,
+        out: *mut ChunkSize,
     ) -> u32;
 
     /// The key and the value of one line: a key of one or more ASCII letters or digits, `=`, a value of
@@ -475,6 +544,33 @@ extern "C" {
         bytes_length: usize,
         levels: usize,
         out: *mut Reply,
+    ) -> u32;
+
+    /// Where the reply of Redis (RESP2) ends whose bytes come in pieces: what a call passed, no call
+    /// looks at again, so all calls for a reply take a time that is linear in its bytes, however many
+    /// there are. The bytes of the reply are then read by one call for a whole one, which also says
+    /// whether it has more levels than are asked for: here they are not counted.
+    ///
+    /// For the first call the numbers of `state` are zeros. Each further call for the same reply has
+    /// the state that the last one left, and all of the bytes of the last one with more behind them.
+    ///
+    /// `DONE`: so many of the first bytes are a reply, and whatever follows, no other reply stands
+    /// first. For the next one, zeros are put into the state. `INCOMPLETE`: the bytes begin with none
+    /// as yet: its last line is not ended, or bytes of a string are wanting. `REFUSED`: whatever comes
+    /// behind the bytes, they begin with none; a line that is none of a reply is refused where it ends.
+    /// With these two 0 is written.
+    ///
+    /// Of a state that calls left for other bytes, or that is changed, what is told may be wrong;
+    /// nothing outside of the bytes is read then either.
+    ///
+    /// The caller owes a state at `state` that can be read and written, `bytes_length` bytes at `bytes`
+    /// that can be read and that nothing changes while the call runs, room for one length at `out`,
+    /// each apart from the others, and 16 KiB of stack.
+    pub fn exported_resp_extent(
+        state: *mut RespExtent,
+        bytes: *const u8,
+        bytes_length: usize,
+        out: *mut usize,
     ) -> u32;
 
     /// The line and the column of the place behind the first `offset` bytes. That they are is proved of

@@ -1,4 +1,4 @@
-//! Heads of requests of HTTP/1.1, whole and in pieces.
+//! Heads of requests of HTTP/1.1 and size lines of chunks, whole and in pieces.
 //!
 //! ```
 //! use pergidau::http::{self, Field};
@@ -14,7 +14,7 @@
 pub use crate::exports::Field;
 
 use crate::exports;
-use crate::{at, Error, Wanted};
+use crate::{at, Error, Wanted, NOTHING};
 
 /// The head of a request: its parts, as slices of the bytes that were read.
 #[derive(Clone, Copy, Debug)]
@@ -101,4 +101,45 @@ pub fn head_in_pieces<'i, 'f>(
     fields: &'f mut [Field],
 ) -> Result<Head<'i, 'f>, Error> {
     read(exports::exported_http_head_in_pieces, bytes, fields)
+}
+
+type ExportSize = unsafe extern "C" fn(*const u8, usize, *mut exports::ChunkSize) -> u32;
+
+fn size(export: ExportSize, bytes: &[u8]) -> Result<(u64, &[u8]), Error> {
+    let mut out = exports::ChunkSize::default();
+    // SAFETY: the pointers are those of live borrows, and the bytes are only read. The call takes up to
+    // 4 KiB of stack (measured); where there is less, the thread's guard page ends the program.
+    match unsafe { export(bytes.as_ptr(), bytes.len(), &mut out) } {
+        exports::DONE => Ok((out.size, &bytes[out.length..])),
+        code => Err(Error::of(code, None, NOTHING)),
+    }
+}
+
+/// The size of a chunk (RFC 9112, section 7.1), by the size line with which the bytes begin, and what
+/// stands behind that: so many bytes, and a line end. The last chunk has none. What extensions stand in
+/// the line is not told. A size of 2<sup>64</sup> or more is refused. While it runs it holds up to 32
+/// bytes of memory for each byte of the line.
+///
+/// ```
+/// use pergidau::http;
+///
+/// let (size, rest) = http::chunk_size(b"1F;name=value\r\nthe data")?;
+/// assert_eq!((size, rest), (31, &b"the data"[..]));
+/// # Ok::<(), pergidau::Error>(())
+/// ```
+pub fn chunk_size(bytes: &[u8]) -> Result<(u64, &[u8]), Error> {
+    size(exports::exported_http_chunk_size, bytes)
+}
+
+/// The same size where the bytes come in pieces: [`Error::Incomplete`] says that more of them may be
+/// needed, and [`Error::Refused`] that they begin with no such line, whatever comes behind them.
+///
+/// ```
+/// use pergidau::{http, Error};
+///
+/// assert_eq!(http::chunk_size_in_pieces(b"1F;na"), Err(Error::Incomplete));
+/// assert_eq!(http::chunk_size_in_pieces(b"0\n"), Err(Error::Refused(None)));
+/// ```
+pub fn chunk_size_in_pieces(bytes: &[u8]) -> Result<(u64, &[u8]), Error> {
+    size(exports::exported_http_chunk_size_in_pieces, bytes)
 }

@@ -3,7 +3,7 @@ use pergidau::csv::{self, LineEnd};
 use pergidau::http::{self, Field};
 use pergidau::ini::{self, Entry};
 use pergidau::json::{self, Kind, Value};
-use pergidau::resp::{self, Reply};
+use pergidau::resp::{self, Extent, Reply};
 use pergidau::{calc, Error, Place, Span, Wanted, MOST_LEVELS};
 
 fn refused(offset: usize, column: usize) -> Error {
@@ -192,6 +192,32 @@ fn http_head_of_requests() {
 }
 
 #[test]
+fn http_chunk_size_of_lines() {
+    let rows: [(&[u8], u64, &[u8]); 6] = [
+        (b"5\r\nhello\r\n", 5, b"hello\r\n"),
+        (b"0\r\n\r\n", 0, b"\r\n"),
+        (b"aBc\r\n", 2748, b""),
+        (b"0000000000000000000010\r\n", 16, b""),
+        (b"ffffffffffffffff\r\n1", u64::MAX, b"1"),
+        (b"1 ; a = \"b\\\"c\";d\r\nx", 1, b"x"),
+    ];
+    for (bytes, want, rest) in rows {
+        assert_eq!(http::chunk_size(bytes), Ok((want, rest)), "{bytes:?}");
+        let whole = bytes.len() - rest.len();
+        for end in 0..whole {
+            let piece = http::chunk_size_in_pieces(&bytes[..end]);
+            assert_eq!(piece, Err(Error::Incomplete), "{bytes:?} {end}");
+            assert_eq!(http::chunk_size(&bytes[..end]), Err(Error::Refused(None)));
+        }
+        assert_eq!(http::chunk_size_in_pieces(&bytes[..whole]), Ok((want, &b""[..])));
+    }
+    for bytes in [&b"\r\n"[..], b"-1\r\n", b"0x1\r\n", b"1\n", b"10000000000000000\r\n", b"1;\r\n"] {
+        assert_eq!(http::chunk_size(bytes), Err(Error::Refused(None)), "{bytes:?}");
+        assert_eq!(http::chunk_size_in_pieces(bytes), Err(Error::Refused(None)), "{bytes:?}");
+    }
+}
+
+#[test]
 fn csv_record_of_lines() {
     let rows: [(&[u8], LineEnd, &[&[u8]], &[u8]); 6] = [
         (b"aaa,bbb,ccc\r\nzzz", LineEnd::CrLf, &[b"aaa", b"bbb", b"ccc"], b"zzz"),
@@ -234,6 +260,26 @@ fn csv_record_of_pieces() {
     }
 }
 
+/// The bytes before the first at which no record goes on can begin one; with that byte none begins.
+#[test]
+fn csv_record_of_pieces_is_refused_where_none_goes_on() {
+    let rows: [(&[u8], LineEnd, usize); 6] = [
+        (b"x\"y,z", LineEnd::CrLf, 1),
+        (b"\"a\"b\r\n", LineEnd::CrLf, 3),
+        (b"a\nb\r\n", LineEnd::CrLf, 1),
+        (b"a\rb", LineEnd::CrLf, 2),
+        (b"a\r\n", LineEnd::Lf, 1),
+        (b"a,\"\"\"\",\"", LineEnd::Lf, 8),
+    ];
+    for (bytes, end, begins) in rows {
+        for cut in 0..=bytes.len() {
+            let piece = csv::record_in_pieces(&bytes[..cut], end, &mut [], &mut []);
+            let want = if cut > begins { Error::Refused(None) } else { Error::Incomplete };
+            assert_eq!(piece.unwrap_err(), want, "{bytes:?} {cut}");
+        }
+    }
+}
+
 #[test]
 fn csv_records_of_a_document() {
     let document = b"a,b\r\n\"1\r\n2\",\r\nlong enough for more room,x,y\r\n";
@@ -247,6 +293,45 @@ fn csv_records_of_a_document() {
     assert_eq!(refused.next(), Some(Err(Error::Refused(Some(place)))));
     assert_eq!(refused.next(), None);
     assert_eq!(csv::records(b"", LineEnd::Lf).count(), 0);
+}
+
+#[test]
+fn resp_extent_of_pieces() {
+    let rows: [(&[u8], usize); 6] = [
+        (b"+OK\r\n", 5),
+        (b"$2\r\n\r\n\r\n+", 8),
+        (b"*2\r\n*1\r\n$-1\r\n:7\r\n:8\r\n", 17),
+        (b"*0\r\n*", 4),
+        (b"*-1\r\n", 5),
+        (b"$0\r\n\r\n\r\n", 6),
+    ];
+    for (bytes, whole) in rows {
+        for step in 1..=bytes.len() {
+            let mut extent = Extent::new();
+            let mut have = 0;
+            let end = loop {
+                have = bytes.len().min(have + step);
+                match extent.advance(&bytes[..have]).unwrap() {
+                    Some(end) => break end,
+                    None => assert!(have < whole, "{bytes:?} {step}"),
+                }
+            };
+            assert_eq!(end, whole, "{bytes:?} {step}");
+            assert!(have - end < step);
+        }
+    }
+    // What was passed is kept.
+    let mut extent = Extent::new();
+    assert_eq!(extent.advance(b"*2\r\n:1\r\n"), Ok(None));
+    assert_ne!(extent, Extent::new());
+    for (bytes, begins) in [(&b"x"[..], 0), (b":1a\r\n", 4), (b"$1\r\nab\r\n", 5), (b"*1\r\nx", 4)] {
+        let mut extent = Extent::new();
+        for have in 0..=begins {
+            assert_eq!(extent.advance(&bytes[..have]), Ok(None), "{bytes:?} {have}");
+        }
+        let refused = extent.advance(&bytes[..begins + 1]);
+        assert_eq!(refused, Err(Error::Refused(None)), "{bytes:?}");
+    }
 }
 
 #[test]

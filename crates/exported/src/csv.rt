@@ -2,6 +2,7 @@
 
 ghost use Rattle.std.specs.Prelude.{◌≡◌, ◌≤◌, ◌+◌, ◌<◌, ◌⊎◌, length, take};
 ghost use Rattle.format_csv.specs.Csv.{IsRecord};
+ghost use Rattle.format_csv.specs.Early.{MayGoOn};
 ghost use Rattle.exported.specs.Code.{done, incomplete, no_memory, refused, too_small};
 ghost use Rattle.exported.specs.Csv.{IsRecordForGood, NoLine, NoRecord, NoRecordForGood};
 ghost use Rattle.exported.specs.Csv.{ShowsRecord, WantsRecord, ends_of};
@@ -136,11 +137,12 @@ pub extern "C" fn exported_csv_record(
 /// all longer bytes too.
 ///
 /// `DONE`, `TOO_SMALL`, `NO_MEMORY`: as for a record that is whole. `INCOMPLETE`: no record with
-/// its line end is there. It does not say that one can come: so it answers of `x"y` too, with which
-/// no record begins, and the caller bounds how many bytes are held. `REFUSED`: whatever comes
-/// behind the bytes, they begin with no record; today that is answered only of more than 2^61
-/// bytes. The last record may have no line end: where no more bytes come, the call for whole ones
-/// reads it.
+/// its line end is there, and with three bytes more at most they can begin with one. `REFUSED`:
+/// whatever comes behind the bytes, they begin with no record, and that is answered as soon as the
+/// byte is there at which none goes on: so of `x"`. More than 2^61 bytes are refused too. A field
+/// in quotes that are not closed goes on for ever, so the caller bounds how many bytes are held.
+/// The last record may have no line end: where no more bytes come, the call for whole ones reads
+/// it.
 ///
 /// Each call reads from the first byte on, and holds as much memory as that for a whole record.
 ///
@@ -164,7 +166,8 @@ pub extern "C" fn exported_csv_record_in_pieces(
         × ((length fields.old < out.new.fields) ⊎ (length text.old < out.new.text)) }
     ensures kept { result ≡ too_small → (fields.new ≡ fields.old) × (text.new ≡ text.old) }
     ensures refused { result ≡ refused → NoRecordForGood (ends_of line_feeds) bytes.now }
-    ensures incomplete { result ≡ incomplete → NoLine (ends_of line_feeds) bytes.now }
+    ensures incomplete { result ≡ incomplete → NoLine (ends_of line_feeds) bytes.now
+        × MayGoOn (ends_of line_feeds) bytes.now }
     ensures codes { (result ≡ done) ⊎ ((result ≡ too_small) ⊎ ((result ≡ refused)
         ⊎ ((result ≡ incomplete) ⊎ (result ≡ no_memory)))) }
 {

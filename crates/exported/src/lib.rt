@@ -13,6 +13,7 @@ pub mod calc;
 pub mod code;
 pub mod csv;
 pub mod http;
+pub mod http_chunks;
 pub mod ini;
 pub mod json;
 pub mod resp;

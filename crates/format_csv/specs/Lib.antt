@@ -1,6 +1,7 @@
 -- Written by scripts/registries.py: do not edit.
 pub mod Answered
 pub mod Csv
+pub mod Early
 pub mod Instance
 pub mod One
 pub mod Pieces

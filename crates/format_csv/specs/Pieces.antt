@@ -9,7 +9,7 @@ use Rattle.winnow.specs.Bytes.{bytes_follow, bytes_input, bytes_reading}
 use Rattle.winnow.specs.Counted.{counted_reading}
 use Rattle.winnow.specs.Equal.{true_is_false}
 use Rattle.winnow.specs.Input.{Input, IsEndOf}
-use Rattle.winnow.specs.Kind.{Kind, memory}
+use Rattle.winnow.specs.Kind.{Kind, backtrack, memory}
 use Rattle.winnow.specs.Partial.{with_flag}
 use Rattle.format_csv.specs.Csv.{IsRecord, RecordText, line_end}
 use Rattle.format_csv.specs.Read.{FieldsRead, breaks, fields, some_end}
@@ -74,13 +74,14 @@ module _ {A : Type 0} (ends : LineEnd) where
       {i j : Input ℕ} {result : Result (Vec (Vec ℕ A) A) E} (end : Bor (List ℕ))
       → end.now ≡ line_end ends → i.status.cut ≡ false
       → Reads counted_reading kind g i result j → g ≡ LineRead end
-      → IfErr result (λ e. (kind e ≡ memory) ⊎ NoneStands (IsLine {A = A} ends) i.left.tokens)
+      → IfErr result (λ e. (kind e ≡ memory)
+      ⊎ ((kind e ≡ backtrack) × NoneStands (IsLine {A = A} ends) i.left.tokens))
   line_fails {result = Ok list} end is whole r e = tt
   line_fails {g = g} {i = i} {result = Err error} end is whole r e =
       let P : Grammar ℕ (Vec (Vec ℕ A) A) → Type 0 = λ h. NoneStands h i.left.tokens in
       elim (r.none whole) [
         | inl wants ↦ inl wants
-        | inr (backs, none) ↦ inr (λ list rest line.
+        | inr (backs, none) ↦ inr (backs, λ list rest line.
             subst P e none list rest (line_back end is i.left.tokens list rest line))
       ]
 

@@ -1,16 +1,20 @@
 //! Records from pieces: one at a time, as their bytes come in.
 
-ghost use Rattle.std.specs.Prelude.{◌≡◌, ◌⊎◌, IfErr, IfOk};
+ghost use Rattle.std.specs.Prelude.{◌≡◌, ◌⊎◌, IfErr, IfOk, MatchBool};
 ghost use Rattle.winnow.specs.Bytes.{bytes_follow, bytes_input, bytes_reading};
 ghost use Rattle.winnow.specs.Grammar.{NoneStands};
 ghost use Rattle.winnow.specs.Input.{IsEndOf};
-ghost use Rattle.winnow.specs.Kind.{memory};
+ghost use Rattle.winnow.specs.Kind.{backtrack, memory};
 ghost use Rattle.format_csv.specs.Csv.{IsRecord};
+ghost use Rattle.format_csv.specs.Early.{MayGoOn, NeverGoesOn};
 ghost use Rattle.format_csv.specs.Pieces.{IsLine};
 ghost use Rattle.winnow.specs.Cut.{Asks, ReadsOrAsks};
 
+use crate::dialects::dialect_of;
 use crate::{Fields, LineEnd, Record, read_fields, read_record};
-use std::alloc::Allocator;
+use format_csv_records::read::{RecordError, read_record_into};
+use format_csv_records::record::ByteRecord;
+use std::alloc::{AllocError, Allocator};
 use winnow::Parser;
 use winnow::combinator::terminated;
 use winnow::error::{EmptyError, ErrMode, HasKind, Needed, ParserError};
@@ -27,17 +31,36 @@ fn read_line<'i, A: Allocator + Copy>(
     ensures ends { IsEndOf bytes_reading (bytes_input input.new.now) (bytes_input input.old.now) }
     ensures line { IfOk result (λ fields. IsLine end input.old.now fields input.new.now) }
     ensures none { IfErr result (λ e. (⟦<ErrMode<EmptyError> as HasKind>⟧.kind e ≡ memory)
-        ⊎ NoneStands (IsLine {A = A} end) input.old.now) }
+        ⊎ ((⟦<ErrMode<EmptyError> as HasKind>⟧.kind e ≡ backtrack)
+        × NoneStands (IsLine {A = A} end) input.old.now)) }
 {
     let fields = Fields(alloc).by(|input: &mut &[u8]| read_fields(alloc, input));
     terminated(fields, literal(end.bytes())).read(input)
 }
 
+/// Whether some more bytes make these begin with a record; else none do, whatever they are.
+fn may_go_on<A: Allocator + Copy>(
+    alloc: A,
+    end: LineEnd,
+    bytes: &[u8],
+) -> Result<bool, AllocError>
+    ensures { IfOk result (λ goes_on. MatchBool goes_on (MayGoOn end bytes.now)
+        (NeverGoesOn end bytes.now)) }
+{
+    let mut fields = ByteRecord::new(alloc);
+    let mut rest = bytes;
+    match read_record_into(dialect_of(end), &mut fields, &mut rest) {
+        Ok(_) => Ok(true),
+        Err(RecordError::Refused(fault)) => Ok(fault.offset >= bytes.len()),
+        Err(RecordError::OutOfMemory) => Err(AllocError),
+    }
+}
+
 /// As [`read_record`](crate::read_record), from an input to which more may come. A record is read
-/// there once its line end is: it is that of every longer input, and where this backtracks none of
-/// them begins with one. Else more is asked for, by `Incomplete`, where no record with its line end
-/// stands first; in bytes that no longer input makes a record too, so a caller bounds how many it
-/// holds. A complete input is read as by `read_record`.
+/// there once its line end is: it is that of every longer input. Where this backtracks none of them
+/// begins with one, and that is said as soon as it is so: more is asked for, by `Incomplete`, only
+/// where no record with its line end stands first, and some longer input begins with one. Want of
+/// memory aside. A complete input is read as by `read_record`.
 ///
 /// ```
 /// use format_csv::LineEnd;
@@ -52,6 +75,9 @@ fn read_line<'i, A: Allocator + Copy>(
 /// let record = read_record_in_pieces(alloc, LineEnd::Lf, &mut more);
 /// assert!(rt; matches!(record, Ok(fields) if fields[1].as_slice() == b"b\nc".as_slice()));
 /// assert_eq!(rt; *more.as_inner(), b"d".as_slice());
+/// let mut none = Partial::new(b"a,b\"".as_slice());
+/// let refused = read_record_in_pieces(alloc, LineEnd::Lf, &mut none);
+/// assert!(rt; matches!(refused, Err(ErrMode::Backtrack(_))));
 /// ```
 pub fn read_record_in_pieces<'i, A: Allocator + Copy>(
     alloc: A,
@@ -64,6 +90,8 @@ pub fn read_record_in_pieces<'i, A: Allocator + Copy>(
     ensures asks { IfErr result (λ e. Asks (⟦<ErrMode<EmptyError> as HasKind>⟧.kind e)
         → NoneStands (IsLine {A = A} end)
         (⟦<Partial<&'static [u8]> as Stream>⟧.view input.old).left.tokens) }
+    ensures goes_on { IfErr result (λ e. Asks (⟦<ErrMode<EmptyError> as HasKind>⟧.kind e)
+        → MayGoOn end (⟦<Partial<&'static [u8]> as Stream>⟧.view input.old).left.tokens) }
 {
     let mut left = *input.as_inner();
     if !input.is_partial() {
@@ -78,6 +106,10 @@ pub fn read_record_in_pieces<'i, A: Allocator + Copy>(
             Ok(record)
         }
         Err(error) if ParserError::<&[u8]>::is_memory(&error) => Err(error),
-        Err(_) => Err(ErrMode::Incomplete(Needed::Unknown)),
+        Err(error) => match may_go_on(alloc, end, input.as_inner()) {
+            Ok(true) => Err(ErrMode::Incomplete(Needed::Unknown)),
+            Ok(false) => Err(error),
+            Err(_) => Err(ParserError::<&[u8]>::no_memory(&left)),
+        },
     }
 }

@@ -2,6 +2,7 @@ use Rattle.std.proofs.Common.{◌∙◌, ap, arith, length, List, subst, sym, ta
 use Rattle.std.proofs.lemmas.Bool.{true≢false}
 use Rattle.winnow.specs.Input.{Input}
 use Rattle.format_csv.specs.Csv.{IsRecord}
+use Rattle.format_csv.specs.Early.{MayGoOn}
 use Rattle.format_csv.specs.declared.LineEnd.{LineEnd}
 use Rattle.exported.specs.Csv.{IsRecordForGood, NoLine, NoRecordForGood, ShowsRecord}
 use Rattle.exported.specs.Csv.{WantsRecord}
@@ -60,7 +61,9 @@ returns-else-is_incomplete-clause-refused c _ =
 
 pub returns-then-is_incomplete-clause-incomplete : goal.returns-then-is_incomplete-clause-incomplete
 returns-then-is_incomplete-clause-incomplete c _ =
-    let P : LineEnd → Type 0 = λ ends. NoLine ends c.args.bytes.now in
-    let Q : List ℕ → Type 0 = λ l. NoLine c.line_end.result l in
+    let P : LineEnd → Type 0 =
+    λ ends. NoLine ends c.args.bytes.now × MayGoOn ends c.args.bytes.now in
+    let Q : List ℕ → Type 0 = λ l. NoLine c.line_end.result l × MayGoOn c.line_end.result l in
+    let asks = asked _ (c.is_incomplete.ensures.0 c.if-is_incomplete.true) in
     subst P c.line_end.ensures (subst Q (ap (λ (i : Input ℕ). i.left.tokens) c.new-pieces.ensures)
-    (c.in-Err.ensures.asks (asked _ (c.is_incomplete.ensures.0 c.if-is_incomplete.true))))
+    (c.in-Err.ensures.asks asks, c.in-Err.ensures.goes_on asks))
