@@ -93,7 +93,8 @@ pub fn read_record_in_pieces<'i, A: Allocator + Copy>(
     ensures goes_on { IfErr result (λ e. Asks (⟦<ErrMode<EmptyError> as HasKind>⟧.kind e)
         → MayGoOn end (⟦<Partial<&'static [u8]> as Stream>⟧.view input.old).left.tokens) }
 {
-    let mut left = *input.as_inner();
+    let whole = *input.as_inner();
+    let mut left = whole;
     if !input.is_partial() {
         let answer = read_record(alloc, end, &mut left);
         *input = Partial::new(left);
@@ -105,11 +106,15 @@ pub fn read_record_in_pieces<'i, A: Allocator + Copy>(
             *input = Partial::new(left);
             Ok(record)
         }
-        Err(error) if ParserError::<&[u8]>::is_memory(&error) => Err(error),
-        Err(error) => match may_go_on(alloc, end, input.as_inner()) {
-            Ok(true) => Err(ErrMode::Incomplete(Needed::Unknown)),
-            Ok(false) => Err(error),
-            Err(_) => Err(ParserError::<&[u8]>::no_memory(&left)),
-        },
+        Err(error) => {
+            if ParserError::<&[u8]>::is_memory(&error) {
+                return Err(error);
+            }
+            match may_go_on(alloc, end, whole) {
+                Ok(true) => Err(ErrMode::Incomplete(Needed::Unknown)),
+                Ok(false) => Err(error),
+                Err(_) => Err(ParserError::<&[u8]>::no_memory(&left)),
+            }
+        }
     }
 }
