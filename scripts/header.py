@@ -239,8 +239,8 @@ def header(codes, constants, structs, exports):
         "and a length that no object can have by `TOO_LONG`. Then nothing is read or written. A null",
         "pointer to no bytes or to no entries is right.",
         "",
-        "A call keeps nothing, and has no state: calls may run side by side. Memory that one takes, by",
-        "malloc, it gives back before it ends.",
+        "A call keeps nothing but what it writes where its caller says: calls may run side by side.",
+        "Memory that one takes, by malloc, it gives back before it ends.",
         "",
         *COST,
     ], names)

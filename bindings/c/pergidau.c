@@ -75,13 +75,18 @@ uint32_t exported_resp_reply_in_pieces(
     size_t bytes_length,
     size_t levels,
     struct pergidau_reply *out);
+uint32_t exported_resp_extent(
+    struct pergidau_resp_extent *state,
+    const uint8_t *bytes,
+    size_t bytes_length,
+    size_t *out);
 uint32_t exported_text_position(
     const uint8_t *bytes,
     size_t bytes_length,
     size_t offset,
     struct pergidau_position *out);
 
-const char pergidau_0_0_0_declared_ec0adfcb = 0;
+const char pergidau_0_0_0_declared_42a25bb0 = 0;
 
 const char *pergidau_version(void)
 {
@@ -473,6 +478,31 @@ enum pergidau_code pergidau_resp_reply_in_pieces(
         bytes = &no_bytes;
     }
     return (enum pergidau_code)exported_resp_reply_in_pieces(bytes, bytes_length, levels, out);
+}
+
+enum pergidau_code pergidau_resp_extent(
+    struct pergidau_resp_extent *state,
+    const uint8_t *bytes,
+    size_t bytes_length,
+    size_t *out)
+{
+    const uint8_t no_bytes = {0};
+    if (state == NULL) {
+        return PERGIDAU_NULL;
+    }
+    if (bytes_length > PTRDIFF_MAX / sizeof(uint8_t)) {
+        return PERGIDAU_TOO_LONG;
+    }
+    if (bytes == NULL && bytes_length > 0) {
+        return PERGIDAU_NULL;
+    }
+    if (out == NULL) {
+        return PERGIDAU_NULL;
+    }
+    if (bytes == NULL) {
+        bytes = &no_bytes;
+    }
+    return (enum pergidau_code)exported_resp_extent(state, bytes, bytes_length, out);
 }
 
 enum pergidau_code pergidau_text_position(

@@ -8,8 +8,8 @@
  * PERGIDAU_NULL, and a length that no object can have by PERGIDAU_TOO_LONG. Then nothing is
  * read or written. A null pointer to no bytes or to no entries is right.
  *
- * A call keeps nothing, and has no state: calls may run side by side. Memory that one takes,
- * by malloc, it gives back before it ends.
+ * A call keeps nothing but what it writes where its caller says: calls may run side by side.
+ * Memory that one takes, by malloc, it gives back before it ends.
  *
  * What a call costs in memory and stack is measured, on inputs made to cost much
  * (bindings/tests/cost.c), and not proved. Memory is what is held at once, two blocks where
@@ -37,10 +37,10 @@ extern "C" {
  * includes this header refers to it, so that it links with no other library. Define
  * PERGIDAU_NO_LINK_CHECK before the header for a file that is not linked with the library.
  */
-extern const char pergidau_0_0_0_declared_ec0adfcb;
+extern const char pergidau_0_0_0_declared_42a25bb0;
 #if defined(__GNUC__) && !defined(PERGIDAU_NO_LINK_CHECK)
 __attribute__((__used__, __unused__)) static const char *const pergidau_linked =
-    &pergidau_0_0_0_declared_ec0adfcb;
+    &pergidau_0_0_0_declared_42a25bb0;
 #endif
 
 /* The version of the library that is linked, as PERGIDAU_VERSION is written. */
@@ -234,6 +234,26 @@ struct pergidau_reply {
     struct pergidau_span place;
     /* How many bytes the reply has. */
     size_t length;
+};
+
+/*
+ * How far bytes that come in pieces were searched for the end of the reply that they begin
+ * with. Its numbers are for the calls alone, and all zeros say that nothing was passed: so it
+ * is begun for each reply.
+ */
+struct pergidau_resp_extent {
+    /* What is due: 0 where nothing was passed, 1 for a line, 2 for the bytes of a string. */
+    size_t due;
+    /* How many bytes were passed. */
+    size_t passed;
+    /* How many of the bytes behind the next one have no part of a line end. */
+    size_t sought;
+    /* How many bytes the string has. */
+    size_t bulk;
+    /* How many replies are due, by the lower 64 bits of their number. */
+    size_t low;
+    /* By the upper 64 bits. */
+    size_t high;
 };
 
 /* A place in a text, as a reader of the text would say it. */
@@ -522,6 +542,35 @@ enum pergidau_code pergidau_resp_reply_in_pieces(
     size_t bytes_length,
     size_t levels,
     struct pergidau_reply *out);
+
+/*
+ * Where the reply of Redis (RESP2) ends whose bytes come in pieces: what a call passed, no
+ * call looks at again, so all calls for a reply take a time that is linear in its bytes,
+ * however many there are. The bytes of the reply are then read by one call for a whole one,
+ * which also says whether it has more levels than are asked for: here they are not counted.
+ *
+ * For the first call the numbers of state are zeros. Each further call for the same reply has
+ * the state that the last one left, and all of the bytes of the last one with more behind
+ * them.
+ *
+ * PERGIDAU_DONE: so many of the first bytes are a reply, and whatever follows, no other reply
+ * stands first. For the next one, zeros are put into the state. PERGIDAU_INCOMPLETE: the bytes
+ * begin with none as yet: its last line is not ended, or bytes of a string are wanting.
+ * PERGIDAU_REFUSED: whatever comes behind the bytes, they begin with none; a line that is none
+ * of a reply is refused where it ends. With these two 0 is written.
+ *
+ * Of a state that calls left for other bytes, or that is changed, what is told may be wrong;
+ * nothing outside of the bytes is read then either.
+ *
+ * The caller owes a state at state that can be read and written, bytes_length bytes at bytes
+ * that can be read and that nothing changes while the call runs, room for one length at out,
+ * each apart from the others, and 16 KiB of stack.
+ */
+enum pergidau_code pergidau_resp_extent(
+    struct pergidau_resp_extent *state,
+    const uint8_t *bytes,
+    size_t bytes_length,
+    size_t *out);
 
 /*
  * The line and the column of the place behind the first offset bytes. That they are is proved

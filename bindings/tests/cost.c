@@ -60,11 +60,11 @@ void *__wrap_realloc(void *block, size_t size)
 }
 
 enum call { CALC, PAIR, DOCUMENT, CHECK, VALUE, NEXT, HEAD, HEAD_IN_PIECES, RECORD, RECORD_IN_PIECES,
-            REPLY, REPLY_IN_PIECES, POSITION };
+            REPLY, REPLY_IN_PIECES, EXTENT, POSITION };
 static const char *const names[] = {
     "calc_value", "ini_pair", "ini_document", "json_check", "json_value", "json_next", "http_head",
     "http_head_in_pieces", "csv_record", "csv_record_in_pieces", "resp_reply",
-    "resp_reply_in_pieces", "text_position",
+    "resp_reply_in_pieces", "resp_extent", "text_position",
 };
 
 /* Inputs: a beginning, what is repeated, and an end. The memory is that which the header says a call
@@ -121,6 +121,9 @@ static const struct {
     {REPLY_IN_PIECES, "", "*1\r\n", ":1\r\n", 512, 32, 512},
     {REPLY_IN_PIECES, "*262144\r\n", ":1\r\n", "", 262144, 32, 512},
     {REPLY_IN_PIECES, "*262145\r\n", ":1\r\n", "", 262144, 32, 512},
+    {EXTENT, "*262144\r\n", ":1\r\n", "", 262144, 0, 16},
+    {EXTENT, "", "*1\r\n", ":1\r\n", LENGTH / 4, 0, 16},
+    {EXTENT, "+", "a", "", LENGTH, 0, 16},
     {POSITION, "", "\xc3\xa9\n", "", LENGTH / 3, 0, 16},
 };
 
@@ -136,6 +139,7 @@ static enum pergidau_code call(enum call which, size_t levels)
     struct pergidau_head head;
     struct pergidau_record record;
     struct pergidau_reply reply;
+    struct pergidau_resp_extent state = {0};
     struct pergidau_position position;
     size_t found;
     switch (which) {
@@ -163,6 +167,8 @@ static enum pergidau_code call(enum call which, size_t levels)
         return pergidau_resp_reply(bytes, length, levels, &reply);
     case REPLY_IN_PIECES:
         return pergidau_resp_reply_in_pieces(bytes, length, levels, &reply);
+    case EXTENT:
+        return pergidau_resp_extent(&state, bytes, length, &found);
     default:
         return pergidau_text_position(bytes, length, length / 2, &position);
     }

@@ -310,6 +310,24 @@ static void read_reply(const uint8_t *bytes, size_t length)
     HOLDS(pergidau_resp_reply_in_pieces(bytes, cut, levels, &part) == PERGIDAU_INCOMPLETE);
 }
 
+/* Where a reply ends, by calls in turn and by one, is where it is read to. */
+static void read_extent(const uint8_t *bytes, size_t length)
+{
+    struct pergidau_resp_extent state = {0}, once = {0};
+    struct pergidau_reply reply;
+    size_t end = 0, whole = 0, have = 0;
+    enum pergidau_code code = PERGIDAU_INCOMPLETE;
+    enum pergidau_code all = pergidau_resp_extent(&once, bytes, length, &whole);
+    while (code == PERGIDAU_INCOMPLETE && have < length) {
+        have += 1 + below(length - have);
+        code = pergidau_resp_extent(&state, bytes, have, &end);
+    }
+    HOLDS(code == all && end == whole);
+    enum pergidau_code read = pergidau_resp_reply(bytes, length, PERGIDAU_MOST_LEVELS, &reply);
+    HOLDS((read == PERGIDAU_DONE) == (all == PERGIDAU_DONE));
+    HOLDS(read != PERGIDAU_DONE || reply.length == end);
+}
+
 static void read_place(const uint8_t *bytes, size_t length)
 {
     struct pergidau_position out;
@@ -327,6 +345,7 @@ static void read_all(const uint8_t *bytes, size_t length)
     read_head(bytes, length);
     read_record(bytes, length);
     read_reply(bytes, length);
+    read_extent(bytes, length);
     read_place(bytes, length);
 }
 

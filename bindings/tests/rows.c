@@ -676,6 +676,92 @@ static void test_replies(void)
     same("nothing", "reply", pergidau_resp_reply_in_pieces(NULL, 0, 0, &out), PERGIDAU_INCOMPLETE);
 }
 
+/* Calls in turn, each with so many bytes more: where the reply ends, or what the last one answers. */
+static enum pergidau_code extent_in_pieces(const char *row, size_t length, size_t step, size_t *end)
+{
+    struct pergidau_resp_extent state = {0};
+    enum pergidau_code code = PERGIDAU_INCOMPLETE;
+    for (size_t have = 0; code == PERGIDAU_INCOMPLETE && have <= length;
+         have += length - have < step && have < length ? length - have : step) {
+        uint8_t *bytes = copied(row, have);
+        code = pergidau_resp_extent(&state, bytes, have, end);
+        free(bytes);
+    }
+    return code;
+}
+
+/* These are no replies, of any level, and how many of their bytes can begin one. */
+static const struct {
+    const char *bytes;
+    size_t begins;
+} no_extents[] = {
+    {"x", 0},        {":1a\r\n", 4}, {":01\r\n", 4},        {"$-2\r\n", 4},
+    {"+a\rb", 3},    {"+a\n", 2},    {"$1\r\nab\r\n", 5}, {"*1\r\nx", 4},
+    {"*2\r\n+\r\n,", 7},
+};
+
+static void test_extents(void)
+{
+    size_t end = 1;
+    for (size_t i = 0; i < sizeof replies / sizeof *replies; i++) {
+        const char *row = replies[i].bytes;
+        size_t length = strlen(row), whole = length - replies[i].rest;
+        for (size_t step = 1; step <= length; step++) {
+            same("an extent", row, extent_in_pieces(row, length, step, &end), PERGIDAU_DONE);
+            same("its end", row, (long long)end, (long long)whole);
+        }
+        for (size_t cut = 0; cut < whole; cut++) {
+            struct pergidau_resp_extent state = {0};
+            uint8_t *bytes = copied(row, cut);
+            same("a part", row, pergidau_resp_extent(&state, bytes, cut, &end),
+                 PERGIDAU_INCOMPLETE);
+            same("no end", row, (long long)end, 0);
+            same("a part again", row, pergidau_resp_extent(&state, bytes, cut, &end),
+                 PERGIDAU_INCOMPLETE);
+            free(bytes);
+        }
+    }
+    for (size_t i = 0; i < sizeof no_extents / sizeof *no_extents; i++) {
+        const char *row = no_extents[i].bytes;
+        size_t length = strlen(row), begins = no_extents[i].begins;
+        for (size_t step = 1; step <= length; step++) {
+            same("no extent", row, extent_in_pieces(row, length, step, &end), PERGIDAU_REFUSED);
+            same("no end", row, (long long)end, 0);
+        }
+        same("it begins", row, extent_in_pieces(row, begins, 1, &end), PERGIDAU_INCOMPLETE);
+        same("it is refused", row, extent_in_pieces(row, begins + 1, 1, &end), PERGIDAU_REFUSED);
+    }
+    /* More replies are due than 64 bits count: two arrays of as many as a size may say. */
+    const char *many = "*2\r\n*9223372036854775807\r\n*9223372036854775807\r\n"
+                       "*9223372036854775807\r\n:1\r\n";
+    for (size_t step = 1; step <= strlen(many); step++) {
+        same("an extent", many, extent_in_pieces(many, strlen(many), step, &end),
+             PERGIDAU_INCOMPLETE);
+    }
+    struct pergidau_resp_extent state = {0};
+    same("an extent", many, pergidau_resp_extent(&state, (const uint8_t *)many, strlen(many), &end),
+         PERGIDAU_INCOMPLETE);
+    /* One, two and three times 2^63 - 1 were due, and the lines of five are passed. */
+    same("what is due", many, (long long)state.high, 1);
+    same("what is due", many, (long long)(state.low >> 1), (1LL << 62) - 3);
+    const uint8_t *bytes = (const uint8_t *)"+\r\n";
+    same("null", "state", pergidau_resp_extent(NULL, bytes, 3, &end), PERGIDAU_NULL);
+    same("null", "extent", pergidau_resp_extent(&state, NULL, 1, &end), PERGIDAU_NULL);
+    same("null", "extent", pergidau_resp_extent(&state, bytes, 3, NULL), PERGIDAU_NULL);
+    same("too long", "extent",
+         pergidau_resp_extent(&state, bytes, (size_t)PTRDIFF_MAX + 1, &end), PERGIDAU_TOO_LONG);
+    state = (struct pergidau_resp_extent){0};
+    same("nothing", "extent", pergidau_resp_extent(&state, NULL, 0, &end), PERGIDAU_INCOMPLETE);
+    same("a state that went on", "extent", pergidau_resp_extent(&state, bytes, 3, &end),
+         PERGIDAU_DONE);
+    /* Of numbers that no call left, it may say anything, and reads the bytes alone. */
+    state = (struct pergidau_resp_extent){SIZE_MAX, SIZE_MAX, SIZE_MAX,
+                                          SIZE_MAX, SIZE_MAX, SIZE_MAX};
+    (void)pergidau_resp_extent(&state, bytes, 3, &end);
+    state = (struct pergidau_resp_extent){1, 1, SIZE_MAX, 0, 0, 0};
+    (void)pergidau_resp_extent(&state, bytes, 3, &end);
+}
+
 static void test_positions(void)
 {
     const char *text = "gr\xc3\xb6\xc3\x9f" "e=1\nh\xc3\xb6he?2\n";
@@ -814,6 +900,7 @@ int main(void)
     test_heads();
     test_records();
     test_replies();
+    test_extents();
     test_positions();
     test_wrong_use();
     return wrong;

@@ -196,6 +196,26 @@ pub struct Reply {
     pub length: usize,
 }
 
+/// How far bytes that come in pieces were searched for the end of the reply that they begin with.
+/// Its numbers are for the calls alone, and all zeros say that nothing was passed: so it is begun
+/// for each reply.
+#[repr(C)]
+#[derive(Clone, Copy, Debug, Default, PartialEq, Eq)]
+pub struct RespExtent {
+    /// What is due: 0 where nothing was passed, 1 for a line, 2 for the bytes of a string.
+    pub due: usize,
+    /// How many bytes were passed.
+    pub passed: usize,
+    /// How many of the bytes behind the next one have no part of a line end.
+    pub sought: usize,
+    /// How many bytes the string has.
+    pub bulk: usize,
+    /// How many replies are due, by the lower 64 bits of their number.
+    pub low: usize,
+    /// By the upper 64 bits.
+    pub high: usize,
+}
+
 /// A place in a text, as a reader of the text would say it.
 #[repr(C)]
 #[derive(Clone, Copy, Debug, Default, PartialEq, Eq)]
@@ -208,7 +228,7 @@ pub struct Position {
 
 extern "C" {
     /// Stands in a library of this version and with these declarations alone.
-    #[link_name = "pergidau_0_0_0_declared_ec0adfcb"]
+    #[link_name = "pergidau_0_0_0_declared_42a25bb0"]
     static VERSION_LINKED: c_char;
 
     /// The version of the library that is linked.
@@ -476,6 +496,33 @@ extern "C" {
         bytes_length: usize,
         levels: usize,
         out: *mut Reply,
+    ) -> u32;
+
+    /// Where the reply of Redis (RESP2) ends whose bytes come in pieces: what a call passed, no call
+    /// looks at again, so all calls for a reply take a time that is linear in its bytes, however many
+    /// there are. The bytes of the reply are then read by one call for a whole one, which also says
+    /// whether it has more levels than are asked for: here they are not counted.
+    ///
+    /// For the first call the numbers of `state` are zeros. Each further call for the same reply has
+    /// the state that the last one left, and all of the bytes of the last one with more behind them.
+    ///
+    /// `DONE`: so many of the first bytes are a reply, and whatever follows, no other reply stands
+    /// first. For the next one, zeros are put into the state. `INCOMPLETE`: the bytes begin with none
+    /// as yet: its last line is not ended, or bytes of a string are wanting. `REFUSED`: whatever comes
+    /// behind the bytes, they begin with none; a line that is none of a reply is refused where it ends.
+    /// With these two 0 is written.
+    ///
+    /// Of a state that calls left for other bytes, or that is changed, what is told may be wrong;
+    /// nothing outside of the bytes is read then either.
+    ///
+    /// The caller owes a state at `state` that can be read and written, `bytes_length` bytes at `bytes`
+    /// that can be read and that nothing changes while the call runs, room for one length at `out`,
+    /// each apart from the others, and 16 KiB of stack.
+    pub fn exported_resp_extent(
+        state: *mut RespExtent,
+        bytes: *const u8,
+        bytes_length: usize,
+        out: *mut usize,
     ) -> u32;
 
     /// The line and the column of the place behind the first `offset` bytes. That they are is proved of

@@ -106,7 +106,8 @@ pub fn reply(bytes: &[u8], levels: usize) -> Result<(Reply<'_>, &[u8]), Error> {
 }
 
 /// The same reply where the bytes come in pieces: [`Error::Incomplete`] says that more of them may
-/// be needed, and [`Error::Refused`] that they begin with none, whatever comes behind them.
+/// be needed, and [`Error::Refused`] that they begin with none, whatever comes behind them. Each call
+/// reads from the first byte on: of a long reply in many pieces an [`Extent`] finds the end.
 ///
 /// ```
 /// use pergidau::{resp, Error};
@@ -116,6 +117,58 @@ pub fn reply(bytes: &[u8], levels: usize) -> Result<(Reply<'_>, &[u8]), Error> {
 /// ```
 pub fn reply_in_pieces(bytes: &[u8], levels: usize) -> Result<(Reply<'_>, &[u8]), Error> {
     read(exports::exported_resp_reply_in_pieces, bytes, levels)
+}
+
+/// How far bytes that come in pieces were searched for the end of the reply that they begin with. What
+/// one call passed, no other looks at again: so all calls for a reply take a time that is linear in its
+/// bytes, however many pieces there are, where [`reply_in_pieces`] reads from the first byte each time.
+///
+/// ```
+/// use pergidau::resp::{self, Extent, Reply};
+///
+/// let (mut bytes, mut extent, mut seen) = (Vec::new(), Extent::new(), Vec::new());
+/// for piece in [&b"$5\r\nhe"[..], b"llo\r\n:1\r", b"\n+"] {
+///     bytes.extend(piece);
+///     while let Some(length) = extent.advance(&bytes)? {
+///         let (reply, _) = resp::reply(&bytes[..length], 1)?;
+///         seen.push(format!("{reply:?}"));
+///         bytes.drain(..length);
+///         extent = Extent::new();
+///     }
+/// }
+/// assert_eq!(seen, [format!("{:?}", Reply::Bulk(b"hello")), "Integer(1)".to_string()]);
+/// # Ok::<(), pergidau::Error>(())
+/// ```
+#[derive(Clone, Debug, Default, PartialEq, Eq)]
+pub struct Extent {
+    state: exports::RespExtent,
+}
+
+impl Extent {
+    /// That of a reply of which nothing was passed.
+    pub fn new() -> Extent {
+        Extent::default()
+    }
+
+    /// How many bytes the reply has with which the bytes begin, if it is there. They are all of those of
+    /// the call before, and a piece more. `None` says that the reply's last line is not ended, or that
+    /// bytes of a string are wanting; [`Error::Refused`], that they begin with no reply, whatever comes
+    /// behind them. What is told of other bytes than those of the call before may be wrong.
+    ///
+    /// How deep arrays stand in one another is not asked here: [`reply`] does, of the bytes of the reply.
+    pub fn advance(&mut self, bytes: &[u8]) -> Result<Option<usize>, Error> {
+        let mut length = 0;
+        // SAFETY: the pointers are those of live borrows, and the bytes are only read. The call takes up
+        // to 4 KiB of stack (measured); where there is less, the thread's guard page ends the program.
+        let code = unsafe {
+            exports::exported_resp_extent(&mut self.state, bytes.as_ptr(), bytes.len(), &mut length)
+        };
+        match code {
+            exports::DONE => Ok(Some(length)),
+            exports::INCOMPLETE => Ok(None),
+            code => Err(Error::of(code, None, NOTHING)),
+        }
+    }
 }
 
 #[cfg(test)]

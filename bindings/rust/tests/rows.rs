@@ -3,7 +3,7 @@ use pergidau::csv::{self, LineEnd};
 use pergidau::http::{self, Field};
 use pergidau::ini::{self, Entry};
 use pergidau::json::{self, Kind, Value};
-use pergidau::resp::{self, Reply};
+use pergidau::resp::{self, Extent, Reply};
 use pergidau::{calc, Error, Place, Span, Wanted, MOST_LEVELS};
 
 fn refused(offset: usize, column: usize) -> Error {
@@ -267,6 +267,45 @@ fn csv_records_of_a_document() {
     assert_eq!(refused.next(), Some(Err(Error::Refused(Some(place)))));
     assert_eq!(refused.next(), None);
     assert_eq!(csv::records(b"", LineEnd::Lf).count(), 0);
+}
+
+#[test]
+fn resp_extent_of_pieces() {
+    let rows: [(&[u8], usize); 6] = [
+        (b"+OK\r\n", 5),
+        (b"$2\r\n\r\n\r\n+", 8),
+        (b"*2\r\n*1\r\n$-1\r\n:7\r\n:8\r\n", 17),
+        (b"*0\r\n*", 4),
+        (b"*-1\r\n", 5),
+        (b"$0\r\n\r\n\r\n", 6),
+    ];
+    for (bytes, whole) in rows {
+        for step in 1..=bytes.len() {
+            let mut extent = Extent::new();
+            let mut have = 0;
+            let end = loop {
+                have = bytes.len().min(have + step);
+                match extent.advance(&bytes[..have]).unwrap() {
+                    Some(end) => break end,
+                    None => assert!(have < whole, "{bytes:?} {step}"),
+                }
+            };
+            assert_eq!(end, whole, "{bytes:?} {step}");
+            assert!(have - end < step);
+        }
+    }
+    // What was passed is kept.
+    let mut extent = Extent::new();
+    assert_eq!(extent.advance(b"*2\r\n:1\r\n"), Ok(None));
+    assert_ne!(extent, Extent::new());
+    for (bytes, begins) in [(&b"x"[..], 0), (b":1a\r\n", 4), (b"$1\r\nab\r\n", 5), (b"*1\r\nx", 4)] {
+        let mut extent = Extent::new();
+        for have in 0..=begins {
+            assert_eq!(extent.advance(&bytes[..have]), Ok(None), "{bytes:?} {have}");
+        }
+        let refused = extent.advance(&bytes[..begins + 1]);
+        assert_eq!(refused, Err(Error::Refused(None)), "{bytes:?}");
+    }
 }
 
 #[test]

@@ -1,5 +1,6 @@
 pub mod Entries
 pub mod ErrorKinds
+pub mod Extent
 pub mod Gaps
 pub mod Heads
 pub mod Items

@@ -1,6 +1,7 @@
 -- Written by scripts/registries.py: do not edit.
 pub mod Code
 pub mod Csv
+pub mod Extent
 pub mod Http
 pub mod Ini
 pub mod Json

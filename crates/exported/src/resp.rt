@@ -2,17 +2,22 @@
 
 ghost use Rattle.std.specs.Prelude.{◌≡◌, ◌<◌, ◌⊎◌, ◌↔◌, List, length, ℕ};
 ghost use Rattle.winnow.specs.InTurn.{First};
+ghost use Rattle.format_resp.specs.Extents.{IsOf};
 ghost use Rattle.format_resp.specs.Resp.{ReplyText};
 ghost use Rattle.exported.specs.Code.{done, incomplete, most_levels, no_memory, refused, too_deep};
+ghost use Rattle.exported.specs.Extent.{TellsEnd, extent_of};
 ghost use Rattle.exported.specs.Resp.{IsReply, IsReplyForGood, NoReply, NoReplyForGood, ShowsReply};
 ghost use Rattle.exported.specs.Resp.{no_reply};
 
+pub mod extent;
 pub mod places;
 
 use crate::code::{DONE, INCOMPLETE, NO_MEMORY, REFUSED, TOO_DEEP};
 use crate::json::MOST_LEVELS;
+use crate::resp::extent::{extent_at, state_at};
 use crate::resp::places::reply_at;
 use crate::span::{MOST_IN_PIECES, NOWHERE, Span};
+use format_resp::extent::Refused;
 use format_resp::read::read_reply;
 use std::alloc::Global;
 use winnow::error::ParserError;
@@ -54,6 +59,26 @@ pub struct Reply {
     pub place: Span,
     /// How many bytes the reply has.
     pub length: usize,
+}
+
+/// How far bytes that come in pieces were searched for the end of the reply that they begin with.
+/// Its numbers are for the calls alone, and all zeros say that nothing was passed: so it is begun
+/// for each reply.
+#[repr(C)]
+#[derive(Clone, Copy, Drop)]
+pub struct RespExtent {
+    /// What is due: 0 where nothing was passed, 1 for a line, 2 for the bytes of a string.
+    pub due: usize,
+    /// How many bytes were passed.
+    pub passed: usize,
+    /// How many of the bytes behind the next one have no part of a line end.
+    pub sought: usize,
+    /// How many bytes the string has.
+    pub bulk: usize,
+    /// How many replies are due, by the lower 64 bits of their number.
+    pub low: usize,
+    /// By the upper 64 bits.
+    pub high: usize,
 }
 
 /// The reply of nothing.
@@ -161,5 +186,46 @@ pub extern "C" fn exported_resp_reply_in_pieces(
                 REFUSED
             }
         }
+    }
+}
+
+/// Where the reply of Redis (RESP2) ends whose bytes come in pieces: what a call passed, no call
+/// looks at again, so all calls for a reply take a time that is linear in its bytes, however many
+/// there are. The bytes of the reply are then read by one call for a whole one, which also says
+/// whether it has more levels than are asked for: here they are not counted.
+///
+/// For the first call the numbers of `state` are zeros. Each further call for the same reply has
+/// the state that the last one left, and all of the bytes of the last one with more behind them.
+///
+/// `DONE`: so many of the first bytes are a reply, and whatever follows, no other reply stands
+/// first. For the next one, zeros are put into the state. `INCOMPLETE`: the bytes begin with none
+/// as yet: its last line is not ended, or bytes of a string are wanting. `REFUSED`: whatever comes
+/// behind the bytes, they begin with none; a line that is none of a reply is refused where it ends.
+/// With these two 0 is written.
+///
+/// Of a state that calls left for other bytes, or that is changed, what is told may be wrong;
+/// nothing outside of the bytes is read then either.
+///
+/// The caller owes a state at `state` that can be read and written, `bytes_length` bytes at `bytes`
+/// that can be read and that nothing changes while the call runs, room for one length at `out`,
+/// each apart from the others, and 16 KiB of stack.
+#[unsafe(no_mangle)]
+pub extern "C" fn exported_resp_extent(state: &mut RespExtent, bytes: &[u8], out: &mut usize) -> u32
+    ensures told { IsOf (extent_of state.old) bytes.now
+        → TellsEnd bytes.now result out.new state.new }
+    ensures none { (result ≡ done → ⊥) → out.new ≡ 0 }
+    ensures codes { (result ≡ done) ⊎ ((result ≡ incomplete) ⊎ (result ≡ refused)) }
+{
+    *out = 0;
+    let mut extent = extent_at(*state);
+    let answer = extent.advance(bytes);
+    *state = state_at(extent);
+    match answer {
+        Ok(Some(length)) => {
+            *out = length;
+            DONE
+        }
+        Ok(None) => INCOMPLETE,
+        Err(Refused) => REFUSED,
     }
 }

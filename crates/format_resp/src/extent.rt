@@ -24,7 +24,8 @@ use std::alloc::Allocator;
 #[derive(Clone, Copy, Debug, PartialEq, Eq)]
 pub struct Refused;
 
-/// How far some bytes were searched for the end of the reply that they begin with.
+/// How far some bytes were searched for the end of the reply that they begin with. What it has can
+/// be kept anywhere, and an extent be made of it again.
 ///
 /// ```
 /// use format_resp::extent::Extent;
@@ -36,13 +37,13 @@ pub struct Refused;
 #[derive(Clone, Copy, Debug, PartialEq, Eq)]
 pub struct Extent {
     /// How many bytes were passed.
-    passed: usize,
+    pub passed: usize,
     /// How many of the bytes behind the next one have no part of a line end.
-    sought: usize,
+    pub sought: usize,
     /// How many bytes a bulk string has that is due next, if one is whose size was passed.
-    bulk: Option<usize>,
+    pub bulk: Option<usize>,
     /// How many replies are due behind that.
-    replies: u128,
+    pub replies: u128,
 }
 
 /// What is behind the line end that the bytes begin with.

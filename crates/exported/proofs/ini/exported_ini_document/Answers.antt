@@ -1,4 +1,4 @@
-use Rattle.std.proofs.Common.{◌∙◌, ◌≤◌, ap, arith, length, map, rules}
+use Rattle.std.proofs.Common.{◌≤◌, ap, arith, length, map, rules}
 use Rattle.readers.specs.Sections.{pair_text, section_text}
 use Rattle.exported.specs.Ini.{entries_of, text_of}
 use Rattle.exported.proofs.Entries.{document_long}

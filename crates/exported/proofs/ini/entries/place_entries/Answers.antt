@@ -1,4 +1,4 @@
-use Rattle.std.proofs.Common.{arith, length, refl}
+use Rattle.std.proofs.Common.{arith, refl}
 use Rattle.exported.proofs.Entries.{front_long, length_more, of_number, shown_more}
 use Rattle.exported.proofs.ini.entries.place_entries.Goals as goal
 

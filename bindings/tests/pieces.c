@@ -1,0 +1,81 @@
+/* Times how a long reply of Redis is found that comes in pieces: an array of bulk strings, of 2.7
+ * megabytes in pieces of 1,460 bytes, as packets have.
+ *
+ *     pieces         by pergidau_resp_extent, and one call that reads the reply
+ *     pieces all     and beside it by pergidau_resp_reply_in_pieces alone, which takes a while
+ *
+ * Exits with 1 where the end that is found is another. */
+#include <stdio.h>
+#include <stdlib.h>
+#include <string.h>
+#include <time.h>
+
+#include "pergidau.h"
+
+enum { ELEMENTS = 100000, PIECE = 1460 };
+
+static double now(void)
+{
+    struct timespec time;
+    clock_gettime(CLOCK_MONOTONIC, &time);
+    return (double)time.tv_sec + (double)time.tv_nsec / 1e9;
+}
+
+/* The array: its first line, and so many strings of 20 bytes. */
+static char *made(size_t *length)
+{
+    char *text = malloc(32 + 28 * (size_t)ELEMENTS);
+    if (text == NULL) {
+        exit(2);
+    }
+    size_t end = (size_t)sprintf(text, "*%d\r\n", ELEMENTS);
+    for (int i = 0; i < ELEMENTS; i++) {
+        end += (size_t)sprintf(text + end, "$20\r\nvalue:%014d\r\n", i);
+    }
+    *length = end;
+    return text;
+}
+
+static size_t by_extent(const uint8_t *bytes, size_t length, struct pergidau_reply *out)
+{
+    struct pergidau_resp_extent state = {0};
+    size_t end = 0, have = 0;
+    enum pergidau_code code = PERGIDAU_INCOMPLETE;
+    while (code == PERGIDAU_INCOMPLETE && have < length) {
+        have = length - have < PIECE ? length : have + PIECE;
+        code = pergidau_resp_extent(&state, bytes, have, &end);
+    }
+    if (code == PERGIDAU_DONE) {
+        code = pergidau_resp_reply(bytes, end, 1, out);
+    }
+    return code == PERGIDAU_DONE ? have : 0;
+}
+
+static size_t by_pieces(const uint8_t *bytes, size_t length, struct pergidau_reply *out)
+{
+    size_t have = 0;
+    enum pergidau_code code = PERGIDAU_INCOMPLETE;
+    while (code == PERGIDAU_INCOMPLETE && have < length) {
+        have = length - have < PIECE ? length : have + PIECE;
+        code = pergidau_resp_reply_in_pieces(bytes, have, 1, out);
+    }
+    return code == PERGIDAU_DONE ? have : 0;
+}
+
+int main(int count, char **words)
+{
+    size_t length;
+    const uint8_t *bytes = (const uint8_t *)made(&length);
+    size_t (*const ways[])(const uint8_t *, size_t, struct pergidau_reply *) = {by_extent, by_pieces};
+    const char *const names[] = {"resp_extent, then resp_reply", "resp_reply_in_pieces"};
+    int wrong = 0;
+    for (int i = 0; i < (count > 1 && !strcmp(words[1], "all") ? 2 : 1); i++) {
+        struct pergidau_reply reply = {0};
+        double begun = now();
+        size_t have = ways[i](bytes, length, &reply);
+        printf("%s: %zu bytes, %.3f s\n", names[i], length, now() - begun);
+        wrong |= have != length || reply.length != length || reply.elements != ELEMENTS;
+    }
+    free((void *)bytes);
+    return wrong;
+}

@@ -1,0 +1,100 @@
+-- What calls in turn tell of the end of a reply.
+use Rattle.std.specs.Prelude.{◌≡◌, ◌++◌, ◌∷◌, ℕ, List, [], Option, None, Some, Result, Ok, Err}
+use Rattle.std.specs.Prelude.{IfOk, OnOk}
+use Rattle.std.proofs.Common.{refl, sym, ap, subst, ◌∙◌, arith, append_assoc}
+use Rattle.std.proofs.lemmas.List.{append-nil}
+use Rattle.format_resp.specs.Extents.{IsOf, IsTold, IsWanting}
+use Rattle.format_resp.specs.declared.extent.Extent.{Extent}
+use Rattle.format_resp.specs.declared.extent.Refused.{Refused}
+use Rattle.format_resp.proofs.Passing.{none_passed}
+use Rattle.exported.specs.Code.{done, incomplete, refused}
+use Rattle.exported.specs.Extent.{CallsInTurn, TellsEnd, all_of, extent_of, nothing}
+use Rattle.exported.specs.declared.resp.RespExtent.{RespExtent}
+
+-- ---- one call, by what was answered of the extent
+
+module _ (old new : Extent) (bytes : List ℕ) (answer : Result (Option ℕ) Refused)
+    (told : IsOf old bytes → IsTold bytes answer)
+    (kept : OnOk answer (IsOf old bytes → (more : List ℕ) → IsOf new (bytes ++ more)))
+    (wants : IsOf old bytes → IfOk answer (IsWanting new bytes))
+    (before after : RespExtent) (was : old ≡ extent_of before) (is : extent_of after ≡ new)
+    (here : IsOf (extent_of before) bytes) where
+  it_was : IsOf old bytes
+  it_was = let P : Extent → Type 0 = λ e. IsOf e bytes in subst P (sym was) here
+
+  it_is : (inside : Option ℕ) → answer ≡ Ok inside → (more : List ℕ)
+      → IsOf (extent_of after) (bytes ++ more)
+  it_is inside e more =
+      let P : Result (Option ℕ) Refused → Type 0 =
+      λ a. OnOk a (IsOf old bytes → (rest : List ℕ) → IsOf new (bytes ++ rest)) in
+      let Q : Extent → Type 0 = λ x. IsOf x (bytes ++ more) in
+      subst Q (sym is) (subst P e kept it_was more)
+
+  it_tells : (inside : Option ℕ) → answer ≡ Ok inside → IsTold bytes (Ok inside)
+  it_tells inside e =
+      let P : Result (Option ℕ) Refused → Type 0 = λ a. IsTold bytes a in
+      subst P e (told it_was)
+
+  it_wants : (inside : Option ℕ) → answer ≡ Ok inside
+      → IsWanting (extent_of after) bytes inside
+  it_wants inside e =
+      let P : Result (Option ℕ) Refused → Type 0 = λ a. IfOk a (IsWanting new bytes) in
+      let Q : Extent → Type 0 = λ x. IsWanting x bytes inside in
+      subst Q (sym is) (subst P e (wants it_was))
+
+  pub tells_end : (inside : Option ℕ) (count : ℕ) → answer ≡ Ok inside → inside ≡ Some count
+      → TellsEnd bytes done count after
+  tells_end inside count e some =
+      let P : Option ℕ → Type 0 = λ o. IsTold bytes (Ok o) in
+      record {
+        ends = λ _. subst P some (it_tells inside e);
+        wants = λ other. absurd (omega (arith, other));
+        never = λ other. absurd (omega (arith, other));
+        kept = λ _. it_is inside e;
+      }
+
+  pub tells_wants : (inside : Option ℕ) (count : ℕ) → answer ≡ Ok inside → inside ≡ None
+      → TellsEnd bytes incomplete count after
+  tells_wants inside count e none =
+      let P : Option ℕ → Type 0 = λ o. IsTold bytes (Ok o) in
+      let Q : Option ℕ → Type 0 = λ o. IsWanting (extent_of after) bytes o in
+      record {
+        ends = λ other. absurd (omega (arith, other));
+        wants = λ _. (subst P none (it_tells inside e), subst Q none (it_wants inside e));
+        never = λ other. absurd (omega (arith, other));
+        kept = λ _. it_is inside e;
+      }
+
+  pub tells_never : (why : Refused) (count : ℕ) → answer ≡ Err why
+      → TellsEnd bytes refused count after
+  tells_never why count e =
+      let P : Result (Option ℕ) Refused → Type 0 = λ a. IsTold bytes a in
+      record {
+        ends = λ other. absurd (omega (arith, other));
+        wants = λ other. absurd (omega (arith, other));
+        never = λ _. subst P e (told it_was);
+        kept = λ not. absurd (not refl);
+      }
+
+-- ---- calls in turn
+
+turn_by_turn : (pieces : List (List ℕ)) (state last : RespExtent) (bytes : List ℕ)
+    → ((more : List ℕ) → IsOf (extent_of state) (bytes ++ more))
+    → CallsInTurn state bytes pieces last
+    → (more : List ℕ) → IsOf (extent_of last) ((bytes ++ all_of pieces) ++ more)
+unfolding CallsInTurn
+turn_by_turn [] state last bytes is same more =
+    let P : RespExtent → Type 0 = λ s. IsOf (extent_of s) ((bytes ++ []) ++ more) in
+    let Q : List ℕ → Type 0 = λ l. IsOf (extent_of state) (l ++ more) in
+    subst P same (subst Q (sym (append-nil bytes)) (is more))
+turn_by_turn (piece ∷ pieces) state last bytes is (count, next, tells, others) more =
+    let P : List ℕ → Type 0 = λ l. IsOf (extent_of last) (l ++ more) in
+    subst P (append_assoc bytes piece (all_of pieces))
+    (turn_by_turn pieces next last (bytes ++ piece)
+    ((tells (is piece)).kept (λ e. omega (arith, e))) others more)
+
+pub calls_in_turn : (pieces : List (List ℕ)) (state : RespExtent)
+    → CallsInTurn nothing [] pieces state
+    → (more : List ℕ) → IsOf (extent_of state) (all_of pieces ++ more)
+calls_in_turn pieces state calls =
+    turn_by_turn pieces nothing state [] (λ more. none_passed _ more refl refl refl refl) calls

@@ -1,0 +1,58 @@
+-- How far bytes that come in pieces are searched for the end of a reply, from call to call.
+use Rattle.std.specs.Prelude.{◌≡◌, ◌+◌, ◌*◌, ◌++◌, ℕ, zero, suc, List, [], ◌∷◌}
+use Rattle.std.specs.Prelude.{Option, Some, None, Ok}
+use Rattle.std.specs.List.{flat_map}
+use Rattle.format_resp.specs.Extents.{IsOf, IsReply, IsTold, IsWanting, Stands}
+use Rattle.format_resp.specs.declared.extent.Extent.{Extent}
+use Rattle.exported.specs.Code.{done, incomplete, refused}
+use Rattle.exported.specs.declared.resp.RespExtent.{RespExtent}
+
+-- what is due, by the number that says it: nothing was passed; or a line; or the bytes of a string
+abbrev pub extent_due : ℕ → RespExtent → Extent
+extent_due zero s = record { passed = 0; sought = 0; bulk = None; replies = 1 }
+extent_due (suc zero) s = record {
+  passed = s.passed;
+  sought = s.sought;
+  bulk = None;
+  replies = s.low + 18446744073709551616 * s.high;
+}
+extent_due (suc (suc n)) s = record {
+  passed = s.passed;
+  sought = s.sought;
+  bulk = Some s.bulk;
+  replies = s.low + 18446744073709551616 * s.high;
+}
+
+-- What a state says: how much is passed, and what is due behind that.
+abbrev pub extent_of : RespExtent → Extent
+extent_of s = extent_due s.due s
+
+-- the state of zeros
+abbrev pub nothing : RespExtent
+nothing = record { due = 0; passed = 0; sought = 0; bulk = 0; low = 0; high = 0 }
+
+-- What a call says of its bytes, by its code: a reply is so many of the first of them, whatever
+-- follows; or none stands first as yet, and a line of it is not ended or bytes of a string are
+-- wanting; or none does, whatever follows. The state that it leaves, where it does not refuse, is
+-- one of these bytes, whatever comes behind them.
+pub record TellsEnd (bytes : List ℕ) (code count : ℕ) (state : RespExtent) : Type 0 where
+  pub ends : code ≡ done → IsTold bytes (Ok (Some count))
+  pub wants : code ≡ incomplete
+      → IsTold bytes (Ok None) × IsWanting (extent_of state) bytes None
+  pub never : code ≡ refused
+      → (more left : List ℕ) → Stands IsReply (bytes ++ more) left → ⊥
+  pub kept : (code ≡ refused → ⊥) → (more : List ℕ) → IsOf (extent_of state) (bytes ++ more)
+
+-- ---- calls in turn
+
+-- the bytes of pieces, one behind the other
+abbrev pub all_of : List (List ℕ) → List ℕ
+all_of pieces = flat_map (λ piece. piece) pieces
+
+-- Calls that follow one another from a state and some bytes on, each with a piece more, and all ask
+-- for more; and the state that the last one leaves.
+unfoldable pub CallsInTurn : RespExtent → List ℕ → List (List ℕ) → RespExtent → Type 0
+CallsInTurn state bytes [] last = state ≡ last
+CallsInTurn state bytes (piece ∷ pieces) last = (count : ℕ) × (next : RespExtent)
+    × (IsOf (extent_of state) (bytes ++ piece) → TellsEnd (bytes ++ piece) incomplete count next)
+    × CallsInTurn next (bytes ++ piece) pieces last

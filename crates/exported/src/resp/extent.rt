@@ -1,0 +1,63 @@
+//! How far bytes were searched for the end of a reply, as numbers that a caller keeps.
+
+ghost use Rattle.std.specs.Prelude.{◌≡◌, ◌++◌, [], List, ℕ};
+ghost use Rattle.exported.specs.Extent.{CallsInTurn, all_of, extent_of, nothing};
+ghost use Rattle.exported.specs.declared.resp.RespExtent.{RespExtent};
+ghost use Rattle.format_resp.specs.Extents.{IsOf};
+
+use crate::resp::RespExtent;
+use format_resp::extent::Extent;
+
+/// How many numbers a word has.
+const WORD: u128 = 18446744073709551616;
+
+/// What a state says, which may be all zeros.
+pub(crate) fn extent_at(state: RespExtent) -> Extent
+    ensures { result ≡ extent_of state }
+{
+    let bulk = match state.due {
+        0 => {
+            return Extent {
+                passed: 0,
+                sought: 0,
+                bulk: None,
+                replies: 1,
+            };
+        }
+        1 => None,
+        _ => Some(state.bulk),
+    };
+    Extent {
+        passed: state.passed,
+        sought: state.sought,
+        bulk,
+        replies: state.low as u128 + WORD * state.high as u128,
+    }
+}
+
+/// The state that says so.
+pub(crate) fn state_at(extent: Extent) -> RespExtent
+    ensures { extent_of result ≡ extent }
+{
+    let (due, bulk) = match extent.bulk {
+        None => (1, 0),
+        Some(size) => (2, size),
+    };
+    RespExtent {
+        due,
+        passed: extent.passed,
+        sought: extent.sought,
+        bulk,
+        low: (extent.replies % WORD) as usize,
+        high: (extent.replies / WORD) as usize,
+    }
+}
+
+/// Where calls of `exported_resp_extent` follow one another, the first with a state of zeros, each
+/// with the state that the last one left and with its bytes and a piece more, and all ask for more:
+/// then the state that is left is one of these bytes, whatever comes behind them. So what the next
+/// call tells, it tells of all of its bytes, as one call with a state of zeros would.
+pub fn calls_in_turn_are_of_their_bytes()
+    ensures { (pieces : List (List ℕ)) (state : RespExtent) → CallsInTurn nothing [] pieces state
+        → (more : List ℕ) → IsOf (extent_of state) (all_of pieces ++ more) }
+{}
