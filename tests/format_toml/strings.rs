@@ -183,7 +183,8 @@ fn same_value(rt: &impl Abort, row: &str, item: &Option<Item<Global>>, want: &st
 #[test]
 fn strings_over_lines(rt: HostRuntime) {
     for (text, want) in ROWS {
-        match parse_lines(rt.alloc(), 0, entry(rt.alloc(), text).as_str()) {
+        let document = entry(rt.alloc(), text);
+        match parse_lines(rt.alloc(), 0, document.as_str()) {
             Ok(lines) => same_value(&rt, text, &lines[0], want),
             Err(_) => assert!(rt; false, "{text:?}"),
         }
@@ -193,7 +194,8 @@ fn strings_over_lines(rt: HostRuntime) {
 #[test]
 fn what_is_no_string_over_lines(rt: HostRuntime) {
     for text in NONE {
-        let lines = parse_lines(rt.alloc(), 0, entry(rt.alloc(), text).as_str());
+        let document = entry(rt.alloc(), text);
+        let lines = parse_lines(rt.alloc(), 0, document.as_str());
         assert!(rt; lines.is_err(), "{text:?}");
     }
 }
