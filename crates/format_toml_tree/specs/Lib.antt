@@ -5,6 +5,7 @@ pub mod Calls
 pub mod Filled
 pub mod Holds
 pub mod Keys
+pub mod Kinds
 pub mod Lines
 pub mod Nodes
 pub mod Once

@@ -11,9 +11,22 @@ use crate::roles::Refusal;
 use crate::tree::{Stop, Tree};
 use crate::value::Item;
 use std::alloc::{AllocError, Allocator};
+use std::error::Error;
+use std::fmt;
+use std::fmt::{Display, Formatter};
 
-/// Why some lines have no tree.
-#[derive(Debug, Clone, Copy, PartialEq)]
+/// Why some lines have no tree. As text the number of a line is counted from 1.
+///
+/// ```
+/// use format_toml_tree::build::Fault;
+/// use format_toml_tree::roles::Refusal;
+///
+/// let fault = Fault::Refused { line: 2, why: Refusal::NoTable };
+/// let said = format!(in alloc; "{fault}");
+/// let wanted = "line 3: it takes a value for a table";
+/// assert!(rt; matches!(said, Ok(said) if said.as_str() == wanted));
+/// ```
+#[derive(Debug, Clone, Copy, PartialEq, Eq, Drop)]
 pub enum Fault {
     /// A request for memory was refused.
     OutOfMemory,
@@ -35,6 +48,17 @@ impl From<AllocError> for Fault {
         Fault::OutOfMemory
     }
 }
+
+impl Display for Fault {
+    fn fmt<W: fmt::Write>(&self, f: &mut Formatter<W>) -> fmt::Result {
+        match *self {
+            Fault::OutOfMemory => f.write_str("out of memory"),
+            Fault::Refused { line, why } => write!(f, "line {}: {why}", line.saturating_add(1)),
+        }
+    }
+}
+
+impl Error for Fault {}
 
 /// Why some lines have no tree, where one of them stops.
 fn fault_at(line: usize, stop: Stop) -> Fault

@@ -10,9 +10,9 @@
 //!   and one that holds what that has at each path; else it names the first line that the
 //!   definition refuses, and why. `Tree::root`, `Node::get` and `Node::value` are proved to find
 //!   what the tree has at a path, and so are `as_str`, `as_i64`, `as_bool`, `as_float` and
-//!   `as_date_time`.
+//!   `as_date_time`; `is_table`, `is_array`, `as_table` and `as_array` tell what that is.
 //! - Tested alone, and proved to be safe, is the rest of `Node`: `at`, `len` and `name`, so the
-//!   order of entries, and `is_table` and `is_array`.
+//!   order of entries, and `get_path`.
 //!
 //! Where the standard leaves something open, or speaks of examples alone:
 //!

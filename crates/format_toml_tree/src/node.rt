@@ -2,7 +2,10 @@
 ghost use Rattle.format_toml_tree.specs.Nodes.{Answers, AnswersAs, AnswersText, Finds, IsTop};
 ghost use Rattle.format_toml_tree.specs.declared.value.Float.{Float as FloatOf};
 ghost use Rattle.format_toml_tree.specs.declared.value.Value.TheVariants as values;
+ghost use Rattle.format_toml_tree.specs.Holds.{node_of};
+ghost use Rattle.format_toml_tree.specs.Kinds.{AnswersItself, IsArray, IsSlot, IsTable, Tells};
 ghost use Rattle.std.specs.Borrow.{Bor};
+ghost use Rattle.std.specs.Prelude.{◌↔◌, ℕ, IsTrue};
 
 use crate::tree::{Kind, Slot, Tree};
 use crate::value::{DateTime, Float, Value};
@@ -13,6 +16,28 @@ use std::alloc::Allocator;
 pub struct Node<'d, 't, A: Allocator> {
     tree: &'d Tree<'t, A>,
     place: usize,
+}
+
+/// Whether a place of this kind is a table.
+fn shows_table<'t, A: Allocator>(kind: Kind<'t, A>) -> bool
+    ensures { (n : ℕ) → IsTrue result ↔ IsTable (node_of kind.entry n) }
+{
+    match kind {
+        Kind::Super | Kind::Header | Kind::Dotted => true,
+        Kind::Tables => false,
+        Kind::Value(value) => matches!(value, Value::Table(_)),
+    }
+}
+
+/// Whether a place of this kind is an array.
+fn shows_array<'t, A: Allocator>(kind: Kind<'t, A>) -> bool
+    ensures { (n : ℕ) → IsTrue result ↔ IsArray (node_of kind.entry n) }
+{
+    match kind {
+        Kind::Super | Kind::Header | Kind::Dotted => false,
+        Kind::Tables => true,
+        Kind::Value(value) => matches!(value, Value::Array(_)),
+    }
 }
 
 impl<'t, A: Allocator + Copy> Tree<'t, A> {
@@ -29,7 +54,9 @@ impl<'t, A: Allocator + Copy> Tree<'t, A> {
 
 impl<'d, 't, A: Allocator + Copy> Node<'d, 't, A> {
     /// What there is at this path.
-    fn slot(&self) -> Option<&'d Slot<'t, A>> {
+    fn slot(&self) -> Option<&'d Slot<'t, A>>
+        ensures { IsSlot self.now result }
+    {
         self.tree.slots.as_slice().get(self.place)
     }
 
@@ -108,36 +135,36 @@ impl<'d, 't, A: Allocator + Copy> Node<'d, 't, A> {
     }
 
     /// Whether it is a table, by headers, by dotted keys or inline.
-    pub fn is_table(&self) -> bool {
+    pub fn is_table(&self) -> bool
+        ensures { Tells IsTable self.now result }
+    {
         match self.slot() {
             None => false,
-            Some(slot) => match slot.kind {
-                Kind::Super | Kind::Header | Kind::Dotted => true,
-                Kind::Tables => false,
-                Kind::Value(value) => matches!(value, Value::Table(_)),
-            },
+            Some(slot) => shows_table(slot.kind),
         }
     }
 
     /// Whether it is an array, of tables or of values.
-    pub fn is_array(&self) -> bool {
+    pub fn is_array(&self) -> bool
+        ensures { Tells IsArray self.now result }
+    {
         match self.slot() {
             None => false,
-            Some(slot) => match slot.kind {
-                Kind::Super | Kind::Header | Kind::Dotted => false,
-                Kind::Tables => true,
-                Kind::Value(value) => matches!(value, Value::Array(_)),
-            },
+            Some(slot) => shows_array(slot.kind),
         }
     }
 
     /// The same, where it is a table.
-    pub fn as_table(&self) -> Option<Node<'d, 't, A>> {
+    pub fn as_table(&self) -> Option<Node<'d, 't, A>>
+        ensures { AnswersItself IsTable self.now result }
+    {
         if self.is_table() { Some(*self) } else { None }
     }
 
     /// The same, where it is an array.
-    pub fn as_array(&self) -> Option<Node<'d, 't, A>> {
+    pub fn as_array(&self) -> Option<Node<'d, 't, A>>
+        ensures { AnswersItself IsArray self.now result }
+    {
         if self.is_array() { Some(*self) } else { None }
     }
 

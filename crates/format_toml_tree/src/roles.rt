@@ -6,9 +6,19 @@ ghost use Rattle.format_toml_tree.specs.Holds.{node_of, nodes_of, says_of};
 use crate::tree::Kind;
 use crate::value::Value;
 use std::alloc::Allocator;
+use std::error::Error;
+use std::fmt;
+use std::fmt::{Display, Formatter};
 
 /// Why a line is refused.
-#[derive(Debug, Clone, Copy, PartialEq)]
+///
+/// ```
+/// use format_toml_tree::roles::Refusal;
+///
+/// let said = format!(in alloc; "{}", Refusal::Defined);
+/// assert!(rt; matches!(said, Ok(said) if said.as_str() == "it is defined already"));
+/// ```
+#[derive(Debug, Clone, Copy, PartialEq, Eq, Drop)]
 pub enum Refusal {
     /// What it defines is defined already.
     Defined,
@@ -19,6 +29,19 @@ pub enum Refusal {
     /// It adds a table to what is no array of tables.
     NoTables,
 }
+
+impl Display for Refusal {
+    fn fmt<W: fmt::Write>(&self, f: &mut Formatter<W>) -> fmt::Result {
+        f.write_str(match *self {
+            Refusal::Defined => "it is defined already",
+            Refusal::NoTable => "it takes a value for a table",
+            Refusal::Closed => "it adds to a table that is closed",
+            Refusal::NoTables => "it adds a table to what is no array of tables",
+        })
+    }
+}
+
+impl Error for Refusal {}
 
 /// What a line says of a name.
 #[derive(Clone, Copy)]
