@@ -1,6 +1,6 @@
 -- The grammars of basic and literal strings, over lines or on one, are those of what is written.
-use Rattle.std.specs.Prelude.{◌≡◌, ◌⊎◌, ℕ, List, [], ◌∷◌, ◌++◌, length}
-use Rattle.std.proofs.Common.{refl, sym, ap, subst, inl, inr, arith}
+use Rattle.std.specs.Prelude.{◌≡◌, ◌⊎◌, ℕ, [], ◌++◌, length}
+use Rattle.std.proofs.Common.{refl, sym, ap, inl, inr, arith}
 use Rattle.format_json_texts.specs.Words.{latter}
 use Rattle.format_toml.specs.Grammars.{AnyBasic, AnyLiteral, BasicContent, LiteralContent, NoSkips}
 use Rattle.format_toml.specs.LongStrings.{Skipping}
@@ -14,7 +14,7 @@ use Rattle.format_toml.specs.Toml.{AnyBasicText, AnyLiteralText, CharacterText, 
 use Rattle.format_toml.specs.declared.characters.Characters.TheVariants.{Basic, Literal}
 use Rattle.winnow.specs.Grammar.{Nothing}
 use Rattle.winnow.specs.Grammar.Unique.{unique_nothing}
-use Rattle.winnow.specs.Texts.{Among, Anything, BeginsIn, IsGrammarOf, NotFirst, OneOf, Text, Then}
+use Rattle.winnow.specs.Texts.{Among, Anything, BeginsIn, IsGrammarOf, NotFirst, OneOf, Text}
 use Rattle.winnow.specs.Texts.Fronts.{among_front, begins_wider, front_any, front_begins}
 use Rattle.winnow.specs.Texts.Fronts.{spelled_begins, then_front}
 use Rattle.winnow.specs.Texts.Parts.{either_apart}

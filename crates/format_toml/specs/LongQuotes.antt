@@ -1,5 +1,5 @@
 -- Quotation marks of strings over lines: which belong to the string, and which close it.
-use Rattle.std.specs.Prelude.{◌≡◌, ◌⊎◌, ℕ, List, [], ◌∷◌, ◌++◌, Option, Some, None}
+use Rattle.std.specs.Prelude.{◌≡◌, ◌⊎◌, ℕ, List, [], ◌∷◌, ◌++◌, Some, None}
 use Rattle.std.proofs.Common.{refl, sym, ap, subst, inl, inr, ◌∙◌}
 use Rattle.format_json_texts.specs.Words.{Char, One, char_of, pair}
 use Rattle.format_toml.specs.LongGrammars.{Delimiter, Quote, TwoOf}

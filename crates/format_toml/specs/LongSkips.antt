@@ -1,28 +1,27 @@
 -- Escaped line ends of basic strings over lines: what is read of them is what is written.
-use Rattle.std.specs.Prelude.{◌≡◌, ◌⊎◌, ◌<◌, ⊤, ℕ, List, [], ◌∷◌, ◌++◌, length, Option, Some, None}
+use Rattle.std.specs.Prelude.{◌≡◌, ◌⊎◌, ◌<◌, ⊤, ℕ, List, [], ◌∷◌, ◌++◌, length, Some, None}
 use Rattle.std.specs.List.{All}
 use Rattle.std.proofs.Common.{refl, sym, ap, subst, inl, inr, ◌∙◌, arith}
 use Rattle.winnow.specs.AsChar.{IsSpace}
 use Rattle.format_json_texts.specs.Words.{One, Run, char_of, latter}
 use Rattle.format_toml.specs.Grammars.{Blank, EscapedLine, Skips}
 use Rattle.format_toml.specs.LongStrings.{Skipping}
-use Rattle.format_toml.specs.LongTexts.{NoneWritten}
 use Rattle.format_toml.specs.LongWhole.{Free, none_longer, none_shorter, none_stands, none_written}
-use Rattle.format_toml.specs.Spaces.{IsBreak, newline_begins, newline_of, no_space, space_below}
-use Rattle.format_toml.specs.Spaces.{tail_is, ws_of}
+use Rattle.format_toml.specs.Spaces.{IsBreak, newline_begins, newline_of, space_below, tail_is}
+use Rattle.format_toml.specs.Spaces.{ws_of}
 use Rattle.format_toml.specs.Strings.{Apart, character_apart, one_of_set, set_begins}
 use Rattle.format_toml.specs.Toml.{BlankText, CharacterText, EscapedLineText, EscapedLines}
 use Rattle.format_toml.specs.Toml.{NewlineText, WsText}
 use Rattle.format_toml.specs.UniqueLong.{skips_unique}
 use Rattle.format_toml.specs.declared.characters.Characters.TheVariants.{White}
-use Rattle.winnow.specs.Equal.{same_first, same_others}
+use Rattle.winnow.specs.Equal.{same_others}
 use Rattle.winnow.specs.Grammar.{Both, Each, Gathered, Many, NoneStands}
 use Rattle.winnow.specs.Range.{from_to}
 use Rattle.winnow.specs.Texts.{Among, Anything, Begins, BeginsIn, Holding, InFront, IsGrammarOf}
 use Rattle.winnow.specs.Texts.{NotFirst, OneOf, Row, Spelled, Then}
 use Rattle.winnow.specs.Texts.Fronts.{among_front, begins_wider, front_any, front_begins}
-use Rattle.winnow.specs.Texts.Fronts.{front_behind, front_whole, may_begin, none_begins}
-use Rattle.winnow.specs.Texts.Fronts.{spelled_begins, then_front}
+use Rattle.winnow.specs.Texts.Fronts.{front_whole, may_begin, none_begins, spelled_begins}
+use Rattle.winnow.specs.Texts.Fronts.{then_front}
 use Rattle.winnow.specs.Texts.Parts.{both_of, either_apart}
 use Rattle.winnow.specs.Texts.Rows.{each_back, each_there, gathered_of, many_of}
 

@@ -1,19 +1,13 @@
 -- The grammars of strings over lines are those of what is written, whichever quotation mark they
 -- have.
-use Rattle.std.specs.Prelude.{◌≡◌, ◌⊎◌, ◌≤◌, ⊤, ℕ, zero, suc, List, [], ◌∷◌, ◌++◌, Option, Some}
-use Rattle.std.specs.Prelude.{None}
-use Rattle.std.specs.declared.string.String.{String}
+use Rattle.std.specs.Prelude.{◌≡◌, ◌⊎◌, ◌≤◌, ⊤, ℕ, zero, suc, List, [], ◌∷◌, ◌++◌}
 use Rattle.std.proofs.Common.{refl, sym, ap, subst, inl, inr, ◌∙◌, arith, append_assoc}
-use Rattle.format_json_texts.specs.Words.{Char, One, char_of, latter, pair}
-use Rattle.format_toml.specs.LongGrammars.{Body, Delimiter, Long, Part, Quote, TwoOf}
-use Rattle.format_toml.specs.LongQuotes.{Clear, NotTwo, delimiter_of, quote_back}
-use Rattle.format_toml.specs.LongQuotes.{quote_there, three_is, three_text, twice}
-use Rattle.format_toml.specs.LongTexts.{BodyText, DelimiterText, LongText, Trimmed, room_behind}
-use Rattle.winnow.specs.Accumulator.Holds.{HasCharacters}
+use Rattle.format_toml.specs.LongGrammars.{Part}
+use Rattle.format_toml.specs.LongQuotes.{Clear, quote_back, quote_there, twice}
+use Rattle.format_toml.specs.LongTexts.{BodyText, room_behind}
 use Rattle.winnow.specs.Equal.{same_others}
 use Rattle.winnow.specs.Grammar.{Both, Each, Either, Grammar, IsUnique, NoneStands}
-use Rattle.winnow.specs.Texts.{Anything, Begins, BeginsIn, Holding, InFront, IsGrammarOf, NotFirst}
-use Rattle.winnow.specs.Texts.{Text}
+use Rattle.winnow.specs.Texts.{Anything, Begins, BeginsIn, IsGrammarOf, NotFirst, Text}
 use Rattle.winnow.specs.Texts.Fronts.{none_begins}
 
 -- What may be skipped, by its grammar: `stop` holds where nothing more is skipped.
