@@ -93,26 +93,46 @@ module _ (quote : ℕ) where
   pub quote_back : (rest : List ℕ) → Clear rest → Quote quote (quote ∷ rest) quote rest
   unfolding Both Ahead Maybe Absent Spelled
   quote_back rest (inl not) =
-      let one = (char_of quote).back quote (quote ∷ []) rest (refl, refl) tt in
-      (quote, (None, tt), rest, one, (rest, (
-        None,
-        tt,
+      let one = (char_of quote).back quote (quote ∷ []) rest (refl, refl) tt in (
+        quote,
+        (None, tt),
         rest,
-        inr (refl, none_three rest not, refl),
-        (none_two rest not, refl),
+        one,
+        (
+          rest,
+          (
+            None,
+            tt,
+            rest,
+            inr (refl, none_three rest not, refl),
+            (none_two rest not, refl),
+            refl,
+          ),
+          refl,
+        ),
         refl,
-      ), refl), refl)
+      )
   quote_back rest (inr (x, e, not)) =
       let one = (char_of quote).back quote (quote ∷ []) rest (refl, refl) tt in
       let all : ℕ × ℕ × ℕ = (quote, quote, quote) in
       let P : List ℕ → Type 0 = λ l. Delimiter quote l all x in
       let three = subst P (sym e)
-      (delimiter_of.back all (quote ∷ quote ∷ quote ∷ []) x three_text tt) in
-      (quote, (Some all, tt), rest, one, (x, (
-        Some all,
-        tt,
-        x,
-        inl (all, refl, three),
-        (none_two x not, refl),
+      (delimiter_of.back all (quote ∷ quote ∷ quote ∷ []) x three_text tt) in (
+        quote,
+        (Some all, tt),
+        rest,
+        one,
+        (
+          x,
+          (
+            Some all,
+            tt,
+            x,
+            inl (all, refl, three),
+            (none_two x not, refl),
+            refl,
+          ),
+          refl,
+        ),
         refl,
-      ), refl), refl)
+      )

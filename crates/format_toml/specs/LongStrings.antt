@@ -225,8 +225,7 @@ module _ (quote : ℕ) {content : Grammar ℕ ℕ} {text : Text ℕ ℕ} {skips 
       let far : skipped xs behind =
       subst (λ l. skipped xs l) (append_assoc ys zs rest)
       (skipping.wider xs (ys ++ zs) rest s (closes_begins quote rest closes)) in
-      let part : Part quote content skips (xs ++ behind) o (zs ++ rest) =
-      (
+      let part : Part quote content skips (xs ++ behind) o (zs ++ rest) = (
         tt,
         o,
         behind,
@@ -251,14 +250,16 @@ module _ (quote : ℕ) {content : Grammar ℕ ℕ} {text : Text ℕ ℕ} {skips 
       let far : skipped xs behind =
       skipping.wider xs (quote ∷ zs) rest (subst (λ l. skipped xs l) marked s)
       (closes_begins quote rest closes) in
-      let part : Part quote content skips (xs ++ behind) quote (zs ++ rest) =
-      (
+      let part : Part quote content skips (xs ++ behind) quote (zs ++ rest) = (
         tt,
         quote,
         behind,
         skipping.back xs behind far (skipping.mark behind refl),
-        inr (no_content (zs ++ rest), quote_back quote (zs ++ rest)
-            (near_clear k (zs ++ rest) less near)),
+        inr (
+          no_content (zs ++ rest),
+          quote_back quote (zs ++ rest)
+              (near_clear k (zs ++ rest) less near),
+        ),
         refl,
       ) in
       let Q : ℕ → Type 0 = λ c. Part quote content skips (xs ++ behind) c (zs ++ rest) in

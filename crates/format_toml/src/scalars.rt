@@ -7,8 +7,8 @@ ghost use Rattle.format_toml.specs.Toml.{IsText};
 ghost use Rattle.winnow.specs.Exact.{Reads};
 ghost use Rattle.winnow.specs.Grammar.Meaning.{Meaning};
 
-use crate::plain::read_plain;
 use crate::long_strings::{read_any_basic, read_any_literal};
+use crate::plain::read_plain;
 use crate::strings::begins_with;
 use format_toml_tree::value::Value;
 use std::alloc::Allocator;
