@@ -284,7 +284,6 @@ const NONE: &[(&str, usize)] = &[
     ("[a] [b]", 4),
     // What the standard has, and this does not.
     ("a = 1979-05-27", 0),
-    ("a = '''x'''", 6),
 ];
 
 fn same(rt: &impl Abort, row: &str, got: &str, want: &str) {

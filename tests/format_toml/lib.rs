@@ -15,3 +15,5 @@ mod messages;
 mod refused;
 #[cfg(test)]
 mod shown;
+#[cfg(test)]
+mod strings;

@@ -9,6 +9,7 @@ use Rattle.format_json_texts.specs.Number.{Slice}
 use Rattle.format_json_texts.specs.Strings.{CodeUnit, IsAlone}
 use Rattle.format_json_texts.specs.Words.{Char, RunOf, Word, former, latter, pair}
 use Rattle.format_toml.specs.Led.{Led}
+use Rattle.format_toml.specs.LongGrammars.{Long, Part}
 use Rattle.format_toml.specs.Toml.{IsArray, IsBoolean, IsEntry, IsInline, IsKey}
 use Rattle.format_toml.specs.Toml.{IsTable, IsTables, IsText, IsWide, PlainText, StandsFor, Tells}
 use Rattle.format_toml.specs.Toml.{false_word, true_word}
@@ -20,7 +21,7 @@ use Rattle.format_toml_tree.specs.declared.value.Item.{Item}
 use Rattle.format_toml_tree.specs.declared.value.Key.{Key}
 use Rattle.format_toml_tree.specs.declared.value.Value.{Value}
 use Rattle.winnow.specs.Grammar.{Both, Either, Gathered, Grammar, Longest, Many, Maybe}
-use Rattle.winnow.specs.Grammar.{Parted, Three, Token, TokenOf}
+use Rattle.winnow.specs.Grammar.{Nothing, Parted, Three, Token, TokenOf}
 use Rattle.winnow.specs.Grammar.Meaning.{Meaning}
 use Rattle.winnow.specs.Accumulator.Holds.{HasCharacters}
 
@@ -83,6 +84,35 @@ Escape =
 abbrev pub Character : Grammar ℕ ℕ
 Character = Either (TokenOf (λ c. c) Tells Basic) (Both latter (Char 92) Escape)
 
+-- a white character, or a line end
+abbrev pub Blank : Grammar ℕ ℕ
+Blank = Either (TokenOf (λ c. c) Tells White) Newline
+
+-- a backslash, a line end, and what is blank behind it
+abbrev pub EscapedLine : Grammar ℕ ⊤
+EscapedLine =
+    Both latter (Char 92) (Both latter Ws (Both latter Newline
+    (Gathered (λ all parts. ⊤) (Many Blank (from_to 0 None)))))
+
+abbrev pub Skips : Grammar ℕ ⊤
+Skips = Gathered (λ all parts. ⊤) (Many EscapedLine (from_to 0 None))
+
+abbrev pub NoSkips : Grammar ℕ ⊤
+NoSkips = Nothing tt
+
+-- what stands for a character of a string over lines
+abbrev pub BasicContent : Grammar ℕ ℕ
+BasicContent = Either Character Newline
+
+abbrev pub LiteralContent : Grammar ℕ ℕ
+LiteralContent = Either (TokenOf (λ c. c) Tells Literal) Newline
+
+abbrev pub BasicPart : Grammar ℕ ℕ
+BasicPart = Part 34 BasicContent Skips
+
+abbrev pub LiteralPart : Grammar ℕ ℕ
+LiteralPart = Part 39 LiteralContent NoSkips
+
 -- as many characters of numbers, dates and times as stand, one at least
 abbrev pub Unquoteds : Grammar ℕ Slice
 Unquoteds = Longest text_reading (λ c. c) Tells Unquoted (from_to 1 None)
@@ -100,6 +130,19 @@ module _ {A : Type 0} where
   abbrev pub LiteralString : Grammar ℕ (String A)
   LiteralString = Three (λ o1 o2 o3. o2) (Char 39) (AnyCharacters Literal 0) (Char 39)
 
+  abbrev pub LongBasic : Grammar ℕ (String A)
+  LongBasic = Long 34 BasicContent Skips Newline
+
+  abbrev pub LongLiteral : Grammar ℕ (String A)
+  LongLiteral = Long 39 LiteralContent NoSkips Newline
+
+  -- a string over lines, or else one on a line
+  abbrev pub AnyBasic : Grammar ℕ (String A)
+  AnyBasic = Either LongBasic BasicString
+
+  abbrev pub AnyLiteral : Grammar ℕ (String A)
+  AnyLiteral = Either LongLiteral LiteralString
+
   abbrev pub AnyBoolean : List ℕ → Bool → Grammar ℕ (Value A)
   AnyBoolean word is = Meaning IsBoolean (Word word is)
 
@@ -112,8 +155,8 @@ module _ {A : Type 0} where
 
   abbrev pub Scalar : Grammar ℕ (Value A)
   Scalar =
-      Led (λ c. c ≡ 34) (Meaning IsText BasicString)
-      (Led (λ c. c ≡ 39) (Meaning IsText LiteralString)
+      Led (λ c. c ≡ 34) (Meaning IsText AnyBasic)
+      (Led (λ c. c ≡ 39) (Meaning IsText AnyLiteral)
       (Led (λ c. c ≡ 116) (AnyBoolean true_word true)
       (Led (λ c. c ≡ 102) (AnyBoolean false_word false) Plain)))
 

@@ -12,6 +12,13 @@ pub mod Keys
 pub mod Lacking
 pub mod Led
 pub mod Lines
+pub mod LongGrammars
+pub mod LongKinds
+pub mod LongQuotes
+pub mod LongSkips
+pub mod LongStrings
+pub mod LongTexts
+pub mod LongWhole
 pub mod Messages
 pub mod Nested
 pub mod Numbers
@@ -23,6 +30,7 @@ pub mod Spaces
 pub mod Strings
 pub mod Toml
 pub mod Unique
+pub mod UniqueLong
 pub mod UniqueSpaces
 pub mod Values
 pub mod Words

@@ -7,7 +7,7 @@ use Rattle.format_json_texts.specs.Words.{between_of, char_of, for_front, for_of
 use Rattle.format_toml.specs.Grammars.{AnyItem, Document, Line}
 use Rattle.format_toml.specs.Keys.{OpensKey, opens_key_is, pair_begins, table_of}
 use Rattle.format_toml.specs.Led.{led_of}
-use Rattle.format_toml.specs.Scalars.{Goes, GoesOn, goes_is, space_goes}
+use Rattle.format_toml.specs.Scalars.{Goes, GoesOn, space_goes, tail_goes}
 use Rattle.format_toml.specs.Spaces.{IsBreak, IsTail, comment_begins, maybe_comment_of}
 use Rattle.format_toml.specs.Spaces.{newline_begins, newline_of, no_space, spaced_begins}
 use Rattle.format_toml.specs.Spaces.{spaced_of, tail_is, ws_of}
@@ -30,7 +30,7 @@ opens_is c (inr o) = let is = opens_key_is c o in (is.0, is.1, is.2)
 
 tail_past : (c : ℕ) → IsTail c → IsSpace c ⊎ GoesOn c → ⊥
 tail_past c is (inl s) = (tail_is c is).1 s
-tail_past c is (inr g) = absurd (omega (arith, (tail_is c is).0, (goes_is c g).0))
+tail_past c is (inr g) = tail_goes c is g
 
 tail_opens : (c : ℕ) → IsTail c → OpensItem c → ⊥
 tail_opens c (inl e) o = (opens_is c o).2 e

@@ -25,7 +25,7 @@ use Rattle.winnow.specs.Texts.Tokens.{divides_seen, divides_where, longest_of}
 
 -- ---- white space on a line
 
-space_below : (c : ℕ) → IsSpace c → c < 33
+pub space_below : (c : ℕ) → IsSpace c → c < 33
 space_below c (inl e) = omega (arith, e)
 space_below c (inr e) = omega (arith, e)
 

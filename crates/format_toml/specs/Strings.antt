@@ -1,5 +1,5 @@
 -- The grammars of strings and their characters are those of what is written.
-use Rattle.std.specs.Prelude.{◌≡◌, ◌≤◌, ℕ, List, [], ◌∷◌, ◌++◌, length, None}
+use Rattle.std.specs.Prelude.{◌≡◌, ◌⊎◌, ◌<◌, ◌≤◌, ℕ, List, [], ◌∷◌, ◌++◌, length, None}
 use Rattle.std.proofs.Common.{refl, sym, ap, subst, inl, inr, ◌∙◌, arith}
 use Rattle.winnow.specs.Range.{from_to}
 use Rattle.format_json_texts.specs.Words.{For, One, Whichever, any_of, between_of}
@@ -15,8 +15,8 @@ use Rattle.format_toml.specs.declared.characters.Characters.TheVariants.{Basic, 
 use Rattle.winnow.specs.Grammar.{Both, NoneStands, TokenOf}
 use Rattle.winnow.specs.Grammar.Meaning.{Meaning}
 use Rattle.winnow.specs.Accumulator.Holds.{HasCharacters}
-use Rattle.winnow.specs.Texts.{Anything, AtLeast, Begins, BeginsIn, IsGrammarOf, NotFirst, OneOf}
-use Rattle.winnow.specs.Texts.{Of, Row, Then}
+use Rattle.winnow.specs.Texts.{Anything, AtLeast, Begins, BeginsIn, InFront, IsGrammarOf}
+use Rattle.winnow.specs.Texts.{NotFirst, Of, OneOf, Row, Spelled, Then}
 use Rattle.winnow.specs.Texts.Fronts.{among_front, begins_wider, front_any, front_begins}
 use Rattle.winnow.specs.Texts.Fronts.{holding_front, may_begin, none_begins, one_of_begins}
 use Rattle.winnow.specs.Texts.Fronts.{spelled_begins, then_front}
@@ -110,17 +110,62 @@ escape_of =
 escaped_of : IsGrammarOf (Both latter (Char 92) Escape) (Then latter (One 92) EscapeText) Anything
 escaped_of = both_of latter (char_of 92) escape_of front_any
 
-character_of : IsGrammarOf Character CharacterText Anything
+pub character_of : IsGrammarOf Character CharacterText Anything
 character_of =
     either_apart (one_of_set Basic) escaped_of (set_begins Basic)
     (then_front latter (front_begins (λ c e is. is.1.1 e) (spelled_begins 92 [] 92)) front_any)
 
 -- no character begins with a quotation mark
-character_begins : BeginsIn (λ c. c ≡ 34 → ⊥) CharacterText
+pub character_begins : BeginsIn (λ c. c ≡ 34 → ⊥) CharacterText
 character_begins =
     among_front (begins_wider (λ c is. is.1.0) (set_begins Basic))
     (then_front latter (begins_wider (λ c e q. absurd (omega (arith, e, q)))
     (spelled_begins 92 [] 92)) front_any)
+
+-- what a backslash escapes is above a space
+short_above : BeginsIn (λ c. 33 < c) (For StandsFor Whichever)
+unfolding Of Whichever
+short_above = record {
+  makes = λ k xs rest (c, e, stands) any.
+      let P : List ℕ → Type 0 = λ l. Begins (λ c. 33 < c) (l ++ rest) in
+      subst P (sym e) (above c k stands);
+}
+  where
+    above : (c k : ℕ) → StandsFor c k → 33 < c
+    above c k (inl x) = omega (arith, x.0)
+    above c k (inr (inl x)) = omega (arith, x.0)
+    above c k (inr (inr (inl x))) = omega (arith, x.0)
+    above c k (inr (inr (inr (inl x)))) = omega (arith, x.0)
+    above c k (inr (inr (inr (inr (inl x))))) = omega (arith, x.0)
+    above c k (inr (inr (inr (inr (inr (inl x)))))) = omega (arith, x.0)
+    above c k (inr (inr (inr (inr (inr (inr x)))))) = omega (arith, x.0)
+
+escape_above : BeginsIn (λ c. 33 < c) EscapeText
+escape_above =
+    among_front (begins_wider (λ c e. omega (arith, e))
+    (then_front latter (spelled_begins 117 [] 117) front_any))
+    (among_front (begins_wider (λ c e. omega (arith, e)) long_begins) short_above)
+
+-- no backslash is first, or one in front of what is above a space
+abbrev pub Apart : List ℕ → Type 0
+Apart tokens =
+    NotFirst (λ c. c ≡ 92) tokens
+    ⊎ ((rest : List ℕ) × (tokens ≡ 92 ∷ rest) × Begins (λ c. 33 < c) rest)
+
+plain_apart : InFront (OneOf (λ c. c) (IsOf Basic)) Anything Apart
+plain_apart = record {
+  makes = λ o xs rest t any. inl (may_begin (IsOf Basic) (λ c. c ≡ 92 → ⊥) (λ c is. is.1.1)
+      (xs ++ rest) ((set_begins Basic).makes o xs rest t any));
+}
+
+backslash_apart : InFront (One 92) (Begins (λ c. 33 < c)) Apart
+unfolding Spelled
+backslash_apart = record {
+  makes = λ o xs rest (is, e) b. inr (rest, ap (λ l. l ++ rest) e, b);
+}
+
+pub character_apart : InFront CharacterText Anything Apart
+character_apart = among_front plain_apart (then_front latter backslash_apart escape_above)
 
 none_quoted : (tokens : List ℕ) → Begins (λ c. c ≡ 34) tokens → NoneStands Character tokens
 none_quoted tokens b =

@@ -23,6 +23,7 @@ use Rattle.winnow.specs.Accumulator.Holds.{HasCharacters}
 use Rattle.winnow.specs.Texts.{Among, AtLeast, Holding, InList, Joined, Members, OneOf}
 use Rattle.winnow.specs.Texts.{Perhaps, Row, Spelled, Text, Then}
 use Rattle.format_toml.specs.Floats.{FloatText}
+use Rattle.format_toml.specs.LongTexts.{LongText, NoneWritten}
 use Rattle.format_toml.specs.Numbers.{IntegerText}
 
 -- ---- characters
@@ -154,6 +155,23 @@ EscapeText =
 abbrev pub CharacterText : Text ℕ ℕ
 CharacterText = Among (OneOf (λ c. c) (IsOf Basic)) (Then latter (One 92) EscapeText)
 
+-- wschar / newline
+abbrev pub BlankText : Text ℕ ℕ
+BlankText = Among (OneOf (λ c. c) (IsOf White)) NewlineText
+
+-- mlb-escaped-nl = escape ws newline *( wschar / newline )
+abbrev pub EscapedLineText : Text ℕ ⊤
+EscapedLineText =
+    Then latter (One 92) (Then latter WsText (Then latter NewlineText
+    (Holding (λ all parts. ⊤) (Row BlankText))))
+
+-- Some of these, "trimmed along with all whitespace (including newlines) up to the next
+-- non-whitespace character or closing delimiter"; or nothing.
+abbrev pub EscapedLines : List ℕ → List ℕ → Type 0
+EscapedLines tokens behind =
+    (tokens ≡ []) ⊎ (Holding (λ (all : ⊤) parts. ⊤) (Row EscapedLineText) tt tokens
+    × NoneWritten BlankText behind)
+
 -- boolean = true / false
 abbrev pub true_word : List ℕ
 true_word = 116 ∷ 114 ∷ 117 ∷ 101 ∷ []
@@ -182,10 +200,27 @@ module _ {A : Type 0} where
   abbrev pub PlainText : Text ℕ (Value A)
   PlainText = Among (For IsInteger IntegerText) (For MeansFloat FloatText)
 
+  -- ml-basic-string, with mlb-content = mlb-char / newline / mlb-escaped-nl
+  abbrev pub LongBasicText : Text ℕ (String A)
+  LongBasicText = LongText 34 (Among CharacterText NewlineText) EscapedLines NewlineText
+
+  -- ml-literal-string, with mll-content = mll-char / newline
+  abbrev pub LongLiteralText : Text ℕ (String A)
+  LongLiteralText =
+      LongText 39 (Among (OneOf (λ c. c) (IsOf Literal)) NewlineText)
+      (λ tokens behind. tokens ≡ []) NewlineText
+
+  -- ml-basic-string / basic-string, ml-literal-string / literal-string
+  abbrev pub AnyBasicText : Text ℕ (String A)
+  AnyBasicText = Among LongBasicText BasicText
+
+  abbrev pub AnyLiteralText : Text ℕ (String A)
+  AnyLiteralText = Among LongLiteralText LiteralText
+
   -- a string, a boolean or a value without quotes
   abbrev pub ScalarText : Text ℕ (Value A)
   ScalarText =
-      Among (For IsText BasicText) (Among (For IsText LiteralText)
+      Among (For IsText AnyBasicText) (Among (For IsText AnyLiteralText)
       (Among (BooleanText true_word true) (Among (BooleanText false_word false) PlainText)))
 
   -- ---- keys

@@ -10,6 +10,7 @@ use Rattle.format_toml.specs.Grammars.{Names, Pair, Scalar, Table}
 use Rattle.format_toml.specs.Led.{led_unique}
 use Rattle.format_toml.specs.Toml.{IsArray, IsBoolean, IsEntry, IsInline, IsKey}
 use Rattle.format_toml.specs.Toml.{IsTable, IsTables, IsText, Tells, false_word, true_word}
+use Rattle.format_toml.specs.UniqueLong.{long_basic_unique, long_literal_unique}
 use Rattle.format_toml.specs.UniqueSpaces.{comment_unique, gapped_unique, mark_unique}
 use Rattle.format_toml.specs.UniqueSpaces.{members_unique}
 use Rattle.format_toml.specs.UniqueSpaces.{spaced_unique, wide_mark_unique, ws_unique}
@@ -20,8 +21,8 @@ use Rattle.format_toml_tree.specs.declared.value.Value.{Value}
 use Rattle.winnow.specs.Grammar.{Grammar, IsUnique}
 use Rattle.winnow.specs.Grammar.Meaning.{meaning_unique}
 use Rattle.winnow.specs.Grammar.Sequences.{three_unique}
-use Rattle.winnow.specs.Grammar.Unique.{both_unique, gathered_unique, many_unique, maybe_unique}
-use Rattle.winnow.specs.Grammar.Unique.{parted_unique, token_of_unique}
+use Rattle.winnow.specs.Grammar.Unique.{both_unique, either_unique, gathered_unique, many_unique}
+use Rattle.winnow.specs.Grammar.Unique.{maybe_unique, parted_unique, token_of_unique}
 use Rattle.winnow.specs.Accumulator.Holds.{HasCharacters}
 
 module _ {A : Type 0} where
@@ -30,20 +31,20 @@ module _ {A : Type 0} where
       gathered_unique HasCharacters (many_unique (token_of_unique (λ c. c) Tells set)
       (from_to least None))
 
-  basic_unique : IsUnique (BasicString {A = A})
+  pub basic_unique : IsUnique (BasicString {A = A})
   basic_unique =
       three_unique (λ o1 o2 o3. o2) (char_unique 34)
       (gathered_unique HasCharacters (many_unique character_unique (from_to 0 None)))
       (char_unique 34)
 
-  literal_unique : IsUnique (LiteralString {A = A})
+  pub literal_unique : IsUnique (LiteralString {A = A})
   literal_unique =
       three_unique (λ o1 o2 o3. o2) (char_unique 39) (characters_unique Literal 0) (char_unique 39)
 
   scalar_unique : IsUnique (Scalar {A = A})
   scalar_unique =
-      led_unique _ (meaning_unique IsText basic_unique)
-      (led_unique _ (meaning_unique IsText literal_unique)
+      led_unique _ (meaning_unique IsText (either_unique long_basic_unique basic_unique))
+      (led_unique _ (meaning_unique IsText (either_unique long_literal_unique literal_unique))
       (led_unique _ (meaning_unique IsBoolean (word_unique true_word true))
       (led_unique _ (meaning_unique IsBoolean (word_unique false_word false))
       (meaning_unique IsPlain (members_unique Unquoted 1)))))

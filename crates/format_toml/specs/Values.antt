@@ -11,6 +11,7 @@ use Rattle.format_toml.specs.Keys.{OpensKey, opens_key_is, pair_begins, pair_of}
 use Rattle.format_toml.specs.Led.{led_of}
 use Rattle.format_toml.specs.Rows.{joined_begins, parted_ends_of}
 use Rattle.format_toml.specs.Scalars.{Goes, GoesOn, goes_is, scalar_begins, scalar_of, space_goes}
+use Rattle.format_toml.specs.Scalars.{tail_goes}
 use Rattle.format_toml.specs.Spaces.{OpensGap, Past, WidePast, gap_is, gapped_begins, gapped_of}
 use Rattle.format_toml.specs.Spaces.{mark_begins, mark_of, no_space, past, spaced_begins}
 use Rattle.format_toml.specs.Spaces.{spaced_of, wide_mark_begins, wide_mark_of, wide_past}
@@ -43,7 +44,8 @@ opens_gap c o g = absurd (no_gap c o g)
     no_gap c o (inr (inr (inr e))) = absurd (omega (arith, o.0, e))
 
 gap_goes : (c : ℕ) → OpensGap c → GoesOn c → ⊥
-gap_goes c gap goes = absurd (omega (arith, gap_is c gap, (goes_is c goes).0))
+gap_goes c (inl s) goes = space_goes c s goes
+gap_goes c (inr t) goes = tail_goes c t goes
 
 -- ---- arrays
 

@@ -22,7 +22,8 @@
 //!
 //! Where this differs from the standard:
 //!
-//! - Strings are on one line.
+//! - A line end in a string over lines is a line feed, also where it is written as a carriage
+//!   return and a line feed: the standard lets a parser choose.
 //! - Dates and times are not read. Integers are of 64 bits. A float is its text, with no
 //!   underscores.
 //! - Arrays and inline tables are nested to a level, which the caller gives.
@@ -38,6 +39,8 @@ mod gaps;
 mod integers;
 mod keys;
 pub mod lines;
+mod long_parts;
+mod long_strings;
 mod marks;
 pub mod messages;
 mod parts;

@@ -4,6 +4,7 @@ ghost use Rattle.format_toml.specs.Messages.{LacksAt};
 
 use crate::expected::{Expected, first_lack};
 use std::alloc::Allocator;
+use std::error::Error;
 use std::fmt;
 use std::fmt::{Display, Formatter};
 use winnow::stream::{Position, position_of};
@@ -38,6 +39,8 @@ impl Display for Message {
         )
     }
 }
+
+impl Error for Message {}
 
 /// What the first line lacks that is none of TOML, and the line and the column of the text before
 /// the place.

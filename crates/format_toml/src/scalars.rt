@@ -2,14 +2,14 @@
 ghost use Rattle.std.specs.Prelude.{◌≡◌};
 ghost use Rattle.std.specs.Str.{chars};
 ghost use Rattle.winnow.specs.Text.{text_input, text_reading};
-ghost use Rattle.format_toml.specs.Grammars.{AnyBoolean, BasicString, LiteralString};
-ghost use Rattle.format_toml.specs.Grammars.{Scalar};
+ghost use Rattle.format_toml.specs.Grammars.{AnyBasic, AnyBoolean, AnyLiteral, Scalar};
 ghost use Rattle.format_toml.specs.Toml.{IsText};
 ghost use Rattle.winnow.specs.Exact.{Reads};
 ghost use Rattle.winnow.specs.Grammar.Meaning.{Meaning};
 
+use crate::long_strings::{read_any_basic, read_any_literal};
 use crate::plain::read_plain;
-use crate::strings::{begins_with, read_basic, read_literal};
+use crate::strings::begins_with;
 use format_toml_tree::value::Value;
 use std::alloc::Allocator;
 use winnow::Parser;
@@ -22,10 +22,10 @@ fn read_basic_value<'i, A: Allocator + Copy>(
     input: &mut &'i str,
 ) -> Result<Value<A>, ErrMode<EmptyError>>
     ensures { Reads text_reading ⟦<ErrMode<EmptyError> as HasKind>⟧.kind
-        (Meaning IsText BasicString)
+        (Meaning IsText AnyBasic)
         (text_input input.old.now) result (text_input input.new.now) }
 {
-    match read_basic(alloc, input) {
+    match read_any_basic(alloc, input) {
         Ok(text) => Ok(Value::Text(text)),
         Err(error) => Err(error),
     }
@@ -37,10 +37,10 @@ fn read_literal_value<'i, A: Allocator + Copy>(
     input: &mut &'i str,
 ) -> Result<Value<A>, ErrMode<EmptyError>>
     ensures { Reads text_reading ⟦<ErrMode<EmptyError> as HasKind>⟧.kind
-        (Meaning IsText LiteralString)
+        (Meaning IsText AnyLiteral)
         (text_input input.old.now) result (text_input input.new.now) }
 {
-    match read_literal(alloc, input) {
+    match read_any_literal(alloc, input) {
         Ok(text) => Ok(Value::Text(text)),
         Err(error) => Err(error),
     }

@@ -1,0 +1,5 @@
+use Rattle.winnow.specs.Read.{reads_by}
+use Rattle.format_toml.proofs.long_parts.read_either_of.Goals as goal
+
+pub returns : goal.returns
+returns g c = reads_by c.read.ensures.reads (rw c.alt.ensures)

@@ -1,0 +1,9 @@
+use Rattle.winnow.specs.Read.{reads_by}
+use Rattle.format_toml.proofs.long_parts.read_part_of.Goals as goal
+
+pub returns : goal.returns
+returns g c = reads_by c.read.ensures.reads (rw (
+  c.preceded.ensures.ignored,
+  c.preceded.ensures.parser,
+  c.alt.ensures,
+))

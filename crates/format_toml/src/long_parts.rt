@@ -1,0 +1,159 @@
+//! Strings over lines, made of parts: what is read is said by the grammars of the parts, whichever
+//! parsers they are, and over any stream.
+ghost use Rattle.format_json_texts.specs.Words.{latter};
+ghost use Rattle.format_toml.specs.LongGrammars.{LongOf, QuoteOf};
+ghost use Rattle.std.specs.Prelude.{◌≡◌, ⊤, None};
+ghost use Rattle.winnow.specs.Exact.{Reads};
+ghost use Rattle.winnow.specs.Grammar.{Both, Either, Gathered, Many};
+ghost use Rattle.winnow.specs.Range.{from_to};
+
+use std::alloc::Allocator;
+use winnow::Parser;
+use winnow::combinator::{alt, delimited, not, opt, peek, preceded, repeat, terminated};
+use winnow::error::ParserError;
+use winnow::stream::{Range, Stream};
+
+/// Reads a quotation mark that belongs to a string over lines: behind it, and behind three more or
+/// none of these, no two are. So of up to two all do, of three none does, and of four or five the
+/// first ones do, before three that close the string.
+pub fn read_quote_of<I, O, E, P>(quote: P, input: &mut I) -> Result<O, E>
+where
+    I: Stream,
+    O: Drop,
+    E: ParserError<I>,
+    P: Parser<I, O, E> + Copy + Drop,
+    requires quote { P.can_parse quote × (P.claim (P.state quote)).premise
+        × (P.claim (P.state quote)).backtracks }
+    ensures { Reads I.reading E.kind (QuoteOf (P.claim (P.state quote)).grammar)
+        (I.view input.old) result (I.view input.new) }
+{
+    let three = (quote, quote, quote);
+    let two = (quote, quote);
+    terminated(quote, peek((opt(three), not(two)))).read(input)
+}
+
+/// Reads what stands for a character, or a quotation mark, behind what is skipped.
+pub fn read_part_of<I, O, W, E, S, P, Q>(
+    skips: S,
+    content: P,
+    quote: Q,
+    input: &mut I,
+) -> Result<O, E>
+where
+    I: Stream,
+    O: Drop,
+    W: Drop,
+    E: ParserError<I>,
+    S: Parser<I, W, E> + Drop,
+    P: Parser<I, O, E> + Drop,
+    Q: Parser<I, O, E> + Drop,
+    requires skips { S.can_parse skips × (S.claim (S.state skips)).premise
+        × (S.claim (S.state skips)).backtracks }
+    requires content { P.can_parse content × (P.claim (P.state content)).premise
+        × (P.claim (P.state content)).backtracks }
+    requires quote { Q.can_parse quote × (Q.claim (Q.state quote)).premise
+        × (Q.claim (Q.state quote)).backtracks }
+    ensures { Reads I.reading E.kind
+        (Both latter (S.claim (S.state skips)).grammar
+        (Either (P.claim (P.state content)).grammar (Q.claim (Q.state quote)).grammar))
+        (I.view input.old) result (I.view input.new) }
+{
+    preceded(skips, alt((content, quote))).read(input)
+}
+
+/// Reads one of two: the second where the first does not stand.
+pub fn read_either_of<I, O, E, P, Q>(first: P, second: Q, input: &mut I) -> Result<O, E>
+where
+    I: Stream,
+    O: Drop,
+    E: ParserError<I>,
+    P: Parser<I, O, E> + Drop,
+    Q: Parser<I, O, E> + Drop,
+    requires first { P.can_parse first × (P.claim (P.state first)).premise
+        × (P.claim (P.state first)).backtracks }
+    requires second { Q.can_parse second × (Q.claim (Q.state second)).premise
+        × (Q.claim (Q.state second)).backtracks }
+    ensures { Reads I.reading E.kind
+        (Either (P.claim (P.state first)).grammar (Q.claim (Q.state second)).grammar)
+        (I.view input.old) result (I.view input.new) }
+{
+    alt((first, second)).read(input)
+}
+
+/// Reads an escaped line end: a backslash, white space, a line end, and all that is blank behind
+/// it.
+pub fn read_escaped_of<I, M, W, E, A, B, G, N, P>(
+    alloc: A,
+    backslash: B,
+    white: G,
+    newline: N,
+    blank: P,
+    input: &mut I,
+) -> Result<(), E>
+where
+    I: Stream,
+    M: Drop,
+    W: Drop,
+    E: ParserError<I>,
+    A: Allocator + Copy,
+    B: Parser<I, M, E> + Drop,
+    G: Parser<I, W, E> + Drop,
+    N: Parser<I, M, E> + Drop,
+    P: Parser<I, M, E> + Drop,
+    requires backslash { B.can_parse backslash × (B.claim (B.state backslash)).premise
+        × (B.claim (B.state backslash)).backtracks }
+    requires white { G.can_parse white × (G.claim (G.state white)).premise
+        × (G.claim (G.state white)).backtracks }
+    requires newline { N.can_parse newline × (N.claim (N.state newline)).premise
+        × (N.claim (N.state newline)).backtracks }
+    requires blank { P.can_parse blank × (P.claim (P.state blank)).premise
+        × (P.claim (P.state blank)).backtracks × (P.claim (P.state blank)).consumes }
+    ensures { Reads I.reading E.kind
+        (Both latter (B.claim (B.state backslash)).grammar
+        (Both latter (G.claim (G.state white)).grammar
+        (Both latter (N.claim (N.state newline)).grammar
+        (Gathered (λ (all : ⊤) parts. ⊤) (Many (P.claim (P.state blank)).grammar
+        (from_to 0 None))))))
+        (I.view input.old) result (I.view input.new) }
+{
+    let blanks = repeat(alloc, Range::from(0..), blank);
+    preceded(backslash, preceded(white, preceded(newline, blanks))).read(input)
+}
+
+/// Reads a string over lines: three quotation marks, a line end or none, parts with what is skipped
+/// behind them, and three quotation marks.
+pub fn read_long_of<I, M, E, A, Q, P, S, N>(
+    alloc: A,
+    quote: Q,
+    part: P,
+    skips: S,
+    newline: N,
+    input: &mut I,
+) -> Result<String<A>, E>
+where
+    I: Stream,
+    M: Drop,
+    E: ParserError<I>,
+    A: Allocator + Copy,
+    Q: Parser<I, M, E> + Copy + Drop,
+    P: Parser<I, char, E> + Drop,
+    S: Parser<I, (), E> + Drop,
+    N: Parser<I, M, E> + Drop,
+    requires quote { Q.can_parse quote × (Q.claim (Q.state quote)).premise
+        × (Q.claim (Q.state quote)).backtracks }
+    requires part { P.can_parse part × (P.claim (P.state part)).premise
+        × (P.claim (P.state part)).backtracks × (P.claim (P.state part)).consumes }
+    requires skips { S.can_parse skips × (S.claim (S.state skips)).premise
+        × (S.claim (S.state skips)).backtracks }
+    requires newline { N.can_parse newline × (N.claim (N.state newline)).premise
+        × (N.claim (N.state newline)).backtracks }
+    ensures { Reads I.reading E.kind
+        (LongOf (Q.claim (Q.state quote)).grammar (P.claim (P.state part)).grammar
+        (S.claim (S.state skips)).grammar (N.claim (N.state newline)).grammar)
+        (I.view input.old) result (I.view input.new) }
+{
+    let three = (quote, quote, quote);
+    let parts = repeat(alloc, Range::from(0..), part);
+    let body = preceded(opt(newline), terminated(parts, skips));
+    delimited(three, body, three).read(input)
+}
