@@ -208,7 +208,7 @@ def takes_lemma(n):
     inner = "%s_takes %s%s" % (prefix(n - 1), "(%s) " % whole(n - 1) if n < 5 else "", spaced("c#", n - 1))
     return "\n".join(
         [
-            "pub tuple%d_takes : {%s : Type 0} %s %s %s → %s → %s → Takes (%s %s)" % (n, types, runs, grammars, states, exact, sums("Takes g#", n), WORDS[n], spaced("g#", n)),
+            "pub tuple%d_takes : {%s : Type 0} %s %s %s → %s → %s → TakesTokens (%s %s)" % (n, types, runs, grammars, states, exact, sums("TakesTokens g#", n), WORDS[n], spaced("g#", n)),
             "tuple%d_takes %s %s some =" % (n, " ".join(bound), spaced("c#", n)),
             "    let front : %s = %s_exact %s in" % (front, prefix(n - 1), spaced("c#", n - 1)),
             "    takes_as (same%d %s) (both_takes %s front c%d (either_way (%s) (λ x. x) some))" % (n, spaced("g#", n), joined(n), n, inner),
@@ -222,7 +222,7 @@ use Rattle.std.specs.Prelude.{{◌⊎◌}}
 use Rattle.std.proofs.Common.{{refl, ap, inl, inr, ◌∙◌}}
 use Rattle.streams.specs.Input.{{Input}}
 use Rattle.streams.specs.Kind.{{Kind}}
-use Rattle.grammars.specs.Grammar.{{Both, Grammar, Takes, Three}}
+use Rattle.grammars.specs.Grammar.{{Both, Grammar, TakesTokens, Three}}
 use Rattle.grammars.specs.Grammar.Same.{{Same, takes_as}}
 use Rattle.grammars.specs.Grammar.Tuples.{{{words}}}
 use Rattle.stream_errors.specs.Form.{{Answer}}

@@ -32,7 +32,7 @@ use Rattle.winnow_expression_trees.specs.Failure.{comes_start}
 use Rattle.winnow_expression_trees.specs.Items.{AreItems, FirstItems, Gives, ItemRuns, Items}
 use Rattle.winnow_expression_trees.specs.Items.{NextItems, NoItem}
 use Rattle.winnow_expression_trees.specs.Items.Premises.{ok_is_not, same_ok}
-use Rattle.winnow_expression_trees.specs.OneTree.{IsExact}
+use Rattle.winnow_expression_trees.specs.OneTree.{IsTheOneTree}
 use Rattle.winnow_expression_trees.specs.Premises.{NotMemory}
 use Rattle.winnow_expression_trees.specs.Reading.{FirstStep, NextStep}
 
@@ -248,7 +248,7 @@ module _ {T V F G H L : Type 0} (reading : Reading T L) (refusal : Kind)
   is_memory (incomplete need) = inr (λ e. absurd (cc))
 
   pub fails_at_items : (level : ℤ) (i : Input T) (answer : Answer V) (t : (⊤ × ⊤) × (⊤ × ⊤))
-      (j : Input T) → IsExact whole (λ v w. v ≡ w) states level i answer t j → (k : Kind)
+      (j : Input T) → IsTheOneTree whole (λ v w. v ≡ w) states level i answer t j → (k : Kind)
       → answer ≡ Err k
       → (k ≡ memory) ⊎ ((k ≡ backtrack) × LacksAt i.left.tokens j.left.tokens)
   fails_at_items level i answer t j exact k e = elim (is_memory k) [

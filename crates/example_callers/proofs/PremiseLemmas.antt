@@ -9,7 +9,7 @@ use Rattle.example_callers.specs.Premises.{Greatest, Octet, One, UpToMark}
 use Rattle.winnow.specs.Counted.{counted_reading}
 use Rattle.winnow.specs.EndiannessCases.{Big}
 use Rattle.winnow.specs.Grammar.{Counted, Gathered, Grammar, Many}
-use Rattle.winnow.specs.Grammar.Decided.{Decided}
+use Rattle.winnow.specs.Grammar.Decided.{FlatMapped}
 use Rattle.winnow.specs.Grammar.Folded.{FoldOf, Folded}
 use Rattle.winnow.specs.Grammar.Lengths.{SaysOne, same_beginnings}
 use Rattle.winnow.specs.Grammar.Outputs.{IsAlike, token_alike}
@@ -45,8 +45,8 @@ text_alike n = record {
 -- what is made of an output, where the closure makes what is said
 pub decided_by : {F T O H U : Type 0} (makes : F → O → H → Type 0) (f : F) (says : O → H → Type 0)
     (reads : H → Grammar T U) (g : Grammar T O) → ((o : O) (h : H) → makes f o h ↔ says o h)
-    → Same (Decided makes f reads g) (Decided (λ (_ : Unit {0}) o h. says o h) tt reads g)
-unfolding Decided
+    → Same (FlatMapped makes f reads g) (FlatMapped (λ (_ : Unit {0}) o h. says o h) tt reads g)
+unfolding FlatMapped
 decided_by makes f says reads g is = record {
   there = λ tokens u rest (o, mid, made, x, m, y). (o, mid, made, x, (is o made).0 m, y);
   back = λ tokens u rest (o, mid, made, x, m, y). (o, mid, made, x, (is o made).1 m, y);

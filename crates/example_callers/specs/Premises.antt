@@ -9,7 +9,7 @@ use Rattle.winnow.specs.AsChar.{IsAlpha}
 use Rattle.winnow.specs.Counted.{counted_reading}
 use Rattle.winnow.specs.EndiannessCases.{Big}
 use Rattle.winnow.specs.Grammar.{Class, Counted, Gathered, Grammar, Literally, Many, Token}
-use Rattle.winnow.specs.Grammar.Decided.{Decided}
+use Rattle.winnow.specs.Grammar.Decided.{FlatMapped}
 use Rattle.winnow.specs.Grammar.Lengths.{Inside, Sized, Times}
 use Rattle.winnow.specs.Grammar.Meaning.{Meaning}
 use Rattle.winnow.specs.Grammar.Till.{UpTo}
@@ -56,7 +56,7 @@ Character = Literally text_reading (λ c xs. xs ≡ c ∷ []) (λ c _. c)
 
 -- a token, and the same once more
 abbrev pub Twice : (ℕ → Grammar ℕ ℕ) → Grammar ℕ ℕ
-Twice token = Decided (λ (_ : Unit {0}) (o made : ℕ). made ≡ o) tt token One
+Twice token = FlatMapped (λ (_ : Unit {0}) (o made : ℕ). made ≡ o) tt token One
 
 -- the greatest of all tokens, and 0 where there are none
 abbrev pub Greatest : Grammar ℕ ℕ

@@ -15,7 +15,7 @@ use Rattle.winnow.specs.Operators.{fold_of}
 use Rattle.winnow.specs.Alike.{AlikeInfix}
 use Rattle.winnow.specs.Items.{Gives, GivesOne}
 use Rattle.winnow.specs.Items.Premises.{gives_alike, gives_both_alike}
-use Rattle.winnow.specs.OneTree.{IsExact}
+use Rattle.winnow.specs.OneTree.{IsTheOneTree}
 use Rattle.winnow.specs.Premises.{AlikePostfix, FoldAlike, FoldsAlike}
 use Rattle.example_formulas.specs.declared.sizes.Sign.{Sign}
 use Rattle.example_formulas.specs.declared.sizes.Sign.TheVariants.{Plus, Times}
@@ -90,9 +90,9 @@ same_signs {T} o p same =
 -- a run is exact from states, and at a level, that are these
 pub exact_at : {S W T V F G H : Type 0} {g : Grammar S W T V F G H} {alike : V → V → Type 0}
     {s u : S × W} {level least : ℤ} {i j : Input T} {answer : Answer V} {t : S × W}
-    → IsExact g alike s level i answer t j → s ≡ u → level ≡ least
-    → (t : S × W) × IsExact g alike u least i answer t j
+    → IsTheOneTree g alike s level i answer t j → s ≡ u → level ≡ least
+    → (t : S × W) × IsTheOneTree g alike u least i answer t j
 exact_at {S} {W} {g = g} {alike} {s} {u} {level} {least} {i} {j} {answer} {t} exact same zero =
-    let P : S × W → Type 0 = λ z. IsExact g alike z least i answer t j in
-    let Q : ℤ → Type 0 = λ l. IsExact g alike s l i answer t j in
+    let P : S × W → Type 0 = λ z. IsTheOneTree g alike z least i answer t j in
+    let Q : ℤ → Type 0 = λ l. IsTheOneTree g alike s l i answer t j in
     (t, subst P same (subst Q zero exact))

@@ -11,7 +11,7 @@ ghost use Rattle.example_formulas.specs.Sizes.{size_states, unit_marks, unit_val
 ghost use Rattle.winnow.specs.Parts.{parts_grammar};
 ghost use Rattle.winnow.specs.Items.{Gives};
 ghost use Rattle.winnow.specs.Items.Premises.{gives_ends};
-ghost use Rattle.winnow.specs.OneTree.{IsExact};
+ghost use Rattle.winnow.specs.OneTree.{IsTheOneTree};
 
 use std::alloc::Allocator;
 use winnow::Parser;
@@ -142,7 +142,7 @@ fn signs<'i>() -> Marks<&'i [u8], Infix<Sign>>
 /// assert_eq!(rt; input, b";".as_slice());
 /// ```
 pub fn read_size<'i, A: Allocator + Copy>(alloc: A, input: &mut &'i [u8]) -> Result<u32, EmptyError>
-    ensures reads { (t : SizeStates) × IsExact (parts_grammar bytes_reading.units backtrack
+    ensures reads { (t : SizeStates) × IsTheOneTree (parts_grammar bytes_reading.units backtrack
         (⟦<DecUint as Parser<Bytes, u32, EmptyError>>⟧.meaning plain)
         (⟦<Fail as Parser<Bytes, Prefix<NoFold>, EmptyError>>⟧.meaning plain)
         (⟦<Marks<Bytes, Postfix<Scale>> as Parser<Bytes, Postfix<Scale>, EmptyError>>⟧.meaning

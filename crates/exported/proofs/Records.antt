@@ -5,8 +5,9 @@ use Rattle.std.specs.declared.vec.Vec.{Vec}
 use Rattle.winnow.specs.Following.{most_bytes}
 use Rattle.format_csv.specs.Csv.{FieldText, InQuotes, IsPlain, IsRecord, RecordText, line_end}
 use Rattle.format_csv.specs.declared.LineEnd.{LineEnd}
-use Rattle.winnow.specs.Texts.{Among, InList, Itself, Joined, OneOf, Row, Spelled, Text}
-use Rattle.winnow.specs.Texts.{Then}
+use Rattle.winnow.specs.Texts.{EitherText, InList, Itself, PartedText, TokenOfText, EachText}
+use Rattle.winnow.specs.Texts.{Spelled, Text}
+use Rattle.winnow.specs.Texts.{BothText}
 use Rattle.exported.specs.Csv.{CountsRecord, Fields, IsRecordForGood}
 use Rattle.exported.specs.Texts.{AreFields, text_of}
 use Rattle.exported.specs.declared.csv.Record.{Record}
@@ -17,9 +18,9 @@ use Rattle.exported.proofs.Pieces.{nothing_follows}
 abbrev TakesOne : Text ℕ ℕ → Type 0
 TakesOne text = (b : ℕ) (xs : List ℕ) → text b xs → 1 ≤ length xs
 
-row_long : (text : Text ℕ ℕ) → TakesOne text → (bytes xs : List ℕ) → Row text bytes xs
+row_long : (text : Text ℕ ℕ) → TakesOne text → (bytes xs : List ℕ) → EachText text bytes xs
     → length bytes ≤ length xs
-unfolding Row
+unfolding EachText
 row_long text one [] xs e = omega arith
 row_long text one (b ∷ bytes) xs (ys, zs, is, more, e) =
     omega (
@@ -31,19 +32,19 @@ row_long text one (b ∷ bytes) xs (ys, zs, is, more, e) =
     )
 
 quoted_one : TakesOne InQuotes
-unfolding Among Then OneOf Spelled
+unfolding EitherText BothText TokenOfText Spelled
 quoted_one b xs (inl (c, d, ys, zs, (_, e), is, f, _)) =
     omega (arith, ap length e, ap length f, length-append ys zs)
 quoted_one b xs (inr (_, e)) = omega (arith, ap length e)
 
-plain_one : TakesOne (OneOf (λ b. b) IsPlain)
-unfolding OneOf
+plain_one : TakesOne (TokenOfText (λ b. b) IsPlain)
+unfolding TokenOfText
 plain_one b xs (_, e) = omega (arith, ap length e)
 
 -- a field is no longer than its text
 field_long : (field : Vec ℕ Global) (xs : List ℕ) → FieldText field xs
     → length field.items ≤ length xs
-unfolding Among Then InList Spelled
+unfolding EitherText BothText InList Spelled
 field_long field xs (inl (q, o, front, others, _, (p, r, inside, end, is, _, e, same), f, last)) =
     let row = row_long InQuotes quoted_one p.items inside is in
     omega (
@@ -56,11 +57,12 @@ field_long field xs (inl (q, o, front, others, _, (p, r, inside, end, is, _, e, 
       length-append inside end,
       length-append front others,
     )
-field_long field xs (inr is) = row_long (OneOf (λ b. b) IsPlain) plain_one field.items xs is
+field_long field xs (inr is) = row_long (TokenOfText (λ b. b) IsPlain) plain_one field.items xs is
 
 others_long : (fields : List (Vec ℕ Global)) (xs : List ℕ)
-    → Row (Then (λ _ o. o) (Itself 44) FieldText) fields xs → length (text_of fields) ≤ length xs
-unfolding Row Then
+    → EachText (BothText (λ _ o. o) (Itself 44) FieldText) fields xs
+        → length (text_of fields) ≤ length xs
+unfolding EachText BothText
 others_long [] xs e = omega arith
 others_long (f ∷ fields) xs (ys, zs, (c, g, us, vs, _, is, e, same), more, d) =
     omega (
@@ -76,8 +78,8 @@ others_long (f ∷ fields) xs (ys, zs, (c, g, us, vs, _, is, e, same), more, d) 
     )
 
 joined_long : (fields : List (Vec ℕ Global)) (xs : List ℕ)
-    → Joined (Itself 44) FieldText fields xs → length (text_of fields) ≤ length xs
-unfolding Joined
+    → PartedText (Itself 44) FieldText fields xs → length (text_of fields) ≤ length xs
+unfolding PartedText
 joined_long [] xs e = omega arith
 joined_long (f ∷ fields) xs (ys, zs, is, more, e) =
     omega (

@@ -7,7 +7,7 @@ use Rattle.format_resp.specs.Resp.{Replies, ReplyText, line_end}
 use Rattle.format_resp.specs.declared.reply.Reply.{out-Reply}
 use Rattle.format_resp.specs.declared.reply.Reply.TheOpen.{Reply-F}
 use Rattle.winnow.specs.InTurn.{First}
-use Rattle.winnow.specs.Texts.{Row}
+use Rattle.winnow.specs.Texts.{EachText}
 use Rattle.exported.specs.Pieces.{MayFollow}
 use Rattle.exported.specs.Span.{StandsAt, nowhere}
 use Rattle.exported.specs.declared.resp.Reply.{Reply}
@@ -45,7 +45,7 @@ pub record AreElements (level : ℕ) (input rest : List ℕ) (elements : List Fo
   pub inner : ℕ
   pub deeper : level ≡ suc inner
   pub bytes : List ℕ
-  pub are : Row (ReplyText inner) elements bytes
+  pub are : EachText (ReplyText inner) elements bytes
   pub behind_line : IsBehindFeed input (bytes ++ rest)
   pub stand : StandsAt input it.place bytes rest
 

@@ -6,8 +6,9 @@ use Rattle.format_csv.specs.declared.LineEnd.{LineEnd}
 use Rattle.format_csv.specs.declared.LineEnd.TheVariants.{CrLf, Lf}
 use Rattle.winnow.specs.Grammar.{Grammar}
 use Rattle.winnow.specs.Grammar.Known.{Listed}
-use Rattle.winnow.specs.Texts.{Among, AtLeast, InList, Itself, Joined, OneOf, Row, Text}
-use Rattle.winnow.specs.Texts.{Then}
+use Rattle.winnow.specs.Texts.{EitherText, AtLeast, InList, Itself, PartedText, TokenOfText}
+use Rattle.winnow.specs.Texts.{EachText, Text}
+use Rattle.winnow.specs.Texts.{BothText}
 
 -- A byte of a field without quotes: no quote, comma, carriage return or line feed.
 abbrev pub IsPlain : ℕ → Type 0
@@ -15,7 +16,8 @@ IsPlain b = (b ≡ 34 → ⊥) × ((b ≡ 44 → ⊥) × ((b ≡ 13 → ⊥) × 
 
 -- a byte in quotes: two quotes for one, or any other byte
 abbrev pub InQuotes : Text ℕ ℕ
-InQuotes = Among (Then (λ _ b. b) (Itself 34) (Itself 34)) (OneOf (λ b. b) (λ b. b ≡ 34 → ⊥))
+InQuotes = EitherText (BothText (λ _ b. b) (Itself 34) (Itself 34))
+      (TokenOfText (λ b. b) (λ b. b ≡ 34 → ⊥))
 
 -- what ends a line
 abbrev pub line_end : LineEnd → List ℕ
@@ -26,15 +28,16 @@ module _ {A : Type 0} where
   -- what is written between quotes, and these
   abbrev pub QuotedText : Text ℕ (Vec ℕ A)
   QuotedText =
-      Then (λ _ o. o) (Itself 34) (Then (λ o _. o) (InList (AtLeast 0 (Row InQuotes))) (Itself 34))
+      BothText (λ _ o. o) (Itself 34)
+            (BothText (λ o _. o) (InList (AtLeast 0 (EachText InQuotes))) (Itself 34))
 
   -- a field: in quotes, or plain bytes
   abbrev pub FieldText : Text ℕ (Vec ℕ A)
-  FieldText = Among QuotedText (InList (AtLeast 0 (Row (OneOf (λ b. b) IsPlain))))
+  FieldText = EitherText QuotedText (InList (AtLeast 0 (EachText (TokenOfText (λ b. b) IsPlain))))
 
   -- a record: one field or more, with commas between them
   abbrev pub RecordText : Text ℕ (Vec (Vec ℕ A) A)
-  RecordText = InList (AtLeast 1 (Joined (Itself 44) FieldText))
+  RecordText = InList (AtLeast 1 (PartedText (Itself 44) FieldText))
 
 module _ {A : Type 0} (ends : LineEnd) where
   -- There are bytes, and they begin with a record and a line end, or are a record.

@@ -17,7 +17,8 @@ use Rattle.format_csv.specs.Csv.{FieldText, InQuotes, IsPlain, IsRecord, QuotedT
 use Rattle.format_csv.specs.Csv.{line_end}
 use Rattle.format_csv.specs.declared.LineEnd.{LineEnd}
 use Rattle.format_csv.specs.declared.LineEnd.TheVariants.{CrLf, Lf}
-use Rattle.winnow.specs.Texts.{Among, InList, Itself, Joined, OneOf, Row, Spelled, Then}
+use Rattle.winnow.specs.Texts.{EitherText, InList, Itself, PartedText, TokenOfText, EachText}
+use Rattle.winnow.specs.Texts.{Spelled, BothText}
 
 -- The dialect of commas and double quotes with these line ends.
 abbrev pub ends_as : LineEnd → LineEnds
@@ -48,8 +49,8 @@ closes_there ends rest = inl (line_end ends, is_end ends, refl)
 
 -- ---- fields
 
-quotes_there : (bs text : List ℕ) → Row InQuotes bs text → text ≡ doubled 34 bs
-unfolding Row Among Then OneOf Spelled
+quotes_there : (bs text : List ℕ) → EachText InQuotes bs text → text ≡ doubled 34 bs
+unfolding EachText EitherText BothText TokenOfText Spelled
 quotes_there [] text e = e ∙ sym (doubled_none 34)
 quotes_there (b ∷ bs) text (xs, ys, inl (c, d, us, vs, (_, e), (is, f), g, same), more, h) =
     h ∙ ap (λ l. l ++ ys) (g ∙ ap (λ l. l ++ vs) e ∙ ap (λ l. (34 ∷ []) ++ l) f)
@@ -59,8 +60,8 @@ quotes_there (b ∷ bs) text (xs, ys, inr (other, e), more, h) =
     h ∙ ap (λ l. l ++ ys) e ∙ ap (λ l. b ∷ l) (quotes_there bs ys more)
     ∙ sym (doubled_other 34 b bs other)
 
-quotes_back : (bs : List ℕ) → Row InQuotes bs (doubled 34 bs)
-unfolding Row Among Then OneOf Spelled
+quotes_back : (bs : List ℕ) → EachText InQuotes bs (doubled 34 bs)
+unfolding EachText EitherText BothText TokenOfText Spelled
 quotes_back [] = doubled_none 34
 quotes_back (b ∷ bs) = elim (is_or_not b 34) [
   | inl is ↦ (
@@ -79,16 +80,16 @@ quotes_back (b ∷ bs) = elim (is_or_not b 34) [
   )
 ]
 
-plain_there : (bs text : List ℕ) → Row (OneOf (λ b. b) IsPlain) bs text
+plain_there : (bs text : List ℕ) → EachText (TokenOfText (λ b. b) IsPlain) bs text
     → (text ≡ bs) × All IsPlain bs
-unfolding Row OneOf
+unfolding EachText TokenOfText
 plain_there [] text e = (e, All-nil IsPlain)
 plain_there (b ∷ bs) text (xs, ys, (is, e), more, h) =
     let (f, all) = plain_there bs ys more in
     (h ∙ ap (λ l. l ++ ys) e ∙ ap (λ l. b ∷ l) f, All-cons IsPlain b bs is all)
 
-plain_back : (bs : List ℕ) → All IsPlain bs → Row (OneOf (λ b. b) IsPlain) bs bs
-unfolding Row OneOf
+plain_back : (bs : List ℕ) → All IsPlain bs → EachText (TokenOfText (λ b. b) IsPlain) bs bs
+unfolding EachText TokenOfText
 plain_back [] all = refl
 plain_back (b ∷ bs) all = (
   b ∷ [],
@@ -101,7 +102,7 @@ plain_back (b ∷ bs) all = (
 module _ {A : Type 0} (ends : LineEnd) where
   field_there : (field : Vec ℕ A) (text : List ℕ) → FieldText field text
       → IsFieldText (commas ends) field.items text
-  unfolding Among Then InList Spelled
+  unfolding EitherText BothText InList Spelled
   field_there field text
       (inl (q, o, xs, ys, (_, e), (p, r, us, vs, inside, (_, f), g, same), h, last)) =
       let items : p.items ≡ field.items = ap (λ (v : Vec ℕ A). v.items) (sym (last ∙ same)) in
@@ -112,7 +113,7 @@ module _ {A : Type 0} (ends : LineEnd) where
 
   field_back : (field : Vec ℕ A) (text : List ℕ) → IsFieldText (commas ends) field.items text
       → FieldText field text
-  unfolding Among Then InList Spelled
+  unfolding EitherText BothText InList Spelled
   field_back field text (inl e) = inl (
     34,
     field,
@@ -133,7 +134,7 @@ module _ {A : Type 0} (ends : LineEnd) where
     refl,
   )
   field_back field text (inr (e, all)) =
-      let P : List ℕ → Type 0 = λ l. Row (OneOf (λ b. b) IsPlain) field.items l in
+      let P : List ℕ → Type 0 = λ l. EachText (TokenOfText (λ b. b) IsPlain) field.items l in
       inr (subst P (sym e) (plain_back field.items all))
 
   -- the bytes of fields
@@ -143,10 +144,10 @@ module _ {A : Type 0} (ends : LineEnd) where
   -- ---- fields behind a comma
 
   others_there : (field : Vec ℕ A) (fields : List (Vec ℕ A)) (front text behind rest : List ℕ)
-      → FieldText field front → Row (Then (λ _ o. o) (Itself 44) FieldText) fields text
+      → FieldText field front → EachText (BothText (λ _ o. o) (Itself 44) FieldText) fields text
       → EndsHere (ends_as ends) behind rest
       → AreFields (commas ends) (front ++ (text ++ behind)) (field.items ∷ bytes_of fields) rest
-  unfolding Row Then Spelled AreFields
+  unfolding EachText BothText Spelled AreFields
   others_there field [] front text behind rest t e closes =
       (front, behind, field_there field front t, ap (λ l. front ++ (l ++ behind)) e, closes)
   others_there field (next ∷ fields) front text behind rest t
@@ -163,9 +164,9 @@ module _ {A : Type 0} (ends : LineEnd) where
   others_back : (field : Vec ℕ A) (fields : List (Vec ℕ A)) (bytes rest : List ℕ)
       → AreFields (commas ends) bytes (field.items ∷ bytes_of fields) rest
       → (front : List ℕ) × (text : List ℕ) × (behind : List ℕ) × FieldText field front
-      × Row (Then (λ _ o. o) (Itself 44) FieldText) fields text
+      × EachText (BothText (λ _ o. o) (Itself 44) FieldText) fields text
       × EndsHere (ends_as ends) behind rest × (bytes ≡ front ++ (text ++ behind))
-  unfolding Row Then Spelled AreFields
+  unfolding EachText BothText Spelled AreFields
   others_back field [] bytes rest (text, behind, t, e, closes) =
       (text, [], behind, field_back field text t, refl, closes, e)
   others_back field (next ∷ fields) bytes rest (text, behind, t, e, more) =
@@ -182,10 +183,10 @@ module _ {A : Type 0} (ends : LineEnd) where
   -- ---- records
 
   joined_there : (fields : List (Vec ℕ A)) (bytes text behind rest : List ℕ)
-      → Joined (Itself 44) FieldText fields text → 1 ≤ length fields → bytes ≡ text ++ behind
+      → PartedText (Itself 44) FieldText fields text → 1 ≤ length fields → bytes ≡ text ++ behind
       → EndsHere (ends_as ends) behind rest
       → AreFields (commas ends) bytes (bytes_of fields) rest
-  unfolding Joined
+  unfolding PartedText
   joined_there [] bytes text behind rest joined one e closes = absurd (omega (arith, one))
   joined_there (field ∷ fields) bytes text behind rest (xs, ys, t, row, f) one e closes =
       let P : List ℕ → Type 0 =
@@ -195,9 +196,9 @@ module _ {A : Type 0} (ends : LineEnd) where
 
   joined_back : (fields : List (Vec ℕ A)) (bytes rest : List ℕ)
       → AreFields (commas ends) bytes (bytes_of fields) rest
-      → (text : List ℕ) × (behind : List ℕ) × Joined (Itself 44) FieldText fields text
+      → (text : List ℕ) × (behind : List ℕ) × PartedText (Itself 44) FieldText fields text
       × (1 ≤ length fields) × EndsHere (ends_as ends) behind rest × (bytes ≡ text ++ behind)
-  unfolding Joined AreFields
+  unfolding PartedText AreFields
   joined_back [] bytes rest them = absurd them
   joined_back (field ∷ fields) bytes rest them =
       let (front, text, behind, t, row, closes, e) = others_back field fields bytes rest them in (

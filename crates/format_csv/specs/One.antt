@@ -16,17 +16,17 @@ use Rattle.format_csv.specs.Read.{list_unique, plain_byte, plain_byte_unique, re
 use Rattle.format_csv.specs.declared.LineEnd.{LineEnd}
 use Rattle.winnow.specs.Grammar.{Each}
 use Rattle.winnow.specs.Grammar.Known.{Listed, byte_unique}
-use Rattle.winnow.specs.Texts.{InList, Itself, MayBegin, OneOf, Row, Spelled, Text}
+use Rattle.winnow.specs.Texts.{InList, Itself, MayBegin, TokenOfText, EachText, Spelled, Text}
 use Rattle.winnow.specs.Back.{IsUnambiguous, among_one, in_list_one, joined_one}
 use Rattle.winnow.specs.Back.{never_both, one_weaker, row_one, split_one, spelled_one}
 use Rattle.winnow.specs.Back.{then_one}
-use Rattle.winnow.specs.Texts.Fronts.{among_front, begins_wider, front_any, front_begins}
+use Rattle.winnow.specs.Texts.Fronts.{either_front, begins_wider, front_any, front_begins}
 use Rattle.winnow.specs.Texts.Fronts.{front_behind, in_list_front, may_begin_none}
-use Rattle.winnow.specs.Texts.Fronts.{one_of_begins, row_front, spelled_begins, then_front}
+use Rattle.winnow.specs.Texts.Fronts.{token_of_begins, each_front, spelled_begins, both_front}
 use Rattle.winnow.specs.Texts.Tokens.{byte_of}
 
-own_one : (these : ℕ → Type 0) → IsUnambiguous (OneOf (λ b. b) these) (λ o p. o ≡ p)
-unfolding OneOf
+own_one : (these : ℕ → Type 0) → IsUnambiguous (TokenOfText (λ b. b) these) (λ o p. o ≡ p)
+unfolding TokenOfText
 own_one these = record { one = λ o p tokens (k, e) (m, f). same_first (sym e ∙ f) }
 
 in_quotes_one : IsUnambiguous InQuotes (λ o p. o ≡ p)
@@ -34,9 +34,9 @@ in_quotes_one = among_one
     (then_one (byte_of 34) (byte_unique 34) (spelled_one (34 ∷ []) 34) (λ _ b. b)
     (λ o p b c x is. is) (λ b tokens x. tt) (spelled_one (34 ∷ []) 34))
     (own_one (λ b. b ≡ 34 → ⊥))
-    (never_both (then_front (λ _ b. b) (spelled_begins 34 [] 34) front_any)
+    (never_both (both_front (λ _ b. b) (spelled_begins 34 [] 34) front_any)
     (front_begins (λ b (k, e, other) is. other (e ∙ is))
-    (one_of_begins (λ b. b) (λ b. b ≡ 34 → ⊥))))
+    (token_of_begins (λ b. b) (λ b. b ≡ 34 → ⊥))))
 
 closing : (b : ℕ) (tokens : List ℕ) → Itself 34 b tokens → IsClosed tokens
 unfolding Spelled
@@ -50,8 +50,8 @@ module _ {A : Type 0} where
   abbrev pub SameFields : Vec (Vec ℕ A) A → Vec (Vec ℕ A) A → Type 0
   SameFields fields others = AllZip SameField fields.items others.items
 
-  bytes_one : (text : Text ℕ ℕ) → IsUnambiguous (Row text) (AllZip (λ o p. o ≡ p))
-      → IsUnambiguous (InList (Row text)) SameField
+  bytes_one : (text : Text ℕ ℕ) → IsUnambiguous (EachText text) (AllZip (λ o p. o ≡ p))
+      → IsUnambiguous (InList (EachText text)) SameField
   bytes_one text one = one_weaker (λ o p like.
       sym (same_from_all_zip (λ b c. b ≡ c) o.items p.items like (λ b c e. sym e)))
       (in_list_one one)
@@ -61,19 +61,19 @@ module _ {A : Type 0} where
       (λ b c o p x is. is) (λ o tokens x. tt)
       (then_one in_quotes_list list_unique (bytes_one _ (row_one in_quotes in_quotes_unique
       in_quotes_one
-      (among_front (begins_wider (λ b x. tt)
-      (then_front (λ _ b. b) (spelled_begins 34 [] 34) front_any))
-      (begins_wider (λ b x. tt) (one_of_begins (λ b. b) (λ b. b ≡ 34 → ⊥)))) front_any tt))
+      (either_front (begins_wider (λ b x. tt)
+      (both_front (λ _ b. b) (spelled_begins 34 [] 34) front_any))
+      (begins_wider (λ b x. tt) (token_of_begins (λ b. b) (λ b. b ≡ 34 → ⊥)))) front_any tt))
       (λ o _. o) (λ o p b c is x. is) closing (spelled_one (34 ∷ []) 34))
 
   field_one : IsUnambiguous FieldText SameField
   field_one = among_one quoted_one
       (bytes_one _ (row_one plain_byte plain_byte_unique (own_one IsPlain)
-      (begins_wider (λ b x. tt) (one_of_begins (λ b. b) IsPlain)) front_any tt))
-      (never_both (then_front (λ _ o. o) (spelled_begins 34 [] 34) front_any)
+      (begins_wider (λ b x. tt) (token_of_begins (λ b. b) IsPlain)) front_any tt))
+      (never_both (both_front (λ _ o. o) (spelled_begins 34 [] 34) front_any)
       (in_list_front (front_behind (may_begin_none (λ b. b ≡ 34 → ⊥))
-      (row_front (front_begins (λ b (k, e, plain) is. plain.0 (e ∙ is))
-      (one_of_begins (λ b. b) IsPlain))))))
+      (each_front (front_begins (λ b (k, e, plain) is. plain.0 (e ∙ is))
+      (token_of_begins (λ b. b) IsPlain))))))
 
   record_text_one : IsUnambiguous RecordText SameFields
   record_text_one = in_list_one (joined_one field field_unique field_one (byte_of 44)

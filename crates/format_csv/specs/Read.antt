@@ -21,7 +21,7 @@ use Rattle.winnow.specs.Exact.Whole.{ReadsAll, reads_all_as}
 use Rattle.winnow.specs.Grammar.{Ahead, Both, Either, Gathered, Grammar, IsUnique, Literally}
 use Rattle.winnow.specs.Grammar.{Made, Many, NoTokens, NoneStands, Parted}
 use Rattle.winnow.specs.Once.{Others}
-use Rattle.winnow.specs.Grammar.{Takes, Three, Token, TokenOf}
+use Rattle.winnow.specs.Grammar.{TakesTokens, Three, Token, TokenOf}
 use Rattle.winnow.specs.Grammar.Known.{Byte, byte_stands, byte_unique}
 use Rattle.winnow.specs.Grammar.Known.{repeated_list, slice_for}
 use Rattle.winnow.specs.Grammar.Sequences.{three_unique}
@@ -30,11 +30,11 @@ use Rattle.winnow.specs.Grammar.Unique.{either_unique, gathered_unique, literall
 use Rattle.winnow.specs.Grammar.Unique.{made_unique, many_unique}
 use Rattle.winnow.specs.Grammar.Unique.{parted_unique, token_of_unique}
 use Rattle.winnow.specs.Texts.{Anything, AtLeast, InFront, InList, IsGrammarOf, Itself}
-use Rattle.winnow.specs.Texts.{MayBegin, NotFirst, OneOf, Row, Spelled}
+use Rattle.winnow.specs.Texts.{MayBegin, NotFirst, TokenOfText, EachText, Spelled}
 use Rattle.winnow.specs.Texts.Fronts.{begins_wider, front_any, front_begins, front_behind}
 use Rattle.winnow.specs.Texts.Fronts.{in_list_front, may_begin_more, none_begins}
-use Rattle.winnow.specs.Texts.Fronts.{one_of_begins}
-use Rattle.winnow.specs.Texts.Fronts.{row_front, spelled_begins, then_front}
+use Rattle.winnow.specs.Texts.Fronts.{token_of_begins}
+use Rattle.winnow.specs.Texts.Fronts.{each_front, spelled_begins, both_front}
 use Rattle.winnow.specs.Texts.Parts.{behind_less, both_of, either_apart, three_of}
 use Rattle.winnow.specs.Texts.Rows.{list_of, many_of, parted_of}
 use Rattle.winnow.specs.Texts.Tokens.{byte_of, divides_either, divides_others, divides_where}
@@ -55,8 +55,9 @@ InQuotesRead = Either (Both (λ _ b. b) (Byte 34) (Byte 34)) (TokenOf (λ b. b) 
 pub in_quotes : IsGrammarOf InQuotesRead InQuotes Anything
 in_quotes = either_apart (both_of (λ _ b. b) (byte_of 34) (byte_of 34) front_any)
     (token_of (λ b. b) (Others Tells) 34 (divides_others Tells 34 (divides_where (λ b. b ≡ 34))))
-    (then_front (λ _ b. b) (spelled_begins 34 [] 34) front_any)
-    (front_begins (λ b (k, e, other) is. other (e ∙ is)) (one_of_begins (λ b. b) (λ b. b ≡ 34 → ⊥)))
+    (both_front (λ _ b. b) (spelled_begins 34 [] 34) front_any)
+    (front_begins (λ b (k, e, other) is. other (e ∙ is))
+            (token_of_begins (λ b. b) (λ b. b ≡ 34 → ⊥)))
 
 pub in_quotes_unique : IsUnique InQuotesRead
 in_quotes_unique = either_unique (both_unique (λ _ b. b) (byte_unique 34) (byte_unique 34))
@@ -84,7 +85,7 @@ module _ {A : Type 0} where
   abbrev ListRead : Grammar ℕ (Vec ℕ A)
   ListRead = Gathered Lists (Many InQuotesRead (from_to 0 None))
 
-  pub in_quotes_list : IsGrammarOf ListRead (InList (AtLeast 0 (Row InQuotes))) IsClosed
+  pub in_quotes_list : IsGrammarOf ListRead (InList (AtLeast 0 (EachText InQuotes))) IsClosed
   in_quotes_list = list_of (many_of in_quotes (from_to 0 None) 0 refl front_any (λ rest x. tt)
       none_in_quotes)
 
@@ -121,7 +122,7 @@ break_ends b (inr (other, is)) =
 abbrev pub PlainByte : Grammar ℕ ℕ
 PlainByte = TokenOf (λ b. b) (Others Special) (34, 44, 13, 10)
 
-pub plain_byte : IsGrammarOf PlainByte (OneOf (λ b. b) IsPlain) Anything
+pub plain_byte : IsGrammarOf PlainByte (TokenOfText (λ b. b) IsPlain) Anything
 plain_byte = token_of (λ b. b) (Others Special) (34, 44, 13, 10)
     (divides_others Special (34, 44, 13, 10) (divides_either (divides_where (λ b. b ≡ 34))
     (divides_either (divides_where (λ b. b ≡ 44))
@@ -143,7 +144,8 @@ end_not_plain b (_, inr (_, inr (_, is))) plain = plain.1.1.1 is
 
 no_plain : (rest : List ℕ) → MayBegin IsEnd rest → NoneStands PlainByte rest
 no_plain rest end = none_begins plain_byte
-    (begins_wider (λ b (k, e, plain). subst IsPlain e plain) (one_of_begins (λ b. b) IsPlain)) rest
+    (begins_wider (λ b (k, e, plain). subst IsPlain e plain) (token_of_begins (λ b. b) IsPlain))
+          rest
     (may_begin_more IsEnd (λ b. IsPlain b → ⊥) end_not_plain rest end)
 
 no_comma : (rest : List ℕ) → MayBegin IsBreak rest → NoneStands (Byte 44) rest
@@ -165,9 +167,9 @@ module _ {A : Type 0} where
   pub field : IsGrammarOf FieldRead FieldText (MayBegin IsEnd)
   field = either_apart (behind_less not_quote quoted)
       (list_of (many_of plain_byte (from_to 0 None) 0 refl front_any (λ rest x. tt) no_plain))
-      (then_front (λ _ o. o) (spelled_begins 34 [] 34) front_any)
-      (in_list_front (front_behind not_quote (row_front (front_begins
-      (λ b (k, e, plain) is. plain.0 (e ∙ is)) (one_of_begins (λ b. b) IsPlain)))))
+      (both_front (λ _ o. o) (spelled_begins 34 [] 34) front_any)
+      (in_list_front (front_behind not_quote (each_front (front_begins
+      (λ b (k, e, plain) is. plain.0 (e ∙ is)) (token_of_begins (λ b. b) IsPlain)))))
 
   pub plain_unique : IsUnique PlainRead
   plain_unique = gathered_unique Lists (many_unique plain_byte_unique (from_to 0 None))
@@ -301,7 +303,7 @@ module _ {A : Type 0} (ends : LineEnd) where
       (end_unique ends))
 
   -- a record takes bytes: its line end, or all that there are
-  pub record_takes : Takes (IsRecord {A = A} ends)
+  pub record_takes : TakesTokens (IsRecord {A = A} ends)
   unfolding IsRecord
   record_takes = record {
     fewer = λ bytes list rest (some, text, t, way). elim way [

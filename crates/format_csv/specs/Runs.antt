@@ -25,9 +25,9 @@ use Rattle.winnow.specs.Grammar.Known.{byte_stands, slice_for}
 use Rattle.winnow.specs.RunByRun as runs
 use Rattle.winnow.specs.RunByRun.{RunOf, each_behind, each_one, each_run, run_same}
 use Rattle.winnow.specs.RunByRun.{run_takes, run_wants}
-use Rattle.winnow.specs.Texts.{MayBegin, OneOf, Spelled, Then, Among}
+use Rattle.winnow.specs.Texts.{MayBegin, TokenOfText, Spelled, BothText, EitherText}
 use Rattle.winnow.specs.Texts.Fronts.{begins_wider, may_begin_more, none_begins}
-use Rattle.winnow.specs.Texts.Fronts.{one_of_begins}
+use Rattle.winnow.specs.Texts.Fronts.{token_of_begins}
 use Rattle.winnow.specs.Texts.Tokens.{divides_either, divides_others, divides_seen}
 use Rattle.winnow.specs.Texts.Tokens.{divides_where}
 
@@ -112,11 +112,12 @@ special_not_plain b (inr (_, inr (_, inr (_, feed)))) plain = plain.1.1.1 feed
 
 no_plain : (rest : List ℕ) → MayBegin IsSpecial rest → NoneStands PlainByte rest
 no_plain rest special = none_begins plain_byte
-    (begins_wider (λ b (k, e, plain). subst IsPlain e plain) (one_of_begins (λ b. b) IsPlain)) rest
+    (begins_wider (λ b (k, e, plain). subst IsPlain e plain) (token_of_begins (λ b. b) IsPlain))
+          rest
     (may_begin_more IsSpecial (λ b. IsPlain b → ⊥) special_not_plain rest special)
 
 plain_one : (b : ℕ) (rest : List ℕ) → IsPlain b → PlainByte (b ∷ rest) b rest
-unfolding OneOf
+unfolding TokenOfText
 plain_one b rest plain = plain_byte.back b (b ∷ []) rest (plain, refl) tt
 
 pub plain_read : {A : Type 0} (list : Vec ℕ A) (slice : Bor (List ℕ)) (bytes rest : List ℕ)
@@ -153,11 +154,11 @@ plain_kept {A} (Ok all) slice start rest (Ok list) has kept r =
 -- ---- fields in quotes
 
 unquoted_one : (b : ℕ) (rest : List ℕ) → (b ≡ 34 → ⊥) → InQuotesRead (b ∷ rest) b rest
-unfolding Among OneOf
+unfolding EitherText TokenOfText
 unquoted_one b rest not = in_quotes.back b (b ∷ []) rest (inr (not, refl)) tt
 
 quotes_one : (rest : List ℕ) → InQuotesRead (34 ∷ 34 ∷ rest) 34 rest
-unfolding Among Then Spelled
+unfolding EitherText BothText Spelled
 quotes_one rest =
     in_quotes.back 34 (34 ∷ 34 ∷ []) rest
     (inl (34, 34, 34 ∷ [], 34 ∷ [], (refl, refl), (refl, refl), refl, refl)) tt

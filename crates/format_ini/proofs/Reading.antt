@@ -4,7 +4,7 @@ use Rattle.std.specs.Prelude.{Err, None, Ok, Option, Some}
 use Rattle.std.proofs.Common.{refl, sym, ap, subst, inl, inr, ◌∙◌, arith, append_assoc}
 use Rattle.std.proofs.lemmas.List.{append-nil}
 use Rattle.format_ini.specs.Documents.{AreLines, BehindMark, IsDocument, IsRefused, LinesSay}
-use Rattle.format_ini.specs.Documents.{NextEntry, Reads, start}
+use Rattle.format_ini.specs.Documents.{NextEntry, ReadsLines, start}
 use Rattle.format_ini.specs.Front.{FirstLine}
 use Rattle.format_ini.specs.Lines.{Lacks, Said, Step, said_in, said_of}
 use Rattle.format_ini.specs.declared.dialect.Dialect.{Dialect}
@@ -39,19 +39,20 @@ says_append d s mid next (line ∷ lines) others said more (one, rest, at, step,
   says_append d at mid next lines others rest more it on,
 )
 
-pub reads_none : (d : Dialect) (s : State) (text : List ℕ) → Reads d s text [] s text
+pub reads_none : (d : Dialect) (s : State) (text : List ℕ) → ReadsLines d s text [] s text
 unfolding AreLines LinesSay
 reads_none d s text = ([], refl, (refl, refl))
 
 pub reads_line : (d : Dialect) (s next : State) (text line rest : List ℕ) (said : List Said)
-    → FirstLine text line rest → Step d s line said next → Reads d s text said next rest
+    → FirstLine text line rest → Step d s line said next → ReadsLines d s text said next rest
 unfolding AreLines LinesSay
 reads_line d s next text line rest said first step =
     (line ∷ [], (rest, first, refl), (said, [], next, step, sym (append-nil said), (refl, refl)))
 
 pub reads_more : (d : Dialect) (s mid next : State) (text here rest : List ℕ)
-    (said more : List Said) → Reads d s text said mid here → Reads d mid here more next rest
-    → Reads d s text (said ++ more) next rest
+    (said more : List Said) → ReadsLines d s text said mid here
+        → ReadsLines d mid here more next rest
+    → ReadsLines d s text (said ++ more) next rest
 reads_more d s mid next text here rest said more (lines, are, it) (others, too, on) = (
   lines ++ others,
   lines_append text here rest lines others are too,
@@ -60,8 +61,8 @@ reads_more d s mid next text here rest said more (lines, are, it) (others, too, 
 
 -- one line more
 pub reads_next : (d : Dialect) (s mid next : State) (text here line rest : List ℕ)
-    (said more : List Said) → Reads d s text said mid here → FirstLine here line rest
-    → Step d mid line more next → Reads d s text (said ++ more) next rest
+    (said more : List Said) → ReadsLines d s text said mid here → FirstLine here line rest
+    → Step d mid line more next → ReadsLines d s text (said ++ more) next rest
 reads_next d s mid next text here line rest said more it first step =
     reads_more d s mid next text here rest said more it
     (reads_line d mid next here line rest more first step)
@@ -76,15 +77,15 @@ lines_less text rest (line ∷ lines) (behind, first, are) =
     let k = lines_less behind rest lines are in omega (arith, h, k)
 
 pub reads_less : (d : Dialect) (s next : State) (text rest : List ℕ) (said : List Said)
-    → Reads d s text said next rest → length rest ≤ length text
+    → ReadsLines d s text said next rest → length rest ≤ length text
 reads_less d s next text rest said (lines, are, it) = lines_less text rest lines are
 
 -- ---- what a reader of entries knows
 
 module _ (d d' : Dialect) (same : d' ≡ d) (s mid : State) (text here : List ℕ)
-    (it : Reads d s text [] mid here) where
+    (it : ReadsLines d s text [] mid here) where
   pub more_lines : (line behind : List ℕ) (next : State) → FirstLine here line behind
-      → Step d' mid line [] next → Reads d s text [] next behind
+      → Step d' mid line [] next → ReadsLines d s text [] next behind
   more_lines line behind next first step =
       let P : Dialect → Type 0 = λ x. Step x mid line [] next in
       reads_next d s mid next text here line behind [] [] it first (subst P same step)
@@ -115,7 +116,7 @@ mark_within text lines (inr (e, none)) = let h = ap (λ l. length l) e in omega 
 
 abbrev pub SoFar : Dialect → List ℕ → List Said → State → List ℕ → Type 0
 SoFar d text said s here = (lines : List ℕ) × BehindMark text lines
-    × Reads d start lines said s here
+    × ReadsLines d start lines said s here
 
 module _ (d d' : Dialect) (same : d' ≡ d) (text : List ℕ) (said : List Said) (s : State)
     (here : List ℕ) (it : SoFar d text said s here) where
@@ -123,7 +124,7 @@ module _ (d d' : Dialect) (same : d' ≡ d) (text : List ℕ) (said : List Said)
       → NextEntry d' s here (Ok (Some entry)) next rest
       → SoFar d text (said ++ said_in entry ∷ []) next rest
   so_far_more entry next rest (on, less) =
-      let P : Dialect → Type 0 = λ x. Reads x s here (said_in entry ∷ []) next rest in (
+      let P : Dialect → Type 0 = λ x. ReadsLines x s here (said_in entry ∷ []) next rest in (
         it.0,
         it.1,
         reads_more d start s next it.0 here rest said (said_in entry ∷ []) it.2
@@ -133,9 +134,9 @@ module _ (d d' : Dialect) (same : d' ≡ d) (text : List ℕ) (said : List Said)
   pub so_far_all : (next : State) (rest : List ℕ) → NextEntry d' s here (Ok None) next rest
       → IsDocument d text said
   so_far_all next rest (on, none) =
-      let P : Dialect → Type 0 = λ x. Reads x s here [] next rest in
-      let Q : List ℕ → Type 0 = λ t. Reads d start it.0 said next t in
-      let R : List Said → Type 0 = λ l. Reads d start it.0 l next rest in (
+      let P : Dialect → Type 0 = λ x. ReadsLines x s here [] next rest in
+      let Q : List ℕ → Type 0 = λ t. ReadsLines d start it.0 said next t in
+      let R : List Said → Type 0 = λ l. ReadsLines d start it.0 l next rest in (
         it.0,
         next,
         it.1,
@@ -147,7 +148,7 @@ module _ (d d' : Dialect) (same : d' ≡ d) (text : List ℕ) (said : List Said)
       → NextEntry d' s here (Err why) next rest → fault.why ≡ why
       → fault.offset + length rest ≡ length text → IsRefused d text fault
   so_far_err next rest fault why (on, (line, behind, first, lacks)) is place =
-      let P : Dialect → Type 0 = λ x. Reads x s here [] next rest in
+      let P : Dialect → Type 0 = λ x. ReadsLines x s here [] next rest in
       let Q : Dialect → Type 0 = λ x. Lacks x next line why in
       let S : Refusal → Type 0 = λ w. Lacks d next line w in (
         it.0,
@@ -177,8 +178,8 @@ nothing_in (Some x) none = absurd (none x refl)
 pub so_far_from : (d : Dialect) (text rest : List ℕ) (s : State) (said : List Said)
     → BehindMark text rest → s ≡ start → said ≡ [] → SoFar d text said s rest
 so_far_from d text rest s said mark is none =
-    let P : State → Type 0 = λ t. Reads d start rest [] t rest in
-    let Q : List Said → Type 0 = λ l. Reads d start rest l s rest in
+    let P : State → Type 0 = λ t. ReadsLines d start rest [] t rest in
+    let Q : List Said → Type 0 = λ l. ReadsLines d start rest l s rest in
     (rest, mark, subst Q (sym none) (subst P (sym is) (reads_none d start rest)))
 
 pub so_far_same : (d : Dialect) (text : List ℕ) (said others : List Said) (s : State)

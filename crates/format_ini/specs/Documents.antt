@@ -32,8 +32,8 @@ LinesSay d s (line ∷ lines) said next = (one : List Said) × (others : List Sa
     × Step d s line one mid × (said ≡ one ++ others) × LinesSay d mid lines others next
 
 -- A text begins with lines that say this, behind which that is left.
-abbrev pub Reads : Dialect → State → List ℕ → List Said → State → List ℕ → Type 0
-Reads d s text said next rest =
+abbrev pub ReadsLines : Dialect → State → List ℕ → List Said → State → List ℕ → Type 0
+ReadsLines d s text said next rest =
     (lines : List (List ℕ)) × AreLines text lines rest × LinesSay d s lines said next
 
 -- before the first line
@@ -43,12 +43,12 @@ start = record { section = false; pair = None }
 -- The text, without a byte order mark, is lines that say this.
 abbrev pub IsDocument : Dialect → List ℕ → List Said → Type 0
 IsDocument d text said = (lines : List ℕ) × (next : State) × BehindMark text lines
-    × Reads d start lines said next []
+    × ReadsLines d start lines said next []
 
 -- Lines that say something stand first, and then a line that says nothing of this dialect, with
 -- this left from there on.
 abbrev pub StopsBy : Dialect → State → List ℕ → List Said → State → List ℕ → Refusal → Type 0
-StopsBy d s text said next rest why = Reads d s text said next rest
+StopsBy d s text said next rest why = ReadsLines d s text said next rest
     × ((line : List ℕ) × (behind : List ℕ) × FirstLine rest line behind × Lacks d next line why)
 
 -- The first line that says nothing of this dialect begins so many bytes behind the text's start.
@@ -67,7 +67,7 @@ IsNoDocument d text OutOfMemory = ⊤
 -- is none of the dialect, and then that line is left
 abbrev pub NextEntry : Dialect → State → List ℕ → Result (Option Entry) Refusal → State → List ℕ
     → Type 0
-NextEntry d s text (Ok None) next rest = Reads d s text [] next rest × (rest ≡ [])
+NextEntry d s text (Ok None) next rest = ReadsLines d s text [] next rest × (rest ≡ [])
 NextEntry d s text (Ok (Some entry)) next rest =
-    Reads d s text (said_of (Some entry)) next rest × (length rest < length text)
+    ReadsLines d s text (said_of (Some entry)) next rest × (length rest < length text)
 NextEntry d s text (Err why) next rest = StopsBy d s text [] next rest why

@@ -7,11 +7,11 @@ use Rattle.std.specs.List.{All}
 use Rattle.std.specs.Str.{all_scalars, encode_utf8_all}
 use Rattle.std.proofs.lemmas.List.Elements.{All-cons, All-head, All-tail, All-weaker}
 use Rattle.std.proofs.lemmas.Str.{encodes-append}
-use Rattle.format_json_extents.specs.Texts.{Either, IsByte, Maybe, Then}
+use Rattle.format_json_extents.specs.Texts.{Either, IsByte, Maybe, BothText}
 use Rattle.format_json_texts.specs.Words.{For, In, One, Run}
 use Rattle.winnow.specs.Text.{text_reading}
-use Rattle.winnow.specs.Texts.{Among, Of, Perhaps, Shown, Spelled, Text}
-use Rattle.winnow.specs.Texts.{Then as Both}
+use Rattle.winnow.specs.Texts.{EitherText, MadeText, OptionalText, TakenText, Spelled, Text}
+use Rattle.winnow.specs.Texts.{BothText as Both}
 pub mod Brackets
 pub mod Escapes
 pub mod Numbers
@@ -62,7 +62,7 @@ fit_parts cs xs ys e fits =
 
 pub then_written : {O1 O2 O : Type 0} (output : O1 → O2 → O) {P Q : List ℕ → Type 0}
     {first : Text ℕ O1} {second : Text ℕ O2} → Written P first → Written Q second
-    → Written (Then P Q) (Both output first second)
+    → Written (BothText P Q) (Both output first second)
 unfolding Both
 then_written output p q = record {
   set = λ o cs (a, b, xs, ys, x, y, e, out). record {
@@ -80,8 +80,8 @@ then_written output p q = record {
 }
 
 pub either_written : {O : Type 0} {P Q : List ℕ → Type 0} {first second : Text ℕ O}
-    → Written P first → Written Q second → Written (Either P Q) (Among first second)
-unfolding Among
+    → Written P first → Written Q second → Written (Either P Q) (EitherText first second)
+unfolding EitherText
 either_written {O} {P} {Q} {first} {second} p q = record { set = set; value = value }
   where
     set : (o : O) (cs : List ℕ) → first o cs ⊎ second o cs → Either P Q cs
@@ -93,15 +93,15 @@ either_written {O} {P} {Q} {first} {second} p q = record { set = set; value = va
     value cs fits (inr is) = let (o, x) = q.value cs fits is in (o, inr x)
 
 pub maybe_written : {O : Type 0} {P : List ℕ → Type 0} {text : Text ℕ O} → Written P text
-    → Written (Maybe P) (Perhaps text)
-unfolding Perhaps
+    → Written (Maybe P) (OptionalText text)
+unfolding OptionalText
 maybe_written {O} {P} {text} p = record { set = set; value = value }
   where
-    set : (o : Option O) (cs : List ℕ) → Perhaps text o cs → Maybe P cs
+    set : (o : Option O) (cs : List ℕ) → OptionalText text o cs → Maybe P cs
     set None cs e = inl e
     set (Some o) cs x = inr (p.set o cs x)
 
-    value : (cs : List ℕ) → Fits cs → Maybe P cs → (o : Option O) × Perhaps text o cs
+    value : (cs : List ℕ) → Fits cs → Maybe P cs → (o : Option O) × OptionalText text o cs
     value cs fits (inl e) = (None, e)
     value cs fits (inr is) = let (o, x) = p.value cs fits is in (Some o, x)
 
@@ -110,7 +110,7 @@ pub for_written : {O U : Type 0} (means : O → U → Type 0) {P : List ℕ → 
     → Written P text
     → ((o : O) (cs : List ℕ) → Fits cs → text o cs → (u : U) × means o u)
     → Written P (For means text)
-unfolding Of
+unfolding MadeText
 for_written means p meant = record {
   set = λ u cs (o, x, is). p.set o cs x;
   value = λ cs fits is.
@@ -121,8 +121,8 @@ slice_of : (cs : List ℕ) → (slice : Bor (List ℕ)) × text_reading.shows sl
 slice_of cs = (record { ref_ptr = (0, 0); now = encode_utf8_all cs }, refl)
 
 pub shown_written : {O : Type 0} {P : List ℕ → Type 0} {text : Text ℕ O} → Written P text
-    → Written P (Shown text_reading text)
-unfolding Shown
+    → Written P (TakenText text_reading text)
+unfolding TakenText
 shown_written p = record {
   set = λ slice cs (o, x, shown). p.set o cs x;
   value = λ cs fits is.
@@ -158,7 +158,7 @@ run_written P Q there back = record {
 }
 
 -- one at least
-pub run_one_written : (P : ℕ → Type 0) → Written (Then (IsByte P) (All P)) (Run P 1)
+pub run_one_written : (P : ℕ → Type 0) → Written (BothText (IsByte P) (All P)) (Run P 1)
 unfolding Run
 run_one_written P = record {
   set = λ slice cs (all, enough, shown). some cs all enough;
@@ -176,7 +176,7 @@ run_one_written P = record {
       );
 }
   where
-    some : (cs : List ℕ) → All P cs → 1 ≤ length cs → Then (IsByte P) (All P) cs
+    some : (cs : List ℕ) → All P cs → 1 ≤ length cs → BothText (IsByte P) (All P) cs
     some [] all enough = absurd (omega (arith, enough))
     some (c ∷ cs) all enough = record {
       first = c ∷ [];

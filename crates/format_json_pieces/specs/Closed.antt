@@ -19,7 +19,7 @@ use Rattle.winnow.specs.Accumulator.Holds.{HasCharacters}
 use Rattle.winnow.specs.AsChar.{IsMultispace}
 use Rattle.winnow.specs.Equal.{same_first}
 use Rattle.winnow.specs.Texts.{Begins, InFront, NotFirst, Spelled}
-use Rattle.winnow.specs.Texts.Fronts.{among_front}
+use Rattle.winnow.specs.Texts.Fronts.{either_front}
 
 numeral_ascii : (c : ℕ) → IsNumeral c → c < 128
 numeral_ascii c is = grind (arith, is)
@@ -54,8 +54,8 @@ module _ (rest : List ℕ) where
   words : InFront WordText (Coded rest At) (Coded rest Alone)
   unfolding encode_utf8
   words =
-      among_front (word_front 110 None (λ cs. refl) (inr (inr (inr (inl refl), refl))))
-      (among_front (word_front 116 (Some true) (λ cs. refl) (inr (inr (inr (inr refl), refl))))
+      either_front (word_front 110 None (λ cs. refl) (inr (inr (inr (inl refl), refl))))
+      (either_front (word_front 116 (Some true) (λ cs. refl) (inr (inr (inr (inr refl), refl))))
       (word_front 102 (Some false) (λ cs. refl) (inr (inr (inl refl, refl)))))
 
   numbers : InFront NumberText (Coded rest At) (Coded rest Alone)

@@ -5,7 +5,7 @@ use Rattle.std.proofs.lemmas.Bool.Decides.{nat_tests}
 use Rattle.winnow.specs.AsChar.{IsDecDigit}
 use Rattle.winnow.specs.Text.{text_reading}
 use Rattle.winnow.specs.Texts.{InFront, Text}
-use Rattle.winnow.specs.Texts.Fronts.{among_front, shown_front, then_front}
+use Rattle.winnow.specs.Texts.Fronts.{either_front, taken_front, both_front}
 use Rattle.format_json_texts.specs.Number.{ExponentText, FractionText, IntegerText, IsLeading}
 use Rattle.format_json_texts.specs.Number.{NumberText}
 use Rattle.format_json_texts.specs.Words.{One, Run, latter, pair, to_four}
@@ -67,9 +67,9 @@ module _ (rest : List ℕ) {at : Figure → List ℕ → Type 0} {behind whole :
       )))
 
   exponent : InFront ExponentText (Spells rest behind) (Spells rest Ended)
-  exponent = then_front latter (then_front pair (among_front (e 101 (inl refl)) (e 69 (inr refl)))
+  exponent = both_front latter (both_front pair (either_front (e 101 (inl refl)) (e 69 (inr refl)))
       (left_out (λ cs x scalars. (x scalars).0)
-      (among_front (sign 43 refl) (sign 45 refl)))) power
+      (either_front (sign 43 refl) (sign 45 refl)))) power
     where
       e : (c : ℕ) → (c ≡ 101) ⊎ (c ≡ 69) → InFront (One c) (Spells rest (at figures.Exponent))
           (Spells rest Ended)
@@ -89,7 +89,7 @@ module _ (rest : List ℕ) {at : Figure → List ℕ → Type 0} {behind whole :
 
   fraction : InFront FractionText (Spells rest Ended) (Spells rest Counted)
   fraction =
-      then_front latter (one_spells rest (at figures.Point) Counted 46 (omega arith)
+      both_front latter (one_spells rest (at figures.Point) Counted 46 (omega arith)
       (λ l x. (
         n.goes figures.Zero figures.Point 46 l refl x,
         n.goes figures.Whole figures.Point 46 l refl x,
@@ -102,9 +102,9 @@ module _ (rest : List ℕ) {at : Figure → List ℕ → Type 0} {behind whole :
 
   integer : InFront IntegerText (Spells rest Counted) (Spells rest Positive)
   integer =
-      among_front (shown_front text_reading (one_spells rest Counted Positive 48 (omega arith)
+      either_front (taken_front text_reading (one_spells rest Counted Positive 48 (omega arith)
       (λ l x. (n.goes figures.Minus figures.Zero 48 l refl x.0, n.zero l x.0))))
-      (shown_front text_reading (then_front pair (in_spells rest (at figures.Whole) Positive
+      (taken_front text_reading (both_front pair (in_spells rest (at figures.Whole) Positive
       (λ c is. omega (arith, is))
       (λ c l is x. (
         n.goes figures.Minus figures.Whole c l (grind (arith, nat_tests, is)) x,
@@ -116,10 +116,10 @@ module _ (rest : List ℕ) {at : Figure → List ℕ → Type 0} {behind whole :
 
   pub number_spells : InFront NumberText (Spells rest behind) (Spells rest whole)
   number_spells =
-      shown_front text_reading (then_front to_four
+      taken_front text_reading (both_front to_four
       (left_out (λ cs x scalars. (x scalars).1)
       (one_spells rest Positive whole 45 (omega arith) (λ l x. n.minus l x.0)))
-      (then_front pair integer (then_front pair
+      (both_front pair integer (both_front pair
       (left_out (λ cs x scalars. ((x scalars).0, (x scalars).1)) fraction)
       (left_out (λ cs x scalars. (
         n.ends figures.Zero _ refl (x scalars),

@@ -25,16 +25,16 @@ use Rattle.format_json_pieces.specs.General.{in_front, joined_front, one_front, 
 use Rattle.format_json_pieces.specs.General.{spelled_front}
 use Rattle.format_json_pieces.specs.Value.{IsNumeral}
 use Rattle.winnow.specs.Text.{text_reading}
-use Rattle.winnow.specs.Texts.{InFront, InList, Joined, Of, Spelled, Text, Then}
-use Rattle.winnow.specs.Texts.Fronts.{among_front, holding_front, in_list_front, perhaps_front}
-use Rattle.winnow.specs.Texts.Fronts.{row_front, shown_front, then_front}
+use Rattle.winnow.specs.Texts.{InFront, InList, PartedText, MadeText, Spelled, Text, BothText}
+use Rattle.winnow.specs.Texts.Fronts.{either_front, gathered_front, in_list_front, optional_front}
+use Rattle.winnow.specs.Texts.Fronts.{each_front, taken_front, both_front}
 
 -- numbers have numerals alone
 pub number_front : {tokens : List ℕ → Type 0} → Adds IsNumeral tokens
     → InFront NumberText tokens tokens
 number_front {tokens} adds =
-    shown_front text_reading (then_front to_four (perhaps_front (one 45 (inr (inr (inl refl)))))
-    (then_front pair whole (then_front pair (perhaps_front fraction) (perhaps_front exponent))))
+    taken_front text_reading (both_front to_four (optional_front (one 45 (inr (inr (inl refl)))))
+    (both_front pair whole (both_front pair (optional_front fraction) (optional_front exponent))))
   where
     one : (c : ℕ) → IsNumeral c → InFront (One c) tokens tokens
     one = one_front adds
@@ -43,18 +43,19 @@ number_front {tokens} adds =
     digits least = run_front adds IsDecDigit least (λ c is. inl is)
 
     whole : InFront IntegerText tokens tokens
-    whole = among_front (shown_front text_reading (one 48 (inl (omega arith))))
-        (shown_front text_reading (then_front pair
+    whole = either_front (taken_front text_reading (one 48 (inl (omega arith))))
+        (taken_front text_reading (both_front pair
         (in_front adds IsLeading (λ c is. inl (omega (arith, is)))) (digits 0)))
 
     fraction : InFront FractionText tokens tokens
-    fraction = then_front latter (one 46 (inr (inr (inr (inl refl))))) (digits 1)
+    fraction = both_front latter (one 46 (inr (inr (inr (inl refl))))) (digits 1)
 
     exponent : InFront ExponentText tokens tokens
     exponent =
-        then_front latter (then_front pair (among_front (one 101 (inr (inr (inr (inr (inr refl))))))
+        both_front latter
+              (both_front pair (either_front (one 101 (inr (inr (inr (inr (inr refl))))))
         (one 69 (inr (inr (inr (inr (inl refl)))))))
-        (perhaps_front (among_front (one 43 (inr (inl refl))) (one 45 (inr (inr (inl refl)))))))
+        (optional_front (either_front (one 43 (inr (inl refl))) (one 45 (inr (inr (inl refl)))))))
         (digits 1)
 
 -- ---- strings
@@ -73,7 +74,7 @@ module _ (rest : List ℕ) (behind : List ℕ → Type 0) where
   })
 
   hex_front : InFront (For IsHex Whichever) (Coded rest Inside) (Coded rest Inside)
-  unfolding Of Whichever
+  unfolding MadeText Whichever
   hex_front = record {
     makes = λ d xs cs (c, e, is) x.
         let P : List ℕ → Type 0 = λ l. Coded rest Inside (l ++ cs) in
@@ -81,7 +82,7 @@ module _ (rest : List ℕ) (behind : List ℕ → Type 0) where
   }
 
   any_front : InFront (For StandsFor Whichever) (Coded rest Inside) (Coded rest Escaped)
-  unfolding Of Whichever
+  unfolding MadeText Whichever
   any_front = record {
     makes = λ d xs cs (c, e, is) (left, x, y).
         let P : List ℕ → Type 0 = λ l. Coded rest Escaped (l ++ cs) in
@@ -91,8 +92,8 @@ module _ (rest : List ℕ) (behind : List ℕ → Type 0) where
 
   unit_front : InFront UnitText (Coded rest Inside) (Coded rest Inside)
   unit_front =
-      for_front IsNumberOf (then_front to_four hex_front
-      (then_front pair hex_front (then_front pair hex_front hex_front)))
+      for_front IsNumberOf (both_front to_four hex_front
+      (both_front pair hex_front (both_front pair hex_front hex_front)))
 
   u_front : InFront (One 117) (Coded rest Inside) (Coded rest Escaped)
   u_front =
@@ -104,22 +105,22 @@ module _ (rest : List ℕ) (behind : List ℕ → Type 0) where
 
   unicode_front : InFront UnicodeText (Coded rest Inside) (Coded rest Inside)
   unicode_front =
-      among_front (for_front IsAlone unit_front)
-      (for_front ArePair (then_front pair unit_front
-      (then_front latter (then_front pair backslash_front u_front) unit_front)))
+      either_front (for_front IsAlone unit_front)
+      (for_front ArePair (both_front pair unit_front
+      (both_front latter (both_front pair backslash_front u_front) unit_front)))
 
   character_front : InFront CharacterText (Coded rest Inside) (Coded rest Inside)
   character_front =
-      among_front (in_front plain_adds (λ c. IsUnescaped c) (λ c is. grind (arith, is)))
-      (then_front latter backslash_front
-      (among_front any_front (then_front latter u_front unicode_front)))
+      either_front (in_front plain_adds (λ c. IsUnescaped c) (λ c is. grind (arith, is)))
+      (both_front latter backslash_front
+      (either_front any_front (both_front latter u_front unicode_front)))
 
   string_front : {A : Type 0} (holds : String A → List ℕ → Type 0) (whole : List ℕ → Type 0)
       → ((bytes : List ℕ) → Inside bytes → whole (34 ∷ bytes))
       → InFront (StringText holds) (Coded rest behind) (Coded rest whole)
   string_front holds whole opens =
-      then_front latter (ascii_front rest Inside whole 34 (omega arith) opens)
-      (then_front former (holding_front holds (row_front character_front))
+      both_front latter (ascii_front rest Inside whole 34 (omega arith) opens)
+      (both_front former (gathered_front holds (each_front character_front))
       (ascii_front rest behind Inside 34 (omega arith) (λ bytes x. (bytes, quote, x))))
 
 -- ---- between brackets
@@ -176,10 +177,10 @@ module _ (rest : List ℕ) where
 
     spaced_front : {O : Type 0} {text : Text ℕ O} → InFront text Between Between
         → InFront (Spaced text) Between Between
-    spaced_front front = then_front former front gap_front
+    spaced_front front = both_front former front gap_front
 
     mark_front : (c : ℕ) → IsCalm c → InFront (Mark c) Between Between
-    mark_front c is = then_front pair (one_front calm_adds c is) gap_front
+    mark_front c is = both_front pair (one_front calm_adds c is) gap_front
 
     word_front : {O : Type 0} (word : List ℕ) (o : O) → AllByRecursion IsCalm word
         → InFront (Spelled word o) Between Between
@@ -194,8 +195,8 @@ module _ (rest : List ℕ) where
           count n (suc (suc n)) b bytes (grind (arith, is)) (opened b (suc n) is) x;
       shuts = λ b bytes is x.
           count (suc n) (suc n) b bytes (grind (arith, is)) (shut b (suc n) is) x;
-      words = among_front (word_front (110 ∷ 117 ∷ 108 ∷ 108 ∷ []) None (omega arith))
-          (among_front (word_front (116 ∷ 114 ∷ 117 ∷ 101 ∷ []) (Some true) (omega arith))
+      words = either_front (word_front (110 ∷ 117 ∷ 108 ∷ 108 ∷ []) None (omega arith))
+          (either_front (word_front (116 ∷ 114 ∷ 117 ∷ 101 ∷ []) (Some true) (omega arith))
           (word_front (102 ∷ 97 ∷ 108 ∷ 115 ∷ 101 ∷ []) (Some false) (omega arith)));
       numbers = number_front (record {
         adds = λ c cs is x. calm_adds.adds c cs (grind (arith, is)) x;
@@ -207,20 +208,20 @@ module _ (rest : List ℕ) where
       -- elements between brackets
       bracketed_front : {O : Type 0} {element : Text ℕ O} (opening closing : ℕ)
           → IsOpening opening → IsClosing closing → InFront element (Between n) (Between n)
-          → InFront (Then latter (Mark opening) (Then former
-          (InList {A = A} (Joined (Mark 44) element)) (One closing))) (Coded rest behind)
+          → InFront (BothText latter (Mark opening) (BothText former
+          (InList {A = A} (PartedText (Mark 44) element)) (One closing))) (Coded rest behind)
           (Coded rest whole)
       bracketed_front opening closing opens closes front =
-          then_front latter (then_front pair (ascii_front rest (Within n) whole opening
+          both_front latter (both_front pair (ascii_front rest (Within n) whole opening
           (grind (arith, opens)) (λ bytes x. place.opens opening bytes opens x)) (gap_front n))
-          (then_front former (in_list_front (joined_front (mark_front n 44 (omega arith)) front))
+          (both_front former (in_list_front (joined_front (mark_front n 44 (omega arith)) front))
           (ascii_front rest behind (Within n) closing (grind (arith, closes))
           (λ bytes x. place.shuts closing bytes closes x)))
 
       scalar_front : InFront (ScalarText holds) (Coded rest behind) (Coded rest whole)
       scalar_front =
-          among_front (for_front IsWord place.words)
-          (among_front (for_front IsNumber (for_front HasText place.numbers))
+          either_front (for_front IsWord place.words)
+          (either_front (for_front IsNumber (for_front HasText place.numbers))
           (for_front IsString (string_front rest behind holds whole place.quoted)))
 
       module _ {value : Text ℕ (Value A)} (front : InFront value (Between n) (Between n)) where
@@ -229,8 +230,8 @@ module _ (rest : List ℕ) where
 
         member_front : InFront (MemberText holds value) (Between n) (Between n)
         member_front =
-            then_front pair (spaced_front n
-            (string_front rest (Within n) holds (Within n) (between n).quoted)) (then_front latter
+            both_front pair (spaced_front n
+            (string_front rest (Within n) holds (Within n) (between n).quoted)) (both_front latter
             (mark_front n 58 (omega arith)) (spaced_front n front))
 
         object_front : InFront (ObjectText holds value) (Coded rest behind) (Coded rest whole)
@@ -242,6 +243,6 @@ module _ (rest : List ℕ) where
     unfolding ValueText
     value_front zero place = scalar_front place
     value_front (suc level) {n} place =
-        among_front (scalar_front place)
-        (among_front (for_front IsArray (array_front place (value_front level (between n))))
+        either_front (scalar_front place)
+        (either_front (for_front IsArray (array_front place (value_front level (between n))))
         (for_front IsObject (object_front place (value_front level (between n)))))

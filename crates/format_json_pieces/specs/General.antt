@@ -10,8 +10,8 @@ use Rattle.std.proofs.lemmas.List.Elements.{All-from_recursion, All-tail, All-we
 use Rattle.std.proofs.lemmas.Str.{encode_ascii}
 use Rattle.format_json_texts.specs.Words.{In, One, Run}
 use Rattle.winnow.specs.Equal.{same_first, same_others}
-use Rattle.winnow.specs.Texts.{NotFirst, InFront, Joined, Spelled, Text}
-use Rattle.winnow.specs.Texts.Fronts.{row_front, then_front}
+use Rattle.winnow.specs.Texts.{NotFirst, InFront, PartedText, Spelled, Text}
+use Rattle.winnow.specs.Texts.Fronts.{each_front, both_front}
 use Rattle.winnow.specs.Utf8.{four_bytes, three_bytes, two_bytes}
 
 -- ---- lists
@@ -59,11 +59,11 @@ spelled_front {T} {O} {behind} {whole} xs o makes = record {
 
 pub joined_front : {T O D : Type 0} {separator : Text T D} {text : Text T O}
     {behind : List T → Type 0} → InFront separator behind behind → InFront text behind behind
-    → InFront (Joined separator text) behind behind
-unfolding Joined
+    → InFront (PartedText separator text) behind behind
+unfolding PartedText
 joined_front {T} {O} {D} {separator} {text} {behind} between front = record { makes = makes }
   where
-    makes : (os : List O) (tokens rest : List T) → Joined separator text os tokens → behind rest
+    makes : (os : List O) (tokens rest : List T) → PartedText separator text os tokens → behind rest
         → behind (tokens ++ rest)
     makes [] tokens rest e b =
         let P : List T → Type 0 = λ l. behind (l ++ rest) in subst P (sym e) b
@@ -71,7 +71,7 @@ joined_front {T} {O} {D} {separator} {text} {behind} between front = record { ma
         let P : List T → Type 0 = λ l. behind l in
         subst P (sym (append_assoc xs ys rest) ∙ ap (λ l. l ++ rest) (sym e))
         (front.makes o xs (ys ++ rest) x
-        ((row_front (then_front (λ d o. o) between front)).makes os ys rest more b))
+        ((each_front (both_front (λ d o. o) between front)).makes os ys rest more b))
 
 -- each of these, in front of such tokens, makes such tokens
 pub record Adds (these : ℕ → Type 0) (tokens : List ℕ → Type 0) : Type 0 where

@@ -17,8 +17,8 @@ use Rattle.winnow.specs.Cut.{Asks}
 use Rattle.winnow.specs.Equal.{true_is_false}
 use Rattle.winnow.specs.Kind.{Kind, incomplete}
 use Rattle.winnow.specs.Grammar.{NoneStands}
-use Rattle.winnow.specs.Texts.{Begins, InFront, InList, Joined, Text, Then}
-use Rattle.winnow.specs.Texts.Fronts.{among_front, in_list_front, then_front}
+use Rattle.winnow.specs.Texts.{Begins, InFront, InList, PartedText, Text, BothText}
+use Rattle.winnow.specs.Texts.Fronts.{either_front, in_list_front, both_front}
 use Rattle.format_json_texts.specs.Values.{ArrayText, HasText, IsArray, IsNumber, IsObject}
 use Rattle.format_json_texts.specs.Values.{IsString, IsWord, Mark, ObjectText, ScalarText}
 use Rattle.format_json_texts.specs.Values.{JsonText, ValueText}
@@ -52,7 +52,7 @@ module _ (level : ℕ) (rest : List ℕ) where
       → ((b : ℕ) → IsMultispace b → next_step next (last_open held) b ≡ steps.Goes next)
       → InFront (Mark c) (Spells rest (At level next held)) (Spells rest (At level mode held))
   marked mode next held c low makes goes =
-      then_front pair (one_spells rest (At level next held) (At level mode held) c low makes)
+      both_front pair (one_spells rest (At level next held) (At level mode held) c low makes)
       (gap_spells level rest next held goes)
 
   module _ (held : List Bracket) where
@@ -128,10 +128,10 @@ module _ (level : ℕ) (rest : List ℕ) where
         → At level modes.After (k ∷ held) (44 ∷ l))
         → ((l : List ℕ) → Behind level held l → Closed k (closing ∷ l))
         → InFront item (Spells rest (At level modes.After (k ∷ held))) (Spells rest (Items k))
-        → InFront (Then former (InList {A = A} (Joined (Mark 44) item)) (One closing))
+        → InFront (BothText former (InList {A = A} (PartedText (Mark 44) item)) (One closing))
         (Spells rest (Behind level held)) (Spells rest (At level modes.First (k ∷ held)))
     listed k closing low comma closes front =
-        then_front former (in_list_front (items_front
+        both_front former (in_list_front (items_front
         (widened (λ cs x scalars. (x scalars).1) (λ cs x. x)
         (marked modes.After modes.Item (k ∷ held) 44 (omega arith) comma (item_gap k)))
         front (λ cs x scalars. (x scalars).1) (λ cs x scalars. (x scalars).0)
@@ -145,8 +145,8 @@ module _ (level : ℕ) (rest : List ℕ) where
         → Place level rest held behind whole
         → InFront (ScalarText holds) behind whole
     scalars {held} place =
-        among_front (for_front IsWord (widened place.ends place.starts (words level rest held)))
-        (among_front (for_front IsNumber (for_front HasText place.numbers))
+        either_front (for_front IsWord (widened place.ends place.starts (words level rest held)))
+        (either_front (for_front IsNumber (for_front HasText place.numbers))
         (for_front IsString (widened place.ends place.starts
         (string_spells rest (text_goes level rest held) holds (Started level held)
         (λ l x mode. x)))))
@@ -157,12 +157,12 @@ module _ (level : ℕ) (rest : List ℕ) where
           → InFront (ArrayText holds value) (Spells rest (Behind level held))
           (Spells rest (Started level held))
       array front =
-          then_front latter (then_front pair (one_spells rest (At level modes.First (Array ∷ held))
+          both_front latter (both_front pair (one_spells rest (At level modes.First (Array ∷ held))
           (Started level held) 91 (omega arith) (λ l x mode. (few, x)))
           (gap_spells level rest modes.First (Array ∷ held) (first_gap held Array)))
           (listed held Array 93 (omega arith) (λ l x. x) (λ l x. (x, x))
           (widened (λ cs x. x) (λ cs x scalars. value_item held _ (x scalars))
-          (then_front former front
+          (both_front former front
           (gap_spells level rest modes.After (Array ∷ held) (after_gap held Array)))))
 
       object : InFront value (Spells rest (Behind level (Object ∷ held)))
@@ -170,19 +170,19 @@ module _ (level : ℕ) (rest : List ℕ) where
           → InFront (ObjectText holds value) (Spells rest (Behind level held))
           (Spells rest (Started level held))
       object front =
-          then_front latter (then_front pair (one_spells rest (At level modes.First (Object ∷ held))
+          both_front latter (both_front pair (one_spells rest (At level modes.First (Object ∷ held))
           (Started level held) 123 (omega arith) (λ l x mode. (few, x)))
           (gap_spells level rest modes.First (Object ∷ held) (first_gap held Object)))
           (listed held Object 125 (omega arith) (λ l x. x) (λ l x. (x, x))
-          (then_front pair (then_front former
+          (both_front pair (both_front former
           (string_spells rest (name_goes level rest (Object ∷ held)) holds (Items held Object)
           (λ l x. (x, x)))
           (gap_spells level rest modes.Colon (Object ∷ held) (colon_gap (Object ∷ held))))
-          (then_front latter
+          (both_front latter
           (marked modes.Colon modes.Value (Object ∷ held) 58 (omega arith) (λ l x. x)
           (value_gap (Object ∷ held)))
           (widened (λ cs x. x) (λ cs x scalars. value_here held _ (x scalars))
-          (then_front former front
+          (both_front former front
           (gap_spells level rest modes.After (Object ∷ held) (after_gap held Object)))))))
 
     value_spells : (deep : ℕ) {held : List Bracket} {behind whole : List ℕ → Type 0}
@@ -191,8 +191,8 @@ module _ (level : ℕ) (rest : List ℕ) where
     unfolding ValueText
     value_spells zero few place = scalars place
     value_spells (suc deep) {held} few place =
-        among_front (scalars place)
-        (among_front (for_front IsArray (widened place.ends place.starts
+        either_front (scalars place)
+        (either_front (for_front IsArray (widened place.ends place.starts
         (array held (omega (arith, few))
         (value_spells deep (omega (arith, few)) (inner level rest Array held)))))
         (for_front IsObject (widened place.ends place.starts
@@ -243,11 +243,11 @@ module _ {A : Type 0} (level : ℕ) where
       (Spells rest (At (suc level) modes.After (Whole ∷ [])))
       (Spells rest (At (suc level) modes.Value (Whole ∷ [])))
   text_spells rest =
-      then_front latter
+      both_front latter
       (gap_spells (suc level) rest modes.Value (Whole ∷ [])
       (value_gap (suc level) rest (Whole ∷ [])))
       (widened (λ cs x. x) (λ cs x scalars. here _ (x scalars))
-      (then_front former
+      (both_front former
       (value_spells (suc level) rest HasCharacters level (omega arith)
       (inner (suc level) rest Whole []))
       (gap_spells (suc level) rest modes.After (Whole ∷ []) (after_gap (suc level) rest [] Whole))))

@@ -8,8 +8,8 @@ use Rattle.std.proofs.lemmas.List.Elements.{All-tail}
 use Rattle.std.proofs.lemmas.Str.{encode_ascii}
 use Rattle.format_json_pieces.specs.General.{spelled_front}
 use Rattle.format_json_texts.specs.Words.{In, One, Run}
-use Rattle.winnow.specs.Texts.{InFront, Joined, Perhaps, Text}
-use Rattle.winnow.specs.Texts.Fronts.{row_front, then_front}
+use Rattle.winnow.specs.Texts.{InFront, PartedText, OptionalText, Text}
+use Rattle.winnow.specs.Texts.Fronts.{each_front, both_front}
 
 pub both_true : (a b : Bool) → (a && b) ≡ true → (a ≡ true) × (b ≡ true)
 both_true true b h = (refl, h)
@@ -92,11 +92,11 @@ module _ (rest : List ℕ) where
 -- what may stand behind a text that may be left out may stand where it stands
 pub left_out : {O : Type 0} {text : Text ℕ O} {behind whole : List ℕ → Type 0}
     → ((l : List ℕ) → behind l → whole l) → InFront text behind whole
-    → InFront (Perhaps text) behind whole
-unfolding Perhaps
+    → InFront (OptionalText text) behind whole
+unfolding OptionalText
 left_out {O} {text} {behind} {whole} more front = record { makes = makes }
   where
-    makes : (o : Option O) (xs rest : List ℕ) → Perhaps text o xs → behind rest
+    makes : (o : Option O) (xs rest : List ℕ) → OptionalText text o xs → behind rest
         → whole (xs ++ rest)
     makes None xs rest e b =
         let P : List ℕ → Type 0 = λ l. whole (l ++ rest) in subst P (sym e) (more rest b)
@@ -107,12 +107,12 @@ pub items_front : {O D : Type 0} {separator : Text ℕ D} {text : Text ℕ O}
     {item after last whole : List ℕ → Type 0} → InFront separator item after
     → InFront text after item → ((l : List ℕ) → last l → after l)
     → ((l : List ℕ) → last l → whole l)
-    → ((l : List ℕ) → item l → whole l) → InFront (Joined separator text) last whole
-unfolding Joined
+    → ((l : List ℕ) → item l → whole l) → InFront (PartedText separator text) last whole
+unfolding PartedText
 items_front {O} {D} {separator} {text} {item} {after} {last} {whole} between front ends none some =
     record { makes = makes }
   where
-    makes : (os : List O) (tokens rest : List ℕ) → Joined separator text os tokens → last rest
+    makes : (os : List O) (tokens rest : List ℕ) → PartedText separator text os tokens → last rest
         → whole (tokens ++ rest)
     makes [] tokens rest e b =
         let P : List ℕ → Type 0 = λ l. whole (l ++ rest) in subst P (sym e) (none rest b)
@@ -121,4 +121,4 @@ items_front {O} {D} {separator} {text} {item} {after} {last} {whole} between fro
         some (tokens ++ rest) (subst P (sym (append_assoc xs ys rest)
         ∙ ap (λ l. l ++ rest) (sym e))
         (front.makes o xs (ys ++ rest) x
-        ((row_front (then_front (λ d o. o) between front)).makes os ys rest more (ends rest b))))
+        ((each_front (both_front (λ d o. o) between front)).makes os ys rest more (ends rest b))))

@@ -8,7 +8,7 @@ use Rattle.std.proofs.lemmas.Bool.Decides.{nat_tests}
 use Rattle.winnow.specs.AsChar.{IsMultispace}
 use Rattle.winnow.specs.Equal.{true_is_false}
 use Rattle.winnow.specs.Texts.{Begins, InFront, NotFirst}
-use Rattle.winnow.specs.Texts.Fronts.{among_front}
+use Rattle.winnow.specs.Texts.Fronts.{either_front}
 use Rattle.format_json_texts.specs.Number.{GoesOn, IsLeading, NumberText, number_begins}
 use Rattle.format_json_texts.specs.Values.{GapText}
 use Rattle.format_json_texts.specs.Values.{WordText}
@@ -169,8 +169,8 @@ module _ (level : ℕ) where
 
       pub words : InFront WordText (Spells rest (Behind held)) (Spells rest (Started held))
       words =
-          among_front (spelled_front (110 ∷ 117 ∷ 108 ∷ 108 ∷ []) None null)
-          (among_front (spelled_front (116 ∷ 114 ∷ 117 ∷ 101 ∷ []) (Some true) rue)
+          either_front (spelled_front (110 ∷ 117 ∷ 108 ∷ 108 ∷ []) None null)
+          (either_front (spelled_front (116 ∷ 114 ∷ 117 ∷ 101 ∷ []) (Some true) rue)
           (spelled_front (102 ∷ 97 ∷ 108 ∷ 115 ∷ 101 ∷ []) (Some false) alse))
 
       -- a number in brackets, or in none with bytes behind it with which it does not go on

@@ -6,8 +6,8 @@ use Rattle.std.specs.Str.{all_scalars, encode_utf8_all}
 use Rattle.std.proofs.Common.{refl, sym, ap, subst, inl, inr, ◌∙◌, arith, append_assoc}
 use Rattle.std.proofs.lemmas.Bool.{cases_lt}
 use Rattle.std.proofs.lemmas.Bool.Decides.{nat_tests}
-use Rattle.winnow.specs.Texts.{InFront, Of, Then}
-use Rattle.winnow.specs.Texts.Fronts.{among_front, holding_front, row_front, then_front}
+use Rattle.winnow.specs.Texts.{InFront, MadeText, BothText}
+use Rattle.winnow.specs.Texts.Fronts.{either_front, gathered_front, each_front, both_front}
 use Rattle.winnow.specs.Utf8.{four_bytes, three_bytes, two_bytes}
 use Rattle.format_json_texts.specs.Strings.{ArePair, CharacterText, EscapeText, IsAlone, IsHex}
 use Rattle.format_json_texts.specs.Strings.{IsUnescaped, StandsFor, StringText, UnitText}
@@ -48,7 +48,7 @@ one_two : {xs ys zs : List ℕ} {c : ℕ} {cs : List ℕ} → xs ≡ ys ++ zs �
 one_two {zs = zs} {c} e f g = e ∙ ap (λ l. l ++ zs) f ∙ ap (λ l. c ∷ l) g
 
 digits_of : (u : ℕ) (xs : List ℕ) → UnitText u xs → Digits u xs
-unfolding Of Then Whichever
+unfolding MadeText BothText Whichever
 digits_of u xs (
   ds,
   (
@@ -223,21 +223,21 @@ module _ (rest : List ℕ) {inside : Part → List ℕ → Type 0} {behind : Lis
       (hex_two ds.c3 ds.d3 ds.third) (hex_one ds.c4 ds.d4 ds.fourth) x
 
   alone_front : InFront (For IsAlone UnitText) (At parts.Plain) (At parts.Unit)
-  unfolding Of
+  unfolding MadeText
   alone_front = record {
     makes = λ c xs cs (u, x, is) b. alone_on u c xs cs (digits_of u xs x) is b;
   }
 
-  marks_front : InFront (Then pair (One 92) (One 117)) (At parts.LowD) (At parts.Backslash)
+  marks_front : InFront (BothText pair (One 92) (One 117)) (At parts.LowD) (At parts.Backslash)
   marks_front =
-      then_front pair (one_spells rest (inside parts.LetterU) (inside parts.Backslash) 92
+      both_front pair (one_spells rest (inside parts.LetterU) (inside parts.Backslash) 92
       (omega arith) (λ l. g.goes parts.Backslash parts.LetterU 92 l refl))
       (one_spells rest (inside parts.LowD) (inside parts.LetterU) 117 (omega arith)
       (λ l. g.goes parts.LetterU parts.LowD 117 l refl))
 
-  pair_front : InFront (For ArePair (Then pair UnitText (Then latter
-      (Then pair (One 92) (One 117)) UnitText))) (At parts.Plain) (At parts.Unit)
-  unfolding Of Then
+  pair_front : InFront (For ArePair (BothText pair UnitText (BothText latter
+      (BothText pair (One 92) (One 117)) UnitText))) (At parts.Plain) (At parts.Unit)
+  unfolding MadeText BothText
   pair_front = record {
     makes = λ c xs cs (p, (u, w, ys, zs, x, (m, v, hs, bs, y, z, f, out), e, outs), are) b.
         let P : List ℕ → Type 0 = λ l. At parts.Unit l in
@@ -264,7 +264,7 @@ module _ (rest : List ℕ) {inside : Part → List ℕ → Type 0} {behind : Lis
   short c k is = (grind (arith, is), grind (arith, nat_tests, is))
 
   any_front : InFront (For StandsFor Whichever) (At parts.Plain) (At parts.Escape)
-  unfolding Of Whichever
+  unfolding MadeText Whichever
   any_front = record {
     makes = λ k xs cs (c, e, is) b.
         let P : List ℕ → Type 0 = λ l. At parts.Escape (l ++ cs) in
@@ -273,11 +273,11 @@ module _ (rest : List ℕ) {inside : Part → List ℕ → Type 0} {behind : Lis
 
   escape_front : InFront EscapeText (At parts.Plain) (At parts.Plain)
   escape_front =
-      then_front latter (one_spells rest (inside parts.Escape) (inside parts.Plain) 92
+      both_front latter (one_spells rest (inside parts.Escape) (inside parts.Plain) 92
       (omega arith) (λ l. g.goes parts.Plain parts.Escape 92 l refl))
-      (among_front any_front (then_front latter
+      (either_front any_front (both_front latter
       (one_spells rest (inside parts.Unit) (inside parts.Escape) 117 (omega arith)
-      (λ l. g.goes parts.Escape parts.Unit 117 l refl)) (among_front alone_front pair_front)))
+      (λ l. g.goes parts.Escape parts.Unit 117 l refl)) (either_front alone_front pair_front)))
 
   -- the bytes of a character above ASCII
   two_on : (c : ℕ) (l : List ℕ) → 128 ≤ c → c < 2048 → inside parts.Plain l
@@ -364,7 +364,7 @@ module _ (rest : List ℕ) {inside : Part → List ℕ → Type 0} {behind : Lis
   character_front : InFront CharacterText (At parts.Plain) (At parts.Plain)
   unfolding In
   character_front =
-      among_front (record {
+      either_front (record {
         makes = λ c xs cs (is, e) x.
             let P : List ℕ → Type 0 = λ l. At parts.Plain (l ++ cs) in
             subst P (sym e) (plain_on c cs is x);
@@ -374,6 +374,6 @@ module _ (rest : List ℕ) {inside : Part → List ℕ → Type 0} {behind : Lis
       → ((l : List ℕ) → inside parts.Plain l → whole (34 ∷ l))
       → InFront (StringText holds) (Spells rest behind) (Spells rest whole)
   string_spells holds whole opens =
-      then_front latter (one_spells rest (inside parts.Plain) whole 34 (omega arith) opens)
-      (then_front former (holding_front holds (row_front character_front))
+      both_front latter (one_spells rest (inside parts.Plain) whole 34 (omega arith) opens)
+      (both_front former (gathered_front holds (each_front character_front))
       (one_spells rest behind (inside parts.Plain) 34 (omega arith) g.ends))

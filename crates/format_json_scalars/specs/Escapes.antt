@@ -10,7 +10,7 @@ use Rattle.format_json_texts.specs.Strings.{Unicode}
 use Rattle.format_json_texts.specs.Strings.{one_unit}
 use Rattle.format_json_texts.specs.Words.{Char, latter, pair}
 use Rattle.winnow.specs.Any.Laws.{token_takes}
-use Rattle.winnow.specs.Grammar.{Both, Gathered, Grammar, InClass, IsUnique, Many, Takes}
+use Rattle.winnow.specs.Grammar.{Both, Gathered, Grammar, InClass, IsUnique, Many, TakesTokens}
 use Rattle.winnow.specs.Grammar.{Token}
 use Rattle.winnow.specs.Grammar.Meaning.{Meaning, meaning_takes, meaning_unique}
 use Rattle.winnow.specs.Grammar.Outputs.{IsAlike, both_alike, second_alike, token_alike}
@@ -25,14 +25,14 @@ use Rattle.winnow.specs.Accumulator.Holds.{HasCharacters}
 pub digit_unique : IsUnique Digit
 digit_unique = meaning_unique IsHex (token_unique (λ c. c))
 
-pub digit_takes : Takes Digit
+pub digit_takes : TakesTokens Digit
 digit_takes = meaning_takes IsHex (token_takes (λ c. c))
 
 pub unit_unique : IsUnique CodeUnit
 unit_unique =
     meaning_unique IsNumberOf (four_unique digit_unique digit_unique digit_unique digit_unique)
 
-pub unit_takes : Takes CodeUnit
+pub unit_takes : TakesTokens CodeUnit
 unit_takes =
     meaning_takes IsNumberOf (four_take digit_unique digit_unique digit_unique digit_unique
     (inl digit_takes))
@@ -48,7 +48,7 @@ second_unique =
 pub units_unique : IsUnique Units
 units_unique = both_unique pair unit_unique second_unique
 
-pub units_takes : Takes Units
+pub units_takes : TakesTokens Units
 units_takes = both_take pair unit_unique second_unique (inl unit_takes)
 
 -- an output that is one is alike
@@ -71,25 +71,25 @@ units_one =
 pub alone_unique : IsUnique (Meaning IsAlone CodeUnit)
 alone_unique = meaning_unique IsAlone unit_unique
 
-pub alone_takes : Takes (Meaning IsAlone CodeUnit)
+pub alone_takes : TakesTokens (Meaning IsAlone CodeUnit)
 alone_takes = meaning_takes IsAlone unit_takes
 
 pub pair_unique : IsUnique (Meaning ArePair Units)
 pair_unique = meaning_unique ArePair units_unique
 
-pub pair_takes : Takes (Meaning ArePair Units)
+pub pair_takes : TakesTokens (Meaning ArePair Units)
 pair_takes = meaning_takes ArePair units_takes
 
 pub unicode_unique : IsUnique Unicode
 unicode_unique = either_unique alone_unique pair_unique
 
-pub unicode_takes : Takes Unicode
+pub unicode_takes : TakesTokens Unicode
 unicode_takes = either_takes alone_takes pair_takes
 
 pub short_unique : IsUnique (Meaning StandsFor (Token (λ c. c)))
 short_unique = meaning_unique StandsFor (token_unique (λ c. c))
 
-pub short_takes : Takes (Meaning StandsFor (Token (λ c. c)))
+pub short_takes : TakesTokens (Meaning StandsFor (Token (λ c. c)))
 short_takes = meaning_takes StandsFor (token_takes (λ c. c))
 
 escaped_unique : IsUnique (Both latter (Char 117) Unicode)
@@ -99,7 +99,7 @@ pub escape_unique : IsUnique Escape
 escape_unique =
     both_unique latter (char_unique 92) (either_unique short_unique escaped_unique)
 
-pub escape_takes : Takes Escape
+pub escape_takes : TakesTokens Escape
 escape_takes =
     both_take latter (char_unique 92) (either_unique short_unique escaped_unique)
     (inl (char_takes 92))
@@ -120,7 +120,7 @@ module _ {A : Type 0} where
   quoted_unique =
       three_unique (λ o1 o2 o3. o2) (char_unique 34) characters_unique (char_unique 34)
 
-  pub quoted_takes : Takes (Quoted {A = A} HasCharacters)
+  pub quoted_takes : TakesTokens (Quoted {A = A} HasCharacters)
   quoted_takes =
       three_take (λ o1 o2 o3. o2) (char_unique 34) characters_unique (char_unique 34)
       (inl (char_takes 34))

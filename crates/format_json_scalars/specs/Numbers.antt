@@ -11,15 +11,15 @@ use Rattle.format_json_texts.specs.Number.{IsLeading}
 use Rattle.format_json_texts.specs.Words.{Char, RunOf, latter, pair}
 use Rattle.winnow.specs.Exact.Adapters.{taken_takes}
 use Rattle.winnow.specs.OneOf.Laws.{token_of_takes}
-use Rattle.winnow.specs.Grammar.{Both, Class, Either, Grammar, InClass, IsUnique, Maybe}
-use Rattle.winnow.specs.Grammar.{Taken, Takes, TokenOf}
+use Rattle.winnow.specs.Grammar.{Both, Class, Either, Grammar, InClass, IsUnique, Optional}
+use Rattle.winnow.specs.Grammar.{Taken, TakesTokens, TokenOf}
 use Rattle.winnow.specs.Grammar.Alike.{both_same, either_same}
 use Rattle.winnow.specs.Grammar.Same.{Same, same_refl}
 use Rattle.winnow.specs.Grammar.Tuples.{Four}
 use Rattle.winnow.specs.Reading.{Reading}
 use Rattle.winnow.specs.Grammar.Sequences.{four_take, four_unique}
 use Rattle.winnow.specs.Grammar.Unique.{both_take, both_unique, either_takes, either_unique}
-use Rattle.winnow.specs.Grammar.Unique.{maybe_unique, taken_unique, token_of_unique}
+use Rattle.winnow.specs.Grammar.Unique.{optional_unique, taken_unique, token_of_unique}
 
 pub integer_unique : IsUnique texts.Integer
 integer_unique =
@@ -34,24 +34,24 @@ pub exponent_unique : IsUnique texts.Exponent
 exponent_unique =
     both_unique latter
     (both_unique pair (either_unique (char_unique 101) (char_unique 69))
-    (maybe_unique (either_unique (char_unique 43) (char_unique 45)))) (run_unique IsDecDigit 1)
+    (optional_unique (either_unique (char_unique 43) (char_unique 45)))) (run_unique IsDecDigit 1)
 
 pub number_unique : IsUnique texts.Number
 number_unique =
-    taken_unique text_reading (four_unique (maybe_unique (char_unique 45)) integer_unique
-    (maybe_unique fraction_unique) (maybe_unique exponent_unique))
+    taken_unique text_reading (four_unique (optional_unique (char_unique 45)) integer_unique
+    (optional_unique fraction_unique) (optional_unique exponent_unique))
 
-pub integer_takes : Takes texts.Integer
+pub integer_takes : TakesTokens texts.Integer
 integer_takes =
     either_takes (taken_takes text_reading (char_takes 48))
     (taken_takes text_reading (both_take pair
     (token_of_unique (λ c. c) (InClass IsLeading (λ c. c)) tt) (run_unique IsDecDigit 0)
     (inl (token_of_takes (λ c. c) (InClass IsLeading (λ c. c)) tt))))
 
-pub number_takes : Takes texts.Number
+pub number_takes : TakesTokens texts.Number
 number_takes =
-    taken_takes text_reading (four_take (maybe_unique (char_unique 45)) integer_unique
-    (maybe_unique fraction_unique) (maybe_unique exponent_unique) (inr (inl integer_takes)))
+    taken_takes text_reading (four_take (optional_unique (char_unique 45)) integer_unique
+    (optional_unique fraction_unique) (optional_unique exponent_unique) (inr (inl integer_takes)))
 
 -- ---- over any stream of characters
 
@@ -72,12 +72,12 @@ module _ {K T L : Type 0} (reading : Reading T L) (seen : K → T) (code : K →
 
   abbrev ExponentOf : Grammar T L
   ExponentOf = Both latter (Both pair (Either (literal 101) (literal 69))
-      (Maybe (Either (literal 43) (literal 45)))) (DigitsOf 1)
+      (Optional (Either (literal 43) (literal 45)))) (DigitsOf 1)
 
   -- a minus if it stands there, digits, and a fraction and an exponent if they do
   abbrev pub NumberOf : Grammar T L
   NumberOf = Taken reading
-      (Four (Maybe (literal 45)) IntegerOf (Maybe FractionOf) (Maybe ExponentOf))
+      (Four (Optional (literal 45)) IntegerOf (Optional FractionOf) (Optional ExponentOf))
 
 -- over a text it is a number
 pub number_same : Same (NumberOf text_reading (λ c. c) (λ c. c) Char) texts.Number

@@ -5,7 +5,7 @@ use Rattle.winnow.specs.Equal.{same_rest}
 use Rattle.winnow.specs.Text.{text_reading}
 use Rattle.format_json_texts.specs.Words.{Char, RunOf, Word}
 use Rattle.winnow.specs.Class.Laws.{class_unique}
-use Rattle.winnow.specs.Grammar.{IsUnique, Takes}
+use Rattle.winnow.specs.Grammar.{IsUnique, TakesTokens}
 use Rattle.winnow.specs.Grammar.Unique.{literally_takes, literally_unique}
 
 -- ---- characters
@@ -15,7 +15,7 @@ char_unique c =
     literally_unique text_reading (λ c xs. xs ≡ c ∷ []) (λ c _. c) c
     (λ xs ys e f. ap (λ l. text_reading.units l) (e ∙ sym f))
 
-pub char_takes : (c : ℕ) → Takes (Char c)
+pub char_takes : (c : ℕ) → TakesTokens (Char c)
 char_takes c =
     literally_takes text_reading (λ c xs. xs ≡ c ∷ []) (λ c _. c) c
     (λ e. omega (arith, ap (λ l. length l) e))
@@ -30,7 +30,8 @@ word_unique word output = record {
   one = λ tokens o p rest other (is, e) (too, f). same_rest word rest other (sym e ∙ f);
 }
 
-pub word_takes : {O : Type 0} (c : ℕ) (more : List ℕ) (output : O) → Takes (Word (c ∷ more) output)
+pub word_takes : {O : Type 0} (c : ℕ) (more : List ℕ) (output : O)
+    → TakesTokens (Word (c ∷ more) output)
 unfolding Word
 word_takes c more output = record {
   fewer = λ tokens o rest (is, e).

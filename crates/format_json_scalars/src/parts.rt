@@ -3,7 +3,7 @@
 ghost use Rattle.format_json_texts.specs.Words.{latter, pair};
 ghost use Rattle.std.specs.Prelude.{◌≡◌};
 ghost use Rattle.winnow.specs.Exact.{Reads};
-ghost use Rattle.winnow.specs.Grammar.{Both, Either, Maybe, Taken};
+ghost use Rattle.winnow.specs.Grammar.{Both, Either, Optional, Taken};
 ghost use Rattle.winnow.specs.Grammar.Tuples.{Four};
 
 use winnow::Parser;

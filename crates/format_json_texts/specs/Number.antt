@@ -4,17 +4,17 @@ use Rattle.std.specs.Borrow.{Bor}
 use Rattle.std.proofs.Common.{sym, subst, inl, inr, ◌∙◌, arith}
 use Rattle.winnow.specs.Text.{text_reading}
 use Rattle.winnow.specs.AsChar.{IsDecDigit}
-use Rattle.winnow.specs.Grammar.{Both, Either, Grammar, Maybe, Taken}
+use Rattle.winnow.specs.Grammar.{Both, Either, Grammar, Optional, Taken}
 use Rattle.winnow.specs.Grammar.Tuples.{Four}
-use Rattle.winnow.specs.Texts.{Among, Anything, Begins, BeginsIn, InFront, IsGrammarOf}
-use Rattle.winnow.specs.Texts.{NotFirst, Perhaps}
-use Rattle.winnow.specs.Texts.{Shown, Text, Then}
-use Rattle.winnow.specs.Texts.Fronts.{among_front, begins_more, begins_wider, front_any}
+use Rattle.winnow.specs.Texts.{EitherText, Anything, Begins, BeginsIn, InFront, IsGrammarOf}
+use Rattle.winnow.specs.Texts.{NotFirst, OptionalText}
+use Rattle.winnow.specs.Texts.{TakenText, Text, BothText}
+use Rattle.winnow.specs.Texts.Fronts.{either_front, begins_more, begins_wider, front_any}
 use Rattle.winnow.specs.Texts.Fronts.{front_begins}
 use Rattle.winnow.specs.Texts.Fronts.{front_behind, front_whole, none_begins, not_first}
-use Rattle.winnow.specs.Texts.Fronts.{perhaps_front, shown_front}
-use Rattle.winnow.specs.Texts.Fronts.{spelled_begins, then_front}
-use Rattle.winnow.specs.Texts.Parts.{behind_less, both_of, either_apart, maybe_of, same_of}
+use Rattle.winnow.specs.Texts.Fronts.{optional_front, taken_front}
+use Rattle.winnow.specs.Texts.Fronts.{spelled_begins, both_front}
+use Rattle.winnow.specs.Texts.Parts.{behind_less, both_of, either_apart, optional_of, same_of}
 use Rattle.winnow.specs.Texts.Parts.{taken_of}
 use Rattle.format_json_texts.specs.Words.{Char, FourTexts, In, One, OneIn, Run, RunOf}
 use Rattle.format_json_texts.specs.Words.{char_of, four_same, in_begins, in_of, latter, pair}
@@ -37,24 +37,26 @@ IsE c = (c ≡ 101) ⊎ (c ≡ 69)
 -- int = zero / ( digit1-9 *DIGIT )
 abbrev pub IntegerText : Text ℕ Slice
 IntegerText =
-    Among (Shown text_reading (One 48))
-    (Shown text_reading (Then pair (In IsLeading) (Run IsDecDigit 0)))
+    EitherText (TakenText text_reading (One 48))
+    (TakenText text_reading (BothText pair (In IsLeading) (Run IsDecDigit 0)))
 
 -- frac = decimal-point 1*DIGIT
 abbrev pub FractionText : Text ℕ Slice
-FractionText = Then latter (One 46) (Run IsDecDigit 1)
+FractionText = BothText latter (One 46) (Run IsDecDigit 1)
 
 -- exp = e [ minus / plus ] 1*DIGIT
 abbrev pub ExponentText : Text ℕ Slice
 ExponentText =
-    Then latter (Then pair (Among (One 101) (One 69)) (Perhaps (Among (One 43) (One 45))))
+    BothText latter (BothText pair (EitherText (One 101) (One 69))
+            (OptionalText (EitherText (One 43) (One 45))))
     (Run IsDecDigit 1)
 
 -- number = [ minus ] int [ frac ] [ exp ]
 abbrev pub NumberText : Text ℕ Slice
 NumberText =
-    Shown text_reading
-    (FourTexts (Perhaps (One 45)) IntegerText (Perhaps FractionText) (Perhaps ExponentText))
+    TakenText text_reading
+    (FourTexts (OptionalText (One 45)) IntegerText (OptionalText FractionText)
+            (OptionalText ExponentText))
 
 -- ---- what is read
 
@@ -71,13 +73,13 @@ Fraction = Both latter (Char 46) (RunOf IsDecDigit 1)
 -- an E, a sign if one stands there, and as many digits as stand, one at least
 abbrev pub Exponent : Grammar ℕ Slice
 Exponent =
-    Both latter (Both pair (Either (Char 101) (Char 69)) (Maybe (Either (Char 43) (Char 45))))
+    Both latter (Both pair (Either (Char 101) (Char 69)) (Optional (Either (Char 43) (Char 45))))
     (RunOf IsDecDigit 1)
 
 -- a minus if it stands there, digits, and a fraction and an exponent if they do
 abbrev pub Number : Grammar ℕ Slice
 Number =
-    Taken text_reading (Four (Maybe (Char 45)) Integer (Maybe Fraction) (Maybe Exponent))
+    Taken text_reading (Four (Optional (Char 45)) Integer (Optional Fraction) (Optional Exponent))
 
 -- ---- the one reads the other
 
@@ -89,15 +91,16 @@ integer_of : IsGrammarOf Integer IntegerText (NotFirst IsDecDigit)
 integer_of =
     either_apart (taken_of text_reading (behind_less (λ rest b. tt) (char_of 48)))
     (taken_of text_reading (both_of pair (in_of IsLeading) (run_of IsDecDigit 0)
-    front_any)) (shown_front text_reading (spelled_begins 48 [] 48))
-    (shown_front text_reading (then_front pair
+    front_any)) (taken_front text_reading (spelled_begins 48 [] 48))
+    (taken_front text_reading (both_front pair
     (front_begins (λ c is zero. absurd (omega (arith, is, zero))) (in_begins IsLeading)) front_any))
 
 integer_begins : BeginsIn IsDecDigit IntegerText
 integer_begins =
-    among_front (shown_front text_reading (front_whole (begins_more _ _ (λ c is. omega (arith, is)))
+    either_front (taken_front text_reading
+            (front_whole (begins_more _ _ (λ c is. omega (arith, is)))
     (spelled_begins 48 [] 48)))
-    (shown_front text_reading (then_front pair
+    (taken_front text_reading (both_front pair
     (front_whole (begins_more _ _ (λ c is. omega (arith, is))) (in_begins IsLeading))
     front_any))
 
@@ -105,29 +108,29 @@ fraction_of : IsGrammarOf Fraction FractionText (NotFirst IsDecDigit)
 fraction_of = both_of latter (char_of 46) (run_of IsDecDigit 1) front_any
 
 fraction_begins : BeginsIn (λ c. c ≡ 46) FractionText
-fraction_begins = then_front latter (spelled_begins 46 [] 46) front_any
+fraction_begins = both_front latter (spelled_begins 46 [] 46) front_any
 
 -- one of two characters
 one_or_other : (c d : ℕ) → (c ≡ d → ⊥)
-    → IsGrammarOf (Either (Char c) (Char d)) (Among (One c) (One d)) Anything
+    → IsGrammarOf (Either (Char c) (Char d)) (EitherText (One c) (One d)) Anything
 one_or_other c d apart =
     either_apart (char_of c) (char_of d) (spelled_begins c [] c)
     (front_begins (λ x e f. apart (sym f ∙ e)) (spelled_begins d [] d))
 
-one_or_other_begins : (c d : ℕ) → BeginsIn (λ x. (x ≡ c) ⊎ (x ≡ d)) (Among (One c) (One d))
+one_or_other_begins : (c d : ℕ) → BeginsIn (λ x. (x ≡ c) ⊎ (x ≡ d)) (EitherText (One c) (One d))
 one_or_other_begins c d =
-    among_front (begins_wider (λ x e. inl e) (spelled_begins c [] c))
+    either_front (begins_wider (λ x e. inl e) (spelled_begins c [] c))
     (begins_wider (λ x e. inr e) (spelled_begins d [] d))
 
 exponent_of : IsGrammarOf Exponent ExponentText (NotFirst IsDecDigit)
 exponent_of =
     both_of latter
     (both_of pair (one_or_other 101 69 (λ e. absurd (omega (arith, e))))
-    (maybe_of (behind_less (λ rest b. tt) sign)
+    (optional_of (behind_less (λ rest b. tt) sign)
     (none_begins sign (one_or_other_begins 43 45))) front_any) (run_of IsDecDigit 1)
     (front_begins no_sign (run_begins IsDecDigit))
   where
-    sign : IsGrammarOf (Either (Char 43) (Char 45)) (Among (One 43) (One 45)) Anything
+    sign : IsGrammarOf (Either (Char 43) (Char 45)) (EitherText (One 43) (One 45)) Anything
     sign = one_or_other 43 45 (λ e. absurd (omega (arith, e)))
 
     no_sign : (c : ℕ) → IsDecDigit c → (c ≡ 43) ⊎ (c ≡ 45) → ⊥
@@ -135,13 +138,13 @@ exponent_of =
     no_sign c is (inr e) = absurd (omega (arith, is, e))
 
 exponent_begins : BeginsIn IsE ExponentText
-exponent_begins = then_front latter (then_front pair (one_or_other_begins 101 69) front_any)
+exponent_begins = both_front latter (both_front pair (one_or_other_begins 101 69) front_any)
     front_any
 
 pub number_of : IsGrammarOf Number NumberText (NotFirst GoesOn)
 number_of =
     taken_of text_reading
-    (same_of (four_same (Maybe (Char 45)) Integer (Maybe Fraction) (Maybe Exponent))
+    (same_of (four_same (Optional (Char 45)) Integer (Optional Fraction) (Optional Exponent))
     (both_of to_four minus
     (both_of pair integer_of
     (both_of pair fraction exponent before_exponent) behind_integer) behind_minus))
@@ -149,17 +152,17 @@ number_of =
     IsPoint : ℕ → Type 0
     IsPoint c = IsDecDigit c ⊎ (c ≡ 46)
 
-    minus : IsGrammarOf (Maybe (Char 45)) (Perhaps (One 45)) (NotFirst (λ c. c ≡ 45))
-    minus = maybe_of (behind_less (λ rest b. tt) (char_of 45))
+    minus : IsGrammarOf (Optional (Char 45)) (OptionalText (One 45)) (NotFirst (λ c. c ≡ 45))
+    minus = optional_of (behind_less (λ rest b. tt) (char_of 45))
         (none_begins (char_of 45) (spelled_begins 45 [] 45))
 
-    fraction : IsGrammarOf (Maybe Fraction) (Perhaps FractionText) (NotFirst IsPoint)
-    fraction = maybe_of (behind_less (not_first _ _ (λ c is. inl is)) fraction_of)
+    fraction : IsGrammarOf (Optional Fraction) (OptionalText FractionText) (NotFirst IsPoint)
+    fraction = optional_of (behind_less (not_first _ _ (λ c is. inl is)) fraction_of)
         (λ rest not. none_begins fraction_of fraction_begins rest
         (not_first _ _ (λ c is. inr is) rest not))
 
-    exponent : IsGrammarOf (Maybe Exponent) (Perhaps ExponentText) (NotFirst GoesOn)
-    exponent = maybe_of (behind_less (not_first _ _ (λ c is. inl is)) exponent_of)
+    exponent : IsGrammarOf (Optional Exponent) (OptionalText ExponentText) (NotFirst GoesOn)
+    exponent = optional_of (behind_less (not_first _ _ (λ c is. inl is)) exponent_of)
         (λ rest not. none_begins exponent_of exponent_begins rest
         (not_first _ _ (λ c is. inr (inr is)) rest not))
 
@@ -173,30 +176,30 @@ number_of =
     less c (inl d) = inl d
     less c (inr d) = inr (inl d)
 
-    before_exponent : InFront (Perhaps ExponentText) (NotFirst GoesOn) (NotFirst IsPoint)
+    before_exponent : InFront (OptionalText ExponentText) (NotFirst GoesOn) (NotFirst IsPoint)
     before_exponent = front_behind (not_first IsPoint GoesOn less)
-        (perhaps_front (front_begins no_point exponent_begins))
+        (optional_front (front_begins no_point exponent_begins))
 
-    behind_integer : InFront (Then pair (Perhaps FractionText) (Perhaps ExponentText))
+    behind_integer : InFront (BothText pair (OptionalText FractionText) (OptionalText ExponentText))
         (NotFirst GoesOn) (NotFirst IsDecDigit)
-    behind_integer = then_front pair
-        (perhaps_front (front_begins (λ c is d. absurd (omega (arith, is, d))) fraction_begins))
+    behind_integer = both_front pair
+        (optional_front (front_begins (λ c is d. absurd (omega (arith, is, d))) fraction_begins))
         (front_whole (not_first _ _ (λ c is. inl is)) before_exponent)
 
-    behind_minus : InFront (Then pair IntegerText
-        (Then pair (Perhaps FractionText) (Perhaps ExponentText)))
+    behind_minus : InFront (BothText pair IntegerText
+        (BothText pair (OptionalText FractionText) (OptionalText ExponentText)))
         (NotFirst GoesOn) (NotFirst (λ c. c ≡ 45))
-    behind_minus = then_front pair
+    behind_minus = both_front pair
         (front_begins (λ c is e. absurd (omega (arith, is, e))) integer_begins) front_any
 
 -- what begins in a set, where a text may be left out, begins in a larger one
 pub number_begins : BeginsIn (λ c. (c ≡ 45) ⊎ IsDecDigit c) NumberText
-unfolding Perhaps
+unfolding OptionalText
 number_begins =
-    shown_front text_reading (then_front to_four (record { makes = minus })
-    (then_front pair integer_begins front_any))
+    taken_front text_reading (both_front to_four (record { makes = minus })
+    (both_front pair integer_begins front_any))
   where
-    minus : (o : Option ℕ) (xs rest : List ℕ) → Perhaps (One 45) o xs → Begins IsDecDigit rest
+    minus : (o : Option ℕ) (xs rest : List ℕ) → OptionalText (One 45) o xs → Begins IsDecDigit rest
         → Begins (λ c. (c ≡ 45) ⊎ IsDecDigit c) (xs ++ rest)
     minus None xs rest e b =
         let P : List ℕ → Type 0 = λ l. Begins (λ c. (c ≡ 45) ⊎ IsDecDigit c) (l ++ rest) in

@@ -8,12 +8,12 @@ use Rattle.winnow.specs.Grammar.{Both, Either, Gathered, Grammar, Made, Many, No
 use Rattle.winnow.specs.Grammar.{Three, Token}
 use Rattle.winnow.specs.Grammar.Meaning.{Meaning}
 use Rattle.winnow.specs.Grammar.Tuples.{Four}
-use Rattle.winnow.specs.Texts.{Among, Anything, Begins, BeginsIn, Holding}
+use Rattle.winnow.specs.Texts.{EitherText, Anything, Begins, BeginsIn, GatheredText}
 use Rattle.winnow.specs.Texts.{IsGrammarOf}
-use Rattle.winnow.specs.Texts.{Of, Row, Text, Then}
-use Rattle.winnow.specs.Texts.Fronts.{among_front, begins_wider, front_any, front_begins}
+use Rattle.winnow.specs.Texts.{MadeText, EachText, Text, BothText}
+use Rattle.winnow.specs.Texts.Fronts.{either_front, begins_wider, front_any, front_begins}
 use Rattle.winnow.specs.Texts.Fronts.{front_whole}
-use Rattle.winnow.specs.Texts.Fronts.{may_begin, none_begins, spelled_begins, then_front}
+use Rattle.winnow.specs.Texts.Fronts.{may_begin, none_begins, spelled_begins, both_front}
 use Rattle.winnow.specs.Texts.Parts.{both_of, either_apart, either_of}
 use Rattle.winnow.specs.Texts.Parts.{same_of}
 use Rattle.winnow.specs.Texts.Rows.{gathered_of, many_of}
@@ -65,21 +65,23 @@ UnitText =
 -- a unit alone, or two of them, the second behind another backslash and u
 abbrev pub UnicodeText : Text ℕ ℕ
 UnicodeText =
-    Among (For IsAlone UnitText)
-    (For ArePair (Then pair UnitText (Then latter (Then pair (One 92) (One 117)) UnitText)))
+    EitherText (For IsAlone UnitText)
+    (For ArePair (BothText pair UnitText
+              (BothText latter (BothText pair (One 92) (One 117)) UnitText)))
 
 -- escape ( %x22 / %x5C / %x2F / %x62 / %x66 / %x6E / %x72 / %x74 / %x75 4HEXDIG )
 abbrev pub EscapeText : Text ℕ ℕ
 EscapeText =
-    Then latter (One 92) (Among (For StandsFor Whichever) (Then latter (One 117) UnicodeText))
+    BothText latter (One 92)
+          (EitherText (For StandsFor Whichever) (BothText latter (One 117) UnicodeText))
 
 -- char = unescaped / escape ( .. )
 abbrev pub CharacterText : Text ℕ ℕ
-CharacterText = Among (In IsUnescaped) EscapeText
+CharacterText = EitherText (In IsUnescaped) EscapeText
 
 -- string = quotation-mark *char quotation-mark
 abbrev pub StringText : {A : Type 0} → (String A → List ℕ → Type 0) → Text ℕ (String A)
-StringText holds = Between (One 34) (Holding holds (Row CharacterText)) (One 34)
+StringText holds = Between (One 34) (GatheredText holds (EachText CharacterText)) (One 34)
 
 -- ---- what is read
 
@@ -163,7 +165,7 @@ one_unit tokens u v rest other
     (omega (arith, first, second, d1, d2, d3, d4), r4)
 
 unicode_of : IsGrammarOf Unicode UnicodeText Anything
-unfolding Made Of Then
+unfolding Made MadeText BothText
 unicode_of =
     either_of (for_of IsAlone unit_of)
     (for_of ArePair
@@ -179,7 +181,9 @@ unicode_of =
         absurd (omega (arith, high, above, below, same))
 
     alone : (c : ℕ) (xs rest : List ℕ)
-        → For ArePair (Then pair UnitText (Then latter (Then pair (One 92) (One 117)) UnitText))
+        → For ArePair
+              (BothText pair UnitText
+                (BothText latter (BothText pair (One 92) (One 117)) UnitText))
         c xs
         → Anything rest → NoneStands (Meaning IsAlone CodeUnit) (xs ++ rest)
     alone c xs rest (p, (o1, o2, ys, zs, a, b, e, out), are) any d more (u, stands, is) =
@@ -200,7 +204,7 @@ not_u c k (inr (inr (inr (inr (inr (inr (inl x))))))) e = absurd (omega (arith, 
 not_u c k (inr (inr (inr (inr (inr (inr (inr x))))))) e = absurd (omega (arith, x, e))
 
 short_begins : BeginsIn (λ c. c ≡ 117 → ⊥) (For StandsFor Whichever)
-unfolding Of Whichever
+unfolding MadeText Whichever
 short_begins = record {
   makes = λ k xs rest (c, e, is) any.
       let P : List ℕ → Type 0 = λ l. Begins (λ x. x ≡ 117 → ⊥) (l ++ rest) in
@@ -222,19 +226,19 @@ escape_of =
     both_of latter (char_of 92)
     (either_apart (for_of StandsFor any_of)
     (both_of latter (char_of 117) unicode_of front_any) short_begins
-    (then_front latter (front_begins (λ c is not. not is) (spelled_begins 117 [] 117)) front_any))
+    (both_front latter (front_begins (λ c is not. not is) (spelled_begins 117 [] 117)) front_any))
     front_any
 
 character_of : IsGrammarOf Character CharacterText Anything
 character_of =
     either_apart (in_of IsUnescaped) escape_of (in_begins IsUnescaped)
-    (then_front latter (front_begins no_unescaped (spelled_begins 92 [] 92)) front_any)
+    (both_front latter (front_begins no_unescaped (spelled_begins 92 [] 92)) front_any)
 
 -- no character begins with a quote
 character_begins : BeginsIn (λ c. c ≡ 34 → ⊥) CharacterText
 character_begins =
-    among_front (begins_wider no_quote (in_begins IsUnescaped))
-    (then_front latter (begins_wider (λ c e q. absurd (omega (arith, e, q)))
+    either_front (begins_wider no_quote (in_begins IsUnescaped))
+    (both_front latter (begins_wider (λ c e q. absurd (omega (arith, e, q)))
     (spelled_begins 92 [] 92)) front_any)
 
 none_quoted : (tokens : List ℕ) → Begins (λ c. c ≡ 34) tokens → NoneStands Character tokens
@@ -252,4 +256,4 @@ string_of holds =
 
 pub string_begins : {A : Type 0} (holds : String A → List ℕ → Type 0)
     → BeginsIn (λ c. c ≡ 34) (StringText holds)
-string_begins holds = then_front latter (spelled_begins 34 [] 34) front_any
+string_begins holds = both_front latter (spelled_begins 34 [] 34) front_any

@@ -7,8 +7,8 @@ use Rattle.winnow.specs.AsChar.{IsMultispace}
 use Rattle.winnow.specs.Range.{from_to}
 use Rattle.winnow.specs.Grammar.{Both, Either, Gathered, Grammar, Parted, Three}
 use Rattle.winnow.specs.Grammar.Meaning.{Meaning}
-use Rattle.winnow.specs.Texts.{Among, InList}
-use Rattle.winnow.specs.Texts.{Joined, Spelled, Text, Then}
+use Rattle.winnow.specs.Texts.{EitherText, InList}
+use Rattle.winnow.specs.Texts.{PartedText, Spelled, Text, BothText}
 use Rattle.format_json_texts.specs.Number.{Number, NumberText, Slice}
 use Rattle.format_json_texts.specs.Strings.{Quoted, StringText}
 use Rattle.format_json_texts.specs.Words.{Between, Char, For, One, Run, RunOf, Word, former}
@@ -48,48 +48,49 @@ GapText = Run IsMultispace 0
 
 -- a text, and white space behind it
 abbrev pub Spaced : {O : Type 0} → Text ℕ O → Text ℕ O
-Spaced text = Then former text GapText
+Spaced text = BothText former text GapText
 
 -- a structural character, and white space behind it
 abbrev pub Mark : ℕ → Text ℕ (ℕ × Slice)
-Mark c = Then pair (One c) GapText
+Mark c = BothText pair (One c) GapText
 
 -- false / null / true
 abbrev pub WordText : Text ℕ (Option Bool)
 WordText =
-    Among (Spelled (110 ∷ 117 ∷ 108 ∷ 108 ∷ []) None)
-    (Among (Spelled (116 ∷ 114 ∷ 117 ∷ 101 ∷ []) (Some true))
+    EitherText (Spelled (110 ∷ 117 ∷ 108 ∷ 108 ∷ []) None)
+    (EitherText (Spelled (116 ∷ 114 ∷ 117 ∷ 101 ∷ []) (Some true))
     (Spelled (102 ∷ 97 ∷ 108 ∷ 115 ∷ 101 ∷ []) (Some false)))
 
 module _ {A : Type 0} (holds : String A → List ℕ → Type 0) where
   -- a value that has no others in it
   abbrev pub ScalarText : Text ℕ (Value A)
   ScalarText =
-      Among (For IsWord WordText)
-      (Among (For IsNumber (For HasText NumberText)) (For IsString (StringText holds)))
+      EitherText (For IsWord WordText)
+      (EitherText (For IsNumber (For HasText NumberText)) (For IsString (StringText holds)))
 
   -- array = begin-array [ value *( value-separator value ) ] end-array
   abbrev pub ArrayText : Text ℕ (Value A) → Text ℕ (Vec (Value A) A)
-  ArrayText value = Between (Mark 91) (InList (Joined (Mark 44) (Spaced value))) (One 93)
+  ArrayText value = Between (Mark 91) (InList (PartedText (Mark 44) (Spaced value))) (One 93)
 
   -- member = string name-separator value
   abbrev pub MemberText : Text ℕ (Value A) → Text ℕ (String A × Value A)
-  MemberText value = Then pair (Spaced (StringText holds)) (Then latter (Mark 58) (Spaced value))
+  MemberText value =
+      BothText pair (Spaced (StringText holds)) (BothText latter (Mark 58) (Spaced value))
 
   -- object = begin-object [ member *( value-separator member ) ] end-object
   abbrev pub ObjectText : Text ℕ (Value A) → Text ℕ (Vec (String A × Value A) A)
-  ObjectText value = Between (Mark 123) (InList (Joined (Mark 44) (MemberText value))) (One 125)
+  ObjectText value = Between (Mark 123) (InList (PartedText (Mark 44) (MemberText value))) (One 125)
 
   -- a value, of which no more than so many arrays and objects stand in one another
   unfoldable pub ValueText : ℕ → Text ℕ (Value A)
   ValueText zero = ScalarText
   ValueText (suc level) =
-      Among ScalarText (Among (For IsArray (ArrayText (ValueText level)))
+      EitherText ScalarText (EitherText (For IsArray (ArrayText (ValueText level)))
       (For IsObject (ObjectText (ValueText level))))
 
   -- JSON-text = ws value ws
   abbrev pub JsonText : ℕ → Text ℕ (Value A)
-  JsonText level = Then latter GapText (Spaced (ValueText level))
+  JsonText level = BothText latter GapText (Spaced (ValueText level))
 
 -- ---- what is read
 

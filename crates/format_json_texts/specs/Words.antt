@@ -15,8 +15,8 @@ use Rattle.winnow.specs.Grammar.{Three, Token, TokenOf}
 use Rattle.winnow.specs.Grammar.Meaning.{Meaning}
 use Rattle.winnow.specs.Grammar.Tuples.{Four}
 use Rattle.winnow.specs.Texts.{Anything, Begins, BeginsIn, InFront, IsGrammarOf, NotFirst}
-use Rattle.winnow.specs.Texts.{Of, Spelled, Text, Then}
-use Rattle.winnow.specs.Texts.Fronts.{of_front, then_front}
+use Rattle.winnow.specs.Texts.{MadeText, Spelled, Text, BothText}
+use Rattle.winnow.specs.Texts.Fronts.{of_front, both_front}
 use Rattle.winnow.specs.Texts.Parts.{both_of, made_of, same_of}
 
 -- ---- what is made of two outputs
@@ -154,7 +154,7 @@ run_begins class = record { makes = λ slice xs rest x any. first xs rest x.0 x.
 
 -- a text of what means this
 abbrev pub For : {O U : Type 0} → (O → U → Type 0) → Text ℕ O → Text ℕ U
-For {O} {U} means text = Of (λ (_ : Unit {0}) o u. means o u) tt text
+For {O} {U} means text = MadeText (λ (_ : Unit {0}) o u. means o u) tt text
 
 pub for_of : {O U : Type 0} (means : O → U → Type 0) {g : Grammar ℕ O} {text : Text ℕ O}
     {follow : List ℕ → Type 0} → IsGrammarOf g text follow
@@ -172,7 +172,7 @@ for_front {O} {U} means front = of_front (λ (_ : Unit {0}) o u. means o u) tt f
 abbrev pub FourTexts : {O1 O2 O3 O4 : Type 0} → Text ℕ O1 → Text ℕ O2 → Text ℕ O3 → Text ℕ O4
     → Text ℕ (O1 × O2 × O3 × O4)
 FourTexts {O1} {O2} {O3} {O4} t1 t2 t3 t4 =
-    Then to_four t1 (Then pair t2 (Then pair t3 t4))
+    BothText to_four t1 (BothText pair t2 (BothText pair t3 t4))
 
 -- four are one and three, which are one and two
 pub four_same : {O1 O2 O3 O4 : Type 0} (g1 : Grammar ℕ O1) (g2 : Grammar ℕ O2) (g3 : Grammar ℕ O3)
@@ -190,7 +190,7 @@ four_same {O1} {O2} {O3} {O4} g1 g2 g3 g4 = record {
 
 -- a text between two others
 abbrev pub Between : {O1 O2 O3 : Type 0} → Text ℕ O1 → Text ℕ O2 → Text ℕ O3 → Text ℕ O2
-Between opens text closes = Then latter opens (Then former text closes)
+Between opens text closes = BothText latter opens (BothText former text closes)
 
 between_same : {O1 O2 O3 : Type 0} (g1 : Grammar ℕ O1) (g2 : Grammar ℕ O2) (g3 : Grammar ℕ O3)
     → Same (Both latter g1 (Both former g2 g3)) (Three (λ o1 o2 o3. o2) g1 g2 g3)
@@ -209,4 +209,4 @@ pub between_of : {O1 O2 O3 : Type 0} {g1 : Grammar ℕ O1} {g2 : Grammar ℕ O2}
     → IsGrammarOf (Three (λ o1 o2 o3. o2) g1 g2 g3) (Between first second third) follow
 between_of {g1 = g1} {g2} {g3} one two three before between =
     same_of (between_same g1 g2 g3)
-    (both_of latter one (both_of former two three between) (then_front former before between))
+    (both_of latter one (both_of former two three between) (both_front former before between))

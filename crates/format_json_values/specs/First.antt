@@ -27,7 +27,7 @@ use Rattle.winnow.specs.Grammar.{Grammar, NoneStands, Three}
 use Rattle.winnow.specs.Grammar.Meaning.{Meaning, none_means}
 use Rattle.winnow.specs.Accumulator.Holds.{HasCharacters}
 use Rattle.winnow.specs.Texts.{Begins, BeginsIn, NotFirst}
-use Rattle.winnow.specs.Texts.Fronts.{among_front, begins_more, begins_wider, may_begin}
+use Rattle.winnow.specs.Texts.Fronts.{either_front, begins_more, begins_wider, may_begin}
 use Rattle.winnow.specs.Texts.Fronts.{none_begins, not_first, spelled_begins}
 
 -- the kind of an error
@@ -52,9 +52,9 @@ numeric_apart c (inr d) = apart c c refl (inl (omega (arith, d)))
 
 words_apart : BeginsIn (λ c. IsOpening c → ⊥) WordText
 words_apart =
-    among_front (begins_wider (λ c e. apart c 110 e (inr (omega arith)))
+    either_front (begins_wider (λ c e. apart c 110 e (inr (omega arith)))
     (spelled_begins 110 (117 ∷ 108 ∷ 108 ∷ []) None))
-    (among_front (begins_wider (λ c e. apart c 116 e (inr (omega arith)))
+    (either_front (begins_wider (λ c e. apart c 116 e (inr (omega arith)))
     (spelled_begins 116 (114 ∷ 117 ∷ 101 ∷ []) (Some true)))
     (begins_wider (λ c e. apart c 102 e (inr (omega arith)))
     (spelled_begins 102 (97 ∷ 108 ∷ 115 ∷ 101 ∷ []) (Some false))))
@@ -62,8 +62,8 @@ words_apart =
 module _ {A : Type 0} where
   scalar_apart : BeginsIn (λ c. IsOpening c → ⊥) (ScalarText {A = A} HasCharacters)
   scalar_apart =
-      among_front (for_front IsWord words_apart)
-      (among_front (for_front IsNumber
+      either_front (for_front IsWord words_apart)
+      (either_front (for_front IsNumber
       (for_front HasText (begins_wider numeric_apart number_begins)))
       (for_front IsString (begins_wider (λ c e. apart c 34 e (inl (omega arith)))
       (string_begins HasCharacters))))

@@ -12,7 +12,7 @@ use Rattle.format_json_texts.specs.Values.{IsNumber, IsObject, IsString, IsWord,
 use Rattle.format_json_texts.specs.Values.{Punctuation, Scalar, SpacedOut}
 use Rattle.format_json_texts.specs.Words.{former, pair}
 use Rattle.format_json_texts.specs.declared.value.Value.{Value}
-use Rattle.winnow.specs.Grammar.{Grammar, IsUnique, Takes}
+use Rattle.winnow.specs.Grammar.{Grammar, IsUnique, TakesTokens}
 use Rattle.winnow.specs.Grammar.Meaning.{meaning_takes, meaning_unique}
 use Rattle.winnow.specs.Grammar.Sequences.{three_take, three_unique}
 use Rattle.winnow.specs.Grammar.Unique.{both_take, both_unique, either_takes, either_unique}
@@ -27,7 +27,7 @@ gap_unique = run_unique IsMultispace 0
 mark_unique : (c : ℕ) → IsUnique (Punctuation c)
 mark_unique c = both_unique pair (char_unique c) gap_unique
 
-mark_takes : (c : ℕ) → Takes (Punctuation c)
+mark_takes : (c : ℕ) → TakesTokens (Punctuation c)
 mark_takes c = both_take pair (char_unique c) gap_unique (inl (char_takes c))
 
 module _ {O : Type 0} {g : Grammar ℕ O} (unique : IsUnique g) where
@@ -47,7 +47,7 @@ words_unique =
     (either_unique (word_unique (116 ∷ 114 ∷ 117 ∷ 101 ∷ []) (Some true))
     (word_unique (102 ∷ 97 ∷ 108 ∷ 115 ∷ 101 ∷ []) (Some false)))
 
-words_take : Takes AnyWord
+words_take : TakesTokens AnyWord
 words_take =
     either_takes (word_takes 110 (117 ∷ 108 ∷ 108 ∷ []) None)
     (either_takes (word_takes 116 (114 ∷ 117 ∷ 101 ∷ []) (Some true))
@@ -62,7 +62,7 @@ module _ {A : Type 0} where
       (either_unique (meaning_unique IsNumber (meaning_unique HasText number_unique))
       (meaning_unique IsString quoted_unique))
 
-  scalar_takes : Takes (Scalar {A = A} HasCharacters)
+  scalar_takes : TakesTokens (Scalar {A = A} HasCharacters)
   scalar_takes =
       either_takes (meaning_takes IsWord words_take)
       (either_takes (meaning_takes IsNumber (meaning_takes HasText number_takes))
@@ -74,7 +74,7 @@ module _ {A : Type 0} where
         three_unique (λ o1 o2 o3. o2) (mark_unique 91) (commas_unique (spaced_unique unique))
         (char_unique 93)
 
-    array_takes : Takes (Array HasCharacters g)
+    array_takes : TakesTokens (Array HasCharacters g)
     array_takes =
         three_take (λ o1 o2 o3. o2) (mark_unique 91) (commas_unique (spaced_unique unique))
         (char_unique 93) (inl (mark_takes 91))
@@ -89,7 +89,7 @@ module _ {A : Type 0} where
         three_unique (λ o1 o2 o3. o2) (mark_unique 123) (commas_unique member_unique)
         (char_unique 125)
 
-    object_takes : Takes (Object HasCharacters g)
+    object_takes : TakesTokens (Object HasCharacters g)
     object_takes =
         three_take (λ o1 o2 o3. o2) (mark_unique 123) (commas_unique member_unique)
         (char_unique 125) (inl (mark_takes 123))
@@ -102,7 +102,7 @@ module _ {A : Type 0} where
       (either_unique (meaning_unique IsArray (array_unique (value_unique level)))
       (meaning_unique IsObject (object_unique (value_unique level))))
 
-  pub value_takes : (level : ℕ) → Takes (AnyValue {A = A} HasCharacters level)
+  pub value_takes : (level : ℕ) → TakesTokens (AnyValue {A = A} HasCharacters level)
   unfolding AnyValue
   value_takes zero = scalar_takes
   value_takes (suc level) =

@@ -4,7 +4,7 @@ use Rattle.std.proofs.Common.{refl, sym, ap, ◌∙◌, append_assoc}
 use Rattle.std.proofs.lemmas.List.{append-nil}
 use Rattle.std.proofs.lemmas.Str.{encodes-append}
 use Rattle.format_json_texts.specs.Words.{One}
-use Rattle.winnow.specs.Texts.{Row, Spelled, Text, Then}
+use Rattle.winnow.specs.Texts.{EachText, Spelled, Text, BothText}
 
 -- What stood there stands there, and more may be behind it.
 pub record Keeps (before after : List ℕ) : Type 0 where
@@ -40,8 +40,8 @@ both_behind before between after xs ys first second =
 
 pub adds_then : {O1 O2 O : Type 0} (output : O1 → O2 → O) {first : Text ℕ O1} {second : Text ℕ O2}
     {o1 : O1} {o2 : O2} {before between after : List ℕ} → Adds first o1 before between
-    → Adds second o2 between after → Adds (Then output first second) (output o1 o2) before after
-unfolding Then
+    → Adds second o2 between after → Adds (BothText output first second) (output o1 o2) before after
+unfolding BothText
 adds_then output {o1 = o1} {o2} one two = record {
   tokens = one.tokens ++ two.tokens;
   is = (o1, o2, one.tokens, two.tokens, one.is, two.is, refl, refl);
@@ -50,16 +50,17 @@ adds_then output {o1 = o1} {o2} one two = record {
 
 pub adds_more : {O : Type 0} {text : Text ℕ O} {o : O} {os : List O}
     {before between after : List ℕ} → Adds text o before between
-    → Adds (Row text) os between after → Adds (Row text) (o ∷ os) before after
-unfolding Row
+    → Adds (EachText text) os between after → Adds (EachText text) (o ∷ os) before after
+unfolding EachText
 adds_more one rest = record {
   tokens = one.tokens ++ rest.tokens;
   is = (one.tokens, rest.tokens, one.is, rest.is, refl);
   behind = both_behind _ _ _ one.tokens rest.tokens one.behind rest.behind;
 }
 
-pub adds_none : {O : Type 0} (text : Text ℕ O) (bytes : List ℕ) → Adds (Row text) [] bytes bytes
-unfolding Row
+pub adds_none : {O : Type 0} (text : Text ℕ O) (bytes : List ℕ)
+    → Adds (EachText text) [] bytes bytes
+unfolding EachText
 adds_none text bytes = record { tokens = []; is = refl; behind = sym (append-nil bytes) }
 
 pub one_added : {before after : List ℕ} (c : ℕ) → after ≡ before ++ encode_utf8 c

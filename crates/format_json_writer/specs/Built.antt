@@ -21,8 +21,9 @@ use Rattle.format_json_writer.specs.Compact.{CompactMember, CompactScalar}
 use Rattle.format_json_writer.specs.Compact.{CompactString, CompactValue, scalar_is_value}
 use Rattle.format_json_writer.specs.Strings.{CanonicalString}
 use Rattle.format_json_writer.specs.Within.{IsWithin}
-use Rattle.winnow.specs.Texts.{Among, Holding, InList, Joined, Of, Row, Shown, Spelled, Text}
-use Rattle.winnow.specs.Texts.{Then}
+use Rattle.winnow.specs.Texts.{EitherText, GatheredText, InList, PartedText, MadeText, EachText}
+use Rattle.winnow.specs.Texts.{TakenText, Spelled, Text}
+use Rattle.winnow.specs.Texts.{BothText}
 
 -- ---- what is put is a text of more
 
@@ -35,8 +36,8 @@ adds_as {o = o} within added = record {
 }
 
 adds_first : {O : Type 0} {first : Text ℕ O} (second : Text ℕ O) {o : O} {before after : List ℕ}
-    → Adds first o before after → Adds (Among first second) o before after
-unfolding Among
+    → Adds first o before after → Adds (EitherText first second) o before after
+unfolding EitherText
 adds_first second added = record {
   tokens = added.tokens;
   is = inl added.is;
@@ -44,8 +45,8 @@ adds_first second added = record {
 }
 
 adds_second : {O : Type 0} (first : Text ℕ O) {second : Text ℕ O} {o : O} {before after : List ℕ}
-    → Adds second o before after → Adds (Among first second) o before after
-unfolding Among
+    → Adds second o before after → Adds (EitherText first second) o before after
+unfolding EitherText
 adds_second first added = record {
   tokens = added.tokens;
   is = inr added.is;
@@ -55,7 +56,7 @@ adds_second first added = record {
 adds_for : {O U : Type 0} (means : O → U → Type 0) {text : Text ℕ O} {o : O} {u : U}
     {before after : List ℕ} → means o u → Adds text o before after
     → Adds (For means text) u before after
-unfolding Of
+unfolding MadeText
 adds_for means {o = o} is added = record {
   tokens = added.tokens;
   is = (o, added.is, is);
@@ -97,7 +98,7 @@ module _ {before after : List ℕ} {word : Option Bool} where
 string_put : {A : Type 0} {before after bytes : List ℕ} (text : String A)
     → bytes ≡ string_bytes text → IsUtf8 bytes → Adds CanonicalString (chars bytes) before after
     → Adds CompactString text before after
-unfolding Holding
+unfolding GatheredText
 string_put {bytes = bytes} text same utf8 added = record {
   tokens = added.tokens;
   is = (chars bytes, sym same ∙ sym (encodes-chars bytes utf8), added.is);
@@ -125,7 +126,7 @@ module _ {A : Type 0} (level : ℕ) {before after : List ℕ} where
   pub number_put : {v : Value A} {bytes : List ℕ} (text : String A) → v ≡ values.Number text
       → bytes ≡ string_bytes text → IsUtf8 bytes → PutsNumber bytes before after
       → Adds (CompactValue level) v before after
-  unfolding Of Shown
+  unfolding MadeText TakenText
   number_put {bytes = bytes} text is same utf8 ((slice, (o, a, shows)), e) =
       let spelled = encodes-chars bytes utf8 in
       scalar_put (adds_second _ (adds_first _ (adds_for IsNumber is (record {
@@ -152,24 +153,24 @@ adds_list list added = record { tokens = added.tokens; is = added.is; behind = a
 
 -- none
 pub joined_none : {O D : Type 0} (comma : Text ℕ D) (text : Text ℕ O) (os : List O)
-    (bytes : List ℕ) → length os ≡ 0 → Adds (Joined comma text) os bytes bytes
-unfolding Joined
+    (bytes : List ℕ) → length os ≡ 0 → Adds (PartedText comma text) os bytes bytes
+unfolding PartedText
 joined_none {O} comma text os bytes none =
-    let P : List O → Type 0 = λ l. Adds (Joined comma text) l bytes bytes in
+    let P : List O → Type 0 = λ l. Adds (PartedText comma text) l bytes bytes in
     subst P (sym (nil_from_length os none))
     (record { tokens = []; is = refl; behind = sym (append-nil bytes) })
 
 -- each behind a comma
 abbrev pub Behind : {O : Type 0} → Text ℕ O → Text ℕ (List O)
-Behind text = Row (Then (λ d o. o) (One 44) text)
+Behind text = EachText (BothText (λ d o. o) (One 44) text)
 
 -- the first, and the others
 pub joined_first : {O : Type 0} {text : Text ℕ O} {o : O} {all os : List O}
     {before between after : List ℕ} → all ≡ o ∷ os → Adds text o before between
-    → Adds (Behind text) os between after → Adds (Joined (One 44) text) all before after
-unfolding Joined
+    → Adds (Behind text) os between after → Adds (PartedText (One 44) text) all before after
+unfolding PartedText
 joined_first {O} {text} {before = before} {after = after} is one rest =
-    let P : List O → Type 0 = λ l. Adds (Joined (One 44) text) l before after in
+    let P : List O → Type 0 = λ l. Adds (PartedText (One 44) text) l before after in
     subst P (sym is) (record {
       tokens = one.tokens ++ rest.tokens;
       is = (one.tokens, rest.tokens, one.is, rest.is, refl);
@@ -193,20 +194,20 @@ pub behind_end : {O : Type 0} (text : Text ℕ O) (os : List O) (k : ℕ) (bytes
     → length os ≤ k → Adds (Behind text) (drop k os) bytes bytes
 behind_end {O} text os k bytes most =
     let P : List O → Type 0 = λ l. Adds (Behind text) l bytes bytes in
-    subst P (sym (drop_all k os most)) (adds_none (Then (λ d o. o) (One 44) text) bytes)
+    subst P (sym (drop_all k os most)) (adds_none (BothText (λ d o. o) (One 44) text) bytes)
 
 module _ {A : Type 0} (below : ℕ) {level : ℕ} {before first second after : List ℕ} where
   -- brackets round values
   pub array_put : (items : Vec (Value A) A) {list : List (Value A)} → list ≡ items.items
       → level ≡ below + 1 → first ≡ before ++ encode_utf8 91
-      → Adds (Joined (One 44) (CompactValue below)) list first second
+      → Adds (PartedText (One 44) (CompactValue below)) list first second
       → after ≡ second ++ encode_utf8 93
       → Adds (CompactValue level) (values.Array items) before after
   unfolding CompactValue
   array_put items same is opening added closing =
       let P : ℕ → Type 0 = λ l. Adds (CompactValue l) (values.Array items) before after in
       let Q : List (Value A) → Type 0 = λ l.
-      Adds (Joined (One 44) (CompactValue below)) l first second in
+      Adds (PartedText (One 44) (CompactValue below)) l first second in
       let e : level ≡ suc below = omega (arith, is) in
       subst P (sym e) (adds_second CompactScalar (adds_first _ (adds_for IsArray refl
       (adds_then latter (one_added 91 opening)
@@ -215,14 +216,14 @@ module _ {A : Type 0} (below : ℕ) {level : ℕ} {before first second after : L
   -- braces round members
   pub object_put : (members : Vec (String A × Value A) A) {list : List (String A × Value A)}
       → list ≡ members.items → level ≡ below + 1 → first ≡ before ++ encode_utf8 123
-      → Adds (Joined (One 44) (CompactMember (CompactValue below))) list first second
+      → Adds (PartedText (One 44) (CompactMember (CompactValue below))) list first second
       → after ≡ second ++ encode_utf8 125
       → Adds (CompactValue level) (values.Object members) before after
   unfolding CompactValue
   object_put members same is opening added closing =
       let P : ℕ → Type 0 = λ l. Adds (CompactValue l) (values.Object members) before after in
       let Q : List (String A × Value A) → Type 0 = λ l.
-      Adds (Joined (One 44) (CompactMember (CompactValue below))) l first second in
+      Adds (PartedText (One 44) (CompactMember (CompactValue below))) l first second in
       let e : level ≡ suc below = omega (arith, is) in
       subst P (sym e) (adds_second CompactScalar (adds_second _ (adds_for IsObject refl
       (adds_then latter (one_added 123 opening)

@@ -17,42 +17,43 @@ use Rattle.format_json_writer.specs.Within.{IsWithin, within_among, within_first
 use Rattle.format_json_writer.specs.Within.{within_joined, within_list, within_mark, within_refl}
 use Rattle.format_json_writer.specs.Within.{within_second, within_spaced, within_then}
 use Rattle.winnow.specs.Accumulator.Holds.{HasCharacters}
-use Rattle.winnow.specs.Texts.{Among, Holding, InList, Joined, Text, Then}
+use Rattle.winnow.specs.Texts.{EitherText, GatheredText, InList, PartedText, Text, BothText}
 
 module _ {A : Type 0} where
   -- a string
   abbrev pub CompactString : Text ℕ (String A)
-  CompactString = Holding HasCharacters CanonicalString
+  CompactString = GatheredText HasCharacters CanonicalString
 
   -- a value that has no others in it
   abbrev pub CompactScalar : Text ℕ (Value A)
   CompactScalar =
-      Among (For IsWord WordText)
-      (Among (For IsNumber (For HasText NumberText)) (For IsString CompactString))
+      EitherText (For IsWord WordText)
+      (EitherText (For IsNumber (For HasText NumberText)) (For IsString CompactString))
 
   -- elements between brackets, with commas between them
   abbrev pub CompactArray : Text ℕ (Value A) → Text ℕ (Vec (Value A) A)
-  CompactArray value = Between (One 91) (InList (Joined (One 44) value)) (One 93)
+  CompactArray value = Between (One 91) (InList (PartedText (One 44) value)) (One 93)
 
   -- a name, a colon and a value
   abbrev pub CompactMember : Text ℕ (Value A) → Text ℕ (String A × Value A)
-  CompactMember value = Then pair CompactString (Then latter (One 58) value)
+  CompactMember value = BothText pair CompactString (BothText latter (One 58) value)
 
   -- members between braces, with commas between them
   abbrev pub CompactObject : Text ℕ (Value A) → Text ℕ (Vec (String A × Value A) A)
-  CompactObject value = Between (One 123) (InList (Joined (One 44) (CompactMember value))) (One 125)
+  CompactObject value =
+      Between (One 123) (InList (PartedText (One 44) (CompactMember value))) (One 125)
 
   -- a value, of which no more than so many arrays and objects stand in one another
   unfoldable pub CompactValue : ℕ → Text ℕ (Value A)
   CompactValue zero = CompactScalar
   CompactValue (suc level) =
-      Among CompactScalar (Among (For IsArray (CompactArray (CompactValue level)))
+      EitherText CompactScalar (EitherText (For IsArray (CompactArray (CompactValue level)))
       (For IsObject (CompactObject (CompactValue level))))
 
   -- ---- what is written is a text by RFC 8259
 
   string_within : IsWithin CompactString (StringText HasCharacters)
-  unfolding Holding
+  unfolding GatheredText
   string_within = record {
     told = λ string tokens (os, held, a). string_canonical string os tokens held a;
   }

@@ -21,7 +21,8 @@ use Rattle.format_json_texts.specs.declared.value.Value.TheVariants.{outs-Null}
 use Rattle.format_json_texts.specs.declared.value.Value.TheVariants.{outs-Number, outs-Object}
 use Rattle.format_json_texts.specs.declared.value.Value.TheVariants.{outs-Text}
 use Rattle.winnow.specs.Accumulator.Holds.{HasCharacters}
-use Rattle.winnow.specs.Texts.{Among, InList, Joined, Of, Row, Shown, Text, Then}
+use Rattle.winnow.specs.Texts.{EitherText, InList, PartedText, MadeText, EachText, TakenText, Text}
+use Rattle.winnow.specs.Texts.{BothText}
 
 -- ---- which value it is
 
@@ -85,7 +86,7 @@ module _ {A : Type 0} where
 
   scalar_kind : (v : Value A) (tokens : List ℕ) → ScalarText HasCharacters v tokens
       → kind_of v < 4
-  unfolding Among Of
+  unfolding EitherText MadeText
   scalar_kind v tokens (inl (o, a, is)) = omega (arith, word_kind o v is)
   scalar_kind v tokens (inr (inl (text, a, is))) = omega (arith, ap kind_of is, number_kind text)
   scalar_kind v tokens (inr (inr (text, a, is))) =
@@ -98,29 +99,29 @@ abbrev pub HasOne : {O : Type 0} → Text ℕ O → O → Type 0
 HasOne text o = (tokens : List ℕ) × text o tokens
 
 row_has : {O D : Type 0} (comma : Text ℕ D) (text : Text ℕ O) (os : List O) (tokens : List ℕ)
-    → Row (Then (λ d o. o) comma text) os tokens → All (HasOne text) os
-unfolding Row Then
+    → EachText (BothText (λ d o. o) comma text) os tokens → All (HasOne text) os
+unfolding EachText BothText
 row_has comma text [] tokens e = All-nil (HasOne text)
 row_has {O} comma text (o ∷ os) tokens (xs, ys, (d, p, zs, ws, c, a, e, is), more, f) =
     let P : O → Type 0 = λ q. text q ws in
     All-cons (HasOne text) o os (ws, subst P (sym is) a) (row_has comma text os ys more)
 
 joined_has : {O D : Type 0} (comma : Text ℕ D) (text : Text ℕ O) (os : List O)
-    (tokens : List ℕ) → Joined comma text os tokens → All (HasOne text) os
-unfolding Joined
+    (tokens : List ℕ) → PartedText comma text os tokens → All (HasOne text) os
+unfolding PartedText
 joined_has comma text [] tokens e = All-nil (HasOne text)
 joined_has comma text (o ∷ os) tokens (xs, ys, a, more, e) =
     All-cons (HasOne text) o os (xs, a) (row_has comma text os ys more)
 
 spaced_has : {O : Type 0} (text : Text ℕ O) (o : O) → HasOne (Spaced text) o → HasOne text o
-unfolding Then
+unfolding BothText
 spaced_has {O} text o (tokens, (p, gap, xs, ys, a, g, e, is)) =
     let P : O → Type 0 = λ q. text q xs in (xs, subst P (sym is) a)
 
 module _ {A : Type 0} (text : Text ℕ (Value A)) where
   items_have : (items : Vec (Value A) A) (tokens : List ℕ)
       → ArrayText HasCharacters text items tokens → All (HasOne text) items.items
-  unfolding Then InList
+  unfolding BothText InList
   items_have items tokens (m, list, xs, ys, b, (found, c, zs, ws, a, d, e, is), f, same) =
       let P : Vec (Value A) A → Type 0 = λ l. All (HasOne text) l.items in
       subst P (sym (same ∙ is)) (All-weaker (HasOne (Spaced text)) (HasOne text) (spaced_has text)
@@ -128,7 +129,7 @@ module _ {A : Type 0} (text : Text ℕ (Value A)) where
 
   member_has : (m : String A × Value A) → HasOne (MemberText HasCharacters text) m
       → HasOne text m.1
-  unfolding Then
+  unfolding BothText
   member_has m (tokens, (name, v, xs, ys, b, (c, w, zs, ws, d, a, e, is), f, same)) =
       let P : Value A → Type 0 = λ u. HasOne text u in
       subst P (sym (ap (λ (p : String A × Value A). p.1) same ∙ is)) (spaced_has text w (ws, a))
@@ -136,7 +137,7 @@ module _ {A : Type 0} (text : Text ℕ (Value A)) where
   members_have : (members : Vec (String A × Value A) A) (tokens : List ℕ)
       → ObjectText HasCharacters text members tokens
       → All (λ m. HasOne text m.1) members.items
-  unfolding Then InList
+  unfolding BothText InList
   members_have members tokens (m, list, xs, ys, b, (found, c, zs, ws, a, d, e, is), f, same) =
       let P : Vec (String A × Value A) A → Type 0 = λ l. All (λ m. HasOne text m.1) l.items in
       subst P (sym (same ∙ is)) (All-weaker (HasOne (MemberText HasCharacters text))
@@ -166,7 +167,7 @@ module _ {A : Type 0} where
   pub array_values : (below : ℕ) (items : Vec (Value A) A) (tokens : List ℕ)
       → ValueText HasCharacters (suc below) (values.Array items) tokens
       → All (HasOne (ValueText HasCharacters below)) items.items
-  unfolding ValueText Among Of
+  unfolding ValueText EitherText MadeText
   array_values below items tokens (inl a) =
       absurd (omega (arith, scalar_kind _ tokens a, array_kind items))
   array_values below items tokens (inr (inl (found, a, is))) =
@@ -180,7 +181,7 @@ module _ {A : Type 0} where
   pub object_values : (below : ℕ) (members : Vec (String A × Value A) A) (tokens : List ℕ)
       → ValueText HasCharacters (suc below) (values.Object members) tokens
       → All (λ m. HasOne (ValueText HasCharacters below) m.1) members.items
-  unfolding ValueText Among Of
+  unfolding ValueText EitherText MadeText
   object_values below members tokens (inl a) =
       absurd (omega (arith, scalar_kind _ tokens a, object_kind members))
   object_values below members tokens (inr (inl (found, a, is))) =
@@ -194,7 +195,7 @@ module _ {A : Type 0} where
   scalar_number : (text : String A) (tokens : List ℕ)
       → ScalarText HasCharacters (values.Number text) tokens
       → For HasText NumberText text tokens
-  unfolding Among Of
+  unfolding EitherText MadeText
   scalar_number text tokens (inl (o, a, is)) =
       absurd (omega (arith, word_kind o _ is, number_kind text))
   scalar_number text tokens (inr (inl (found, a, is))) =
@@ -206,7 +207,7 @@ module _ {A : Type 0} where
   number_text : (level : ℕ) (text : String A) (tokens : List ℕ)
       → ValueText HasCharacters level (values.Number text) tokens
       → For HasText NumberText text tokens
-  unfolding ValueText Among Of
+  unfolding ValueText EitherText MadeText
   number_text zero text tokens a = scalar_number text tokens a
   number_text (suc level) text tokens (inl a) = scalar_number text tokens a
   number_text (suc level) text tokens (inr (inl (found, a, is))) =
@@ -218,7 +219,7 @@ module _ {A : Type 0} where
   pub number_told : (level : ℕ) (text : String A) (tokens : List ℕ) → IsUtf8 (string_bytes text)
       → ValueText HasCharacters level (values.Number text) tokens
       → (slice : Slice) × NumberText slice (chars (string_bytes text))
-  unfolding Of Shown
+  unfolding MadeText TakenText
   number_told level text tokens utf8 a =
       let (slice, (o, written, shows), same) = number_text level text tokens a in
       let P : List ℕ → Type 0 = λ l. NumberText slice l in

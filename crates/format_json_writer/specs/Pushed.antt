@@ -15,16 +15,16 @@ use Rattle.format_json_writer.specs.Strings.{CanonicalCharacter, CanonicalString
 use Rattle.format_json_writer.specs.Strings.{IsSmallHex}
 use Rattle.format_json_writer.specs.Strings.{SmallUnit, string_canonical}
 use Rattle.winnow.specs.Accumulator.Holds.{HasCharacters}
-use Rattle.winnow.specs.Texts.{Among, Of, Row, Spelled, Then}
+use Rattle.winnow.specs.Texts.{EitherText, MadeText, EachText, Spelled, BothText}
 
 -- ---- what is written
 
 plain_written : (c : ℕ) → IsUnescaped c → CanonicalCharacter c (c ∷ [])
-unfolding Among In
+unfolding EitherText In
 plain_written c is = inl (is, refl)
 
 escape_written : (c k : ℕ) → Escapes k c → CanonicalCharacter c (92 ∷ k ∷ [])
-unfolding Among Then Spelled Of Whichever
+unfolding EitherText BothText Spelled MadeText Whichever
 escape_written c k is = inr (
   92,
   c,
@@ -38,7 +38,7 @@ escape_written c k is = inr (
 
 digits_written : (u a b c d p q r s : ℕ) → IsSmallHex a p → IsSmallHex b q → IsSmallHex c r
     → IsSmallHex d s → u ≡ p * 4096 + q * 256 + r * 16 + s → SmallUnit u (a ∷ b ∷ c ∷ d ∷ [])
-unfolding Then Of Whichever
+unfolding BothText MadeText Whichever
 digits_written u a b c d p q r s x y z w e = (
   (p, q, r, s),
   (
@@ -65,7 +65,7 @@ digits_written u a b c d p q r s x y z w e = (
 
 number_written : (c h l : ℕ) → c < 32 → ((k : ℕ) → Escapes k c → ⊥) → IsSmallHex h (c / 16)
     → IsSmallHex l (c % 16) → CanonicalCharacter c (92 ∷ 117 ∷ 48 ∷ 48 ∷ h ∷ l ∷ [])
-unfolding Among Then Spelled Of
+unfolding EitherText BothText Spelled MadeText
 number_written c h l low none high least =
     let zero_digit : IsSmallHex 48 0 = inl (omega arith) in
     let unit = digits_written c 48 48 h l 0 0 (c / 16) (c % 16) zero_digit zero_digit high least
@@ -146,7 +146,7 @@ number_pushed {before} {first} {second} c h l low none high least d e f = record
 
 -- quotes round characters
 pub string_pushed : {cs before first second after : List ℕ} → first ≡ before ++ encode_utf8 34
-    → Adds (Row CanonicalCharacter) cs first second → after ≡ second ++ encode_utf8 34
+    → Adds (EachText CanonicalCharacter) cs first second → after ≡ second ++ encode_utf8 34
     → Adds CanonicalString cs before after
 string_pushed opening added closing =
     adds_then latter (one_added 34 opening) (adds_then former added (one_added 34 closing))
@@ -164,17 +164,17 @@ string_added {text = text} utf8 added string same = record {
 
 -- no characters are left
 pub none_left : (text bytes : List ℕ) → length text ≡ 0
-    → Adds (Row CanonicalCharacter) (chars text) bytes bytes
+    → Adds (EachText CanonicalCharacter) (chars text) bytes bytes
 none_left text bytes none =
-    let P : List ℕ → Type 0 = λ cs. Adds (Row CanonicalCharacter) cs bytes bytes in
+    let P : List ℕ → Type 0 = λ cs. Adds (EachText CanonicalCharacter) cs bytes bytes in
     subst P (sym (ap (λ l. chars l) (nil_from_length text none) ∙ chars-nil))
     (adds_none CanonicalCharacter bytes)
 
 -- one more character is first
 pub one_more : {before between after : List ℕ} (text rest : List ℕ) (c : ℕ) → IsUtf8 text
     → text ≡ encode_utf8 c ++ rest → Adds CanonicalCharacter c before between
-    → Adds (Row CanonicalCharacter) (chars rest) between after
-    → Adds (Row CanonicalCharacter) (chars text) before after
+    → Adds (EachText CanonicalCharacter) (chars rest) between after
+    → Adds (EachText CanonicalCharacter) (chars text) before after
 one_more {before} {between} {after} text rest c utf8 parts one more =
-    let P : List ℕ → Type 0 = λ cs. Adds (Row CanonicalCharacter) cs before after in
+    let P : List ℕ → Type 0 = λ cs. Adds (EachText CanonicalCharacter) cs before after in
     subst P (sym (chars_past_char text rest c utf8 parts)) (adds_more one more)

@@ -11,7 +11,7 @@ use Rattle.format_json_writer.specs.Within.{IsWithin, within_among, within_first
 use Rattle.format_json_writer.specs.Within.{within_refl}
 use Rattle.format_json_writer.specs.Within.{within_row, within_second, within_then}
 use Rattle.winnow.specs.Accumulator.Holds.{HasCharacters}
-use Rattle.winnow.specs.Texts.{Among, Holding, Row, Text, Then}
+use Rattle.winnow.specs.Texts.{EitherText, GatheredText, EachText, Text, BothText}
 
 -- the character behind a backslash that escapes one: of those of RFC 8259 a slash is none, since it
 -- is written as it is
@@ -36,16 +36,16 @@ SmallUnit =
 -- a backslash, and what escapes the character
 abbrev pub CanonicalEscape : Text ℕ ℕ
 CanonicalEscape =
-    Then latter (One 92)
-    (Among (For Escapes Whichever) (Then latter (One 117) (For IsBare SmallUnit)))
+    BothText latter (One 92)
+    (EitherText (For Escapes Whichever) (BothText latter (One 117) (For IsBare SmallUnit)))
 
 -- a character as it is, or escaped where it must be
 abbrev pub CanonicalCharacter : Text ℕ ℕ
-CanonicalCharacter = Among (In IsUnescaped) CanonicalEscape
+CanonicalCharacter = EitherText (In IsUnescaped) CanonicalEscape
 
 -- characters between quotes
 abbrev pub CanonicalString : Text ℕ (List ℕ)
-CanonicalString = Between (One 34) (Row CanonicalCharacter) (One 34)
+CanonicalString = Between (One 34) (EachText CanonicalCharacter) (One 34)
 
 -- ---- what is written is a text by RFC 8259
 
@@ -77,7 +77,7 @@ character_within =
 pub string_canonical : {A : Type 0} (string : String A) (cs tokens : List ℕ)
     → HasCharacters string cs → CanonicalString cs tokens
     → StringText HasCharacters string tokens
-unfolding Then Holding
+unfolding BothText GatheredText
 string_canonical string cs tokens held
     (o1, os, xs, ys, a, (os2, o3, zs, ws, b, c, f, is2), e, is) = (
       o1,

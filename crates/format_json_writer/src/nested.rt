@@ -7,7 +7,7 @@ ghost use Rattle.format_json_writer.specs.Compact.{CompactMember, CompactValue};
 ghost use Rattle.format_json_writer.specs.Refused.{IsRefused, IsRefusedAmong};
 ghost use Rattle.format_json_writer.specs.declared.error.WriteError.TheVariants.{Memory};
 ghost use Rattle.std.specs.Prelude.{◌≡◌, ◌++◌, IfErr, OnOk, string_bytes};
-ghost use Rattle.winnow.specs.Texts.{Joined};
+ghost use Rattle.winnow.specs.Texts.{PartedText};
 
 use crate::error::WriteError;
 use crate::number::write_number;
@@ -46,7 +46,7 @@ fn write_items<A: Allocator, B: Allocator>(
     items: &[Value<A>],
     into: &mut String<B>,
 ) -> Result<(), WriteError>
-    ensures written { OnOk result (Adds (Joined (One 44) (CompactValue level)) items.now
+    ensures written { OnOk result (Adds (PartedText (One 44) (CompactValue level)) items.now
         (string_bytes into.old) (string_bytes into.new)) }
     ensures refused { IfErr result (IsRefusedAmong (λ v. v) level items.now) }
     ensures kept { Keeps (string_bytes into.old) (string_bytes into.new) }
@@ -110,7 +110,7 @@ fn write_members<A: Allocator, B: Allocator>(
     members: &[(String<A>, Value<A>)],
     into: &mut String<B>,
 ) -> Result<(), WriteError>
-    ensures written { OnOk result (Adds (Joined (One 44) (CompactMember (CompactValue level)))
+    ensures written { OnOk result (Adds (PartedText (One 44) (CompactMember (CompactValue level)))
         members.now (string_bytes into.old) (string_bytes into.new)) }
     ensures refused { IfErr result (IsRefusedAmong (λ m. m.1) level members.now) }
     ensures kept { Keeps (string_bytes into.old) (string_bytes into.new) }

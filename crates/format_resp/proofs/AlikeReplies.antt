@@ -6,7 +6,7 @@ use Rattle.std.proofs.lemmas.List.Elements.{recursion_from_All}
 use Rattle.winnow.specs.Grammar.{IsUnique}
 use Rattle.winnow.specs.Grammar.Lengths.{same_beginnings}
 use Rattle.winnow.specs.InTurn.{First, Led}
-use Rattle.winnow.specs.Texts.{Members, Row, SoMany, Text}
+use Rattle.winnow.specs.Texts.{Members, EachText, CountedText, Text}
 use Rattle.format_resp.specs.Alike.{AreAlike, AreAlikeAs, AreAlikeBy, ArePairwise}
 use Rattle.format_resp.specs.Parts.{Opened, array_is, bulk_is, error_is, integer_is}
 use Rattle.format_resp.specs.Parts.{null_array_is, null_bulk_is, simple_is}
@@ -44,7 +44,7 @@ same_lines x y tokens rest other (front, (xs, (all, enough, shown), e), d)
 
 pub same_bytes : (n : ℕ) (x y : Bor (List ℕ)) (tokens rest other : List ℕ)
     → First (DataText n) tokens x rest → First (DataText n) tokens y other → x.now ≡ y.now
-unfolding First DataText Ended SoMany
+unfolding First DataText Ended CountedText
 same_bytes n x y tokens rest other (front, (xs, (many, shown), e), d)
     (back, (ys, (also, see), f), h) =
     let split = sym (append_assoc xs line_end rest) ∙ ap (λ l. l ++ rest) (sym e) ∙ sym d ∙ h
@@ -107,8 +107,9 @@ Pairs {A} alike elements =
 
 rows_alike : {A : Type 0} (text : Text ℕ (Replies A)) (alike : Replies A → Replies A → Type 0)
     → IsUnique (First text) → ((v w : Replies A) (tokens rest other : List ℕ)
-    → First text tokens v rest → First text tokens w other → alike v w) → Pairs alike (Row text)
-unfolding First Row
+    → First text tokens v rest → First text tokens w other
+        → alike v w) → Pairs alike (EachText text)
+unfolding First EachText
 rows_alike text alike unique each [] [] xs ys rest other a b e n = tt
 rows_alike text alike unique each [] (p ∷ ps) xs ys rest other a b e n =
     absurd (omega (arith, n))

@@ -8,7 +8,7 @@ use Rattle.std.proofs.lemmas.List.{take-append-drop}
 use Rattle.winnow.specs.Grammar.Known.{slice_for}
 use Rattle.winnow.specs.Grammar.Lengths.{same_beginnings}
 use Rattle.winnow.specs.InTurn.{First}
-use Rattle.winnow.specs.Texts.{SoMany}
+use Rattle.winnow.specs.Texts.{CountedText}
 use Rattle.format_resp.proofs.LineEnds.{unseen_rest}
 use Rattle.format_resp.specs.Extents.{IsDataEnd, IsLineEnd, IsPartOfData, PartFound}
 use Rattle.format_resp.specs.Read.{data_unique}
@@ -22,7 +22,7 @@ some_list (suc n) = let (xs, e) = some_list n in (0 ∷ xs, ap (λ k. suc k) e)
 -- fewer bytes are there
 pub data_short : (size : ℕ) (tokens : List ℕ)
     → (length tokens < size) ⊎ (length tokens < length tokens) → IsPartOfData size tokens
-unfolding First DataText Ended SoMany
+unfolding First DataText Ended CountedText
 data_short size tokens (inl less) =
     let (fill, many) = some_list (size - length tokens) in
     let (slice, shown) = slice_for (tokens ++ fill) in
@@ -68,7 +68,7 @@ behind_is size tokens behind more xs rest enough split many e =
 pub data_end : (size : ℕ) (tokens behind : List ℕ) → size ≤ length tokens
     → behind ≡ take (length tokens - size) (drop size tokens) → (r : PartFound)
     → IsLineEnd behind r → IsDataEnd size tokens r
-unfolding First DataText Ended SoMany
+unfolding First DataText Ended CountedText
 data_end size tokens behind enough is (Ok (Some left)) ends =
     let split : tokens ≡ take size tokens ++ behind = sym (take-append-drop size tokens)
     ∙ ap (λ l. take size tokens ++ l) (sym (unseen_rest tokens behind size is)) in

@@ -5,7 +5,7 @@ use Rattle.std.specs.declared.vec.Vec.{Vec}
 use denote.RawPtr.{null_ptr}
 use Rattle.std.proofs.Common.{refl, subst, arith}
 use Rattle.winnow.specs.InTurn.{Led}
-use Rattle.winnow.specs.Texts.{Row, Text}
+use Rattle.winnow.specs.Texts.{EachText, Text}
 use Rattle.format_resp.specs.Resp.{ArrayBehind, Body, Elements, MarkText, Replies, ReplyText}
 use Rattle.format_resp.specs.declared.leaves.Mark.{Mark}
 use Rattle.format_resp.specs.declared.leaves.Mark.TheVariants.{Colon, Dollar, Minus, Plus, Star}
@@ -13,8 +13,8 @@ use Rattle.format_resp.specs.declared.leaves.Mark.TheVariants.{Colon, Dollar, Mi
 module _ {A : Type 0} where
   pub row_as : (these those : Text ℕ (Replies A))
       → ((o : Replies A) (xs : List ℕ) → these o xs → those o xs) → (os : List (Replies A))
-      (xs : List ℕ) → Row these os xs → Row those os xs
-  unfolding Row
+      (xs : List ℕ) → EachText these os xs → EachText those os xs
+  unfolding EachText
   row_as these those leads [] xs e = e
   row_as these those leads (o ∷ os) xs (ys, zs, a, row, e) =
       (ys, zs, leads o ys a, row_as these those leads os zs row, e)

@@ -6,7 +6,7 @@ use Rattle.std.specs.Int.{w64}
 use Rattle.std.proofs.Common.{refl, sym, ap, subst, ◌∙◌, arith, append_assoc}
 use Rattle.std.proofs.lemmas.List.{append-nil}
 use Rattle.winnow.specs.InTurn.{First, Led}
-use Rattle.winnow.specs.Texts.{Row, Text}
+use Rattle.winnow.specs.Texts.{EachText, Text}
 use Rattle.format_resp.proofs.Deeper.{deeper, list_for, row_as}
 use Rattle.format_resp.proofs.FirstLines.{head_splits}
 use Rattle.format_resp.specs.Extents.{AreDue, AreReplies, IsReply, Stands, count_after}
@@ -25,12 +25,12 @@ use Rattle.format_resp.specs.declared.reply.Reply as made
 -- ---- replies of some levels, and of one
 
 gather : (n : ℕ) (xs : List ℕ) → AreReplies n xs → (level : ℕ) × (os : List (Replies ⊤))
-    × (length os ≡ n) × Row (ReplyText level) os xs
-unfolding Row
+    × (length os ≡ n) × EachText (ReplyText level) os xs
+unfolding EachText
 gather zero xs e = (0, [], refl, e)
 gather (suc n) xs (ys, zs, (a, o, t), many, e) =
     let (b, os, count, row) = gather n zs many in
-    let P : ℕ → Type 0 = λ k. Row (ReplyText {A = ⊤} k) os zs in
+    let P : ℕ → Type 0 = λ k. EachText (ReplyText {A = ⊤} k) os zs in
     let same : a + b ≡ b + a = omega arith in (
       b + a,
       o ∷ os,
@@ -46,8 +46,8 @@ gather (suc n) xs (ys, zs, (a, o, t), many, e) =
 
 module _ {A : Type 0} (these : Text ℕ (Replies A))
     (is : (o : Replies A) (xs : List ℕ) → these o xs → IsReply xs) where
-  spread : (os : List (Replies A)) (xs : List ℕ) → Row these os xs → AreReplies (length os) xs
-  unfolding Row
+  spread : (os : List (Replies A)) (xs : List ℕ) → EachText these os xs → AreReplies (length os) xs
+  unfolding EachText
   spread [] xs e = e
   spread (o ∷ os) xs (ys, zs, t, row, e) = (ys, zs, is o ys t, spread os zs row, e)
 
@@ -124,7 +124,7 @@ array_back (Some n) us xs s many =
     let (level, os, count, row) = gather n xs many in
     let small = size_small n us s in
     let (list, same) = list_for tt os (omega (arith, count, small)) in
-    let P : List (Replies ⊤) → Type 0 = λ l. (length l ≡ n) × Row (ReplyText level) l xs in
+    let P : List (Replies ⊤) → Type 0 = λ l. (length l ≡ n) × EachText (ReplyText level) l xs in
     (suc level, made.Array list, (list, refl, subst P (sym same) (count, row)))
 
 body_back : (mark : Mark) (head : Head) (us vs : List ℕ) → Says mark head us → Behind head vs

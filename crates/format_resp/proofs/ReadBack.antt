@@ -11,7 +11,7 @@ use Rattle.winnow.specs.InTurn.{First}
 use Rattle.winnow.specs.Input.{Input}
 use Rattle.winnow.specs.Kind.{Kind, memory}
 use Rattle.winnow.specs.Partial.{with_flag}
-use Rattle.winnow.specs.Texts.{Row}
+use Rattle.winnow.specs.Texts.{EachText}
 use Rattle.format_resp.proofs.AlikeReplies.{replies_alike}
 use Rattle.format_resp.proofs.Deeper.{list_for}
 use Rattle.format_resp.proofs.WrittenTexts.{written_text}
@@ -111,8 +111,8 @@ few_parts (part ∷ parts) =
     )
 
 bulks_row : (A : Type 0) (parts : List (Bor (List ℕ))) → length (bulks_of parts) < 2 ^ 63
-    → Row (WrittenText {A = A} 0) (bulk_replies parts) (bulks_of parts)
-unfolding Row
+    → EachText (WrittenText {A = A} 0) (bulk_replies parts) (bulks_of parts)
+unfolding EachText
 bulks_row A [] small = refl
 bulks_row A (part ∷ parts) small =
     let long = length-append (bulk_of part.now) (bulks_of parts) in (
@@ -128,7 +128,7 @@ command_text : {A : Type 0} (parts : List (Bor (List ℕ))) (list : Vec (Replies
     → ReplyText 1 (made.Array list) (command_of parts)
 unfolding WrittenElements
 command_text {A} parts list are small =
-    let P : List (Replies A) → Type 0 = λ l. Row (WrittenText 0) l (bulks_of parts) in
+    let P : List (Replies A) → Type 0 = λ l. EachText (WrittenText 0) l (bulks_of parts) in
     let many : length list.items ≡ length parts = ap (λ l. length l) are ∙ as_many A parts in
     written_text 1 (made.Array list) (command_of parts) (inr (inr (inr (inr (inr (inr (
       list,

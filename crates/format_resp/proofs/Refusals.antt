@@ -9,7 +9,7 @@ use Rattle.std.proofs.lemmas.List.{append-nil}
 use Rattle.std.proofs.lemmas.List.Elements.{All-cons, All-nil, recursion_from_All}
 use Rattle.winnow.specs.Equal.{none_is_some, same_some}
 use Rattle.winnow.specs.InTurn.{First, Led}
-use Rattle.winnow.specs.Texts.{Members, Row}
+use Rattle.winnow.specs.Texts.{Members, EachText}
 use Rattle.format_resp.specs.Parts.{Opened, array_is, bulk_is, error_is, integer_is}
 use Rattle.format_resp.specs.Parts.{null_array_is, null_bulk_is, simple_is, stands_as}
 use Rattle.format_resp.specs.Resp.{ArrayBehind, BulkBehind, Ended, InLine, LineText}
@@ -110,8 +110,8 @@ module _ {A : Type 0} where
   HasText level reply = (tokens : List ℕ) × ReplyText level reply tokens
 
   row_has : (level : ℕ) (replies : List (Replies A)) (tokens : List ℕ)
-      → Row (ReplyText level) replies tokens → All (HasText level) replies
-  unfolding Row
+      → EachText (ReplyText level) replies tokens → All (HasText level) replies
+  unfolding EachText
   row_has level [] tokens e = All-nil (HasText level)
   row_has level (o ∷ os) tokens (xs, ys, a, more, e) =
       All-cons (HasText level) o os (xs, a) (row_has level os ys more)

@@ -12,7 +12,7 @@ use Rattle.std.proofs.Common.{refl, sym, ap, subst, inl, inr, ◌∙◌, arith, 
 use Rattle.std.proofs.lemmas.Fmt.{decimal_digit, decimal_step}
 use Rattle.std.proofs.lemmas.List.{append-nil, drop_all, drop_more}
 use Rattle.std.proofs.lemmas.Result.{err_from_is_err_and}
-use Rattle.winnow.specs.Texts.{Row, Text}
+use Rattle.winnow.specs.Texts.{EachText, Text}
 use Rattle.format_resp.proofs.WrittenTexts.{written_text}
 use Rattle.format_resp.specs.Resp.{InLine, Replies, ReplyText}
 use Rattle.format_resp.specs.Written.{Adds, Keeps, WrittenElements, WrittenText}
@@ -63,12 +63,12 @@ pub array_put : {A : Type 0} (below : ℕ) {level : ℕ} (list : Vec (Replies A)
     {items : List (Replies A)} {size : ℕ} {before between after : List ℕ} → items ≡ list.items
     → size ≡ length list.items → level ≡ below + 1
     → between ≡ before ++ marked 42 (decimal size)
-    → Adds (Row (WrittenText below)) items between after
+    → Adds (EachText (WrittenText below)) items between after
     → Adds (WrittenText level) (made.Array list) before after
 unfolding WrittenElements
 array_put {A} below {level} list {items} {size} {before} {between} {after} same many is e added =
     let P : ℕ → Type 0 = λ l. Adds (WrittenText l) (made.Array list) before after in
-    let Q : List (Replies A) → Type 0 = λ l. Row (WrittenText below) l added.tokens in
+    let Q : List (Replies A) → Type 0 = λ l. EachText (WrittenText below) l added.tokens in
     let f : level ≡ suc below = omega (arith, is) in
     let head = marked 42 (decimal (length list.items)) in
     subst P (sym f) (record {
@@ -82,11 +82,11 @@ array_put {A} below {level} list {items} {size} {before} {between} {after} same 
 -- one more element
 pub row_more : {O : Type 0} {text : Text ℕ O} (os : List O) (k : ℕ) (o : O)
     {before between after : List ℕ} → k < length os → o ≡ slice_index_or os k o
-    → Adds text o before between → Adds (Row text) (drop (k + 1) os) between after
-    → Adds (Row text) (drop k os) before after
-unfolding Row
+    → Adds text o before between → Adds (EachText text) (drop (k + 1) os) between after
+    → Adds (EachText text) (drop k os) before after
+unfolding EachText
 row_more {O} {text} os k o {before} {between} {after} below is one more =
-    let P : List O → Type 0 = λ l. Adds (Row text) l before after in
+    let P : List O → Type 0 = λ l. Adds (EachText text) l before after in
     let here : drop k os ≡ o ∷ drop (k + 1) os =
     drop_more os k o below ∙ ap (λ y. y ∷ drop (k + 1) os) (sym is) in
     subst P (sym here) (record {
@@ -97,10 +97,10 @@ row_more {O} {text} os k o {before} {between} {after} below is one more =
 
 -- no more
 pub row_end : {O : Type 0} (text : Text ℕ O) (os : List O) (k : ℕ) (bytes : List ℕ)
-    → length os ≤ k → Adds (Row text) (drop k os) bytes bytes
-unfolding Row
+    → length os ≤ k → Adds (EachText text) (drop k os) bytes bytes
+unfolding EachText
 row_end {O} text os k bytes most =
-    let P : List O → Type 0 = λ l. Adds (Row text) l bytes bytes in
+    let P : List O → Type 0 = λ l. Adds (EachText text) l bytes bytes in
     subst P (sym (drop_all k os most))
     (record { tokens = []; is = refl; behind = sym (append-nil bytes) })
 

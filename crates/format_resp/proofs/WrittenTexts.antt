@@ -13,7 +13,7 @@ use Rattle.std.proofs.lemmas.List.Elements.{All-from_recursion}
 use Rattle.winnow.specs.InTurn.{Led}
 use Rattle.winnow.specs.Numeral.Grammar.Known.{NoDigitFirst}
 use Rattle.winnow.specs.Numeral.Grammar.Signed.{SignedWritten, fits_short, same_signed}
-use Rattle.winnow.specs.Texts.{Members, SoMany}
+use Rattle.winnow.specs.Texts.{Members, CountedText}
 use Rattle.format_resp.proofs.Deeper.{row_as}
 use Rattle.format_resp.specs.Leaves.{all_signed}
 use Rattle.format_resp.specs.Resp.{Body, DataText, Elements, Ended, InLine}
@@ -64,7 +64,7 @@ line_text text all =
     (text.now, (All-from_recursion InLine text.now all, omega arith, refl), refl)
 
 data_text : (bulk : Bor (List ℕ)) → DataText (length bulk.now) bulk (bulk.now ++ line_end)
-unfolding DataText Ended SoMany
+unfolding DataText Ended CountedText
 data_text bulk = (bulk.now, (refl, refl), refl)
 
 -- ---- replies

@@ -17,7 +17,7 @@ use Rattle.format_resp.specs.declared.reply.Reply.TheViews.{rolls-Error, rolls-I
 use Rattle.format_resp.specs.declared.reply.Reply.TheViews.{rolls-NullArray}
 use Rattle.format_resp.specs.declared.reply.Reply.TheViews.{rolls-NullBulk, rolls-Simple}
 use Rattle.winnow.specs.InTurn.{First, Led}
-use Rattle.winnow.specs.Texts.{Members, Row, SoMany}
+use Rattle.winnow.specs.Texts.{Members, EachText, CountedText}
 
 -- no line feed
 abbrev pub NoFeed : List ℕ → Type 0
@@ -45,7 +45,7 @@ StandsBy level input (Reply-F.Bulk text) rest =
 StandsBy level input Reply-F.NullBulk rest = ⊤
 StandsBy level input (Reply-F.Array list) rest =
     (inner : ℕ) × (level ≡ suc inner) × (bytes : List ℕ)
-    × Row (ReplyText inner) list.items bytes × IsBehindFeed input (bytes ++ rest)
+    × EachText (ReplyText inner) list.items bytes × IsBehindFeed input (bytes ++ rest)
 StandsBy level input Reply-F.NullArray rest = ⊤
 
 abbrev pub Stands : {A : Type 0} → ℕ → List ℕ → Replies A → List ℕ → Type 0
@@ -93,7 +93,8 @@ bulk_ended {input} {bytes} xs rest e shows it =
 -- ---- by what the reply is
 
 elements_row : {A : Type 0} (level : ℕ) (all : List (Replies A)) (bytes : List ℕ)
-    → Elements level all bytes → (inner : ℕ) × (level ≡ suc inner) × Row (ReplyText inner) all bytes
+    → Elements level all bytes
+        → (inner : ℕ) × (level ≡ suc inner) × EachText (ReplyText inner) all bytes
 unfolding Elements
 elements_row zero all bytes never = absurd never
 elements_row (suc inner) all bytes row = (inner, refl, row)
@@ -162,7 +163,7 @@ module _ {A : Type 0} (level : ℕ) (input rest : List ℕ) where
   bulk_stands : (reply : Replies A) (front first others : List ℕ) → first ≡ 36 ∷ []
       → Led SizeText BulkBehind reply others → front ≡ first ++ others → input ≡ front ++ rest
       → Stands level input reply rest
-  unfolding Led SizeText IntegerText DataText Ended SoMany
+  unfolding Led SizeText IntegerText DataText Ended CountedText
   bulk_stands reply front first others m
       (None, us, vs, (n, (xs, number, e), is), (same, none), f) g h =
       stands_made Reply-F.NullBulk same null_bulk_is tt

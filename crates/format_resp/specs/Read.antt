@@ -21,7 +21,7 @@ use Rattle.winnow.specs.Decimal.{IsDecimalOf, IsSignedDecimalOf}
 use Rattle.winnow.specs.Digits.{value_in}
 use Rattle.winnow.specs.Grammar.Lengths.{same_beginnings}
 use Rattle.winnow.specs.Grammar.Unique.{unique_by}
-use Rattle.winnow.specs.Texts.{Members, SoMany, Text}
+use Rattle.winnow.specs.Texts.{Members, CountedText, Text}
 use Rattle.winnow.specs.InTurn.{Failed, First, Splits, Stood, failed_as, led_unique, refused}
 use Rattle.winnow.specs.InTurn.{stood_as}
 use Rattle.winnow.specs.InTurn.Rows.{RowOf, row_unique}
@@ -120,7 +120,7 @@ line_unique = record {
 }
 
 pub data_unique : (n : ℕ) → IsUnique (First (DataText n))
-unfolding First DataText Ended SoMany
+unfolding First DataText Ended CountedText
 data_unique n = record {
   ends = λ tokens o rest (front, a, e). (front, e);
   one = λ tokens o p rest other (front, (xs, (many, shown), e), d) (back, (ys, (also, see), f), h).

@@ -6,7 +6,7 @@ use Rattle.std.specs.Borrow.{Bor}
 use Rattle.std.specs.declared.vec.Vec.{Vec}
 use Rattle.winnow.specs.Bytes.{bytes_reading}
 use Rattle.winnow.specs.Decimal.{IsSignedDecimalOf}
-use Rattle.winnow.specs.Texts.{Members, Row, SoMany, Text}
+use Rattle.winnow.specs.Texts.{Members, EachText, CountedText, Text}
 use Rattle.winnow.specs.InTurn.{Led}
 use Rattle.format_resp.specs.declared.leaves.Mark.{Mark}
 use Rattle.format_resp.specs.declared.leaves.Mark.TheVariants.{Colon, Dollar, Minus, Plus, Star}
@@ -61,7 +61,7 @@ SizeText size tokens = (n : ℤ) × IntegerText n tokens × IsSize size n
 
 -- so many bytes, and a line end
 unfoldable pub DataText : ℕ → Text ℕ (Bor (List ℕ))
-DataText n = Ended (SoMany bytes_reading n)
+DataText n = Ended (CountedText bytes_reading n)
 
 -- a reply that is made so of a value
 abbrev pub For : {O R : Type 0} → (O → R) → Text ℕ O → Text ℕ R
@@ -96,7 +96,8 @@ module _ {A : Type 0} where
   -- one of them
   unfoldable pub Elements : ℕ → Text ℕ (List (Replies A))
   Elements zero replies tokens = ⊥
-  Elements (suc level) replies tokens = Row (Led MarkText (Body (Elements level))) replies tokens
+  Elements (suc level) replies tokens =
+      EachText (Led MarkText (Body (Elements level))) replies tokens
 
   -- a reply in which no more than so many arrays stand in one another
   abbrev pub ReplyText : ℕ → Text ℕ (Replies A)

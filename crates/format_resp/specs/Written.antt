@@ -7,7 +7,7 @@ use Rattle.std.specs.Fmt.{decimal, signed_decimal}
 use Rattle.std.specs.Int.{w64}
 use Rattle.std.specs.List.{All, AllByRecursion}
 use Rattle.std.specs.declared.vec.Vec.{Vec}
-use Rattle.winnow.specs.Texts.{Row, Text}
+use Rattle.winnow.specs.Texts.{EachText, Text}
 use Rattle.format_resp.specs.Resp.{InLine, Replies, ReplyText, line_end}
 use Rattle.format_resp.specs.declared.reply.Reply as made
 use Rattle.format_resp.specs.declared.write.WriteError.{WriteError}
@@ -65,7 +65,7 @@ module _ {A : Type 0} where
   unfoldable pub WrittenElements : ℕ → Text ℕ (List (Replies A))
   WrittenElements zero replies tokens = ⊥
   WrittenElements (suc level) replies tokens =
-      Row (IsWritten (WrittenElements level)) replies tokens
+      EachText (IsWritten (WrittenElements level)) replies tokens
 
   -- for a reply in which no more than so many arrays stand in one another
   abbrev pub WrittenText : ℕ → Text ℕ (Replies A)

@@ -7,7 +7,7 @@ ghost use Rattle.winnow.specs.Literal.Laws.{SpellsByText};
 ghost use Rattle.winnow.specs.Once.{SeesApart};
 ghost use Rattle.winnow.specs.Grammar.{Both, Counted, Longest, Token};
 ghost use Rattle.winnow.specs.Once.{Others};
-ghost use Rattle.winnow.specs.Grammar.Searches.{Text};
+ghost use Rattle.winnow.specs.Grammar.Searches.{LiterallyBytes};
 
 use winnow::ascii::impls::Crlf;
 use winnow::combinator::terminated;
@@ -37,7 +37,8 @@ where
     requires spells { SpellsByText I.spells }
     ensures { ReadsOrAsks I.reading I.following E.kind (Both (λ o1 o2. o1)
         (Longest I.reading I.seen_as (Others ⟦<(u8, u8) as ContainsToken<I::Token>>⟧.tells)
-        (13, 10) (from_to 0 None)) (Text I.reading I.spells (13 ∷ 10 ∷ []))) (I.view input.old)
+        (13, 10) (from_to 0 None)) (LiterallyBytes I.reading I.spells
+              (13 ∷ 10 ∷ []))) (I.view input.old)
         result (I.view input.new) }
 {
     terminated(take_till(Range::from(0..), (b'\r', b'\n')), Crlf).read_cut(input)
@@ -51,7 +52,8 @@ pub(crate) fn tokens<I: StreamIsPartial + Compare<&'static str>, E: ParserError<
     requires modal { E.form ≡ modal }
     requires spells { SpellsByText I.spells }
     ensures { ReadsOrAsks I.reading I.following E.kind (Both (λ o1 o2. o1)
-        (Counted I.reading count) (Text I.reading I.spells (13 ∷ 10 ∷ []))) (I.view input.old)
+        (Counted I.reading count) (LiterallyBytes I.reading I.spells (13 ∷ 10 ∷ []))) (I.view
+              input.old)
         result (I.view input.new) }
 {
     terminated(take(count), Crlf).read_cut(input)

@@ -7,7 +7,7 @@ ghost use Rattle.format_resp.specs.declared.write.WriteError.TheVariants.{NoPart
 ghost use Rattle.std.specs.Fmt.{decimal, signed_decimal};
 ghost use Rattle.std.specs.List.{AllByRecursion};
 ghost use Rattle.std.specs.Prelude.{◌≡◌, ◌⊎◌, ◌++◌, ◌∷◌, [], length, IfErr, MatchBool, OnErr, OnOk};
-ghost use Rattle.winnow.specs.Texts.{Row};
+ghost use Rattle.winnow.specs.Texts.{EachText};
 
 use crate::reply::Reply;
 use memchr::memchr2;
@@ -155,7 +155,7 @@ fn write_elements<A: Allocator, B: Allocator>(
     replies: &[Reply<&[u8], A>],
     into: &mut Vec<u8, B>,
 ) -> Result<(), WriteError>
-    ensures written { OnOk result (Adds (Row (WrittenText level)) replies.now into.old.items
+    ensures written { OnOk result (Adds (EachText (WrittenText level)) replies.now into.old.items
         into.new.items) }
     ensures refused { IfErr result (IsRefusedAmong level replies.now) }
     ensures kept { Keeps into.old.items into.new.items }

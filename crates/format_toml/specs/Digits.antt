@@ -7,7 +7,7 @@ use Rattle.std.specs.Prelude.{◌∷◌, ◌++◌, zero, suc, length, drop}
 use Rattle.std.proofs.Common.{refl, sym, ap, subst, inl, inr, ◌∙◌, arith, get_or, drop-cons}
 use Rattle.std.proofs.Common.{◌⊎◌}
 use Rattle.format_toml.specs.Numbers.{DigitsText, NextText, NumberText}
-use Rattle.winnow.specs.Texts.{Among, OneOf, Row, Spelled, Then}
+use Rattle.winnow.specs.Texts.{EitherText, TokenOfText, EachText, Spelled, BothText}
 
 -- Behind digits of this number a digit is due, or nothing is; with what stands there the number is
 -- n.
@@ -15,7 +15,7 @@ abbrev pub Continues : ℕ → Bool → ℕ → List ℕ → ℕ → Type 0
 Continues base true number tokens n =
     (ds : List ℕ) × DigitsText base ds tokens × (n ≡ digits_value_after base number ds)
 Continues base false number tokens n =
-    (ds : List ℕ) × Row (NextText base) ds tokens × (n ≡ digits_value_after base number ds)
+    (ds : List ℕ) × EachText (NextText base) ds tokens × (n ≡ digits_value_after base number ds)
 
 pub head_of : {a b : ℕ} {xs ys : List ℕ} → a ∷ xs ≡ b ∷ ys → a ≡ b
 head_of e = ap (λ l. get_or l 0 0) e
@@ -29,18 +29,20 @@ no_cons e = absurd (omega (arith, ap (λ l. length l) e))
 module _ (base : ℕ) (most : base ≤ 36) where
   -- what a text of a first digit is
   pub first : (ds : List ℕ) (tokens : List ℕ) → DigitsText base ds tokens
-      → (d : ℕ) × (es : List ℕ) × (ys : List ℕ) × (digit_value d < base) × Row (NextText base) es ys
+      → (d : ℕ) × (es : List ℕ) × (ys : List ℕ) × (digit_value d < base)
+          × EachText (NextText base) es ys
       × (tokens ≡ d ∷ ys) × (ds ≡ d ∷ es)
-  unfolding Then OneOf
+  unfolding BothText TokenOfText
   first ds tokens (d, es, xs, ys, (is, x), row, e, f) =
       (d, es, ys, is, row, e ∙ ap (λ l. l ++ ys) x, f)
 
   -- and what one that goes on is: none, a digit, or an underscore and a digit
-  pub next : (ds : List ℕ) (tokens : List ℕ) → Row (NextText base) ds tokens
+  pub next : (ds : List ℕ) (tokens : List ℕ) → EachText (NextText base) ds tokens
       → ((ds ≡ []) × (tokens ≡ []))
       ⊎ ((d : ℕ) × (es : List ℕ) × (ys : List ℕ) × (digit_value d < base)
-      × Row (NextText base) es ys × ((tokens ≡ d ∷ ys) ⊎ (tokens ≡ 95 ∷ d ∷ ys)) × (ds ≡ d ∷ es))
-  unfolding Row Among OneOf Then Spelled
+      × EachText (NextText base) es ys × ((tokens ≡ d ∷ ys) ⊎ (tokens ≡ 95 ∷ d ∷ ys))
+          × (ds ≡ d ∷ es))
+  unfolding EachText EitherText TokenOfText BothText Spelled
   next [] tokens e = inl (refl, e)
   next (d ∷ es) tokens (xs, ys, inl (is, x), row, e) =
       inr (d, es, ys, is, row, inl (e ∙ ap (λ l. l ++ ys) x), refl)
@@ -55,19 +57,19 @@ module _ (base : ℕ) (most : base ≤ 36) where
         ap (λ k. k ∷ es) f,
       )
 
-  pub make_first : (d : ℕ) (es ys : List ℕ) → digit_value d < base → Row (NextText base) es ys
+  pub make_first : (d : ℕ) (es ys : List ℕ) → digit_value d < base → EachText (NextText base) es ys
       → DigitsText base (d ∷ es) (d ∷ ys)
-  unfolding Then OneOf
+  unfolding BothText TokenOfText
   make_first d es ys is row = (d, es, d ∷ [], ys, (is, refl), row, refl, refl)
 
-  make_next : (d : ℕ) (es ys : List ℕ) → digit_value d < base → Row (NextText base) es ys
-      → Row (NextText base) (d ∷ es) (d ∷ ys)
-  unfolding Row Among OneOf
+  make_next : (d : ℕ) (es ys : List ℕ) → digit_value d < base → EachText (NextText base) es ys
+      → EachText (NextText base) (d ∷ es) (d ∷ ys)
+  unfolding EachText EitherText TokenOfText
   make_next d es ys is row = (d ∷ [], ys, inl (is, refl), row, refl)
 
-  make_under : (d : ℕ) (es ys : List ℕ) → digit_value d < base → Row (NextText base) es ys
-      → Row (NextText base) (d ∷ es) (95 ∷ d ∷ ys)
-  unfolding Row Among OneOf Then Spelled
+  make_under : (d : ℕ) (es ys : List ℕ) → digit_value d < base → EachText (NextText base) es ys
+      → EachText (NextText base) (d ∷ es) (95 ∷ d ∷ ys)
+  unfolding EachText EitherText TokenOfText BothText Spelled
   make_under d es ys is row = (
     95 ∷ d ∷ [],
     ys,
@@ -88,7 +90,7 @@ module _ (base : ℕ) (most : base ≤ 36) where
       → Continues base false (number * base + digit_value c) cs n
   digit_on true number c cs n is (ds, text, v) =
       let (d, es, ys, less, row, e, f) = first ds (c ∷ cs) text in
-      let P : List ℕ → Type 0 = λ l. Row (NextText base) es l in (
+      let P : List ℕ → Type 0 = λ l. EachText (NextText base) es l in (
         es,
         subst P (sym (tail_of e)) row,
         v ∙ ap (λ l. digits_value_after base number l) f
@@ -98,7 +100,7 @@ module _ (base : ℕ) (most : base ≤ 36) where
   digit_on false number c cs n is (ds, text, v) = elim (next ds (c ∷ cs) text) [
     | inl (f, e) ↦ absurd (no_cons (sym e))
     | inr (d, es, ys, less, row, inl e, f) ↦
-        let P : List ℕ → Type 0 = λ l. Row (NextText base) es l in (
+        let P : List ℕ → Type 0 = λ l. EachText (NextText base) es l in (
           es,
           subst P (sym (tail_of e)) row,
           v ∙ ap (λ l. digits_value_after base number l) f
@@ -131,7 +133,7 @@ module _ (base : ℕ) (most : base ≤ 36) where
       → Continues base false number (95 ∷ cs) n
   under_back number cs n (ds, text, v) =
       let (d, es, ys, less, row, e, f) = first ds cs text in
-      let P : List ℕ → Type 0 = λ l. Row (NextText base) (d ∷ es) (95 ∷ l) in (
+      let P : List ℕ → Type 0 = λ l. EachText (NextText base) (d ∷ es) (95 ∷ l) in (
         d ∷ es,
         subst P (sym e) (make_under d es ys less row),
         v ∙ ap (λ l. digits_value_after base number l) f,
@@ -147,7 +149,7 @@ module _ (base : ℕ) (most : base ≤ 36) where
   ]
 
   pub done_back : (number : ℕ) → Continues base false number [] number
-  unfolding Row
+  unfolding EachText
   done_back number = ([], refl, refl)
 
   pub not_done : (number n : ℕ) → Continues base true number [] n → ⊥

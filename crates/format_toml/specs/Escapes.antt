@@ -9,7 +9,7 @@ use Rattle.format_toml.specs.Toml.{IsWide, StandsFor, Tells}
 use Rattle.format_toml.specs.Words.{char_takes, char_unique}
 use Rattle.format_toml.specs.declared.characters.Characters.TheVariants.{Basic}
 use Rattle.winnow.specs.OneOf.Laws.{token_of_takes}
-use Rattle.winnow.specs.Grammar.{IsUnique, Takes}
+use Rattle.winnow.specs.Grammar.{IsUnique, TakesTokens}
 use Rattle.winnow.specs.Grammar.Meaning.{Meaning, meaning_unique}
 use Rattle.winnow.specs.Grammar.Outputs.{IsAlike, both_alike}
 use Rattle.winnow.specs.Grammar.Sequences.{four_unique}
@@ -55,7 +55,7 @@ character_unique =
     either_unique (token_of_unique (λ c. c) Tells Basic)
     (both_unique latter (char_unique 92) escape_unique)
 
-pub character_takes : Takes Character
+pub character_takes : TakesTokens Character
 character_takes =
     either_takes (token_of_takes (λ c. c) Tells Basic)
     (both_take latter (char_unique 92) escape_unique (inl (char_takes 92)))

@@ -17,7 +17,7 @@ use Rattle.format_toml.specs.declared.expected.Lack.{Lack}
 use Rattle.format_toml.specs.declared.expected.Outcome as ways
 use Rattle.format_toml.specs.declared.expected.Outcome.TheVariants.{Last, Before}
 use Rattle.format_toml.specs.declared.expected.Outcome.TheVariants as lines
-use Rattle.winnow.specs.Grammar.{Both, Grammar, NoneStands, Takes}
+use Rattle.winnow.specs.Grammar.{Both, Grammar, NoneStands, TakesTokens}
 use Rattle.winnow.specs.Grammar.Unique.{both_take, either_takes}
 use Rattle.winnow.specs.Texts.{Begins, NotFirst}
 
@@ -126,7 +126,7 @@ module _ (A : Type 0) where
 -- ---- lemmas
 
 -- a line end takes tokens
-newline_takes : Takes Newline
+newline_takes : TakesTokens Newline
 newline_takes =
     either_takes (char_takes 10)
     (both_take latter (char_unique 13) (char_unique 10) (inl (char_takes 13)))

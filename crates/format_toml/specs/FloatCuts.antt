@@ -17,7 +17,7 @@ use Rattle.format_toml.specs.Floats.{IsMagnitude, IsSign, IsTail, IsWhole, Signe
 use Rattle.format_toml.specs.Floats.{SplitsAt}
 use Rattle.format_toml.specs.Floats.{Unsigned}
 use Rattle.format_toml.specs.Numbers.{NextText}
-use Rattle.winnow.specs.Texts.{Row}
+use Rattle.winnow.specs.Texts.{EachText}
 
 -- ---- one place alone
 
@@ -49,17 +49,17 @@ IsDigitLike c = ((48 ≤ c) × (c ≤ 57)) ⊎ (c ≡ 95)
 none_all : (P : ℕ → Type 0) → All P []
 none_all P k d less = absurd (omega (arith, less))
 
-row_like : (ds tokens : List ℕ) → Row (NextText 10) ds tokens → All IsDigitLike tokens
-unfolding Row
+row_like : (ds tokens : List ℕ) → EachText (NextText 10) ds tokens → All IsDigitLike tokens
+unfolding EachText
 row_like [] tokens e = subst (λ l. All IsDigitLike l) (sym e) (none_all IsDigitLike)
 row_like (d ∷ ds) tokens row = elim (next 10 (omega arith) (d ∷ ds) tokens row) [
   | inl (e, none) ↦ subst (λ l. All IsDigitLike l) (sym none) (none_all IsDigitLike)
   | inr (c, es, ys, less, others, inl e, f) ↦
-      let here = subst (λ l. Row (NextText 10) l ys) (sym (tail_of f)) others in
+      let here = subst (λ l. EachText (NextText 10) l ys) (sym (tail_of f)) others in
       subst (λ l. All IsDigitLike l) (sym e)
       (All-cons IsDigitLike c ys (inl (digit_from_value c less)) (row_like ds ys here))
   | inr (c, es, ys, less, others, inr e, f) ↦
-      let here = subst (λ l. Row (NextText 10) l ys) (sym (tail_of f)) others in
+      let here = subst (λ l. EachText (NextText 10) l ys) (sym (tail_of f)) others in
       subst (λ l. All IsDigitLike l) (sym e)
       (All-cons IsDigitLike 95 (c ∷ ys) (inr refl)
       (All-cons IsDigitLike c ys (inl (digit_from_value c less)) (row_like ds ys here)))

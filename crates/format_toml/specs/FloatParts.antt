@@ -15,14 +15,14 @@ use Rattle.format_toml.specs.Digits.{done_back, under_on}
 use Rattle.format_toml.specs.Floats.{AreDigits}
 use Rattle.format_toml.specs.Floats.{IsWhole}
 use Rattle.format_toml.specs.Numbers.{NextText}
-use Rattle.winnow.specs.Texts.{Row}
+use Rattle.winnow.specs.Texts.{EachText}
 
 -- ---- digits in a loop
 
 -- A digit is due, or digits go on.
 abbrev pub GoOn : Bool → List ℕ → Type 0
 GoOn true tokens = AreDigits tokens
-GoOn false tokens = (digits : List ℕ) × Row (NextText 10) digits tokens
+GoOn false tokens = (digits : List ℕ) × EachText (NextText 10) digits tokens
 
 number : (due : Bool) (m : ℕ) (tokens : List ℕ) → GoOn due tokens
     → (n : ℕ) × Continues 10 due m tokens n

@@ -20,7 +20,7 @@ use Rattle.format_toml.specs.declared.characters.Characters.TheVariants.{White}
 use Rattle.format_toml_tree.specs.declared.value.Item.{Item}
 use Rattle.format_toml_tree.specs.declared.value.Key.{Key}
 use Rattle.format_toml_tree.specs.declared.value.Value.{Value}
-use Rattle.winnow.specs.Grammar.{Both, Either, Gathered, Grammar, Longest, Many, Maybe}
+use Rattle.winnow.specs.Grammar.{Both, Either, Gathered, Grammar, Longest, Many, Optional}
 use Rattle.winnow.specs.Grammar.{Nothing, Parted, Three, Token, TokenOf}
 use Rattle.winnow.specs.Grammar.Meaning.{Meaning}
 use Rattle.winnow.specs.Accumulator.Holds.{HasCharacters}
@@ -39,7 +39,7 @@ AnyComment =
 
 -- a character of white space, or a line end with a comment before it or none
 abbrev pub GapPart : Grammar ℕ ℕ
-GapPart = Either (TokenOf (λ c. c) Tells White) (Both latter (Maybe AnyComment) Newline)
+GapPart = Either (TokenOf (λ c. c) Tells White) (Both latter (Optional AnyComment) Newline)
 
 abbrev pub Gap : Grammar ℕ ⊤
 Gap = Gathered (λ all parts. ⊤) (Many GapPart (from_to 0 None))
@@ -62,8 +62,9 @@ abbrev pub Listing : {T O M W A : Type 0} → Grammar T O → Grammar T M → Gr
     → Grammar T W → Grammar T (Option (Vec O A))
 Listing element opening comma closing gap =
     Three (λ o1 o2 o3. o2) (Both pair opening gap)
-    (Maybe (Both former (Gathered (λ list os. list.items ≡ os)
-    (Parted element (Both pair comma gap) (from_to 1 None))) (Maybe (Both pair comma gap)))) closing
+    (Optional (Both former (Gathered (λ list os. list.items ≡ os)
+    (Parted element (Both pair comma gap) (from_to 1 None))) (Optional
+          (Both pair comma gap)))) closing
 
 -- ---- strings, booleans and integers
 
@@ -181,7 +182,7 @@ module _ {A : Type 0} where
   abbrev pub ArrayValues : Grammar ℕ (Value A) → Grammar ℕ (Vec (Value A) A)
   ArrayValues value =
       Both former (Gathered (λ list os. list.items ≡ os)
-      (Parted (GappedOut value) (WideMark 44) (from_to 1 None))) (Maybe (WideMark 44))
+      (Parted (GappedOut value) (WideMark 44) (from_to 1 None))) (Optional (WideMark 44))
 
   abbrev pub Array : Grammar ℕ (Value A) → Grammar ℕ (Option (Vec (Value A) A))
   Array value = Listing (GappedOut value) (Char 91) (Char 44) (Char 93) Gap
@@ -216,7 +217,8 @@ module _ {A : Type 0} where
       Led (λ c. c ≡ 91) (Both latter (Char 91) Table) (Meaning IsEntry (Entry level))
 
   abbrev pub Line : ℕ → Grammar ℕ (Option (Item A))
-  Line level = Three (λ o1 o2 o3. o2) Ws (Maybe (SpacedOut (AnyItem level))) (Maybe AnyComment)
+  Line level = Three (λ o1 o2 o3. o2) Ws (Optional (SpacedOut (AnyItem level)))
+        (Optional AnyComment)
 
   abbrev pub Document : ℕ → Grammar ℕ (Vec (Option (Item A)) A)
   Document level =

@@ -15,7 +15,7 @@ use Rattle.format_toml.specs.Digits.{first, head_of, make_first, next, no_cons, 
 use Rattle.format_toml.specs.Numbers.{AnyIntegerText, BasedText, BehindZero}
 use Rattle.format_toml.specs.Numbers.{IntegerText, IsIntegerOf, IsNumber, IsSigned}
 use Rattle.format_toml.specs.Numbers.{NextText, NumberText, UnsignedText}
-use Rattle.winnow.specs.Texts.{Among, Of, Row, Spelled, Text, Then}
+use Rattle.winnow.specs.Texts.{EitherText, MadeText, EachText, Spelled, Text, BothText}
 
 -- ---- what begins digits
 
@@ -31,7 +31,7 @@ alone : (base m c : ℕ) → base ≤ 36 → NumberText base m (c ∷ []) → m 
 unfolding NumberText
 alone base m c most (ds, text, v) =
     let (d, es, ys, less, row, e, f) = first base most ds (c ∷ []) text in
-    let P : List ℕ → Type 0 = λ l. Row (NextText base) es l in
+    let P : List ℕ → Type 0 = λ l. EachText (NextText base) es l in
     elim (next base most es [] (subst P (sym (tail_of e)) row)) [
       | inl (g, _) ↦
           omega (
@@ -45,7 +45,7 @@ alone base m c most (ds, text, v) =
     ]
 
 zero_alone : UnsignedText 0 (48 ∷ [])
-unfolding UnsignedText NumberText Row
+unfolding UnsignedText NumberText EachText
 zero_alone = (
   (48 ∷ [], make_first 10 (omega arith) 48 [] [] (omega arith) refl, refl),
   λ others e. sym (tail_of e),
@@ -68,7 +68,7 @@ Sorted n tokens =
 
 based : (letter base m : ℕ) (tokens : List ℕ) → BasedText letter base m tokens
     → (rest : List ℕ) × (tokens ≡ 48 ∷ letter ∷ rest) × NumberText base m rest
-unfolding Then Spelled
+unfolding BothText Spelled
 based letter base m tokens
     (o, q, xs, ys, (u, v, us, vs, (_, a), (_, b), x, _), number, e, f) = (
       ys,
@@ -78,7 +78,7 @@ based letter base m tokens
 
 based_back : (letter base m : ℕ) (rest : List ℕ) → NumberText base m rest
     → BasedText letter base m (48 ∷ letter ∷ rest)
-unfolding Then Spelled
+unfolding BothText Spelled
 based_back letter base m rest number = (
   letter,
   m,
@@ -100,7 +100,7 @@ based_back letter base m rest number = (
 )
 
 pub sort : (n : ℤ) (tokens : List ℕ) → AnyIntegerText n tokens → Sorted n tokens
-unfolding Among Of Then Spelled BehindZero
+unfolding EitherText MadeText BothText Spelled BehindZero
 sort n tokens (inl (inl (m, x, e))) = inl (m, x, e)
 sort n tokens (inl (inr (inl (m, (o, q, xs, ys, (_, a), x, e, f), g)))) =
     inr (inl (m, ys, subst (λ k. UnsignedText k ys) (sym f) x, e ∙ ap (λ l. l ++ ys) a, g))
@@ -122,7 +122,7 @@ leads_unsigned m c rest (number, lone) = leads 10 m c rest (omega arith) number
 
 pub plus : {tokens rest : List ℕ} → tokens ≡ 43 ∷ rest
     → Reduces (λ m. pos m) UnsignedText rest tokens
-unfolding Among Of Then Spelled
+unfolding EitherText MadeText BothText Spelled
 plus {tokens} {rest} is = record {
   same = λ n. (
     λ x. from n (sort n (43 ∷ rest) (subst (λ l. AnyIntegerText n l) is x)),
@@ -139,7 +139,7 @@ plus {tokens} {rest} is = record {
 
 pub minus : {tokens rest : List ℕ} → tokens ≡ 45 ∷ rest
     → Reduces (λ m. neg_ℤ (pos m)) UnsignedText rest tokens
-unfolding Among Of Then Spelled
+unfolding EitherText MadeText BothText Spelled
 minus {tokens} {rest} is = record {
   same = λ n. (
     λ x. from n (sort n (45 ∷ rest) (subst (λ l. AnyIntegerText n l) is x)),
@@ -157,7 +157,7 @@ minus {tokens} {rest} is = record {
 
 pub zeroed : {tokens rest : List ℕ} → tokens ≡ 48 ∷ rest
     → Reduces (λ m. pos m) BehindZero rest tokens
-unfolding Among Of BehindZero UnsignedText
+unfolding EitherText MadeText BehindZero UnsignedText
 zeroed {tokens} {rest} is = record {
   same = λ n. (
     λ x. from n (sort n (48 ∷ rest) (subst (λ l. AnyIntegerText n l) is x)),
@@ -187,7 +187,8 @@ zeroed {tokens} {rest} is = record {
     to n m (inr (inl (ys, e, x))) g =
         inr (
           m,
-          subst (λ l. Among (BasedText 120 16) (Among (BasedText 111 8) (BasedText 98 2)) m
+          subst (λ l. EitherText (BasedText 120 16)
+                  (EitherText (BasedText 111 8) (BasedText 98 2)) m
               (48 ∷ l)) (sym e)
               (inl (based_back 120 16 m ys x)),
           g,
@@ -195,7 +196,8 @@ zeroed {tokens} {rest} is = record {
     to n m (inr (inr (inl (ys, e, x)))) g =
         inr (
           m,
-          subst (λ l. Among (BasedText 120 16) (Among (BasedText 111 8) (BasedText 98 2)) m
+          subst (λ l. EitherText (BasedText 120 16)
+                  (EitherText (BasedText 111 8) (BasedText 98 2)) m
               (48 ∷ l)) (sym e)
               (inr (inl (based_back 111 8 m ys x))),
           g,
@@ -203,7 +205,8 @@ zeroed {tokens} {rest} is = record {
     to n m (inr (inr (inr (ys, e, x)))) g =
         inr (
           m,
-          subst (λ l. Among (BasedText 120 16) (Among (BasedText 111 8) (BasedText 98 2)) m
+          subst (λ l. EitherText (BasedText 120 16)
+                  (EitherText (BasedText 111 8) (BasedText 98 2)) m
               (48 ∷ l)) (sym e)
               (inr (inr (based_back 98 2 m ys x))),
           g,
@@ -211,7 +214,7 @@ zeroed {tokens} {rest} is = record {
 
 pub plain : {tokens rest : List ℕ} {c : ℕ} → tokens ≡ c ∷ rest → (c ≡ 43 → ⊥) → (c ≡ 45 → ⊥)
     → (c ≡ 48 → ⊥) → Reduces (λ m. pos m) UnsignedText tokens tokens
-unfolding Among Of
+unfolding EitherText MadeText
 plain {tokens} {rest} {c} is no_plus no_minus no_zero = record {
   same = λ n. (λ x. from n (sort n tokens x), λ (m, x, e). inl (inl (m, x, e)));
 }

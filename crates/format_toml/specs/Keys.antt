@@ -20,11 +20,11 @@ use Rattle.format_toml.specs.declared.characters.Characters.TheVariants.{Bare}
 use Rattle.format_toml_tree.specs.declared.value.Value.{Value}
 use Rattle.winnow.specs.Grammar.{Grammar}
 use Rattle.winnow.specs.Grammar.Meaning.{Meaning}
-use Rattle.winnow.specs.Texts.{Among, Anything, AtLeast, Begins, BeginsIn, InFront, InList}
-use Rattle.winnow.specs.Texts.{IsGrammarOf, Joined, NotFirst, Text}
-use Rattle.winnow.specs.Texts.Fronts.{among_front, begins_wider, front_any, front_begins}
+use Rattle.winnow.specs.Texts.{EitherText, Anything, AtLeast, Begins, BeginsIn, InFront, InList}
+use Rattle.winnow.specs.Texts.{IsGrammarOf, PartedText, NotFirst, Text}
+use Rattle.winnow.specs.Texts.Fronts.{either_front, begins_wider, front_any, front_begins}
 use Rattle.winnow.specs.Texts.Fronts.{in_list_front, may_begin, none_begins, spelled_begins}
-use Rattle.winnow.specs.Texts.Fronts.{then_front}
+use Rattle.winnow.specs.Texts.Fronts.{both_front}
 use Rattle.winnow.specs.Texts.Parts.{behind_less, three_of}
 use Rattle.winnow.specs.Texts.Rows.{list_of, parted_of}
 
@@ -75,7 +75,7 @@ ends_point c (inr e) f = absurd (omega (arith, e, f))
 
 module _ {A : Type 0} where
   after_basic_of : IsGrammarOf (Led (λ c. c ≡ 39) (LiteralString {A = A}) (AnyCharacters Bare 1))
-      (Among LiteralText (CharactersText Bare 1)) (NotFirst IsBare)
+      (EitherText LiteralText (CharactersText Bare 1)) (NotFirst IsBare)
   after_basic_of =
       led_of (behind_less (λ rest b. tt) literal_string_of) (characters_of Bare 1)
       literal_string_begins
@@ -83,9 +83,9 @@ module _ {A : Type 0} where
       (characters_begin Bare))
 
   after_basic_begins : BeginsIn (λ c. (c ≡ 39) ⊎ IsBare c)
-      (Among (LiteralText {A = A}) (CharactersText Bare 1))
+      (EitherText (LiteralText {A = A}) (CharactersText Bare 1))
   after_basic_begins =
-      among_front (begins_wider (λ c e. inl e) literal_string_begins)
+      either_front (begins_wider (λ c e. inl e) literal_string_begins)
       (begins_wider (λ c bare. inr bare) (characters_begin Bare))
 
   name_of : IsGrammarOf (Name {A = A}) NameText (NotFirst IsBare)
@@ -99,16 +99,16 @@ module _ {A : Type 0} where
 
   name_begins : BeginsIn OpensKey (NameText {A = A})
   name_begins =
-      among_front (begins_wider (λ c e. inl e) basic_string_begins)
+      either_front (begins_wider (λ c e. inl e) basic_string_begins)
       (begins_wider (λ c o. inr o) after_basic_begins)
 
   -- ---- keys
 
-  names_of : IsGrammarOf (Names {A = A}) (InList (AtLeast 1 (Joined (MarkText 46)
+  names_of : IsGrammarOf (Names {A = A}) (InList (AtLeast 1 (PartedText (MarkText 46)
       (Spaced NameText)))) (Begins EndsKey)
   names_of =
       list_of (parted_of (spaced_of space_bare name_of) (mark_of 46)
-      (then_front pair (front_begins
+      (both_front pair (front_begins
       (past IsBare 46 (omega arith) (λ bare. (bare_is 46 bare).2 refl))
       (spelled_begins 46 [] 46)) front_any)
       (front_begins (λ c o. no_space c (omega (arith, (opens_key_is c o).0)))
@@ -132,10 +132,10 @@ module _ {A : Type 0} where
       → IsGrammarOf (Pair g) (PairText value) follow
   pair_of is front =
       three_of pair latter key_of (mark_of 61) is
-      (then_front pair (begins_wider (λ c e. inl e) (spelled_begins 61 [] 61)) front_any) front
+      (both_front pair (begins_wider (λ c e. inl e) (spelled_begins 61 [] 61)) front_any) front
 
   pub pair_begins : (value : Text ℕ (Value A)) → BeginsIn OpensKey (PairText value)
-  pair_begins value = then_front pair key_begins front_any
+  pair_begins value = both_front pair key_begins front_any
 
   -- ---- headers
 
@@ -147,8 +147,8 @@ module _ {A : Type 0} where
 
   header_front : InFront (HeaderText {A = A}) Anything (NotFirst (λ c. c ≡ 91))
   header_front =
-      then_front latter (ws_front (λ c s e. no_space c (omega (arith, e)) s) (λ rest b. b))
-      (then_front former (front_begins (λ c o. (opens_key_is c o).4) key_begins) front_any)
+      both_front latter (ws_front (λ c s e. no_space c (omega (arith, e)) s) (λ rest b. b))
+      (both_front former (front_begins (λ c o. (opens_key_is c o).4) key_begins) front_any)
 
   double_of : IsGrammarOf (DoubleHeader {A = A}) (Between (One 91) HeaderText (One 93)) Anything
   double_of = between_of (char_of 91) header_of (char_of 93) front_any front_any
@@ -156,5 +156,5 @@ module _ {A : Type 0} where
   pub table_of : IsGrammarOf (Table {A = A}) TableText Anything
   table_of =
       led_of (for_of IsTables double_of) (for_of IsTable header_of)
-      (for_front IsTables (then_front latter (spelled_begins 91 [] 91) front_any))
+      (for_front IsTables (both_front latter (spelled_begins 91 [] 91) front_any))
       (for_front IsTable header_front)

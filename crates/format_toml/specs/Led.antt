@@ -11,7 +11,7 @@ use Rattle.winnow.specs.Mode.{mode_kind}
 use Rattle.winnow.specs.Input.{Input}
 use Rattle.winnow.specs.Kind.{Kind}
 use Rattle.winnow.specs.Text.{text_reading}
-use Rattle.winnow.specs.Texts.{Among, Begins, BeginsIn, InFront, IsGrammarOf, NotFirst, Text}
+use Rattle.winnow.specs.Texts.{EitherText, Begins, BeginsIn, InFront, IsGrammarOf, NotFirst, Text}
 use Rattle.winnow.specs.Texts.Fronts.{begins_never}
 
 -- A character of these is first, and the former stands; or none of these is, and the latter does.
@@ -23,8 +23,8 @@ module _ {O : Type 0} {g h : Grammar ℕ O} {these : ℕ → Type 0} where
   pub led_of : {first second : Text ℕ O} {follow : List ℕ → Type 0} → IsGrammarOf g first follow
       → IsGrammarOf h second follow → BeginsIn these first
       → InFront second follow (NotFirst these)
-      → IsGrammarOf (Led these g h) (Among first second) follow
-  unfolding Led Among
+      → IsGrammarOf (Led these g h) (EitherText first second) follow
+  unfolding Led EitherText
   led_of one two begins outside = record {
     there = λ tokens o rest it. elim it [
       | inl (b, x) ↦ let (front, e, a) = one.there tokens o rest x in (front, e, inl a)

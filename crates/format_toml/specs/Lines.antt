@@ -14,10 +14,10 @@ use Rattle.format_toml.specs.Spaces.{spaced_of, tail_is, ws_of}
 use Rattle.format_toml.specs.Toml.{DocumentText, IsEntry, ItemText, LineText, Spaced, ValueText}
 use Rattle.format_toml.specs.Values.{entry_of}
 use Rattle.winnow.specs.Texts.{AtEnd, BeginsIn, IsGrammarOf, MayBegin}
-use Rattle.winnow.specs.Texts.Fronts.{among_front, begins_wider, front_any, front_begins}
+use Rattle.winnow.specs.Texts.Fronts.{either_front, begins_wider, front_any, front_begins}
 use Rattle.winnow.specs.Texts.Fronts.{front_behind, may_begin_more, may_begin_none}
-use Rattle.winnow.specs.Texts.Fronts.{none_begins, perhaps_front, spelled_begins, then_front}
-use Rattle.winnow.specs.Texts.Parts.{behind_less, both_of, maybe_of}
+use Rattle.winnow.specs.Texts.Fronts.{none_begins, optional_front, spelled_begins, both_front}
+use Rattle.winnow.specs.Texts.Parts.{behind_less, both_of, optional_of}
 use Rattle.winnow.specs.Texts.Rows.{list_of, parted_of}
 
 -- what a table or an entry begins with
@@ -41,29 +41,29 @@ module _ {A : Type 0} (level : ℕ) where
   item_of : IsGrammarOf (AnyItem {A = A} level) (ItemText level) Goes
   item_of =
       led_of (behind_less (λ rest b. tt) (both_of latter (char_of 91) table_of front_any))
-      (for_of IsEntry (entry_of level)) (then_front latter (spelled_begins 91 [] 91) front_any)
+      (for_of IsEntry (entry_of level)) (both_front latter (spelled_begins 91 [] 91) front_any)
       (front_begins (λ c o. (opens_key_is c o).4)
       (for_front IsEntry (pair_begins (ValueText level))))
 
   item_begins : BeginsIn OpensItem (Spaced (ItemText {A = A} level))
   item_begins =
-      spaced_begins (among_front
-      (begins_wider (λ c e. inl e) (then_front latter (spelled_begins 91 [] 91) front_any))
+      spaced_begins (either_front
+      (begins_wider (λ c e. inl e) (both_front latter (spelled_begins 91 [] 91) front_any))
       (begins_wider (λ c o. inr o) (for_front IsEntry (pair_begins (ValueText level)))))
 
   line_of : IsGrammarOf (Line {A = A} level) (LineText level) (MayBegin IsBreak)
   line_of =
       between_of ws_of
-      (maybe_of (behind_less (may_begin_more IsTail (λ c. IsSpace c ⊎ GoesOn c → ⊥) tail_past)
+      (optional_of (behind_less (may_begin_more IsTail (λ c. IsSpace c ⊎ GoesOn c → ⊥) tail_past)
       (spaced_of space_goes item_of))
       (λ rest b. none_begins (spaced_of space_goes item_of) item_begins rest
       (may_begin_more IsTail (λ c. OpensItem c → ⊥) tail_opens rest b)))
       maybe_comment_of
       (front_behind (may_begin_more IsTail (λ c. IsSpace c → ⊥) (λ c is. (tail_is c is).1))
-      (perhaps_front (front_begins
+      (optional_front (front_begins
       (λ c o. no_space c (omega (arith, (opens_is c o).0))) item_begins)))
       (front_behind (may_begin_more IsBreak IsTail (λ c is. inr is))
-      (perhaps_front (front_begins (λ c e. inl e) comment_begins)))
+      (optional_front (front_begins (λ c e. inl e) comment_begins)))
 
 -- ---- documents
 

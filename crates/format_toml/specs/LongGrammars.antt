@@ -3,7 +3,7 @@ use Rattle.std.specs.Prelude.{⊤, ℕ, None}
 use Rattle.std.specs.declared.string.String.{String}
 use Rattle.format_json_texts.specs.Words.{Char, former, latter, pair}
 use Rattle.winnow.specs.Accumulator.Holds.{HasCharacters}
-use Rattle.winnow.specs.Grammar.{Absent, Ahead, Both, Either, Gathered, Grammar, Many, Maybe}
+use Rattle.winnow.specs.Grammar.{NotAhead, Ahead, Both, Either, Gathered, Grammar, Many, Optional}
 use Rattle.winnow.specs.Grammar.{Three}
 use Rattle.winnow.specs.Range.{from_to}
 
@@ -16,7 +16,7 @@ module _ {T O : Type 0} (quote : Grammar T O) where
 
   -- a quotation mark of the string: behind it, and three that close the string or none, no two are
   abbrev pub QuoteOf : Grammar T O
-  QuoteOf = Both former quote (Ahead (Both pair (Maybe ThreeOf) (Absent TwoOf)))
+  QuoteOf = Both former quote (Ahead (Both pair (Optional ThreeOf) (NotAhead TwoOf)))
 
   -- a character, behind what is skipped
   abbrev pub PartOf : Grammar T O → Grammar T ⊤ → Grammar T O
@@ -27,7 +27,7 @@ module _ {T M : Type 0} (quote : Grammar T M) (part : Grammar T ℕ) (skips : Gr
   -- a line end or none, and parts with what is skipped behind them
   abbrev pub BodyOf : {A : Type 0} → Grammar T (String A)
   BodyOf =
-      Both latter (Maybe newline) (Both former
+      Both latter (Optional newline) (Both former
       (Gathered HasCharacters (Many part (from_to 0 None))) skips)
 
   -- that between three quotation marks

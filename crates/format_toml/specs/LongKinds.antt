@@ -14,15 +14,16 @@ use Rattle.format_toml.specs.Toml.{AnyBasicText, AnyLiteralText, CharacterText, 
 use Rattle.format_toml.specs.declared.characters.Characters.TheVariants.{Basic, Literal}
 use Rattle.winnow.specs.Grammar.{Nothing}
 use Rattle.winnow.specs.Grammar.Unique.{unique_nothing}
-use Rattle.winnow.specs.Texts.{Among, Anything, BeginsIn, IsGrammarOf, NotFirst, OneOf, Text}
-use Rattle.winnow.specs.Texts.Fronts.{among_front, begins_wider, front_any, front_begins}
-use Rattle.winnow.specs.Texts.Fronts.{spelled_begins, then_front}
+use Rattle.winnow.specs.Texts.{EitherText, Anything, BeginsIn, IsGrammarOf, NotFirst, TokenOfText}
+use Rattle.winnow.specs.Texts.{Text}
+use Rattle.winnow.specs.Texts.Fronts.{either_front, begins_wider, front_any, front_begins}
+use Rattle.winnow.specs.Texts.Fronts.{spelled_begins, both_front}
 use Rattle.winnow.specs.Texts.Parts.{either_apart}
 
 -- ---- literal ones
 
 abbrev LiteralContentText : Text ℕ ℕ
-LiteralContentText = Among (OneOf (λ c. c) (IsOf Literal)) NewlineText
+LiteralContentText = EitherText (TokenOfText (λ c. c) (IsOf Literal)) NewlineText
 
 break_literal : (c : ℕ) → IsBreak c → IsOf Literal c → ⊥
 break_literal c (inl e) (inl f, not) = absurd (omega (arith, e, f))
@@ -43,7 +44,7 @@ literal_content_of =
 
 literal_content_begins : BeginsIn (λ c. c ≡ 39 → ⊥) LiteralContentText
 literal_content_begins =
-    among_front (begins_wider (λ c is. is.1) (set_begins Literal))
+    either_front (begins_wider (λ c is. is.1) (set_begins Literal))
     (begins_wider (λ c b. (break_quote c b).0) newline_begins)
 
 -- nothing is skipped
@@ -68,12 +69,12 @@ module _ {A : Type 0} where
       (short_apart 39 (begins_wider (λ c is. is.1) (set_begins Literal)))
 
   pub any_literal_begins : BeginsIn (λ c. c ≡ 39) (AnyLiteralText {A = A})
-  any_literal_begins = among_front (long_begins 39 _ _ _) literal_string_begins
+  any_literal_begins = either_front (long_begins 39 _ _ _) literal_string_begins
 
 -- ---- basic ones
 
 abbrev BasicContentText : Text ℕ ℕ
-BasicContentText = Among CharacterText NewlineText
+BasicContentText = EitherText CharacterText NewlineText
 
 break_basic : (c : ℕ) → IsBreak c → (IsOf Basic c ⊎ (c ≡ 92)) → ⊥
 break_basic c (inl e) (inl (inl f, not)) = absurd (omega (arith, e, f))
@@ -87,8 +88,8 @@ break_basic c (inr e) (inr f) = absurd (omega (arith, e, f))
 
 character_opens : BeginsIn (λ c. IsOf Basic c ⊎ (c ≡ 92)) CharacterText
 character_opens =
-    among_front (begins_wider (λ c is. inl is) (set_begins Basic))
-    (then_front latter (begins_wider (λ c e. inr e) (spelled_begins 92 [] 92)) front_any)
+    either_front (begins_wider (λ c is. inl is) (set_begins Basic))
+    (both_front latter (begins_wider (λ c e. inr e) (spelled_begins 92 [] 92)) front_any)
 
 basic_content_of : IsGrammarOf BasicContent BasicContentText Anything
 basic_content_of =
@@ -97,7 +98,7 @@ basic_content_of =
 
 basic_content_begins : BeginsIn (λ c. c ≡ 34 → ⊥) BasicContentText
 basic_content_begins =
-    among_front character_begins (begins_wider (λ c b. (break_quote c b).1) newline_begins)
+    either_front character_begins (begins_wider (λ c b. (break_quote c b).1) newline_begins)
 
 module _ {A : Type 0} where
   pub any_basic_of : IsGrammarOf (AnyBasic {A = A}) AnyBasicText (NotFirst (λ c. c ≡ 34))
@@ -107,4 +108,4 @@ module _ {A : Type 0} where
       (short_apart 34 character_begins)
 
   pub any_basic_begins : BeginsIn (λ c. c ≡ 34) (AnyBasicText {A = A})
-  any_basic_begins = among_front (long_begins 34 _ _ _) basic_string_begins
+  any_basic_begins = either_front (long_begins 34 _ _ _) basic_string_begins

@@ -5,8 +5,8 @@ use Rattle.format_json_texts.specs.Words.{Char, One, char_of, pair}
 use Rattle.format_toml.specs.LongGrammars.{Delimiter, Quote, TwoOf}
 use Rattle.format_toml.specs.LongTexts.{DelimiterText, one_and_two}
 use Rattle.winnow.specs.Equal.{same_others}
-use Rattle.winnow.specs.Grammar.{Absent, Ahead, Both, Maybe, NoneStands}
-use Rattle.winnow.specs.Texts.{Anything, IsGrammarOf, Spelled, Text, Then}
+use Rattle.winnow.specs.Grammar.{NotAhead, Ahead, Both, Optional, NoneStands}
+use Rattle.winnow.specs.Texts.{Anything, IsGrammarOf, Spelled, Text, BothText}
 use Rattle.winnow.specs.Texts.Fronts.{front_any}
 use Rattle.winnow.specs.Texts.Parts.{both_of, three_of}
 
@@ -26,18 +26,18 @@ module _ (quote : ℕ) where
   -- ---- two, and three
 
   abbrev TwoText : Text ℕ (ℕ × ℕ)
-  TwoText = Then pair (One quote) (One quote)
+  TwoText = BothText pair (One quote) (One quote)
 
   two_of : IsGrammarOf (TwoOf (Char quote)) TwoText Anything
   two_of = both_of pair (char_of quote) (char_of quote) front_any
 
   two_is : (o : ℕ × ℕ) (tokens : List ℕ) → TwoText o tokens → tokens ≡ quote ∷ quote ∷ []
-  unfolding Then Spelled
+  unfolding BothText Spelled
   two_is o tokens (a, b, xs, ys, (c, e), (d, f), g, h) =
       g ∙ ap (λ l. l ++ ys) e ∙ ap (λ l. quote ∷ l) f
 
   two_text : TwoText (quote, quote) (quote ∷ quote ∷ [])
-  unfolding Then Spelled
+  unfolding BothText Spelled
   two_text = (quote, quote, quote ∷ [], quote ∷ [], (refl, refl), (refl, refl), refl, refl)
 
   pub delimiter_of : IsGrammarOf (Delimiter quote) (DelimiterText quote) Anything
@@ -46,12 +46,12 @@ module _ (quote : ℕ) where
 
   pub three_is : (o : ℕ × ℕ × ℕ) (tokens : List ℕ) → DelimiterText quote o tokens
       → tokens ≡ quote ∷ quote ∷ quote ∷ []
-  unfolding Then Spelled
+  unfolding BothText Spelled
   three_is o tokens (a, b, xs, ys, (c, e), two, g, h) =
       g ∙ ap (λ l. l ++ ys) e ∙ ap (λ l. quote ∷ l) (two_is b ys two)
 
   pub three_text : DelimiterText quote (quote, quote, quote) (quote ∷ quote ∷ quote ∷ [])
-  unfolding Then Spelled
+  unfolding BothText Spelled
   three_text =
       (quote, (quote, quote), quote ∷ [], quote ∷ quote ∷ [], (refl, refl), two_text, refl, refl)
 
@@ -75,7 +75,7 @@ module _ (quote : ℕ) where
 
   pub quote_there : (tokens : List ℕ) (o : ℕ) (rest : List ℕ) → Quote quote tokens o rest
       → (tokens ≡ quote ∷ rest) × (o ≡ quote) × Clear rest
-  unfolding Both Ahead Maybe Absent Spelled
+  unfolding Both Ahead Optional NotAhead Spelled
   quote_there tokens o rest (a, b, mid, x, (end, (m, u, at, may, (none, left), e), same), out) =
       let (front, f, (is, g)) = (char_of quote).there tokens a mid x in
       let clear : Clear mid = elim may [
@@ -91,7 +91,7 @@ module _ (quote : ℕ) where
       )
 
   pub quote_back : (rest : List ℕ) → Clear rest → Quote quote (quote ∷ rest) quote rest
-  unfolding Both Ahead Maybe Absent Spelled
+  unfolding Both Ahead Optional NotAhead Spelled
   quote_back rest (inl not) =
       let one = (char_of quote).back quote (quote ∷ []) rest (refl, refl) tt in (
         quote,

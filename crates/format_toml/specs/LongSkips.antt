@@ -17,11 +17,12 @@ use Rattle.format_toml.specs.declared.characters.Characters.TheVariants.{White}
 use Rattle.winnow.specs.Equal.{same_others}
 use Rattle.winnow.specs.Grammar.{Both, Each, Gathered, Many, NoneStands}
 use Rattle.winnow.specs.Range.{from_to}
-use Rattle.winnow.specs.Texts.{Among, Anything, Begins, BeginsIn, Holding, InFront, IsGrammarOf}
-use Rattle.winnow.specs.Texts.{NotFirst, OneOf, Row, Spelled, Then}
-use Rattle.winnow.specs.Texts.Fronts.{among_front, begins_wider, front_any, front_begins}
+use Rattle.winnow.specs.Texts.{EitherText, Anything, Begins, BeginsIn, GatheredText, InFront}
+use Rattle.winnow.specs.Texts.{IsGrammarOf}
+use Rattle.winnow.specs.Texts.{NotFirst, TokenOfText, EachText, Spelled, BothText}
+use Rattle.winnow.specs.Texts.Fronts.{either_front, begins_wider, front_any, front_begins}
 use Rattle.winnow.specs.Texts.Fronts.{front_whole, may_begin, none_begins, spelled_begins}
-use Rattle.winnow.specs.Texts.Fronts.{then_front}
+use Rattle.winnow.specs.Texts.Fronts.{both_front}
 use Rattle.winnow.specs.Texts.Parts.{both_of, either_apart}
 use Rattle.winnow.specs.Texts.Rows.{each_back, each_there, gathered_of, many_of}
 
@@ -43,7 +44,7 @@ blank_below c (inr (inr e)) = omega (arith, e)
 
 blank_begins : BeginsIn IsBlank BlankText
 blank_begins =
-    among_front (begins_wider (λ c s. inl s) (set_begins White))
+    either_front (begins_wider (λ c s. inl s) (set_begins White))
     (begins_wider (λ c b. inr b) newline_begins)
 
 -- ---- one escaped line end
@@ -53,11 +54,11 @@ line_of =
     both_of latter (char_of 92) (both_of latter ws_of (both_of latter newline_of
     (gathered_of (λ (all : ⊤) parts. ⊤) (many_of blank_of (from_to 0 None) 0 refl front_any
     (λ rest b. tt) (λ rest none. none))) front_any)
-    (then_front latter (front_begins (λ c b s. (tail_is c (inr b)).1 s) newline_begins) front_any))
+    (both_front latter (front_begins (λ c b s. (tail_is c (inr b)).1 s) newline_begins) front_any))
     front_any
 
 line_begins : BeginsIn (λ c. c ≡ 92) EscapedLineText
-line_begins = then_front latter (spelled_begins 92 [] 92) front_any
+line_begins = both_front latter (spelled_begins 92 [] 92) front_any
 
 -- behind a backslash something blank is
 abbrev Second : (ℕ → Type 0) → List ℕ → Type 0
@@ -80,8 +81,8 @@ ws_blank = record { makes = λ slice xs rest x b. first xs rest x.0 b }
 
 line_second : InFront EscapedLineText Anything (Second IsBlank)
 line_second =
-    then_front latter (backslash_front IsBlank) (then_front latter ws_blank
-    (then_front latter (begins_wider (λ c b. inr b) newline_begins) front_any))
+    both_front latter (backslash_front IsBlank) (both_front latter ws_blank
+    (both_front latter (begins_wider (λ c b. inr b) newline_begins) front_any))
 
 -- it stands nowhere else
 no_line : (tokens : List ℕ) → Second (λ c. 33 < c) tokens → NoneStands EscapedLine tokens
@@ -129,7 +130,7 @@ again = record {
 
 skips_there : (tokens : List ℕ) (o : ⊤) (rest : List ℕ) → Skips tokens o rest
     → (xs : List ℕ) × (tokens ≡ xs ++ rest) × EscapedLines xs rest
-unfolding Gathered Many Holding
+unfolding Gathered Many GatheredText
 skips_there tokens o rest ([], held, (each, enough, stops)) = ([], sym each, inl refl)
 skips_there tokens o rest (p ∷ os, held, (each, enough, stops)) =
     let (xs, e, row) = each_there line_of (p ∷ os) tokens rest each in
@@ -138,7 +139,7 @@ skips_there tokens o rest (p ∷ os, held, (each, enough, stops)) =
 
 skips_back : (xs rest : List ℕ) → EscapedLines xs rest → NoneStands EscapedLine rest
     → Skips (xs ++ rest) tt rest
-unfolding Gathered Many Holding
+unfolding Gathered Many GatheredText
 skips_back xs rest (inl e) stop =
     let P : List ℕ → Type 0 = λ l. Skips (l ++ rest) tt rest in
     subst P (sym e) ([], tt, (refl, omega arith, inr (tt, stop)))
@@ -147,7 +148,7 @@ skips_back xs rest (inr ((os, held, row), none)) stop =
     (os, tt, (each, omega arith, inr (tt, stop)))
 
 skips_first : (x : ℕ) (xs rest : List ℕ) → EscapedLines (x ∷ xs) rest → x ≡ 34 → ⊥
-unfolding Holding Row
+unfolding GatheredText EachText
 skips_first x xs rest (inl e) is = omega (arith, ap (λ l. length l) e)
 skips_first x xs rest (inr (([], held, e), none)) is = omega (arith, ap (λ l. length l) e)
 skips_first x xs rest (inr ((o ∷ os, held, (us, vs, t, row, e)), none)) is =
@@ -159,7 +160,7 @@ skips_first x xs rest (inr ((o ∷ os, held, (us, vs, t, row, e)), none)) is =
 
 pub newline_free : (quote : ℕ) → (quote ≡ 10 → ⊥) → (quote ≡ 13 → ⊥) → (n : ℕ) (xs : List ℕ)
     → NewlineText n xs → Free quote xs
-unfolding Among Then Spelled
+unfolding EitherText BothText Spelled
 newline_free quote line back n xs (inl (is, e)) =
     subst (λ l. Free quote l) (sym e) ((λ f. line (sym f)), tt)
 newline_free quote line back n xs (inr (a, b, us, vs, (c, e), (d, f), g, h)) =
@@ -168,7 +169,7 @@ newline_free quote line back n xs (inr (a, b, us, vs, (c, e), (d, f), g, h)) =
     ((λ k. back (sym k)), ((λ k. line (sym k)), tt))
 
 blank_free : (n : ℕ) (xs : List ℕ) → BlankText n xs → Free 34 xs
-unfolding Among OneOf
+unfolding EitherText TokenOfText
 blank_free n xs (inl (is, e)) =
     subst (λ l. Free 34 l) (sym e)
     ((λ f. omega (arith, f, space_below n is)), tt)
@@ -187,16 +188,16 @@ wider xs zs rest (inl e) begins = inl e
 wider xs zs rest (inr (row, none)) begins =
     inr (row, none_longer 34 blank_free zs rest begins none)
 
-content_apart : InFront (Among CharacterText NewlineText) Anything (NoneStands EscapedLine)
+content_apart : InFront (EitherText CharacterText NewlineText) Anything (NoneStands EscapedLine)
 content_apart =
-    among_front (front_whole apart character_apart) (front_whole no_line_first
+    either_front (front_whole apart character_apart) (front_whole no_line_first
     (front_begins (λ c b e. absurd (omega (arith, e, blank_below c (inr b)))) newline_begins))
   where
     apart : (tokens : List ℕ) → Apart tokens → NoneStands EscapedLine tokens
     apart tokens (inl not) = no_line_first tokens not
     apart tokens (inr second) = no_line tokens second
 
-pub skipping_lines : Skipping 34 (Among CharacterText NewlineText) Skips EscapedLines
+pub skipping_lines : Skipping 34 (EitherText CharacterText NewlineText) Skips EscapedLines
     (NoneStands EscapedLine)
 skipping_lines = record {
   there = skips_there;

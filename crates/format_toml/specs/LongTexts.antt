@@ -3,14 +3,14 @@ use Rattle.std.specs.Prelude.{◌≡◌, ◌⊎◌, ℕ, suc, List, [], ◌∷�
 use Rattle.std.specs.declared.string.String.{String}
 use Rattle.format_json_texts.specs.Words.{Between, One, latter, pair}
 use Rattle.winnow.specs.Accumulator.Holds.{HasCharacters}
-use Rattle.winnow.specs.Texts.{Holding, Text, Then}
+use Rattle.winnow.specs.Texts.{GatheredText, Text, BothText}
 
 abbrev pub one_and_two : {A B C : Type 0} → A → B × C → A × B × C
 one_and_two a b = (a, b.0, b.1)
 
 -- ml-basic-string-delim = 3quotation-mark, ml-literal-string-delim = 3apostrophe
 abbrev pub DelimiterText : ℕ → Text ℕ (ℕ × ℕ × ℕ)
-DelimiterText quote = Then one_and_two (One quote) (Then pair (One quote) (One quote))
+DelimiterText quote = BothText one_and_two (One quote) (BothText pair (One quote) (One quote))
 
 -- no such text stands first
 abbrev pub NoneWritten : {O : Type 0} → Text ℕ O → List ℕ → Type 0
@@ -20,7 +20,7 @@ NoneWritten {O} text tokens =
 -- "A newline immediately following the opening delimiter will be trimmed."
 unfoldable pub Trimmed : {N O : Type 0} → Text ℕ N → Text ℕ O → Text ℕ O
 Trimmed newline text o tokens =
-    Then latter newline text o tokens ⊎ (text o tokens × NoneWritten newline tokens)
+    BothText latter newline text o tokens ⊎ (text o tokens × NoneWritten newline tokens)
 
 -- How many quotation marks may stand next, where so many might stand before these tokens.
 abbrev pub room_behind : ℕ → List ℕ → ℕ
@@ -46,5 +46,5 @@ module _ (quote : ℕ) (content : Text ℕ ℕ) (skipped : List ℕ → List ℕ
   -- ml-literal-string
   abbrev pub LongText : {A : Type 0} → Text ℕ ℕ → Text ℕ (String A)
   LongText newline =
-      Between (DelimiterText quote) (Trimmed newline (Holding HasCharacters (BodyText 2)))
+      Between (DelimiterText quote) (Trimmed newline (GatheredText HasCharacters (BodyText 2)))
       (DelimiterText quote)

@@ -12,12 +12,13 @@ use Rattle.format_toml.specs.LongTexts.{BodyText, DelimiterText, LongText, NoneW
 use Rattle.format_toml.specs.LongTexts.{Trimmed, one_and_two}
 use Rattle.winnow.specs.Accumulator.Holds.{HasCharacters}
 use Rattle.winnow.specs.Equal.{same_first, same_others}
-use Rattle.winnow.specs.Grammar.{Both, Either, Gathered, Grammar, Many, Maybe, NoneStands}
+use Rattle.winnow.specs.Grammar.{Both, Either, Gathered, Grammar, Many, Optional, NoneStands}
 use Rattle.winnow.specs.Range.{from_to}
-use Rattle.winnow.specs.Texts.{Among, Anything, Begins, BeginsIn, Holding, InFront, IsGrammarOf}
-use Rattle.winnow.specs.Texts.{NotFirst, Row, Spelled, Text, Then}
-use Rattle.winnow.specs.Texts.Fronts.{front_any, front_whole, holding_front, row_front}
-use Rattle.winnow.specs.Texts.Fronts.{spelled_begins, then_front}
+use Rattle.winnow.specs.Texts.{EitherText, Anything, Begins, BeginsIn, GatheredText, InFront}
+use Rattle.winnow.specs.Texts.{IsGrammarOf}
+use Rattle.winnow.specs.Texts.{NotFirst, EachText, Spelled, Text, BothText}
+use Rattle.winnow.specs.Texts.Fronts.{front_any, front_whole, gathered_front, each_front}
+use Rattle.winnow.specs.Texts.Fronts.{spelled_begins, both_front}
 use Rattle.winnow.specs.Texts.Parts.{behind_less, either_of}
 
 -- ---- what is not written
@@ -86,10 +87,10 @@ module _ (quote : ℕ) {content newline : Grammar ℕ ℕ} {text break : Text �
       Both former (Gathered HasCharacters (Many (Part quote content skips) (from_to 0 None))) skips
 
   abbrev PartsText : Text ℕ (String A)
-  PartsText = Holding HasCharacters (BodyText quote text skipped 2)
+  PartsText = GatheredText HasCharacters (BodyText quote text skipped 2)
 
   parts_of : IsGrammarOf Parts PartsText (Closes quote)
-  unfolding Before Both Gathered Many Holding
+  unfolding Before Both Gathered Many GatheredText
   parts_of = record {
     there = λ tokens all rest (o, u, mid, (os, held, (each, enough, stops)), skip, out).
         let (front, e, b) =
@@ -103,7 +104,7 @@ module _ (quote : ℕ) {content newline : Grammar ℕ ℕ} {text break : Text �
 
   body_of : IsGrammarOf (Body quote content skips newline) (Trimmed break PartsText)
       (Closes quote)
-  unfolding Trimmed Both Then Maybe
+  unfolding Trimmed Both BothText Optional
   body_of = record { there = there; back = back }
     where
       there : (tokens : List ℕ) (o : String A) (rest : List ℕ)
@@ -163,7 +164,7 @@ module _ (quote : ℕ) {content newline : Grammar ℕ ℕ} {text break : Text �
 
   none_long : (tokens : List ℕ) → NotThree quote tokens
       → NoneStands (Long {A = A} quote content skips newline) tokens
-  unfolding Then
+  unfolding BothText
   none_long tokens not o rest x =
       let (front, e, (d, p, xs, ys, t, u, f, out)) = long_of.there tokens o rest x in
       not (ys ++ rest) (e ∙ ap (λ l. l ++ rest) (f ∙ ap (λ l. l ++ ys) (three_is quote d xs t)))
@@ -173,7 +174,7 @@ module _ (quote : ℕ) {content newline : Grammar ℕ ℕ} {text break : Text �
       → IsGrammarOf short line Anything
       → InFront line (NotFirst (λ c. c ≡ quote)) (NotThree quote)
       → IsGrammarOf (Either (Long {A = A} quote content skips newline) short)
-      (Among (LongText quote text skipped {A = A} break) line) (NotFirst (λ c. c ≡ quote))
+      (EitherText (LongText quote text skipped {A = A} break) line) (NotFirst (λ c. c ≡ quote))
   long_or_short_of short_of apart =
       either_of long_of (behind_less (λ rest b. tt) short_of) (front_whole none_long apart)
 
@@ -182,7 +183,7 @@ pub long_begins : {A : Type 0} (quote : ℕ) (text break : Text ℕ ℕ)
     (skipped : List ℕ → List ℕ → Type 0)
     → BeginsIn (λ c. c ≡ quote) (LongText quote text skipped {A = A} break)
 long_begins quote text break skipped =
-    then_front latter (then_front one_and_two (spelled_begins quote [] quote) front_any) front_any
+    both_front latter (both_front one_and_two (spelled_begins quote [] quote) front_any) front_any
 
 -- A string on one line begins with no three quotation marks.
 module _ (quote : ℕ) {text : Text ℕ ℕ} (other : BeginsIn (λ c. c ≡ quote → ⊥) text) where
@@ -210,11 +211,11 @@ module _ (quote : ℕ) {text : Text ℕ ℕ} (other : BeginsIn (λ c. c ≡ quot
   }
 
   pub short_apart : {A : Type 0} → InFront
-      (Between (One quote) (Holding (HasCharacters {A = A}) (Row text)) (One quote))
+      (Between (One quote) (GatheredText (HasCharacters {A = A}) (EachText text)) (One quote))
       (NotFirst (λ c. c ≡ quote))
       (NotThree quote)
   short_apart =
-      then_front latter mark_three (then_front former
-      (holding_front HasCharacters (row_front (record {
+      both_front latter mark_three (both_front former
+      (gathered_front HasCharacters (each_front (record {
         makes = λ o xs rest t b. not_quote_two (xs ++ rest) (other.makes o xs rest t tt);
       }))) mark_apart)

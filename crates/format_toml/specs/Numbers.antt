@@ -5,19 +5,20 @@ use Rattle.std.specs.Prelude.{◌≡◌, ◌⊎◌, ◌<◌, ◌^◌, ℕ, ℤ, 
 use Rattle.std.specs.Prelude.{Option, Some, None}
 use Rattle.std.specs.Int.{w64}
 use Rattle.format_json_texts.specs.Words.{For, One, latter}
-use Rattle.winnow.specs.Texts.{Among, OneOf, Row, Text, Then}
+use Rattle.winnow.specs.Texts.{EitherText, TokenOfText, EachText, Text, BothText}
 
 -- DIGIT, HEXDIG, digit0-7, digit0-1: a digit of a base
 abbrev pub DigitText : ℕ → Text ℕ ℕ
-DigitText base = OneOf (λ c. c) (λ c. digit_value c < base)
+DigitText base = TokenOfText (λ c. c) (λ c. digit_value c < base)
 
 -- DIGIT / underscore DIGIT
 abbrev pub NextText : ℕ → Text ℕ ℕ
-NextText base = Among (DigitText base) (Then latter (One 95) (DigitText base))
+NextText base = EitherText (DigitText base) (BothText latter (One 95) (DigitText base))
 
 -- DIGIT *( DIGIT / underscore DIGIT ), for the digits
 abbrev pub DigitsText : ℕ → Text ℕ (List ℕ)
-DigitsText base = Then (λ digit others. digit ∷ others) (DigitText base) (Row (NextText base))
+DigitsText base = BothText (λ digit others. digit ∷ others) (DigitText base)
+      (EachText (NextText base))
 
 -- the same for their number
 unfoldable pub NumberText : ℕ → Text ℕ ℕ
@@ -38,20 +39,20 @@ IsNegated n z = z ≡ neg_ℤ (pos n)
 
 -- 0x, 0o or 0b, which are these letters, and digits of the base
 abbrev pub BasedText : ℕ → ℕ → Text ℕ ℕ
-BasedText letter base = Then latter (Then latter (One 48) (One letter)) (NumberText base)
+BasedText letter base = BothText latter (BothText latter (One 48) (One letter)) (NumberText base)
 
 -- dec-int = [ minus / plus ] unsigned-dec-int
 abbrev pub DecimalText : Text ℕ ℤ
 DecimalText =
-    Among (For IsSame UnsignedText)
-    (Among (For IsSame (Then latter (One 43) UnsignedText))
-    (For IsNegated (Then latter (One 45) UnsignedText)))
+    EitherText (For IsSame UnsignedText)
+    (EitherText (For IsSame (BothText latter (One 43) UnsignedText))
+    (For IsNegated (BothText latter (One 45) UnsignedText)))
 
 -- integer = dec-int / hex-int / oct-int / bin-int
 abbrev pub AnyIntegerText : Text ℕ ℤ
 AnyIntegerText =
-    Among DecimalText
-    (For IsSame (Among (BasedText 120 16) (Among (BasedText 111 8) (BasedText 98 2))))
+    EitherText DecimalText
+    (For IsSame (EitherText (BasedText 120 16) (EitherText (BasedText 111 8) (BasedText 98 2))))
 
 -- an integer of 64 bits
 unfoldable pub IntegerText : Text ℕ ℤ

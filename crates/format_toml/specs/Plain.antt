@@ -34,8 +34,9 @@ use Rattle.winnow.specs.Kind.{Kind, backtrack, memory}
 use Rattle.winnow.specs.Range.{from_to}
 use Rattle.winnow.specs.Read.{reads_meaning}
 use Rattle.winnow.specs.Text.{text_reading}
-use Rattle.winnow.specs.Texts.{Among, Begins, BeginsIn, IsGrammarOf, Members, NotFirst, Of, Row}
-use Rattle.winnow.specs.Texts.Fronts.{among_front}
+use Rattle.winnow.specs.Texts.{EitherText, Begins, BeginsIn, IsGrammarOf, Members, NotFirst}
+use Rattle.winnow.specs.Texts.{MadeText, EachText}
+use Rattle.winnow.specs.Texts.Fronts.{either_front}
 use Rattle.winnow.specs.Texts.Parts.{text_of}
 use Rattle.winnow.specs.Texts.Tokens.{divides_seen, divides_where, longest_of}
 
@@ -83,17 +84,17 @@ digit_is c is = elim (split 48 c) [
   ]
 ]
 
-rest_are : (base : ℕ) → base ≤ 36 → (ds tokens : List ℕ) → Row (NextText base) ds tokens
+rest_are : (base : ℕ) → base ≤ 36 → (ds tokens : List ℕ) → EachText (NextText base) ds tokens
     → All IsUnquoted tokens
-unfolding Row
+unfolding EachText
 rest_are base most [] tokens e = subst (λ l. All IsUnquoted l) (sym e) no_tokens
 rest_are base most (d ∷ ds) tokens row = elim (next base most (d ∷ ds) tokens row) [
   | inl (e, none) ↦ subst (λ l. All IsUnquoted l) (sym none) no_tokens
   | inr (c, es, ys, less, others, inl e, f) ↦
-      let here = subst (λ l. Row (NextText base) l ys) (sym (same_others f)) others in
+      let here = subst (λ l. EachText (NextText base) l ys) (sym (same_others f)) others in
       (more_of c (digit_is c (omega (arith, less, most))) (rest_are base most ds ys here) e).0
   | inr (c, es, ys, less, others, inr e, f) ↦
-      let here = subst (λ l. Row (NextText base) l ys) (sym (same_others f)) others in
+      let here = subst (λ l. EachText (NextText base) l ys) (sym (same_others f)) others in
       let one = more_are c ys (digit_is c (omega (arith, less, most)))
       (rest_are base most ds ys here) in
       (more_of 95 (inr (inr (inr (inr (inr refl))))) one.0 e).0
@@ -183,16 +184,16 @@ module _ {A : Type 0} where
   float_begins_so = record { makes = λ f tokens rest (x, b) any. float_begins tokens rest x }
 
   plain_are : (v : Value A) (tokens : List ℕ) → PlainText v tokens → Are tokens
-  unfolding Of Among FloatText
+  unfolding MadeText EitherText FloatText
   plain_are v tokens (inl (n, x, e)) = integer_are n tokens x
   plain_are v tokens (inr (f, (x, b), e)) = float_are tokens x
 
   pub plain_begins : BeginsIn IsNumeric (PlainText {A = A})
   plain_begins =
-      among_front (for_front IsInteger integer_begins) (for_front MeansFloat float_begins_so)
+      either_front (for_front IsInteger integer_begins) (for_front MeansFloat float_begins_so)
 
   pub plain_of : IsGrammarOf (Plain {A = A}) PlainText (NotFirst IsUnquoted)
-  unfolding Of Members
+  unfolding MadeText Members
   plain_of = text_of there back (for_of IsPlain unquoteds_of)
     where
       there : (v : Value A) (tokens : List ℕ)
@@ -226,12 +227,12 @@ IsFloatAnswer kind bytes (Err e) =
 
 pub integer_told : (A : Type 0) (n : ℤ) (v : Value A) (bytes : List ℕ) → IsIntegerOf bytes (Some n)
     → (FitsSigned w64 n → v ≡ values.Integer n) → PlainText v bytes
-unfolding Of IsIntegerOf IntegerText Among
+unfolding MadeText IsIntegerOf IntegerText EitherText
 integer_told A n v bytes is same = inl (n, is, same is.1)
 
 pub float_told : {A E : Type 0} (kind : E → Kind) (bytes : List ℕ) (result : Result (Value A) E)
     → IsIntegerOf bytes None → IsFloatAnswer kind bytes result → IsPlainAnswer kind bytes result
-unfolding Of IsIntegerOf Among FloatText IsFloatAnswer IsPlainAnswer
+unfolding MadeText IsIntegerOf EitherText FloatText IsFloatAnswer IsPlainAnswer
 float_told kind bytes (Ok v) none x = inr x
 float_told kind bytes (Err e) none (inl (m, is)) = inl m
 float_told {A} kind bytes (Err e) none (inr (b, not)) = inr (b, no)

@@ -3,18 +3,18 @@ use Rattle.std.specs.Prelude.{◌≡◌, ◌≤◌, ℕ, List, [], ◌∷◌, �
 use Rattle.std.proofs.Common.{refl, sym, ap, subst, inr, ◌∙◌, arith, append_assoc}
 use Rattle.winnow.specs.Grammar.{Both, Each, Grammar, NoneStands, Parted}
 use Rattle.winnow.specs.Range.{from_to}
-use Rattle.winnow.specs.Texts.{AtLeast, Begins, BeginsIn, InFront, IsGrammarOf, Joined, Text}
-use Rattle.winnow.specs.Texts.Fronts.{then_front}
+use Rattle.winnow.specs.Texts.{AtLeast, Begins, BeginsIn, InFront, IsGrammarOf, PartedText, Text}
+use Rattle.winnow.specs.Texts.Fronts.{both_front}
 use Rattle.winnow.specs.Texts.Rows.{each_back, each_there, links}
 
 -- they begin as the first of them does
 pub joined_begins : {O D : Type 0} {text : Text ℕ O} {these : ℕ → Type 0} (separator : Text ℕ D)
-    → BeginsIn these text → BeginsIn these (AtLeast 1 (Joined separator text))
-unfolding Joined
+    → BeginsIn these text → BeginsIn these (AtLeast 1 (PartedText separator text))
+unfolding PartedText
 joined_begins {O} {D} {text} {these} separator begins =
     record { makes = λ os xs rest (joined, some) any. first os xs rest joined some }
   where
-    first : (os : List O) (tokens rest : List ℕ) → Joined separator text os tokens
+    first : (os : List O) (tokens rest : List ℕ) → PartedText separator text os tokens
         → 1 ≤ length os → Begins these (tokens ++ rest)
     first [] tokens rest joined some = absurd (omega (arith, some))
     first (o ∷ os) tokens rest (xs, ys, a, more, e) some =
@@ -30,13 +30,14 @@ module _ {O D : Type 0} {g : Grammar ℕ O} {h : Grammar ℕ D} {text : Text ℕ
     (last : (rest : List ℕ) → ends rest → follow rest)
     (never : (rest : List ℕ) → ends rest → NoneStands (Both (λ d o. o) h g) rest) where
   pub parted_ends_of : IsGrammarOf (Parted g h (from_to 1 None))
-      (AtLeast 1 (Joined separator text)) ends
-  unfolding Parted Joined
+      (AtLeast 1 (PartedText separator text)) ends
+  unfolding Parted PartedText
   parted_ends_of = record { there = there; back = back }
     where
       there : (tokens : List ℕ) (os : List O) (rest : List ℕ)
           → Parted g h (from_to 1 None) tokens os rest
-          → (front : List ℕ) × (tokens ≡ front ++ rest) × AtLeast 1 (Joined separator text) os front
+          → (front : List ℕ) × (tokens ≡ front ++ rest)
+              × AtLeast 1 (PartedText separator text) os front
       there tokens [] rest (e, few, stops) = absurd (omega (arith, few))
       there tokens (o ∷ os) rest (mid, x, each, enough, stops) =
           let (xs, e, a) = is.there tokens o mid x in
@@ -46,12 +47,12 @@ module _ {O D : Type 0} {g : Grammar ℕ O} {h : Grammar ℕ D} {text : Text ℕ
             ((xs, ys, a, b, refl), enough),
           )
 
-      back : (os : List O) (front rest : List ℕ) → AtLeast 1 (Joined separator text) os front
+      back : (os : List O) (front rest : List ℕ) → AtLeast 1 (PartedText separator text) os front
           → ends rest → Parted g h (from_to 1 None) (front ++ rest) os rest
       back [] front rest (e, enough) behind = absurd (omega (arith, enough))
       back (o ∷ os) front rest ((xs, ys, a, b, e), enough) behind =
           let (next, more) = each_back (links is by divides goes_on)
-          (then_front (λ d o. o) divides goes_on) os ys rest b (last rest behind) in
+          (both_front (λ d o. o) divides goes_on) os ys rest b (last rest behind) in
           let P : List ℕ → Type 0 = λ l. Parted g h (from_to 1 None) l (o ∷ os) rest in
           subst P (sym (append_assoc xs ys rest) ∙ ap (λ l. l ++ rest) (sym e)) (
             ys ++ rest,

@@ -14,8 +14,8 @@ use Rattle.format_toml.specs.Plain.{plain_begins, plain_of}
 use Rattle.format_toml.specs.Toml.{IsText}
 use Rattle.format_toml.specs.Toml.{PlainText, ScalarText, false_word, true_word}
 use Rattle.winnow.specs.Grammar.Meaning.{Meaning}
-use Rattle.winnow.specs.Texts.{Among, BeginsIn, IsGrammarOf, NotFirst, Spelled}
-use Rattle.winnow.specs.Texts.Fronts.{among_front, begins_wider, front_begins}
+use Rattle.winnow.specs.Texts.{EitherText, BeginsIn, IsGrammarOf, NotFirst, Spelled}
+use Rattle.winnow.specs.Texts.Fronts.{either_front, begins_wider, front_begins}
 use Rattle.winnow.specs.Texts.Fronts.{not_first, spelled_begins}
 use Rattle.winnow.specs.Texts.Parts.{behind_less}
 
@@ -99,29 +99,30 @@ module _ {A : Type 0} where
   -- ---- one or another, by what they begin with
 
   after_true_of : IsGrammarOf (Led (λ c. c ≡ 102) (AnyBoolean {A = A} false_word false) Plain)
-      (Among (BooleanText false_word false) PlainText) Goes
+      (EitherText (BooleanText false_word false) PlainText) Goes
   after_true_of =
       led_of (boolean_of false_word false) (behind_less goes_plain plain_of)
       (boolean_begins 102 _ false) (front_begins (λ c n e. (numeric_is c n).4 e) plain_begins)
 
   after_true_begins : BeginsIn (λ c. (42 < c) × (c < 112) × (c ≡ 91 → ⊥) × (c ≡ 93 → ⊥))
-      (Among (BooleanText {A = A} false_word false) PlainText)
+      (EitherText (BooleanText {A = A} false_word false) PlainText)
   after_true_begins =
-      among_front (begins_wider (λ c e. omega (arith, e)) (boolean_begins 102 _ false))
+      either_front (begins_wider (λ c e. omega (arith, e)) (boolean_begins 102 _ false))
       (begins_wider (λ c n. let m = numeric_is c n in (m.0, m.1, m.2, m.3)) plain_begins)
 
   after_literal_of : IsGrammarOf (Led (λ c. c ≡ 116) (AnyBoolean {A = A} true_word true)
       (Led (λ c. c ≡ 102) (AnyBoolean false_word false) Plain))
-      (Among (BooleanText true_word true) (Among (BooleanText false_word false) PlainText)) Goes
+      (EitherText (BooleanText true_word true)
+              (EitherText (BooleanText false_word false) PlainText)) Goes
   after_literal_of =
       led_of (boolean_of true_word true) after_true_of (boolean_begins 116 _ true)
       (front_begins (λ c a e. absurd (omega (arith, a.1, e))) after_true_begins)
 
-  after_literal_begins : BeginsIn (Above 42) (Among (BooleanText {A = A} true_word true)
-      (Among (BooleanText false_word false) PlainText))
+  after_literal_begins : BeginsIn (Above 42) (EitherText (BooleanText {A = A} true_word true)
+      (EitherText (BooleanText false_word false) PlainText))
   after_literal_begins =
-      among_front (begins_wider (λ c e. omega (arith, e)) (boolean_begins 116 _ true))
-      (among_front (begins_wider (λ c e. omega (arith, e)) (boolean_begins 102 _ false))
+      either_front (begins_wider (λ c e. omega (arith, e)) (boolean_begins 116 _ true))
+      (either_front (begins_wider (λ c e. omega (arith, e)) (boolean_begins 102 _ false))
       (begins_wider (λ c n. above c (numeric_is c n)) plain_begins))
     where
       above : (c : ℕ) → (42 < c) × (c < 112) × (c ≡ 91 → ⊥) × (c ≡ 93 → ⊥) × (c ≡ 102 → ⊥)
@@ -132,16 +133,18 @@ module _ {A : Type 0} where
   after_basic_of : IsGrammarOf (Led (λ c. c ≡ 39) (Meaning IsText (AnyLiteral {A = A}))
       (Led (λ c. c ≡ 116) (AnyBoolean true_word true)
       (Led (λ c. c ≡ 102) (AnyBoolean false_word false) Plain)))
-      (Among (For IsText AnyLiteralText)
-      (Among (BooleanText true_word true) (Among (BooleanText false_word false) PlainText))) Goes
+      (EitherText (For IsText AnyLiteralText)
+      (EitherText (BooleanText true_word true)
+              (EitherText (BooleanText false_word false) PlainText))) Goes
   after_basic_of =
       led_of literal_of after_literal_of literal_begins
       (front_begins (λ c a e. absurd (omega (arith, a.0, e))) after_literal_begins)
 
-  after_basic_begins : BeginsIn (Above 38) (Among (For IsText (AnyLiteralText {A = A}))
-      (Among (BooleanText true_word true) (Among (BooleanText false_word false) PlainText)))
+  after_basic_begins : BeginsIn (Above 38) (EitherText (For IsText (AnyLiteralText {A = A}))
+      (EitherText (BooleanText true_word true)
+              (EitherText (BooleanText false_word false) PlainText)))
   after_basic_begins =
-      among_front (begins_wider (λ c e. omega (arith, e)) literal_begins)
+      either_front (begins_wider (λ c e. omega (arith, e)) literal_begins)
       (begins_wider (λ c a. (omega (arith, a.0), a.1, a.2, a.3, a.4)) after_literal_begins)
 
   pub scalar_of : IsGrammarOf (Scalar {A = A}) ScalarText Goes
@@ -151,5 +154,5 @@ module _ {A : Type 0} where
 
   pub scalar_begins : BeginsIn (Above 33) (ScalarText {A = A})
   scalar_begins =
-      among_front (begins_wider (λ c e. omega (arith, e)) basic_begins)
+      either_front (begins_wider (λ c e. omega (arith, e)) basic_begins)
       (begins_wider (λ c a. (omega (arith, a.0), a.1, a.2, a.3, a.4)) after_basic_begins)

@@ -12,14 +12,14 @@ use Rattle.format_toml.specs.Strings.{one_of_set, set_begins}
 use Rattle.format_toml.specs.Toml.{CommentText, GapPartText, GapText, Gapped, IsOf, MarkText}
 use Rattle.format_toml.specs.Toml.{NewlineText, Spaced, Tells, WideMarkText, WsText}
 use Rattle.format_toml.specs.declared.characters.Characters.TheVariants.{Comment, White}
-use Rattle.winnow.specs.Grammar.{Both, Grammar, Maybe}
+use Rattle.winnow.specs.Grammar.{Both, Grammar, Optional}
 use Rattle.winnow.specs.Texts.{Anything, Begins, BeginsIn, InFront, IsGrammarOf, MayBegin}
-use Rattle.winnow.specs.Texts.{NotFirst, Perhaps, Text, Then}
-use Rattle.winnow.specs.Texts.Fronts.{among_front, begins_wider, front_any, front_begins}
-use Rattle.winnow.specs.Texts.Fronts.{front_behind, holding_front, may_begin_more, none_begins}
-use Rattle.winnow.specs.Texts.Fronts.{not_first, perhaps_front, row_front, spelled_begins}
-use Rattle.winnow.specs.Texts.Fronts.{then_front}
-use Rattle.winnow.specs.Texts.Parts.{behind_less, both_of, either_apart, maybe_of}
+use Rattle.winnow.specs.Texts.{NotFirst, OptionalText, Text, BothText}
+use Rattle.winnow.specs.Texts.Fronts.{either_front, begins_wider, front_any, front_begins}
+use Rattle.winnow.specs.Texts.Fronts.{front_behind, gathered_front, may_begin_more, none_begins}
+use Rattle.winnow.specs.Texts.Fronts.{not_first, optional_front, each_front, spelled_begins}
+use Rattle.winnow.specs.Texts.Fronts.{both_front}
+use Rattle.winnow.specs.Texts.Parts.{behind_less, both_of, either_apart, optional_of}
 use Rattle.winnow.specs.Texts.Rows.{gathered_of, many_of}
 use Rattle.winnow.specs.Texts.Tokens.{divides_seen, divides_where, longest_of}
 
@@ -50,7 +50,7 @@ pub mark_of : (c : ℕ) → IsGrammarOf (Mark c) (MarkText c) (NotFirst IsSpace)
 mark_of c = both_of pair (char_of c) ws_of front_any
 
 pub mark_begins : (c : ℕ) → BeginsIn (λ x. x ≡ c) (MarkText c)
-mark_begins c = then_front pair (spelled_begins c [] c) front_any
+mark_begins c = both_front pair (spelled_begins c [] c) front_any
 
 -- neither white space nor one of these
 abbrev pub Past : (ℕ → Type 0) → List ℕ → Type 0
@@ -66,7 +66,7 @@ spaced_of {these = these} apart is =
 
 pub spaced_begins : {O : Type 0} {text : Text ℕ O} {these : ℕ → Type 0} → BeginsIn these text
     → BeginsIn these (Spaced text)
-spaced_begins begins = then_front former begins front_any
+spaced_begins begins = both_front former begins front_any
 
 -- a character that is this one is none of those
 pub past : (these : ℕ → Type 0) (n : ℕ) → 32 < n → (these n → ⊥) → (c : ℕ) → c ≡ n
@@ -119,36 +119,38 @@ comment_of =
     refl (divides_seen (Tells Comment) (divides_where (IsOf Comment)))) front_any
 
 pub comment_begins : BeginsIn (λ c. c ≡ 35) CommentText
-comment_begins = then_front latter (spelled_begins 35 [] 35) front_any
+comment_begins = both_front latter (spelled_begins 35 [] 35) front_any
 
 -- a comment or none, in front of a line end or the end
-pub maybe_comment_of : IsGrammarOf (Maybe AnyComment) (Perhaps CommentText) (MayBegin IsBreak)
+pub maybe_comment_of : IsGrammarOf (Optional AnyComment) (OptionalText CommentText)
+      (MayBegin IsBreak)
 maybe_comment_of =
-    maybe_of (behind_less (may_begin_more IsBreak (λ c. IsOf Comment c → ⊥) break_shown) comment_of)
+    optional_of (behind_less (may_begin_more IsBreak (λ c. IsOf Comment c → ⊥) break_shown)
+            comment_of)
     (λ rest b. none_begins comment_of comment_begins rest
     (may_begin_more IsBreak (λ c. c ≡ 35 → ⊥) break_hash rest b))
 
 pub newline_of : IsGrammarOf Newline NewlineText Anything
 newline_of =
     either_apart (char_of 10) (both_of latter (char_of 13) (char_of 10) front_any)
-    (spelled_begins 10 [] 10) (then_front latter
+    (spelled_begins 10 [] 10) (both_front latter
     (front_begins (λ c e f. absurd (omega (arith, e, f))) (spelled_begins 13 [] 13)) front_any)
 
 pub newline_begins : BeginsIn IsBreak NewlineText
 newline_begins =
-    among_front (begins_wider (λ c e. inl e) (spelled_begins 10 [] 10))
-    (then_front latter (begins_wider (λ c e. inr e) (spelled_begins 13 [] 13)) front_any)
+    either_front (begins_wider (λ c e. inl e) (spelled_begins 10 [] 10))
+    (both_front latter (begins_wider (λ c e. inr e) (spelled_begins 13 [] 13)) front_any)
 
 -- ---- white space over lines
 
 -- a line end with a comment before it or none
-ended_of : IsGrammarOf (Both latter (Maybe AnyComment) Newline)
-    (Then latter (Perhaps CommentText) NewlineText) Anything
+ended_of : IsGrammarOf (Both latter (Optional AnyComment) Newline)
+    (BothText latter (OptionalText CommentText) NewlineText) Anything
 ended_of = both_of latter maybe_comment_of newline_of (front_begins (λ c is. is) newline_begins)
 
-ended_begins : BeginsIn IsTail (Then latter (Perhaps CommentText) NewlineText)
+ended_begins : BeginsIn IsTail (BothText latter (OptionalText CommentText) NewlineText)
 ended_begins =
-    then_front latter (perhaps_front (front_behind (λ rest b. tt)
+    both_front latter (optional_front (front_behind (λ rest b. tt)
     (begins_wider (λ c e. inl e) comment_begins))) (begins_wider (λ c is. inr is) newline_begins)
 
 -- what white space over lines begins with
@@ -166,7 +168,7 @@ gap_part_of =
 
 gap_part_begins : BeginsIn OpensGap GapPartText
 gap_part_begins =
-    among_front (begins_wider (λ c s. inl s) (set_begins White))
+    either_front (begins_wider (λ c s. inl s) (set_begins White))
     (begins_wider (λ c t. inr t) ended_begins)
 
 pub gap_of : IsGrammarOf Gap GapText (NotFirst OpensGap)
@@ -178,14 +180,14 @@ pub gap_front : {these : ℕ → Type 0} {behind : List ℕ → Type 0}
     → ((c : ℕ) → OpensGap c → these c → ⊥) → ((rest : List ℕ) → behind rest → NotFirst these rest)
     → InFront GapText behind (NotFirst these)
 gap_front apart not =
-    front_behind not (holding_front (λ (all : ⊤) parts. ⊤)
-    (row_front (front_begins apart gap_part_begins)))
+    front_behind not (gathered_front (λ (all : ⊤) parts. ⊤)
+    (each_front (front_begins apart gap_part_begins)))
 
 pub wide_mark_of : (c : ℕ) → IsGrammarOf (WideMark c) (WideMarkText c) (NotFirst OpensGap)
 wide_mark_of c = both_of pair (char_of c) gap_of front_any
 
 pub wide_mark_begins : (c : ℕ) → BeginsIn (λ x. x ≡ c) (WideMarkText c)
-wide_mark_begins c = then_front pair (spelled_begins c [] c) front_any
+wide_mark_begins c = both_front pair (spelled_begins c [] c) front_any
 
 -- neither white space over lines nor one of these
 abbrev pub WidePast : (ℕ → Type 0) → List ℕ → Type 0
@@ -201,7 +203,7 @@ gapped_of {these = these} apart is =
 
 pub gapped_begins : {O : Type 0} {text : Text ℕ O} {these : ℕ → Type 0} → BeginsIn these text
     → BeginsIn these (Gapped text)
-gapped_begins begins = then_front former begins front_any
+gapped_begins begins = both_front former begins front_any
 
 -- a character that is this one is none of those
 pub wide_past : (these : ℕ → Type 0) (n : ℕ) → 35 < n → (these n → ⊥) → (c : ℕ) → c ≡ n

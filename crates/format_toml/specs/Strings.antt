@@ -16,10 +16,10 @@ use Rattle.winnow.specs.Grammar.{Both, NoneStands, TokenOf}
 use Rattle.winnow.specs.Grammar.Meaning.{Meaning}
 use Rattle.winnow.specs.Accumulator.Holds.{HasCharacters}
 use Rattle.winnow.specs.Texts.{Anything, AtLeast, Begins, BeginsIn, InFront, IsGrammarOf}
-use Rattle.winnow.specs.Texts.{NotFirst, Of, OneOf, Row, Spelled, Then}
-use Rattle.winnow.specs.Texts.Fronts.{among_front, begins_wider, front_any, front_begins}
-use Rattle.winnow.specs.Texts.Fronts.{holding_front, may_begin, none_begins, one_of_begins}
-use Rattle.winnow.specs.Texts.Fronts.{spelled_begins, then_front}
+use Rattle.winnow.specs.Texts.{NotFirst, MadeText, TokenOfText, EachText, Spelled, BothText}
+use Rattle.winnow.specs.Texts.Fronts.{either_front, begins_wider, front_any, front_begins}
+use Rattle.winnow.specs.Texts.Fronts.{gathered_front, may_begin, none_begins, token_of_begins}
+use Rattle.winnow.specs.Texts.Fronts.{spelled_begins, both_front}
 use Rattle.winnow.specs.Texts.Parts.{both_of, either_apart, same_of}
 use Rattle.winnow.specs.Texts.Rows.{gathered_of, many_of}
 use Rattle.winnow.specs.Texts.Tokens.{divides_where, token_of}
@@ -27,22 +27,23 @@ use Rattle.winnow.specs.Texts.Tokens.{divides_where, token_of}
 -- ---- characters of a set
 
 module _ (set : Characters) where
-  pub one_of_set : IsGrammarOf (TokenOf (λ c. c) Tells set) (OneOf (λ c. c) (IsOf set)) Anything
+  pub one_of_set : IsGrammarOf (TokenOf (λ c. c) Tells set) (TokenOfText (λ c. c) (IsOf set))
+        Anything
   one_of_set = token_of (λ c. c) Tells set (divides_where (IsOf set))
 
-  pub set_begins : BeginsIn (IsOf set) (OneOf (λ c. c) (IsOf set))
+  pub set_begins : BeginsIn (IsOf set) (TokenOfText (λ c. c) (IsOf set))
   set_begins =
-      begins_wider (λ c (k, e, is). subst (IsOf set) e is) (one_of_begins (λ c. c) (IsOf set))
+      begins_wider (λ c (k, e, is). subst (IsOf set) e is) (token_of_begins (λ c. c) (IsOf set))
 
   none_first : (rest : List ℕ) → NotFirst (IsOf set) rest
       → NoneStands (TokenOf (λ c. c) Tells set) rest
   none_first rest not = none_begins one_of_set set_begins rest not
 
-  row_begins : BeginsIn (IsOf set) (AtLeast 1 (Row (OneOf (λ c. c) (IsOf set))))
-  unfolding Row OneOf
+  row_begins : BeginsIn (IsOf set) (AtLeast 1 (EachText (TokenOfText (λ c. c) (IsOf set))))
+  unfolding EachText TokenOfText
   row_begins = record { makes = λ os xs rest (row, some) any. first os xs rest row some }
     where
-      first : (os tokens rest : List ℕ) → Row (OneOf (λ c. c) (IsOf set)) os tokens
+      first : (os tokens rest : List ℕ) → EachText (TokenOfText (λ c. c) (IsOf set)) os tokens
           → 1 ≤ length os → Begins (IsOf set) (tokens ++ rest)
       first [] tokens rest row some = absurd (omega (arith, some))
       first (o ∷ os) tokens rest (xs, ys, (is, e), more, d) some =
@@ -57,7 +58,7 @@ module _ (set : Characters) where
         (λ rest b. tt) none_first)
 
     pub characters_begin : BeginsIn (IsOf set) (CharactersText {A = A} set 1)
-    characters_begin = holding_front HasCharacters row_begins
+    characters_begin = gathered_front HasCharacters row_begins
 
 -- ---- strings
 
@@ -74,7 +75,7 @@ unit_of =
 
 -- what a backslash escapes by itself is no u
 short_begins : BeginsIn (λ c. (c ≡ 117 → ⊥) × (c ≡ 85 → ⊥)) (For StandsFor Whichever)
-unfolding Of Whichever
+unfolding MadeText Whichever
 short_begins = record {
   makes = λ k xs rest (c, e, stands) any.
       let P : List ℕ → Type 0 = λ l. Begins (λ c. (c ≡ 117 → ⊥) × (c ≡ 85 → ⊥)) (l ++ rest) in
@@ -91,40 +92,41 @@ short_begins = record {
     no_u c k (inr (inr (inr (inr (inr (inr x)))))) = omega (arith, x.0)
 
 long_of : IsGrammarOf (Both latter (Char 85) (Meaning IsWide WideUnits))
-    (Then latter (One 85) (For IsWide (Then pair UnitText UnitText))) Anything
+    (BothText latter (One 85) (For IsWide (BothText pair UnitText UnitText))) Anything
 long_of =
     both_of latter (char_of 85) (for_of IsWide (both_of pair unit_of unit_of front_any)) front_any
 
 long_begins : BeginsIn (λ c. c ≡ 85)
-    (Then latter (One 85) (For IsWide (Then pair UnitText UnitText)))
-long_begins = then_front latter (spelled_begins 85 [] 85) front_any
+    (BothText latter (One 85) (For IsWide (BothText pair UnitText UnitText)))
+long_begins = both_front latter (spelled_begins 85 [] 85) front_any
 
 escape_of : IsGrammarOf Escape EscapeText Anything
 escape_of =
     led_of (both_of latter (char_of 117) (for_of IsAlone unit_of) front_any)
     (led_of long_of (for_of StandsFor any_of) long_begins (front_begins (λ c u. u.1) short_begins))
-    (then_front latter (spelled_begins 117 [] 117) front_any)
-    (among_front (front_begins (λ c e f. absurd (omega (arith, e, f))) long_begins)
+    (both_front latter (spelled_begins 117 [] 117) front_any)
+    (either_front (front_begins (λ c e f. absurd (omega (arith, e, f))) long_begins)
     (front_begins (λ c u. u.0) short_begins))
 
-escaped_of : IsGrammarOf (Both latter (Char 92) Escape) (Then latter (One 92) EscapeText) Anything
+escaped_of : IsGrammarOf (Both latter (Char 92) Escape) (BothText latter (One 92) EscapeText)
+      Anything
 escaped_of = both_of latter (char_of 92) escape_of front_any
 
 pub character_of : IsGrammarOf Character CharacterText Anything
 character_of =
     either_apart (one_of_set Basic) escaped_of (set_begins Basic)
-    (then_front latter (front_begins (λ c e is. is.1.1 e) (spelled_begins 92 [] 92)) front_any)
+    (both_front latter (front_begins (λ c e is. is.1.1 e) (spelled_begins 92 [] 92)) front_any)
 
 -- no character begins with a quotation mark
 pub character_begins : BeginsIn (λ c. c ≡ 34 → ⊥) CharacterText
 character_begins =
-    among_front (begins_wider (λ c is. is.1.0) (set_begins Basic))
-    (then_front latter (begins_wider (λ c e q. absurd (omega (arith, e, q)))
+    either_front (begins_wider (λ c is. is.1.0) (set_begins Basic))
+    (both_front latter (begins_wider (λ c e q. absurd (omega (arith, e, q)))
     (spelled_begins 92 [] 92)) front_any)
 
 -- what a backslash escapes is above a space
 short_above : BeginsIn (λ c. 33 < c) (For StandsFor Whichever)
-unfolding Of Whichever
+unfolding MadeText Whichever
 short_above = record {
   makes = λ k xs rest (c, e, stands) any.
       let P : List ℕ → Type 0 = λ l. Begins (λ c. 33 < c) (l ++ rest) in
@@ -142,9 +144,9 @@ short_above = record {
 
 escape_above : BeginsIn (λ c. 33 < c) EscapeText
 escape_above =
-    among_front (begins_wider (λ c e. omega (arith, e))
-    (then_front latter (spelled_begins 117 [] 117) front_any))
-    (among_front (begins_wider (λ c e. omega (arith, e)) long_begins) short_above)
+    either_front (begins_wider (λ c e. omega (arith, e))
+    (both_front latter (spelled_begins 117 [] 117) front_any))
+    (either_front (begins_wider (λ c e. omega (arith, e)) long_begins) short_above)
 
 -- no backslash is first, or one in front of what is above a space
 abbrev pub Apart : List ℕ → Type 0
@@ -152,7 +154,7 @@ Apart tokens =
     NotFirst (λ c. c ≡ 92) tokens
     ⊎ ((rest : List ℕ) × (tokens ≡ 92 ∷ rest) × Begins (λ c. 33 < c) rest)
 
-plain_apart : InFront (OneOf (λ c. c) (IsOf Basic)) Anything Apart
+plain_apart : InFront (TokenOfText (λ c. c) (IsOf Basic)) Anything Apart
 plain_apart = record {
   makes = λ o xs rest t any. inl (may_begin (IsOf Basic) (λ c. c ≡ 92 → ⊥) (λ c is. is.1.1)
       (xs ++ rest) ((set_begins Basic).makes o xs rest t any));
@@ -165,7 +167,7 @@ backslash_apart = record {
 }
 
 pub character_apart : InFront CharacterText Anything Apart
-character_apart = among_front plain_apart (then_front latter backslash_apart escape_above)
+character_apart = either_front plain_apart (both_front latter backslash_apart escape_above)
 
 none_quoted : (tokens : List ℕ) → Begins (λ c. c ≡ 34) tokens → NoneStands Character tokens
 none_quoted tokens b =
@@ -185,7 +187,7 @@ module _ {A : Type 0} where
       (front_begins (λ c e is. is.1 e) (spelled_begins 39 [] 39))
 
   pub basic_string_begins : BeginsIn (λ c. c ≡ 34) (BasicText {A = A})
-  basic_string_begins = then_front latter (spelled_begins 34 [] 34) front_any
+  basic_string_begins = both_front latter (spelled_begins 34 [] 34) front_any
 
   pub literal_string_begins : BeginsIn (λ c. c ≡ 39) (LiteralText {A = A})
-  literal_string_begins = then_front latter (spelled_begins 39 [] 39) front_any
+  literal_string_begins = both_front latter (spelled_begins 39 [] 39) front_any

@@ -20,8 +20,9 @@ use Rattle.format_toml_tree.specs.declared.value.Key.{Key}
 use Rattle.format_toml_tree.specs.declared.value.Value.{Value}
 use Rattle.format_toml_tree.specs.declared.value.Value as values
 use Rattle.winnow.specs.Accumulator.Holds.{HasCharacters}
-use Rattle.winnow.specs.Texts.{Among, AtLeast, Holding, InList, Joined, Members, OneOf}
-use Rattle.winnow.specs.Texts.{Perhaps, Row, Spelled, Text, Then}
+use Rattle.winnow.specs.Texts.{EitherText, AtLeast, GatheredText, InList, PartedText, Members}
+use Rattle.winnow.specs.Texts.{TokenOfText}
+use Rattle.winnow.specs.Texts.{OptionalText, EachText, Spelled, Text, BothText}
 use Rattle.format_toml.specs.Floats.{FloatText}
 use Rattle.format_toml.specs.LongTexts.{LongText, NoneWritten}
 use Rattle.format_toml.specs.Numbers.{IntegerText}
@@ -113,33 +114,34 @@ WsText = Run IsSpace 0
 
 -- newline = %x0A / %x0D.0A
 abbrev pub NewlineText : Text ℕ ℕ
-NewlineText = Among (One 10) (Then latter (One 13) (One 10))
+NewlineText = EitherText (One 10) (BothText latter (One 13) (One 10))
 
 -- comment = comment-start-symbol *non-eol
 abbrev pub CommentText : Text ℕ Slice
-CommentText = Then latter (One 35) (Members text_reading (IsOf Comment) 0)
+CommentText = BothText latter (One 35) (Members text_reading (IsOf Comment) 0)
 
 -- wschar / [ comment ] newline
 abbrev pub GapPartText : Text ℕ ℕ
-GapPartText = Among (OneOf (λ c. c) (IsOf White)) (Then latter (Perhaps CommentText) NewlineText)
+GapPartText = EitherText (TokenOfText (λ c. c) (IsOf White))
+      (BothText latter (OptionalText CommentText) NewlineText)
 
 -- ws-comment-newline = *( wschar / [ comment ] newline )
 abbrev pub GapText : Text ℕ ⊤
-GapText = Holding (λ all parts. ⊤) (Row GapPartText)
+GapText = GatheredText (λ all parts. ⊤) (EachText GapPartText)
 
 -- a text, and white space behind it, on its line or over lines
 abbrev pub Spaced : {O : Type 0} → Text ℕ O → Text ℕ O
-Spaced text = Then former text WsText
+Spaced text = BothText former text WsText
 
 abbrev pub Gapped : {O : Type 0} → Text ℕ O → Text ℕ O
-Gapped text = Then former text GapText
+Gapped text = BothText former text GapText
 
 -- a character, and white space behind it, on its line or over lines
 abbrev pub MarkText : ℕ → Text ℕ (ℕ × Slice)
-MarkText c = Then pair (One c) WsText
+MarkText c = BothText pair (One c) WsText
 
 abbrev pub WideMarkText : ℕ → Text ℕ (ℕ × ⊤)
-WideMarkText c = Then pair (One c) GapText
+WideMarkText c = BothText pair (One c) GapText
 
 -- ---- strings, booleans and values without quotes
 
@@ -147,29 +149,29 @@ WideMarkText c = Then pair (One c) GapText
 -- backslash escapes by itself
 abbrev pub EscapeText : Text ℕ ℕ
 EscapeText =
-    Among (Then latter (One 117) (For IsAlone UnitText))
-    (Among (Then latter (One 85) (For IsWide (Then pair UnitText UnitText)))
+    EitherText (BothText latter (One 117) (For IsAlone UnitText))
+    (EitherText (BothText latter (One 85) (For IsWide (BothText pair UnitText UnitText)))
     (For StandsFor Whichever))
 
 -- basic-char = basic-unescaped / escaped
 abbrev pub CharacterText : Text ℕ ℕ
-CharacterText = Among (OneOf (λ c. c) (IsOf Basic)) (Then latter (One 92) EscapeText)
+CharacterText = EitherText (TokenOfText (λ c. c) (IsOf Basic)) (BothText latter (One 92) EscapeText)
 
 -- wschar / newline
 abbrev pub BlankText : Text ℕ ℕ
-BlankText = Among (OneOf (λ c. c) (IsOf White)) NewlineText
+BlankText = EitherText (TokenOfText (λ c. c) (IsOf White)) NewlineText
 
 -- mlb-escaped-nl = escape ws newline *( wschar / newline )
 abbrev pub EscapedLineText : Text ℕ ⊤
 EscapedLineText =
-    Then latter (One 92) (Then latter WsText (Then latter NewlineText
-    (Holding (λ all parts. ⊤) (Row BlankText))))
+    BothText latter (One 92) (BothText latter WsText (BothText latter NewlineText
+    (GatheredText (λ all parts. ⊤) (EachText BlankText))))
 
 -- Some of these, "trimmed along with all whitespace (including newlines) up to the next
 -- non-whitespace character or closing delimiter"; or nothing.
 abbrev pub EscapedLines : List ℕ → List ℕ → Type 0
 EscapedLines tokens behind =
-    (tokens ≡ []) ⊎ (Holding (λ (all : ⊤) parts. ⊤) (Row EscapedLineText) tt tokens
+    (tokens ≡ []) ⊎ (GatheredText (λ (all : ⊤) parts. ⊤) (EachText EscapedLineText) tt tokens
     × NoneWritten BlankText behind)
 
 -- boolean = true / false
@@ -183,11 +185,11 @@ module _ {A : Type 0} where
   -- so many characters of a set or more
   abbrev pub CharactersText : Characters → ℕ → Text ℕ (String A)
   CharactersText set least =
-      Holding HasCharacters (AtLeast least (Row (OneOf (λ c. c) (IsOf set))))
+      GatheredText HasCharacters (AtLeast least (EachText (TokenOfText (λ c. c) (IsOf set))))
 
   -- basic-string = quotation-mark *basic-char quotation-mark
   abbrev pub BasicText : Text ℕ (String A)
-  BasicText = Between (One 34) (Holding HasCharacters (Row CharacterText)) (One 34)
+  BasicText = Between (One 34) (GatheredText HasCharacters (EachText CharacterText)) (One 34)
 
   -- literal-string = apostrophe *literal-char apostrophe
   abbrev pub LiteralText : Text ℕ (String A)
@@ -198,69 +200,70 @@ module _ {A : Type 0} where
 
   -- an integer, for its value, or a float
   abbrev pub PlainText : Text ℕ (Value A)
-  PlainText = Among (For IsInteger IntegerText) (For MeansFloat FloatText)
+  PlainText = EitherText (For IsInteger IntegerText) (For MeansFloat FloatText)
 
   -- ml-basic-string, with mlb-content = mlb-char / newline / mlb-escaped-nl
   abbrev pub LongBasicText : Text ℕ (String A)
-  LongBasicText = LongText 34 (Among CharacterText NewlineText) EscapedLines NewlineText
+  LongBasicText = LongText 34 (EitherText CharacterText NewlineText) EscapedLines NewlineText
 
   -- ml-literal-string, with mll-content = mll-char / newline
   abbrev pub LongLiteralText : Text ℕ (String A)
   LongLiteralText =
-      LongText 39 (Among (OneOf (λ c. c) (IsOf Literal)) NewlineText)
+      LongText 39 (EitherText (TokenOfText (λ c. c) (IsOf Literal)) NewlineText)
       (λ tokens behind. tokens ≡ []) NewlineText
 
   -- ml-basic-string / basic-string, ml-literal-string / literal-string
   abbrev pub AnyBasicText : Text ℕ (String A)
-  AnyBasicText = Among LongBasicText BasicText
+  AnyBasicText = EitherText LongBasicText BasicText
 
   abbrev pub AnyLiteralText : Text ℕ (String A)
-  AnyLiteralText = Among LongLiteralText LiteralText
+  AnyLiteralText = EitherText LongLiteralText LiteralText
 
   -- a string, a boolean or a value without quotes
   abbrev pub ScalarText : Text ℕ (Value A)
   ScalarText =
-      Among (For IsText AnyBasicText) (Among (For IsText AnyLiteralText)
-      (Among (BooleanText true_word true) (Among (BooleanText false_word false) PlainText)))
+      EitherText (For IsText AnyBasicText) (EitherText (For IsText AnyLiteralText)
+      (EitherText (BooleanText true_word true)
+              (EitherText (BooleanText false_word false) PlainText)))
 
   -- ---- keys
 
   -- simple-key = quoted-key / unquoted-key, with quoted-key = basic-string / literal-string
   abbrev pub NameText : Text ℕ (String A)
-  NameText = Among BasicText (Among LiteralText (CharactersText Bare 1))
+  NameText = EitherText BasicText (EitherText LiteralText (CharactersText Bare 1))
 
   -- key = simple-key *( dot-sep simple-key ), with dot-sep = ws %x2E ws, and white space behind it
   abbrev pub KeyText : Text ℕ (Key A)
-  KeyText = For IsKey (InList (AtLeast 1 (Joined (MarkText 46) (Spaced NameText))))
+  KeyText = For IsKey (InList (AtLeast 1 (PartedText (MarkText 46) (Spaced NameText))))
 
   -- ---- values
 
   -- keyval = key keyval-sep val, with keyval-sep = ws %x3D ws
   abbrev pub PairText : Text ℕ (Value A) → Text ℕ (Key A × Value A)
-  PairText value = Then pair KeyText (Then latter (MarkText 61) value)
+  PairText value = BothText pair KeyText (BothText latter (MarkText 61) value)
 
   -- array-values: values with commas between them, and perhaps one behind the last; and white space
   -- and comments behind each value and each comma
   abbrev pub ArrayValuesText : Text ℕ (Value A) → Text ℕ (Vec (Value A) A)
   ArrayValuesText value =
-      Then former (InList (AtLeast 1 (Joined (WideMarkText 44) (Gapped value))))
-      (Perhaps (WideMarkText 44))
+      BothText former (InList (AtLeast 1 (PartedText (WideMarkText 44) (Gapped value))))
+      (OptionalText (WideMarkText 44))
 
   -- array = array-open [ array-values ] ws-comment-newline array-close
   abbrev pub ArrayText : Text ℕ (Value A) → Text ℕ (Option (Vec (Value A) A))
-  ArrayText value = Between (WideMarkText 91) (Perhaps (ArrayValuesText value)) (One 93)
+  ArrayText value = Between (WideMarkText 91) (OptionalText (ArrayValuesText value)) (One 93)
 
   -- inline-table = inline-table-open [ inline-table-keyvals ] inline-table-close
   abbrev pub InlineText : Text ℕ (Value A) → Text ℕ (Vec (Key A × Value A) A)
   InlineText value =
-      Between (MarkText 123) (InList (Joined (MarkText 44) (Spaced (PairText value)))) (One 125)
+      Between (MarkText 123) (InList (PartedText (MarkText 44) (Spaced (PairText value)))) (One 125)
 
   -- a value, of which no more than so many arrays and inline tables stand in one another
   unfoldable pub ValueText : ℕ → Text ℕ (Value A)
   ValueText zero = ScalarText
   ValueText (suc level) =
-      Among (For IsArray (ArrayText (ValueText level)))
-      (Among (For IsInline (InlineText (ValueText level))) ScalarText)
+      EitherText (For IsArray (ArrayText (ValueText level)))
+      (EitherText (For IsInline (InlineText (ValueText level))) ScalarText)
 
   -- ---- lines
 
@@ -271,16 +274,20 @@ module _ {A : Type 0} where
   -- std-table = %x5B ws key ws %x5D, array-table = %x5B.5B ws key ws %x5D.5D: what stands behind
   -- the first bracket
   abbrev pub TableText : Text ℕ (Item A)
-  TableText = Among (For IsTables (Between (One 91) HeaderText (One 93))) (For IsTable HeaderText)
+  TableText = EitherText (For IsTables (Between (One 91) HeaderText (One 93)))
+        (For IsTable HeaderText)
 
   abbrev pub ItemText : ℕ → Text ℕ (Item A)
-  ItemText level = Among (Then latter (One 91) TableText) (For IsEntry (PairText (ValueText level)))
+  ItemText level = EitherText (BothText latter (One 91) TableText)
+        (For IsEntry (PairText (ValueText level)))
 
   -- expression = ws [ comment ] / ws keyval ws [ comment ] / ws table ws [ comment ]
   abbrev pub LineText : ℕ → Text ℕ (Option (Item A))
   LineText level =
-      Then latter WsText (Then former (Perhaps (Spaced (ItemText level))) (Perhaps CommentText))
+      BothText latter WsText
+            (BothText former (OptionalText (Spaced (ItemText level)))
+              (OptionalText CommentText))
 
   -- toml = expression *( newline expression )
   abbrev pub DocumentText : ℕ → Text ℕ (Vec (Option (Item A)) A)
-  DocumentText level = InList (AtLeast 1 (Joined NewlineText (LineText level)))
+  DocumentText level = InList (AtLeast 1 (PartedText NewlineText (LineText level)))

@@ -22,7 +22,7 @@ use Rattle.winnow.specs.Grammar.{Grammar, IsUnique}
 use Rattle.winnow.specs.Grammar.Meaning.{meaning_unique}
 use Rattle.winnow.specs.Grammar.Sequences.{three_unique}
 use Rattle.winnow.specs.Grammar.Unique.{both_unique, either_unique, gathered_unique, many_unique}
-use Rattle.winnow.specs.Grammar.Unique.{maybe_unique, parted_unique, token_of_unique}
+use Rattle.winnow.specs.Grammar.Unique.{optional_unique, parted_unique, token_of_unique}
 use Rattle.winnow.specs.Accumulator.Holds.{HasCharacters}
 
 module _ {A : Type 0} where
@@ -66,9 +66,9 @@ module _ {A : Type 0} where
   array_unique : {g : Grammar ℕ (Value A)} → IsUnique g → IsUnique (Array g)
   array_unique unique =
       three_unique (λ o1 o2 o3. o2) (wide_mark_unique 91)
-      (maybe_unique (both_unique former (gathered_unique (λ list os. list.items ≡ os)
+      (optional_unique (both_unique former (gathered_unique (λ list os. list.items ≡ os)
       (parted_unique (gapped_unique unique) (wide_mark_unique 44) (from_to 1 None)))
-      (maybe_unique (wide_mark_unique 44)))) (char_unique 93)
+      (optional_unique (wide_mark_unique 44)))) (char_unique 93)
 
   inline_unique : {g : Grammar ℕ (Value A)} → IsUnique g → IsUnique (Inline g)
   inline_unique unique =
@@ -103,5 +103,5 @@ module _ {A : Type 0} where
 
   pub line_unique : (level : ℕ) → IsUnique (Line {A = A} level)
   line_unique level =
-      three_unique (λ o1 o2 o3. o2) ws_unique (maybe_unique (spaced_unique (item_unique level)))
-      (maybe_unique comment_unique)
+      three_unique (λ o1 o2 o3. o2) ws_unique (optional_unique (spaced_unique (item_unique level)))
+      (optional_unique comment_unique)

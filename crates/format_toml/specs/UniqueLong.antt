@@ -13,11 +13,11 @@ use Rattle.format_toml.specs.UniqueSpaces.{newline_unique, ws_unique}
 use Rattle.format_toml.specs.Words.{char_takes, char_unique}
 use Rattle.format_toml.specs.declared.characters.Characters.TheVariants.{Literal, White}
 use Rattle.winnow.specs.Accumulator.Holds.{HasCharacters}
-use Rattle.winnow.specs.Grammar.{Grammar, IsUnique, Takes}
+use Rattle.winnow.specs.Grammar.{Grammar, IsUnique, TakesTokens}
 use Rattle.winnow.specs.Grammar.Sequences.{three_unique}
 use Rattle.winnow.specs.Grammar.Unique.{ahead_unique, both_take, both_unique, either_takes}
 use Rattle.winnow.specs.Grammar.Unique.{either_unique, gathered_unique, many_unique}
-use Rattle.winnow.specs.Grammar.Unique.{maybe_unique, token_of_unique, unique_nothing}
+use Rattle.winnow.specs.Grammar.Unique.{optional_unique, token_of_unique, unique_nothing}
 use Rattle.winnow.specs.OneOf.Laws.{token_of_takes}
 use Rattle.winnow.specs.Range.{from_to}
 
@@ -26,14 +26,14 @@ use Rattle.winnow.specs.Range.{from_to}
 pub quote_unique : (quote : ℕ) → IsUnique (Quote quote)
 quote_unique quote = both_unique former (char_unique quote) (ahead_unique _)
 
-pub quote_takes : (quote : ℕ) → Takes (Quote quote)
+pub quote_takes : (quote : ℕ) → TakesTokens (Quote quote)
 quote_takes quote = both_take former (char_unique quote) (ahead_unique _) (inl (char_takes quote))
 
 delimiter_unique : (quote : ℕ) → IsUnique (Delimiter quote)
 delimiter_unique quote =
     three_unique (λ a b c. (a, b, c)) (char_unique quote) (char_unique quote) (char_unique quote)
 
-pub newline_takes : Takes Newline
+pub newline_takes : TakesTokens Newline
 newline_takes =
     either_takes (char_takes 10)
     (both_take latter (char_unique 13) (char_unique 10) (inl (char_takes 13)))
@@ -44,7 +44,7 @@ module _ (quote : ℕ) {content : Grammar ℕ ℕ} {skips : Grammar ℕ ⊤}
   part_unique =
       both_unique latter skips_unique (either_unique content_unique (quote_unique quote))
 
-  part_takes : Takes content → Takes (Part quote content skips)
+  part_takes : TakesTokens content → TakesTokens (Part quote content skips)
   part_takes takes =
       both_take latter skips_unique (either_unique content_unique (quote_unique quote))
       (inr (either_takes takes (quote_takes quote)))
@@ -52,7 +52,7 @@ module _ (quote : ℕ) {content : Grammar ℕ ℕ} {skips : Grammar ℕ ⊤}
   long_unique : {A : Type 0} → IsUnique (Long {A = A} quote content skips Newline)
   long_unique =
       three_unique (λ o1 o2 o3. o2) (delimiter_unique quote)
-      (both_unique latter (maybe_unique newline_unique) (both_unique former
+      (both_unique latter (optional_unique newline_unique) (both_unique former
       (gathered_unique HasCharacters (many_unique part_unique (from_to 0 None))) skips_unique))
       (delimiter_unique quote)
 
@@ -64,7 +64,7 @@ literal_content_unique = either_unique (token_of_unique (λ c. c) Tells Literal)
 pub literal_part_unique : IsUnique LiteralPart
 literal_part_unique = part_unique 39 literal_content_unique (unique_nothing tt)
 
-pub literal_part_takes : Takes LiteralPart
+pub literal_part_takes : TakesTokens LiteralPart
 literal_part_takes =
     part_takes 39 literal_content_unique (unique_nothing tt)
     (either_takes (token_of_takes (λ c. c) Tells Literal) newline_takes)
@@ -80,7 +80,7 @@ escaped_line_unique =
     (both_unique latter newline_unique
     (gathered_unique (λ (all : ⊤) parts. ⊤) (many_unique blank_unique (from_to 0 None)))))
 
-pub escaped_line_takes : Takes EscapedLine
+pub escaped_line_takes : TakesTokens EscapedLine
 escaped_line_takes =
     both_take latter (char_unique 92) (both_unique latter ws_unique
     (both_unique latter newline_unique
@@ -97,7 +97,7 @@ basic_content_unique = either_unique character_unique newline_unique
 pub basic_part_unique : IsUnique BasicPart
 basic_part_unique = part_unique 34 basic_content_unique skips_unique
 
-pub basic_part_takes : Takes BasicPart
+pub basic_part_takes : TakesTokens BasicPart
 basic_part_takes =
     part_takes 34 basic_content_unique skips_unique (either_takes character_takes newline_takes)
 

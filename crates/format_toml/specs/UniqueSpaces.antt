@@ -14,7 +14,7 @@ use Rattle.winnow.specs.TakeWhile.Exact.{longest_unique}
 use Rattle.winnow.specs.Once.{holds_once, seen_once}
 use Rattle.winnow.specs.Grammar.{Grammar, IsUnique, Longest}
 use Rattle.winnow.specs.Grammar.Unique.{both_unique, either_unique, gathered_unique}
-use Rattle.winnow.specs.Grammar.Unique.{many_unique, maybe_unique, token_of_unique}
+use Rattle.winnow.specs.Grammar.Unique.{many_unique, optional_unique, token_of_unique}
 
 pub ws_unique : IsUnique Ws
 ws_unique = run_unique IsSpace 0
@@ -42,7 +42,7 @@ comment_unique = both_unique latter (char_unique 35) (members_unique Comment 0)
 gap_part_unique : IsUnique GapPart
 gap_part_unique =
     either_unique (token_of_unique (λ c. c) Tells White)
-    (both_unique latter (maybe_unique comment_unique) newline_unique)
+    (both_unique latter (optional_unique comment_unique) newline_unique)
 
 pub gap_unique : IsUnique Gap
 gap_unique = gathered_unique (λ (all : ⊤) parts. ⊤) (many_unique gap_part_unique (from_to 0 None))

@@ -23,11 +23,11 @@ use Rattle.format_toml_tree.specs.declared.value.Value.{Value}
 use Rattle.winnow.specs.Grammar.{Both, Grammar, NoneStands}
 use Rattle.winnow.specs.Grammar.Meaning.{Meaning}
 use Rattle.winnow.specs.Texts.{AtLeast, Anything, Begins, BeginsIn, InFront, InList, IsGrammarOf}
-use Rattle.winnow.specs.Texts.{Joined, NotFirst, Perhaps, Text}
-use Rattle.winnow.specs.Texts.Fronts.{among_front, begins_wider, front_any, front_begins}
+use Rattle.winnow.specs.Texts.{PartedText, NotFirst, OptionalText, Text}
+use Rattle.winnow.specs.Texts.Fronts.{either_front, begins_wider, front_any, front_begins}
 use Rattle.winnow.specs.Texts.Fronts.{front_behind, in_list_front, may_begin, none_begins}
-use Rattle.winnow.specs.Texts.Fronts.{perhaps_front, spelled_begins, then_front}
-use Rattle.winnow.specs.Texts.Parts.{behind_less, both_of, maybe_of}
+use Rattle.winnow.specs.Texts.Fronts.{optional_front, spelled_begins, both_front}
+use Rattle.winnow.specs.Texts.Parts.{behind_less, both_of, optional_of}
 use Rattle.winnow.specs.Texts.Rows.{list_of, none_both, parted_of}
 
 -- what a value begins with
@@ -83,11 +83,11 @@ module _ {A : Type 0} {g : Grammar ℕ (Value A)} {value : Text ℕ (Value A)}
       (may_begin (λ c. c ≡ 93) (λ c. Opens c → ⊥) (λ c e o. o.2 e) rest b)
 
   -- a comma that is the last, or none
-  last_front : InFront (Perhaps (WideMarkText 44)) (Begins (λ c. c ≡ 93)) EndsValues
-  unfolding EndsValues Perhaps Both
+  last_front : InFront (OptionalText (WideMarkText 44)) (Begins (λ c. c ≡ 93)) EndsValues
+  unfolding EndsValues OptionalText Both
   last_front = record { makes = makes }
     where
-      makes : (o : Option _) (xs rest : List ℕ) → Perhaps (WideMarkText 44) o xs
+      makes : (o : Option _) (xs rest : List ℕ) → OptionalText (WideMarkText 44) o xs
           → Begins (λ c. c ≡ 93) rest → EndsValues (xs ++ rest)
       makes None xs rest e b =
           let P : List ℕ → Type 0 = λ l. EndsValues (l ++ rest) in
@@ -110,23 +110,23 @@ module _ {A : Type 0} {g : Grammar ℕ (Value A)} {value : Text ℕ (Value A)}
   unfolding EndsValues
   values_of =
       both_of former (list_of (parted_ends_of element_of (wide_mark_of 44)
-      (then_front pair (front_begins
+      (both_front pair (front_begins
       (wide_past GoesOn 44 (omega arith) (λ goes. (goes_is 44 goes).2 refl))
       (spelled_begins 44 [] 44)) front_any) (front_begins opens_gap element_begins)
       (λ rest ends. ends.0) (λ rest ends. ends.1)))
-      (maybe_of (behind_less closing_gap (wide_mark_of 44)) closing_comma) last_front
+      (optional_of (behind_less closing_gap (wide_mark_of 44)) closing_comma) last_front
 
   values_begins : BeginsIn Opens (ArrayValuesText value)
-  values_begins = then_front former
+  values_begins = both_front former
       (in_list_front (joined_begins (WideMarkText 44) element_begins)) front_any
 
   array_of : IsGrammarOf (Array g) (ArrayText value) Anything
   array_of =
       between_of (wide_mark_of 91)
-      (maybe_of values_of (λ rest b. none_begins values_of values_begins rest
+      (optional_of values_of (λ rest b. none_begins values_of values_begins rest
       (may_begin (λ c. c ≡ 93) (λ c. Opens c → ⊥) (λ c e o. o.2 e) rest b)))
       (char_of 93)
-      (front_behind closing_gap (perhaps_front (front_begins opens_gap values_begins)))
+      (front_behind closing_gap (optional_front (front_begins opens_gap values_begins)))
       (spelled_begins 93 [] 93)
 
 -- ---- inline tables
@@ -134,13 +134,13 @@ module _ {A : Type 0} {g : Grammar ℕ (Value A)} {value : Text ℕ (Value A)}
 -- elements, and what closes, are in front of no white space
 commas_front : {O A : Type 0} {element : Text ℕ O} (closing : ℕ) → 32 < closing
     → BeginsIn (λ c. 32 < c) element
-    → InFront (InList {A = A} (Joined (MarkText 44) element)) (Begins (λ c. c ≡ closing))
+    → InFront (InList {A = A} (PartedText (MarkText 44) element)) (Begins (λ c. c ≡ closing))
     (NotFirst IsSpace)
-unfolding InList Joined
+unfolding InList PartedText
 commas_front {O} {A} {element} closing above begins =
     record { makes = λ list xs rest x b. first list.items xs rest x b }
   where
-    first : (os : List O) (tokens rest : List ℕ) → Joined (MarkText 44) element os tokens
+    first : (os : List O) (tokens rest : List ℕ) → PartedText (MarkText 44) element os tokens
         → Begins (λ c. c ≡ closing) rest → NotFirst IsSpace (tokens ++ rest)
     first [] tokens rest e b =
         let P : List ℕ → Type 0 = λ l. NotFirst IsSpace (l ++ rest) in
@@ -162,7 +162,7 @@ module _ {A : Type 0} {g : Grammar ℕ (Value A)} {value : Text ℕ (Value A)}
   inline_of : IsGrammarOf (Inline g) (InlineText value) Anything
   inline_of =
       between_of (mark_of 123) (list_of (parted_of spaced_pair_of (mark_of 44)
-      (then_front pair (front_begins
+      (both_front pair (front_begins
       (past GoesOn 44 (omega arith) (λ goes. (goes_is 44 goes).2 refl))
       (spelled_begins 44 [] 44)) front_any)
       (front_begins (λ c o. no_space c (omega (arith, (opens_key_is c o).0)))
@@ -184,18 +184,18 @@ module _ {A : Type 0} {g : Grammar ℕ (Value A)} {value : Text ℕ (Value A)}
 module _ {A : Type 0} where
   array_begins : (value : Text ℕ (Value A))
       → BeginsIn (λ c. c ≡ 91) (For IsArray (ArrayText value))
-  array_begins value = for_front IsArray (then_front latter (wide_mark_begins 91) front_any)
+  array_begins value = for_front IsArray (both_front latter (wide_mark_begins 91) front_any)
 
   inline_begins : (value : Text ℕ (Value A))
       → BeginsIn (λ c. c ≡ 123) (For IsInline (InlineText value))
-  inline_begins value = for_front IsInline (then_front latter (mark_begins 123) front_any)
+  inline_begins value = for_front IsInline (both_front latter (mark_begins 123) front_any)
 
   pub value_begins : (level : ℕ) → BeginsIn Opens (ValueText {A = A} level)
   unfolding ValueText
   value_begins zero = begins_wider (λ c a. (a.0, a.4, a.3)) scalar_begins
   value_begins (suc level) =
-      among_front (begins_wider (λ c e. omega (arith, e)) (array_begins (ValueText level)))
-      (among_front (begins_wider (λ c e. omega (arith, e)) (inline_begins (ValueText level)))
+      either_front (begins_wider (λ c e. omega (arith, e)) (array_begins (ValueText level)))
+      (either_front (begins_wider (λ c e. omega (arith, e)) (inline_begins (ValueText level)))
       (begins_wider (λ c a. (a.0, a.4, a.3)) scalar_begins))
 
   pub value_of : (level : ℕ) → IsGrammarOf (AnyValue {A = A} level) (ValueText level) Goes
@@ -209,7 +209,7 @@ module _ {A : Type 0} where
       (inline_begins (ValueText level))
       (front_begins (λ c a e. absurd (omega (arith, a.1, e))) scalar_begins))
       (array_begins (ValueText level))
-      (front_begins not_array (among_front
+      (front_begins not_array (either_front
       (begins_wider (λ c e. inl e) (inline_begins (ValueText level)))
       (begins_wider (λ c a. inr a.2) scalar_begins)))
     where

@@ -11,7 +11,7 @@ use Rattle.winnow.specs.Class.Laws.{class_unique}
 use Rattle.winnow.specs.Equal.{same_rest}
 use Rattle.winnow.specs.Exact.{Reads}
 use Rattle.winnow.specs.Exact.Whole.{ReadsAll}
-use Rattle.winnow.specs.Grammar.{Both, Gathered, Grammar, IsUnique, Literally, Parted, Takes}
+use Rattle.winnow.specs.Grammar.{Both, Gathered, Grammar, IsUnique, Literally, Parted, TakesTokens}
 use Rattle.winnow.specs.Grammar.{Three, Token}
 use Rattle.winnow.specs.Grammar.Outputs.{IsAlike, token_alike}
 use Rattle.winnow.specs.Grammar.Unique.{literally_takes, literally_unique}
@@ -39,7 +39,7 @@ char_unique c =
     literally_unique text_reading (λ c xs. xs ≡ c ∷ []) (λ c _. c) c
     (λ xs ys e f. ap (λ l. text_reading.units l) (e ∙ sym f))
 
-pub char_takes : (c : ℕ) → Takes (Char c)
+pub char_takes : (c : ℕ) → TakesTokens (Char c)
 char_takes c =
     literally_takes text_reading (λ c xs. xs ≡ c ∷ []) (λ c _. c) c
     (λ e. omega (arith, ap (λ l. length l) e))

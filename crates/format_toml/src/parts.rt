@@ -7,7 +7,7 @@ ghost use Rattle.std.specs.Prelude.{◌≡◌, ⊤, false, None};
 ghost use Rattle.winnow.specs.Range.{from_to};
 ghost use Rattle.winnow.specs.Exact.{Reads};
 ghost use Rattle.winnow.specs.Exact.Whole.{ReadsAll};
-ghost use Rattle.winnow.specs.Grammar.{Both, Either, Gathered, Many, Maybe, Parted, Three};
+ghost use Rattle.winnow.specs.Grammar.{Both, Either, Gathered, Many, Optional, Parted, Three};
 ghost use Rattle.winnow.specs.Rule.{CallsRead};
 
 use crate::marks::Marks;
@@ -85,7 +85,7 @@ where
         × (R.claim (R.state third)).backtracks }
     ensures { Reads I.reading E.kind
         (Three (λ o1 o2 o3. o2) (P.claim (P.state first)).grammar
-        (Maybe (Q.claim (Q.state second)).grammar) (R.claim (R.state third)).grammar)
+        (Optional (Q.claim (Q.state second)).grammar) (R.claim (R.state third)).grammar)
         (I.view input.old) result (I.view input.new) }
 {
     delimited(first, opt(second), third).read(input)
@@ -239,7 +239,7 @@ where
         × (N.claim (N.state newline)).backtracks × (N.claim (N.state newline)).consumes }
     ensures { Reads I.reading E.kind
         (Gathered (λ all parts. ⊤) (Many (Either (P.claim (P.state white)).grammar
-        (Both latter (Maybe (Q.claim (Q.state comment)).grammar)
+        (Both latter (Optional (Q.claim (Q.state comment)).grammar)
         (N.claim (N.state newline)).grammar)) (from_to 0 None)))
         (I.view input.old) result (I.view input.new) }
 {
@@ -301,8 +301,8 @@ where
         × (G.claim (G.state gap)).backtracks }
     ensures { Reads I.reading E.kind
         (Three (λ o1 o2 o3. o2) (G.claim (G.state gap)).grammar
-        (Maybe (Both former (P.claim (P.state item)).grammar
-        (G.claim (G.state gap)).grammar)) (Maybe (Q.claim (Q.state comment)).grammar))
+        (Optional (Both former (P.claim (P.state item)).grammar
+        (G.claim (G.state gap)).grammar)) (Optional (Q.claim (Q.state comment)).grammar))
         (I.view input.old) result (I.view input.new) }
 {
     delimited(gap, opt(terminated(item, gap)), opt(comment)).read(input)

@@ -38,7 +38,7 @@ pub record IsUnique {T O : Type 0} (grammar : Grammar T O) : Type 0 where
       → grammar tokens p other → rest ≡ other
 
 -- What stands takes tokens.
-pub record Takes {T O : Type 0} (grammar : Grammar T O) : Type 0 where
+pub record TakesTokens {T O : Type 0} (grammar : Grammar T O) : Type 0 where
   pub fewer : (tokens : List T) (o : O) (rest : List T) → grammar tokens o rest
       → length rest < length tokens
 
@@ -144,8 +144,8 @@ Either first second tokens o rest =
     first tokens o rest ⊎ (NoneStands first tokens × second tokens o rest)
 
 -- It stands; or none does, and nothing is taken.
-unfoldable pub Maybe : {T O : Type 0} → Grammar T O → Grammar T (Option O)
-Maybe {T} {O} grammar tokens o rest =
+unfoldable pub Optional : {T O : Type 0} → Grammar T O → Grammar T (Option O)
+Optional {T} {O} grammar tokens o rest =
     ((x : O) × (o ≡ Some x) × grammar tokens x rest)
     ⊎ ((o ≡ None) × NoneStands grammar tokens × (rest ≡ tokens))
 
@@ -160,8 +160,8 @@ unfoldable pub Ahead : {T O : Type 0} → Grammar T O → Grammar T O
 Ahead {T} grammar tokens o rest = (end : List T) × grammar tokens o end × (rest ≡ tokens)
 
 -- None stands, and nothing is taken.
-unfoldable pub Absent : {T O : Type 0} → Grammar T O → Grammar T (Unit {0})
-Absent grammar tokens o rest = NoneStands grammar tokens × (rest ≡ tokens)
+unfoldable pub NotAhead : {T O : Type 0} → Grammar T O → Grammar T (Unit {0})
+NotAhead grammar tokens o rest = NoneStands grammar tokens × (rest ≡ tokens)
 
 -- These stand one behind the other.
 abbrev pub Each : {T O : Type 0} → Grammar T O → Grammar T (List O)
@@ -202,6 +202,8 @@ Parted {T} element separator bounds tokens (o ∷ os) rest =
     × Stops (Both (λ d o. o) separator element) bounds.greatest (length (o ∷ os)) rest
 
 -- Elements with separators between them, as many as a range says, held by an accumulator.
-abbrev pub Apart : {T O D C : Type 0} → (C → List O → Type 0) → Range → Grammar T O → Grammar T D
+abbrev pub SeparatedBy : {T O D C : Type 0} → (C → List O → Type 0) → Range → Grammar T O
+    → Grammar T D
     → Grammar T C
-Apart holds range element separator = Gathered holds (Parted element separator (bounds_of range))
+SeparatedBy holds range element separator =
+    Gathered holds (Parted element separator (bounds_of range))

@@ -25,14 +25,15 @@ abbrev pub Itself : {T : Type 0} → T → Text T T
 Itself t = Spelled (t ∷ []) t
 
 -- What a literal is spelled by, for what is made of it and of a slice that shows it.
-unfoldable pub Written : {S T L O : Type 0} → Reading T L → (S → List T → Type 0) → (S → L → O) → S
+unfoldable pub LiterallyText : {S T L O : Type 0} → Reading T L → (S → List T → Type 0)
+    → (S → L → O) → S
     → Text T O
-Written {L = L} reading spelled output literal o tokens =
+LiterallyText {L = L} reading spelled output literal o tokens =
     (slice : L) × spelled literal tokens × reading.shows slice tokens × (o ≡ output literal slice)
 
 -- One token of these, for what is seen so.
-unfoldable pub OneOf : {K T : Type 0} → (K → T) → (K → Type 0) → Text T K
-OneOf seen these k tokens = these k × (tokens ≡ seen k ∷ [])
+unfoldable pub TokenOfText : {K T : Type 0} → (K → T) → (K → Type 0) → Text T K
+TokenOfText seen these k tokens = these k × (tokens ≡ seen k ∷ [])
 
 -- So many of these tokens or more, for a slice that shows them.
 unfoldable pub Members : {T L : Type 0} → Reading T L → (T → Type 0) → ℕ → Text T L
@@ -45,41 +46,41 @@ SoManyOf reading these n slice tokens =
     All these tokens × (length tokens ≡ n) × reading.shows slice tokens
 
 -- So many tokens, for a slice that shows them.
-unfoldable pub SoMany : {T L : Type 0} → Reading T L → ℕ → Text T L
-SoMany reading n slice tokens = (length tokens ≡ n) × reading.shows slice tokens
+unfoldable pub CountedText : {T L : Type 0} → Reading T L → ℕ → Text T L
+CountedText reading n slice tokens = (length tokens ≡ n) × reading.shows slice tokens
 
 -- No tokens, for a slice that shows none.
-unfoldable pub Empty : {T L : Type 0} → Reading T L → Text T L
-Empty reading slice tokens = (tokens ≡ []) × reading.shows slice []
+unfoldable pub NoTokensText : {T L : Type 0} → Reading T L → Text T L
+NoTokensText reading slice tokens = (tokens ≡ []) × reading.shows slice []
 
 -- ---- texts made of texts
 
 -- A text of one, and one of another behind it.
-unfoldable pub Then : {T O1 O2 O : Type 0} → (O1 → O2 → O) → Text T O1 → Text T O2 → Text T O
-Then {T} {O1} {O2} output first second o tokens =
+unfoldable pub BothText : {T O1 O2 O : Type 0} → (O1 → O2 → O) → Text T O1 → Text T O2 → Text T O
+BothText {T} {O1} {O2} output first second o tokens =
     (o1 : O1) × (o2 : O2) × (xs : List T) × (ys : List T) × first o1 xs × second o2 ys
     × (tokens ≡ xs ++ ys) × (o ≡ output o1 o2)
 
 -- A text of one or of the other.
-unfoldable pub Among : {T O : Type 0} → Text T O → Text T O → Text T O
-Among first second o tokens = first o tokens ⊎ second o tokens
+unfoldable pub EitherText : {T O : Type 0} → Text T O → Text T O → Text T O
+EitherText first second o tokens = first o tokens ⊎ second o tokens
 
 -- A text, or nothing.
-unfoldable pub Perhaps : {T O : Type 0} → Text T O → Text T (Option O)
-Perhaps text None tokens = tokens ≡ []
-Perhaps text (Some o) tokens = text o tokens
+unfoldable pub OptionalText : {T O : Type 0} → Text T O → Text T (Option O)
+OptionalText text None tokens = tokens ≡ []
+OptionalText text (Some o) tokens = text o tokens
 
 -- Texts of these values, one behind the other.
-unfoldable pub Row : {T O : Type 0} → Text T O → Text T (List O)
-Row text [] tokens = tokens ≡ []
-Row {T} text (o ∷ os) tokens =
-    (xs : List T) × (ys : List T) × text o xs × Row text os ys × (tokens ≡ xs ++ ys)
+unfoldable pub EachText : {T O : Type 0} → Text T O → Text T (List O)
+EachText text [] tokens = tokens ≡ []
+EachText {T} text (o ∷ os) tokens =
+    (xs : List T) × (ys : List T) × text o xs × EachText text os ys × (tokens ≡ xs ++ ys)
 
 -- Texts of these values, with a text of the separator between each two of them.
-unfoldable pub Joined : {T O D : Type 0} → Text T D → Text T O → Text T (List O)
-Joined separator text [] tokens = tokens ≡ []
-Joined {T} separator text (o ∷ os) tokens =
-    (xs : List T) × (ys : List T) × text o xs × Row (Then (λ d o. o) separator text) os ys
+unfoldable pub PartedText : {T O D : Type 0} → Text T D → Text T O → Text T (List O)
+PartedText separator text [] tokens = tokens ≡ []
+PartedText {T} separator text (o ∷ os) tokens =
+    (xs : List T) × (ys : List T) × text o xs × EachText (BothText (λ d o. o) separator text) os ys
     × (tokens ≡ xs ++ ys)
 
 -- A text of so many values or more.
@@ -92,20 +93,20 @@ unfoldable pub InList : {T O A : Type 0} → Text T (List O) → Text T (Vec O A
 InList text list tokens = text list.items tokens
 
 -- A text of values, for what holds them.
-unfoldable pub Holding : {T O C : Type 0} → (C → List O → Type 0) → Text T (List O) → Text T C
-Holding {O = O} holds text all tokens = (os : List O) × holds all os × text os tokens
+unfoldable pub GatheredText : {T O C : Type 0} → (C → List O → Type 0) → Text T (List O) → Text T C
+GatheredText {O = O} holds text all tokens = (os : List O) × holds all os × text os tokens
 
 -- A text of a value, for what is made of it, by some part.
-unfoldable pub Of : {F T O U : Type 0} → (F → O → U → Type 0) → F → Text T O → Text T U
-Of {O = O} makes part text u tokens = (o : O) × text o tokens × makes part o u
+unfoldable pub MadeText : {F T O U : Type 0} → (F → O → U → Type 0) → F → Text T O → Text T U
+MadeText {O = O} makes part text u tokens = (o : O) × text o tokens × makes part o u
 
 -- A text of some value, for a slice that shows it.
-unfoldable pub Shown : {T L O : Type 0} → Reading T L → Text T O → Text T L
-Shown {O = O} reading text slice tokens = (o : O) × text o tokens × reading.shows slice tokens
+unfoldable pub TakenText : {T L O : Type 0} → Reading T L → Text T O → Text T L
+TakenText {O = O} reading text slice tokens = (o : O) × text o tokens × reading.shows slice tokens
 
 -- A text of a value, for the value and a slice that shows the text.
-unfoldable pub AndShown : {T L O : Type 0} → Reading T L → Text T O → Text T (O × L)
-AndShown reading text both tokens = text both.0 tokens × reading.shows both.1 tokens
+unfoldable pub AndTakenText : {T L O : Type 0} → Reading T L → Text T O → Text T (O × L)
+AndTakenText reading text both tokens = text both.0 tokens × reading.shows both.1 tokens
 
 -- ---- what may stand behind a text, and at the beginning of one
 

@@ -1,6 +1,6 @@
 //! Slices that are read as text.
 ghost use Rattle.std.specs.Prelude.{Option};
-ghost use Rattle.stream_sets.specs.ParseSlice.{ReadsBytes, ReadsText};
+ghost use Rattle.stream_sets.specs.ParseSlice.{ReadsBytes, ParsesAs};
 
 use std::str::FromStr;
 
@@ -24,7 +24,7 @@ impl<'a, R: FromStr> ParseSlice<R> for &'a str
 where
     R::Err: Drop,
 {
-    ghost reads = { λ slice result. ReadsText R.from_str_gives slice.now result };
+    ghost reads = { λ slice result. ParsesAs R.from_str_gives slice.now result };
 
     #[inline]
     fn parse_slice(&self) -> Option<R> {

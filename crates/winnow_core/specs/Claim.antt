@@ -1,7 +1,7 @@
 -- What a parser claims of its runs from a state: what they read by a grammar, and what one input
 -- decides of them.
 use Rattle.std.specs.Prelude.{◌≡◌}
-use Rattle.grammars.specs.Grammar.{Grammar, Never, Takes}
+use Rattle.grammars.specs.Grammar.{Grammar, Never, TakesTokens}
 use Rattle.stream_errors.specs.Form.{ErrorForm}
 use Rattle.winnow_core.specs.Decided.{IsDecided}
 use Rattle.winnow_core.specs.Exact.{FailsBy, IsExact}
@@ -35,7 +35,7 @@ pub record Claimed {S T O : Type 0} (claim : Claim T O) (s : S) (meaning : Meani
   pub fails : (form : ErrorForm) → claim.premise
       → FailsBy (Allowed claim.backtracks claim.spares_memory) s (meaning form)
   -- what is read takes tokens
-  pub takes : claim.premise → claim.consumes → Takes claim.grammar
+  pub takes : claim.premise → claim.consumes → TakesTokens claim.grammar
   -- one state and one input decide the runs
   pub decided : (form : ErrorForm) → claim.decides → IsDecided s (meaning form) claim.alike
 

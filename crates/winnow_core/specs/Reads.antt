@@ -11,7 +11,7 @@ pub mod SequencesLeave
 
 -- In the states that are known, an output of the parser shows the tokens that stood first and were
 -- taken, and is of P; and whatever it answers, it is in such a state again.
-pub record Reads {S T O : Type 0} (run : Runs S T O) (known : S → Type 0) (shown : O → List T)
+pub record ReadsShown {S T O : Type 0} (run : Runs S T O) (known : S → Type 0) (shown : O → List T)
     (P : O → Type 0) : Type 0 where
   pub reads : (s : S) (i : Input T) (o : O) (t : S) (j : Input T) → known s
       → run s i (Ok o) t j → (i.left.tokens ≡ shown o ++ j.left.tokens) × P o

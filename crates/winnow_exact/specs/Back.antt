@@ -7,9 +7,11 @@ use Rattle.streams.specs.Kind.{Kind}
 use Rattle.streams.specs.declared.needed.Needed.{Needed}
 use Rattle.grammars.specs.Grammar.{Both, Grammar, IsUnique}
 use Rattle.grammars.specs.Grammar.Unique.{both_unique}
-use Rattle.grammars.specs.Texts.{Among, AtEnd, AtLeast, Begins, BeginsIn, Holding, InFront, InList}
-use Rattle.grammars.specs.Texts.{IsGrammarOf, Joined, NotFirst, Of, Row, Spelled, Text, Then}
-use Rattle.grammars.specs.Texts.Fronts.{begins_never, front_any, then_front}
+use Rattle.grammars.specs.Texts.{EitherText, AtEnd, AtLeast, Begins, BeginsIn, GatheredText}
+use Rattle.grammars.specs.Texts.{InFront, InList}
+use Rattle.grammars.specs.Texts.{IsGrammarOf, PartedText, NotFirst, MadeText, EachText, Spelled}
+use Rattle.grammars.specs.Texts.{Text, BothText}
+use Rattle.grammars.specs.Texts.Fronts.{begins_never, front_any, both_front}
 use Rattle.grammars.specs.Texts.Rows.{links}
 use Rattle.stream_errors.specs.declared.fault.ParseFault.{ParseFault}
 use Rattle.winnow_core.specs.Exact.Whole.{IsWant}
@@ -52,12 +54,12 @@ spelled_one xs output = record { one = λ o p tokens (is, e) (are, d). is ∙ sy
 pub among_one : {T O : Type 0} {first second : Text T O} {alike : O → O → Type 0}
     → IsUnambiguous first alike → IsUnambiguous second alike
     → ((o p : O) (tokens : List T) → first o tokens → second p tokens → ⊥)
-    → IsUnambiguous (Among first second) alike
-unfolding Among
+    → IsUnambiguous (EitherText first second) alike
+unfolding EitherText
 among_one {T} {O} {first} {second} {alike} one two never = record { one = both }
   where
-    both : (o p : O) (tokens : List T) → Among first second o tokens
-        → Among first second p tokens → alike o p
+    both : (o p : O) (tokens : List T) → EitherText first second o tokens
+        → EitherText first second p tokens → alike o p
     both o p tokens (inl a) (inl b) = one.one o p tokens a b
     both o p tokens (inl a) (inr b) = absurd (never o p tokens a b)
     both o p tokens (inr a) (inl b) = absurd (never p o tokens b a)
@@ -84,8 +86,8 @@ in_list_one one = record {
 pub holding_one : {T O C : Type 0} (holds : C → List O → Type 0) {text : Text T (List O)}
     {alike : List O → List O → Type 0} {same : C → C → Type 0}
     → ((all more : C) (os ps : List O) → holds all os → holds more ps → alike os ps
-    → same all more) → IsUnambiguous text alike → IsUnambiguous (Holding holds text) same
-unfolding Holding
+    → same all more) → IsUnambiguous text alike → IsUnambiguous (GatheredText holds text) same
+unfolding GatheredText
 holding_one holds makes one = record {
   one = λ all more tokens (os, held, a) (ps, holding, b).
       makes all more os ps held holding (one.one os ps tokens a b);
@@ -95,8 +97,8 @@ holding_one holds makes one = record {
 pub of_one : {F T O U : Type 0} (makes : F → O → U → Type 0) (part : F) {text : Text T O}
     {alike : O → O → Type 0} {same : U → U → Type 0}
     → ((u v : U) (o p : O) → makes part o u → makes part p v → alike o p → same u v)
-    → IsUnambiguous text alike → IsUnambiguous (Of makes part text) same
-unfolding Of
+    → IsUnambiguous text alike → IsUnambiguous (MadeText makes part text) same
+unfolding MadeText
 of_one makes part keeps one = record {
   one = λ u v tokens (o, a, is) (p, b, are). keeps u v o p is are (one.one o p tokens a b);
 }
@@ -121,8 +123,8 @@ module _ {T O : Type 0} {g : Grammar T O} {text : Text T O} {follow : List T →
       {alike2 : O2 → O2 → Type 0} {same : U → U → Type 0}
       → ((o p : O) (o2 p2 : O2) → alike o p → alike2 o2 p2 → same (output o o2) (output p p2))
       → ((o : O2) (tokens : List T) → second o tokens → follow tokens)
-      → IsUnambiguous second alike2 → IsUnambiguous (Then output text second) same
-  unfolding Then
+      → IsUnambiguous second alike2 → IsUnambiguous (BothText output text second) same
+  unfolding BothText
   then_one output {second} {same = same} keeps behind two = record {
     one = λ u v tokens (o, o2, xs, ys, a, b, e, out) (p, p2, zs, ws, c, d, f, other).
         let (like, rest) = split_one o p xs zs ys ws a c (behind o2 ys b) (behind p2 ws d)
@@ -137,8 +139,8 @@ module _ {T O : Type 0} {g : Grammar T O} {text : Text T O} {follow : List T →
   -- a row of texts that are not empty
   module _ (some : BeginsIn (λ t. ⊤) text) (again : InFront text follow follow)
       (last : follow []) where
-    row_follows : (os : List O) (tokens : List T) → Row text os tokens → follow tokens
-    unfolding Row
+    row_follows : (os : List O) (tokens : List T) → EachText text os tokens → follow tokens
+    unfolding EachText
     row_follows [] tokens e = let P : List T → Type 0 = λ l. follow l in subst P (sym e) last
     row_follows (o ∷ os) tokens (xs, ys, a, more, e) =
         let P : List T → Type 0 = λ l. follow l in
@@ -149,19 +151,20 @@ module _ {T O : Type 0} {g : Grammar T O} {text : Text T O} {follow : List T →
         let Q : List T → Type 0 = λ l. Begins (λ t. ⊤) l in
         absurd (subst Q e (some.makes o xs ys a tt))
 
-    both_rows : (os ps : List O) (tokens : List T) → Row text os tokens → Row text ps tokens
+    both_rows : (os ps : List O) (tokens : List T) → EachText text os tokens
+        → EachText text ps tokens
         → AllZip alike os ps
-    unfolding Row
+    unfolding EachText
     both_rows [] [] tokens e f = tt
     both_rows [] (p ∷ ps) tokens e (zs, ws, c, d, f) = never p zs ws c (sym f ∙ e)
     both_rows (o ∷ os) [] tokens (xs, ys, a, b, e) f = never o xs ys a (sym e ∙ f)
     both_rows (o ∷ os) (p ∷ ps) tokens (xs, ys, a, b, e) (zs, ws, c, d, f) =
         let (like, rest) = split_one o p xs zs ys ws a c (row_follows os ys b)
         (row_follows ps ws d) (sym e ∙ f) in
-        let P : List T → Type 0 = λ l. Row text ps l in
+        let P : List T → Type 0 = λ l. EachText text ps l in
         (like, both_rows os ps ys b (subst P (sym rest) d))
 
-    pub row_one : IsUnambiguous (Row text) (AllZip alike)
+    pub row_one : IsUnambiguous (EachText text) (AllZip alike)
     row_one = record { one = both_rows }
 
 -- one text or more, with texts of a separator between them that are not empty
@@ -172,12 +175,12 @@ module _ {T O D : Type 0} {g : Grammar T O} {h : Grammar T D} {text : Text T O}
     (by_unique : IsUnique h) (by_one : IsUnambiguous separator same) where
   pub joined_one : BeginsIn (λ t. ⊤) separator → InFront separator between follow
       → InFront text follow between → ((o : O) (tokens : List T) → text o tokens → between tokens)
-      → follow [] → IsUnambiguous (AtLeast 1 (Joined separator text)) (AllZip alike)
-  unfolding Joined
+      → follow [] → IsUnambiguous (AtLeast 1 (PartedText separator text)) (AllZip alike)
+  unfolding PartedText
   joined_one some divides goes_on behind last = record { one = lists }
     where
       link : Text T O
-      link = Then (λ d o. o) separator text
+      link = BothText (λ d o. o) separator text
 
       is_link : IsGrammarOf (Both (λ d o. o) h g) link follow
       is_link = links is by divides goes_on
@@ -189,20 +192,20 @@ module _ {T O D : Type 0} {g : Grammar T O} {h : Grammar T D} {text : Text T O}
       link_one = then_one by by_unique by_one (λ d o. o) (λ d c o p e a. a) behind one
 
       begins : BeginsIn (λ t. ⊤) link
-      begins = then_front (λ d o. o) some front_any
+      begins = both_front (λ d o. o) some front_any
 
       again : InFront link follow follow
-      again = then_front (λ d o. o) divides goes_on
+      again = both_front (λ d o. o) divides goes_on
 
-      lists : (os ps : List O) (tokens : List T) → AtLeast 1 (Joined separator text) os tokens
-          → AtLeast 1 (Joined separator text) ps tokens → AllZip alike os ps
+      lists : (os ps : List O) (tokens : List T) → AtLeast 1 (PartedText separator text) os tokens
+          → AtLeast 1 (PartedText separator text) ps tokens → AllZip alike os ps
       lists [] ps tokens (e, enough) b = absurd (omega arith)
       lists (o ∷ os) [] tokens a (e, enough) = absurd (omega arith)
       lists (o ∷ os) (p ∷ ps) tokens ((xs, ys, a, b, e), enough) ((zs, ws, c, d, f), more) =
           let (like, rest) = split_one is unique one o p xs zs ys ws a c
           (row_follows is_link link_unique link_one begins again last os ys b)
           (row_follows is_link link_unique link_one begins again last ps ws d) (sym e ∙ f) in
-          let P : List T → Type 0 = λ l. Row link ps l in (
+          let P : List T → Type 0 = λ l. EachText link ps l in (
             like,
             (row_one is_link link_unique link_one begins again last).one os ps ys b
                 (subst P (sym rest) d),

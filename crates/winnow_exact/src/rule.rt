@@ -1,7 +1,7 @@
 //! Rules: functions as parsers, by what they read.
 ghost use Rattle.std.specs.Fn.{CalledAtMut};
 ghost use Rattle.std.specs.Prelude.{◌≡◌, ⊤};
-ghost use Rattle.grammars.specs.Grammar.{Grammar, IsUnique, Takes};
+ghost use Rattle.grammars.specs.Grammar.{Grammar, IsUnique, TakesTokens};
 ghost use Rattle.winnow_exact.specs.Rule.{by_rule, by_run};
 ghost use Rattle.winnow_exact.specs.Rule.{ByRuns, CallsRead, CallsSpared, by_exact, by_fails};
 ghost use Rattle.winnow_exact.specs.RulePieces.{pieces_rule, pieces_run};
@@ -27,7 +27,7 @@ pub trait Rule<I: Stream, O>: Sized {
     ghost unique: { (r : Self) → IsUnique (grammar r) };
 
     // What is read takes tokens.
-    ghost takes: { (r : Self) → consumes r → Takes (grammar r) };
+    ghost takes: { (r : Self) → consumes r → TakesTokens (grammar r) };
 
     /// A parser that runs a function whose clause says that it reads so.
     #[inline(always)]

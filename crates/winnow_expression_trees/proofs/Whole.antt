@@ -20,7 +20,7 @@ use Rattle.winnow_expression_trees.proofs.Closing.{same_value}
 use Rattle.winnow_expression_trees.specs.Failure.{EndedBy, FailsBy, RefusedBy, Unmoved}
 use Rattle.winnow_expression_trees.proofs.Finds.{call_tree}
 use Rattle.winnow_expression_trees.proofs.Total.{run_fails, tree_refuses}
-use Rattle.winnow_expression_trees.specs.OneTree.{Alike, IsExact, KeepsOver}
+use Rattle.winnow_expression_trees.specs.OneTree.{Alike, IsTheOneTree, KeepsOver}
 
 err_is : {V : Type 0} {k : Kind} {v : V} → ◌≡◌ {A = Answer V} (Err k) (Ok v) → ⊥
 err_is e = cc
@@ -58,7 +58,7 @@ module _ {S W T V F G H : Type 0} (g : Grammar S W T V F G H) (alike : V → V �
       )
 
   pub expression_exact : (level : ℤ) (i : Input T) (answer : Answer V) (t : S × W) (j : Input T)
-      → ExpressionRuns g level s0 i answer t j → IsExact g alike s0 level i answer t j
+      → ExpressionRuns g level s0 i answer t j → IsTheOneTree g alike s0 level i answer t j
   expression_exact level i (Ok v) t j runs =
       let (kept, r, all, tree, value) = found level i v t j runs in record {
         one = only level i;
@@ -100,7 +100,8 @@ module _ {S W T V F G H : Type 0} (g : Grammar S W T V F G H) (alike : V → V �
 -- failure has the kind and the rest of the answer that ended the reading.
 pub expression_fails : {S W T V F G H : Type 0} (g : Grammar S W T V F G H) (alike : V → V → Type 0)
     (s : S × W) (level : ℤ) (i : Input T) (k : Kind) (t : S × W) (j : Input T)
-    → IsExact g alike s level i (Err k) t j → (k ≡ memory → ⊥) → (RefusedBy g s level i k j → ⊥)
+    → IsTheOneTree g alike s level i (Err k) t j → (k ≡ memory → ⊥)
+        → (RefusedBy g s level i k j → ⊥)
     → (Unmoved g s i → ⊥) → EndedBy g s i k j
 expression_fails g alike s level i k t j exact other accepts moves =
     elim (exact.fails k refl other) [

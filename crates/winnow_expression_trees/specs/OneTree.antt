@@ -28,7 +28,8 @@ Alike g alike r u =
 -- At most one tree keeps the powers; an output is the value of one, which ends where the input is
 -- left; where one has a value, the answer is alike; and where a failure is no fold's, there is
 -- none. Want of memory aside.
-pub record IsExact {S W T V F G H : Type 0} (g : Grammar S W T V F G H) (alike : V → V → Type 0)
+pub record IsTheOneTree {S W T V F G H : Type 0} (g : Grammar S W T V F G H)
+    (alike : V → V → Type 0)
     (s : S × W) (level : ℤ) (i : Input T) (answer : Answer V) (t : S × W)
     (j : Input T) : Type 0 where
   pub one : (r u : Tree V F G H) (m n : Input T) (b c : Bool) → KeepsOver g s level i r m b

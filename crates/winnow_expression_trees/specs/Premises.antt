@@ -20,24 +20,24 @@ NotMemory (Ok v) = Unit {0}
 NotMemory (Err k) = k ≡ memory → ⊥
 
 -- Both are outputs that are alike, or errors of one kind.
-abbrev pub Same : {O : Type 0} → (O → O → Type 0) → Answer O → Answer O → Type 0
-Same alike (Ok v) (Ok w) = alike v w
-Same alike (Ok v) (Err l) = ⊥
-Same alike (Err k) (Ok w) = ⊥
-Same alike (Err k) (Err l) = k ≡ l
+abbrev pub AnswersAlike : {O : Type 0} → (O → O → Type 0) → Answer O → Answer O → Type 0
+AnswersAlike alike (Ok v) (Ok w) = alike v w
+AnswersAlike alike (Ok v) (Err l) = ⊥
+AnswersAlike alike (Err k) (Ok w) = ⊥
+AnswersAlike alike (Err k) (Err l) = k ≡ l
 
 -- Want of memory aside: two folds answer the same on operands that are alike, and the first
 -- leaves its input.
 pub record FoldAlike {F T V : Type 0} (alike : V → V → Type 0)
     (folds : F → Input T → V → Answer V → Input T → Type 0) (f g : F) : Type 0 where
   pub same : (v w : V) (i j k n : Input T) (a b : Answer V) → alike v w → folds f i v a j
-      → folds g k w b n → NotMemory a → NotMemory b → Same alike a b
+      → folds g k w b n → NotMemory a → NotMemory b → AnswersAlike alike a b
   pub leaves : (v : V) (i j : Input T) (a : Answer V) → folds f i v a j → NotMemory a → j ≡ i
 
 pub record FoldsAlike {H T V : Type 0} (alike : V → V → Type 0)
     (folds : H → Input T → V → V → Answer V → Input T → Type 0) (f g : H) : Type 0 where
   pub same : (v x w y : V) (i j k n : Input T) (a b : Answer V) → alike v w → alike x y
-      → folds f i v x a j → folds g k w y b n → NotMemory a → NotMemory b → Same alike a b
+      → folds f i v x a j → folds g k w y b n → NotMemory a → NotMemory b → AnswersAlike alike a b
   pub leaves : (v x : V) (i j : Input T) (a : Answer V) → folds f i v x a j → NotMemory a → j ≡ i
 
 -- Want of memory aside: the input decides what a part in state s answers, as far as outputs are
@@ -45,7 +45,7 @@ pub record FoldsAlike {H T V : Type 0} (alike : V → V → Type 0)
 abbrev pub Decides : {S T O : Type 0} → (O → O → Type 0) → Runs S T O → S → Type 0
 Decides {S} {T} {O} alike run s =
     (i j k : Input T) (a b : Answer O) (t u : S) → run s i a t j → run s i b u k → NotMemory a
-    → NotMemory b → Same alike a b × (j ≡ k)
+    → NotMemory b → AnswersAlike alike a b × (j ≡ k)
 
 -- Want of memory aside: a part in state s keeps it and changes only the place, and the input
 -- decides its answer, as far as outputs are alike, and what it leaves.
@@ -54,7 +54,7 @@ pub record IsStateless {S T O : Type 0} (alike : O → O → Type 0) (run : Runs
   pub keeps : (i j : Input T) (a : Answer O) (t : S) → run s i a t j → NotMemory a
       → (t ≡ s) × (j.status ≡ i.status)
   pub decided : (i j k : Input T) (a b : Answer O) (t u : S) → run s i a t j → run s i b u k
-      → NotMemory a → NotMemory b → Same alike a b × (j ≡ k)
+      → NotMemory a → NotMemory b → AnswersAlike alike a b × (j ≡ k)
 
 -- prefixes of one power whose folds are alike
 abbrev pub AlikePrefix : {F : Type 0} → (F → F → Type 0) → Prefix F → Prefix F → Type 0

@@ -9,7 +9,7 @@ ghost use Rattle.winnow_expression.specs.Parts.{parts_grammar};
 ghost use Rattle.winnow_expression_trees.specs.Accepting.{FoldAnswers, accepting, asserting};
 ghost use Rattle.winnow_expression_trees.specs.Alike.{AlikeInfix, AlikeTree};
 ghost use Rattle.winnow_expression_trees.specs.Failure.{EndedBy, RefusedBy, Unmoved};
-ghost use Rattle.winnow_expression_trees.specs.OneTree.{IsExact, KeepsOver};
+ghost use Rattle.winnow_expression_trees.specs.OneTree.{IsTheOneTree, KeepsOver};
 ghost use Rattle.winnow_expression_trees.specs.Premises.{AlikePostfix, AlikePrefix, Decides};
 ghost use Rattle.winnow_expression_trees.specs.Premises.{Premises};
 ghost use Rattle.winnow_expression_trees.specs.Tree.{Tree};
@@ -96,7 +96,7 @@ pub fn expression_reads_the_one_tree<
         → LeveledRuns (parts_grammar I.reading.units (assert_kind E.form) (P.meaning E.form)
         (Pre.meaning E.form) (Post.meaning E.form) (Pix.meaning E.form) (F.folds E.form)
         (G.folds E.form) (H.folds E.form)) s i answer t j
-        → IsExact (parts_grammar I.reading.units (assert_kind E.form) (P.meaning E.form)
+        → IsTheOneTree (parts_grammar I.reading.units (assert_kind E.form) (P.meaning E.form)
         (Pre.meaning E.form) (Post.meaning E.form) (Pix.meaning E.form) (F.folds E.form)
         (G.folds E.form) (H.folds E.form)) A.alike (s.0, s.1) s.2 i answer (t.0, t.1) j }
     ensures fails { (s : (P.State × Pre.State) × (Post.State × Pix.State) × ℤ)

@@ -3,7 +3,7 @@ use Rattle.std.specs.Prelude.{◌≡◌, ◌⊎◌, false, List, [], Ok, Err}
 use Rattle.std.proofs.Common.{refl, sym, subst, inl, inr, ◌∙◌}
 use Rattle.streams.specs.Input.{Input}
 use Rattle.streams.specs.Kind.{Kind, backtrack, cut, memory}
-use Rattle.grammars.specs.Grammar.{Grammar, IsUnique, NoneStands, Takes}
+use Rattle.grammars.specs.Grammar.{Grammar, IsUnique, NoneStands, TakesTokens}
 use Rattle.stream_errors.specs.Form.{Answer}
 use Rattle.winnow_core.specs.Exact.{IsExact}
 use Rattle.winnow_core.specs.Runs.{Runs}

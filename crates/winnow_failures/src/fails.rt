@@ -1,6 +1,6 @@
 //! The trait of parsers of which it is known how they fail.
 ghost use Rattle.std.specs.Prelude.{◌≡◌, false};
-ghost use Rattle.grammars.specs.Grammar.{Takes};
+ghost use Rattle.grammars.specs.Grammar.{TakesTokens};
 ghost use Rattle.stream_errors.specs.Form.{ErrorForm, answer_by};
 ghost use Rattle.winnow_core.specs.Exact.Whole.{ReadsAll};
 ghost use Rattle.winnow_core.specs.Parse.{ParsesWhole};
@@ -57,7 +57,8 @@ pub trait Fails<I: Stream, O, E: ParserError<I>>: Parser<I, O, E> {
         (told p).failure };
 
     // What is read takes tokens.
-    ghost takes: { (p : Self) → (told p).premise → (told p).consumes → Takes (told p).grammar };
+    ghost takes: { (p : Self) → (told p).premise → (told p).consumes
+        → TakesTokens (told p).grammar };
 
     /// As [`parse_next`](Parser::parse_next), and it is told what it answers: on a whole input an
     /// output stands (`reads`); an error is of the kind that is told, and leaves what is told, and

@@ -17,7 +17,7 @@ use Rattle.winnow.specs.Integer.Values.{value_of_fits}
 use Rattle.winnow.specs.Integer.Written.{be_written, length_written, written_value}
 use Rattle.winnow.specs.Kind.{Kind, incomplete}
 use Rattle.winnow.specs.LengthTake.Reads.{LengthTakeOf, length_take_reads}
-use Rattle.winnow.specs.Reads.{Reads}
+use Rattle.winnow.specs.Reads.{ReadsShown}
 use Rattle.winnow.specs.Runs.{Runs}
 use Rattle.winnow.specs.Short.{ShortKind}
 use Rattle.winnow.specs.Take.{TakeRuns}
@@ -34,7 +34,7 @@ below : (n : ℕ) → IsValueOf 2 value_of n → n < 256 ^ 2
 below n (bytes, is, as_many, are) =
     omega (arith, is, value_of_fits bytes are, ap (λ w. 256 ^ w) as_many)
 
-length_reads : Reads Length (λ s. s ≡ tt) (bytes_high_first 2) (IsValueOf 2 value_of)
+length_reads : ReadsShown Length (λ s. s ≡ tt) (bytes_high_first 2) (IsValueOf 2 value_of)
 length_reads =
     integer_reads 2 (λ _. value_of) counted_reading modal tt (bytes_high_first 2)
     (λ n bytes is as_many are. be_written 2 n bytes is as_many are)

@@ -74,8 +74,8 @@ module _ {K T L : Type 0} (reading : Reading T L) (seen : K → T) (code : K →
 
 -- ---- over bytes
 
-abbrev Reads : Grammar ℕ (Unit {0})
-Reads = LineRead counted_reading (λ b. b) (λ b. b) Byte
+abbrev LineGrammar : Grammar ℕ (Unit {0})
+LineGrammar = LineRead counted_reading (λ b. b) (λ b. b) Byte
 
 abbrev Fails : Failure ℕ
 Fails = LineFails counted_reading (λ b. b) (λ b. b) Byte
@@ -86,7 +86,7 @@ name_unique = class_unique IsAlpha 1 (λ b. b) (λ b. b) counted_reading (λ t u
 digits_unique : IsUnique Digits
 digits_unique = class_unique IsDecDigit 1 (λ b. b) (λ b. b) counted_reading (λ t u e. e)
 
-line_law : IsFailureOf Reads Fails
+line_law : IsFailureOf LineGrammar Fails
 line_law = either_law
     (law_beside (made_back (λ (_ : Unit {0}) o (u : Unit {0}). ⊤) tt
     (Four Name (Byte 61) Digits (Byte 10)))
@@ -102,7 +102,7 @@ no_equals rest o end there =
     absurd (omega (arith, same_first (byte_stands 61 (10 ∷ rest) o end there).0))
 
 line_there : (tokens : List ℕ) (u : Unit {0}) (rest : List ℕ) → Line tokens u rest
-    → Reads tokens u rest
+    → LineGrammar tokens u rest
 unfolding Otherwise Made Four Both FailsBehind NotThere
 line_there tokens u rest (inl (name, value, digits, x, y)) = inl (
   (name, 61, digits, 10),
@@ -131,7 +131,7 @@ line_there tokens u rest (inr (name, x)) = inr (
   ),
 )
 
-line_back : (tokens : List ℕ) (u : Unit {0}) (rest : List ℕ) → Reads tokens u rest
+line_back : (tokens : List ℕ) (u : Unit {0}) (rest : List ℕ) → LineGrammar tokens u rest
     → Line tokens u rest
 unfolding Otherwise Made Four Both
 line_back tokens u rest
@@ -150,13 +150,13 @@ line_back tokens u rest (inr (backs, (o, (name, n, a, x, y, made), is))) =
     inr (name, subst P (byte_stands 10 a n rest y).0 x)
 
 lines_there : (tokens : List ℕ) (us : List (Unit {0})) (rest : List ℕ)
-    → Each Line tokens us rest → Each Reads tokens us rest
+    → Each Line tokens us rest → Each LineGrammar tokens us rest
 lines_there tokens [] rest e = e
 lines_there tokens (u ∷ us) rest (mid, x, more) =
     (mid, line_there tokens u mid x, lines_there mid us rest more)
 
 lines_back : (tokens : List ℕ) (us : List (Unit {0})) (rest : List ℕ)
-    → Each Reads tokens us rest → Each Line tokens us rest
+    → Each LineGrammar tokens us rest → Each Line tokens us rest
 lines_back tokens [] rest e = e
 lines_back tokens (u ∷ us) rest (mid, x, more) =
     (mid, line_back tokens u mid x, lines_back mid us rest more)
@@ -210,12 +210,13 @@ value_back tokens rest (inr (backs, x)) = absurd (flag_back tokens rest x)
 -- ---- all lines
 
 lacks_there : (tokens rest : List ℕ) → LacksValue tokens rest
-    → LinesFail Reads Fails tokens cut rest
+    → LinesFail LineGrammar Fails tokens cut rest
 unfolding FailsAmong
 lacks_there tokens rest (mid, (us, each), x) =
     (us, mid, lines_there tokens us mid each, tt, value_there mid rest x, inl refl)
 
-lacks_back : (tokens : List ℕ) (k : Kind) (rest : List ℕ) → LinesFail Reads Fails tokens k rest
+lacks_back : (tokens : List ℕ) (k : Kind) (rest : List ℕ)
+    → LinesFail LineGrammar Fails tokens k rest
     → LacksValue tokens rest
 unfolding FailsAmong
 lacks_back tokens k rest (us, mid, each, below, x, inl is) =
@@ -233,7 +234,7 @@ no_line rest (place, x) = (
 )
 
 read_back : (tokens : List ℕ) (all : Unit {0}) (rest : List ℕ)
-    → LinesRead Reads Fails tokens all rest
+    → LinesRead LineGrammar Fails tokens all rest
     → AreLines tokens rest × NoneStands Line rest × ((end : List ℕ) → NoValue rest end → ⊥)
 unfolding Gathered ManyUpTo
 read_back tokens all rest (us, held, (each, enough, inl full)) = none_is_some full
@@ -242,7 +243,7 @@ read_back tokens all rest (us, held, (each, enough, inr (below, backs))) =
     ((us, lines_back tokens us rest each), none, lacks)
 
 left_back : (tokens rest : List ℕ)
-    → NotAll (LinesRead Reads Fails) (LinesFail Reads Fails) tokens rest
+    → NotAll (LinesRead LineGrammar Fails) (LinesFail LineGrammar Fails) tokens rest
     → LacksValue tokens rest ⊎ NoLine tokens rest
 left_back tokens rest (inl (k, x)) = inl (lacks_back tokens k rest x)
 left_back tokens rest (inr (all, x, some)) =
@@ -258,7 +259,7 @@ backs_at_end : Fails [] backtrack []
 unfolding FailsEither FailsBehind NotThere
 backs_at_end = inr (([], inl (no_name, refl, refl)), inl (no_name, refl, refl))
 
-read_there : (tokens : List ℕ) → AreLines tokens [] → LinesRead Reads Fails tokens tt []
+read_there : (tokens : List ℕ) → AreLines tokens [] → LinesRead LineGrammar Fails tokens tt []
 unfolding Gathered ManyUpTo
 read_there tokens (us, each) =
     (us, tt, (lines_there tokens us [] each, omega arith, inr (tt, ([], backs_at_end))))
@@ -273,8 +274,9 @@ before_wants inner_kind text rest (Incomplete needed) never wants = never
 -- what the faults of the parser say of lines
 pub lines_told : {I X : Type 0} (inner_kind : X → Kind) (text : List ℕ)
     (result : Result (Unit {0}) (ParseFault I X Needed)) {spares : Type 0} → spares
-    → ReadsAll inner_kind (LinesRead Reads Fails) text result
-    → FaultsBy length inner_kind spares (LinesRead Reads Fails) (LinesFail Reads Fails) text result
+    → ReadsAll inner_kind (LinesRead LineGrammar Fails) text result
+    → FaultsBy length inner_kind spares (LinesRead LineGrammar Fails)
+          (LinesFail LineGrammar Fails) text result
     → IsTold inner_kind text result
 lines_told inner_kind text (Ok o) spares reads faults = record {
   lines = (read_back text o [] reads.stands).0;

@@ -3,7 +3,7 @@ use Rattle.std.specs.Prelude.{◌≡◌, ℕ, zero, suc, List, None}
 use Rattle.std.specs.Borrow.{Bor}
 use Rattle.std.specs.declared.vec.Vec.{Vec}
 use Rattle.std.proofs.Common.{inl}
-use Rattle.winnow.specs.Grammar.{Gathered, Grammar, IsUnique, Many, Never, Takes, Three}
+use Rattle.winnow.specs.Grammar.{Gathered, Grammar, IsUnique, Many, Never, TakesTokens, Three}
 use Rattle.winnow.specs.Grammar.Known.{Byte, byte_takes, byte_unique}
 use Rattle.winnow.specs.Grammar.Meaning.{Meaning, meaning_takes, meaning_unique}
 use Rattle.winnow.specs.Grammar.Sequences.{three_take, three_unique}
@@ -52,7 +52,7 @@ module _ {A : Type 0} where
   brackets_unique (suc level) =
       meaning_unique AreOf (between_unique (AreBrackets level) (brackets_unique level))
 
-  pub brackets_take : (level : ℕ) → Takes (AreBrackets level)
+  pub brackets_take : (level : ℕ) → TakesTokens (AreBrackets level)
   unfolding AreBrackets Never
   brackets_take zero = record { fewer = λ tokens o rest never. absurd never }
   brackets_take (suc level) = meaning_takes AreOf (three_take (λ _ list _. list) (byte_unique 91)

@@ -3,7 +3,7 @@ use Rattle.std.specs.Prelude.{ℕ, List}
 use Rattle.std.specs.Borrow.{Bor}
 use Rattle.winnow.specs.AsChar.{IsHexDigit}
 use Rattle.winnow.specs.Counted.{counted_reading}
-use Rattle.winnow.specs.Texts.{Itself, SoManyOf, Text, Then}
+use Rattle.winnow.specs.Texts.{Itself, SoManyOf, Text, BothText}
 
 -- a slice of the bytes
 abbrev pub Slice : Type 0
@@ -15,6 +15,6 @@ Pair = SoManyOf counted_reading IsHexDigit 2
 
 -- color = "#" pair pair pair
 unfoldable pub Color : Text ℕ (Slice × Slice × Slice)
-Color = Then (λ sign pairs. pairs) (Itself 35)
-    (Then (λ red (others : Slice × Slice). (red, others.0, others.1)) Pair
-    (Then (λ green blue. (green, blue)) Pair Pair))
+Color = BothText (λ sign pairs. pairs) (Itself 35)
+    (BothText (λ red (others : Slice × Slice). (red, others.0, others.1)) Pair
+    (BothText (λ green blue. (green, blue)) Pair Pair))

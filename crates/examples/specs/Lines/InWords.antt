@@ -6,27 +6,27 @@ use Rattle.std.proofs.lemmas.List.Elements.{same_from_all_zip}
 use Rattle.examples.specs.Lines.Lines.{AreLines, IsLine, letter_unique, same_line, unique_line}
 use Rattle.winnow.specs.Grammar.{Either}
 use Rattle.winnow.specs.Grammar.Known.{Byte}
-use Rattle.winnow.specs.Texts.{Among, Anything, BeginsIn, InList, IsGrammarOf, Itself}
-use Rattle.winnow.specs.Texts.{NotFirst, Row, Text, Then}
+use Rattle.winnow.specs.Texts.{EitherText, Anything, BeginsIn, InList, IsGrammarOf, Itself}
+use Rattle.winnow.specs.Texts.{NotFirst, EachText, Text, BothText}
 use Rattle.winnow.specs.Back.{IsUnambiguous, among_one, in_list_one, never_both}
 use Rattle.winnow.specs.Back.{one_weaker, row_one, spelled_one, then_one}
-use Rattle.winnow.specs.Texts.Fronts.{among_front, begins_wider, front_any, front_begins}
-use Rattle.winnow.specs.Texts.Fronts.{none_begins, spelled_begins, then_front}
+use Rattle.winnow.specs.Texts.Fronts.{either_front, begins_wider, front_any, front_begins}
+use Rattle.winnow.specs.Texts.Fronts.{none_begins, spelled_begins, both_front}
 use Rattle.winnow.specs.Texts.Parts.{both_of, either_apart, same_of}
 use Rattle.winnow.specs.Texts.Rows.{listed_of}
 use Rattle.winnow.specs.Texts.Tokens.{byte_of}
 
 -- letter = "y" / "n"
 abbrev pub Letter : Text ℕ ℕ
-Letter = Among (Itself 121) (Itself 110)
+Letter = EitherText (Itself 121) (Itself 110)
 
 -- line = letter LF
 abbrev pub LetterLine : Text ℕ ℕ
-LetterLine = Then (λ letter feed. letter) Letter (Itself 10)
+LetterLine = BothText (λ letter feed. letter) Letter (Itself 10)
 
 -- lines = *line
 unfoldable pub LetterLines : {A : Type 0} → Text ℕ (Vec ℕ A)
-LetterLines = InList (Row LetterLine)
+LetterLines = InList (EachText LetterLine)
 
 -- the byte of a letter
 abbrev pub IsLetter : ℕ → Type 0
@@ -46,8 +46,8 @@ line_of : IsGrammarOf IsLine LetterLine Anything
 line_of = same_of same_line (both_of (λ o1 o2. o1) letter_of (byte_of 10) front_any)
 
 line_begins : BeginsIn IsLetter LetterLine
-line_begins = then_front (λ o1 o2. o1)
-    (among_front (begins_wider (λ t e. inl e) (spelled_begins 121 [] 121))
+line_begins = both_front (λ o1 o2. o1)
+    (either_front (begins_wider (λ t e. inl e) (spelled_begins 121 [] 121))
     (begins_wider (λ t e. inr e) (spelled_begins 110 [] 110))) front_any
 
 -- lines stand where no letter is behind them

@@ -11,7 +11,7 @@ use Rattle.winnow.specs.{Range}
 use Rattle.winnow.specs.Exact.{Reads}
 use Rattle.winnow.specs.Grammar.Same.{Same, takes_as, unique_as}
 use Rattle.winnow.specs.Exact.Same.{reads_as}
-use Rattle.winnow.specs.Grammar.{Both, Either, Grammar, IsUnique, Repeated, Takes}
+use Rattle.winnow.specs.Grammar.{Both, Either, Grammar, IsUnique, Repeated, TakesTokens}
 use Rattle.winnow.specs.Grammar.Known.{Byte, Listed, byte_stands, byte_takes, byte_unique}
 use Rattle.winnow.specs.Grammar.Known.{repeated_list, stands_byte}
 use Rattle.winnow.specs.Grammar.Unique.{both_take, both_unique, either_unique}
@@ -80,7 +80,7 @@ letter_unique = either_unique (byte_unique 121) (byte_unique 110)
 pub unique_line : IsUnique IsLine
 unique_line = unique_as same_line (both_unique (λ o1 o2. o1) letter_unique (byte_unique 10))
 
-pub line_takes : Takes IsLine
+pub line_takes : TakesTokens IsLine
 line_takes = takes_as same_line
     (both_take (λ o1 o2. o1) letter_unique (byte_unique 10) (inr (byte_takes 10)))
 

@@ -17,7 +17,7 @@ use Rattle.winnow.specs.Exact.{Reads}
 use Rattle.winnow.specs.Numeral.Exact.{decimal_takes, decimal_unique}
 use Rattle.winnow.specs.Read.{reads_former, reads_other}
 use Rattle.winnow.specs.Grammar.{Either, Gathered, Grammar, IsUnique, Made, NoneStands}
-use Rattle.winnow.specs.Grammar.{Parted, Takes, Three}
+use Rattle.winnow.specs.Grammar.{Parted, TakesTokens, Three}
 use Rattle.winnow.specs.Grammar.Known.{Byte, byte_stands, byte_takes, byte_unique}
 use Rattle.winnow.specs.Grammar.Meaning.{Meaning, meaning_takes, meaning_unique}
 use Rattle.winnow.specs.Numeral.Grammar.{Decimal}
@@ -72,7 +72,7 @@ module _ {A : Type 0} where
   leaf_unique = meaning_unique (λ n tree. tree ≡ trees.Leaf n)
       (decimal_unique (λ b. b) (λ b. b) counted_reading (λ n. n) (2 ^ 32) (λ x y e. e))
 
-  pub leaf_takes : Takes (IsLeaf {A = A})
+  pub leaf_takes : TakesTokens (IsLeaf {A = A})
   leaf_takes = meaning_takes (λ n tree. tree ≡ trees.Leaf n)
       (decimal_takes (λ b. b) (λ b. b) counted_reading (λ n. n) (2 ^ 32))
 
@@ -89,7 +89,7 @@ module _ {A : Type 0} where
       (byte_unique 91) (elements_unique element unique) (byte_unique 93)))
 
   node_takes : (element : Grammar ℕ (Tree A)) → IsUnique element
-      → Takes (IsNode element)
+      → TakesTokens (IsNode element)
   node_takes element unique = either_takes leaf_takes
       (meaning_takes IsBranchOf (three_take (λ _ o _. o)
       (byte_unique 91) (elements_unique element unique) (byte_unique 93) (inl (byte_takes 91))))
@@ -99,7 +99,7 @@ module _ {A : Type 0} where
   tree_unique zero = leaf_unique
   tree_unique (suc level) = node_unique (IsTree level) (tree_unique level)
 
-  pub tree_takes : (level : ℕ) → Takes (IsTree {A = A} level)
+  pub tree_takes : (level : ℕ) → TakesTokens (IsTree {A = A} level)
   unfolding IsTree
   tree_takes zero = leaf_takes
   tree_takes (suc level) = node_takes (IsTree level) (tree_unique level)

@@ -9,7 +9,7 @@ use Rattle.winnow.specs.Counted.{counted_reading}
 use Rattle.winnow.specs.Reading.{Reading}
 use Rattle.winnow.specs.AsChar.{IsAlpha, IsAlphanum}
 use Rattle.winnow.specs.Range.{from_to}
-use Rattle.winnow.specs.Grammar.{Both, Class, Gathered, Grammar, Maybe, Parted, Three}
+use Rattle.winnow.specs.Grammar.{Both, Class, Gathered, Grammar, Optional, Parted, Three}
 use Rattle.winnow.specs.Grammar.Known.{Byte}
 
 module _ {T O : Type 0} (literal : ℕ → Grammar T ℕ) (option : Grammar T O) where
@@ -34,7 +34,7 @@ module _ {K T L : Type 0} (reading : Reading T L) (seen : K → T) (code : K →
   -- beginning of letters and digits, at least one, or neither stands there
   abbrev pub OptionOf : Grammar T (L × Option L)
   OptionOf = Both (λ name value. (name, value)) (Class IsAlpha 1 code seen reading)
-      (Maybe (Both (λ _ value. value) (literal 61) (Class IsAlphanum 1 code seen reading)))
+      (Optional (Both (λ _ value. value) (literal 61) (Class IsAlphanum 1 code seen reading)))
 
   -- nothing but letters is there; or behind the name an equals sign is begun, or behind that
   -- nothing but letters and digits is there

@@ -10,7 +10,7 @@ use Rattle.winnow.specs.Range.{from_to}
 use Rattle.winnow.specs.Reading.{Reading}
 use Rattle.winnow.specs.Texts.{Anything, BeginsIn, IsGrammarOf, Members, NotFirst}
 use Rattle.winnow.specs.Texts.Fronts.{front_any, front_begins, members_begin, none_begins}
-use Rattle.winnow.specs.Texts.Fronts.{spelled_begins, then_front}
+use Rattle.winnow.specs.Texts.Fronts.{spelled_begins, both_front}
 use Rattle.winnow.specs.Texts.Parts.{both_of, three_of}
 use Rattle.winnow.specs.Texts.Rows.{list_of, many_of}
 use Rattle.winnow.specs.Texts.Tokens.{byte_of, class_of}
@@ -59,7 +59,7 @@ line_of = both_of (λ setting feed. setting) setting_of (byte_of 10)
     (front_begins (λ b is value. value is) (spelled_begins 10 [] 10))
 
 line_begins : BeginsIn InKey Line
-line_begins = then_front (λ setting feed. setting) (then_front (λ key value. (key, value))
+line_begins = both_front (λ setting feed. setting) (both_front (λ key value. (key, value))
     (members_begin counted_reading InKey 1 (omega arith)) front_any) front_any
 
 -- and after the last line comes no byte of a key

@@ -3,7 +3,7 @@ use Rattle.std.specs.Prelude.{◌≡◌, ℕ, List}
 use Rattle.std.specs.Borrow.{Bor}
 use Rattle.std.specs.declared.vec.Vec.{Vec}
 use Rattle.winnow.specs.Counted.{counted_reading}
-use Rattle.winnow.specs.Texts.{InList, Itself, Members, Row, Text, Then}
+use Rattle.winnow.specs.Texts.{InList, Itself, Members, EachText, Text, BothText}
 
 -- any byte but "=" and a line feed
 abbrev pub InKey : ℕ → Type 0
@@ -19,13 +19,13 @@ Slice = Bor (List ℕ)
 
 -- setting = 1*(byte of a key) "=" *(byte of a value)
 abbrev pub Setting : Text ℕ (Slice × Slice)
-Setting = Then (λ key value. (key, value)) (Members counted_reading InKey 1)
-    (Then (λ sign value. value) (Itself 61) (Members counted_reading InValue 0))
+Setting = BothText (λ key value. (key, value)) (Members counted_reading InKey 1)
+    (BothText (λ sign value. value) (Itself 61) (Members counted_reading InValue 0))
 
 -- line = setting LF
 abbrev pub Line : Text ℕ (Slice × Slice)
-Line = Then (λ setting feed. setting) Setting (Itself 10)
+Line = BothText (λ setting feed. setting) Setting (Itself 10)
 
 -- settings = *line
 unfoldable pub Settings : {A : Type 0} → Text ℕ (Vec (Slice × Slice) A)
-Settings = InList (Row Line)
+Settings = InList (EachText Line)

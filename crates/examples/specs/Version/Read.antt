@@ -6,7 +6,7 @@ use Rattle.std.proofs.Common.{refl, sym, ap, inl, inr, arith, subst}
 use Rattle.examples.specs.Version.Version.{InWord, Number, Numbers, Slice, Version, Words}
 use Rattle.winnow.specs.AsChar.{IsAlphanum, IsDecDigit}
 use Rattle.winnow.specs.Counted.{counted_reading}
-use Rattle.winnow.specs.Grammar.{Both, Class, Gathered, Grammar, Maybe, Parted, Three}
+use Rattle.winnow.specs.Grammar.{Both, Class, Gathered, Grammar, Optional, Parted, Three}
 use Rattle.winnow.specs.Grammar.Known.{Byte}
 use Rattle.winnow.specs.Grammar.Same.{same_sym}
 use Rattle.winnow.specs.Numeral.Grammar.{Decimal}
@@ -14,11 +14,11 @@ use Rattle.winnow.specs.Numeral.Grammar.Known.{NoDigitFirst, Written, same_writt
 use Rattle.winnow.specs.Range.{from_to}
 use Rattle.winnow.specs.Reading.{Reading}
 use Rattle.winnow.specs.Texts.{Anything, AtEnd, BeginsIn, InFront, IsGrammarOf, Itself}
-use Rattle.winnow.specs.Texts.{Members, NotFirst, Perhaps, Then}
+use Rattle.winnow.specs.Texts.{Members, NotFirst, OptionalText, BothText}
 use Rattle.winnow.specs.Texts.Fronts.{front_any, front_begins, front_may}
-use Rattle.winnow.specs.Texts.Fronts.{may_begin_none, none_begins, perhaps_front, spelled_begins}
-use Rattle.winnow.specs.Texts.Fronts.{then_front}
-use Rattle.winnow.specs.Texts.Parts.{both_of, maybe_of, same_of, three_of}
+use Rattle.winnow.specs.Texts.Fronts.{may_begin_none, none_begins, optional_front, spelled_begins}
+use Rattle.winnow.specs.Texts.Fronts.{both_front}
+use Rattle.winnow.specs.Texts.Parts.{both_of, optional_of, same_of, three_of}
 use Rattle.winnow.specs.Texts.Rows.{list_of, parted_of}
 use Rattle.winnow.specs.Texts.Tokens.{byte_of, class_of}
 
@@ -47,7 +47,7 @@ module _ {T L : Type 0} (reading : Reading T L) (seen : ℕ → T) (literal : �
   -- (numbers, opt(preceded(b'-', words)))
   abbrev pub VersionRead : {A : Type 0} → Grammar T ((ℕ × ℕ × ℕ) × Option (Vec L A))
   VersionRead {A} = Both (λ o1 o2. (o1, o2)) NumbersRead
-      (Maybe (Both (λ o1 o2. o2) (literal 45) (WordsRead {A = A})))
+      (Optional (Both (λ o1 o2. o2) (literal 45) (WordsRead {A = A})))
 
 -- ---- over bytes these are the texts
 
@@ -68,7 +68,7 @@ number_of : IsGrammarOf (NumberRead counted_reading (λ b. b) Byte) Number (NotF
 number_of = same_of (same_sym (same_written (λ n. n) (2 ^ 64) (omega arith))) written_of
 
 dotted_of : IsGrammarOf (DottedRead counted_reading (λ b. b) Byte)
-    (Then (λ n dot. n) Number (Itself 46)) Anything
+    (BothText (λ n dot. n) Number (Itself 46)) Anything
 dotted_of = both_of (λ n dot. n) number_of (byte_of 46)
     (front_begins (λ t e is. omega (arith, e, is.0)) (spelled_begins 46 [] 46))
 
@@ -98,24 +98,24 @@ words_of = list_of (parted_of word_of (byte_of 46) (front_begins dot_ends (spell
 
 -- a hyphen and words, or nothing
 abbrev Rest : {A : Type 0} → Option (Vec Slice A) → List ℕ → Type 0
-Rest {A} = Perhaps (Then (λ hyphen words. words) (Itself 45) (Words {A = A}))
+Rest {A} = OptionalText (BothText (λ hyphen words. words) (Itself 45) (Words {A = A}))
 
 hyphen_begins : {A : Type 0}
-    → BeginsIn (λ b. b ≡ 45) (Then (λ hyphen words. words) (Itself 45) (Words {A = A}))
-hyphen_begins = then_front (λ hyphen words. words) (spelled_begins 45 [] 45) front_any
+    → BeginsIn (λ b. b ≡ 45) (BothText (λ hyphen words. words) (Itself 45) (Words {A = A}))
+hyphen_begins = both_front (λ hyphen words. words) (spelled_begins 45 [] 45) front_any
 
-rest_of : {A : Type 0} → IsGrammarOf (Maybe (Both (λ hyphen words. words) (Byte 45)
+rest_of : {A : Type 0} → IsGrammarOf (Optional (Both (λ hyphen words. words) (Byte 45)
     (WordsRead counted_reading (λ b. b) Byte {A = A}))) Rest AtEnd
 rest_of =
     let some = both_of (λ hyphen words. words) (byte_of 45) words_of front_any in
-    maybe_of some (λ rest end. none_begins some hyphen_begins rest
+    optional_of some (λ rest end. none_begins some hyphen_begins rest
     (may_begin_none (λ b. b ≡ 45 → ⊥) rest end))
 
 -- neither begins with a digit
 no_digit_first : {A : Type 0} → InFront (Rest {A = A}) AtEnd (NotFirst IsDecDigit)
 no_digit_first = front_may {these = λ b. b ≡ 45} (λ b e is. omega (arith, e, is.0))
     (λ rest end. may_begin_none (λ d. IsDecDigit d → ⊥) rest end)
-    (perhaps_front (front_begins (λ b is. is) hyphen_begins))
+    (optional_front (front_begins (λ b is. is) hyphen_begins))
 
 pub version_of : {A : Type 0}
     → IsGrammarOf (VersionRead counted_reading (λ b. b) Byte {A = A}) Version AtEnd

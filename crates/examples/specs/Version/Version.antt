@@ -5,7 +5,8 @@ use Rattle.std.specs.Fmt.{decimal}
 use Rattle.std.specs.declared.vec.Vec.{Vec}
 use Rattle.winnow.specs.AsChar.{IsAlphanum}
 use Rattle.winnow.specs.Counted.{counted_reading}
-use Rattle.winnow.specs.Texts.{AtLeast, InList, Itself, Joined, Members, Perhaps, Text, Then}
+use Rattle.winnow.specs.Texts.{AtLeast, InList, Itself, PartedText, Members, OptionalText, Text}
+use Rattle.winnow.specs.Texts.{BothText}
 
 -- a slice of the bytes
 abbrev pub Slice : Type 0
@@ -17,9 +18,9 @@ Number n bytes = (bytes ≡ decimal n) × (n < 2 ^ 64)
 
 -- numbers = number "." number "." number
 abbrev pub Numbers : Text ℕ (ℕ × ℕ × ℕ)
-Numbers = Then (λ major (others : ℕ × ℕ). (major, others.0, others.1))
-    (Then (λ n dot. n) Number (Itself 46))
-    (Then (λ minor patch. (minor, patch)) (Then (λ n dot. n) Number (Itself 46)) Number)
+Numbers = BothText (λ major (others : ℕ × ℕ). (major, others.0, others.1))
+    (BothText (λ n dot. n) Number (Itself 46))
+    (BothText (λ minor patch. (minor, patch)) (BothText (λ n dot. n) Number (Itself 46)) Number)
 
 -- word = 1*(ALPHA / DIGIT / "-")
 abbrev pub InWord : ℕ → Type 0
@@ -27,9 +28,9 @@ InWord b = IsAlphanum b ⊎ (b ≡ 45)
 
 -- words = word *("." word)
 abbrev pub Words : {A : Type 0} → Text ℕ (Vec Slice A)
-Words = InList (AtLeast 1 (Joined (Itself 46) (Members counted_reading InWord 1)))
+Words = InList (AtLeast 1 (PartedText (Itself 46) (Members counted_reading InWord 1)))
 
 -- version = numbers [ "-" words ]
 unfoldable pub Version : {A : Type 0} → Text ℕ ((ℕ × ℕ × ℕ) × Option (Vec Slice A))
-Version = Then (λ numbers words. (numbers, words)) Numbers
-    (Perhaps (Then (λ hyphen words. words) (Itself 45) Words))
+Version = BothText (λ numbers words. (numbers, words)) Numbers
+    (OptionalText (BothText (λ hyphen words. words) (Itself 45) Words))

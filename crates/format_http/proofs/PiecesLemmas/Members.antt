@@ -11,7 +11,7 @@ use Rattle.winnow.specs.Input.{Input}
 use Rattle.winnow.specs.Kind.{Kind}
 use Rattle.winnow.specs.OneOf.{OneOfRuns}
 use Rattle.winnow.specs.OneOf.Known.{one_of_ok}
-use Rattle.winnow.specs.Reads.{MustLeave, Reads}
+use Rattle.winnow.specs.Reads.{MustLeave, ReadsShown}
 use Rattle.winnow.specs.Runs.{Keeps, Runs}
 
 -- what a set tells of each byte, whether it is of P
@@ -46,7 +46,7 @@ member_fails P b rest i k j is begins (inr (inr (l, nothing, short, e, same))) =
 
 -- it reads its byte, of P
 pub member_reads : {A : Type 0} (P : ℕ → Type 0)
-    → Reads (MemberOf {A = A} P) (λ _. ⊤) (λ b. b ∷ []) P
+    → ReadsShown (MemberOf {A = A} P) (λ _. ⊤) (λ b. b ∷ []) P
 member_reads P = record {
   reads = λ s i b t j is ran. member_taken P i b j ran.0;
   again = λ s i answer t j is ran. tt;

@@ -7,7 +7,7 @@ use Rattle.std.specs.Prelude.{⊤}
 use Rattle.winnow.specs.Form.{modal}
 use Rattle.winnow.specs.Input.{Input, with_more}
 use Rattle.winnow.specs.Kind.{Kind, incomplete}
-use Rattle.winnow.specs.Reads.{Reads}
+use Rattle.winnow.specs.Reads.{ReadsShown}
 use Rattle.winnow.specs.Reads.Known.{SliceRuns, TokenRuns, slice_leaves, slice_reads}
 use Rattle.winnow.specs.Reads.Known.{token_leaves, token_reads}
 use Rattle.winnow.specs.Reads.Sequences.{sequence4_reads, sequence5_reads}
@@ -67,7 +67,7 @@ abbrev pub IsMade : {A B C D : Type 0} → States A B C D → Type 0
 IsMade s = (s.0.0 ≡ some_bytes) × (s.1 ≡ 32) × (s.2.0 ≡ some_bytes) × IsMadeVersion s.3
 
 version_reads : {C D : Type 0}
-    → Reads (VersionMeans {C = C} {D = D}) IsMadeVersion
+    → ReadsShown (VersionMeans {C = C} {D = D}) IsMadeVersion
     (λ o. protocol ++ (o.1 ∷ 46 ∷ o.3 ∷ line_end))
     (λ o. ⊤ × IsDigit o.1 × ⊤ × IsDigit o.3 × ⊤)
 version_reads =

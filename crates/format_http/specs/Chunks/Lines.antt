@@ -12,7 +12,7 @@ use Rattle.winnow.specs.Compare.{IsShort}
 use Rattle.winnow.specs.Counted.{counted_reading}
 use Rattle.winnow.specs.Range.{from_to}
 use Rattle.winnow.specs.Reading.{Reading}
-use Rattle.winnow.specs.Grammar.{Both, Class, Either, Gathered, Grammar, InClass, Many, Maybe}
+use Rattle.winnow.specs.Grammar.{Both, Class, Either, Gathered, Grammar, InClass, Many, Optional}
 use Rattle.winnow.specs.Grammar.{Taken, Three, TokenOf}
 use Rattle.winnow.specs.Grammar.Known.{Byte}
 
@@ -53,7 +53,7 @@ module _ {T L : Type 0} (reading : Reading T L) (seen : ℕ → T) (literal : �
   abbrev pub Extension : Grammar T L → Grammar T (L × Option L)
   Extension value = Both (λ name v. (name, v))
       (Both (λ _ name. name) (Spaced 59) (RunOf reading seen IsTokenByte 1))
-      (Maybe (Both (λ _ v. v) (Spaced 61) value))
+      (Optional (Both (λ _ v. v) (Spaced 61) value))
 
   -- chunk-ext = *( extension )
   abbrev pub Extensions : {A : Type 0} → Grammar T L → Grammar T (Vec (L × Option L) A)

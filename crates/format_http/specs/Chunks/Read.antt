@@ -22,7 +22,7 @@ use Rattle.winnow.specs.Kind.{Kind}
 use Rattle.winnow.specs.Input.{Input}
 use Rattle.winnow.specs.Range.{from_to}
 use Rattle.winnow.specs.Reading.{Reading}
-use Rattle.winnow.specs.Grammar.{Both, Gathered, Grammar, Longest, Many, Maybe, TokenOf}
+use Rattle.winnow.specs.Grammar.{Both, Gathered, Grammar, Longest, Many, Optional, TokenOf}
 use Rattle.winnow.specs.Digits.{value_in}
 use Rattle.winnow.specs.Digits.Known.{value_is}
 
@@ -59,7 +59,7 @@ pub extensions_ask : {T L U : Type 0} (A : Type 0) (reading : Reading T L) (seen
     (RunOf reading seen IsTokenByte 1)
     → first ≡ Behind (Spaced reading seen literal 59)
     (SpacedBegun reading seen literal begins 59) (RunBegun seen IsTokenByte)
-    → given ≡ Maybe (Both (λ _ v. v) (Spaced reading seen literal 61) value)
+    → given ≡ Optional (Both (λ _ v. v) (Spaced reading seen literal 61) value)
     → second ≡ Behind (Spaced reading seen literal 61)
     (SpacedBegun reading seen literal begins 61) begun
     → AsksExactly (ExtensionsBegun reading seen literal begins A value begun) i answer

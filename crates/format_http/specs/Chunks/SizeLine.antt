@@ -10,8 +10,9 @@ use Rattle.format_http.specs.declared.chunks.size_line.SizeLine.{SizeLine}
 use Rattle.format_http.specs.Heads.Bytes.{IsTokenByte, IsValueByte}
 use Rattle.winnow.specs.AsChar.{IsHexDigit, IsSpace}
 use Rattle.winnow.specs.Counted.{counted_reading}
-use Rattle.winnow.specs.Texts.{Among, AtLeast, Holding, InList, Itself, Members, Of, OneOf}
-use Rattle.winnow.specs.Texts.{Perhaps, Row, Shown, Text, Then}
+use Rattle.winnow.specs.Texts.{EitherText, AtLeast, GatheredText, InList, Itself, Members, MadeText}
+use Rattle.winnow.specs.Texts.{TokenOfText}
+use Rattle.winnow.specs.Texts.{OptionalText, EachText, TakenText, Text, BothText}
 use Rattle.winnow.specs.Digits.{value_in}
 
 -- bytes of the input
@@ -24,8 +25,8 @@ RunText = Members counted_reading
 
 -- BWS byte BWS, where BWS = *( SP / HTAB )
 abbrev pub SpacedText : ℕ → Text ℕ (Slice × ℕ × Slice)
-SpacedText byte = Then (λ before (p : ℕ × Slice). (before, p.0, p.1)) (RunText IsSpace 0)
-    (Then (λ b behind. (b, behind)) (Itself byte) (RunText IsSpace 0))
+SpacedText byte = BothText (λ before (p : ℕ × Slice). (before, p.0, p.1)) (RunText IsSpace 0)
+    (BothText (λ b behind. (b, behind)) (Itself byte) (RunText IsSpace 0))
 
 -- token = 1*tchar
 abbrev pub TokenText : Text ℕ Slice
@@ -33,24 +34,24 @@ TokenText = RunText IsTokenByte 1
 
 -- qdtext / quoted-pair, where quoted-pair = "\" ( HTAB / SP / VCHAR / obs-text )
 abbrev pub QuotedByteText : Text ℕ ℕ
-QuotedByteText = Among (OneOf (λ b. b) IsQuotedByte)
-    (Then (λ _ b. b) (Itself 92) (OneOf (λ b. b) IsValueByte))
+QuotedByteText = EitherText (TokenOfText (λ b. b) IsQuotedByte)
+    (BothText (λ _ b. b) (Itself 92) (TokenOfText (λ b. b) IsValueByte))
 
 -- quoted-string = DQUOTE *( qdtext / quoted-pair ) DQUOTE, as it stands
 abbrev pub StringText : Text ℕ Slice
-StringText = Shown counted_reading (Then (λ _ u. u) (Itself 34) (Then (λ u _. u)
-    (Holding (λ (u : Unit {0}) (bytes : List ℕ). ⊤) (AtLeast 0 (Row QuotedByteText)))
+StringText = TakenText counted_reading (BothText (λ _ u. u) (Itself 34) (BothText (λ u _. u)
+    (GatheredText (λ (u : Unit {0}) (bytes : List ℕ). ⊤) (AtLeast 0 (EachText QuotedByteText)))
     (Itself 34)))
 
 -- chunk-ext-val = token / quoted-string
 abbrev pub ValueText : Text ℕ Slice
-ValueText = Among TokenText StringText
+ValueText = EitherText TokenText StringText
 
 -- BWS ";" BWS chunk-ext-name [ BWS "=" BWS chunk-ext-val ], where chunk-ext-name = token
 abbrev pub ExtensionText : Text ℕ (Slice × Option Slice)
-ExtensionText = Then (λ name value. (name, value))
-    (Then (λ _ name. name) (SpacedText 59) TokenText)
-    (Perhaps (Then (λ _ value. value) (SpacedText 61) ValueText))
+ExtensionText = BothText (λ name value. (name, value))
+    (BothText (λ _ name. name) (SpacedText 59) TokenText)
+    (OptionalText (BothText (λ _ value. value) (SpacedText 61) ValueText))
 
 -- names, each with a value or none
 abbrev pub Named : Type 0 → Type 0
@@ -64,13 +65,13 @@ IsSize TooLarge digits = 2 ^ 64 ≤ value_in 16 digits
 module _ {A : Type 0} where
   -- chunk-ext = *( BWS ";" BWS chunk-ext-name [ BWS "=" BWS chunk-ext-val ] )
   abbrev pub ExtensionsText : Text ℕ (Named A)
-  ExtensionsText = InList (AtLeast 0 (Row ExtensionText))
+  ExtensionsText = InList (AtLeast 0 (EachText ExtensionText))
 
   -- chunk-size chunk-ext CRLF, where chunk-size = 1*HEXDIG
   abbrev pub LineText : Text ℕ (Slice × Named A)
-  LineText = Then (λ digits list. (digits, list)) (RunText IsHexDigit 1)
-      (Then (λ list _. list) ExtensionsText
-      (Then {O = ℕ × ℕ} (λ r f. (r, f)) (Itself 13) (Itself 10)))
+  LineText = BothText (λ digits list. (digits, list)) (RunText IsHexDigit 1)
+      (BothText (λ list _. list) ExtensionsText
+      (BothText {O = ℕ × ℕ} (λ r f. (r, f)) (Itself 13) (Itself 10)))
 
   -- what the digits and the extensions mean
   abbrev pub Means : Slice × Named A → SizeLine A → Type 0
@@ -78,4 +79,4 @@ module _ {A : Type 0} where
 
   -- The size line of this size and these extensions.
   abbrev pub SizeLineText : Text ℕ (SizeLine A)
-  SizeLineText = Of (λ (_ : Unit {0}) parts line. Means parts line) tt LineText
+  SizeLineText = MadeText (λ (_ : Unit {0}) parts line. Means parts line) tt LineText

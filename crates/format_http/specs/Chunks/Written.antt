@@ -20,14 +20,15 @@ use Rattle.winnow.specs.Equal.{same_first, same_others}
 use Rattle.winnow.specs.Grammar.{Both, Grammar, InClass, NoneStands}
 use Rattle.winnow.specs.Grammar.Known.{Byte}
 use Rattle.winnow.specs.InTurn.{First}
-use Rattle.winnow.specs.Texts.{Anything, AtLeast, Begins, BeginsIn, Holding, InFront}
-use Rattle.winnow.specs.Texts.{IsGrammarOf, Itself, MayBegin, Members, NotFirst, Of, Perhaps}
-use Rattle.winnow.specs.Texts.{Row, Spelled, Text, Then}
-use Rattle.winnow.specs.Texts.Fronts.{among_front, begins_wider, front_any, front_begins}
+use Rattle.winnow.specs.Texts.{Anything, AtLeast, Begins, BeginsIn, GatheredText, InFront}
+use Rattle.winnow.specs.Texts.{IsGrammarOf, Itself, MayBegin, Members, NotFirst, MadeText}
+use Rattle.winnow.specs.Texts.{OptionalText}
+use Rattle.winnow.specs.Texts.{EachText, Spelled, Text, BothText}
+use Rattle.winnow.specs.Texts.Fronts.{either_front, begins_wider, front_any, front_begins}
 use Rattle.winnow.specs.Texts.Fronts.{front_whole, in_list_front, may_begin, members_begin}
-use Rattle.winnow.specs.Texts.Fronts.{none_begins, one_of_begins, row_front, shown_front}
-use Rattle.winnow.specs.Texts.Fronts.{spelled_begins, then_front}
-use Rattle.winnow.specs.Texts.Parts.{behind_less, both_of, either_apart, maybe_of, taken_of}
+use Rattle.winnow.specs.Texts.Fronts.{none_begins, token_of_begins, each_front, taken_front}
+use Rattle.winnow.specs.Texts.Fronts.{spelled_begins, both_front}
+use Rattle.winnow.specs.Texts.Parts.{behind_less, both_of, either_apart, optional_of, taken_of}
 use Rattle.winnow.specs.Texts.Parts.{three_of}
 use Rattle.winnow.specs.Texts.Rows.{gathered_of, list_of, many_of}
 use Rattle.winnow.specs.Texts.Tokens.{byte_of, class_of, divides_where, token_of}
@@ -94,7 +95,7 @@ one_mark a b bare other (w ∷ ws) (o ∷ os) more rest all each e =
     one_mark a b bare other ws os more rest all.1 each.1 (same_others e)
 
 spaced_marks : (mark : ℕ) → InFront (SpacedText mark) Anything (Marked mark)
-unfolding Then Spelled Members
+unfolding BothText Spelled Members
 spaced_marks mark = record {
   makes = λ o tokens rest
       (o1, p, xs, ys, (all, enough, shown), (b, w, zs, ws, (is, f), white, g, made), e, out) any. (
@@ -138,18 +139,18 @@ quoted_byte_of = either_apart
     (both_of (λ _ b. b) (byte_of 92)
     (token_of (λ b. b) (InClass IsValueByte (λ b. b)) tt (divides_where IsValueByte)) front_any)
     (begins_wider {those = IsQuotedByte} (λ b (k, e, is). subst IsQuotedByte e is)
-    (one_of_begins (λ b. b) IsQuotedByte))
-    (then_front (λ _ b. b)
+    (token_of_begins (λ b. b) IsQuotedByte))
+    (both_front (λ _ b. b)
     (front_begins (λ b e is. (quoted_plain b is).1 e) (spelled_begins 92 [] 92)) front_any)
 
 -- no quote begins one
 none_quoted : (rest : List ℕ) → Begins (λ b. b ≡ 34) rest
     → NoneStands (QuotedByte counted_reading (λ b. b) Byte) rest
 none_quoted rest b = none_begins {these = λ b. IsQuotedByte b ⊎ (b ≡ 92)} quoted_byte_of
-    (among_front
+    (either_front
     (begins_wider (λ b (k, e, is). inl (subst IsQuotedByte e is))
-    (one_of_begins (λ b. b) IsQuotedByte))
-    (then_front (λ _ b. b) (begins_wider (λ b e. inr e) (spelled_begins 92 [] 92)) front_any))
+    (token_of_begins (λ b. b) IsQuotedByte))
+    (both_front (λ _ b. b) (begins_wider (λ b e. inr e) (spelled_begins 92 [] 92)) front_any))
     rest (may_begin (λ b. b ≡ 34) (λ b. IsQuotedByte b ⊎ (b ≡ 92) → ⊥) no_quote rest b)
   where
     no_quote : (b : ℕ) → b ≡ 34 → IsQuotedByte b ⊎ (b ≡ 92) → ⊥
@@ -157,7 +158,7 @@ none_quoted rest b = none_begins {these = λ b. IsQuotedByte b ⊎ (b ≡ 92)} q
     no_quote b e (inr is) = omega (arith, is, e)
 
 quoted_text_of : IsGrammarOf (QuotedText counted_reading (λ b. b) Byte)
-    (Holding (λ (u : Unit {0}) (bytes : List ℕ). ⊤) (AtLeast 0 (Row QuotedByteText)))
+    (GatheredText (λ (u : Unit {0}) (bytes : List ℕ). ⊤) (AtLeast 0 (EachText QuotedByteText)))
     (Begins (λ b. b ≡ 34))
 quoted_text_of = gathered_of (λ (u : Unit {0}) (bytes : List ℕ). ⊤)
     (many_of quoted_byte_of (from_to 0 None) 0 refl front_any (λ rest b. tt) none_quoted)
@@ -165,7 +166,7 @@ quoted_text_of = gathered_of (λ (u : Unit {0}) (bytes : List ℕ). ⊤)
 -- a quoted string begins outside of a set in which no quote is
 string_front : {behind : List ℕ → Type 0} (these : ℕ → Type 0) → these 34
     → InFront StringText behind (MayBegin these)
-string_front these is = shown_front counted_reading (then_front (λ _ u. u)
+string_front these is = taken_front counted_reading (both_front (λ _ u. u)
     (front_begins (λ b e. subst these (sym e) is) (spelled_begins 34 [] 34)) front_any)
 
 value_of : IsGrammarOf (TextOrToken counted_reading (λ b. b) Byte
@@ -181,16 +182,16 @@ abbrev Value : Grammar ℕ Slice
 Value = TextOrToken counted_reading (λ b. b) Byte (QuotedText counted_reading (λ b. b) Byte)
 
 abbrev GivenText : Text ℕ Slice
-GivenText = Then (λ _ value. value) (SpacedText 61) ValueText
+GivenText = BothText (λ _ value. value) (SpacedText 61) ValueText
 
 given_of : IsGrammarOf (Both (λ _ v. v) (Spaced counted_reading (λ b. b) Byte 61) Value) GivenText
     (NotFirst IsTokenByte)
 given_of = both_of (λ _ v. v) (spaced_of 61 bare_61) value_of
-    (among_front (front_begins token_no_space token_begins)
+    (either_front (front_begins token_no_space token_begins)
     (string_front (λ b. IsSpace b → ⊥) (λ is. omega (arith, space_most 34 is))))
 
 given_marks : InFront GivenText Anything (Marked 61)
-given_marks = then_front (λ _ v. v) (spaced_marks 61) front_any
+given_marks = both_front (λ _ v. v) (spaced_marks 61) front_any
 
 -- What may stand behind an extension: another, or the line end.
 abbrev Clear : List ℕ → Type 0
@@ -220,11 +221,11 @@ none_given rest (inl m) =
 none_given rest (inr m) =
     none_marked 61 13 bare_61 bare_13 (λ e. omega (arith, e)) given_of given_marks rest m
 
-given_front : InFront (Perhaps GivenText) Clear (NotFirst IsTokenByte)
-unfolding Perhaps
+given_front : InFront (OptionalText GivenText) Clear (NotFirst IsTokenByte)
+unfolding OptionalText
 given_front = record { makes = makes }
   where
-    makes : (o : Option Slice) (xs rest : List ℕ) → Perhaps GivenText o xs → Clear rest
+    makes : (o : Option Slice) (xs rest : List ℕ) → OptionalText GivenText o xs → Clear rest
         → NotFirst IsTokenByte (xs ++ rest)
     makes None xs rest e clear =
         let P : List ℕ → Type 0 = λ l. NotFirst IsTokenByte (l ++ rest) in
@@ -238,18 +239,18 @@ extension_of : IsGrammarOf (Extension counted_reading (λ b. b) Byte Value) Exte
 extension_of = both_of {O = Slice × Option Slice} (λ name v. (name, v))
     (both_of (λ _ name. name) (spaced_of 59 bare_59) token_text
     (front_begins token_no_space token_begins))
-    (maybe_of (behind_less clear_no_token given_of) none_given) given_front
+    (optional_of (behind_less clear_no_token given_of) none_given) given_front
 
 extension_marks : {behind : List ℕ → Type 0} → InFront ExtensionText behind (Marked 59)
-extension_marks = then_front {O = Slice × Option Slice} (λ name v. (name, v))
-    (then_front (λ _ name. name) (spaced_marks 59) front_any) front_any
+extension_marks = both_front {O = Slice × Option Slice} (λ name v. (name, v))
+    (both_front (λ _ name. name) (spaced_marks 59) front_any) front_any
 
 again : InFront ExtensionText Clear Clear
 again = front_whole (λ rest m. inl m) extension_marks
 
 end_begins : BeginsIn (λ b. b ≡ 13)
-    (Then {O = ℕ × ℕ} (λ r f. (r, f)) (Itself 13) (Itself 10))
-end_begins = then_front {O = ℕ × ℕ} (λ r f. (r, f)) (spelled_begins 13 [] 13) front_any
+    (BothText {O = ℕ × ℕ} (λ r f. (r, f)) (Itself 13) (Itself 10))
+end_begins = both_front {O = ℕ × ℕ} (λ r f. (r, f)) (spelled_begins 13 [] 13) front_any
 
 module _ {A : Type 0} where
   extensions_of : IsGrammarOf (Extensions counted_reading (λ b. b) Byte {A = A} Value)
@@ -266,21 +267,21 @@ module _ {A : Type 0} where
       (class_of counted_reading IsHexDigit (λ b. b) 1)
       (both_of (λ list _. list) extensions_of
       (both_of {O = ℕ × ℕ} (λ r f. (r, f)) (byte_of 13) (byte_of 10) front_any) end_begins)
-      (front_whole clear_no_digit (then_front (λ list _. list) (in_list_front (row_front again))
+      (front_whole clear_no_digit (both_front (λ list _. list) (in_list_front (each_front again))
       (front_whole (λ rest b. inr (begins_marked 13 rest b)) end_begins)))
 
   -- what is read is first
   pub line_stands : (parts : Slice × Named A) (line : SizeLine A) → Means parts line
       → (tokens rest : List ℕ) → Line counted_reading (λ b. b) Byte tokens parts rest
       → First SizeLineText tokens line rest
-  unfolding First Of
+  unfolding First MadeText
   line_stands parts line is tokens rest x =
       let (front, e, a) = line_of.there tokens parts rest x in (front, (parts, a, is), e)
 
   -- and where nothing is read nothing is
   pub no_line : (tokens : List ℕ) → NoneStands (Line counted_reading (λ b. b) Byte {A = A}) tokens
       → NoneStands (First (SizeLineText {A = A})) tokens
-  unfolding First Of
+  unfolding First MadeText
   no_line tokens none line rest (front, (parts, a, is), e) =
       let P : List ℕ → Type 0 = λ l. Line counted_reading (λ b. b) Byte l parts rest in
       none parts rest (subst P (sym e) (line_of.back parts front rest a tt))

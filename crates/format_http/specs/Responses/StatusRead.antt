@@ -16,10 +16,10 @@ use Rattle.format_http.specs.Responses.StatusLine.{http, three}
 use Rattle.format_http.specs.declared.responses.status_line.StatusLine.{StatusLine}
 use Rattle.winnow.specs.Grammar.Same.{Same, unique_as}
 use Rattle.winnow.specs.Steps.{Steps}
-use Rattle.winnow.specs.Grammar.{Both, Grammar, IsUnique, Maybe, Three}
+use Rattle.winnow.specs.Grammar.{Both, Grammar, IsUnique, Optional, Three}
 use Rattle.winnow.specs.Grammar.Known.{Byte, byte_stands, byte_unique, slice_for, stands_byte}
 use Rattle.winnow.specs.Grammar.Sequences.{three_unique}
-use Rattle.winnow.specs.Grammar.Unique.{both_unique, maybe_unique, unique_by}
+use Rattle.winnow.specs.Grammar.Unique.{both_unique, optional_unique, unique_by}
 
 -- ---- a version, and a space behind it
 
@@ -149,12 +149,12 @@ Spaced = Both (λ _ text. text) (Byte 32) (Run IsValueByte 0)
 
 -- by `terminated(opt(..), b"\r\n")`
 abbrev pub ReasonRead : Bor (List ℕ) → Grammar ℕ (Option (Bor (List ℕ)))
-ReasonRead last = Both (λ o _. o) (Maybe Spaced) (Literal last)
+ReasonRead last = Both (λ o _. o) (Optional Spaced) (Literal last)
 
 module _ (last : Bor (List ℕ)) (ends : last.now ≡ line_end) where
   pub some_there : (reason : Bor (List ℕ)) (bytes rest : List ℕ)
       → ReasonRead last bytes (Some reason) rest → ReasonStands bytes reason rest
-  unfolding Both Maybe
+  unfolding Both Optional
   some_there reason bytes rest (o, l, mid, inr (none, never, e), y, out) =
       none_is_some (sym none ∙ sym out)
   some_there reason bytes rest (o, l, mid, inl (text, some, (space, t, m, x, z, made)), y, out) =
@@ -172,7 +172,7 @@ module _ (last : Bor (List ℕ)) (ends : last.now ≡ line_end) where
 
   pub none_there : (reason : Bor (List ℕ)) (bytes rest : List ℕ) → reason.now ≡ []
       → ReasonRead last bytes None rest → ReasonStands bytes reason rest
-  unfolding Both Maybe
+  unfolding Both Optional
   none_there reason bytes rest empty (o, l, mid, inl (text, some, x), y, out) =
       none_is_some (out ∙ some)
   none_there reason bytes rest empty (o, l, mid, inr (none, never, e), y, out) =
@@ -186,7 +186,7 @@ module _ (last : Bor (List ℕ)) (ends : last.now ≡ line_end) where
   pub reason_back : (bytes : List ℕ) (reason : Bor (List ℕ)) (rest : List ℕ)
       → ReasonStands bytes reason rest
       → (o : Option (Bor (List ℕ))) × ReasonRead last bytes o rest
-  unfolding Both Maybe
+  unfolding Both Optional
   reason_back bytes reason rest (behind, inl space, all, e) =
       let end = line_end ++ rest in
       let text = reason.now ++ end in (
@@ -302,7 +302,7 @@ pub reason_unique : IsUnique ReasonStands
 reason_unique =
     let (last, ends) = slice_for line_end in
     unique_by (reason_back last ends)
-    (both_unique {O = Option (Bor (List ℕ))} (λ o _. o) (maybe_unique
+    (both_unique {O = Option (Bor (List ℕ))} (λ o _. o) (optional_unique
     (both_unique {O = Bor (List ℕ)} (λ _ text. text) (byte_unique 32) (run_unique IsValueByte 0)))
     (literal_unique last))
 

@@ -7,15 +7,15 @@ use Rattle.std.proofs.lemmas.Str.{length-le-encodes}
 use Rattle.format_json_extents.proofs.Written.{Fits, Written, fit_parts, one_written, run_written}
 use Rattle.format_json_extents.proofs.Written.{then_written}
 use Rattle.format_json_extents.proofs.Written.Numbers.{Same}
-use Rattle.format_json_extents.specs.Texts.{Either, IsByte, List_of, Many, Maybe, Then, before}
+use Rattle.format_json_extents.specs.Texts.{Either, IsByte, List_of, Many, Maybe, BothText, before}
 use Rattle.format_json_extents.specs.Texts.{last}
 use Rattle.format_json_extents.specs.Texts.{nothing, one_more}
 use Rattle.format_json_extents.specs.Value.{IsGap, IsSpace}
 use Rattle.format_json_texts.specs.Values.{GapText, Mark}
 use Rattle.format_json_texts.specs.Words.{Between, One, pair}
 use Rattle.winnow.specs.AsChar.{IsMultispace}
-use Rattle.winnow.specs.Texts.{InList, Joined, Row, Text}
-use Rattle.winnow.specs.Texts.{Then as Both}
+use Rattle.winnow.specs.Texts.{InList, PartedText, EachText, Text}
+use Rattle.winnow.specs.Texts.{BothText as Both}
 use denote.RawPtr.{null_ptr}
 
 -- ---- white space
@@ -37,7 +37,7 @@ gap_written = run_written IsSpace IsMultispace space_white white_space
 
 -- a byte, and white space behind it
 abbrev pub IsMarked : ℕ → List ℕ → Type 0
-IsMarked c = Then (IsByte (λ b. b ≡ c)) IsGap
+IsMarked c = BothText (IsByte (λ b. b ≡ c)) IsGap
 
 pub mark_written : (c : ℕ) → Written (IsMarked c) (Mark c)
 mark_written c = then_written pair (one_written c) gap_written
@@ -45,30 +45,30 @@ mark_written c = then_written pair (one_written c) gap_written
 -- ---- with commas between them
 
 abbrev pub IsFollowed : (List ℕ → Type 0) → List ℕ → Type 0
-IsFollowed B = Then (IsMarked 44) B
+IsFollowed B = BothText (IsMarked 44) B
 
 abbrev pub AreParted : (List ℕ → Type 0) → List ℕ → Type 0
-AreParted B = Then B (Many (IsFollowed B))
+AreParted B = BothText B (Many (IsFollowed B))
 
 module _ {O : Type 0} {B : List ℕ → Type 0} {text : Text ℕ O} (body : Written B text) where
   -- values, no more than there are characters
   record Rows (cs : List ℕ) : Type 0 where
     os : List O
-    written : Row (Both (λ d o. o) (Mark 44) text) os cs
+    written : EachText (Both (λ d o. o) (Mark 44) text) os cs
     size : length os ≤ length cs
 
   followed : Written (IsFollowed B) (Both (λ d o. o) (Mark 44) text)
   followed = then_written (λ d o. o) (mark_written 44) body
 
-  rows_set : (os : List O) (cs : List ℕ) → Row (Both (λ d o. o) (Mark 44) text) os cs
+  rows_set : (os : List O) (cs : List ℕ) → EachText (Both (λ d o. o) (Mark 44) text) os cs
       → Many (IsFollowed B) cs
-  unfolding Row
+  unfolding EachText
   rows_set [] cs e = nothing cs e
   rows_set (o ∷ os) cs (xs, ys, x, more, e) =
       one_more xs ys cs (followed.set o xs x) (rows_set os ys more) e
 
   rows_value : (cs : List ℕ) → Fits cs → Many (IsFollowed B) cs → Rows cs
-  unfolding Row
+  unfolding EachText
   rows_value _ fits (nothing cs e) = record { os = []; written = e; size = omega arith }
   rows_value _ fits (one_more first others cs is more e) =
       let (one, rest) = fit_parts cs first others e fits in
@@ -93,11 +93,11 @@ module _ {O : Type 0} {B : List ℕ → Type 0} {text : Text ℕ O} (body : Writ
 
   record Parts (cs : List ℕ) : Type 0 where
     os : List O
-    written : Joined (Mark 44) text os cs
+    written : PartedText (Mark 44) text os cs
     size : length os ≤ length cs + 1
 
-  parts_set : (os : List O) (cs : List ℕ) → Joined (Mark 44) text os cs → Maybe (AreParted B) cs
-  unfolding Joined
+  parts_set : (os : List O) (cs : List ℕ) → PartedText (Mark 44) text os cs → Maybe (AreParted B) cs
+  unfolding PartedText
   parts_set [] cs e = inl e
   parts_set (o ∷ os) cs (xs, ys, x, more, e) = inr (record {
     first = xs;
@@ -108,7 +108,7 @@ module _ {O : Type 0} {B : List ℕ → Type 0} {text : Text ℕ O} (body : Writ
   })
 
   parts_value : (cs : List ℕ) → Fits cs → Maybe (AreParted B) cs → Parts cs
-  unfolding Joined
+  unfolding PartedText
   parts_value cs fits (inl e) = record { os = []; written = e; size = omega arith }
   parts_value cs fits (inr is) =
       let (one, rest) = fit_parts cs is.first is.second is.joins fits in
@@ -129,11 +129,11 @@ module _ {O : Type 0} {B : List ℕ → Type 0} {text : Text ℕ O} (body : Writ
 
   abbrev AreBracketed : ℕ → ℕ → List ℕ → Type 0
   AreBracketed opens closes =
-      Then (IsMarked opens) (Then (Maybe (AreParted B)) (IsByte (λ b. b ≡ closes)))
+      BothText (IsMarked opens) (BothText (Maybe (AreParted B)) (IsByte (λ b. b ≡ closes)))
 
   module _ {A : Type 0} (alloc : A) (opens closes : ℕ) where
     bracketed_set : (list : Vec O A) (cs : List ℕ)
-        → Between (Mark opens) (InList (Joined (Mark 44) text)) (One closes) list cs
+        → Between (Mark opens) (InList (PartedText (Mark 44) text)) (One closes) list cs
         → AreBracketed opens closes cs
     unfolding Both InList
     bracketed_set list cs (m, i, xs, ys, x, (l, c, zs, ws, y, z, e2, o2), e1, o1) = record {
@@ -152,7 +152,7 @@ module _ {O : Type 0} {B : List ℕ → Type 0} {text : Text ℕ O} (body : Writ
 
     bracketed_value : (cs : List ℕ) → Fits cs → AreBracketed opens closes cs
         → (list : Vec O A)
-        × Between (Mark opens) (InList (Joined (Mark 44) text)) (One closes) list cs
+        × Between (Mark opens) (InList (PartedText (Mark 44) text)) (One closes) list cs
     unfolding Both InList
     bracketed_value cs fits is =
         let inside = is.is_second in
@@ -196,14 +196,14 @@ module _ {O : Type 0} {B : List ℕ → Type 0} {text : Text ℕ O} (body : Writ
         )
 
     pub bracketed_written : Written (AreBracketed opens closes)
-        (Between (Mark opens) (InList {A = A} (Joined (Mark 44) text)) (One closes))
+        (Between (Mark opens) (InList {A = A} (PartedText (Mark 44) text)) (One closes))
     bracketed_written = record { set = bracketed_set; value = bracketed_value }
 
 -- ---- items, with the white space before them
 
-module _ (I B : List ℕ → Type 0) (there : (cs : List ℕ) → I cs → Then IsGap B cs)
-    (back : (cs : List ℕ) → Then IsGap B cs → I cs) where
-  list_parts : (cs : List ℕ) → List_of I cs → Then IsGap (AreParted B) cs
+module _ (I B : List ℕ → Type 0) (there : (cs : List ℕ) → I cs → BothText IsGap B cs)
+    (back : (cs : List ℕ) → BothText IsGap B cs → I cs) where
+  list_parts : (cs : List ℕ) → List_of I cs → BothText IsGap (AreParted B) cs
   list_parts _ (last cs is) =
       let g = there cs is in
       record {
@@ -282,20 +282,20 @@ module _ (I B : List ℕ → Type 0) (there : (cs : List ℕ) → I cs → Then 
   module _ (opens closes : ℕ) where
     abbrev Opened : List ℕ → Type 0
     Opened =
-        Then (IsByte (λ b. b ≡ opens))
-        (Either (Then IsGap (IsByte (λ b. b ≡ closes)))
-        (Then (List_of I) (IsByte (λ b. b ≡ closes))))
+        BothText (IsByte (λ b. b ≡ opens))
+        (Either (BothText IsGap (IsByte (λ b. b ≡ closes)))
+        (BothText (List_of I) (IsByte (λ b. b ≡ closes))))
 
     abbrev Spread : List ℕ → Type 0
     Spread =
-        Then (IsMarked opens) (Then (Maybe (AreParted B)) (IsByte (λ b. b ≡ closes)))
+        BothText (IsMarked opens) (BothText (Maybe (AreParted B)) (IsByte (λ b. b ≡ closes)))
 
     opened_spread : (cs : List ℕ) → Opened cs → Spread cs
     opened_spread cs is = by is.second is.is_second is.joins
       where
         by : (second : List ℕ)
-            → Either (Then IsGap (IsByte (λ b. b ≡ closes)))
-            (Then (List_of I) (IsByte (λ b. b ≡ closes))) second
+            → Either (BothText IsGap (IsByte (λ b. b ≡ closes)))
+            (BothText (List_of I) (IsByte (λ b. b ≡ closes))) second
             → cs ≡ is.first ++ second → Spread cs
         by second (inl none) e = record {
           first = is.first ++ none.first;

@@ -15,8 +15,8 @@ use Rattle.format_json_extents.specs.Strings.{IsUnit}
 use Rattle.format_json_texts.specs.Strings.{ArePair, IsAlone}
 use Rattle.format_json_texts.specs.Strings.{StandsFor, UnicodeText, UnitText}
 use Rattle.format_json_texts.specs.Words.{For, One, Whichever, latter, pair}
-use Rattle.winnow.specs.Texts.{Among, Of, Spelled, Text}
-use Rattle.winnow.specs.Texts.{Then as Both}
+use Rattle.winnow.specs.Texts.{EitherText, MadeText, Spelled, Text}
+use Rattle.winnow.specs.Texts.{BothText as Both}
 
 -- ---- escapes
 
@@ -41,12 +41,12 @@ high_scalar : (c : ℕ) → 57344 ≤ c → c < 1114112 → IsScalar c
 high_scalar c least most = grind (arith, nat_tests, least, most)
 
 only_set : (c : ℕ) (cs : List ℕ) → For IsAlone UnitText c cs → IsUnit BeginOnly cs
-unfolding Of
+unfolding MadeText
 only_set c cs (u, x, (e, is)) =
     digits_unit BeginOnly u cs (λ a b high low rest it. is_only a b high low rest u it is) x
 
 only_value : (cs : List ℕ) → IsUnit BeginOnly cs → Means (For IsAlone UnitText) cs
-unfolding Of
+unfolding MadeText
 only_value cs is =
     let (u, it) = unit_digits BeginOnly (λ a b x. (x.0, x.1)) cs is in
     let free = no_surrogate cs u it in
@@ -60,7 +60,7 @@ PairText =
     For ArePair (Both pair UnitText (Both latter (Both pair (One 92) (One 117)) UnitText))
 
 pair_set : (c : ℕ) (cs : List ℕ) → PairText c cs → IsPair cs
-unfolding Of Both Spelled
+unfolding MadeText Both Spelled
 pair_set c cs (
   p,
   (
@@ -114,7 +114,7 @@ d_hex : (a : ℕ) → IsD a → IsHexDigit a
 d_hex a is = grind (arith, is)
 
 pair_value : (cs : List ℕ) → IsPair cs → Means PairText cs
-unfolding Of Both Spelled
+unfolding MadeText Both Spelled
 pair_value cs is =
     let (u, it) = unit_digits BeginHigh (λ a b x. (d_hex a x.0, grind (arith, x))) is.first
     is.is_first in
@@ -172,12 +172,12 @@ means_to text other cs to m = record {
 }
 
 character_set : (c : ℕ) (cs : List ℕ) → UnicodeText c cs → IsCharacter cs
-unfolding Among
+unfolding EitherText
 character_set c cs (inl x) = inl (only_set c cs x)
 character_set c cs (inr x) = inr (pair_set c cs x)
 
 character_value : (cs : List ℕ) → IsCharacter cs → Means UnicodeText cs
-unfolding Among
+unfolding EitherText
 character_value cs (inl is) =
     means_to (For IsAlone UnitText) UnicodeText cs (λ c x. inl x) (only_value cs is)
 character_value cs (inr is) =
@@ -210,10 +210,10 @@ is_escaped b k (inr (inr (inr (inr (inr (inr (inr x))))))) =
     inr (inr (inr (inr (inr (inr (inr x.0))))))
 
 abbrev pub EscapedText : Text ℕ ℕ
-EscapedText = Among (For StandsFor Whichever) (Both latter (One 117) UnicodeText)
+EscapedText = EitherText (For StandsFor Whichever) (Both latter (One 117) UnicodeText)
 
 pub escape_set : (c : ℕ) (cs : List ℕ) → EscapedText c cs → IsEscape cs
-unfolding Among Of Whichever Both Spelled
+unfolding EitherText MadeText Whichever Both Spelled
 escape_set c cs (inl (b, e, is)) =
     inl (record { byte = b; is_byte = is_escaped b c is; alone = e })
 escape_set c cs (inr (u, d, xs, ys, (eu, fu), x, e, out)) =
@@ -226,7 +226,7 @@ escape_set c cs (inr (u, d, xs, ys, (eu, fu), x, e, out)) =
     })
 
 pub escape_value : (cs : List ℕ) → IsEscape cs → Means EscapedText cs
-unfolding Among Of Whichever Both Spelled
+unfolding EitherText MadeText Whichever Both Spelled
 escape_value cs (inl is) =
     let (k, stands, small) = stands_for is.byte is.is_byte in
     record {

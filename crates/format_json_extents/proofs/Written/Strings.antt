@@ -20,8 +20,8 @@ use Rattle.format_json_texts.specs.Strings.{StringText}
 use Rattle.format_json_texts.specs.Strings.{IsUnescaped as IsPlain}
 use Rattle.format_json_texts.specs.Words.{In, former, latter}
 use Rattle.winnow.specs.Accumulator.Holds.{HasCharacters}
-use Rattle.winnow.specs.Texts.{Among, Holding, Row, Spelled}
-use Rattle.winnow.specs.Texts.{Then as Both}
+use Rattle.winnow.specs.Texts.{EitherText, GatheredText, EachText, Spelled}
+use Rattle.winnow.specs.Texts.{BothText as Both}
 
 -- ---- pieces
 
@@ -51,7 +51,7 @@ plain_is b (inr (inr x)) =
     (omega (arith, x), λ e. omega (arith, x, e), λ e. omega (arith, x, e))
 
 piece_set : (c : ℕ) (cs : List ℕ) → CharacterText c cs → IsPiece cs
-unfolding Among Both Spelled In
+unfolding EitherText Both Spelled In
 piece_set c cs (inl (is, e)) =
     inl (record { byte = c; is_byte = plain_is c is; alone = e })
 piece_set c cs (inr (s, d, xs, ys, (es, fs), x, e, out)) =
@@ -71,7 +71,7 @@ record Piece (cs : List ℕ) : Type 0 where
   size : length (encode_utf8 char) ≤ length (encode_utf8_all cs)
 
 piece_value : (cs : List ℕ) → Fits cs → IsPiece cs → Piece cs
-unfolding Among Both Spelled In
+unfolding EitherText Both Spelled In
 piece_value cs fits (inl is) =
     let P : List ℕ → Type 0 = λ l. all_scalars l ≡ true in
     let scalar = (both_true _ true (subst P is.alone fits.scalars)).0 in
@@ -112,8 +112,8 @@ piece_value cs fits (inr is) =
 
 -- ---- strings
 
-row_set : (os cs : List ℕ) → Row CharacterText os cs → Many IsPiece cs
-unfolding Row
+row_set : (os cs : List ℕ) → EachText CharacterText os cs → Many IsPiece cs
+unfolding EachText
 row_set [] cs e = nothing cs e
 row_set (o ∷ os) cs (xs, ys, x, more, e) =
     one_more xs ys cs (piece_set o xs x) (row_set os ys more) e
@@ -121,12 +121,12 @@ row_set (o ∷ os) cs (xs, ys, x, more, e) =
 -- characters that these are the text of, and that take no more bytes
 record Characters (cs : List ℕ) : Type 0 where
   os : List ℕ
-  written : Row CharacterText os cs
+  written : EachText CharacterText os cs
   scalars : all_scalars os ≡ true
   size : length (encode_utf8_all os) ≤ length (encode_utf8_all cs)
 
 row_value : (cs : List ℕ) → Fits cs → Many IsPiece cs → Characters cs
-unfolding Row
+unfolding EachText
 row_value _ fits (nothing cs e) =
     record { os = []; written = e; scalars = refl; size = omega arith }
 row_value _ fits (one_more first others cs is more e) =
@@ -149,8 +149,9 @@ row_value _ fits (one_more first others cs is more e) =
     }
 
 module _ {A : Type 0} (alloc : A) where
-  held_written : Written (Many IsPiece) (Holding (HasCharacters {A = A}) (Row CharacterText))
-  unfolding Holding
+  held_written : Written (Many IsPiece)
+        (GatheredText (HasCharacters {A = A}) (EachText CharacterText))
+  unfolding GatheredText
   held_written = record {
     set = λ o cs (os, holds, x). row_set os cs x;
     value = λ cs fits is.

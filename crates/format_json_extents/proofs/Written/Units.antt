@@ -6,8 +6,8 @@ use Rattle.format_json_extents.specs.Strings.{BeginHigh, BeginLow, BeginOnly, Is
 use Rattle.format_json_extents.specs.Strings.{IsUnit}
 use Rattle.format_json_texts.specs.Strings.{IsHex, UnitText}
 use Rattle.format_json_texts.specs.Words.{For, Whichever, pair}
-use Rattle.winnow.specs.Texts.{Of}
-use Rattle.winnow.specs.Texts.{Then as Both}
+use Rattle.winnow.specs.Texts.{MadeText}
+use Rattle.winnow.specs.Texts.{BothText as Both}
 
 -- ---- hexadecimal digits
 
@@ -51,17 +51,17 @@ pub record Digits (P : ℕ → ℕ → Type 0) (cs : List ℕ) (u : ℕ) : Type 
 -- a digit, and a text behind it
 digit_then : {O : Type 0} (text : O → List ℕ → Type 0) (c d : ℕ) (o : O) (cs : List ℕ) → IsHex c d
     → text o cs → Both pair (For IsHex Whichever) text (d, o) (c ∷ cs)
-unfolding Both Of Whichever
+unfolding Both MadeText Whichever
 digit_then text c d o cs is x = (d, o, c ∷ [], cs, (c, refl, is), x, refl, refl)
 
 one_digit : (c d : ℕ) → IsHex c d → For IsHex Whichever d (c ∷ [])
-unfolding Of Whichever
+unfolding MadeText Whichever
 one_digit c d is = (c, refl, is)
 
 module _ (P : ℕ → ℕ → Type 0) where
   pub unit_digits : ((a b : ℕ) → P a b → IsHexDigit a × IsHexDigit b) → (cs : List ℕ) → IsUnit P cs
       → (u : ℕ) × Digits P cs u
-  unfolding Both Of Whichever
+  unfolding Both MadeText Whichever
   unit_digits hex cs is =
       let first = is.is_first in
       let (ha, hb) = hex first.one first.two first.are_bytes in
@@ -109,7 +109,7 @@ module _ (P : ℕ → ℕ → Type 0) where
   pub digits_unit : (u : ℕ) (cs : List ℕ)
       → ((a b high low rest : ℕ) → IsUnitOf a b high low rest u → P a b) → UnitText u cs
       → IsUnit P cs
-  unfolding Both Of Whichever
+  unfolding Both MadeText Whichever
   digits_unit u cs begin (
     ds,
     (

@@ -29,7 +29,7 @@ use Rattle.format_json_texts.specs.Words.{former, latter, pair}
 use Rattle.format_json_texts.specs.declared.value.Value.{Value}
 use Rattle.format_json_texts.specs.declared.value.Value as values
 use Rattle.winnow.specs.Accumulator.Holds.{HasCharacters}
-use Rattle.winnow.specs.Texts.{Shown, Spelled, Text}
+use Rattle.winnow.specs.Texts.{TakenText, Spelled, Text}
 
 only_written : {O : Type 0} (word : List ℕ) (o : O) → Written (Only word) (Spelled word o)
 unfolding Spelled
@@ -155,7 +155,7 @@ module _ {A : Type 0} (alloc : A) where
 
   text_of : (slice : Slice) (cs : List ℕ) → Fits cs → NumberText slice cs
       → (text : String A) × HasText slice text
-  unfolding Shown
+  unfolding TakenText
   text_of slice cs fits (o, x, shown) =
       (spelled alloc (encode_utf8_all cs) ∣ (cs, (fits.scalars, refl)) ∣₁ fits.few, sym shown)
 

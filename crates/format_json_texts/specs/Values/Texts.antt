@@ -11,10 +11,10 @@ use Rattle.winnow.specs.Grammar.Same.{Same}
 use Rattle.winnow.specs.Grammar.{Both, Grammar, Three}
 use Rattle.winnow.specs.Texts.{Anything, Begins, BeginsIn, InFront, InList}
 use Rattle.winnow.specs.Texts.{IsGrammarOf}
-use Rattle.winnow.specs.Texts.{Joined, NotFirst, Spelled, Text}
-use Rattle.winnow.specs.Texts.Fronts.{among_front, begins_wider, front_any, front_begins}
+use Rattle.winnow.specs.Texts.{PartedText, NotFirst, Spelled, Text}
+use Rattle.winnow.specs.Texts.Fronts.{either_front, begins_wider, front_any, front_begins}
 use Rattle.winnow.specs.Texts.Fronts.{may_begin, none_begins, not_first}
-use Rattle.winnow.specs.Texts.Fronts.{spelled_begins, then_front}
+use Rattle.winnow.specs.Texts.Fronts.{spelled_begins, both_front}
 use Rattle.winnow.specs.Texts.Parts.{behind_less, both_of, either_apart, same_of}
 use Rattle.winnow.specs.Texts.Rows.{list_of, parted_of}
 use Rattle.format_json_texts.specs.Number.{GoesOn, number_begins}
@@ -64,7 +64,7 @@ mark_of : (c : ℕ) → IsGrammarOf (Punctuation c) (Mark c) NoGap
 mark_of c = both_of pair (char_of c) gap_of front_any
 
 mark_begins : (c : ℕ) → BeginsIn (λ x. x ≡ c) (Mark c)
-mark_begins c = then_front pair (spelled_begins c [] c) front_any
+mark_begins c = both_front pair (spelled_begins c [] c) front_any
 
 -- ---- values that have no others in them
 
@@ -89,15 +89,15 @@ words_of =
     (front_begins (λ c e f. absurd (omega (arith, e, f)))
     (spelled_begins 102 (97 ∷ 108 ∷ 115 ∷ 101 ∷ []) (Some false))))
     (spelled_begins 110 (117 ∷ 108 ∷ 108 ∷ []) None)
-    (among_front (front_begins (λ c e f. absurd (omega (arith, e, f)))
+    (either_front (front_begins (λ c e f. absurd (omega (arith, e, f)))
     (spelled_begins 116 (114 ∷ 117 ∷ 101 ∷ []) (Some true)))
     (front_begins (λ c e f. absurd (omega (arith, e, f)))
     (spelled_begins 102 (97 ∷ 108 ∷ 115 ∷ 101 ∷ []) (Some false))))
 
 words_begin : BeginsIn IsLetter WordText
 words_begin =
-    among_front (begins_wider (λ c e. inl e) (spelled_begins 110 (117 ∷ 108 ∷ 108 ∷ []) None))
-    (among_front (begins_wider (λ c e. inr (inl e))
+    either_front (begins_wider (λ c e. inl e) (spelled_begins 110 (117 ∷ 108 ∷ 108 ∷ []) None))
+    (either_front (begins_wider (λ c e. inr (inl e))
     (spelled_begins 116 (114 ∷ 117 ∷ 101 ∷ []) (Some true)))
     (begins_wider (λ c e. inr (inr e))
     (spelled_begins 102 (97 ∷ 108 ∷ 115 ∷ 101 ∷ []) (Some false))))
@@ -157,13 +157,13 @@ module _ {A : Type 0} (holds : String A → List ℕ → Type 0) where
       (for_front IsNumber (for_front HasText number_begins))
       (for_front IsString (front_begins quote_numeric (string_begins holds))))
       (for_front IsWord words_begin)
-      (among_front (for_front IsNumber (for_front HasText (front_begins no_letter number_begins)))
+      (either_front (for_front IsNumber (for_front HasText (front_begins no_letter number_begins)))
       (for_front IsString (front_begins quote_letter (string_begins holds))))
 
   scalar_begins : BeginsIn OpensScalar (ScalarText holds)
   scalar_begins =
-      among_front (for_front IsWord (begins_wider (λ c is. inl is) words_begin))
-      (among_front (for_front IsNumber
+      either_front (for_front IsWord (begins_wider (λ c is. inl is) words_begin))
+      (either_front (for_front IsNumber
       (for_front HasText (begins_wider (λ c is. inr (inl is)) number_begins)))
       (for_front IsString (begins_wider (λ c is. inr (inr is)) (string_begins holds))))
 
@@ -172,12 +172,12 @@ module _ {A : Type 0} (holds : String A → List ℕ → Type 0) where
 -- elements, and what closes, are in front of no white space
 commas_front : {O A : Type 0} {element : Text ℕ O} {these : ℕ → Type 0} (close : ℕ) → 33 < close
     → ((c : ℕ) → these c → IsMultispace c → ⊥) → BeginsIn these element
-    → InFront (InList {A = A} (Joined (Mark 44) element)) (Begins (λ c. c ≡ close)) NoGap
-unfolding InList Joined
+    → InFront (InList {A = A} (PartedText (Mark 44) element)) (Begins (λ c. c ≡ close)) NoGap
+unfolding InList PartedText
 commas_front {O} {A} {element} {these} close most apart begins =
     record { makes = λ list xs rest x b. first list.items xs rest x b }
   where
-    first : (os : List O) (tokens rest : List ℕ) → Joined (Mark 44) element os tokens
+    first : (os : List O) (tokens rest : List ℕ) → PartedText (Mark 44) element os tokens
         → Begins (λ c. c ≡ close) rest → NoGap (tokens ++ rest)
     first [] tokens rest e b =
         let P : List ℕ → Type 0 = λ l. NoGap (l ++ rest) in
@@ -219,10 +219,10 @@ bracketed_of : {O A : Type 0} {g : Grammar ℕ O} {element : Text ℕ O} {these 
     → ((c : ℕ) → these c → (IsMultispace c → ⊥) × (c ≡ close → ⊥)) → BeginsIn these element
     → IsGrammarOf g element Ended
     → IsGrammarOf (Three (λ o1 o2 o3. o2) (Punctuation opening) (Commas {A = A} g) (Char close))
-    (Between (Mark opening) (InList {A = A} (Joined (Mark 44) element)) (One close)) Anything
+    (Between (Mark opening) (InList {A = A} (PartedText (Mark 44) element)) (One close)) Anything
 bracketed_of {O} {A} {g} {element} {these} opening close is apart begins of =
     between_of (mark_of opening) (list_of (parted_of of (mark_of 44)
-    (then_front pair (front_begins comma_goes_on (spelled_begins 44 [] 44)) front_any)
+    (both_front pair (front_begins comma_goes_on (spelled_begins 44 [] 44)) front_any)
     (front_begins (λ c b. (apart c b).0) begins) (from_to 0 None) 0 refl ended
     (λ rest b. none_begins (mark_of 44) (mark_begins 44) rest
     (may_begin (λ c. c ≡ close) (λ c. c ≡ 44 → ⊥) no_comma rest b))
@@ -261,7 +261,7 @@ spaced_of is =
 
 spaced_begins : {O : Type 0} {text : Text ℕ O} {these : ℕ → Type 0} → BeginsIn these text
     → BeginsIn these (Spaced text)
-spaced_begins begins = then_front former begins front_any
+spaced_begins begins = both_front former begins front_any
 
 member_same : {O1 O2 O3 : Type 0} (g1 : Grammar ℕ O1) (g2 : Grammar ℕ O2) (g3 : Grammar ℕ O3)
     → Same (Both pair g1 (Both latter g2 g3)) (Three (λ o1 o2 o3. (o1, o3)) g1 g2 g3)
@@ -285,14 +285,14 @@ module _ {A : Type 0} (holds : String A → List ℕ → Type 0) {g : Grammar �
       (both_of pair (both_of former (string_of holds) gap_of front_any)
       (both_of latter (mark_of 58) (spaced_of of)
       (front_begins (λ c b. b.0) (spaced_begins opens)))
-      (then_front latter (front_begins (λ c e. no_white c 58 e (omega arith)) (mark_begins 58))
+      (both_front latter (front_begins (λ c e. no_white c 58 e (omega arith)) (mark_begins 58))
       front_any))
 
   object_of : IsGrammarOf (Object holds g) (ObjectText holds value) Anything
   object_of =
       bracketed_of 123 125 (inr refl)
       (λ c e. (no_white c 34 e (omega arith), λ f. absurd (omega (arith, e, f))))
-      (then_front pair (spaced_begins (string_begins holds)) front_any) member_of
+      (both_front pair (spaced_begins (string_begins holds)) front_any) member_of
 
 module _ {A : Type 0} (holds : String A → List ℕ → Type 0) where
   value_begins : (level : ℕ) → BeginsIn Opens (ValueText holds level)
@@ -300,13 +300,13 @@ module _ {A : Type 0} (holds : String A → List ℕ → Type 0) where
   value_begins zero = begins_wider (λ c is.
       let x = scalar_opens c is in (above_white c x.0, x.1)) (scalar_begins holds)
   value_begins (suc level) =
-      among_front (begins_wider (λ c is.
+      either_front (begins_wider (λ c is.
       let x = scalar_opens c is in (above_white c x.0, x.1))
       (scalar_begins holds))
-      (among_front (for_front IsArray (then_front latter (begins_wider (λ c e.
+      (either_front (for_front IsArray (both_front latter (begins_wider (λ c e.
       (no_white c 91 e (omega arith), λ f. absurd (omega (arith, e, f)))) (mark_begins
       91)) front_any))
-      (for_front IsObject (then_front latter (begins_wider (λ c e.
+      (for_front IsObject (both_front latter (begins_wider (λ c e.
       (no_white c 123 e (omega arith), λ f. absurd (omega (arith, e, f)))) (mark_begins 123))
       front_any)))
 
@@ -320,13 +320,13 @@ module _ {A : Type 0} (holds : String A → List ℕ → Type 0) where
       (for_of IsArray (array_of holds (value_of level) (value_begins level))))
       (behind_less (λ rest b. tt)
       (for_of IsObject (object_of holds (value_of level) (value_begins level))))
-      (for_front IsArray (then_front latter (mark_begins 91) front_any))
-      (for_front IsObject (then_front latter
+      (for_front IsArray (both_front latter (mark_begins 91) front_any))
+      (for_front IsObject (both_front latter
       (front_begins (λ c e f. absurd (omega (arith, e, f))) (mark_begins 123)) front_any)))
       (scalar_begins holds)
-      (among_front (for_front IsArray (then_front latter
+      (either_front (for_front IsArray (both_front latter
       (front_begins (λ c e is. absurd (no_bracket c is (inl e))) (mark_begins 91)) front_any))
-      (for_front IsObject (then_front latter
+      (for_front IsObject (both_front latter
       (front_begins (λ c e is. absurd (no_bracket c is (inr e))) (mark_begins 123)) front_any)))
     where
       no_bracket : (c : ℕ) → OpensScalar c → (c ≡ 91) ⊎ (c ≡ 123) → ⊥

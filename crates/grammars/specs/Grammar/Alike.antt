@@ -3,7 +3,8 @@ use Rattle.std.specs.Prelude.{ℕ, List, [], ◌∷◌, length, Option}
 use Rattle.std.proofs.Common.{inl, inr}
 use Rattle.stream_sets.specs.Range.{Bounds, bounds_of}
 use Rattle.stream_sets.specs.declared.range.Range.{Range}
-use Rattle.grammars.specs.Grammar.{Apart, Both, Each, Either, Gathered, Grammar, Many, Maybe}
+use Rattle.grammars.specs.Grammar.{SeparatedBy, Both, Each, Either, Gathered, Grammar, Many}
+use Rattle.grammars.specs.Grammar.{Optional}
 use Rattle.grammars.specs.Grammar.{Parted, Repeated, Stops}
 use Rattle.grammars.specs.Grammar.Same.{Same, none_as, same_sym}
 
@@ -37,14 +38,14 @@ either_same first second = record {
   back = either_as (same_sym first) (same_sym second);
 }
 
-maybe_as : {T O : Type 0} {g h : Grammar T O} → Same g h → (tokens : List T) (o : Option O)
-    (rest : List T) → Maybe g tokens o rest → Maybe h tokens o rest
-unfolding Maybe
-maybe_as same tokens o rest (inl (x, e, y)) = inl (x, e, same.there tokens x rest y)
-maybe_as same tokens o rest (inr (e, none, all)) = inr (e, none_as same tokens none, all)
+optional_as : {T O : Type 0} {g h : Grammar T O} → Same g h → (tokens : List T) (o : Option O)
+    (rest : List T) → Optional g tokens o rest → Optional h tokens o rest
+unfolding Optional
+optional_as same tokens o rest (inl (x, e, y)) = inl (x, e, same.there tokens x rest y)
+optional_as same tokens o rest (inr (e, none, all)) = inr (e, none_as same tokens none, all)
 
-pub maybe_same : {T O : Type 0} {g h : Grammar T O} → Same g h → Same (Maybe g) (Maybe h)
-maybe_same same = record { there = maybe_as same; back = maybe_as (same_sym same) }
+pub optional_same : {T O : Type 0} {g h : Grammar T O} → Same g h → Same (Optional g) (Optional h)
+optional_same same = record { there = optional_as same; back = optional_as (same_sym same) }
 
 pub each_as : {T O : Type 0} {g h : Grammar T O} → Same g h → (os : List O)
     (tokens rest : List T) → Each g tokens os rest → Each h tokens os rest
@@ -113,8 +114,8 @@ parted_same bounds element separator = record {
   back = parted_as bounds (same_sym element) (same_sym separator);
 }
 
-pub apart_same : {T O D C : Type 0} (holds : C → List O → Type 0) (range : Range)
+pub separated_by_same : {T O D C : Type 0} (holds : C → List O → Type 0) (range : Range)
     {g1 h1 : Grammar T O} {g2 h2 : Grammar T D} → Same g1 h1 → Same g2 h2
-    → Same (Apart holds range g1 g2) (Apart holds range h1 h2)
-apart_same holds range element separator =
+    → Same (SeparatedBy holds range g1 g2) (SeparatedBy holds range h1 h2)
+separated_by_same holds range element separator =
     gathered_same holds (parted_same (bounds_of range) element separator)

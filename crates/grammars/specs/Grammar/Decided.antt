@@ -1,14 +1,14 @@
 -- What stands where an output decides what stands behind it.
 use Rattle.std.specs.Prelude.{◌⊎◌, List}
 use Rattle.std.proofs.Common.{subst, arith, inl, inr}
-use Rattle.grammars.specs.Grammar.{Grammar, IsUnique, Takes}
+use Rattle.grammars.specs.Grammar.{Grammar, IsUnique, TakesTokens}
 use Rattle.grammars.specs.Grammar.Same.{Same, same_sym}
 use Rattle.grammars.specs.Grammar.Unique.{end_of_end, no_longer_than}
 
 -- An output stands, and behind it one of what is made of the first, by some part of the parser.
-unfoldable pub Decided : {F T O H U : Type 0} → (F → O → H → Type 0) → F → (H → Grammar T U)
+unfoldable pub FlatMapped : {F T O H U : Type 0} → (F → O → H → Type 0) → F → (H → Grammar T U)
     → Grammar T O → Grammar T U
-Decided {T = T} {O} {H} makes part reads grammar tokens u rest =
+FlatMapped {T = T} {O} {H} makes part reads grammar tokens u rest =
     (o : O) × (mid : List T) × (made : H) × grammar tokens o mid × makes part o made
     × reads made mid u rest
 
@@ -26,9 +26,9 @@ EachMade {O = O} {H} makes part meets = (o : O) (made : H) → makes part o made
 module _ {F T O H U : Type 0} (makes : F → O → H → Type 0) (part : F) (reads : H → Grammar T U)
     {g : Grammar T O} (first : IsUnique g)
     (second : EachMade makes part (λ made. IsUnique (reads made))) where
-  pub decided_unique : MadeAlike makes part reads g → IsUnique (Decided makes part reads g)
-  unfolding Decided
-  decided_unique alike = record {
+  pub flat_mapped_unique : MadeAlike makes part reads g → IsUnique (FlatMapped makes part reads g)
+  unfolding FlatMapped
+  flat_mapped_unique alike = record {
     ends = λ tokens u rest (o, mid, made, x, m, y). end_of_end (first.ends tokens o mid x)
         ((second o made m).ends mid u rest y);
     one = λ tokens u v rest end (o, mid, made, x, m, y) (p, other, more, z, n, w).
@@ -38,17 +38,17 @@ module _ {F T O H U : Type 0} (makes : F → O → H → Type 0) (part : F) (rea
         (second o made m).one mid u v rest end y (subst P same there);
   }
 
-  pub decided_takes : Takes g ⊎ EachMade makes part (λ made. Takes (reads made))
-      → Takes (Decided makes part reads g)
-  unfolding Decided
-  decided_takes (inl takes) = record {
+  pub flat_mapped_takes : TakesTokens g ⊎ EachMade makes part (λ made. TakesTokens (reads made))
+      → TakesTokens (FlatMapped makes part reads g)
+  unfolding FlatMapped
+  flat_mapped_takes (inl takes) = record {
     fewer = λ tokens u rest (o, mid, made, x, m, y). omega (
       arith,
       takes.fewer tokens o mid x,
       no_longer_than (second o made m) mid u rest y,
     );
   }
-  decided_takes (inr each) = record {
+  flat_mapped_takes (inr each) = record {
     fewer = λ tokens u rest (o, mid, made, x, m, y). omega (
       arith,
       no_longer_than first tokens o mid x,
@@ -59,18 +59,18 @@ module _ {F T O H U : Type 0} (makes : F → O → H → Type 0) (part : F) (rea
 -- ---- of what is alike, what is alike is made
 
 module _ {F T O H U : Type 0} (makes : F → O → H → Type 0) (part : F) where
-  decided_as : {reads other : H → Grammar T U} {g h : Grammar T O}
+  flat_mapped_as : {reads other : H → Grammar T U} {g h : Grammar T O}
       → ((made : H) → Same (reads made) (other made)) → Same g h → (tokens : List T) (u : U)
-      (rest : List T) → Decided makes part reads g tokens u rest
-      → Decided makes part other h tokens u rest
-  unfolding Decided
-  decided_as each same tokens u rest (o, mid, made, x, m, y) =
+      (rest : List T) → FlatMapped makes part reads g tokens u rest
+      → FlatMapped makes part other h tokens u rest
+  unfolding FlatMapped
+  flat_mapped_as each same tokens u rest (o, mid, made, x, m, y) =
       (o, mid, made, same.there tokens o mid x, m, (each made).there mid u rest y)
 
-  pub decided_same : {reads other : H → Grammar T U} {g h : Grammar T O}
+  pub flat_mapped_same : {reads other : H → Grammar T U} {g h : Grammar T O}
       → ((made : H) → Same (reads made) (other made)) → Same g h
-      → Same (Decided makes part reads g) (Decided makes part other h)
-  decided_same each same = record {
-    there = decided_as each same;
-    back = decided_as (λ made. same_sym (each made)) (same_sym same);
+      → Same (FlatMapped makes part reads g) (FlatMapped makes part other h)
+  flat_mapped_same each same = record {
+    there = flat_mapped_as each same;
+    back = flat_mapped_as (λ made. same_sym (each made)) (same_sym same);
   }

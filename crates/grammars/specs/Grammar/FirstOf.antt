@@ -2,7 +2,7 @@
 use Rattle.std.specs.Prelude.{List, [], ◌∷◌}
 use Rattle.std.specs.List.{All}
 use Rattle.std.proofs.lemmas.List.Elements.{All-head, All-tail}
-use Rattle.grammars.specs.Grammar.{Either, Grammar, Never, Takes}
+use Rattle.grammars.specs.Grammar.{Either, Grammar, Never, TakesTokens}
 use Rattle.grammars.specs.Grammar.Alike.{either_same}
 use Rattle.grammars.specs.Grammar.Same.{Same, same_refl}
 use Rattle.grammars.specs.Grammar.Unique.{either_takes}
@@ -19,9 +19,9 @@ FirstOf grammar (p ∷ rest) = FirstFrom grammar p rest
 
 -- Tokens are taken where each branch takes some.
 module _ {P T O : Type 0} (grammar : P → Grammar T O) (premise backtracks consumes : P → Type 0)
-    (takes : (p : P) → premise p → consumes p → Takes (grammar p)) where
+    (takes : (p : P) → premise p → consumes p → TakesTokens (grammar p)) where
   from_takes : (p : P) (rest : List P) → All (λ q. premise q × backtracks q) (p ∷ rest)
-      → All consumes (p ∷ rest) → Takes (FirstFrom grammar p rest)
+      → All consumes (p ∷ rest) → TakesTokens (FirstFrom grammar p rest)
   from_takes p [] each some =
       let known = All-head (λ q. premise q × backtracks q) p [] each in
       takes p known.0 (All-head consumes p [] some)
@@ -32,7 +32,7 @@ module _ {P T O : Type 0} (grammar : P → Grammar T O) (premise backtracks cons
       (All-tail consumes p (q ∷ rest) some))
 
   pub first_of_takes : (branches : List P) → All (λ q. premise q × backtracks q) branches
-      → All consumes branches → Takes (FirstOf grammar branches)
+      → All consumes branches → TakesTokens (FirstOf grammar branches)
   unfolding Never
   first_of_takes [] each some = record { fewer = λ tokens o rest none. absurd none }
   first_of_takes (p ∷ rest) each some = from_takes p rest each some

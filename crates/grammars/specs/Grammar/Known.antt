@@ -8,7 +8,7 @@ use Rattle.streams.specs.Equal.{none_is_some}
 use Rattle.stream_sets.specs.Range.{IsBelow, bounds_of, from_to}
 use Rattle.stream_sets.specs.declared.range.Range.{Range}
 use Rattle.grammars.specs.Grammar.{Each, Gathered, Grammar, IsUnique, Literally, Many, NoneStands}
-use Rattle.grammars.specs.Grammar.{Repeated, Takes}
+use Rattle.grammars.specs.Grammar.{Repeated, TakesTokens}
 use Rattle.grammars.specs.Grammar.Same.{Same}
 use Rattle.grammars.specs.Grammar.Unique.{literally_takes, literally_unique}
 pub mod Sets
@@ -40,7 +40,7 @@ pub byte_unique : (x : ℕ) → IsUnique (Byte x)
 byte_unique x =
     literally_unique counted_reading (λ b xs. xs ≡ b ∷ []) (λ b _. b) x (same_units x)
 
-pub byte_takes : (x : ℕ) → Takes (Byte x)
+pub byte_takes : (x : ℕ) → TakesTokens (Byte x)
 byte_takes x =
     literally_takes counted_reading (λ b xs. xs ≡ b ∷ []) (λ b _. b) x
     (λ e. omega (arith, ap (λ l. length l) e))

@@ -2,7 +2,7 @@
 use Rattle.std.specs.Prelude.{◌≡◌, ℕ, List, [], ◌∷◌, ◌++◌, length}
 use Rattle.std.proofs.Common.{refl, sym, ap, subst, ◌∙◌, arith}
 use Rattle.streams.specs.Equal.{same_first, same_others}
-use Rattle.grammars.specs.Grammar.{Each, Grammar, IsUnique, Takes}
+use Rattle.grammars.specs.Grammar.{Each, Grammar, IsUnique, TakesTokens}
 use Rattle.grammars.specs.Grammar.Alike.{each_as}
 use Rattle.grammars.specs.Grammar.Same.{Same, same_sym}
 use Rattle.grammars.specs.Grammar.Unique.{each_ends, end_of_end, no_longer_than}
@@ -45,7 +45,7 @@ module _ {T N O : Type 0} (number : N → ℕ) (behind : ℕ → Grammar T O) {g
   }
 
   -- a length that takes tokens takes some with what stands behind it
-  pub sized_takes : Takes g → Takes (Sized number behind g)
+  pub sized_takes : TakesTokens g → TakesTokens (Sized number behind g)
   unfolding Sized
   sized_takes takes = record {
     fewer = λ tokens o rest (n, mid, x, y). omega (
@@ -96,12 +96,12 @@ module _ {T O : Type 0} {g : Grammar T O} (unique : IsUnique g) where
 
 -- a length that takes tokens takes some with a parser's or with items behind it
 module _ {T N O : Type 0} (number : N → ℕ) {g : Grammar T N} where
-  pub sized_inside_takes : (h : Grammar T O) → IsUnique g → Takes g
-      → Takes (Sized number (Inside h) g)
+  pub sized_inside_takes : (h : Grammar T O) → IsUnique g → TakesTokens g
+      → TakesTokens (Sized number (Inside h) g)
   sized_inside_takes h first takes = sized_takes number (Inside h) first (inside_unique h) takes
 
   pub sized_times_takes : {C : Type 0} (holds : C → List O → Type 0) {h : Grammar T O}
-      → IsUnique h → IsUnique g → Takes g → Takes (Sized number (Times holds h) g)
+      → IsUnique h → IsUnique g → TakesTokens g → TakesTokens (Sized number (Times holds h) g)
   sized_times_takes holds {h} each first takes =
       sized_takes number (Times holds h) first (times_unique each holds) takes
 

@@ -1,6 +1,6 @@
 -- What outputs mean: values of another type, made of them by no part of a parser.
 use Rattle.std.specs.Prelude.{◌↔◌, List}
-use Rattle.grammars.specs.Grammar.{Grammar, IsUnique, Made, NoneStands, Takes}
+use Rattle.grammars.specs.Grammar.{Grammar, IsUnique, Made, NoneStands, TakesTokens}
 use Rattle.grammars.specs.Grammar.Same.{Same}
 use Rattle.grammars.specs.Grammar.Unique.{made_of_takes, made_unique}
 
@@ -12,8 +12,8 @@ pub meaning_unique : {T O U : Type 0} (means : O → U → Type 0) {g : Grammar 
     → IsUnique (Meaning means g)
 meaning_unique {T} {O} {U} means unique = made_unique (λ (_ : Unit {0}) o u. means o u) tt unique
 
-pub meaning_takes : {T O U : Type 0} (means : O → U → Type 0) {g : Grammar T O} → Takes g
-    → Takes (Meaning means g)
+pub meaning_takes : {T O U : Type 0} (means : O → U → Type 0) {g : Grammar T O} → TakesTokens g
+    → TakesTokens (Meaning means g)
 meaning_takes {T} {O} {U} means some = made_of_takes (λ (_ : Unit {0}) o u. means o u) tt some
 
 -- what is made of an output, where that is what the output means

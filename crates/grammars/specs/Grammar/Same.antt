@@ -1,6 +1,6 @@
 -- Grammars by which the same stands.
 use Rattle.std.specs.Prelude.{List}
-use Rattle.grammars.specs.Grammar.{Grammar, IsUnique, NoneStands, Takes}
+use Rattle.grammars.specs.Grammar.{Grammar, IsUnique, NoneStands, TakesTokens}
 
 -- Two grammars by which the same stands.
 pub record Same {T O : Type 0} (first second : Grammar T O) : Type 0 where
@@ -33,7 +33,7 @@ unique_as same unique = record {
       (same.back tokens o rest x) (same.back tokens p other y);
 }
 
-pub takes_as : {T O : Type 0} {g h : Grammar T O} → Same g h → Takes g → Takes h
+pub takes_as : {T O : Type 0} {g h : Grammar T O} → Same g h → TakesTokens g → TakesTokens h
 takes_as same takes = record {
   fewer = λ tokens o rest x. takes.fewer tokens o rest (same.back tokens o rest x);
 }

@@ -24,14 +24,14 @@ Before {T} reading sought bounds tokens slice rest =
     × IsWithin bounds.greatest (length front) × reading.shows slice front
 
 -- A text of these bytes.
-abbrev pub Text : {T L : Type 0} → Reading T L → (Bor (List ℕ) → List T → Type 0) → List ℕ
+abbrev pub LiterallyBytes : {T L : Type 0} → Reading T L → (Bor (List ℕ) → List T → Type 0) → List ℕ
     → Grammar T L
-Text reading spells = Literally reading (SpelledBy spells) (λ _ slice. slice)
+LiterallyBytes reading spells = Literally reading (SpelledBy spells) (λ _ slice. slice)
 
 -- A line feed, or a carriage return and a line feed.
 abbrev pub LineEnd : {T L : Type 0} → Reading T L → (Bor (List ℕ) → List T → Type 0) → Grammar T L
 LineEnd reading spells =
-    Either (Text reading spells (10 ∷ [])) (Text reading spells (13 ∷ 10 ∷ []))
+    Either (LiterallyBytes reading spells (10 ∷ [])) (LiterallyBytes reading spells (13 ∷ 10 ∷ []))
 
 -- Neither a carriage return nor a line feed stands anywhere, where `sought` says for which lists a
 -- pair of characters is searched.

@@ -1,7 +1,7 @@
 -- Sequences of three and four: that they leave one rest, and when they take tokens.
 use Rattle.std.specs.Prelude.{◌⊎◌, List}
 use Rattle.std.proofs.Common.{subst, inl, inr, arith}
-use Rattle.grammars.specs.Grammar.{Grammar, IsUnique, Takes, Three}
+use Rattle.grammars.specs.Grammar.{Grammar, IsUnique, TakesTokens, Three}
 use Rattle.grammars.specs.Grammar.Tuples.{Four}
 use Rattle.grammars.specs.Grammar.Unique.{end_of_end, no_longer_than}
 
@@ -21,8 +21,9 @@ module _ {T O1 O2 O3 O : Type 0} (output : O1 → O2 → O3 → O) {g1 : Grammar
   }
 
   -- where one of them takes tokens, so do all
-  pub three_take : IsUnique g1 → IsUnique g2 → IsUnique g3 → Takes g1 ⊎ (Takes g2 ⊎ Takes g3)
-      → Takes (Three output g1 g2 g3)
+  pub three_take : IsUnique g1 → IsUnique g2 → IsUnique g3
+      → TakesTokens g1 ⊎ (TakesTokens g2 ⊎ TakesTokens g3)
+      → TakesTokens (Three output g1 g2 g3)
   unfolding Three
   three_take first second third some = record {
     fewer = λ tokens o rest (o1, o2, o3, a, b, x, y, z, e).
@@ -58,7 +59,8 @@ module _ {T O1 O2 O3 O4 : Type 0} {g1 : Grammar T O1} {g2 : Grammar T O2} {g3 : 
   }
 
   -- where one of them takes tokens, so do all
-  pub four_take : Takes g1 ⊎ (Takes g2 ⊎ (Takes g3 ⊎ Takes g4)) → Takes (Four g1 g2 g3 g4)
+  pub four_take : TakesTokens g1 ⊎ (TakesTokens g2 ⊎ (TakesTokens g3 ⊎ TakesTokens g4))
+      → TakesTokens (Four g1 g2 g3 g4)
   unfolding Four
   four_take some = record {
     fewer = λ tokens o rest (o1, o2, o3, o4, a, b, c, x, y, z, w, e).

@@ -3,7 +3,7 @@ use Rattle.std.specs.Prelude.{◌≡◌, ◌<◌, ◌+◌, List, [], ◌∷◌, 
 use Rattle.std.proofs.Common.{sym, ap, subst, ◌∙◌, arith, length-append}
 use Rattle.stream_sets.specs.Range.{Bounds, IsWithin, bounds_of}
 use Rattle.stream_sets.specs.declared.range.Range.{Range}
-use Rattle.grammars.specs.Grammar.{Each, Grammar, IsUnique, NoneStands, Takes}
+use Rattle.grammars.specs.Grammar.{Each, Grammar, IsUnique, NoneStands, TakesTokens}
 use Rattle.grammars.specs.Grammar.Unique.{each_ends, end_of_end}
 
 -- An item stands, and no terminator.
@@ -108,8 +108,8 @@ module _ {T O D : Type 0} (item : Grammar T O) (till : Grammar T D) (unique : Is
   }
 
   -- a terminator that takes tokens takes some
-  pub till_takes : {C : Type 0} (holds : C → List O → Type 0) (range : Range) → Takes till
-      → Takes (Till holds range item till)
+  pub till_takes : {C : Type 0} (holds : C → List O → Type 0) (range : Range) → TakesTokens till
+      → TakesTokens (Till holds range item till)
   unfolding Till UpTo
   till_takes holds range takes = record {
     fewer = λ tokens o rest

@@ -7,8 +7,8 @@ use Rattle.streams.specs.Reading.{Reading, units-nil}
 use Rattle.stream_sets.specs.Range.{Bounds, IsBelow, bounds_of}
 use Rattle.stream_sets.specs.declared.range.Range.{Range}
 use Rattle.grammars.specs.Grammar.{Ahead, Both, Each, Either, Gathered, Grammar, IsUnique}
-use Rattle.grammars.specs.Grammar.{Literally, Made, Many, Maybe, NoneStands, Parted, Repeated}
-use Rattle.grammars.specs.Grammar.{Stops, Taken, Takes, Token, TokenOf, Nothing}
+use Rattle.grammars.specs.Grammar.{Literally, Made, Many, Optional, NoneStands, Parted, Repeated}
+use Rattle.grammars.specs.Grammar.{Stops, Taken, TakesTokens, Token, TokenOf, Nothing}
 
 -- what is left behind what stands is no longer than the tokens
 pub no_longer_than : {T O : Type 0} {g : Grammar T O} → IsUnique g → (tokens : List T) (o : O)
@@ -46,7 +46,7 @@ module _ {S T L O : Type 0} (reading : Reading T L) (spelled : S → List T → 
   }
 
   -- one that no empty list spells takes tokens
-  pub literally_takes : (spelled s [] → ⊥) → Takes (Literally reading spelled output s)
+  pub literally_takes : (spelled s [] → ⊥) → TakesTokens (Literally reading spelled output s)
   unfolding Literally
   literally_takes some = record { fewer = fewer }
     where
@@ -125,7 +125,7 @@ module _ {T O1 O2 O : Type 0} (output : O1 → O2 → O) {g1 : Grammar T O1} {g2
         second.one mid2 o2 p2 rest other (subst P (first.one tokens o1 p1 mid mid2 x z) y) w;
   }
 
-  pub both_take : Takes g1 ⊎ Takes g2 → Takes (Both output g1 g2)
+  pub both_take : TakesTokens g1 ⊎ TakesTokens g2 → TakesTokens (Both output g1 g2)
   unfolding Both
   both_take (inl takes) = record {
     fewer = λ tokens o rest (o1, o2, mid, x, y, e).
@@ -158,8 +158,8 @@ module _ {T O : Type 0} {g1 g2 : Grammar T O} (first : IsUnique g1) (second : Is
     one = either_one;
   }
 
-pub either_takes : {T O : Type 0} {g1 g2 : Grammar T O} → Takes g1 → Takes g2
-    → Takes (Either g1 g2)
+pub either_takes : {T O : Type 0} {g1 g2 : Grammar T O} → TakesTokens g1 → TakesTokens g2
+    → TakesTokens (Either g1 g2)
 unfolding Either
 either_takes first second = record {
   fewer = λ tokens o rest it. elim it [
@@ -169,23 +169,23 @@ either_takes first second = record {
 }
 
 module _ {T O : Type 0} {g : Grammar T O} (unique : IsUnique g) where
-  maybe_one : (tokens : List T) (o p : Option O) (rest other : List T) → Maybe g tokens o rest
-      → Maybe g tokens p other → rest ≡ other
-  unfolding Maybe
-  maybe_one tokens o p rest other (inl (x, e, a)) (inl (y, d, b)) =
+  optional_one : (tokens : List T) (o p : Option O) (rest other : List T) → Optional g tokens o rest
+      → Optional g tokens p other → rest ≡ other
+  unfolding Optional
+  optional_one tokens o p rest other (inl (x, e, a)) (inl (y, d, b)) =
       unique.one tokens x y rest other a b
-  maybe_one tokens o p rest other (inl (x, e, a)) (inr (d, n, same)) = absurd (n x rest a)
-  maybe_one tokens o p rest other (inr (e, n, same)) (inl (y, d, b)) = absurd (n y other b)
-  maybe_one tokens o p rest other (inr (e, n, same)) (inr (d, m, is)) = same ∙ sym is
+  optional_one tokens o p rest other (inl (x, e, a)) (inr (d, n, same)) = absurd (n x rest a)
+  optional_one tokens o p rest other (inr (e, n, same)) (inl (y, d, b)) = absurd (n y other b)
+  optional_one tokens o p rest other (inr (e, n, same)) (inr (d, m, is)) = same ∙ sym is
 
-  pub maybe_unique : IsUnique (Maybe g)
-  unfolding Maybe
-  maybe_unique = record {
+  pub optional_unique : IsUnique (Optional g)
+  unfolding Optional
+  optional_unique = record {
     ends = λ tokens o rest it. elim it [
       | inl (x, e, y) ↦ unique.ends tokens x rest y
       | inr (e, n, same) ↦ ([], sym same)
     ];
-    one = maybe_one;
+    one = optional_one;
   }
 
 -- ---- repetitions
@@ -271,8 +271,8 @@ repeated_unique holds range unique =
 
 -- one or more of what takes tokens take some
 pub repeated_take : {T O C : Type 0} (holds : C → List O → Type 0) (range : Range)
-    {g : Grammar T O} → IsUnique g → Takes g → ◌<◌ 0 (bounds_of range).least
-    → Takes (Repeated holds range g)
+    {g : Grammar T O} → IsUnique g → TakesTokens g → ◌<◌ 0 (bounds_of range).least
+    → TakesTokens (Repeated holds range g)
 unfolding Gathered Many
 repeated_take {T} {O} holds range {g} unique takes some = record {
   fewer = λ tokens all rest (os, held, (each, enough, stops)).
@@ -327,7 +327,7 @@ module _ {T O D : Type 0} {g : Grammar T O} {h : Grammar T D} (element : IsUniqu
   parted_unique = record { ends = parted_ends; one = parted_one }
 
   -- one or more elements that take tokens take some
-  pub parted_takes : Takes g → 0 < bounds.least → Takes (Parted g h bounds)
+  pub parted_takes : TakesTokens g → 0 < bounds.least → TakesTokens (Parted g h bounds)
   unfolding Parted
   parted_takes takes some = record { fewer = fewer }
     where
@@ -340,7 +340,7 @@ module _ {T O D : Type 0} {g : Grammar T O} {h : Grammar T D} (element : IsUniqu
           omega (arith, takes.fewer tokens o mid x, ap length e, length-append front rest)
 
 pub gathered_takes : {T O C : Type 0} (holds : C → List O → Type 0) {g : Grammar T (List O)}
-    → Takes g → Takes (Gathered holds g)
+    → TakesTokens g → TakesTokens (Gathered holds g)
 unfolding Gathered
 gathered_takes holds takes = record {
   fewer = λ tokens all rest (os, held, x). takes.fewer tokens os rest x;
@@ -353,11 +353,11 @@ MadeBy {T} {O} makes grammar tokens u rest =
     (o : O) × grammar tokens o rest × makes tokens o rest u
 
 pub made_takes : {T O U : Type 0} {g : Grammar T O}
-    (makes : List T → O → List T → U → Type 0) → Takes g → Takes (MadeBy makes g)
+    (makes : List T → O → List T → U → Type 0) → TakesTokens g → TakesTokens (MadeBy makes g)
 made_takes makes some = record { fewer = λ tokens u rest (o, x, m). some.fewer tokens o rest x }
 
 pub made_of_takes : {F T O U : Type 0} {g : Grammar T O} (makes : F → O → U → Type 0) (f : F)
-    → Takes g → Takes (Made makes f g)
+    → TakesTokens g → TakesTokens (Made makes f g)
 unfolding Made
 made_of_takes makes f some = made_takes (λ tokens o rest u. makes f o u) some
 

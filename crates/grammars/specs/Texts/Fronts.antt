@@ -4,9 +4,12 @@ use Rattle.std.specs.List.{All}
 use Rattle.std.proofs.Common.{refl, sym, ap, subst, inl, inr, ◌∙◌, arith, append_assoc}
 use Rattle.streams.specs.Reading.{Reading}
 use Rattle.grammars.specs.Grammar.{Grammar, NoneStands}
-use Rattle.grammars.specs.Texts.{Among, Anything, AtEnd, Begins, BeginsIn, Holding, InFront}
-use Rattle.grammars.specs.Texts.{InList, IsGrammarOf, MayBegin, MayBeginIn, Members, NotFirst, Of}
-use Rattle.grammars.specs.Texts.{OneOf, Perhaps, Row, Shown, Spelled, Text, Then}
+use Rattle.grammars.specs.Texts.{EitherText, Anything, AtEnd, Begins, BeginsIn, GatheredText}
+use Rattle.grammars.specs.Texts.{InFront}
+use Rattle.grammars.specs.Texts.{InList, IsGrammarOf, MayBegin, MayBeginIn, Members, NotFirst}
+use Rattle.grammars.specs.Texts.{MadeText}
+use Rattle.grammars.specs.Texts.{TokenOfText, OptionalText, EachText, TakenText, Spelled, Text}
+use Rattle.grammars.specs.Texts.{BothText}
 
 -- ---- tokens
 
@@ -99,10 +102,10 @@ spelled_begins t ts o = record {
       let P : List _ → Type 0 = λ l. Begins (λ s. s ≡ t) (l ++ rest) in subst P (sym e) refl;
 }
 
-pub one_of_begins : {K T : Type 0} (seen : K → T) (these : K → Type 0)
-    → BeginsIn (λ t. (k : K) × (seen k ≡ t) × these k) (OneOf seen these)
-unfolding OneOf
-one_of_begins {K} {T} seen these = record {
+pub token_of_begins : {K T : Type 0} (seen : K → T) (these : K → Type 0)
+    → BeginsIn (λ t. (k : K) × (seen k ≡ t) × these k) (TokenOfText seen these)
+unfolding TokenOfText
+token_of_begins {K} {T} seen these = record {
   makes = λ k xs rest (is, e) b.
       let P : List T → Type 0 = λ l. Begins (λ t. (k : K) × (seen k ≡ t) × these k) (l ++ rest) in
       subst P (sym e) (k, refl, is);
@@ -127,11 +130,11 @@ module _ {T L : Type 0} (reading : Reading T L) (these : T → Type 0) where
       first [] rest all b = b
       first (x ∷ xs) rest all b = all 0 x (omega arith)
 
-pub then_front : {T O1 O2 O : Type 0} (output : O1 → O2 → O) {first : Text T O1}
+pub both_front : {T O1 O2 O : Type 0} (output : O1 → O2 → O) {first : Text T O1}
     {second : Text T O2} {behind mid whole : List T → Type 0} → InFront first mid whole
-    → InFront second behind mid → InFront (Then output first second) behind whole
-unfolding Then
-then_front {T = T} output {whole = whole} f g = record {
+    → InFront second behind mid → InFront (BothText output first second) behind whole
+unfolding BothText
+both_front {T = T} output {whole = whole} f g = record {
   makes = λ o tokens rest (o1, o2, xs, ys, x, y, e, out) b.
       let P : List T → Type 0 = λ l. whole l in
       subst P (sym (append_assoc xs ys rest) ∙ ap (λ l. l ++ rest) (sym e))
@@ -139,10 +142,10 @@ then_front {T = T} output {whole = whole} f g = record {
 }
 
 module _ {T : Type 0} {behind whole : List T → Type 0} where
-  pub among_front : {O : Type 0} {first second : Text T O} → InFront first behind whole
-      → InFront second behind whole → InFront (Among first second) behind whole
-  unfolding Among
-  among_front f g = record {
+  pub either_front : {O : Type 0} {first second : Text T O} → InFront first behind whole
+      → InFront second behind whole → InFront (EitherText first second) behind whole
+  unfolding EitherText
+  either_front f g = record {
     makes = λ o xs rest it b. elim it [
       | inl x ↦ f.makes o xs rest x b
       | inr y ↦ g.makes o xs rest y b
@@ -150,14 +153,14 @@ module _ {T : Type 0} {behind whole : List T → Type 0} where
   }
 
   pub of_front : {F O U : Type 0} (makes : F → O → U → Type 0) (part : F) {text : Text T O}
-      → InFront text behind whole → InFront (Of makes part text) behind whole
-  unfolding Of
+      → InFront text behind whole → InFront (MadeText makes part text) behind whole
+  unfolding MadeText
   of_front makes part f = record { makes = λ u xs rest (o, x, made) b. f.makes o xs rest x b }
 
-  pub holding_front : {O C : Type 0} (holds : C → List O → Type 0) {text : Text T (List O)}
-      → InFront text behind whole → InFront (Holding holds text) behind whole
-  unfolding Holding
-  holding_front holds f = record {
+  pub gathered_front : {O C : Type 0} (holds : C → List O → Type 0) {text : Text T (List O)}
+      → InFront text behind whole → InFront (GatheredText holds text) behind whole
+  unfolding GatheredText
+  gathered_front holds f = record {
     makes = λ u xs rest (os, held, x) b. f.makes os xs rest x b;
   }
 
@@ -166,32 +169,32 @@ module _ {T : Type 0} {behind whole : List T → Type 0} where
   unfolding InList
   in_list_front f = record { makes = λ list xs rest x b. f.makes list.items xs rest x b }
 
-  pub shown_front : {L O : Type 0} (reading : Reading T L) {text : Text T O}
-      → InFront text behind whole → InFront (Shown reading text) behind whole
-  unfolding Shown
-  shown_front reading f = record {
+  pub taken_front : {L O : Type 0} (reading : Reading T L) {text : Text T O}
+      → InFront text behind whole → InFront (TakenText reading text) behind whole
+  unfolding TakenText
+  taken_front reading f = record {
     makes = λ u xs rest (o, x, shown) b. f.makes o xs rest x b;
   }
 
 -- a text that may be left out makes such tokens of such tokens, where the text does
-pub perhaps_front : {T O : Type 0} {text : Text T O} {behind : List T → Type 0}
-    → InFront text behind behind → InFront (Perhaps text) behind behind
-unfolding Perhaps
-perhaps_front {T} {O} {text} {behind} front = record { makes = makes }
+pub optional_front : {T O : Type 0} {text : Text T O} {behind : List T → Type 0}
+    → InFront text behind behind → InFront (OptionalText text) behind behind
+unfolding OptionalText
+optional_front {T} {O} {text} {behind} front = record { makes = makes }
   where
-    makes : (o : Option O) (xs rest : List T) → Perhaps text o xs → behind rest
+    makes : (o : Option O) (xs rest : List T) → OptionalText text o xs → behind rest
         → behind (xs ++ rest)
     makes None xs rest e b =
         let P : List T → Type 0 = λ l. behind (l ++ rest) in subst P (sym e) b
     makes (Some o) xs rest x b = front.makes o xs rest x b
 
 -- and so do rows of it
-pub row_front : {T O : Type 0} {text : Text T O} {behind : List T → Type 0}
-    → InFront text behind behind → InFront (Row text) behind behind
-unfolding Row
-row_front {T} {O} {text} {behind} front = record { makes = makes }
+pub each_front : {T O : Type 0} {text : Text T O} {behind : List T → Type 0}
+    → InFront text behind behind → InFront (EachText text) behind behind
+unfolding EachText
+each_front {T} {O} {text} {behind} front = record { makes = makes }
   where
-    makes : (os : List O) (tokens rest : List T) → Row text os tokens → behind rest
+    makes : (os : List O) (tokens rest : List T) → EachText text os tokens → behind rest
         → behind (tokens ++ rest)
     makes [] tokens rest e b =
         let P : List T → Type 0 = λ l. behind (l ++ rest) in subst P (sym e) b

@@ -3,12 +3,14 @@ use Rattle.std.specs.Prelude.{◌≡◌, List, [], ◌++◌, Option, Some, None}
 use Rattle.std.proofs.Common.{refl, sym, ap, subst, inl, inr, ◌∙◌, append_assoc}
 use Rattle.std.proofs.lemmas.List.{append_cancel_right}
 use Rattle.streams.specs.Reading.{Reading}
-use Rattle.grammars.specs.Grammar.{AndTaken, Both, Either, Grammar, Made, Maybe, NoneStands, Taken}
+use Rattle.grammars.specs.Grammar.{AndTaken, Both, Either, Grammar, Made, Optional, NoneStands}
+use Rattle.grammars.specs.Grammar.{Taken}
 use Rattle.grammars.specs.Grammar.{Three}
 use Rattle.grammars.specs.Grammar.Same.{Same}
-use Rattle.grammars.specs.Texts.{Among, AndShown, BeginsIn, InFront, IsGrammarOf, NotFirst, Of}
-use Rattle.grammars.specs.Texts.{Perhaps, Shown, Text, Then}
-use Rattle.grammars.specs.Texts.Fronts.{front_whole, none_begins, then_front}
+use Rattle.grammars.specs.Texts.{EitherText, AndTakenText, BeginsIn, InFront, IsGrammarOf, NotFirst}
+use Rattle.grammars.specs.Texts.{MadeText}
+use Rattle.grammars.specs.Texts.{OptionalText, TakenText, Text, BothText}
+use Rattle.grammars.specs.Texts.Fronts.{front_whole, none_begins, both_front}
 
 -- ---- the same in other words
 
@@ -45,8 +47,8 @@ text_of there back is = record {
 pub both_of : {T O1 O2 O : Type 0} (output : O1 → O2 → O) {g1 : Grammar T O1} {g2 : Grammar T O2}
     {first : Text T O1} {second : Text T O2} {mid follow : List T → Type 0}
     → IsGrammarOf g1 first mid → IsGrammarOf g2 second follow → InFront second follow mid
-    → IsGrammarOf (Both output g1 g2) (Then output first second) follow
-unfolding Both Then
+    → IsGrammarOf (Both output g1 g2) (BothText output first second) follow
+unfolding Both BothText
 both_of {T = T} {O = O} output {g1} {g2} {first} {second} {follow = follow} one two front = record {
   there = λ tokens o rest (o1, o2, middle, x, y, out).
       let (xs, e, a) = one.there tokens o1 middle x in
@@ -58,7 +60,7 @@ both_of {T = T} {O = O} output {g1} {g2} {first} {second} {follow = follow} one 
   back = back;
 }
   where
-    back : (o : O) (tokens rest : List T) → Then output first second o tokens → follow rest
+    back : (o : O) (tokens rest : List T) → BothText output first second o tokens → follow rest
         → Both output g1 g2 (tokens ++ rest) o rest
     back o tokens rest (o1, o2, xs, ys, a, b, e, out) behind =
         let P : List T → Type 0 = λ l. Both output g1 g2 l o rest in
@@ -89,18 +91,18 @@ module _ {T O1 O2 O3 P O : Type 0} (outer : O1 → P → O) (inner : O2 → O3 �
       → IsGrammarOf g1 first near → IsGrammarOf g2 second mid → IsGrammarOf g3 third follow
       → InFront second mid near → InFront third follow mid
       → IsGrammarOf (Three (λ o1 o2 o3. outer o1 (inner o2 o3)) g1 g2 g3)
-      (Then outer first (Then inner second third)) follow
+      (BothText outer first (BothText inner second third)) follow
   three_of {g1} {g2} {g3} one two three before between =
       same_of (three_same g1 g2 g3)
-      (both_of outer one (both_of inner two three between) (then_front inner before between))
+      (both_of outer one (both_of inner two three between) (both_front inner before between))
 
 -- ---- one or the other
 
 pub either_of : {T O : Type 0} {g1 g2 : Grammar T O} {first second : Text T O}
     {follow : List T → Type 0} → IsGrammarOf g1 first follow → IsGrammarOf g2 second follow
     → InFront second follow (NoneStands g1)
-    → IsGrammarOf (Either g1 g2) (Among first second) follow
-unfolding Either Among
+    → IsGrammarOf (Either g1 g2) (EitherText first second) follow
+unfolding Either EitherText
 either_of one two never = record {
   there = λ tokens o rest it. elim it [
     | inl x ↦ let (front, e, a) = one.there tokens o rest x in (front, e, inl a)
@@ -116,29 +118,30 @@ either_of one two never = record {
 pub either_apart : {T O : Type 0} {g1 g2 : Grammar T O} {first second : Text T O}
     {follow : List T → Type 0} {these : T → Type 0} → IsGrammarOf g1 first follow
     → IsGrammarOf g2 second follow → BeginsIn these first → InFront second follow (NotFirst these)
-    → IsGrammarOf (Either g1 g2) (Among first second) follow
+    → IsGrammarOf (Either g1 g2) (EitherText first second) follow
 either_apart one two begins outside =
     either_of one two (front_whole (none_begins one begins) outside)
 
 -- it or nothing: behind nothing it does not stand
-pub maybe_of : {T O : Type 0} {g : Grammar T O} {text : Text T O} {follow : List T → Type 0}
+pub optional_of : {T O : Type 0} {g : Grammar T O} {text : Text T O} {follow : List T → Type 0}
     → IsGrammarOf g text follow → ((rest : List T) → follow rest → NoneStands g rest)
-    → IsGrammarOf (Maybe g) (Perhaps text) follow
-unfolding Maybe Perhaps
-maybe_of {T} {O} {g} {text} {follow} is never = record { there = there; back = back }
+    → IsGrammarOf (Optional g) (OptionalText text) follow
+unfolding Optional OptionalText
+optional_of {T} {O} {g} {text} {follow} is never = record { there = there; back = back }
   where
-    there : (tokens : List T) (o : Option O) (rest : List T) → Maybe g tokens o rest
-        → (front : List T) × (tokens ≡ front ++ rest) × Perhaps text o front
+    there : (tokens : List T) (o : Option O) (rest : List T) → Optional g tokens o rest
+        → (front : List T) × (tokens ≡ front ++ rest) × OptionalText text o front
     there tokens o rest (inl (x, e, it)) =
         let (front, d, a) = is.there tokens x rest it in
-        let P : Option O → Type 0 = λ p. Perhaps text p front in (front, d, subst P (sym e) a)
+        let P : Option O → Type 0 = λ p. OptionalText text p front in (front, d, subst P (sym e) a)
     there tokens o rest (inr (e, none, same)) =
-        let P : Option O → Type 0 = λ p. Perhaps text p [] in ([], sym same, subst P (sym e) refl)
+        let P : Option O → Type 0 =
+        λ p. OptionalText text p [] in ([], sym same, subst P (sym e) refl)
 
-    back : (o : Option O) (front rest : List T) → Perhaps text o front → follow rest
-        → Maybe g (front ++ rest) o rest
+    back : (o : Option O) (front rest : List T) → OptionalText text o front → follow rest
+        → Optional g (front ++ rest) o rest
     back None front rest e behind =
-        let P : List T → Type 0 = λ l. Maybe g (l ++ rest) None rest in
+        let P : List T → Type 0 = λ l. Optional g (l ++ rest) None rest in
         subst P (sym e) (inr (refl, never rest behind, refl))
     back (Some x) front rest a behind = inl (x, refl, is.back x front rest a behind)
 
@@ -146,8 +149,8 @@ maybe_of {T} {O} {g} {text} {follow} is never = record { there = there; back = b
 
 pub made_of : {F T O U : Type 0} (makes : F → O → U → Type 0) (part : F) {g : Grammar T O}
     {text : Text T O} {follow : List T → Type 0} → IsGrammarOf g text follow
-    → IsGrammarOf (Made makes part g) (Of makes part text) follow
-unfolding Made Of
+    → IsGrammarOf (Made makes part g) (MadeText makes part text) follow
+unfolding Made MadeText
 made_of makes part is = record {
   there = λ tokens u rest (o, x, made).
       let (front, e, a) = is.there tokens o rest x in (front, e, (o, a, made));
@@ -156,8 +159,8 @@ made_of makes part is = record {
 
 pub taken_of : {T L O : Type 0} (reading : Reading T L) {g : Grammar T O} {text : Text T O}
     {follow : List T → Type 0} → IsGrammarOf g text follow
-    → IsGrammarOf (Taken reading g) (Shown reading text) follow
-unfolding Taken Shown
+    → IsGrammarOf (Taken reading g) (TakenText reading text) follow
+unfolding Taken TakenText
 taken_of {T = T} reading {text = text} is = record {
   there = λ tokens slice rest (o, x, (xs, d, shown)).
       let (front, e, a) = is.there tokens o rest x in
@@ -169,8 +172,8 @@ taken_of {T = T} reading {text = text} is = record {
 
 pub and_taken_of : {T L O : Type 0} (reading : Reading T L) {g : Grammar T O} {text : Text T O}
     {follow : List T → Type 0} → IsGrammarOf g text follow
-    → IsGrammarOf (AndTaken reading g) (AndShown reading text) follow
-unfolding AndTaken AndShown
+    → IsGrammarOf (AndTaken reading g) (AndTakenText reading text) follow
+unfolding AndTaken AndTakenText
 and_taken_of {T = T} {O = O} reading {g} {text} is = record {
   there = λ tokens both rest (o, x, (same, (xs, d, shown))).
       let (front, e, a) = is.there tokens o rest x in

@@ -5,16 +5,17 @@ use Rattle.std.proofs.Common.{refl, sym, ap, subst, inr, ◌∙◌, arith, appen
 use Rattle.stream_sets.specs.Range.{Bounds, IsBelow, from_to}
 use Rattle.grammars.specs.Grammar.{Both, Each, Gathered, Grammar, Many, NoneStands, Parted}
 use Rattle.grammars.specs.Grammar.Known.{Listed}
-use Rattle.grammars.specs.Texts.{AtLeast, Holding, InFront, InList, IsGrammarOf, Joined, Row, Text}
-use Rattle.grammars.specs.Texts.{Then}
-use Rattle.grammars.specs.Texts.Fronts.{then_front}
+use Rattle.grammars.specs.Texts.{AtLeast, GatheredText, InFront, InList, IsGrammarOf, PartedText}
+use Rattle.grammars.specs.Texts.{EachText, Text}
+use Rattle.grammars.specs.Texts.{BothText}
+use Rattle.grammars.specs.Texts.Fronts.{both_front}
 use Rattle.grammars.specs.Texts.Parts.{both_of}
 
 -- what holds the outputs
 pub gathered_of : {T O C : Type 0} (holds : C → List O → Type 0) {g : Grammar T (List O)}
     {text : Text T (List O)} {follow : List T → Type 0} → IsGrammarOf g text follow
-    → IsGrammarOf (Gathered holds g) (Holding holds text) follow
-unfolding Gathered Holding
+    → IsGrammarOf (Gathered holds g) (GatheredText holds text) follow
+unfolding Gathered GatheredText
 gathered_of holds is = record {
   there = λ tokens all rest (os, held, x).
       let (front, e, a) = is.there tokens os rest x in (front, e, (os, held, a));
@@ -49,8 +50,8 @@ are_enough (suc n) text os tokens a = a
 module _ {T O : Type 0} {g : Grammar T O} {text : Text T O} {follow : List T → Type 0}
     (is : IsGrammarOf g text follow) where
   pub each_there : (os : List O) (tokens rest : List T) → Each g tokens os rest
-      → (front : List T) × (tokens ≡ front ++ rest) × Row text os front
-  unfolding Row
+      → (front : List T) × (tokens ≡ front ++ rest) × EachText text os front
+  unfolding EachText
   each_there [] tokens rest e = ([], sym e, refl)
   each_there (o ∷ os) tokens rest (mid, x, more) =
       let (xs, e, a) = is.there tokens o mid x in
@@ -62,8 +63,9 @@ module _ {T O : Type 0} {g : Grammar T O} {text : Text T O} {follow : List T →
 
   -- and behind each may stand what makes, with texts, such tokens again
   pub each_back : InFront text follow follow → (os : List O) (front rest : List T)
-      → Row text os front → follow rest → follow (front ++ rest) × Each g (front ++ rest) os rest
-  unfolding Row
+      → EachText text os front → follow rest
+      → follow (front ++ rest) × Each g (front ++ rest) os rest
+  unfolding EachText
   each_back again [] front rest e behind =
       let P : List T → Type 0 = λ l. follow (l ++ rest) in
       (subst P (sym e) behind, ap (λ l. l ++ rest) (sym e))
@@ -80,18 +82,18 @@ module _ {T O : Type 0} {g : Grammar T O} {text : Text T O} {follow : List T →
       → bounds ≡ from_to least None → InFront text follow follow
       → ((rest : List T) → ends rest → follow rest)
       → ((rest : List T) → ends rest → NoneStands g rest)
-      → IsGrammarOf (Many g bounds) (AtLeast least (Row text)) ends
+      → IsGrammarOf (Many g bounds) (AtLeast least (EachText text)) ends
   unfolding Many
   many_of {ends} bounds least any again last never = record {
     there = λ tokens os rest (each, enough, stops).
         let (front, e, a) = each_there os tokens rest each in (
           front,
           e,
-          at_least least (Row text) os front a
+          at_least least (EachText text) os front a
               (omega (arith, ap (λ b. b.least) any, enough)),
         );
     back = λ os front rest x behind.
-        let (a, enough) = are_enough least (Row text) os front x in
+        let (a, enough) = are_enough least (EachText text) os front x in
         let P : Option ℕ → Type 0 = λ g. IsBelow g (length os) in (
           (each_back again os front rest a (last rest behind)).1,
           omega (arith, ap (λ b. b.least) any, enough),
@@ -103,14 +105,14 @@ module _ {T O : Type 0} {g : Grammar T O} {text : Text T O} {follow : List T →
   pub listed_of : {A : Type 0} {ends : List T → Type 0} (least : ℕ) → InFront text follow follow
       → ((rest : List T) → ends rest → follow rest)
       → ((rest : List T) → ends rest → NoneStands g rest)
-      → IsGrammarOf (Listed {A = A} g least) (InList (AtLeast least (Row text))) ends
+      → IsGrammarOf (Listed {A = A} g least) (InList (AtLeast least (EachText text))) ends
   unfolding Listed InList
   listed_of least again last never = record {
     there = λ tokens list rest (each, enough, none).
         let (front, e, a) = each_there list.items tokens rest each in
-        (front, e, at_least least (Row text) list.items front a enough);
+        (front, e, at_least least (EachText text) list.items front a enough);
     back = λ list front rest x behind.
-        let (a, enough) = are_enough least (Row text) list.items front x in (
+        let (a, enough) = are_enough least (EachText text) list.items front x in (
           (each_back again list.items front rest a (last rest behind)).1,
           enough,
           never rest behind,
@@ -129,29 +131,29 @@ module _ {T O D : Type 0} {g : Grammar T O} {h : Grammar T D} {text : Text T O}
     (is : IsGrammarOf g text follow) (by : IsGrammarOf h separator between)
     (divides : InFront separator between follow) (goes_on : InFront text follow between) where
   -- a separator and an element
-  pub links : IsGrammarOf (Both (λ d o. o) h g) (Then (λ d o. o) separator text) follow
+  pub links : IsGrammarOf (Both (λ d o. o) h g) (BothText (λ d o. o) separator text) follow
   links = both_of (λ d o. o) by is goes_on
 
   pub parted_of : {ends : List T → Type 0} (bounds : Bounds) (least : ℕ)
       → bounds ≡ from_to least None → ((rest : List T) → ends rest → follow rest)
       → ((rest : List T) → ends rest → NoneStands h rest)
       → ((rest : List T) → least ≡ 0 → ends rest → NoneStands g rest)
-      → IsGrammarOf (Parted g h bounds) (AtLeast least (Joined separator text)) ends
-  unfolding Parted Joined
+      → IsGrammarOf (Parted g h bounds) (AtLeast least (PartedText separator text)) ends
+  unfolding Parted PartedText
   parted_of {ends} bounds least any last never none = record { there = there; back = back }
     where
       there : (tokens : List T) (os : List O) (rest : List T) → Parted g h bounds tokens os rest
           → (front : List T) × (tokens ≡ front ++ rest)
-          × AtLeast least (Joined separator text) os front
+          × AtLeast least (PartedText separator text) os front
       there tokens [] rest (e, few, stops) =
           let enough : least ≤ 0 = omega (arith, ap (λ b. b.least) any, few) in
-          ([], sym e, at_least least (Joined separator text) [] [] refl enough)
+          ([], sym e, at_least least (PartedText separator text) [] [] refl enough)
       there tokens (o ∷ os) rest (mid, x, each, enough, stops) =
           let (xs, e, a) = is.there tokens o mid x in
           let (ys, d, b) = each_there links os mid rest each in (
             xs ++ ys,
             e ∙ ap (λ l. xs ++ l) d ∙ sym (append_assoc xs ys rest),
-            at_least least (Joined separator text) (o ∷ os) (xs ++ ys) (xs, ys, a, b, refl)
+            at_least least (PartedText separator text) (o ∷ os) (xs ++ ys) (xs, ys, a, b, refl)
                 (omega (arith, ap (λ b. b.least) any, enough)),
           )
 
@@ -160,7 +162,7 @@ module _ {T O D : Type 0} {g : Grammar T O} {h : Grammar T D} {text : Text T O}
           let P : Option ℕ → Type 0 = λ g. IsBelow g n in
           subst P (sym (ap (λ b. b.greatest) any)) tt
 
-      joined : (os : List O) (front rest : List T) → Joined separator text os front
+      joined : (os : List O) (front rest : List T) → PartedText separator text os front
           → least ≤ length os → ends rest → Parted g h bounds (front ++ rest) os rest
       joined [] front rest e enough behind =
           let P : List T → Type 0 = λ l. Parted g h bounds (l ++ rest) [] rest in
@@ -168,7 +170,7 @@ module _ {T O D : Type 0} {g : Grammar T O} {h : Grammar T D} {text : Text T O}
           subst P (sym e) (refl, few, inr (below 0, none rest (omega arith) behind))
       joined (o ∷ os) front rest (xs, ys, a, b, e) enough behind =
           let (next, more) = each_back links
-          (then_front (λ d o. o) divides goes_on) os ys rest b (last rest behind) in
+          (both_front (λ d o. o) divides goes_on) os ys rest b (last rest behind) in
           let P : List T → Type 0 = λ l. Parted g h bounds l (o ∷ os) rest in
           subst P (sym (append_assoc xs ys rest) ∙ ap (λ l. l ++ rest) (sym e)) (
             ys ++ rest,
@@ -179,8 +181,8 @@ module _ {T O D : Type 0} {g : Grammar T O} {h : Grammar T D} {text : Text T O}
           )
 
       back : (os : List O) (front rest : List T)
-          → AtLeast least (Joined separator text) os front → ends rest
+          → AtLeast least (PartedText separator text) os front → ends rest
           → Parted g h bounds (front ++ rest) os rest
       back os front rest x behind =
-          let (a, enough) = are_enough least (Joined separator text) os front x in
+          let (a, enough) = are_enough least (PartedText separator text) os front x in
           joined os front rest a enough behind

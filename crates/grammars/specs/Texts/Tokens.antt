@@ -13,8 +13,10 @@ use Rattle.stream_sets.specs.Sets.{EitherTells}
 use Rattle.grammars.specs.Grammar.{Class, Counted, InClass, Literally, Longest, NoTokens, Nothing}
 use Rattle.grammars.specs.Grammar.{TokenOf}
 use Rattle.grammars.specs.Grammar.Known.{Byte, slice_for}
-use Rattle.grammars.specs.Texts.{Anything, AtEnd, Divides, Empty, IsGrammarOf, Itself, MayBegin}
-use Rattle.grammars.specs.Texts.{Members, NotFirst, OneOf, SoMany, SoManyOf, Spelled, Written}
+use Rattle.grammars.specs.Texts.{Anything, AtEnd, Divides, NoTokensText, IsGrammarOf, Itself}
+use Rattle.grammars.specs.Texts.{MayBegin}
+use Rattle.grammars.specs.Texts.{Members, NotFirst, TokenOfText, CountedText, SoManyOf, Spelled}
+use Rattle.grammars.specs.Texts.{LiterallyText}
 
 -- a token that stands for itself, where slices show all tokens
 pub itself_of : {T L : Type 0} (reading : Reading T L)
@@ -35,8 +37,8 @@ byte_of = itself_of counted_reading slice_for
 pub literal_of : {S T L O : Type 0} (reading : Reading T L) (spelled : S → List T → Type 0)
     (output : S → L → O) (literal : S)
     → IsGrammarOf (Literally reading spelled output literal)
-    (Written reading spelled output literal) Anything
-unfolding Literally Written
+    (LiterallyText reading spelled output literal) Anything
+unfolding Literally LiterallyText
 literal_of reading spelled output literal = record {
   there = λ tokens o rest (front, slice, is, shown, e, a). (front, e, (slice, is, shown, a));
   back = λ o front rest (slice, is, shown, a) any. (front, slice, is, shown, refl, a);
@@ -108,8 +110,8 @@ divides_as same differ d = record {
 -- a token of a set
 pub token_of : {X K T : Type 0} (seen : K → T) (tells : X → K → Bool → Type 0) (set : X)
     {these those : K → Type 0} → Divides (tells set) these those
-    → IsGrammarOf (TokenOf seen tells set) (OneOf seen these) Anything
-unfolding TokenOf OneOf
+    → IsGrammarOf (TokenOf seen tells set) (TokenOfText seen these) Anything
+unfolding TokenOf TokenOfText
 token_of seen tells set d = record {
   there = λ tokens k rest (is, e). (seen k ∷ [], e, ((d.has k).0 is, refl));
   back = λ k front rest (is, e) any. ((d.has k).1 is, ap (λ l. l ++ rest) e);
@@ -200,8 +202,8 @@ class_of reading class code least =
 
 -- so many tokens
 pub counted_of : {T L : Type 0} (reading : Reading T L) (n : ℕ)
-    → IsGrammarOf (Counted reading n) (SoMany reading n) Anything
-unfolding Counted SoMany
+    → IsGrammarOf (Counted reading n) (CountedText reading n) Anything
+unfolding Counted CountedText
 counted_of reading n = record {
   there = λ tokens slice rest (front, many, shown, e). (front, e, (many, shown));
   back = λ slice front rest (many, shown) any. (front, many, shown, refl);
@@ -218,8 +220,8 @@ nothing_of output = record {
 
 -- no tokens
 pub no_tokens_of : {T L : Type 0} (reading : Reading T L)
-    → IsGrammarOf (NoTokens reading) (Empty reading) AtEnd
-unfolding NoTokens Empty
+    → IsGrammarOf (NoTokens reading) (NoTokensText reading) AtEnd
+unfolding NoTokens NoTokensText
 no_tokens_of reading = record {
   there = λ tokens slice rest (none, e, shown). ([], none ∙ sym e, (refl, shown));
   back = λ slice front rest (none, shown) e.

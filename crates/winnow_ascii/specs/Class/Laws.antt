@@ -16,7 +16,7 @@ use Rattle.stream_sets.specs.Once.{TellsOnce, SeesApart, holds_once, seen_once}
 use Rattle.winnow_core.specs.Decided.{IsDecided}
 use Rattle.winnow_core.specs.Literal.Laws.{ShowSame}
 use Rattle.winnow_token.specs.TakeWhile.Decided.{take_while_decided}
-use Rattle.grammars.specs.Grammar.{Class, InClass, IsUnique, Takes}
+use Rattle.grammars.specs.Grammar.{Class, InClass, IsUnique, TakesTokens}
 use Rattle.winnow_core.specs.Exact.{Backtracks, IsExact}
 use Rattle.winnow_token.specs.TakeWhile.Exact.{longest_unique, take_while_exact, take_while_fails}
 use Rattle.winnow_token.specs.TakeWhile.Exact.{longest_takes}
@@ -87,7 +87,7 @@ class_unique class least code seen reading apart =
     (seen_once seen (InClass class code tt) apart (holds_once (λ k. class (code k))))
 
 pub class_takes : {K T L : Type 0} (class : ℕ → Type 0) (least : ℕ) (code : K → ℕ) (seen : K → T)
-    (reading : Reading T L) → 0 < least → Takes (Class class least code seen reading)
+    (reading : Reading T L) → 0 < least → TakesTokens (Class class least code seen reading)
 class_takes class least code seen reading some =
     longest_takes reading seen (InClass class code) tt (from_to least None) some
 

@@ -14,7 +14,7 @@ use Rattle.winnow_ascii.specs.Crlf.Laws.{crlf_ends, crlf_stays}
 use Rattle.winnow_ascii.specs.LineEnding.{LineEndingRuns}
 use Rattle.winnow_core.specs.Stable.Grows.{Stays}
 use Rattle.grammars.specs.Grammar.{Either, NoneStands}
-use Rattle.grammars.specs.Grammar.Searches.{LineEnd, Text}
+use Rattle.grammars.specs.Grammar.Searches.{LineEnd, LiterallyBytes}
 use Rattle.grammars.specs.Grammar.Unique.{either_unique}
 use Rattle.winnow_core.specs.Decided.{AlikeAnswers, IsDecided, NotMemory}
 use Rattle.winnow_core.specs.Decided.Inputs.{back_not_memory}
@@ -63,7 +63,7 @@ module _ {T L : Type 0} (reading : Reading T L) (form : ErrorForm)
     (same_units : (t : Bor (List ℕ)) (xs ys : List T) → spells t xs → spells t ys
     → reading.units xs ≡ reading.units ys) where
   text_at : (bytes : List ℕ) → IsExact tt (Keeps (λ (_ : ⊤). TextRuns reading spells bytes form))
-      (Text reading spells bytes)
+      (LiterallyBytes reading spells bytes)
   text_at = text_exact reading form spells alike same_units
 
   pub line_ending_exact : IsExact tt (Keeps (λ (_ : ⊤). LineEndingRuns spells reading form))
@@ -77,11 +77,11 @@ module _ {T L : Type 0} (reading : Reading T L) (form : ErrorForm)
   }
     where
       feed : IsExact tt (Keeps (λ (_ : ⊤). TextRuns reading spells (10 ∷ []) form))
-          (Text reading spells (10 ∷ []))
+          (LiterallyBytes reading spells (10 ∷ []))
       feed = text_at (10 ∷ [])
 
       both : IsExact tt (Keeps (λ (_ : ⊤). TextRuns reading spells (13 ∷ 10 ∷ []) form))
-          (Text reading spells (13 ∷ 10 ∷ []))
+          (LiterallyBytes reading spells (13 ∷ 10 ∷ []))
       both = text_at (13 ∷ 10 ∷ [])
 
       still : (i : Input T) (answer : Answer L) (j : Input T) → i.status.cut ≡ false

@@ -5,7 +5,7 @@ use Rattle.std.specs.List.{FoldsTo}
 use Rattle.std.proofs.Common.{refl, sym, ap, subst, inl, inr, ◌∙◌, arith}
 use Rattle.streams.specs.Input.{Input}
 use Rattle.streams.specs.Kind.{Kind, backtrack, cut, incomplete, memory}
-use Rattle.grammars.specs.Grammar.{Each, Grammar, Takes}
+use Rattle.grammars.specs.Grammar.{Each, Grammar, TakesTokens}
 use Rattle.stream_errors.specs.Form.{Answer}
 use Rattle.stream_errors.specs.Form.Known.{ok_is_err, same_kind}
 use Rattle.stream_sets.specs.Accumulator.{Accumulator}
@@ -74,7 +74,7 @@ module _ {S T O : Type 0} {run : Runs S T O} {g : Grammar T O} {b : List T → T
       (subst Q place each) is)
 
 module _ {S T O C : Type 0} {run : Runs S T O} {g : Grammar T O} {b : List T → Type 0} {s : S}
-    (into : Accumulator C O) (bounds : Bounds) (p : Part s run g b) (takes : Takes g) where
+    (into : Accumulator C O) (bounds : Bounds) (p : Part s run g b) (takes : TakesTokens g) where
   -- what ends a chain where an item is begun is not final
   ends_never : (before : C) (outputs os : List O) (m : Input T) (rest : List T)
       (answer : Answer C) (t : S) (j : Input T) → IsCut m → IsFinal answer

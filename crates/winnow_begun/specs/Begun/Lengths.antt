@@ -4,7 +4,7 @@ use Rattle.std.proofs.Common.{refl, sym, ap, subst, inl, inr, ◌∙◌, arith, 
 use Rattle.streams.specs.Input.{Input}
 use Rattle.streams.specs.Kind.{Kind, backtrack, cut, incomplete, memory}
 use Rattle.streams.specs.Reading.{Reading}
-use Rattle.grammars.specs.Grammar.{Grammar, Takes}
+use Rattle.grammars.specs.Grammar.{Grammar, TakesTokens}
 use Rattle.grammars.specs.Grammar.Lengths.{SaysOne}
 use Rattle.stream_errors.specs.Form.{Answer, modal}
 use Rattle.stream_errors.specs.Form.Known.{ok_is_err, same_kind}
@@ -140,7 +140,7 @@ length_and_then_asks number reading counts run s p says =
 pub length_repeat_asks : {S V T N O C : Type 0} (number : N → ℕ) (into : Accumulator C O)
     {count : Runs S T N} {run : Runs V T O} {g : Grammar T N} {b : List T → Type 0} (s : S × V)
     (h : Grammar T O) (c : List T → Type 0) → Part s.0 count g b → SaysOne number g
-    → Part s.1 run h c → Takes h
+    → Part s.1 run h c → TakesTokens h
     → AsksWhere s (LengthRepeatRuns number into cut count run)
     (SizedBegun number g b (λ n. Among h c (Some n)))
 length_repeat_asks number into s h c p says q takes =

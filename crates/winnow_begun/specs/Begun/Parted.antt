@@ -4,7 +4,7 @@ use Rattle.std.specs.Prelude.{Ok, Err}
 use Rattle.std.proofs.Common.{refl, sym, ap, subst, inl, inr, arith}
 use Rattle.streams.specs.Input.{Input}
 use Rattle.streams.specs.Kind.{Kind, backtrack, cut, incomplete, memory}
-use Rattle.grammars.specs.Grammar.{Both, Each, Grammar, Takes}
+use Rattle.grammars.specs.Grammar.{Both, Each, Grammar, TakesTokens}
 use Rattle.grammars.specs.Grammar.Unique.{both_take}
 use Rattle.stream_errors.specs.Form.{Answer}
 use Rattle.stream_errors.specs.Form.Known.{ok_is_err, same_kind}
@@ -41,11 +41,11 @@ one_fewer_below (Some most) n m is below =
 
 module _ {S W T O D C : Type 0} {run : Runs S T O} {separator : Runs W T D} {g : Grammar T O}
     {h : Grammar T D} {b c : List T → Type 0} {x : S} {y : W} (into : Accumulator C O)
-    (bounds : Bounds) (p : Part x run g b) (q : Part y separator h c) (takes : Takes h) where
+    (bounds : Bounds) (p : Part x run g b) (q : Part y separator h c) (takes : TakesTokens h) where
   link : Part (x, y) (LinkRuns run separator) (Both (λ d o. o) h g) (Behind h c b)
   link = link_part p q
 
-  link_takes : Takes (Both (λ d o. o) h g)
+  link_takes : TakesTokens (Both (λ d o. o) h g)
   link_takes = both_take (λ d o. o) q.exact.unique p.exact.unique (inl takes)
 
   -- links run as items, since no separator is without tokens
@@ -146,7 +146,7 @@ module _ {S W T O D C : Type 0} {run : Runs S T O} {separator : Runs W T D} {g :
 
 pub separated_asks : {S W T O D C : Type 0} {run : Runs S T O} {separator : Runs W T D}
     {g : Grammar T O} {h : Grammar T D} {b c : List T → Type 0} (into : Accumulator C O)
-    (s : S × W × Range) → Part s.0 run g b → Part s.1 separator h c → Takes h
+    (s : S × W × Range) → Part s.0 run g b → Part s.1 separator h c → TakesTokens h
     → IsWithin (bounds_of s.2).greatest (bounds_of s.2).least
     → AsksWhere s (RangedElements run separator into cut)
     (Parting g b h c (bounds_of s.2).greatest)

@@ -3,7 +3,7 @@ use Rattle.std.specs.Prelude.{◌≡◌, ◌<◌, ℕ, List, [], ◌∷◌, leng
 use Rattle.std.proofs.Common.{refl, sym, subst, inl, inr, arith}
 use Rattle.streams.specs.Input.{Input}
 use Rattle.streams.specs.Kind.{Kind, cut, incomplete, memory}
-use Rattle.grammars.specs.Grammar.{Each, Grammar, Takes}
+use Rattle.grammars.specs.Grammar.{Each, Grammar, TakesTokens}
 use Rattle.stream_errors.specs.Form.{Answer}
 use Rattle.stream_errors.specs.Form.Known.{same_kind}
 use Rattle.stream_sets.specs.Accumulator.{Accumulator}
@@ -22,7 +22,7 @@ use Rattle.winnow_repeat.specs.Repeat.{ItemsRun, RangedRuns, RepeatManyRuns, Rep
 use Rattle.winnow_repeat.specs.Repeat.{RepeatRuns}
 
 module _ {S T O C : Type 0} {run : Runs S T O} {g : Grammar T O} {b : List T → Type 0} {s : S}
-    (into : Accumulator C O) (bounds : Bounds) (p : Part s run g b) (takes : Takes g) where
+    (into : Accumulator C O) (bounds : Bounds) (p : Part s run g b) (takes : TakesTokens g) where
   -- a number is below no greatest one
   unbounded : bounds.greatest ≡ None → (n : ℕ) → IsBelow bounds.greatest n
   unbounded none n = let P : Option ℕ → Type 0 = λ x. IsBelow x n in subst P (sym none) tt
@@ -137,7 +137,7 @@ module _ {S T O C : Type 0} {run : Runs S T O} {g : Grammar T O} {b : List T →
       many_settled possible i answer t j may final ran is
 
 pub repeat_asks : {S T O C : Type 0} {run : Runs S T O} {g : Grammar T O} {b : List T → Type 0}
-    (into : Accumulator C O) (s : S × Range) → Part s.0 run g b → Takes g
+    (into : Accumulator C O) (s : S × Range) → Part s.0 run g b → TakesTokens g
     → IsWithin (bounds_of s.1).greatest (bounds_of s.1).least
     → AsksWhere s (RangedRuns run into cut) (Among g b (bounds_of s.1).greatest)
 repeat_asks into s p takes within = record {

@@ -15,7 +15,7 @@ use Rattle.winnow_binary.specs.Length.Laws.{length_ends, length_grows}
 use Rattle.winnow_binary.specs.LengthRepeat.{ItemsBehind, LengthRepeatRuns}
 use Rattle.winnow_core.specs.Stable.Grows.{Grows}
 use Rattle.stream_sets.specs.Accumulator.Holds.{Holds}
-use Rattle.grammars.specs.Grammar.{Grammar, Many, NoneStands, Takes}
+use Rattle.grammars.specs.Grammar.{Grammar, Many, NoneStands, TakesTokens}
 use Rattle.grammars.specs.Grammar.Lengths.{SaysOne, Sized, Times, times_unique}
 use Rattle.stream_errors.specs.Form.Known.{at_kind, ok_is_err, same_kind}
 use Rattle.winnow_core.specs.Exact.{FailsBy, IsExact, IsSoft}
@@ -44,7 +44,7 @@ module _ {T : Type 0} {following : Following T} where
 
 module _ {S T O C : Type 0} {run : Runs S T O} {g : Grammar T O} (into : Accumulator C O)
     (asserted : Kind) (holds : C → List O → Type 0) {s : S} (keeps : Holds into holds)
-    (c : IsExact s run g) (f : IsSoft s run) (takes : Takes g) (n : ℕ) where
+    (c : IsExact s run g) (f : IsSoft s run) (takes : TakesTokens g) (n : ℕ) where
   -- as many items as may be are so many
   exactly : {all : C} (os : List O) (tokens rest : List T) → holds all os
       → Many g (from_to n (Some n)) tokens os rest → Times holds g n tokens all rest
@@ -111,7 +111,7 @@ module _ {S T O C : Type 0} {run : Runs S T O} {g : Grammar T O} (into : Accumul
 module _ {S V T N O C : Type 0} (number : N → ℕ) (into : Accumulator C O) (asserted : Kind)
     {count : Runs S T N} {run : Runs V T O} {g : Grammar T N} {h : Grammar T O}
     (s : S × V) (c : IsExact s.0 count g) (d : IsExact s.1 run h) (soft : IsSoft s.1 run)
-    (takes : Takes h) (holds : C → List O → Type 0) (keeps : Holds into holds) where
+    (takes : TakesTokens h) (holds : C → List O → Type 0) (keeps : Holds into holds) where
   pub length_repeat_exact : SaysOne number g
       → IsExact s (LengthRepeatRuns number into asserted count run)
       (Sized number (Times holds h) g)

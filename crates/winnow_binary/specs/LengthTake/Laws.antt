@@ -13,7 +13,7 @@ use Rattle.winnow_binary.specs.Length.Laws.{length_ends, length_grows}
 use Rattle.winnow_binary.specs.LengthTake.{LengthTakeRuns}
 use Rattle.winnow_core.specs.Stable.Grows.{Grows, grows, leaf_stays, stays_beside}
 use Rattle.winnow_core.specs.Stable.{IsStable}
-use Rattle.grammars.specs.Grammar.{Counted, Grammar, Takes}
+use Rattle.grammars.specs.Grammar.{Counted, Grammar, TakesTokens}
 use Rattle.grammars.specs.Grammar.Lengths.{SaysOne, Sized, sized_takes}
 use Rattle.winnow_core.specs.Exact.{FailsBy, IsExact}
 use Rattle.winnow_core.specs.Exact.Allowed.{Allowed, backs}
@@ -92,7 +92,7 @@ module _ {S T N L : Type 0} (number : N → ℕ) (reading : Reading T L) (form :
 
 -- a length that takes tokens takes some with those behind it
 pub length_take_takes : {S T N L : Type 0} (number : N → ℕ) (reading : Reading T L)
-    {count : Runs S T N} {g : Grammar T N} {s : S} → IsExact s count g → Takes g
-    → Takes (Sized number (Counted reading) g)
+    {count : Runs S T N} {g : Grammar T N} {s : S} → IsExact s count g → TakesTokens g
+    → TakesTokens (Sized number (Counted reading) g)
 length_take_takes number reading c takes = sized_takes number (Counted reading) c.unique
     (λ n. (take_exact reading modal false n).unique) takes

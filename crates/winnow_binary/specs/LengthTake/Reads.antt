@@ -6,7 +6,7 @@ use Rattle.streams.specs.Counted.{counted_reading}
 use Rattle.streams.specs.Input.{Input}
 use Rattle.stream_errors.specs.Form.{Answer, ErrorForm}
 use Rattle.stream_errors.specs.Form.Known.{ok_is_err}
-use Rattle.winnow_core.specs.Reads.{Reads}
+use Rattle.winnow_core.specs.Reads.{ReadsShown}
 use Rattle.winnow_core.specs.Runs.{Runs}
 use Rattle.winnow_token.specs.Take.Known.{take_count_ok}
 use Rattle.winnow_binary.specs.LengthTake.{LengthTakeRuns}
@@ -22,8 +22,8 @@ module _ {S T N : Type 0} (number : N → ℕ) (form : ErrorForm) (counts : Bool
     pub length_take_reads : {known : S → Type 0} {shown : N → List T} {P : N → Type 0}
         (tokens_of : ℕ → List T) (Q : ℕ → Type 0)
         → ((n : N) → P n → (shown n ≡ tokens_of (number n)) × Q (number n))
-        → Reads count known shown P
-        → Reads LengthTakeOf known (λ slice. tokens_of (length slice.now) ++ slice.now)
+        → ReadsShown count known shown P
+        → ReadsShown LengthTakeOf known (λ slice. tokens_of (length slice.now) ++ slice.now)
         (λ slice. Q (length slice.now))
     length_take_reads {known} {shown} {P} tokens_of Q told reads = record {
       reads = λ s i slice t j is ran. of_case s i slice t j is ran;

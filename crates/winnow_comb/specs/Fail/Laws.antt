@@ -4,7 +4,7 @@ use Rattle.winnow_core.specs.Stable.Longer.{same_more}
 use Rattle.winnow_core.specs.Stable.Grows.{Stays}
 use Rattle.std.specs.Prelude.{◌≡◌, ⊤}
 use Rattle.std.proofs.Common.{refl, sym, ap, inr, ◌∙◌}
-use Rattle.grammars.specs.Grammar.{Never, Takes}
+use Rattle.grammars.specs.Grammar.{Never, TakesTokens}
 use Rattle.stream_errors.specs.Form.Known.{ok_is_err, same_kind}
 use Rattle.winnow_core.specs.Decided.{IsDecided}
 use Rattle.winnow_core.specs.Decided.Inputs.{both_err}
@@ -41,6 +41,6 @@ module _ {T : Type 0} where
   pub fail_backs : {O : Type 0} → Backtracks tt (Keeps (λ (_ : ⊤). FailRuns {T = T} {O = O}))
   fail_backs = record { fails = λ i k t j is ((e, back), same). same_kind e }
 
-pub never_takes : {T O : Type 0} → Takes (Never {T = T} {O = O})
+pub never_takes : {T O : Type 0} → TakesTokens (Never {T = T} {O = O})
 unfolding Never
 never_takes = record { fewer = λ tokens o rest never. absurd never }

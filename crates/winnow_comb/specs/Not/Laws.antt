@@ -14,7 +14,7 @@ use Rattle.stream_errors.specs.Form.{Answer}
 use Rattle.winnow_core.specs.Decided.{AlikeAnswers, IsDecided, NotMemory}
 use Rattle.winnow_core.specs.Decided.Inputs.{both_err, both_ok, memory_backs}
 use Rattle.winnow_core.specs.Decided.Made.{Carries, made_decided}
-use Rattle.grammars.specs.Grammar.{Absent, Grammar, NoneStands}
+use Rattle.grammars.specs.Grammar.{NotAhead, Grammar, NoneStands}
 use Rattle.stream_errors.specs.Form.Known.{at_kind, ok_is_err, same_kind}
 use Rattle.winnow_core.specs.Exact.{FailsBy, IsExact, IsSoft}
 use Rattle.winnow_core.specs.Exact.Allowed.{Allowed, back_allowed}
@@ -108,8 +108,8 @@ module _ {S T O : Type 0} {run : Runs S T O} {s : S} {alike : O → O → Type 0
 
 module _ {S T O : Type 0} {run : Runs S T O} {s : S} where
   pub not_exact : {g : Grammar T O} → IsExact s run g → IsSoft s run
-      → IsExact s (NotRuns run) (Absent g)
-  unfolding Absent
+      → IsExact s (NotRuns run) (NotAhead g)
+  unfolding NotAhead
   not_exact {g} c f = record {
     kept = kept;
     stands = stands;
@@ -133,14 +133,14 @@ module _ {S T O : Type 0} {run : Runs S T O} {s : S} where
           (same, ap (λ x. x.status.cut) back ∙ still)
 
       stands : (i : Input T) (o : ⊤) (t : S) (j : Input T) → i.status.cut ≡ false
-          → NotRuns run s i (Ok o) t j → Absent g i.left.tokens o j.left.tokens
+          → NotRuns run s i (Ok o) t j → NotAhead g i.left.tokens o j.left.tokens
       stands i o t j is (inl (p, m, r, e, back)) = ok_is_err refl e
       stands i o t j is (inr (inl (m, r, e, back))) =
           (none_at_backtrack c i t m is r, ap (λ x. x.left.tokens) back)
       stands i o t j is (inr (inr (k, m, r, other, e, back))) = ok_is_err refl e
 
       none : (i : Input T) (k : Kind) (t : S) (j : Input T) → i.status.cut ≡ false
-          → NotRuns run s i (Err k) t j → (k ≡ memory) ⊎ NoneStands (Absent g) i.left.tokens
+          → NotRuns run s i (Err k) t j → (k ≡ memory) ⊎ NoneStands (NotAhead g) i.left.tokens
       none i k t j is (inl (p, m, r, e, back)) =
           inr (λ u rest (nothing, same). nothing p m.left.tokens (c.stands i p t m is r))
       none i k t j is (inr (inl (m, r, e, back))) = ok_is_err e refl

@@ -14,8 +14,8 @@ use Rattle.stream_errors.specs.Form.{Answer}
 use Rattle.winnow_core.specs.Decided.{AlikeAnswers, IsDecided, NotMemory}
 use Rattle.winnow_core.specs.Decided.Inputs.{both_err, both_ok, memory_backs}
 use Rattle.winnow_core.specs.Decided.Made.{Carries, made_decided}
-use Rattle.grammars.specs.Grammar.{Grammar, Maybe, NoneStands}
-use Rattle.grammars.specs.Grammar.Unique.{maybe_unique}
+use Rattle.grammars.specs.Grammar.{Grammar, Optional, NoneStands}
+use Rattle.grammars.specs.Grammar.Unique.{optional_unique}
 use Rattle.stream_errors.specs.Form.Known.{at_kind, ok_is_err, same_ok, same_kind}
 use Rattle.winnow_core.specs.Exact.{FailsBy, IsExact, IsSoft}
 use Rattle.winnow_core.specs.Exact.Failed.{none_at_backtrack}
@@ -109,13 +109,13 @@ module _ {S T O : Type 0} {run : Runs S T O} {s : S} {alike : O → O → Type 0
 -- ---- what it reads
 
 module _ {S T O : Type 0} {run : Runs S T O} {g : Grammar T O} {s : S} where
-  pub opt_exact : IsExact s run g → IsSoft s run → IsExact s (OptRuns run) (Maybe g)
-  unfolding Maybe
+  pub opt_exact : IsExact s run g → IsSoft s run → IsExact s (OptRuns run) (Optional g)
+  unfolding Optional
   opt_exact c f = record {
     kept = kept;
     stands = stands;
     none = none;
-    unique = maybe_unique c.unique;
+    unique = optional_unique c.unique;
   }
     where
       kept : (i : Input T) (answer : Answer (Option O)) (t : S) (j : Input T)
@@ -127,14 +127,14 @@ module _ {S T O : Type 0} {run : Runs S T O} {g : Grammar T O} {s : S} where
       kept i answer t j is (inr (inr (k, r, other, e))) = c.kept i (Err k) t j is r
 
       stands : (i : Input T) (o : Option O) (t : S) (j : Input T) → i.status.cut ≡ false
-          → OptRuns run s i (Ok o) t j → Maybe g i.left.tokens o j.left.tokens
+          → OptRuns run s i (Ok o) t j → Optional g i.left.tokens o j.left.tokens
       stands i o t j is (inl (x, r, e)) = inl (x, same_ok refl e, c.stands i x t j is r)
       stands i o t j is (inr (inl (m, r, e, back))) =
           inr (same_ok refl e, none_at_backtrack c i t m is r, ap (λ x. x.left.tokens) back)
       stands i o t j is (inr (inr (k, r, other, e))) = ok_is_err refl e
 
       none : (i : Input T) (k : Kind) (t : S) (j : Input T) → i.status.cut ≡ false
-          → OptRuns run s i (Err k) t j → (k ≡ memory) ⊎ NoneStands (Maybe g) i.left.tokens
+          → OptRuns run s i (Err k) t j → (k ≡ memory) ⊎ NoneStands (Optional g) i.left.tokens
       none i k t j is (inl (o, r, e)) = ok_is_err e refl
       none i k t j is (inr (inl (m, r, e, back))) = ok_is_err e refl
       none i k t j is (inr (inr (l, r, other, e))) = elim (f.fails i l t j is r) [

@@ -13,7 +13,8 @@ use Rattle.winnow_core.specs.ByRef.{ByRefRuns}
 use Rattle.winnow_core.specs.Closures.{Stays, Gives, GivesSome, Finds}
 use Rattle.winnow_core.specs.Decided.{IsDecided, NotMemory}
 use Rattle.winnow_core.specs.Decided.Inputs.{decided_as}
-use Rattle.winnow_core.specs.Decided.Made.{MadeAlike, SettlesTo, TellsAlike, Turns, made_decided}
+use Rattle.winnow_core.specs.Decided.Made.{OutputsMadeAlike, SettlesTo, TellsAlike, Turns}
+use Rattle.winnow_core.specs.Decided.Made.{made_decided}
 use Rattle.winnow_core.specs.Decided.Made.{settles_carry, turns_carry}
 use Rattle.winnow_core.specs.InOrder.Decided.{AlikePairs}
 use Rattle.winnow_core.specs.Literal.Laws.{ShowSame}
@@ -37,7 +38,7 @@ use Rattle.winnow_core.specs.WithTaken.{WithTakenRuns}
 module _ {S G T O U : Type 0} {run : Runs S T O} {s : S × G} {alike : O → O → Type 0}
     (step : G → O → U → G → Type 0) (stays : Stays step s.1) where
   pub map_decided : IsDecided s.0 run alike
-      → IsDecided s (MapRuns run step) (MadeAlike alike (Gives step s.1))
+      → IsDecided s (MapRuns run step) (OutputsMadeAlike alike (Gives step s.1))
   map_decided c = made_decided {becomes = Turns (λ i o a u. Gives step s.1 o u)}
       (record { ran = ran })
       (turns_carry (λ i o a u. Gives step s.1 o u) (λ i a o p u v like x y. (o, p, like, x, y))) c
@@ -174,7 +175,7 @@ module _ {S G T O U : Type 0} {run : Runs S T O} {s : S × G} {alike : O → O �
     (rejected : (o : O) (k : Kind) → settle s.1 o (Err k) s.1 → rejects o k)
     (tells : TellsAlike accepts rejects alike) where
   pub settles_decided : IsDecided s.0 run alike
-      → IsDecided s (Settles settle run) (MadeAlike alike accepts)
+      → IsDecided s (Settles settle run) (OutputsMadeAlike alike accepts)
   settles_decided c = made_decided {becomes = SettlesTo accepts rejects} (record { ran = ran })
       (settles_carry accepts rejects tells) c
     where
@@ -258,7 +259,7 @@ module _ {S G T O U : Type 0} {run : Runs S T O} {s : S × G} {alike : O → O �
     (step : G → O → Option U → G → Type 0) (stays : Stays step s.1)
     (same : RefusesSame step s.1 alike) where
   pub verify_map_decided : IsDecided s.0 run alike
-      → IsDecided s (VerifyMapRuns run step) (MadeAlike alike (GivesSome step s.1))
+      → IsDecided s (VerifyMapRuns run step) (OutputsMadeAlike alike (GivesSome step s.1))
   verify_map_decided c = made_decided
       {becomes = SettlesTo (GivesSome step s.1) (GivesNone step s.1)} (record { ran = ran })
       (settles_carry (GivesSome step s.1) (GivesNone step s.1) (record {
@@ -300,7 +301,7 @@ pub record ReadsSame {O U : Type 0} (reads : O → Option U → Type 0) (alike :
 module _ {S T O U : Type 0} {run : Runs S T O} {s : S} {alike : O → O → Type 0}
     (reads : O → Option U → Type 0) (same : ReadsSame reads alike) where
   pub parse_to_decided : IsDecided s run alike
-      → IsDecided s (ParseToRuns reads run) (MadeAlike alike (λ o u. reads o (Some u)))
+      → IsDecided s (ParseToRuns reads run) (OutputsMadeAlike alike (λ o u. reads o (Some u)))
   parse_to_decided c = made_decided
       {becomes = SettlesTo (λ o u. reads o (Some u)) (λ o k. reads o None × (k ≡ backtrack))}
       (record { ran = ran })

@@ -104,8 +104,8 @@ turns_carry {T} {O} {U} makes {also = also} made = record {
     status i a (Err l) answer j free (e, at) = ap (λ z. z.status) at
 
 -- what is made of outputs that are alike
-abbrev pub MadeAlike : {O U : Type 0} → (O → O → Type 0) → (O → U → Type 0) → U → U → Type 0
-MadeAlike {O = O} alike makes u v = (o : O) × (p : O) × alike o p × makes o u × makes p v
+abbrev pub OutputsMadeAlike : {O U : Type 0} → (O → O → Type 0) → (O → U → Type 0) → U → U → Type 0
+OutputsMadeAlike {O = O} alike makes u v = (o : O) × (p : O) × alike o p × makes o u × makes p v
 
 -- ---- an output that is accepted or refused
 
@@ -126,13 +126,13 @@ pub record TellsAlike {O U : Type 0} (accepts : O → U → Type 0) (rejects : O
 
 pub settles_carry : {T O U : Type 0} (accepts : O → U → Type 0) (rejects : O → Kind → Type 0)
     {alike : O → O → Type 0} → TellsAlike accepts rejects alike
-    → Carries {T = T} (SettlesTo accepts rejects) alike (MadeAlike alike accepts)
+    → Carries {T = T} (SettlesTo accepts rejects) alike (OutputsMadeAlike alike accepts)
 settles_carry {T} {O} {U} accepts rejects {alike} tells = record {
   wants = λ i a answer j way. way.0;
   status = status;
   outputs = outputs;
   errors = λ i a l answer other j k na nb (e, at) (f, at2).
-      (both_err (MadeAlike alike accepts) e f refl, at ∙ sym at2);
+      (both_err (OutputsMadeAlike alike accepts) e f refl, at ∙ sym at2);
 }
   where
     status : (i a : Input T) (b : Answer O) (answer : Answer U) (j : Input T)
@@ -145,12 +145,12 @@ settles_carry {T} {O} {U} accepts rejects {alike} tells = record {
         → NotMemory answer → NotMemory other → alike o p
         → SettlesTo accepts rejects i (Ok o) a answer j
         → SettlesTo accepts rejects i (Ok p) a other k
-        → AlikeAnswers (MadeAlike alike accepts) answer other × (j ≡ k)
+        → AlikeAnswers (OutputsMadeAlike alike accepts) answer other × (j ≡ k)
     outputs i a o p answer other j k na nb like (inl (u, x, e, at)) (inl (v, y, f, at2)) =
-        (both_ok (MadeAlike alike accepts) e f (o, p, like, x, y), at ∙ sym at2)
+        (both_ok (OutputsMadeAlike alike accepts) e f (o, p, like, x, y), at ∙ sym at2)
     outputs i a o p answer other j k na nb like (inl (u, x, e, at)) (inr (l, y, f, at2)) =
         absurd (tells.apart o p u l like x y)
     outputs i a o p answer other j k na nb like (inr (l, x, e, at)) (inl (v, y, f, at2)) =
         absurd (tells.either o p v l like x y)
     outputs i a o p answer other j k na nb like (inr (l, x, e, at)) (inr (h, y, f, at2)) =
-        (both_err (MadeAlike alike accepts) e f (tells.one o p l h like x y), at ∙ sym at2)
+        (both_err (OutputsMadeAlike alike accepts) e f (tells.one o p l h like x y), at ∙ sym at2)

@@ -5,7 +5,7 @@ use Rattle.std.proofs.Common.{refl, subst, sym, inl, inr}
 use Rattle.streams.specs.Input.{Input}
 use Rattle.streams.specs.Kind.{Kind, memory}
 use Rattle.streams.specs.Reading.{Reading}
-use Rattle.grammars.specs.Grammar.{AndTaken, Grammar, Made, Takes, Taken}
+use Rattle.grammars.specs.Grammar.{AndTaken, Grammar, Made, TakesTokens, Taken}
 use Rattle.grammars.specs.Grammar.Unique.{made_takes}
 use Rattle.stream_errors.specs.Form.{Answer}
 use Rattle.winnow_core.specs.Closures.{Stays, Gives}
@@ -163,13 +163,13 @@ pub take_fails : {S T L O : Type 0} {run : Runs S T O} {s : S} {allowed : Kind �
 take_fails {run = run} {s} reading f =
     made_fails (take_made reading run s) (λ o k never. absurd never) f
 
-pub taken_takes : {T L O : Type 0} {g : Grammar T O} (reading : Reading T L) → Takes g
-    → Takes (Taken reading g)
+pub taken_takes : {T L O : Type 0} {g : Grammar T O} (reading : Reading T L) → TakesTokens g
+    → TakesTokens (Taken reading g)
 unfolding Taken
 taken_takes reading some = made_takes (λ tokens o rest slice. Shows reading tokens rest slice) some
 
-pub and_taken_takes : {T L O : Type 0} {g : Grammar T O} (reading : Reading T L) → Takes g
-    → Takes (AndTaken reading g)
+pub and_taken_takes : {T L O : Type 0} {g : Grammar T O} (reading : Reading T L) → TakesTokens g
+    → TakesTokens (AndTaken reading g)
 unfolding AndTaken
 and_taken_takes {L = L} {O} reading some = made_takes
     (λ tokens o rest (both : O × L). (both.0 ≡ o) × Shows reading tokens rest both.1) some

@@ -9,7 +9,7 @@ use Rattle.winnow_core.specs.Runs.{Runs, LeaveEnds}
 use Rattle.winnow_core.specs.Stable.Grows.{Grows, final_by}
 use Rattle.streams.specs.Kind.{Kind, memory}
 use Rattle.grammars.specs.Grammar.{Grammar, NoneStands}
-use Rattle.grammars.specs.Grammar.Decided.{Decided, EachMade, MadeAlike, decided_unique}
+use Rattle.grammars.specs.Grammar.Decided.{FlatMapped, EachMade, MadeAlike, flat_mapped_unique}
 use Rattle.stream_errors.specs.Form.{Answer}
 use Rattle.stream_errors.specs.Form.Known.{at_kind, ok_is_err}
 use Rattle.winnow_core.specs.Closures.{Gives, Stays}
@@ -57,13 +57,13 @@ module _ {S G H V T O U : Type 0} {run : Runs S T O} {second : Runs V T U} {g : 
   pub flat_map_exact : EachMade (Gives step) s.1
       (λ made. IsExact (state made) second (reads made))
       → MadeAlike (Gives step) s.1 reads g
-      → IsExact s (FlatMapRuns step state run second) (Decided (Gives step) s.1 reads g)
-  unfolding Decided
+      → IsExact s (FlatMapRuns step state run second) (FlatMapped (Gives step) s.1 reads g)
+  unfolding FlatMapped
   flat_map_exact d alike = record {
     kept = kept;
     stands = stands;
     none = none;
-    unique = decided_unique (Gives step) s.1 reads c.unique (λ o made m. (d o made m).unique)
+    unique = flat_mapped_unique (Gives step) s.1 reads c.unique (λ o made m. (d o made m).unique)
         alike;
   }
     where
@@ -80,7 +80,7 @@ module _ {S G H V T O U : Type 0} {run : Runs S T O} {second : Runs V T U} {g : 
 
       stands : (i : Input T) (u : U) (t : S × G) (j : Input T) → i.status.cut ≡ false
           → FlatMapRuns step state run second s i (Ok u) t j
-          → Decided (Gives step) s.1 reads g i.left.tokens u j.left.tokens
+          → FlatMapped (Gives step) s.1 reads g i.left.tokens u j.left.tokens
       stands i u t j is (inl (o, a, made, v, r, called, q)) =
           let on = (c.kept i (Ok o) t.0 a is r).1 in
           let m = given step o made stays called in (
@@ -94,11 +94,11 @@ module _ {S G H V T O U : Type 0} {run : Runs S T O} {second : Runs V T U} {g : 
       stands i u t j is (inr (k, r, same, e)) = ok_is_err refl e
 
       Goal : Input T → Kind → Type 0
-      Goal i k = (k ≡ memory) ⊎ NoneStands (Decided (Gives step) s.1 reads g) i.left.tokens
+      Goal i k = (k ≡ memory) ⊎ NoneStands (FlatMapped (Gives step) s.1 reads g) i.left.tokens
 
       none_made : (i a : Input T) (o : O) (made : H) → g i.left.tokens o a.left.tokens
           → Gives step s.1 o made → NoneStands (reads made) a.left.tokens
-          → NoneStands (Decided (Gives step) s.1 reads g) i.left.tokens
+          → NoneStands (FlatMapped (Gives step) s.1 reads g) i.left.tokens
       none_made i a o made x m nothing u rest (p, mid, other, y, n, z) =
           let P : List T → Type 0 = λ l. reads made l u rest in
           let same = c.unique.one i.left.tokens p o mid a.left.tokens y x in

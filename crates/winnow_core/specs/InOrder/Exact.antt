@@ -3,7 +3,7 @@ use Rattle.std.specs.Prelude.{◌≡◌, ◌⊎◌, false, List, Ok, Err}
 use Rattle.std.proofs.Common.{refl, ap, subst, inl, inr}
 use Rattle.streams.specs.Input.{Input}
 use Rattle.streams.specs.Kind.{Kind, memory}
-use Rattle.grammars.specs.Grammar.{Both, Grammar, Made, NoneStands, Takes}
+use Rattle.grammars.specs.Grammar.{Both, Grammar, Made, NoneStands, TakesTokens}
 use Rattle.grammars.specs.Grammar.Unique.{both_take, both_unique}
 use Rattle.stream_errors.specs.Form.{Answer}
 use Rattle.stream_errors.specs.Form.Known.{at_kind, ok_is_err, same_ok}
@@ -102,7 +102,8 @@ both_fails {S1} {S2} {T} {O1} {O2} {O} {output} {run1} {run2} {s = s} {allowed} 
 
 pub both_takes : {S1 S2 T O1 O2 O : Type 0} (output : O1 → O2 → O) {run1 : Runs S1 T O1}
     {run2 : Runs S2 T O2} {g1 : Grammar T O1} {g2 : Grammar T O2} {s1 : S1} {s2 : S2}
-    → IsExact s1 run1 g1 → IsExact s2 run2 g2 → Takes g1 ⊎ Takes g2 → Takes (Both output g1 g2)
+    → IsExact s1 run1 g1 → IsExact s2 run2 g2 → TakesTokens g1 ⊎ TakesTokens g2
+    → TakesTokens (Both output g1 g2)
 both_takes output c1 c2 some = both_take output c1.unique c2.unique some
 
 -- ---- a tuple of one

@@ -3,7 +3,7 @@ use Rattle.std.specs.Prelude.{◌⊎◌}
 use Rattle.std.proofs.Common.{refl, ap, inl, inr, ◌∙◌}
 use Rattle.streams.specs.Input.{Input}
 use Rattle.streams.specs.Kind.{Kind}
-use Rattle.grammars.specs.Grammar.{Both, Grammar, Takes, Three}
+use Rattle.grammars.specs.Grammar.{Both, Grammar, TakesTokens, Three}
 use Rattle.grammars.specs.Grammar.Same.{takes_as, Same}
 use Rattle.stream_errors.specs.Form.{Answer}
 use Rattle.winnow_core.specs.Exact.{FailsBy, IsExact}
@@ -64,8 +64,8 @@ module _ {S1 S2 S3 T O1 O2 O3 O : Type 0} {output : O1 → O2 → O3 → O} {run
 pub three_takes : {S1 S2 S3 T O1 O2 O3 O : Type 0} (output : O1 → O2 → O3 → O)
     {run1 : Runs S1 T O1} {run2 : Runs S2 T O2} {run3 : Runs S3 T O3} {g1 : Grammar T O1}
     {g2 : Grammar T O2} {g3 : Grammar T O3} {s1 : S1} {s2 : S2} {s3 : S3} → IsExact s1 run1 g1
-    → IsExact s2 run2 g2 → IsExact s3 run3 g3 → (Takes g1 ⊎ Takes g2) ⊎ Takes g3
-    → Takes (Three output g1 g2 g3)
+    → IsExact s2 run2 g2 → IsExact s3 run3 g3 → (TakesTokens g1 ⊎ TakesTokens g2) ⊎ TakesTokens g3
+    → TakesTokens (Three output g1 g2 g3)
 three_takes {O1 = O1} {O2} {O} output {run1} {run2} {run3} {g1} {g2} {g3} {s1} {s2} {s3} c1 c2
     c3 some =
     let two : IsExact (s1, s2) (BothRuns (λ o1 o2. (o1, o2)) run1 run2)

@@ -19,7 +19,7 @@ use Rattle.winnow_core.specs.Decided.{AlikeAnswers, IsDecided}
 use Rattle.winnow_core.specs.Decided.Inputs.{both_err, both_ok, same_front, same_passed}
 use Rattle.std.specs.Borrow.{Bor}
 use Rattle.grammars.specs.Grammar.{Literally, NoneStands}
-use Rattle.grammars.specs.Grammar.Searches.{Text}
+use Rattle.grammars.specs.Grammar.Searches.{LiterallyBytes}
 use Rattle.grammars.specs.Grammar.Unique.{literally_unique, one_front}
 use Rattle.stream_errors.specs.Form.Known.{ok_is_err, same_ok, same_kind}
 use Rattle.winnow_core.specs.Exact.{Backtracks, IsExact}
@@ -244,7 +244,7 @@ module _ {T L : Type 0} (reading : Reading T L) (form : ErrorForm)
 
   pub text_exact : (bytes : List ℕ)
       → IsExact tt (Keeps (λ (_ : ⊤). TextRuns reading spells bytes form))
-      (Text reading spells bytes)
+      (LiterallyBytes reading spells bytes)
   unfolding Literally
   text_exact bytes = record {
     kept = λ i answer t j is ((text, here, r), same).

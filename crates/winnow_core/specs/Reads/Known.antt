@@ -8,7 +8,7 @@ use Rattle.stream_errors.specs.Form.{ErrorForm}
 use Rattle.winnow_core.specs.Literal.{LiteralRuns}
 use Rattle.winnow_core.specs.Literal.Known.{literal_must_answer, literal_must_leave, literal_taken}
 use Rattle.winnow_core.specs.Literal.Known.{token_taken}
-use Rattle.winnow_core.specs.Reads.{MustLeave, Reads}
+use Rattle.winnow_core.specs.Reads.{MustLeave, ReadsShown}
 use Rattle.winnow_core.specs.Runs.{Keeps, Runs}
 
 -- ---- literals by value
@@ -16,7 +16,7 @@ use Rattle.winnow_core.specs.Runs.{Keeps, Runs}
 -- by the text that a literal stands for, and the output that is made of it and its slice
 pub literal_reads : {A T L O : Type 0} (reading : Reading T L) (form : ErrorForm)
     (text : A → List T) (output : A → L → O) (tokens : List T)
-    → Reads (Keeps (λ a. LiteralRuns reading form (λ xs. xs ≡ text a) (output a)))
+    → ReadsShown (Keeps (λ a. LiteralRuns reading form (λ xs. xs ≡ text a) (output a)))
     (λ a. text a ≡ tokens) (λ _. tokens) (λ _. ⊤)
 literal_reads reading form text output tokens = record {
   reads = λ a i o b j is ran.
@@ -48,7 +48,7 @@ SliceRuns form =
     Keeps (λ s. LiteralRuns counted_reading form (λ xs. xs ≡ s.now) (λ slice. slice))
 
 pub token_reads : {T : Type 0} (form : ErrorForm) (x : T)
-    → Reads (TokenRuns form) (λ y. y ≡ x) (λ _. x ∷ []) (λ _. ⊤)
+    → ReadsShown (TokenRuns form) (λ y. y ≡ x) (λ _. x ∷ []) (λ _. ⊤)
 token_reads form x = record {
   reads = λ y i o z j is ran.
       let it = token_taken counted_reading form y (λ _. y) i o j ran.0 in
@@ -63,7 +63,7 @@ token_leaves form x rest y is =
     (ap (λ z. z ∷ []) is)
 
 pub slice_reads : {T : Type 0} (form : ErrorForm) (tokens : List T)
-    → Reads (SliceRuns form) (λ s. s.now ≡ tokens) (λ _. tokens) (λ _. ⊤)
+    → ReadsShown (SliceRuns form) (λ s. s.now ≡ tokens) (λ _. tokens) (λ _. ⊤)
 slice_reads form tokens =
     literal_reads counted_reading form (λ s. s.now) (λ _ slice. slice) tokens
 

@@ -4,7 +4,7 @@ use Rattle.std.specs.Prelude.{◌⊎◌}
 use Rattle.std.proofs.Common.{refl, ap, inl, inr, ◌∙◌}
 use Rattle.streams.specs.Input.{Input}
 use Rattle.streams.specs.Kind.{Kind}
-use Rattle.grammars.specs.Grammar.{Both, Grammar, Takes, Three}
+use Rattle.grammars.specs.Grammar.{Both, Grammar, TakesTokens, Three}
 use Rattle.grammars.specs.Grammar.Same.{Same, takes_as}
 use Rattle.grammars.specs.Grammar.Tuples.{Five, Four, Six}
 use Rattle.stream_errors.specs.Form.{Answer}
@@ -88,8 +88,8 @@ pub tuple4_takes : {S1 S2 S3 S4 T O1 O2 O3 O4 : Type 0} {run1 : Runs S1 T O1}
     {run2 : Runs S2 T O2} {run3 : Runs S3 T O3} {run4 : Runs S4 T O4} {g1 : Grammar T O1}
     {g2 : Grammar T O2} {g3 : Grammar T O3} {g4 : Grammar T O4} {s1 : S1} {s2 : S2} {s3 : S3}
     {s4 : S4} → IsExact s1 run1 g1 → IsExact s2 run2 g2 → IsExact s3 run3 g3
-    → IsExact s4 run4 g4 → ((Takes g1 ⊎ Takes g2) ⊎ Takes g3) ⊎ Takes g4
-    → Takes (Four g1 g2 g3 g4)
+    → IsExact s4 run4 g4 → ((TakesTokens g1 ⊎ TakesTokens g2) ⊎ TakesTokens g3) ⊎ TakesTokens g4
+    → TakesTokens (Four g1 g2 g3 g4)
 tuple4_takes {S1 = S1} {S2} {S3} {S4} {T} {O1} {O2} {O3} {O4} {run1} {run2} {run3} {run4} {g1}
     {g2} {g3} {g4} {s1} {s2} {s3} {s4} c1 c2 c3 c4 some =
     let front : IsExact (s1, s2, s3) (ThreeRuns (λ o1 o2 o3. (o1, o2, o3)) run1 run2 run3)
@@ -202,7 +202,8 @@ pub tuple5_takes : {S1 S2 S3 S4 S5 T O1 O2 O3 O4 O5 : Type 0} {run1 : Runs S1 T 
     {g1 : Grammar T O1} {g2 : Grammar T O2} {g3 : Grammar T O3} {g4 : Grammar T O4}
     {g5 : Grammar T O5} {s1 : S1} {s2 : S2} {s3 : S3} {s4 : S4} {s5 : S5} → IsExact s1 run1 g1
     → IsExact s2 run2 g2 → IsExact s3 run3 g3 → IsExact s4 run4 g4 → IsExact s5 run5 g5
-    → (((Takes g1 ⊎ Takes g2) ⊎ Takes g3) ⊎ Takes g4) ⊎ Takes g5 → Takes (Five g1 g2 g3 g4 g5)
+    → (((TakesTokens g1 ⊎ TakesTokens g2) ⊎ TakesTokens g3) ⊎ TakesTokens g4) ⊎ TakesTokens g5
+    → TakesTokens (Five g1 g2 g3 g4 g5)
 tuple5_takes {S1 = S1} {S2} {S3} {S4} {S5} {T} {O1} {O2} {O3} {O4} {O5} {run1} {run2} {run3}
     {run4} {run5} {g1} {g2} {g3} {g4} {g5} {s1} {s2} {s3} {s4} {s5} c1 c2 c3 c4 c5 some =
     let front : IsExact (s1, s2, s3, s4) (SequenceRuns4 run1 run2 run3 run4)
@@ -354,8 +355,8 @@ pub tuple6_takes : {S1 S2 S3 S4 S5 S6 T O1 O2 O3 O4 O5 O6 : Type 0} {run1 : Runs
     {g4 : Grammar T O4} {g5 : Grammar T O5} {g6 : Grammar T O6} {s1 : S1} {s2 : S2} {s3 : S3}
     {s4 : S4} {s5 : S5} {s6 : S6} → IsExact s1 run1 g1 → IsExact s2 run2 g2 → IsExact s3 run3 g3
     → IsExact s4 run4 g4 → IsExact s5 run5 g5 → IsExact s6 run6 g6
-    → ((((Takes g1 ⊎ Takes g2) ⊎ Takes g3) ⊎ Takes g4) ⊎ Takes g5) ⊎ Takes g6
-    → Takes (Six g1 g2 g3 g4 g5 g6)
+    → ((((TakesTokens g1 ⊎ TakesTokens g2) ⊎ TakesTokens g3) ⊎ TakesTokens g4) ⊎ TakesTokens g5)
+    ⊎ TakesTokens g6 → TakesTokens (Six g1 g2 g3 g4 g5 g6)
 tuple6_takes {S1 = S1} {S2} {S3} {S4} {S5} {S6} {T} {O1} {O2} {O3} {O4} {O5} {O6} {run1} {run2}
     {run3} {run4} {run5} {run6} {g1} {g2} {g3} {g4} {g5} {g6} {s1} {s2} {s3} {s4} {s5} {s6} c1
     c2 c3 c4 c5 c6 some =

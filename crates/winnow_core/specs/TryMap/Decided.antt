@@ -6,7 +6,7 @@ use Rattle.stream_errors.specs.Form.{Answer}
 use Rattle.stream_errors.specs.Given.{Keeping, KindGiven}
 use Rattle.winnow_core.specs.Closures.{Stays}
 use Rattle.winnow_core.specs.Decided.{AlikeAnswers, IsDecided, NotMemory}
-use Rattle.winnow_core.specs.Decided.Made.{MadeAlike}
+use Rattle.winnow_core.specs.Decided.Made.{OutputsMadeAlike}
 use Rattle.winnow_core.specs.Exact.Settled.{GivesOk}
 use Rattle.winnow_core.specs.Runs.{Runs}
 use Rattle.winnow_core.specs.Settles.Decided.{each_settled}
@@ -46,12 +46,12 @@ module _ {G O U R : Type 0} (step : G → O → Result U R → G → Type 0) (f 
       (pair_is kept keeps, inr (r, k, subst P kept failed, kind, e))
 
   both : (o p : O) (a b : Answer U) → alike o p → NotMemory a → NotMemory b → Tried o a
-      → Tried p b → AlikeAnswers (MadeAlike alike (GivesOk step f.0)) a b
+      → Tried p b → AlikeAnswers (OutputsMadeAlike alike (GivesOk step f.0)) a b
   both o p a b like na nb (inl (u, made, e)) (inl (v, also, d)) =
       let P : Answer U → Type 0 =
-      λ z. AlikeAnswers (MadeAlike alike (GivesOk step f.0)) z b in
+      λ z. AlikeAnswers (OutputsMadeAlike alike (GivesOk step f.0)) z b in
       let Q : Answer U → Type 0 =
-      λ z. AlikeAnswers (MadeAlike alike (GivesOk step f.0)) (Ok u) z in
+      λ z. AlikeAnswers (OutputsMadeAlike alike (GivesOk step f.0)) (Ok u) z in
       subst P (sym e) (subst Q (sym d) (o, p, like, made, also))
   both o p a b like na nb (inl (u, made, e)) (inr (r, k, failed, kind, d)) =
       absurd (same.apart o p u r like made failed)
@@ -59,9 +59,9 @@ module _ {G O U R : Type 0} (step : G → O → Result U R → G → Type 0) (f 
       absurd (same.either o p v r like failed made)
   both o p a b like na nb (inr (r, k, failed, kind, e)) (inr (q, l, also, kind2, d)) =
       let P : Answer U → Type 0 =
-      λ z. AlikeAnswers (MadeAlike alike (GivesOk step f.0)) z b in
+      λ z. AlikeAnswers (OutputsMadeAlike alike (GivesOk step f.0)) z b in
       let Q : Answer U → Type 0 =
-      λ z. AlikeAnswers (MadeAlike alike (GivesOk step f.0)) (Err k) z in
+      λ z. AlikeAnswers (OutputsMadeAlike alike (GivesOk step f.0)) (Err k) z in
       subst P (sym e) (subst Q (sym d)
       (backs (f.1 r) a k na e kind ∙ sym (backs (f.1 q) b l nb d kind2)))
 
@@ -69,7 +69,7 @@ module _ {S G T O U R : Type 0} {run : Runs S T O} {s : S × (G × (R → Keepin
     {alike : O → O → Type 0} (step : G → O → Result U R → G → Type 0) (stays : Stays step s.1.0)
     (same : TriesSame step s.1.0 alike) where
   pub try_map_decided : IsDecided s.0 run alike
-      → IsDecided s (TryMapRuns step run) (MadeAlike alike (GivesOk step s.1.0))
+      → IsDecided s (TryMapRuns step run) (OutputsMadeAlike alike (GivesOk step s.1.0))
   try_map_decided c = each_settled (TryMapSettles step) (record {
     stays = λ o answer h free settled. (tried step s.1 alike stays same o answer h settled).0;
     same = λ o p a b g h like na nb settled also.

@@ -7,17 +7,17 @@ use Rattle.streams.specs.Input.{Input, is_end_of_refl, is_end_of_trans}
 use Rattle.streams.specs.Kind.{Kind}
 use Rattle.streams.specs.Reading.{Reading}
 use Rattle.grammars.specs.Grammar.{IsUnique}
-use Rattle.grammars.specs.Texts.{Row, Text}
+use Rattle.grammars.specs.Texts.{EachText, Text}
 use Rattle.winnow_exact.specs.InTurn.{Failed, First, Stood, completes_end}
 
 -- So many texts, one behind the other.
 abbrev pub RowOf : {T O : Type 0} → Text T O → ℕ → Text T (List O)
-RowOf text n os tokens = (length os ≡ n) × Row text os tokens
+RowOf text n os tokens = (length os ≡ n) × EachText text os tokens
 
 -- one text more
 row_more : {T O : Type 0} (text : Text T O) (os : List O) (o : O) (xs ys : List T)
-    → Row text os xs → text o ys → Row text (os ++ o ∷ []) (xs ++ ys)
-unfolding Row
+    → EachText text os xs → text o ys → EachText text (os ++ o ∷ []) (xs ++ ys)
+unfolding EachText
 row_more text [] o xs ys e a = (ys, [], a, refl, ap (λ l. l ++ ys) e ∙ sym (append-nil ys))
 row_more text (p ∷ ps) o xs ys (us, vs, b, more, e) a = (
   us,
@@ -29,10 +29,11 @@ row_more text (p ∷ ps) o xs ys (us, vs, b, more, e) a = (
 
 module _ {T O : Type 0} (text : Text T O) (unique : IsUnique (First text)) where
   -- behind fewer texts one more stands
-  row_next : (os ps : List O) (xs ys rest other : List T) → Row text os xs → Row text ps ys
+  row_next : (os ps : List O) (xs ys rest other : List T) → EachText text os xs
+      → EachText text ps ys
       → xs ++ rest ≡ ys ++ other → length os < length ps
       → (o : O) × (end : List T) × First text rest o end
-  unfolding First Row
+  unfolding First EachText
   row_next os [] xs ys rest other a b e less = absurd (omega (arith, less))
   row_next [] (p ∷ ps) xs ys rest other a (us, vs, b, more, d) e less = (
     p,
@@ -52,9 +53,9 @@ module _ {T O : Type 0} (text : Text T O) (unique : IsUnique (First text)) where
       (us, a, refl) (ws, b, one)) (omega (arith, less))
 
   -- as many leave the same
-  row_one : (os ps : List O) (xs ys rest other : List T) → Row text os xs → Row text ps ys
+  row_one : (os ps : List O) (xs ys rest other : List T) → EachText text os xs → EachText text ps ys
       → xs ++ rest ≡ ys ++ other → length os ≡ length ps → rest ≡ other
-  unfolding First Row
+  unfolding First EachText
   row_one [] [] xs ys rest other a b e n =
       ap (λ l. l ++ rest) (sym a) ∙ e ∙ ap (λ l. l ++ other) b
   row_one [] (p ∷ ps) xs ys rest other a b e n = absurd (omega (arith, n))
@@ -79,7 +80,7 @@ module _ {T L O : Type 0} {reading : Reading T L} {following : Following T} (tex
     {i : Input T} where
   -- before the first
   pub none_stood : Stood reading following (First (RowOf text 0)) i [] i
-  unfolding First Row
+  unfolding First EachText
   none_stood = record {
     ends = is_end_of_refl reading i;
     stands = λ more c. ([], (refl, refl), refl);

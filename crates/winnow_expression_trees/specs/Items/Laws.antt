@@ -31,7 +31,7 @@ use Rattle.winnow_expression_trees.specs.Items.{Items}
 use Rattle.winnow_expression_trees.specs.Items.{NextItems, NoItem, ReadsItems, left_at}
 use Rattle.winnow_expression_trees.specs.Items.{HasValue}
 use Rattle.winnow_expression_trees.specs.Keeps.{Keeps}
-use Rattle.winnow_expression_trees.specs.OneTree.{IsExact}
+use Rattle.winnow_expression_trees.specs.OneTree.{IsTheOneTree}
 use Rattle.winnow_expression_trees.specs.Premises.{AlikePostfix, AlikePrefix, FoldAlike, FoldsAlike}
 use Rattle.winnow_expression_trees.specs.Premises.{Premises}
 use Rattle.winnow_expression_trees.specs.Reading.{FirstStep, NextStep, Over}
@@ -313,7 +313,7 @@ module _ {S1 S2 S3 S4 T V F G H L : Type 0} (reading : Reading T L) (refusal : K
 
   -- so a run that is exact over inputs is exact over items
   pub items_exact : (level : ℤ) (i j : Input T) (answer : Answer V) (t : (S1 × S2) × (S3 × S4))
-      → IsExact whole (λ v w. v ≡ w) states level i answer t j
+      → IsTheOneTree whole (λ v w. v ≡ w) states level i answer t j
       → ReadsItems operand prefix postfix infix_ one other two level i answer j
   items_exact level i j answer t exact = record {
     finds = λ v e.

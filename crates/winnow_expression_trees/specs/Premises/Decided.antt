@@ -13,7 +13,7 @@ use Rattle.winnow_core.specs.Value.{ValueRuns}
 use Rattle.winnow_core.specs.Decided.{AlikeAnswers, IsDecided}
 use Rattle.winnow_core.specs.Decided.{NotMemory as NotWantOfMemory}
 use Rattle.winnow_expression.specs.Units.{units_left}
-use Rattle.winnow_expression_trees.specs.Premises.{IsStateless, NotMemory, Same}
+use Rattle.winnow_expression_trees.specs.Premises.{IsStateless, NotMemory, AnswersAlike}
 
 -- an answer that is no want of memory, in the words of both crates
 no_memory : {O : Type 0} (a : Answer O) → NotMemory a → NotWantOfMemory a
@@ -22,7 +22,7 @@ no_memory (Err k) other e = other (same_kind e)
 
 -- and answers that are alike
 same_answers : {O : Type 0} (alike : O → O → Type 0) (a b : Answer O) → AlikeAnswers alike a b
-    → Same alike a b
+    → AnswersAlike alike a b
 same_answers alike (Ok o) (Ok p) like = like
 same_answers alike (Ok o) (Err l) like = like
 same_answers alike (Err k) (Ok p) like = like
@@ -39,7 +39,7 @@ decided_stateless {alike = alike} c = record {
 }
 
 wider_answers : {O : Type 0} (one other : O → O → Type 0) → ((o p : O) → one o p → other o p)
-    → (a b : Answer O) → Same one a b → Same other a b
+    → (a b : Answer O) → AnswersAlike one a b → AnswersAlike other a b
 wider_answers one other wider (Ok o) (Ok p) like = wider o p like
 wider_answers one other wider (Ok o) (Err l) like = like
 wider_answers one other wider (Err k) (Ok p) like = like

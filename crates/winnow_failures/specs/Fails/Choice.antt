@@ -3,7 +3,7 @@ use Rattle.std.specs.Prelude.{◌≡◌, ◌⊎◌, false, List, Ok, Err}
 use Rattle.std.proofs.Common.{sym, ap, subst, inl, inr, ◌∙◌}
 use Rattle.streams.specs.Input.{Input, back_at}
 use Rattle.streams.specs.Kind.{Kind, backtrack, cut}
-use Rattle.grammars.specs.Grammar.{Grammar, IsUnique, NoneStands, Takes}
+use Rattle.grammars.specs.Grammar.{Grammar, IsUnique, NoneStands, TakesTokens}
 use Rattle.stream_errors.specs.Form.{Answer}
 use Rattle.winnow_comb.specs.Alt.{OrElse}
 use Rattle.winnow_core.specs.Runs.{Runs}
@@ -78,8 +78,9 @@ module _ {T O : Type 0} {g h : Grammar T O} {f1 : Failure T} where
   }
 
 -- where both take tokens, so does the choice
-pub otherwise_takes : {T O : Type 0} {g h : Grammar T O} (f : Failure T) → Takes g → Takes h
-    → Takes (Otherwise g f h)
+pub otherwise_takes : {T O : Type 0} {g h : Grammar T O} (f : Failure T) → TakesTokens g
+    → TakesTokens h
+    → TakesTokens (Otherwise g f h)
 unfolding Otherwise
 otherwise_takes f first second = record {
   fewer = λ tokens o rest way. elim way [

@@ -10,7 +10,7 @@ use Rattle.stream_sets.specs.Accumulator.{Accumulator, Wants}
 use Rattle.stream_sets.specs.Accumulator.Holds.{Accumulates, Holds}
 use Rattle.stream_sets.specs.Range.{Bounds, IsBelow, IsWithin, bounds_of, from_to}
 use Rattle.stream_sets.specs.declared.range.Range.{Range}
-use Rattle.grammars.specs.Grammar.{Each, Gathered, Grammar, Takes}
+use Rattle.grammars.specs.Grammar.{Each, Gathered, Grammar, TakesTokens}
 use Rattle.stream_errors.specs.Form.{Answer}
 use Rattle.stream_errors.specs.Form.Known.{at_kind, ok_is_err, same_ok}
 use Rattle.winnow_core.specs.Chain.{IsItem}
@@ -101,7 +101,7 @@ module _ {S T O C : Type 0} {run : Runs S T O} {m : Type 0} {g : Grammar T O} {f
           ok_is_err refl e
 
   -- how they fail
-  items_failed : {all : Type 0} → Takes g → (all → m) → (all → Wants into → ⊥) → (before : C)
+  items_failed : {all : Type 0} → TakesTokens g → (all → m) → (all → Wants into → ⊥) → (before : C)
       (i : Input T) (k : Kind) (t : S) (j : Input T) → i.status.cut ≡ false
       → ItemsRun run into asserted bounds before s i (Err k) t j
       → Fell all (FailsAmong g f bounds) i.left.tokens k j.left.tokens
@@ -186,7 +186,7 @@ module _ {S T O C : Type 0} {run : Runs S T O} {m : Type 0} {g : Grammar T O} {f
       )
   one_read holds keeps i all t j is (inr (inr (o, r, grows, e))) = ok_is_err refl e
 
-  one_failed : {all : Type 0} → Takes g → (all → m) → (all → Wants into → ⊥) → (i : Input T)
+  one_failed : {all : Type 0} → TakesTokens g → (all → m) → (all → Wants into → ⊥) → (i : Input T)
       (k : Kind) (t : S) (j : Input T) → i.status.cut ≡ false
       → RepeatOneRuns run into asserted s i (Err k) t j
       → Fell all (FailsAmong g f bounds) i.left.tokens k j.left.tokens
@@ -267,7 +267,7 @@ module _ {S T O C : Type 0} {run : Runs S T O} {m : Type 0} {g : Grammar T O} {f
       let (os, taken, many) = items_read into asserted bounds p within empty i all t j is ran in
       (os, keeps.held _ empty all os starts taken, many)
 
-  many_failed : {all : Type 0} → Takes g → (all → m) → (all → Wants into → ⊥) → (i : Input T)
+  many_failed : {all : Type 0} → TakesTokens g → (all → m) → (all → Wants into → ⊥) → (i : Input T)
       (k : Kind) (t : S) (j : Input T) → i.status.cut ≡ false
       → RepeatManyRuns run into asserted bounds s i (Err k) t j
       → Fell all (FailsAmong g f bounds) i.left.tokens k j.left.tokens
@@ -285,7 +285,7 @@ module _ {S T O C : Type 0} {run : Runs S T O} {m : Type 0} {g : Grammar T O} {f
 
 module _ {S T O C : Type 0} {run : Runs S T O} {m : Type 0} {g : Grammar T O} {f : Failure T}
     (into : Accumulator C O) (asserted : Kind) {s : S × Range} (holds : C → List O → Type 0) where
-  pub repeat_fail : {all : Type 0} → Holds into holds → FailsWhere s.0 run m g f → Takes g
+  pub repeat_fail : {all : Type 0} → Holds into holds → FailsWhere s.0 run m g f → TakesTokens g
       → IsWithin (bounds_of s.1).greatest (bounds_of s.1).least → (all → m)
       → (all → Wants into → ⊥)
       → FailsWhere s (RangedRuns run into asserted) all (RepeatedUpTo holds s.1 g f)

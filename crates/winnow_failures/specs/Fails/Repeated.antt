@@ -3,7 +3,7 @@ use Rattle.std.specs.Prelude.{◌≡◌, ◌⊎◌, ◌≤◌, ◌<◌, ℕ, Lis
 use Rattle.std.proofs.Common.{refl, sym, ap, subst, inl, inr, ◌∙◌, arith}
 use Rattle.streams.specs.Equal.{same_some}
 use Rattle.streams.specs.Kind.{Kind, backtrack, cut}
-use Rattle.grammars.specs.Grammar.{Each, Gathered, Grammar, IsUnique, Takes}
+use Rattle.grammars.specs.Grammar.{Each, Gathered, Grammar, IsUnique, TakesTokens}
 use Rattle.grammars.specs.Grammar.Unique.{end_of_end}
 use Rattle.stream_sets.specs.Range.{Bounds, IsBelow, bounds_of}
 use Rattle.stream_sets.specs.declared.range.Range.{Range}
@@ -46,13 +46,13 @@ module _ {T O : Type 0} {g : Grammar T O} where
       end_of_end (unique.ends tokens o mid x) (each_ends unique mid os rest more)
 
   -- those that take tokens take some
-  each_longer : Takes g → (tokens : List T) (os : List O) (rest : List T)
+  each_longer : TakesTokens g → (tokens : List T) (os : List O) (rest : List T)
       → Each g tokens os rest → length rest ≤ length tokens
   each_longer takes tokens [] rest e = let same = ap length e in omega (arith, same)
   each_longer takes tokens (o ∷ os) rest (mid, x, more) =
       omega (arith, takes.fewer tokens o mid x, each_longer takes mid os rest more)
 
-  pub each_takes : Takes g → (tokens : List T) (os : List O) (rest : List T)
+  pub each_takes : TakesTokens g → (tokens : List T) (os : List O) (rest : List T)
       → Each g tokens os rest → 0 < length os → length rest < length tokens
   each_takes takes tokens [] rest e some = omega (arith, some)
   each_takes takes tokens (o ∷ os) rest (mid, x, more) some =
@@ -182,8 +182,8 @@ module _ {T O C : Type 0} {g : Grammar T O} {f : Failure T} (holds : C → List 
 
 -- one or more of what takes tokens take some
 pub repeated_takes : {T O C : Type 0} {g : Grammar T O} (f : Failure T)
-    (holds : C → List O → Type 0) (range : Range) → Takes g → 0 < (bounds_of range).least
-    → Takes (RepeatedUpTo holds range g f)
+    (holds : C → List O → Type 0) (range : Range) → TakesTokens g → 0 < (bounds_of range).least
+    → TakesTokens (RepeatedUpTo holds range g f)
 unfolding Gathered ManyUpTo
 repeated_takes f holds range takes some = record {
   fewer = λ tokens all rest (os, held, (each, enough, stop)).

@@ -1,7 +1,7 @@
 -- Integers as bytes that stand first.
 use Rattle.std.specs.Prelude.{◌≡◌, ◌<◌, ℕ, List, ◌++◌, length}
 use Rattle.std.proofs.Common.{sym, ap, ◌∙◌, arith, length-append}
-use Rattle.grammars.specs.Grammar.{Grammar, IsUnique, Takes}
+use Rattle.grammars.specs.Grammar.{Grammar, IsUnique, TakesTokens}
 use Rattle.grammars.specs.Grammar.Lengths.{SaysOne, same_beginnings}
 use Rattle.winnow_integers.specs.Integer.{AreBytes}
 
@@ -27,7 +27,7 @@ module _ {O : Type 0} (width : ℕ) (value : List ℕ → O) where
         (same_bytes tokens rest other xs ys n m e f).1;
   }
 
-  pub integer_takes : 0 < width → Takes (Integer width value)
+  pub integer_takes : 0 < width → TakesTokens (Integer width value)
   unfolding Integer
   integer_takes some = record {
     fewer = λ tokens o rest (bytes, many, are, e, is).

@@ -4,7 +4,7 @@ use Rattle.std.proofs.Common.{refl, sym, ap, ◌∙◌, arith}
 use Rattle.streams.specs.Equal.{same_first, same_others}
 use Rattle.streams.specs.Reading.{Reading}
 use Rattle.stream_errors.specs.Form.{ErrorForm}
-use Rattle.winnow_core.specs.Reads.{Reads}
+use Rattle.winnow_core.specs.Reads.{ReadsShown}
 use Rattle.winnow_core.specs.Runs.{Keeps, Runs}
 use Rattle.winnow_integers.specs.Integer.{AreBytes, IntegerRuns}
 use Rattle.winnow_integers.specs.Integer.Known.{integer_ok}
@@ -34,7 +34,7 @@ module _ {X S O : Type 0} (width : ℕ) (value : X → List ℕ → O) (reading 
   pub integer_reads : (x : X) (bytes_of : O → List ℕ)
       → ((o : O) (bytes : List ℕ) → o ≡ value x bytes → length bytes ≡ width → AreBytes bytes
       → bytes_of o ≡ bytes)
-      → Reads IntegerOf (λ y. y ≡ x) bytes_of (IsValueOf width (value x))
+      → ReadsShown IntegerOf (λ y. y ≡ x) bytes_of (IsValueOf width (value x))
   integer_reads x bytes_of told = record {
     reads = λ y i o t j is ran.
         let read = integer_ok width (value y) reading form i o j ran.0 in

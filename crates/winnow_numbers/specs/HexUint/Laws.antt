@@ -22,7 +22,7 @@ use Rattle.winnow_core.specs.Stable.Grows.{Stays, final_by, not_whole}
 use Rattle.winnow_numbers.specs.Numeral.Laws.{none_first_more, more_is_some}
 use Rattle.streams.specs.Equal.{same_rest, true_is_false}
 use Rattle.stream_sets.specs.Once.{SeesApart}
-use Rattle.grammars.specs.Grammar.{IsUnique, Takes}
+use Rattle.grammars.specs.Grammar.{IsUnique, TakesTokens}
 use Rattle.stream_errors.specs.Form.Known.{ok_is_err, same_kind, same_ok}
 use Rattle.winnow_core.specs.Exact.{Backtracks, IsExact}
 use Rattle.winnow_numbers.specs.Digits.{IsIn, NoneFirst, SeenOnce}
@@ -120,7 +120,7 @@ module _ {K T L : Type 0} (seen : K → T) (code : K → ℕ) (reading : Reading
         same_rest f rest other (sym e ∙ e2 ∙ ap (λ l. l ++ other) (sym one.0));
   }
 
-  pub hexadecimal_takes : Takes (Hexadecimal number most seen code)
+  pub hexadecimal_takes : TakesTokens (Hexadecimal number most seen code)
   unfolding Hexadecimal
   hexadecimal_takes = record {
     fewer = λ tokens n rest (front, digits, e, chars, are, some, few, stops, value). omega (

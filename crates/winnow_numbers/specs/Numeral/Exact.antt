@@ -8,7 +8,7 @@ use Rattle.streams.specs.Kind.{Kind, backtrack, memory}
 use Rattle.streams.specs.Reading.{Reading}
 use Rattle.stream_sets.specs.AsChar.{IsDecDigit}
 use Rattle.stream_sets.specs.Once.{SeesApart}
-use Rattle.grammars.specs.Grammar.{IsUnique, Takes}
+use Rattle.grammars.specs.Grammar.{IsUnique, TakesTokens}
 use Rattle.stream_errors.specs.Form.{Answer, ErrorForm, plain}
 use Rattle.stream_errors.specs.Form.Known.{ok_is_err, same_kind}
 use Rattle.winnow_core.specs.Exact.{Backtracks, IsExact}
@@ -107,7 +107,7 @@ module _ {K T L : Type 0} (seen : K → T) (code : K → ℕ) (reading : Reading
           sym left ∙ ap (λ z. z.left.tokens) one.1.1 ∙ last;
     }
 
-    pub decimal_takes : Takes (Decimal number bound seen code)
+    pub decimal_takes : TakesTokens (Decimal number bound seen code)
     unfolding Decimal
     decimal_takes = record {
       fewer = λ tokens n rest (front, digits, e, chars, decimal, stops, fits). omega (
@@ -277,7 +277,7 @@ module _ {K T L : Type 0} (seen : K → T) (code : K → ℕ) (reading : Reading
           sym left ∙ ap (λ z. z.left.tokens) one.1.1 ∙ last;
     }
 
-    pub signed_takes : Takes (SignedDecimal number fits seen code)
+    pub signed_takes : TakesTokens (SignedDecimal number fits seen code)
     unfolding SignedDecimal
     signed_takes = record {
       fewer = λ tokens n rest

@@ -9,7 +9,7 @@ use Rattle.stream_sets.specs.Accumulator.{Accumulator, Wants, nothing_kept}
 use Rattle.stream_sets.specs.Accumulator.Holds.{Accumulates, Holds}
 use Rattle.stream_sets.specs.Range.{Bounds, IsWithin, bounds_of, from_to}
 use Rattle.stream_sets.specs.declared.range.Range.{Range}
-use Rattle.grammars.specs.Grammar.{Grammar, Takes}
+use Rattle.grammars.specs.Grammar.{Grammar, TakesTokens}
 use Rattle.grammars.specs.Grammar.Folded.{FoldOf, Folded, StaysFolding, StaysMaking}
 use Rattle.stream_errors.specs.Form.{Answer}
 use Rattle.stream_errors.specs.Form.Known.{at_kind, at_output, ok_is_err, same_kind}
@@ -252,7 +252,7 @@ module _ {S G H T O R : Type 0} (run : Runs S T O) (starts : G → R → G → T
       ((inr (other, repeats), same), kept)
 
   module _ {g : Grammar T O} (range : Range) {s : S} (c : IsExact s run g) (f : IsSoft s run)
-      (takes : Takes g) (within : IsWithin (bounds_of range).greatest (bounds_of range).least)
+      (takes : TakesTokens g) (within : IsWithin (bounds_of range).greatest (bounds_of range).least)
     where
       pub fold_exact : IsExact (s, (range, (init, op))) (RangedFolds starts step run asserted)
           (Folded starts init step op range g)

@@ -10,7 +10,7 @@ use Rattle.stream_sets.specs.Accumulator.{Accumulator, Wants}
 use Rattle.stream_sets.specs.Accumulator.Holds.{Accumulates, Holds}
 use Rattle.stream_sets.specs.Range.{Bounds, IsBelow, IsWithin, bounds_of, from_to}
 use Rattle.stream_sets.specs.declared.range.Range.{Range}
-use Rattle.grammars.specs.Grammar.{Each, Gathered, Grammar, Many, NoneStands, Repeated, Takes}
+use Rattle.grammars.specs.Grammar.{Each, Gathered, Grammar, Many, NoneStands, Repeated, TakesTokens}
 use Rattle.grammars.specs.Grammar.Unique.{no_more, repeated_take, repeated_unique}
 use Rattle.stream_errors.specs.Form.{Answer}
 use Rattle.stream_errors.specs.Form.Known.{at_kind, ok_is_err, same_ok, same_kind}
@@ -120,7 +120,8 @@ module _ {S T O C : Type 0} {run : Runs S T O} {g : Grammar T O} {s : S} (into :
 
   -- they fail as the items do, or for want of memory
   pub items_allowed : {allowed : Kind → Type 0} → IsExact s run g → FailsBy allowed s run
-      → Takes g → (Wants into → allowed memory) → (before : C) (i : Input T) (k : Kind) (t : S)
+      → TakesTokens g → (Wants into → allowed memory)
+          → (before : C) (i : Input T) (k : Kind) (t : S)
       (j : Input T) → i.status.cut ≡ false
       → ItemsRun run into asserted bounds before s i (Err k) t j → allowed k
   items_allowed {allowed} c f takes wants before i k t j is ran =
@@ -143,7 +144,7 @@ module _ {S T O C : Type 0} {run : Runs S T O} {g : Grammar T O} {s : S} (into :
           at_kind allowed e (wants (inr (some, p, grows)))
 
   -- where they fail, there are not enough of them
-  pub items_fail : IsExact s run g → IsSoft s run → Takes g → (before : C)
+  pub items_fail : IsExact s run g → IsSoft s run → TakesTokens g → (before : C)
       (i : Input T) (k : Kind) (t : S) (j : Input T) → i.status.cut ≡ false
       → ItemsRun run into asserted bounds before s i (Err k) t j
       → (k ≡ memory) ⊎ ((k ≡ backtrack) × ((ps : List O) (rest : List T)
@@ -203,7 +204,7 @@ Begins {S} {T} {O} {C} run into asserted bounds s i answer t j =
 
 module _ {S T O C : Type 0} {run : Runs S T O} {g : Grammar T O} {s : S} (into : Accumulator C O)
     (asserted : Kind) (bounds : Bounds) where
-  one_begins : IsExact s run g → Takes g → bounds.least ≡ 1 → bounds.greatest ≡ None
+  one_begins : IsExact s run g → TakesTokens g → bounds.least ≡ 1 → bounds.greatest ≡ None
       → (i : Input T) (answer : Answer C) (t : S) (j : Input T) → i.status.cut ≡ false
       → RepeatOneRuns run into asserted s i answer t j
       → Begins run into asserted bounds s i answer t j
@@ -255,7 +256,7 @@ module _ {S T O C : Type 0} {run : Runs S T O} {g : Grammar T O} {s : S} (into :
       ended os u m (inr (inr (inr (inr (p, some, below, r, fewer, taken, grows, e))))) =
           inr (inr (inr (inr (p, some, under _, r, fewer, taken_too os some taken, grows, e))))
 
-  begins : IsExact s run g → Takes g → IsWithin bounds.greatest bounds.least → (i : Input T)
+  begins : IsExact s run g → TakesTokens g → IsWithin bounds.greatest bounds.least → (i : Input T)
       (answer : Answer C) (t : S) (j : Input T) → i.status.cut ≡ false
       → RepeatRuns run into asserted bounds s i answer t j
       → Begins run into asserted bounds s i answer t j
@@ -272,7 +273,7 @@ module _ {S T O C : Type 0} {run : Runs S T O} {g : Grammar T O} {s : S} (into :
 -- a repetition into an accumulator
 module _ {S T O C : Type 0} {run : Runs S T O} {g : Grammar T O} (into : Accumulator C O)
     (asserted : Kind) (s : S × Range) (holds : C → List O → Type 0) where
-  pub repeat_exact : Holds into holds → IsExact s.0 run g → IsSoft s.0 run → Takes g
+  pub repeat_exact : Holds into holds → IsExact s.0 run g → IsSoft s.0 run → TakesTokens g
       → IsWithin (bounds_of s.1).greatest (bounds_of s.1).least
       → IsExact s (RangedRuns run into asserted) (Repeated holds s.1 g)
   unfolding Gathered Many
@@ -336,14 +337,14 @@ module _ {S T O C : Type 0} {run : Runs S T O} {g : Grammar T O} (into : Accumul
           ]
 
   -- one or more of what takes tokens take some
-  pub repeat_takes : IsExact s.0 run g → Takes g → 0 < (bounds_of s.1).least
-      → Takes (Repeated holds s.1 g)
+  pub repeat_takes : IsExact s.0 run g → TakesTokens g → 0 < (bounds_of s.1).least
+      → TakesTokens (Repeated holds s.1 g)
   repeat_takes c takes some = repeated_take holds s.1 c.unique takes some
 
 module _ {S T O C : Type 0} {run : Runs S T O} {g : Grammar T O} (into : Accumulator C O)
     (asserted : Kind) (s : S × Range) where
   pub repeat_fails : {allowed : Kind → Type 0} → IsExact s.0 run g → FailsBy allowed s.0 run
-      → Takes g → IsWithin (bounds_of s.1).greatest (bounds_of s.1).least
+      → TakesTokens g → IsWithin (bounds_of s.1).greatest (bounds_of s.1).least
       → (Wants into → allowed memory) → FailsBy allowed s (RangedRuns run into asserted)
   repeat_fails {allowed} c f takes within wants = record {
     fails = λ i k t j is (ran, same).

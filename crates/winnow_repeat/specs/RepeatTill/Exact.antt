@@ -11,7 +11,7 @@ use Rattle.stream_sets.specs.Accumulator.Holds.{Holds}
 use Rattle.stream_sets.specs.Longest.{within_is}
 use Rattle.stream_sets.specs.Range.{Bounds, IsWithin, bounds_of}
 use Rattle.stream_sets.specs.declared.range.Range.{Range}
-use Rattle.grammars.specs.Grammar.{Each, Grammar, NoneStands, Takes}
+use Rattle.grammars.specs.Grammar.{Each, Grammar, NoneStands, TakesTokens}
 use Rattle.grammars.specs.Grammar.Till.{Till, Turn, UpTo, each_same, more_turns, till_unique}
 use Rattle.grammars.specs.Grammar.Till.{turn_unique}
 use Rattle.grammars.specs.Grammar.Unique.{no_more}
@@ -104,7 +104,7 @@ module _ {S W T O D C : Type 0} {run : Runs S T O} {till : Runs W T D} {g : Gram
     {h : Grammar T D} {s : S × W} (into : Accumulator C O) (asserted : Kind)
     (holds : C → List O → Type 0) (keeps : Holds into holds) (bounds : Bounds)
     (within : IsWithin bounds.greatest bounds.least) (c : IsExact s.0 run g) (f : IsSoft s.0 run)
-    (takes : Takes g) (q : IsExact s.1 till h) (border : IsSoft s.1 till) where
+    (takes : TakesTokens g) (q : IsExact s.1 till h) (border : IsSoft s.1 till) where
   -- what is read where a run ends from an empty accumulator: what stood, or that none does
   abbrev Ends : C → Input T → Answer (C × D) → Input T → Type 0
   Ends empty i (Ok both) j =
@@ -317,7 +317,7 @@ module _ {S W T O D C : Type 0} {run : Runs S T O} {till : Runs W T D} {g : Gram
 module _ {S W T O D C : Type 0} {run : Runs S T O} {till : Runs W T D} {g : Grammar T O}
     {h : Grammar T D} {s : S × W} {allowed : Kind → Type 0} (into : Accumulator C O)
     (asserted : Kind) (bounds : Bounds) (within : IsWithin bounds.greatest bounds.least)
-    (c : IsExact s.0 run g) (takes : Takes g) (q : IsExact s.1 till h)
+    (c : IsExact s.0 run g) (takes : TakesTokens g) (q : IsExact s.1 till h)
     (f : FailsBy allowed s.0 run) (border : FailsBy allowed s.1 till)
     (wants : Wants into → allowed memory) where
   turns_end_allowed : (ps : List O) (m : Input T) (some : C) → m.status.cut ≡ false → (k : Kind)
@@ -387,7 +387,7 @@ module _ {S W T O D C : Type 0} {run : Runs S T O} {till : Runs W T D} {g : Gram
     {h : Grammar T D} (into : Accumulator C O) (asserted : Kind) (s : S × W × Range)
     (holds : C → List O → Type 0) (keeps : Holds into holds)
     (within : IsWithin (bounds_of s.2).greatest (bounds_of s.2).least) (c : IsExact s.0 run g)
-    (f : IsSoft s.0 run) (takes : Takes g) (q : IsExact s.1 till h) (border : IsSoft s.1 till)
+    (f : IsSoft s.0 run) (takes : TakesTokens g) (q : IsExact s.1 till h) (border : IsSoft s.1 till)
   where
     reads : (i : Input T) (answer : Answer (C × D)) (t : S × W × Range) (j : Input T)
         → i.status.cut ≡ false
@@ -417,7 +417,7 @@ module _ {S W T O D C : Type 0} {run : Runs S T O} {till : Runs W T D} {g : Gram
 pub repeat_till_fails : {S W T O D C : Type 0} {run : Runs S T O} {till : Runs W T D}
     {g : Grammar T O} {h : Grammar T D} {allowed : Kind → Type 0} (into : Accumulator C O)
     (asserted : Kind) (s : S × W × Range)
-    → IsWithin (bounds_of s.2).greatest (bounds_of s.2).least → IsExact s.0 run g → Takes g
+    → IsWithin (bounds_of s.2).greatest (bounds_of s.2).least → IsExact s.0 run g → TakesTokens g
     → IsExact s.1 till h → FailsBy allowed s.0 run → FailsBy allowed s.1 till
     → (Wants into → allowed memory) → FailsBy allowed s (RangedTillRuns run till into asserted)
 repeat_till_fails into asserted s within c takes q f border wants = record {

@@ -9,8 +9,8 @@ use Rattle.stream_sets.specs.Accumulator.{Accumulator, Wants}
 use Rattle.stream_sets.specs.Accumulator.Holds.{Accumulates, Holds}
 use Rattle.stream_sets.specs.Range.{Bounds, IsBelow, IsWithin, bounds_of}
 use Rattle.stream_sets.specs.declared.range.Range.{Range}
-use Rattle.grammars.specs.Grammar.{Apart, Both, Each, Gathered, Grammar, IsUnique, Many}
-use Rattle.grammars.specs.Grammar.{NoneStands, Parted, Stops, Takes}
+use Rattle.grammars.specs.Grammar.{SeparatedBy, Both, Each, Gathered, Grammar, IsUnique, Many}
+use Rattle.grammars.specs.Grammar.{NoneStands, Parted, Stops, TakesTokens}
 use Rattle.grammars.specs.Grammar.Unique.{both_take, gathered_takes, gathered_unique, parted_takes}
 use Rattle.grammars.specs.Grammar.Unique.{parted_unique}
 use Rattle.stream_errors.specs.Form.{Answer}
@@ -57,7 +57,7 @@ more_stop g greatest n m rest is below (inr (less, none)) =
 
 module _ {S W T O D C : Type 0} {run : Runs S T O} {separator : Runs W T D} {g : Grammar T O}
     {h : Grammar T D} {a : S} {b : W} (into : Accumulator C O) (asserted : Kind) (bounds : Bounds)
-    (element : IsExact a run g) (between : IsExact b separator h) (takes : Takes h) where
+    (element : IsExact a run g) (between : IsExact b separator h) (takes : TakesTokens h) where
   link : IsExact (a, b) (LinkRuns run separator) (Both (λ d o. o) h g)
   link = link_exact element between
 
@@ -227,7 +227,7 @@ triple_is {t = t} {s = s} e f g =
 
 module _ {S W T O D C : Type 0} {run : Runs S T O} {separator : Runs W T D} {g : Grammar T O}
     {h : Grammar T D} (into : Accumulator C O) (asserted : Kind) (s : S × W × Range)
-    (element : IsExact s.0 run g) (between : IsExact s.1 separator h) (takes : Takes h) where
+    (element : IsExact s.0 run g) (between : IsExact s.1 separator h) (takes : TakesTokens h) where
   kept_all : (i : Input T) (answer : Answer C) (t : S × W × Range) (j : Input T)
       → i.status.cut ≡ false → RangedElements run separator into asserted s i answer t j
       → (t ≡ s) × (j.status.cut ≡ false)
@@ -280,7 +280,7 @@ module _ {S W T O D C : Type 0} {run : Runs S T O} {separator : Runs W T D} {g :
 
   pub separated_exact : (holds : C → List O → Type 0) → Holds into holds → IsSoft s.0 run
       → IsSoft s.1 separator → IsWithin (bounds_of s.2).greatest (bounds_of s.2).least
-      → IsExact s (RangedElements run separator into asserted) (Apart holds s.2 g h)
+      → IsExact s (RangedElements run separator into asserted) (SeparatedBy holds s.2 g h)
   unfolding Gathered
   separated_exact holds keeps f fb within = record {
     kept = kept_all;
@@ -295,7 +295,7 @@ module _ {S W T O D C : Type 0} {run : Runs S T O} {separator : Runs W T D} {g :
     where
       stands : (i : Input T) (o : C) (t : S × W × Range) (j : Input T) → i.status.cut ≡ false
           → RangedElements run separator into asserted s i (Ok o) t j
-          → Apart holds s.2 g h i.left.tokens o j.left.tokens
+          → SeparatedBy holds s.2 g h i.left.tokens o j.left.tokens
       stands i o t j is (inl (most, full, below, e, same, all), range) = ok_is_err refl e
       stands i o t j is (inr (inl (bounded, grows, e, same, all)), range) = ok_is_err refl e
       stands i o t j is (inr (inr (empty, bounded, starts, ran)), range) =
@@ -305,7 +305,7 @@ module _ {S W T O D C : Type 0} {run : Runs S T O} {separator : Runs W T D} {g :
 
 -- one or more elements that take tokens take some
 pub separated_takes : {T O D C : Type 0} (holds : C → List O → Type 0) (range : Range)
-    {g : Grammar T O} {h : Grammar T D} → IsUnique g → IsUnique h → Takes g
-    → 0 < (bounds_of range).least → Takes (Apart holds range g h)
+    {g : Grammar T O} {h : Grammar T D} → IsUnique g → IsUnique h → TakesTokens g
+    → 0 < (bounds_of range).least → TakesTokens (SeparatedBy holds range g h)
 separated_takes holds range element between takes some =
     gathered_takes holds (parted_takes element between (bounds_of range) takes some)

@@ -18,7 +18,7 @@ use Rattle.streams.specs.Kind.{Kind, backtrack, memory}
 use Rattle.winnow_core.specs.Decided.{AlikeAnswers, IsDecided}
 use Rattle.winnow_core.specs.Decided.Inputs.{one_short, both_err, both_ok, same_passed}
 use Rattle.winnow_core.specs.Short.{ShortKind}
-use Rattle.grammars.specs.Grammar.{NoneStands, Takes, Token}
+use Rattle.grammars.specs.Grammar.{NoneStands, TakesTokens, Token}
 use Rattle.grammars.specs.Grammar.Unique.{token_unique}
 use Rattle.stream_errors.specs.Form.Known.{ok_is_err, same_ok, same_kind}
 use Rattle.winnow_core.specs.Exact.{Backtracks, IsExact}
@@ -97,7 +97,7 @@ module _ {K T L : Type 0} (seen : K → T) (reading : Reading T L) (form : Error
       fails i k j is (inr (l, nothing, short, e, same)) =
           same_kind e ∙ short_backtracks form (Some 1) i l is short
 
-pub token_takes : {K T : Type 0} (seen : K → T) → Takes (Token seen)
+pub token_takes : {K T : Type 0} (seen : K → T) → TakesTokens (Token seen)
 unfolding Token
 token_takes seen = record { fewer = λ tokens k rest e. omega (arith, ap (λ l. length l) e) }
 

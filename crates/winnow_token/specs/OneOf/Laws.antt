@@ -20,7 +20,7 @@ use Rattle.winnow_core.specs.Decided.Inputs.{both_err, both_ok}
 use Rattle.winnow_token.specs.Any.Laws.{SeenSame, no_token, same_token}
 use Rattle.winnow_token.specs.Any.Laws.{first_of_none}
 use Rattle.streams.specs.Kind.{Kind, backtrack, memory}
-use Rattle.grammars.specs.Grammar.{NoneStands, Takes, TokenOf}
+use Rattle.grammars.specs.Grammar.{NoneStands, TakesTokens, TokenOf}
 use Rattle.grammars.specs.Grammar.Unique.{token_of_unique}
 use Rattle.stream_errors.specs.Form.Known.{ok_is_err, same_ok, same_kind}
 use Rattle.winnow_core.specs.Exact.{Backtracks, IsExact}
@@ -150,7 +150,7 @@ module _ {X K T L : Type 0} (seen : K → T) (reading : Reading T L) (form : Err
           same_kind e ∙ short_backtracks form (Some 1) i l is short
 
 pub token_of_takes : {X K T : Type 0} (seen : K → T) (tells : X → K → Bool → Type 0) (set : X)
-    → Takes (TokenOf seen tells set)
+    → TakesTokens (TokenOf seen tells set)
 unfolding TokenOf
 token_of_takes seen tells set = record {
   fewer = λ tokens k rest (has, e). omega (arith, ap (λ l. length l) e);

@@ -10,7 +10,7 @@ use Rattle.streams.specs.Stream.{AnswersSeen}
 use Rattle.stream_sets.specs.Longest.{IsLongest, within_is, one_longest}
 use Rattle.stream_sets.specs.Once.{TellsOnce}
 use Rattle.stream_sets.specs.Range.{Bounds, IsWithin}
-use Rattle.grammars.specs.Grammar.{IsUnique, Longest, NoneStands, Takes}
+use Rattle.grammars.specs.Grammar.{IsUnique, Longest, NoneStands, TakesTokens}
 use Rattle.stream_errors.specs.Form.{Answer, ErrorForm}
 use Rattle.stream_errors.specs.Form.Known.{ok_is_err, same_ok, same_kind}
 use Rattle.winnow_core.specs.Exact.{Backtracks, IsExact}
@@ -119,7 +119,7 @@ module _ {X S K T L : Type 0} (reading : Reading T L) (form : ErrorForm) (seen :
 -- where one is the least, or more, tokens are taken
 pub longest_takes : {S K T L : Type 0} (reading : Reading T L) (seen : K → T)
     (tells : S → K → Bool → Type 0) (set : S) (bounds : Bounds) → 0 < bounds.least
-    → Takes (Longest reading seen tells set bounds)
+    → TakesTokens (Longest reading seen tells set bounds)
 unfolding Longest
 longest_takes reading seen tells set bounds some = record {
   fewer = λ tokens o rest (front, longest, enough, shown). omega

@@ -16,7 +16,7 @@ use Rattle.stream_sets.specs.Range.{IsWithin, bounds_of, from_to, greatest_of}
 use Rattle.stream_sets.specs.declared.range.Range.{Range}
 use Rattle.stream_errors.specs.Form.{Answer, ErrorForm}
 use Rattle.stream_errors.specs.Form.Known.{ok_is_err, same_err, same_ok}
-use Rattle.winnow_core.specs.Reads.{MustLeave, Reads}
+use Rattle.winnow_core.specs.Reads.{MustLeave, ReadsShown}
 use Rattle.winnow_core.specs.Runs.{Keeps, Runs}
 use Rattle.winnow_token.specs.TakeWhile.{IsEnded, TakeWhileRuns}
 use Rattle.stream_sets.specs.Longest.{IsLongest}
@@ -273,7 +273,7 @@ TakesOf form P = Keeps (λ x. TakeWhileRuns counted_reading form
 
 -- it reads its slice, all of P and enough
 pub take_reads : {A T : Type 0} (form : ErrorForm) (P : T → Type 0) (range : Range)
-    → Reads (TakesOf {A = A} form P) (λ x. x.0 ≡ range) (λ slice. slice.now)
+    → ReadsShown (TakesOf {A = A} form P) (λ x. x.0 ≡ range) (λ slice. slice.now)
     (λ slice. All P slice.now × (range.start_inclusive ≤ length slice.now))
 take_reads form P range = record {
   reads = λ x i slice y j is ran.

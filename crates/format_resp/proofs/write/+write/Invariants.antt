@@ -1,5 +1,5 @@
 use Rattle.std.proofs.Common.{◌+◌, ◌*◌, ℕ, List, drop}
-use Rattle.winnow.specs.Texts.{Row}
+use Rattle.winnow.specs.Texts.{EachText}
 use Rattle.format_resp.specs.Written.{Adds, Keeps, WrittenText}
 use Rattle.format_resp.proofs.write.+write.Given as goal
 
@@ -16,8 +16,8 @@ decreases-write_array g l = 3 * l.level + 1
 -- what ends the replies from here ends them from the first on
 abbrev pub invariant-write_elements-loop-reply : goal.invariant-write_elements-loop-reply
 invariant-write_elements-loop-reply g l = record {
-  ends : (after : List ℕ) → Adds (Row (WrittenText l.level)) (drop l.reply-index l.replies)
+  ends : (after : List ℕ) → Adds (EachText (WrittenText l.level)) (drop l.reply-index l.replies)
       l.into.items after
-      → Adds (Row (WrittenText l.level)) l.replies l.initial.into.items after;
+      → Adds (EachText (WrittenText l.level)) l.replies l.initial.into.items after;
   kept : Keeps l.initial.into.items l.into.items;
 }

@@ -7,7 +7,7 @@ use Rattle.std.proofs.lemmas.List.{append-nil}
 use Rattle.streams.specs.Equal.{same_first, same_others}
 use Rattle.streams.specs.Reading.{Reading, units-nil}
 use Rattle.stream_sets.specs.Range.{Bounds}
-use Rattle.grammars.specs.Grammar.{IsUnique, Takes}
+use Rattle.grammars.specs.Grammar.{IsUnique, TakesTokens}
 use Rattle.grammars.specs.Grammar.Searches.{Before, IsBefore, IsLineOf, Line}
 use Rattle.stream_searches.specs.FindSlice.{IsFirstMatch, Stands}
 
@@ -94,7 +94,7 @@ module _ {T L : Type 0} (reading : Reading T L) (sought : List T → Type 0) (bo
   }
 
   -- where one is the least, or more, tokens are taken
-  pub before_takes : 0 < bounds.least → Takes (Before reading sought bounds)
+  pub before_takes : 0 < bounds.least → TakesTokens (Before reading sought bounds)
   unfolding Before
   before_takes some = record {
     fewer = λ tokens o rest (front, before, enough, within, shown). omega

@@ -1,7 +1,7 @@
 //! A carriage return and a line feed.
 ghost use Rattle.std.specs.Prelude.{⊤, [], ◌∷◌, ◌≡◌};
 ghost use Rattle.grammars.specs.Grammar.{SpelledBy};
-ghost use Rattle.grammars.specs.Grammar.Searches.{Text};
+ghost use Rattle.grammars.specs.Grammar.Searches.{LiterallyBytes};
 ghost use Rattle.grammars.specs.Grammar.Unique.{literally_takes};
 ghost use Rattle.winnow_core.specs.Agrees.{agrees_plain};
 ghost use Rattle.winnow_core.specs.Exact.Allowed.{backs};
@@ -42,7 +42,7 @@ impl<I: StreamIsPartial + Compare<&'static str>, E: ParserError<I>> Parser<I, I:
       backtracks = ⊤;
       spares_memory = ⊤;
       consumes = SpelledBy I.spells (13 ∷ 10 ∷ []) [] → ⊥;
-      grammar = Text I.reading I.spells (13 ∷ 10 ∷ []);
+      grammar = LiterallyBytes I.reading I.spells (13 ∷ 10 ∷ []);
       decides = SpellsByText I.spells;
       alike = ShowSame I.reading;
     } };

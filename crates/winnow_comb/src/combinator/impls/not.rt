@@ -1,6 +1,6 @@
 //! A child that is not to succeed.
 ghost use Rattle.std.specs.Prelude.{⊤};
-ghost use Rattle.grammars.specs.Grammar.{Absent};
+ghost use Rattle.grammars.specs.Grammar.{NotAhead};
 ghost use Rattle.stream_errors.specs.Form.{modal};
 ghost use Rattle.winnow_core.specs.Agrees.{agrees1};
 ghost use Rattle.winnow_core.specs.Exact.Allowed.{fails_as, softly};
@@ -45,7 +45,7 @@ impl<P: Parser<I, O, E>, I: Stream, O: Drop, E: ParserError<I>> Parser<I, (), E>
       backtracks = ⊤;
       spares_memory = (P.claim s).spares_memory;
       consumes = ⊥;
-      grammar = Absent (P.claim s).grammar;
+      grammar = NotAhead (P.claim s).grammar;
       decides = (P.claim s).decides;
       alike = λ o q. ⊤;
     } };

@@ -1,5 +1,5 @@
 //! A child that may be left out.
-ghost use Rattle.grammars.specs.Grammar.{Maybe};
+ghost use Rattle.grammars.specs.Grammar.{Optional};
 ghost use Rattle.stream_errors.specs.Form.{modal};
 ghost use Rattle.winnow_core.specs.Agrees.{agrees1};
 ghost use Rattle.winnow_core.specs.Exact.Allowed.{fails_as, softly};
@@ -45,7 +45,7 @@ impl<P: Parser<I, O, E>, I: Stream, O, E: ParserError<I>> Parser<I, Option<O>, E
       backtracks = ⊤;
       spares_memory = (P.claim s).spares_memory;
       consumes = ⊥;
-      grammar = Maybe (P.claim s).grammar;
+      grammar = Optional (P.claim s).grammar;
       decides = (P.claim s).decides;
       alike = AlikeOptions (P.claim s).alike;
     } };

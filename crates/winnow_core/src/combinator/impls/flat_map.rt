@@ -1,6 +1,7 @@
 //! Parsers that outputs decide.
 ghost use Rattle.std.specs.Prelude.{◌≡◌, ◌⊎◌};
-ghost use Rattle.grammars.specs.Grammar.Decided.{Decided, EachMade, MadeAlike, decided_takes};
+ghost use Rattle.grammars.specs.Grammar.Decided.{FlatMapped, EachMade, MadeAlike};
+ghost use Rattle.grammars.specs.Grammar.Decided.{flat_mapped_takes};
 ghost use Rattle.stream_errors.specs.Form.{modal};
 ghost use Rattle.winnow_core.specs.Closures.{Gives, Stays};
 ghost use Rattle.winnow_core.specs.Exact.Allowed.{fails_as};
@@ -77,7 +78,7 @@ impl<
           × EachMade (Gives G.step) s.1 (λ m. (H.claim (H.state m)).spares_memory);
       consumes = (F.claim s.0).consumes
           ⊎ EachMade (Gives G.step) s.1 (λ m. (H.claim (H.state m)).consumes);
-      grammar = Decided (Gives G.step) s.1 (λ m. (H.claim (H.state m)).grammar)
+      grammar = FlatMapped (Gives G.step) s.1 (λ m. (H.claim (H.state m)).grammar)
           (F.claim s.0).grammar;
       decides = (F.claim s.0).decides × Stays G.step s.1
           × MakesOne G.step s.1 H.state (F.claim s.0).alike
@@ -97,7 +98,7 @@ impl<
           (fails_as (λ b. b.0) (λ m. m.0) ((F.claimed s.0).fails form is.0))
           (λ o made m. fails_as (λ b. b.1 o made m) (λ x. x.1 o made m)
           ((H.claimed (H.state made)).fails form (is.2 o made m)));
-      takes = λ is some. decided_takes (Gives G.step) s.1 (λ m. (H.claim (H.state m)).grammar)
+      takes = λ is some. flat_mapped_takes (Gives G.step) s.1 (λ m. (H.claim (H.state m)).grammar)
           ((F.claimed s.0).exact modal is.0).unique
           (λ o made m. ((H.claimed (H.state made)).exact modal (is.2 o made m)).unique)
           (either_way ((F.claimed s.0).takes is.0)

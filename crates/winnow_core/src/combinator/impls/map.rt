@@ -6,7 +6,7 @@ ghost use Rattle.stream_errors.specs.Form.{modal};
 ghost use Rattle.winnow_core.specs.Agrees.{agrees_with};
 ghost use Rattle.winnow_core.specs.Closures.{Gives, Stays};
 ghost use Rattle.winnow_core.specs.Decided.Adapters.{map_decided};
-ghost use Rattle.winnow_core.specs.Decided.Made.{MadeAlike};
+ghost use Rattle.winnow_core.specs.Decided.Made.{OutputsMadeAlike};
 ghost use Rattle.winnow_core.specs.Exact.Adapters.{map_exact, map_fails};
 ghost use Rattle.winnow_core.specs.Map.{MapRuns, map_parser, map_closure};
 ghost use Rattle.winnow_core.specs.Map.Laws.{map_ends, map_grows};
@@ -63,7 +63,7 @@ impl<F: Parser<I, O, E>, G: FnMut(O) -> O2, I: Stream, O, O2, E: ParserError<I>>
       consumes = (F.claim s.0).consumes;
       grammar = Made (Gives G.step) s.1 (F.claim s.0).grammar;
       decides = (F.claim s.0).decides × Stays G.step s.1;
-      alike = MadeAlike (F.claim s.0).alike (Gives G.step s.1);
+      alike = OutputsMadeAlike (F.claim s.0).alike (Gives G.step s.1);
     } };
 
     ghost leaves_ends = { λ form. map_ends I.reading (F.meaning form) G.step (F.leaves_ends form) };

@@ -5,7 +5,7 @@ ghost use Rattle.grammars.specs.Grammar.Unique.{made_of_takes};
 ghost use Rattle.stream_errors.specs.Form.{modal};
 ghost use Rattle.winnow_core.specs.Agrees.{agrees1};
 ghost use Rattle.winnow_core.specs.Decided.Adapters.{output_decided};
-ghost use Rattle.winnow_core.specs.Decided.Made.{MadeAlike};
+ghost use Rattle.winnow_core.specs.Decided.Made.{OutputsMadeAlike};
 ghost use Rattle.winnow_core.specs.Exact.Adapters.{output_exact, output_fails};
 ghost use Rattle.winnow_core.specs.MakesOutput.Laws.{makes_output_ends, made_of_output};
 ghost use Rattle.winnow_core.specs.MakesOutput.Laws.{makes_output_grows};
@@ -60,7 +60,7 @@ impl<F: Parser<I, O, E>, I: Stream, O, O2: From<O>, E: ParserError<I>> Parser<I,
       consumes = (F.claim s).consumes;
       grammar = Made (λ (_ : Unit {0}) o u. O2.from_gives o u) tt (F.claim s).grammar;
       decides = (F.claim s).decides;
-      alike = MadeAlike (F.claim s).alike (λ o u. O2.from_gives o u);
+      alike = OutputsMadeAlike (F.claim s).alike (λ o u. O2.from_gives o u);
     } };
 
     ghost leaves_ends = { λ form. makes_output_ends I.reading _ (F.meaning form)

@@ -6,7 +6,7 @@ ghost use Rattle.grammars.specs.Grammar.Unique.{made_of_takes};
 ghost use Rattle.stream_errors.specs.Form.{modal};
 ghost use Rattle.winnow_core.specs.Agrees.{agrees1};
 ghost use Rattle.winnow_core.specs.Decided.Adapters.{ReadsSame, parse_to_decided};
-ghost use Rattle.winnow_core.specs.Decided.Made.{MadeAlike};
+ghost use Rattle.winnow_core.specs.Decided.Made.{OutputsMadeAlike};
 ghost use Rattle.winnow_core.specs.Exact.Settled.{ReadsNone, ReadsSome, parse_to_exact};
 ghost use Rattle.winnow_core.specs.Exact.Settled.{parse_to_fails};
 ghost use Rattle.winnow_core.specs.ParseTo.{ParseToSettles, ParseToRuns, parse_to_parser};
@@ -66,7 +66,7 @@ impl<F: Parser<I, O, E>, I: Stream, O: ParseSlice<O2> + Drop, O2, E: ParserError
       consumes = (F.claim s).consumes;
       grammar = Made (ReadsSome O.reads) tt (F.claim s).grammar;
       decides = (F.claim s).decides × ReadsSame O.reads (F.claim s).alike;
-      alike = MadeAlike (F.claim s).alike (λ o u. O.reads o (Some u));
+      alike = OutputsMadeAlike (F.claim s).alike (λ o u. O.reads o (Some u));
     } };
 
     ghost leaves_ends = { λ form s i answer t j ran. settles_ends I.reading

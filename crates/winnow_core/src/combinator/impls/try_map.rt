@@ -7,7 +7,7 @@ ghost use Rattle.stream_errors.specs.Form.{modal};
 ghost use Rattle.stream_errors.specs.Given.{Keeping};
 ghost use Rattle.winnow_core.specs.Agrees.{agrees_with};
 ghost use Rattle.winnow_core.specs.Closures.{Stays};
-ghost use Rattle.winnow_core.specs.Decided.Made.{MadeAlike};
+ghost use Rattle.winnow_core.specs.Decided.Made.{OutputsMadeAlike};
 ghost use Rattle.winnow_core.specs.Exact.Allowed.{fails_as};
 ghost use Rattle.winnow_core.specs.Exact.Settled.{ErrorsKept, GivesErr, GivesOk, try_map_exact};
 ghost use Rattle.winnow_core.specs.Exact.Settled.{try_map_fails};
@@ -78,7 +78,7 @@ impl<
       grammar = Made (GivesOk G.step) s.1.0 (F.claim s.0).grammar;
       decides = (F.claim s.0).decides × Stays G.step s.1.0
           × TriesSame G.step s.1.0 (F.claim s.0).alike;
-      alike = MadeAlike (F.claim s.0).alike (GivesOk G.step s.1.0);
+      alike = OutputsMadeAlike (F.claim s.0).alike (GivesOk G.step s.1.0);
     } };
 
     ghost leaves_ends = { λ form. settles_ends I.reading

@@ -7,7 +7,7 @@ ghost use Rattle.stream_errors.specs.Form.{modal};
 ghost use Rattle.winnow_core.specs.Agrees.{agrees_with};
 ghost use Rattle.winnow_core.specs.Closures.{Stays, GivesSome};
 ghost use Rattle.winnow_core.specs.Decided.Adapters.{RefusesSame, verify_map_decided};
-ghost use Rattle.winnow_core.specs.Decided.Made.{MadeAlike};
+ghost use Rattle.winnow_core.specs.Decided.Made.{OutputsMadeAlike};
 ghost use Rattle.winnow_core.specs.Exact.Settled.{GivesNone, verify_map_exact, verify_map_fails};
 ghost use Rattle.winnow_core.specs.Stable.Grows.{grows, stays};
 ghost use Rattle.winnow_core.specs.VerifyMap.{VerifyMapRuns, verify_map_parser, verify_map_closure};
@@ -69,7 +69,7 @@ impl<F: Parser<I, O, E>, G: FnMut(O) -> Option<O2>, I: Stream, O, O2, E: ParserE
       grammar = Made (GivesSome G.step) s.1 (F.claim s.0).grammar;
       decides = (F.claim s.0).decides × Stays G.step s.1
           × RefusesSame G.step s.1 (F.claim s.0).alike;
-      alike = MadeAlike (F.claim s.0).alike (GivesSome G.step s.1);
+      alike = OutputsMadeAlike (F.claim s.0).alike (GivesSome G.step s.1);
     } };
 
     ghost leaves_ends = { λ form. verify_map_ends I.reading (F.meaning form) G.step

@@ -3,7 +3,7 @@ ghost use Rattle.std.specs.Prelude.{◌≡◌, ◌<◌, ⊤};
 ghost use Rattle.streams.specs.Input.{IsEndOf};
 ghost use Rattle.stream_sets.specs.Range.{IsWithin, from_to, bounds_of};
 ghost use Rattle.stream_sets.specs.declared.range.Range.{Range};
-ghost use Rattle.grammars.specs.Grammar.{Apart};
+ghost use Rattle.grammars.specs.Grammar.{SeparatedBy};
 ghost use Rattle.stream_errors.specs.Form.{answer_by, assert_kind, modal};
 ghost use Rattle.winnow_core.specs.Agrees.Beside.{agrees2_with};
 ghost use Rattle.winnow_core.specs.Exact.Allowed.{fails_as, wanted, softly};
@@ -69,7 +69,7 @@ impl<
       spares_memory =
           (P.claim s.0).spares_memory × (S.claim s.1).spares_memory × C.spares_memory;
       consumes = (P.claim s.0).consumes × (0 < (bounds_of s.2).least);
-      grammar = Apart C.holds s.2 (P.claim s.0).grammar (S.claim s.1).grammar;
+      grammar = SeparatedBy C.holds s.2 (P.claim s.0).grammar (S.claim s.1).grammar;
       decides = (P.claim s.0).decides × (S.claim s.1).decides;
       alike = HeldAlike C.holds (P.claim s.0).alike;
     } };

@@ -1,10 +1,11 @@
 use Rattle.std.proofs.Common.{◌≡◌, [], length}
-use Rattle.format_ini.specs.Documents.{Reads}
+use Rattle.format_ini.specs.Documents.{ReadsLines}
 use Rattle.format_ini.proofs.documents.Entries.next_entry.Given as goal
 
 abbrev pub invariant-lines : goal.invariant-lines
 invariant-lines l = record {
-  read : Reads l.initial.self.dialect l.initial.self.state l.initial.self.rest.now [] l.self.state
+  read : ReadsLines l.initial.self.dialect l.initial.self.state l.initial.self.rest.now []
+        l.self.state
       l.self.rest.now;
   same : l.self.dialect ≡ l.initial.self.dialect;
 }
