@@ -5,9 +5,8 @@ use Rattle.std.specs.declared.vec.Vec.{Vec}
 use Rattle.winnow.specs.Following.{most_bytes}
 use Rattle.format_csv.specs.Csv.{FieldText, InQuotes, IsPlain, IsRecord, RecordText, line_end}
 use Rattle.format_csv.specs.declared.LineEnd.{LineEnd}
-use Rattle.winnow.specs.Texts.{EitherText, InList, Itself, PartedText, TokenOfText, EachText}
-use Rattle.winnow.specs.Texts.{Spelled, Text}
-use Rattle.winnow.specs.Texts.{BothText}
+use Rattle.winnow.specs.Texts.{BothText, EachText, EitherText, InList, Itself, PartedText, Spelled}
+use Rattle.winnow.specs.Texts.{Text, TokenOfText}
 use Rattle.exported.specs.Csv.{CountsRecord, Fields, IsRecordForGood}
 use Rattle.exported.specs.Texts.{AreFields, text_of}
 use Rattle.exported.specs.declared.csv.Record.{Record}
@@ -61,7 +60,7 @@ field_long field xs (inr is) = row_long (TokenOfText (λ b. b) IsPlain) plain_on
 
 others_long : (fields : List (Vec ℕ Global)) (xs : List ℕ)
     → EachText (BothText (λ _ o. o) (Itself 44) FieldText) fields xs
-        → length (text_of fields) ≤ length xs
+    → length (text_of fields) ≤ length xs
 unfolding EachText BothText
 others_long [] xs e = omega arith
 others_long (f ∷ fields) xs (ys, zs, (c, g, us, vs, _, is, e, same), more, d) =

@@ -6,9 +6,8 @@ use Rattle.format_csv.specs.declared.LineEnd.{LineEnd}
 use Rattle.format_csv.specs.declared.LineEnd.TheVariants.{CrLf, Lf}
 use Rattle.winnow.specs.Grammar.{Grammar}
 use Rattle.winnow.specs.Grammar.Known.{Listed}
-use Rattle.winnow.specs.Texts.{EitherText, AtLeast, InList, Itself, PartedText, TokenOfText}
-use Rattle.winnow.specs.Texts.{EachText, Text}
-use Rattle.winnow.specs.Texts.{BothText}
+use Rattle.winnow.specs.Texts.{AtLeast, BothText, EachText, EitherText, InList, Itself, PartedText}
+use Rattle.winnow.specs.Texts.{Text, TokenOfText}
 
 -- A byte of a field without quotes: no quote, comma, carriage return or line feed.
 abbrev pub IsPlain : ℕ → Type 0
@@ -17,7 +16,7 @@ IsPlain b = (b ≡ 34 → ⊥) × ((b ≡ 44 → ⊥) × ((b ≡ 13 → ⊥) × 
 -- a byte in quotes: two quotes for one, or any other byte
 abbrev pub InQuotes : Text ℕ ℕ
 InQuotes = EitherText (BothText (λ _ b. b) (Itself 34) (Itself 34))
-      (TokenOfText (λ b. b) (λ b. b ≡ 34 → ⊥))
+    (TokenOfText (λ b. b) (λ b. b ≡ 34 → ⊥))
 
 -- what ends a line
 abbrev pub line_end : LineEnd → List ℕ
@@ -29,7 +28,7 @@ module _ {A : Type 0} where
   abbrev pub QuotedText : Text ℕ (Vec ℕ A)
   QuotedText =
       BothText (λ _ o. o) (Itself 34)
-            (BothText (λ o _. o) (InList (AtLeast 0 (EachText InQuotes))) (Itself 34))
+      (BothText (λ o _. o) (InList (AtLeast 0 (EachText InQuotes))) (Itself 34))
 
   -- a field: in quotes, or plain bytes
   abbrev pub FieldText : Text ℕ (Vec ℕ A)

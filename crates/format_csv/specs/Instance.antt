@@ -17,8 +17,8 @@ use Rattle.format_csv.specs.Csv.{FieldText, InQuotes, IsPlain, IsRecord, QuotedT
 use Rattle.format_csv.specs.Csv.{line_end}
 use Rattle.format_csv.specs.declared.LineEnd.{LineEnd}
 use Rattle.format_csv.specs.declared.LineEnd.TheVariants.{CrLf, Lf}
-use Rattle.winnow.specs.Texts.{EitherText, InList, Itself, PartedText, TokenOfText, EachText}
-use Rattle.winnow.specs.Texts.{Spelled, BothText}
+use Rattle.winnow.specs.Texts.{BothText, EachText, EitherText, InList, Itself, PartedText, Spelled}
+use Rattle.winnow.specs.Texts.{TokenOfText}
 
 -- The dialect of commas and double quotes with these line ends.
 abbrev pub ends_as : LineEnd → LineEnds

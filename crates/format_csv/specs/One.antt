@@ -16,13 +16,13 @@ use Rattle.format_csv.specs.Read.{list_unique, plain_byte, plain_byte_unique, re
 use Rattle.format_csv.specs.declared.LineEnd.{LineEnd}
 use Rattle.winnow.specs.Grammar.{Each}
 use Rattle.winnow.specs.Grammar.Known.{Listed, byte_unique}
-use Rattle.winnow.specs.Texts.{InList, Itself, MayBegin, TokenOfText, EachText, Spelled, Text}
+use Rattle.winnow.specs.Texts.{EachText, InList, Itself, MayBegin, Spelled, Text, TokenOfText}
 use Rattle.winnow.specs.Back.{IsUnambiguous, among_one, in_list_one, joined_one}
 use Rattle.winnow.specs.Back.{never_both, one_weaker, row_one, split_one, spelled_one}
 use Rattle.winnow.specs.Back.{then_one}
-use Rattle.winnow.specs.Texts.Fronts.{either_front, begins_wider, front_any, front_begins}
-use Rattle.winnow.specs.Texts.Fronts.{front_behind, in_list_front, may_begin_none}
-use Rattle.winnow.specs.Texts.Fronts.{token_of_begins, each_front, spelled_begins, both_front}
+use Rattle.winnow.specs.Texts.Fronts.{begins_wider, both_front, each_front, either_front, front_any}
+use Rattle.winnow.specs.Texts.Fronts.{front_begins, front_behind, in_list_front, may_begin_none}
+use Rattle.winnow.specs.Texts.Fronts.{spelled_begins, token_of_begins}
 use Rattle.winnow.specs.Texts.Tokens.{byte_of}
 
 own_one : (these : ℕ → Type 0) → IsUnambiguous (TokenOfText (λ b. b) these) (λ o p. o ≡ p)

@@ -29,12 +29,11 @@ use Rattle.winnow.specs.Grammar.Unique.{ahead_unique, both_unique}
 use Rattle.winnow.specs.Grammar.Unique.{either_unique, gathered_unique, literally_unique}
 use Rattle.winnow.specs.Grammar.Unique.{made_unique, many_unique}
 use Rattle.winnow.specs.Grammar.Unique.{parted_unique, token_of_unique}
-use Rattle.winnow.specs.Texts.{Anything, AtLeast, InFront, InList, IsGrammarOf, Itself}
-use Rattle.winnow.specs.Texts.{MayBegin, NotFirst, TokenOfText, EachText, Spelled}
-use Rattle.winnow.specs.Texts.Fronts.{begins_wider, front_any, front_begins, front_behind}
-use Rattle.winnow.specs.Texts.Fronts.{in_list_front, may_begin_more, none_begins}
-use Rattle.winnow.specs.Texts.Fronts.{token_of_begins}
-use Rattle.winnow.specs.Texts.Fronts.{each_front, spelled_begins, both_front}
+use Rattle.winnow.specs.Texts.{Anything, AtLeast, EachText, InFront, InList, IsGrammarOf, Itself}
+use Rattle.winnow.specs.Texts.{MayBegin, NotFirst, Spelled, TokenOfText}
+use Rattle.winnow.specs.Texts.Fronts.{begins_wider, both_front, each_front, front_any, front_begins}
+use Rattle.winnow.specs.Texts.Fronts.{front_behind, in_list_front, may_begin_more, none_begins}
+use Rattle.winnow.specs.Texts.Fronts.{spelled_begins, token_of_begins}
 use Rattle.winnow.specs.Texts.Parts.{behind_less, both_of, either_apart, three_of}
 use Rattle.winnow.specs.Texts.Rows.{list_of, many_of, parted_of}
 use Rattle.winnow.specs.Texts.Tokens.{byte_of, divides_either, divides_others, divides_where}
@@ -57,7 +56,7 @@ in_quotes = either_apart (both_of (λ _ b. b) (byte_of 34) (byte_of 34) front_an
     (token_of (λ b. b) (Others Tells) 34 (divides_others Tells 34 (divides_where (λ b. b ≡ 34))))
     (both_front (λ _ b. b) (spelled_begins 34 [] 34) front_any)
     (front_begins (λ b (k, e, other) is. other (e ∙ is))
-            (token_of_begins (λ b. b) (λ b. b ≡ 34 → ⊥)))
+    (token_of_begins (λ b. b) (λ b. b ≡ 34 → ⊥)))
 
 pub in_quotes_unique : IsUnique InQuotesRead
 in_quotes_unique = either_unique (both_unique (λ _ b. b) (byte_unique 34) (byte_unique 34))
@@ -145,7 +144,7 @@ end_not_plain b (_, inr (_, inr (_, is))) plain = plain.1.1.1 is
 no_plain : (rest : List ℕ) → MayBegin IsEnd rest → NoneStands PlainByte rest
 no_plain rest end = none_begins plain_byte
     (begins_wider (λ b (k, e, plain). subst IsPlain e plain) (token_of_begins (λ b. b) IsPlain))
-          rest
+    rest
     (may_begin_more IsEnd (λ b. IsPlain b → ⊥) end_not_plain rest end)
 
 no_comma : (rest : List ℕ) → MayBegin IsBreak rest → NoneStands (Byte 44) rest

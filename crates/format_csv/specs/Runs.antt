@@ -25,9 +25,8 @@ use Rattle.winnow.specs.Grammar.Known.{byte_stands, slice_for}
 use Rattle.winnow.specs.RunByRun as runs
 use Rattle.winnow.specs.RunByRun.{RunOf, each_behind, each_one, each_run, run_same}
 use Rattle.winnow.specs.RunByRun.{run_takes, run_wants}
-use Rattle.winnow.specs.Texts.{MayBegin, TokenOfText, Spelled, BothText, EitherText}
-use Rattle.winnow.specs.Texts.Fronts.{begins_wider, may_begin_more, none_begins}
-use Rattle.winnow.specs.Texts.Fronts.{token_of_begins}
+use Rattle.winnow.specs.Texts.{BothText, EitherText, MayBegin, Spelled, TokenOfText}
+use Rattle.winnow.specs.Texts.Fronts.{begins_wider, may_begin_more, none_begins, token_of_begins}
 use Rattle.winnow.specs.Texts.Tokens.{divides_either, divides_others, divides_seen}
 use Rattle.winnow.specs.Texts.Tokens.{divides_where}
 
@@ -113,7 +112,7 @@ special_not_plain b (inr (_, inr (_, inr (_, feed)))) plain = plain.1.1.1 feed
 no_plain : (rest : List ℕ) → MayBegin IsSpecial rest → NoneStands PlainByte rest
 no_plain rest special = none_begins plain_byte
     (begins_wider (λ b (k, e, plain). subst IsPlain e plain) (token_of_begins (λ b. b) IsPlain))
-          rest
+    rest
     (may_begin_more IsSpecial (λ b. IsPlain b → ⊥) special_not_plain rest special)
 
 plain_one : (b : ℕ) (rest : List ℕ) → IsPlain b → PlainByte (b ∷ rest) b rest

@@ -51,7 +51,7 @@ reads_line d s next text line rest said first step =
 
 pub reads_more : (d : Dialect) (s mid next : State) (text here rest : List ℕ)
     (said more : List Said) → ReadsLines d s text said mid here
-        → ReadsLines d mid here more next rest
+    → ReadsLines d mid here more next rest
     → ReadsLines d s text (said ++ more) next rest
 reads_more d s mid next text here rest said more (lines, are, it) (others, too, on) = (
   lines ++ others,

@@ -5,7 +5,7 @@ use Rattle.std.proofs.lemmas.Bool.Decides.{nat_tests}
 use Rattle.winnow.specs.AsChar.{IsDecDigit}
 use Rattle.winnow.specs.Text.{text_reading}
 use Rattle.winnow.specs.Texts.{InFront, Text}
-use Rattle.winnow.specs.Texts.Fronts.{either_front, taken_front, both_front}
+use Rattle.winnow.specs.Texts.Fronts.{both_front, either_front, taken_front}
 use Rattle.format_json_texts.specs.Number.{ExponentText, FractionText, IntegerText, IsLeading}
 use Rattle.format_json_texts.specs.Number.{NumberText}
 use Rattle.format_json_texts.specs.Words.{One, Run, latter, pair, to_four}

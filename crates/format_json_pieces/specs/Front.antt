@@ -25,9 +25,9 @@ use Rattle.format_json_pieces.specs.General.{in_front, joined_front, one_front, 
 use Rattle.format_json_pieces.specs.General.{spelled_front}
 use Rattle.format_json_pieces.specs.Value.{IsNumeral}
 use Rattle.winnow.specs.Text.{text_reading}
-use Rattle.winnow.specs.Texts.{InFront, InList, PartedText, MadeText, Spelled, Text, BothText}
-use Rattle.winnow.specs.Texts.Fronts.{either_front, gathered_front, in_list_front, optional_front}
-use Rattle.winnow.specs.Texts.Fronts.{each_front, taken_front, both_front}
+use Rattle.winnow.specs.Texts.{BothText, InFront, InList, MadeText, PartedText, Spelled, Text}
+use Rattle.winnow.specs.Texts.Fronts.{both_front, each_front, either_front, gathered_front}
+use Rattle.winnow.specs.Texts.Fronts.{in_list_front, optional_front, taken_front}
 
 -- numbers have numerals alone
 pub number_front : {tokens : List ℕ → Type 0} → Adds IsNumeral tokens
@@ -53,7 +53,7 @@ number_front {tokens} adds =
     exponent : InFront ExponentText tokens tokens
     exponent =
         both_front latter
-              (both_front pair (either_front (one 101 (inr (inr (inr (inr (inr refl))))))
+        (both_front pair (either_front (one 101 (inr (inr (inr (inr (inr refl))))))
         (one 69 (inr (inr (inr (inr (inl refl)))))))
         (optional_front (either_front (one 43 (inr (inl refl))) (one 45 (inr (inr (inl refl)))))))
         (digits 1)

@@ -10,8 +10,8 @@ use Rattle.std.proofs.lemmas.List.Elements.{All-from_recursion, All-tail, All-we
 use Rattle.std.proofs.lemmas.Str.{encode_ascii}
 use Rattle.format_json_texts.specs.Words.{In, One, Run}
 use Rattle.winnow.specs.Equal.{same_first, same_others}
-use Rattle.winnow.specs.Texts.{NotFirst, InFront, PartedText, Spelled, Text}
-use Rattle.winnow.specs.Texts.Fronts.{each_front, both_front}
+use Rattle.winnow.specs.Texts.{InFront, NotFirst, PartedText, Spelled, Text}
+use Rattle.winnow.specs.Texts.Fronts.{both_front, each_front}
 use Rattle.winnow.specs.Utf8.{four_bytes, three_bytes, two_bytes}
 
 -- ---- lists

@@ -17,8 +17,8 @@ use Rattle.winnow.specs.Cut.{Asks}
 use Rattle.winnow.specs.Equal.{true_is_false}
 use Rattle.winnow.specs.Kind.{Kind, incomplete}
 use Rattle.winnow.specs.Grammar.{NoneStands}
-use Rattle.winnow.specs.Texts.{Begins, InFront, InList, PartedText, Text, BothText}
-use Rattle.winnow.specs.Texts.Fronts.{either_front, in_list_front, both_front}
+use Rattle.winnow.specs.Texts.{Begins, BothText, InFront, InList, PartedText, Text}
+use Rattle.winnow.specs.Texts.Fronts.{both_front, either_front, in_list_front}
 use Rattle.format_json_texts.specs.Values.{ArrayText, HasText, IsArray, IsNumber, IsObject}
 use Rattle.format_json_texts.specs.Values.{IsString, IsWord, Mark, ObjectText, ScalarText}
 use Rattle.format_json_texts.specs.Values.{JsonText, ValueText}

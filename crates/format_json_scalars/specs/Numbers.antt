@@ -11,8 +11,8 @@ use Rattle.format_json_texts.specs.Number.{IsLeading}
 use Rattle.format_json_texts.specs.Words.{Char, RunOf, latter, pair}
 use Rattle.winnow.specs.Exact.Adapters.{taken_takes}
 use Rattle.winnow.specs.OneOf.Laws.{token_of_takes}
-use Rattle.winnow.specs.Grammar.{Both, Class, Either, Grammar, InClass, IsUnique, Optional}
-use Rattle.winnow.specs.Grammar.{Taken, TakesTokens, TokenOf}
+use Rattle.winnow.specs.Grammar.{Both, Class, Either, Grammar, InClass, IsUnique, Optional, Taken}
+use Rattle.winnow.specs.Grammar.{TakesTokens, TokenOf}
 use Rattle.winnow.specs.Grammar.Alike.{both_same, either_same}
 use Rattle.winnow.specs.Grammar.Same.{Same, same_refl}
 use Rattle.winnow.specs.Grammar.Tuples.{Four}

@@ -6,14 +6,12 @@ use Rattle.winnow.specs.Text.{text_reading}
 use Rattle.winnow.specs.AsChar.{IsDecDigit}
 use Rattle.winnow.specs.Grammar.{Both, Either, Grammar, Optional, Taken}
 use Rattle.winnow.specs.Grammar.Tuples.{Four}
-use Rattle.winnow.specs.Texts.{EitherText, Anything, Begins, BeginsIn, InFront, IsGrammarOf}
-use Rattle.winnow.specs.Texts.{NotFirst, OptionalText}
-use Rattle.winnow.specs.Texts.{TakenText, Text, BothText}
-use Rattle.winnow.specs.Texts.Fronts.{either_front, begins_more, begins_wider, front_any}
-use Rattle.winnow.specs.Texts.Fronts.{front_begins}
-use Rattle.winnow.specs.Texts.Fronts.{front_behind, front_whole, none_begins, not_first}
-use Rattle.winnow.specs.Texts.Fronts.{optional_front, taken_front}
-use Rattle.winnow.specs.Texts.Fronts.{spelled_begins, both_front}
+use Rattle.winnow.specs.Texts.{Anything, Begins, BeginsIn, BothText, EitherText, InFront}
+use Rattle.winnow.specs.Texts.{IsGrammarOf, NotFirst, OptionalText, TakenText, Text}
+use Rattle.winnow.specs.Texts.Fronts.{begins_more, begins_wider, both_front, either_front}
+use Rattle.winnow.specs.Texts.Fronts.{front_any, front_begins, front_behind, front_whole}
+use Rattle.winnow.specs.Texts.Fronts.{none_begins, not_first, optional_front, spelled_begins}
+use Rattle.winnow.specs.Texts.Fronts.{taken_front}
 use Rattle.winnow.specs.Texts.Parts.{behind_less, both_of, either_apart, optional_of, same_of}
 use Rattle.winnow.specs.Texts.Parts.{taken_of}
 use Rattle.format_json_texts.specs.Words.{Char, FourTexts, In, One, OneIn, Run, RunOf}
@@ -48,7 +46,7 @@ FractionText = BothText latter (One 46) (Run IsDecDigit 1)
 abbrev pub ExponentText : Text ℕ Slice
 ExponentText =
     BothText latter (BothText pair (EitherText (One 101) (One 69))
-            (OptionalText (EitherText (One 43) (One 45))))
+    (OptionalText (EitherText (One 43) (One 45))))
     (Run IsDecDigit 1)
 
 -- number = [ minus ] int [ frac ] [ exp ]
@@ -56,7 +54,7 @@ abbrev pub NumberText : Text ℕ Slice
 NumberText =
     TakenText text_reading
     (FourTexts (OptionalText (One 45)) IntegerText (OptionalText FractionText)
-            (OptionalText ExponentText))
+    (OptionalText ExponentText))
 
 -- ---- what is read
 
@@ -98,7 +96,7 @@ integer_of =
 integer_begins : BeginsIn IsDecDigit IntegerText
 integer_begins =
     either_front (taken_front text_reading
-            (front_whole (begins_more _ _ (λ c is. omega (arith, is)))
+    (front_whole (begins_more _ _ (λ c is. omega (arith, is)))
     (spelled_begins 48 [] 48)))
     (taken_front text_reading (both_front pair
     (front_whole (begins_more _ _ (λ c is. omega (arith, is))) (in_begins IsLeading))

@@ -8,12 +8,11 @@ use Rattle.winnow.specs.Grammar.{Both, Either, Gathered, Grammar, Made, Many, No
 use Rattle.winnow.specs.Grammar.{Three, Token}
 use Rattle.winnow.specs.Grammar.Meaning.{Meaning}
 use Rattle.winnow.specs.Grammar.Tuples.{Four}
-use Rattle.winnow.specs.Texts.{EitherText, Anything, Begins, BeginsIn, GatheredText}
-use Rattle.winnow.specs.Texts.{IsGrammarOf}
-use Rattle.winnow.specs.Texts.{MadeText, EachText, Text, BothText}
-use Rattle.winnow.specs.Texts.Fronts.{either_front, begins_wider, front_any, front_begins}
-use Rattle.winnow.specs.Texts.Fronts.{front_whole}
-use Rattle.winnow.specs.Texts.Fronts.{may_begin, none_begins, spelled_begins, both_front}
+use Rattle.winnow.specs.Texts.{Anything, Begins, BeginsIn, BothText, EachText, EitherText}
+use Rattle.winnow.specs.Texts.{GatheredText, IsGrammarOf, MadeText, Text}
+use Rattle.winnow.specs.Texts.Fronts.{begins_wider, both_front, either_front, front_any}
+use Rattle.winnow.specs.Texts.Fronts.{front_begins, front_whole, may_begin, none_begins}
+use Rattle.winnow.specs.Texts.Fronts.{spelled_begins}
 use Rattle.winnow.specs.Texts.Parts.{both_of, either_apart, either_of}
 use Rattle.winnow.specs.Texts.Parts.{same_of}
 use Rattle.winnow.specs.Texts.Rows.{gathered_of, many_of}
@@ -67,13 +66,13 @@ abbrev pub UnicodeText : Text ℕ ℕ
 UnicodeText =
     EitherText (For IsAlone UnitText)
     (For ArePair (BothText pair UnitText
-              (BothText latter (BothText pair (One 92) (One 117)) UnitText)))
+    (BothText latter (BothText pair (One 92) (One 117)) UnitText)))
 
 -- escape ( %x22 / %x5C / %x2F / %x62 / %x66 / %x6E / %x72 / %x74 / %x75 4HEXDIG )
 abbrev pub EscapeText : Text ℕ ℕ
 EscapeText =
     BothText latter (One 92)
-          (EitherText (For StandsFor Whichever) (BothText latter (One 117) UnicodeText))
+    (EitherText (For StandsFor Whichever) (BothText latter (One 117) UnicodeText))
 
 -- char = unescaped / escape ( .. )
 abbrev pub CharacterText : Text ℕ ℕ
@@ -182,8 +181,8 @@ unicode_of =
 
     alone : (c : ℕ) (xs rest : List ℕ)
         → For ArePair
-              (BothText pair UnitText
-                (BothText latter (BothText pair (One 92) (One 117)) UnitText))
+        (BothText pair UnitText
+        (BothText latter (BothText pair (One 92) (One 117)) UnitText))
         c xs
         → Anything rest → NoneStands (Meaning IsAlone CodeUnit) (xs ++ rest)
     alone c xs rest (p, (o1, o2, ys, zs, a, b, e, out), are) any d more (u, stands, is) =

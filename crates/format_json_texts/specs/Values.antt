@@ -7,8 +7,7 @@ use Rattle.winnow.specs.AsChar.{IsMultispace}
 use Rattle.winnow.specs.Range.{from_to}
 use Rattle.winnow.specs.Grammar.{Both, Either, Gathered, Grammar, Parted, Three}
 use Rattle.winnow.specs.Grammar.Meaning.{Meaning}
-use Rattle.winnow.specs.Texts.{EitherText, InList}
-use Rattle.winnow.specs.Texts.{PartedText, Spelled, Text, BothText}
+use Rattle.winnow.specs.Texts.{BothText, EitherText, InList, PartedText, Spelled, Text}
 use Rattle.format_json_texts.specs.Number.{Number, NumberText, Slice}
 use Rattle.format_json_texts.specs.Strings.{Quoted, StringText}
 use Rattle.format_json_texts.specs.Words.{Between, Char, For, One, Run, RunOf, Word, former}

@@ -14,9 +14,9 @@ use Rattle.winnow.specs.Grammar.{Both, Class, Grammar, InClass, Literally, Longe
 use Rattle.winnow.specs.Grammar.{Three, Token, TokenOf}
 use Rattle.winnow.specs.Grammar.Meaning.{Meaning}
 use Rattle.winnow.specs.Grammar.Tuples.{Four}
-use Rattle.winnow.specs.Texts.{Anything, Begins, BeginsIn, InFront, IsGrammarOf, NotFirst}
-use Rattle.winnow.specs.Texts.{MadeText, Spelled, Text, BothText}
-use Rattle.winnow.specs.Texts.Fronts.{of_front, both_front}
+use Rattle.winnow.specs.Texts.{Anything, Begins, BeginsIn, BothText, InFront, IsGrammarOf, MadeText}
+use Rattle.winnow.specs.Texts.{NotFirst, Spelled, Text}
+use Rattle.winnow.specs.Texts.Fronts.{both_front, of_front}
 use Rattle.winnow.specs.Texts.Parts.{both_of, made_of, same_of}
 
 -- ---- what is made of two outputs

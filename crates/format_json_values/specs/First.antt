@@ -27,7 +27,7 @@ use Rattle.winnow.specs.Grammar.{Grammar, NoneStands, Three}
 use Rattle.winnow.specs.Grammar.Meaning.{Meaning, none_means}
 use Rattle.winnow.specs.Accumulator.Holds.{HasCharacters}
 use Rattle.winnow.specs.Texts.{Begins, BeginsIn, NotFirst}
-use Rattle.winnow.specs.Texts.Fronts.{either_front, begins_more, begins_wider, may_begin}
+use Rattle.winnow.specs.Texts.Fronts.{begins_more, begins_wider, either_front, may_begin}
 use Rattle.winnow.specs.Texts.Fronts.{none_begins, not_first, spelled_begins}
 
 -- the kind of an error

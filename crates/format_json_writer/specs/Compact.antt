@@ -17,7 +17,7 @@ use Rattle.format_json_writer.specs.Within.{IsWithin, within_among, within_first
 use Rattle.format_json_writer.specs.Within.{within_joined, within_list, within_mark, within_refl}
 use Rattle.format_json_writer.specs.Within.{within_second, within_spaced, within_then}
 use Rattle.winnow.specs.Accumulator.Holds.{HasCharacters}
-use Rattle.winnow.specs.Texts.{EitherText, GatheredText, InList, PartedText, Text, BothText}
+use Rattle.winnow.specs.Texts.{BothText, EitherText, GatheredText, InList, PartedText, Text}
 
 module _ {A : Type 0} where
   -- a string

@@ -21,8 +21,8 @@ use Rattle.format_json_texts.specs.declared.value.Value.TheVariants.{outs-Null}
 use Rattle.format_json_texts.specs.declared.value.Value.TheVariants.{outs-Number, outs-Object}
 use Rattle.format_json_texts.specs.declared.value.Value.TheVariants.{outs-Text}
 use Rattle.winnow.specs.Accumulator.Holds.{HasCharacters}
-use Rattle.winnow.specs.Texts.{EitherText, InList, PartedText, MadeText, EachText, TakenText, Text}
-use Rattle.winnow.specs.Texts.{BothText}
+use Rattle.winnow.specs.Texts.{BothText, EachText, EitherText, InList, MadeText, PartedText}
+use Rattle.winnow.specs.Texts.{TakenText, Text}
 
 -- ---- which value it is
 

@@ -15,7 +15,7 @@ use Rattle.format_json_writer.specs.Strings.{CanonicalCharacter, CanonicalString
 use Rattle.format_json_writer.specs.Strings.{IsSmallHex}
 use Rattle.format_json_writer.specs.Strings.{SmallUnit, string_canonical}
 use Rattle.winnow.specs.Accumulator.Holds.{HasCharacters}
-use Rattle.winnow.specs.Texts.{EitherText, MadeText, EachText, Spelled, BothText}
+use Rattle.winnow.specs.Texts.{BothText, EachText, EitherText, MadeText, Spelled}
 
 -- ---- what is written
 

@@ -11,7 +11,7 @@ use Rattle.format_json_writer.specs.Within.{IsWithin, within_among, within_first
 use Rattle.format_json_writer.specs.Within.{within_refl}
 use Rattle.format_json_writer.specs.Within.{within_row, within_second, within_then}
 use Rattle.winnow.specs.Accumulator.Holds.{HasCharacters}
-use Rattle.winnow.specs.Texts.{EitherText, GatheredText, EachText, Text, BothText}
+use Rattle.winnow.specs.Texts.{BothText, EachText, EitherText, GatheredText, Text}
 
 -- the character behind a backslash that escapes one: of those of RFC 8259 a slash is none, since it
 -- is written as it is

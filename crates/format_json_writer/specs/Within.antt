@@ -5,7 +5,7 @@ use Rattle.std.proofs.lemmas.List.{append-nil}
 use Rattle.format_json_texts.specs.Number.{Slice}
 use Rattle.format_json_texts.specs.Values.{GapText, Mark, Spaced}
 use Rattle.format_json_texts.specs.Words.{For, One, Run, latter}
-use Rattle.winnow.specs.Texts.{EitherText, InList, PartedText, MadeText, EachText, Text, BothText}
+use Rattle.winnow.specs.Texts.{BothText, EachText, EitherText, InList, MadeText, PartedText, Text}
 
 -- Each text of a value by the one is one by the other.
 pub record IsWithin {T O : Type 0} (inner outer : Text T O) : Type 0 where

@@ -6,7 +6,7 @@ use Rattle.std.proofs.lemmas.List.Elements.{recursion_from_All}
 use Rattle.winnow.specs.Grammar.{IsUnique}
 use Rattle.winnow.specs.Grammar.Lengths.{same_beginnings}
 use Rattle.winnow.specs.InTurn.{First, Led}
-use Rattle.winnow.specs.Texts.{Members, EachText, CountedText, Text}
+use Rattle.winnow.specs.Texts.{CountedText, EachText, Members, Text}
 use Rattle.format_resp.specs.Alike.{AreAlike, AreAlikeAs, AreAlikeBy, ArePairwise}
 use Rattle.format_resp.specs.Parts.{Opened, array_is, bulk_is, error_is, integer_is}
 use Rattle.format_resp.specs.Parts.{null_array_is, null_bulk_is, simple_is}
@@ -108,7 +108,7 @@ Pairs {A} alike elements =
 rows_alike : {A : Type 0} (text : Text ℕ (Replies A)) (alike : Replies A → Replies A → Type 0)
     → IsUnique (First text) → ((v w : Replies A) (tokens rest other : List ℕ)
     → First text tokens v rest → First text tokens w other
-        → alike v w) → Pairs alike (EachText text)
+    → alike v w) → Pairs alike (EachText text)
 unfolding First EachText
 rows_alike text alike unique each [] [] xs ys rest other a b e n = tt
 rows_alike text alike unique each [] (p ∷ ps) xs ys rest other a b e n =

@@ -9,7 +9,7 @@ use Rattle.std.proofs.lemmas.List.{append-nil}
 use Rattle.std.proofs.lemmas.List.Elements.{All-cons, All-nil, recursion_from_All}
 use Rattle.winnow.specs.Equal.{none_is_some, same_some}
 use Rattle.winnow.specs.InTurn.{First, Led}
-use Rattle.winnow.specs.Texts.{Members, EachText}
+use Rattle.winnow.specs.Texts.{EachText, Members}
 use Rattle.format_resp.specs.Parts.{Opened, array_is, bulk_is, error_is, integer_is}
 use Rattle.format_resp.specs.Parts.{null_array_is, null_bulk_is, simple_is, stands_as}
 use Rattle.format_resp.specs.Resp.{ArrayBehind, BulkBehind, Ended, InLine, LineText}

@@ -13,7 +13,7 @@ use Rattle.std.proofs.lemmas.List.Elements.{All-from_recursion}
 use Rattle.winnow.specs.InTurn.{Led}
 use Rattle.winnow.specs.Numeral.Grammar.Known.{NoDigitFirst}
 use Rattle.winnow.specs.Numeral.Grammar.Signed.{SignedWritten, fits_short, same_signed}
-use Rattle.winnow.specs.Texts.{Members, CountedText}
+use Rattle.winnow.specs.Texts.{CountedText, Members}
 use Rattle.format_resp.proofs.Deeper.{row_as}
 use Rattle.format_resp.specs.Leaves.{all_signed}
 use Rattle.format_resp.specs.Resp.{Body, DataText, Elements, Ended, InLine}

@@ -17,7 +17,7 @@ use Rattle.format_resp.specs.declared.reply.Reply.TheViews.{rolls-Error, rolls-I
 use Rattle.format_resp.specs.declared.reply.Reply.TheViews.{rolls-NullArray}
 use Rattle.format_resp.specs.declared.reply.Reply.TheViews.{rolls-NullBulk, rolls-Simple}
 use Rattle.winnow.specs.InTurn.{First, Led}
-use Rattle.winnow.specs.Texts.{Members, EachText, CountedText}
+use Rattle.winnow.specs.Texts.{CountedText, EachText, Members}
 
 -- no line feed
 abbrev pub NoFeed : List ℕ → Type 0
@@ -94,7 +94,7 @@ bulk_ended {input} {bytes} xs rest e shows it =
 
 elements_row : {A : Type 0} (level : ℕ) (all : List (Replies A)) (bytes : List ℕ)
     → Elements level all bytes
-        → (inner : ℕ) × (level ≡ suc inner) × EachText (ReplyText inner) all bytes
+    → (inner : ℕ) × (level ≡ suc inner) × EachText (ReplyText inner) all bytes
 unfolding Elements
 elements_row zero all bytes never = absurd never
 elements_row (suc inner) all bytes row = (inner, refl, row)

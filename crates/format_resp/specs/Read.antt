@@ -21,7 +21,7 @@ use Rattle.winnow.specs.Decimal.{IsDecimalOf, IsSignedDecimalOf}
 use Rattle.winnow.specs.Digits.{value_in}
 use Rattle.winnow.specs.Grammar.Lengths.{same_beginnings}
 use Rattle.winnow.specs.Grammar.Unique.{unique_by}
-use Rattle.winnow.specs.Texts.{Members, CountedText, Text}
+use Rattle.winnow.specs.Texts.{CountedText, Members, Text}
 use Rattle.winnow.specs.InTurn.{Failed, First, Splits, Stood, failed_as, led_unique, refused}
 use Rattle.winnow.specs.InTurn.{stood_as}
 use Rattle.winnow.specs.InTurn.Rows.{RowOf, row_unique}

@@ -6,7 +6,7 @@ use Rattle.std.specs.Borrow.{Bor}
 use Rattle.std.specs.declared.vec.Vec.{Vec}
 use Rattle.winnow.specs.Bytes.{bytes_reading}
 use Rattle.winnow.specs.Decimal.{IsSignedDecimalOf}
-use Rattle.winnow.specs.Texts.{Members, EachText, CountedText, Text}
+use Rattle.winnow.specs.Texts.{CountedText, EachText, Members, Text}
 use Rattle.winnow.specs.InTurn.{Led}
 use Rattle.format_resp.specs.declared.leaves.Mark.{Mark}
 use Rattle.format_resp.specs.declared.leaves.Mark.TheVariants.{Colon, Dollar, Minus, Plus, Star}

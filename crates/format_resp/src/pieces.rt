@@ -38,7 +38,7 @@ where
     ensures { ReadsOrAsks I.reading I.following E.kind (Both (λ o1 o2. o1)
         (Longest I.reading I.seen_as (Others ⟦<(u8, u8) as ContainsToken<I::Token>>⟧.tells)
         (13, 10) (from_to 0 None)) (LiterallyBytes I.reading I.spells
-              (13 ∷ 10 ∷ []))) (I.view input.old)
+        (13 ∷ 10 ∷ []))) (I.view input.old)
         result (I.view input.new) }
 {
     terminated(take_till(Range::from(0..), (b'\r', b'\n')), Crlf).read_cut(input)
@@ -53,7 +53,7 @@ pub(crate) fn tokens<I: StreamIsPartial + Compare<&'static str>, E: ParserError<
     requires spells { SpellsByText I.spells }
     ensures { ReadsOrAsks I.reading I.following E.kind (Both (λ o1 o2. o1)
         (Counted I.reading count) (LiterallyBytes I.reading I.spells (13 ∷ 10 ∷ []))) (I.view
-              input.old)
+        input.old)
         result (I.view input.new) }
 {
     terminated(take(count), Crlf).read_cut(input)

@@ -7,7 +7,7 @@ use Rattle.std.specs.Prelude.{◌∷◌, ◌++◌, zero, suc, length, drop}
 use Rattle.std.proofs.Common.{refl, sym, ap, subst, inl, inr, ◌∙◌, arith, get_or, drop-cons}
 use Rattle.std.proofs.Common.{◌⊎◌}
 use Rattle.format_toml.specs.Numbers.{DigitsText, NextText, NumberText}
-use Rattle.winnow.specs.Texts.{EitherText, TokenOfText, EachText, Spelled, BothText}
+use Rattle.winnow.specs.Texts.{BothText, EachText, EitherText, Spelled, TokenOfText}
 
 -- Behind digits of this number a digit is due, or nothing is; with what stands there the number is
 -- n.
@@ -30,7 +30,7 @@ module _ (base : ℕ) (most : base ≤ 36) where
   -- what a text of a first digit is
   pub first : (ds : List ℕ) (tokens : List ℕ) → DigitsText base ds tokens
       → (d : ℕ) × (es : List ℕ) × (ys : List ℕ) × (digit_value d < base)
-          × EachText (NextText base) es ys
+      × EachText (NextText base) es ys
       × (tokens ≡ d ∷ ys) × (ds ≡ d ∷ es)
   unfolding BothText TokenOfText
   first ds tokens (d, es, xs, ys, (is, x), row, e, f) =
@@ -41,7 +41,7 @@ module _ (base : ℕ) (most : base ≤ 36) where
       → ((ds ≡ []) × (tokens ≡ []))
       ⊎ ((d : ℕ) × (es : List ℕ) × (ys : List ℕ) × (digit_value d < base)
       × EachText (NextText base) es ys × ((tokens ≡ d ∷ ys) ⊎ (tokens ≡ 95 ∷ d ∷ ys))
-          × (ds ≡ d ∷ es))
+      × (ds ≡ d ∷ es))
   unfolding EachText EitherText TokenOfText BothText Spelled
   next [] tokens e = inl (refl, e)
   next (d ∷ es) tokens (xs, ys, inl (is, x), row, e) =

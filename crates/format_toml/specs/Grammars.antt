@@ -20,8 +20,8 @@ use Rattle.format_toml.specs.declared.characters.Characters.TheVariants.{White}
 use Rattle.format_toml_tree.specs.declared.value.Item.{Item}
 use Rattle.format_toml_tree.specs.declared.value.Key.{Key}
 use Rattle.format_toml_tree.specs.declared.value.Value.{Value}
-use Rattle.winnow.specs.Grammar.{Both, Either, Gathered, Grammar, Longest, Many, Optional}
-use Rattle.winnow.specs.Grammar.{Nothing, Parted, Three, Token, TokenOf}
+use Rattle.winnow.specs.Grammar.{Both, Either, Gathered, Grammar, Longest, Many, Nothing, Optional}
+use Rattle.winnow.specs.Grammar.{Parted, Three, Token, TokenOf}
 use Rattle.winnow.specs.Grammar.Meaning.{Meaning}
 use Rattle.winnow.specs.Accumulator.Holds.{HasCharacters}
 
@@ -64,7 +64,7 @@ Listing element opening comma closing gap =
     Three (λ o1 o2 o3. o2) (Both pair opening gap)
     (Optional (Both former (Gathered (λ list os. list.items ≡ os)
     (Parted element (Both pair comma gap) (from_to 1 None))) (Optional
-          (Both pair comma gap)))) closing
+    (Both pair comma gap)))) closing
 
 -- ---- strings, booleans and integers
 
@@ -218,7 +218,7 @@ module _ {A : Type 0} where
 
   abbrev pub Line : ℕ → Grammar ℕ (Option (Item A))
   Line level = Three (λ o1 o2 o3. o2) Ws (Optional (SpacedOut (AnyItem level)))
-        (Optional AnyComment)
+      (Optional AnyComment)
 
   abbrev pub Document : ℕ → Grammar ℕ (Vec (Option (Item A)) A)
   Document level =

@@ -15,7 +15,7 @@ use Rattle.format_toml.specs.Digits.{first, head_of, make_first, next, no_cons, 
 use Rattle.format_toml.specs.Numbers.{AnyIntegerText, BasedText, BehindZero}
 use Rattle.format_toml.specs.Numbers.{IntegerText, IsIntegerOf, IsNumber, IsSigned}
 use Rattle.format_toml.specs.Numbers.{NextText, NumberText, UnsignedText}
-use Rattle.winnow.specs.Texts.{EitherText, MadeText, EachText, Spelled, Text, BothText}
+use Rattle.winnow.specs.Texts.{BothText, EachText, EitherText, MadeText, Spelled, Text}
 
 -- ---- what begins digits
 
@@ -188,7 +188,7 @@ zeroed {tokens} {rest} is = record {
         inr (
           m,
           subst (λ l. EitherText (BasedText 120 16)
-                  (EitherText (BasedText 111 8) (BasedText 98 2)) m
+              (EitherText (BasedText 111 8) (BasedText 98 2)) m
               (48 ∷ l)) (sym e)
               (inl (based_back 120 16 m ys x)),
           g,
@@ -197,7 +197,7 @@ zeroed {tokens} {rest} is = record {
         inr (
           m,
           subst (λ l. EitherText (BasedText 120 16)
-                  (EitherText (BasedText 111 8) (BasedText 98 2)) m
+              (EitherText (BasedText 111 8) (BasedText 98 2)) m
               (48 ∷ l)) (sym e)
               (inr (inl (based_back 111 8 m ys x))),
           g,
@@ -206,7 +206,7 @@ zeroed {tokens} {rest} is = record {
         inr (
           m,
           subst (λ l. EitherText (BasedText 120 16)
-                  (EitherText (BasedText 111 8) (BasedText 98 2)) m
+              (EitherText (BasedText 111 8) (BasedText 98 2)) m
               (48 ∷ l)) (sym e)
               (inr (inr (based_back 98 2 m ys x))),
           g,

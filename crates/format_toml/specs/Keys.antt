@@ -20,11 +20,11 @@ use Rattle.format_toml.specs.declared.characters.Characters.TheVariants.{Bare}
 use Rattle.format_toml_tree.specs.declared.value.Value.{Value}
 use Rattle.winnow.specs.Grammar.{Grammar}
 use Rattle.winnow.specs.Grammar.Meaning.{Meaning}
-use Rattle.winnow.specs.Texts.{EitherText, Anything, AtLeast, Begins, BeginsIn, InFront, InList}
-use Rattle.winnow.specs.Texts.{IsGrammarOf, PartedText, NotFirst, Text}
-use Rattle.winnow.specs.Texts.Fronts.{either_front, begins_wider, front_any, front_begins}
-use Rattle.winnow.specs.Texts.Fronts.{in_list_front, may_begin, none_begins, spelled_begins}
-use Rattle.winnow.specs.Texts.Fronts.{both_front}
+use Rattle.winnow.specs.Texts.{Anything, AtLeast, Begins, BeginsIn, EitherText, InFront, InList}
+use Rattle.winnow.specs.Texts.{IsGrammarOf, NotFirst, PartedText, Text}
+use Rattle.winnow.specs.Texts.Fronts.{begins_wider, both_front, either_front, front_any}
+use Rattle.winnow.specs.Texts.Fronts.{front_begins, in_list_front, may_begin, none_begins}
+use Rattle.winnow.specs.Texts.Fronts.{spelled_begins}
 use Rattle.winnow.specs.Texts.Parts.{behind_less, three_of}
 use Rattle.winnow.specs.Texts.Rows.{list_of, parted_of}
 

@@ -11,7 +11,7 @@ use Rattle.winnow.specs.Mode.{mode_kind}
 use Rattle.winnow.specs.Input.{Input}
 use Rattle.winnow.specs.Kind.{Kind}
 use Rattle.winnow.specs.Text.{text_reading}
-use Rattle.winnow.specs.Texts.{EitherText, Begins, BeginsIn, InFront, IsGrammarOf, NotFirst, Text}
+use Rattle.winnow.specs.Texts.{Begins, BeginsIn, EitherText, InFront, IsGrammarOf, NotFirst, Text}
 use Rattle.winnow.specs.Texts.Fronts.{begins_never}
 
 -- A character of these is first, and the former stands; or none of these is, and the latter does.

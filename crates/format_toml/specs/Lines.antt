@@ -14,9 +14,9 @@ use Rattle.format_toml.specs.Spaces.{spaced_of, tail_is, ws_of}
 use Rattle.format_toml.specs.Toml.{DocumentText, IsEntry, ItemText, LineText, Spaced, ValueText}
 use Rattle.format_toml.specs.Values.{entry_of}
 use Rattle.winnow.specs.Texts.{AtEnd, BeginsIn, IsGrammarOf, MayBegin}
-use Rattle.winnow.specs.Texts.Fronts.{either_front, begins_wider, front_any, front_begins}
-use Rattle.winnow.specs.Texts.Fronts.{front_behind, may_begin_more, may_begin_none}
-use Rattle.winnow.specs.Texts.Fronts.{none_begins, optional_front, spelled_begins, both_front}
+use Rattle.winnow.specs.Texts.Fronts.{begins_wider, both_front, either_front, front_any}
+use Rattle.winnow.specs.Texts.Fronts.{front_begins, front_behind, may_begin_more, may_begin_none}
+use Rattle.winnow.specs.Texts.Fronts.{none_begins, optional_front, spelled_begins}
 use Rattle.winnow.specs.Texts.Parts.{behind_less, both_of, optional_of}
 use Rattle.winnow.specs.Texts.Rows.{list_of, parted_of}
 

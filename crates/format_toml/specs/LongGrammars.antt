@@ -3,7 +3,7 @@ use Rattle.std.specs.Prelude.{⊤, ℕ, None}
 use Rattle.std.specs.declared.string.String.{String}
 use Rattle.format_json_texts.specs.Words.{Char, former, latter, pair}
 use Rattle.winnow.specs.Accumulator.Holds.{HasCharacters}
-use Rattle.winnow.specs.Grammar.{NotAhead, Ahead, Both, Either, Gathered, Grammar, Many, Optional}
+use Rattle.winnow.specs.Grammar.{Ahead, Both, Either, Gathered, Grammar, Many, NotAhead, Optional}
 use Rattle.winnow.specs.Grammar.{Three}
 use Rattle.winnow.specs.Range.{from_to}
 

@@ -14,10 +14,10 @@ use Rattle.format_toml.specs.Toml.{AnyBasicText, AnyLiteralText, CharacterText, 
 use Rattle.format_toml.specs.declared.characters.Characters.TheVariants.{Basic, Literal}
 use Rattle.winnow.specs.Grammar.{Nothing}
 use Rattle.winnow.specs.Grammar.Unique.{unique_nothing}
-use Rattle.winnow.specs.Texts.{EitherText, Anything, BeginsIn, IsGrammarOf, NotFirst, TokenOfText}
-use Rattle.winnow.specs.Texts.{Text}
-use Rattle.winnow.specs.Texts.Fronts.{either_front, begins_wider, front_any, front_begins}
-use Rattle.winnow.specs.Texts.Fronts.{spelled_begins, both_front}
+use Rattle.winnow.specs.Texts.{Anything, BeginsIn, EitherText, IsGrammarOf, NotFirst, Text}
+use Rattle.winnow.specs.Texts.{TokenOfText}
+use Rattle.winnow.specs.Texts.Fronts.{begins_wider, both_front, either_front, front_any}
+use Rattle.winnow.specs.Texts.Fronts.{front_begins, spelled_begins}
 use Rattle.winnow.specs.Texts.Parts.{either_apart}
 
 -- ---- literal ones

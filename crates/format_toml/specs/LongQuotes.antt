@@ -5,8 +5,8 @@ use Rattle.format_json_texts.specs.Words.{Char, One, char_of, pair}
 use Rattle.format_toml.specs.LongGrammars.{Delimiter, Quote, TwoOf}
 use Rattle.format_toml.specs.LongTexts.{DelimiterText, one_and_two}
 use Rattle.winnow.specs.Equal.{same_others}
-use Rattle.winnow.specs.Grammar.{NotAhead, Ahead, Both, Optional, NoneStands}
-use Rattle.winnow.specs.Texts.{Anything, IsGrammarOf, Spelled, Text, BothText}
+use Rattle.winnow.specs.Grammar.{Ahead, Both, NoneStands, NotAhead, Optional}
+use Rattle.winnow.specs.Texts.{Anything, BothText, IsGrammarOf, Spelled, Text}
 use Rattle.winnow.specs.Texts.Fronts.{front_any}
 use Rattle.winnow.specs.Texts.Parts.{both_of, three_of}
 

@@ -17,12 +17,11 @@ use Rattle.format_toml.specs.declared.characters.Characters.TheVariants.{White}
 use Rattle.winnow.specs.Equal.{same_others}
 use Rattle.winnow.specs.Grammar.{Both, Each, Gathered, Many, NoneStands}
 use Rattle.winnow.specs.Range.{from_to}
-use Rattle.winnow.specs.Texts.{EitherText, Anything, Begins, BeginsIn, GatheredText, InFront}
-use Rattle.winnow.specs.Texts.{IsGrammarOf}
-use Rattle.winnow.specs.Texts.{NotFirst, TokenOfText, EachText, Spelled, BothText}
-use Rattle.winnow.specs.Texts.Fronts.{either_front, begins_wider, front_any, front_begins}
-use Rattle.winnow.specs.Texts.Fronts.{front_whole, may_begin, none_begins, spelled_begins}
-use Rattle.winnow.specs.Texts.Fronts.{both_front}
+use Rattle.winnow.specs.Texts.{Anything, Begins, BeginsIn, BothText, EachText, EitherText}
+use Rattle.winnow.specs.Texts.{GatheredText, InFront, IsGrammarOf, NotFirst, Spelled, TokenOfText}
+use Rattle.winnow.specs.Texts.Fronts.{begins_wider, both_front, either_front, front_any}
+use Rattle.winnow.specs.Texts.Fronts.{front_begins, front_whole, may_begin, none_begins}
+use Rattle.winnow.specs.Texts.Fronts.{spelled_begins}
 use Rattle.winnow.specs.Texts.Parts.{both_of, either_apart}
 use Rattle.winnow.specs.Texts.Rows.{each_back, each_there, gathered_of, many_of}
 

@@ -3,7 +3,7 @@ use Rattle.std.specs.Prelude.{◌≡◌, ◌⊎◌, ℕ, suc, List, [], ◌∷�
 use Rattle.std.specs.declared.string.String.{String}
 use Rattle.format_json_texts.specs.Words.{Between, One, latter, pair}
 use Rattle.winnow.specs.Accumulator.Holds.{HasCharacters}
-use Rattle.winnow.specs.Texts.{GatheredText, Text, BothText}
+use Rattle.winnow.specs.Texts.{BothText, GatheredText, Text}
 
 abbrev pub one_and_two : {A B C : Type 0} → A → B × C → A × B × C
 one_and_two a b = (a, b.0, b.1)

@@ -12,13 +12,12 @@ use Rattle.format_toml.specs.LongTexts.{BodyText, DelimiterText, LongText, NoneW
 use Rattle.format_toml.specs.LongTexts.{Trimmed, one_and_two}
 use Rattle.winnow.specs.Accumulator.Holds.{HasCharacters}
 use Rattle.winnow.specs.Equal.{same_first, same_others}
-use Rattle.winnow.specs.Grammar.{Both, Either, Gathered, Grammar, Many, Optional, NoneStands}
+use Rattle.winnow.specs.Grammar.{Both, Either, Gathered, Grammar, Many, NoneStands, Optional}
 use Rattle.winnow.specs.Range.{from_to}
-use Rattle.winnow.specs.Texts.{EitherText, Anything, Begins, BeginsIn, GatheredText, InFront}
-use Rattle.winnow.specs.Texts.{IsGrammarOf}
-use Rattle.winnow.specs.Texts.{NotFirst, EachText, Spelled, Text, BothText}
-use Rattle.winnow.specs.Texts.Fronts.{front_any, front_whole, gathered_front, each_front}
-use Rattle.winnow.specs.Texts.Fronts.{spelled_begins, both_front}
+use Rattle.winnow.specs.Texts.{Anything, Begins, BeginsIn, BothText, EachText, EitherText}
+use Rattle.winnow.specs.Texts.{GatheredText, InFront, IsGrammarOf, NotFirst, Spelled, Text}
+use Rattle.winnow.specs.Texts.Fronts.{both_front, each_front, front_any, front_whole}
+use Rattle.winnow.specs.Texts.Fronts.{gathered_front, spelled_begins}
 use Rattle.winnow.specs.Texts.Parts.{behind_less, either_of}
 
 -- ---- what is not written

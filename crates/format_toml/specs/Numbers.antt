@@ -5,7 +5,7 @@ use Rattle.std.specs.Prelude.{◌≡◌, ◌⊎◌, ◌<◌, ◌^◌, ℕ, ℤ, 
 use Rattle.std.specs.Prelude.{Option, Some, None}
 use Rattle.std.specs.Int.{w64}
 use Rattle.format_json_texts.specs.Words.{For, One, latter}
-use Rattle.winnow.specs.Texts.{EitherText, TokenOfText, EachText, Text, BothText}
+use Rattle.winnow.specs.Texts.{BothText, EachText, EitherText, Text, TokenOfText}
 
 -- DIGIT, HEXDIG, digit0-7, digit0-1: a digit of a base
 abbrev pub DigitText : ℕ → Text ℕ ℕ
@@ -18,7 +18,7 @@ NextText base = EitherText (DigitText base) (BothText latter (One 95) (DigitText
 -- DIGIT *( DIGIT / underscore DIGIT ), for the digits
 abbrev pub DigitsText : ℕ → Text ℕ (List ℕ)
 DigitsText base = BothText (λ digit others. digit ∷ others) (DigitText base)
-      (EachText (NextText base))
+    (EachText (NextText base))
 
 -- the same for their number
 unfoldable pub NumberText : ℕ → Text ℕ ℕ

@@ -34,8 +34,8 @@ use Rattle.winnow.specs.Kind.{Kind, backtrack, memory}
 use Rattle.winnow.specs.Range.{from_to}
 use Rattle.winnow.specs.Read.{reads_meaning}
 use Rattle.winnow.specs.Text.{text_reading}
-use Rattle.winnow.specs.Texts.{EitherText, Begins, BeginsIn, IsGrammarOf, Members, NotFirst}
-use Rattle.winnow.specs.Texts.{MadeText, EachText}
+use Rattle.winnow.specs.Texts.{Begins, BeginsIn, EachText, EitherText, IsGrammarOf, MadeText}
+use Rattle.winnow.specs.Texts.{Members, NotFirst}
 use Rattle.winnow.specs.Texts.Fronts.{either_front}
 use Rattle.winnow.specs.Texts.Parts.{text_of}
 use Rattle.winnow.specs.Texts.Tokens.{divides_seen, divides_where, longest_of}

@@ -37,7 +37,7 @@ module _ {O D : Type 0} {g : Grammar ℕ O} {h : Grammar ℕ D} {text : Text ℕ
       there : (tokens : List ℕ) (os : List O) (rest : List ℕ)
           → Parted g h (from_to 1 None) tokens os rest
           → (front : List ℕ) × (tokens ≡ front ++ rest)
-              × AtLeast 1 (PartedText separator text) os front
+          × AtLeast 1 (PartedText separator text) os front
       there tokens [] rest (e, few, stops) = absurd (omega (arith, few))
       there tokens (o ∷ os) rest (mid, x, each, enough, stops) =
           let (xs, e, a) = is.there tokens o mid x in

@@ -14,9 +14,9 @@ use Rattle.format_toml.specs.Plain.{plain_begins, plain_of}
 use Rattle.format_toml.specs.Toml.{IsText}
 use Rattle.format_toml.specs.Toml.{PlainText, ScalarText, false_word, true_word}
 use Rattle.winnow.specs.Grammar.Meaning.{Meaning}
-use Rattle.winnow.specs.Texts.{EitherText, BeginsIn, IsGrammarOf, NotFirst, Spelled}
-use Rattle.winnow.specs.Texts.Fronts.{either_front, begins_wider, front_begins}
-use Rattle.winnow.specs.Texts.Fronts.{not_first, spelled_begins}
+use Rattle.winnow.specs.Texts.{BeginsIn, EitherText, IsGrammarOf, NotFirst, Spelled}
+use Rattle.winnow.specs.Texts.Fronts.{begins_wider, either_front, front_begins, not_first}
+use Rattle.winnow.specs.Texts.Fronts.{spelled_begins}
 use Rattle.winnow.specs.Texts.Parts.{behind_less}
 
 -- ---- what goes on with a word or a number
@@ -113,7 +113,7 @@ module _ {A : Type 0} where
   after_literal_of : IsGrammarOf (Led (λ c. c ≡ 116) (AnyBoolean {A = A} true_word true)
       (Led (λ c. c ≡ 102) (AnyBoolean false_word false) Plain))
       (EitherText (BooleanText true_word true)
-              (EitherText (BooleanText false_word false) PlainText)) Goes
+      (EitherText (BooleanText false_word false) PlainText)) Goes
   after_literal_of =
       led_of (boolean_of true_word true) after_true_of (boolean_begins 116 _ true)
       (front_begins (λ c a e. absurd (omega (arith, a.1, e))) after_true_begins)
@@ -135,14 +135,14 @@ module _ {A : Type 0} where
       (Led (λ c. c ≡ 102) (AnyBoolean false_word false) Plain)))
       (EitherText (For IsText AnyLiteralText)
       (EitherText (BooleanText true_word true)
-              (EitherText (BooleanText false_word false) PlainText))) Goes
+      (EitherText (BooleanText false_word false) PlainText))) Goes
   after_basic_of =
       led_of literal_of after_literal_of literal_begins
       (front_begins (λ c a e. absurd (omega (arith, a.0, e))) after_literal_begins)
 
   after_basic_begins : BeginsIn (Above 38) (EitherText (For IsText (AnyLiteralText {A = A}))
       (EitherText (BooleanText true_word true)
-              (EitherText (BooleanText false_word false) PlainText)))
+      (EitherText (BooleanText false_word false) PlainText)))
   after_basic_begins =
       either_front (begins_wider (λ c e. omega (arith, e)) literal_begins)
       (begins_wider (λ c a. (omega (arith, a.0), a.1, a.2, a.3, a.4)) after_literal_begins)

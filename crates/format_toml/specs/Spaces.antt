@@ -13,12 +13,11 @@ use Rattle.format_toml.specs.Toml.{CommentText, GapPartText, GapText, Gapped, Is
 use Rattle.format_toml.specs.Toml.{NewlineText, Spaced, Tells, WideMarkText, WsText}
 use Rattle.format_toml.specs.declared.characters.Characters.TheVariants.{Comment, White}
 use Rattle.winnow.specs.Grammar.{Both, Grammar, Optional}
-use Rattle.winnow.specs.Texts.{Anything, Begins, BeginsIn, InFront, IsGrammarOf, MayBegin}
-use Rattle.winnow.specs.Texts.{NotFirst, OptionalText, Text, BothText}
-use Rattle.winnow.specs.Texts.Fronts.{either_front, begins_wider, front_any, front_begins}
-use Rattle.winnow.specs.Texts.Fronts.{front_behind, gathered_front, may_begin_more, none_begins}
-use Rattle.winnow.specs.Texts.Fronts.{not_first, optional_front, each_front, spelled_begins}
-use Rattle.winnow.specs.Texts.Fronts.{both_front}
+use Rattle.winnow.specs.Texts.{Anything, Begins, BeginsIn, BothText, InFront, IsGrammarOf, MayBegin}
+use Rattle.winnow.specs.Texts.{NotFirst, OptionalText, Text}
+use Rattle.winnow.specs.Texts.Fronts.{begins_wider, both_front, each_front, either_front, front_any}
+use Rattle.winnow.specs.Texts.Fronts.{front_begins, front_behind, gathered_front, may_begin_more}
+use Rattle.winnow.specs.Texts.Fronts.{none_begins, not_first, optional_front, spelled_begins}
 use Rattle.winnow.specs.Texts.Parts.{behind_less, both_of, either_apart, optional_of}
 use Rattle.winnow.specs.Texts.Rows.{gathered_of, many_of}
 use Rattle.winnow.specs.Texts.Tokens.{divides_seen, divides_where, longest_of}
@@ -123,10 +122,10 @@ comment_begins = both_front latter (spelled_begins 35 [] 35) front_any
 
 -- a comment or none, in front of a line end or the end
 pub maybe_comment_of : IsGrammarOf (Optional AnyComment) (OptionalText CommentText)
-      (MayBegin IsBreak)
+    (MayBegin IsBreak)
 maybe_comment_of =
     optional_of (behind_less (may_begin_more IsBreak (λ c. IsOf Comment c → ⊥) break_shown)
-            comment_of)
+    comment_of)
     (λ rest b. none_begins comment_of comment_begins rest
     (may_begin_more IsBreak (λ c. c ≡ 35 → ⊥) break_hash rest b))
 

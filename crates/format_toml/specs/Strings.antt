@@ -15,11 +15,11 @@ use Rattle.format_toml.specs.declared.characters.Characters.TheVariants.{Basic, 
 use Rattle.winnow.specs.Grammar.{Both, NoneStands, TokenOf}
 use Rattle.winnow.specs.Grammar.Meaning.{Meaning}
 use Rattle.winnow.specs.Accumulator.Holds.{HasCharacters}
-use Rattle.winnow.specs.Texts.{Anything, AtLeast, Begins, BeginsIn, InFront, IsGrammarOf}
-use Rattle.winnow.specs.Texts.{NotFirst, MadeText, TokenOfText, EachText, Spelled, BothText}
-use Rattle.winnow.specs.Texts.Fronts.{either_front, begins_wider, front_any, front_begins}
-use Rattle.winnow.specs.Texts.Fronts.{gathered_front, may_begin, none_begins, token_of_begins}
-use Rattle.winnow.specs.Texts.Fronts.{spelled_begins, both_front}
+use Rattle.winnow.specs.Texts.{Anything, AtLeast, Begins, BeginsIn, BothText, EachText, InFront}
+use Rattle.winnow.specs.Texts.{IsGrammarOf, MadeText, NotFirst, Spelled, TokenOfText}
+use Rattle.winnow.specs.Texts.Fronts.{begins_wider, both_front, either_front, front_any}
+use Rattle.winnow.specs.Texts.Fronts.{front_begins, gathered_front, may_begin, none_begins}
+use Rattle.winnow.specs.Texts.Fronts.{spelled_begins, token_of_begins}
 use Rattle.winnow.specs.Texts.Parts.{both_of, either_apart, same_of}
 use Rattle.winnow.specs.Texts.Rows.{gathered_of, many_of}
 use Rattle.winnow.specs.Texts.Tokens.{divides_where, token_of}
@@ -28,7 +28,7 @@ use Rattle.winnow.specs.Texts.Tokens.{divides_where, token_of}
 
 module _ (set : Characters) where
   pub one_of_set : IsGrammarOf (TokenOf (λ c. c) Tells set) (TokenOfText (λ c. c) (IsOf set))
-        Anything
+      Anything
   one_of_set = token_of (λ c. c) Tells set (divides_where (IsOf set))
 
   pub set_begins : BeginsIn (IsOf set) (TokenOfText (λ c. c) (IsOf set))
@@ -109,7 +109,7 @@ escape_of =
     (front_begins (λ c u. u.0) short_begins))
 
 escaped_of : IsGrammarOf (Both latter (Char 92) Escape) (BothText latter (One 92) EscapeText)
-      Anything
+    Anything
 escaped_of = both_of latter (char_of 92) escape_of front_any
 
 pub character_of : IsGrammarOf Character CharacterText Anything

@@ -20,9 +20,8 @@ use Rattle.format_toml_tree.specs.declared.value.Key.{Key}
 use Rattle.format_toml_tree.specs.declared.value.Value.{Value}
 use Rattle.format_toml_tree.specs.declared.value.Value as values
 use Rattle.winnow.specs.Accumulator.Holds.{HasCharacters}
-use Rattle.winnow.specs.Texts.{EitherText, AtLeast, GatheredText, InList, PartedText, Members}
-use Rattle.winnow.specs.Texts.{TokenOfText}
-use Rattle.winnow.specs.Texts.{OptionalText, EachText, Spelled, Text, BothText}
+use Rattle.winnow.specs.Texts.{AtLeast, BothText, EachText, EitherText, GatheredText, InList}
+use Rattle.winnow.specs.Texts.{Members, OptionalText, PartedText, Spelled, Text, TokenOfText}
 use Rattle.format_toml.specs.Floats.{FloatText}
 use Rattle.format_toml.specs.LongTexts.{LongText, NoneWritten}
 use Rattle.format_toml.specs.Numbers.{IntegerText}
@@ -123,7 +122,7 @@ CommentText = BothText latter (One 35) (Members text_reading (IsOf Comment) 0)
 -- wschar / [ comment ] newline
 abbrev pub GapPartText : Text ℕ ℕ
 GapPartText = EitherText (TokenOfText (λ c. c) (IsOf White))
-      (BothText latter (OptionalText CommentText) NewlineText)
+    (BothText latter (OptionalText CommentText) NewlineText)
 
 -- ws-comment-newline = *( wschar / [ comment ] newline )
 abbrev pub GapText : Text ℕ ⊤
@@ -224,7 +223,7 @@ module _ {A : Type 0} where
   ScalarText =
       EitherText (For IsText AnyBasicText) (EitherText (For IsText AnyLiteralText)
       (EitherText (BooleanText true_word true)
-              (EitherText (BooleanText false_word false) PlainText)))
+      (EitherText (BooleanText false_word false) PlainText)))
 
   -- ---- keys
 
@@ -275,18 +274,18 @@ module _ {A : Type 0} where
   -- the first bracket
   abbrev pub TableText : Text ℕ (Item A)
   TableText = EitherText (For IsTables (Between (One 91) HeaderText (One 93)))
-        (For IsTable HeaderText)
+      (For IsTable HeaderText)
 
   abbrev pub ItemText : ℕ → Text ℕ (Item A)
   ItemText level = EitherText (BothText latter (One 91) TableText)
-        (For IsEntry (PairText (ValueText level)))
+      (For IsEntry (PairText (ValueText level)))
 
   -- expression = ws [ comment ] / ws keyval ws [ comment ] / ws table ws [ comment ]
   abbrev pub LineText : ℕ → Text ℕ (Option (Item A))
   LineText level =
       BothText latter WsText
-            (BothText former (OptionalText (Spaced (ItemText level)))
-              (OptionalText CommentText))
+      (BothText former (OptionalText (Spaced (ItemText level)))
+      (OptionalText CommentText))
 
   -- toml = expression *( newline expression )
   abbrev pub DocumentText : ℕ → Text ℕ (Vec (Option (Item A)) A)

@@ -13,8 +13,8 @@ use Rattle.format_toml.specs.declared.characters.Characters.TheVariants.{Comment
 use Rattle.winnow.specs.TakeWhile.Exact.{longest_unique}
 use Rattle.winnow.specs.Once.{holds_once, seen_once}
 use Rattle.winnow.specs.Grammar.{Grammar, IsUnique, Longest}
-use Rattle.winnow.specs.Grammar.Unique.{both_unique, either_unique, gathered_unique}
-use Rattle.winnow.specs.Grammar.Unique.{many_unique, optional_unique, token_of_unique}
+use Rattle.winnow.specs.Grammar.Unique.{both_unique, either_unique, gathered_unique, many_unique}
+use Rattle.winnow.specs.Grammar.Unique.{optional_unique, token_of_unique}
 
 pub ws_unique : IsUnique Ws
 ws_unique = run_unique IsSpace 0

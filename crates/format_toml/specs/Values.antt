@@ -22,11 +22,11 @@ use Rattle.format_toml.specs.UniqueSpaces.{wide_mark_unique}
 use Rattle.format_toml_tree.specs.declared.value.Value.{Value}
 use Rattle.winnow.specs.Grammar.{Both, Grammar, NoneStands}
 use Rattle.winnow.specs.Grammar.Meaning.{Meaning}
-use Rattle.winnow.specs.Texts.{AtLeast, Anything, Begins, BeginsIn, InFront, InList, IsGrammarOf}
-use Rattle.winnow.specs.Texts.{PartedText, NotFirst, OptionalText, Text}
-use Rattle.winnow.specs.Texts.Fronts.{either_front, begins_wider, front_any, front_begins}
-use Rattle.winnow.specs.Texts.Fronts.{front_behind, in_list_front, may_begin, none_begins}
-use Rattle.winnow.specs.Texts.Fronts.{optional_front, spelled_begins, both_front}
+use Rattle.winnow.specs.Texts.{Anything, AtLeast, Begins, BeginsIn, InFront, InList, IsGrammarOf}
+use Rattle.winnow.specs.Texts.{NotFirst, OptionalText, PartedText, Text}
+use Rattle.winnow.specs.Texts.Fronts.{begins_wider, both_front, either_front, front_any}
+use Rattle.winnow.specs.Texts.Fronts.{front_begins, front_behind, in_list_front, may_begin}
+use Rattle.winnow.specs.Texts.Fronts.{none_begins, optional_front, spelled_begins}
 use Rattle.winnow.specs.Texts.Parts.{behind_less, both_of, optional_of}
 use Rattle.winnow.specs.Texts.Rows.{list_of, none_both, parted_of}
 

@@ -1,6 +1,6 @@
 //! Slices that are read as text.
 ghost use Rattle.std.specs.Prelude.{Option};
-ghost use Rattle.stream_sets.specs.ParseSlice.{ReadsBytes, ParsesAs};
+ghost use Rattle.stream_sets.specs.ParseSlice.{ParsesAs, ReadsBytes};
 
 use std::str::FromStr;
 

@@ -7,11 +7,10 @@ use Rattle.streams.specs.Kind.{Kind}
 use Rattle.streams.specs.declared.needed.Needed.{Needed}
 use Rattle.grammars.specs.Grammar.{Both, Grammar, IsUnique}
 use Rattle.grammars.specs.Grammar.Unique.{both_unique}
-use Rattle.grammars.specs.Texts.{EitherText, AtEnd, AtLeast, Begins, BeginsIn, GatheredText}
-use Rattle.grammars.specs.Texts.{InFront, InList}
-use Rattle.grammars.specs.Texts.{IsGrammarOf, PartedText, NotFirst, MadeText, EachText, Spelled}
-use Rattle.grammars.specs.Texts.{Text, BothText}
-use Rattle.grammars.specs.Texts.Fronts.{begins_never, front_any, both_front}
+use Rattle.grammars.specs.Texts.{AtEnd, AtLeast, Begins, BeginsIn, BothText, EachText, EitherText}
+use Rattle.grammars.specs.Texts.{GatheredText, InFront, InList, IsGrammarOf, MadeText, NotFirst}
+use Rattle.grammars.specs.Texts.{PartedText, Spelled, Text}
+use Rattle.grammars.specs.Texts.Fronts.{begins_never, both_front, front_any}
 use Rattle.grammars.specs.Texts.Rows.{links}
 use Rattle.stream_errors.specs.declared.fault.ParseFault.{ParseFault}
 use Rattle.winnow_core.specs.Exact.Whole.{IsWant}

@@ -19,7 +19,7 @@ use Rattle.winnow_expression_trees.specs.Accepting.{accepting}
 use Rattle.winnow_expression_trees.specs.Alike.{AlikeFirst, AlikeNext}
 use Rattle.winnow_expression_trees.specs.Failure.{EndedBy, RefusedBy, Unmoved}
 use Rattle.winnow_expression_trees.specs.OneTree.{KeepsOver}
-use Rattle.winnow_expression_trees.specs.Premises.{FoldAlike, FoldsAlike, AnswersAlike}
+use Rattle.winnow_expression_trees.specs.Premises.{AnswersAlike, FoldAlike, FoldsAlike}
 use Rattle.winnow_expression_trees.specs.Tree.{Tree}
 use Rattle.winnow_expression_trees.proofs.Plain.{Plain}
 use Rattle.winnow_expression_trees.proofs.Total.{run_fails, tree_refuses}

@@ -14,7 +14,7 @@ use Rattle.winnow_expression.specs.declared.combinator.places.Next.{Next}
 use Rattle.winnow_expression.specs.declared.combinator.places.Next.TheVariants.{Nothing, Postfix}
 use Rattle.winnow_expression.specs.declared.combinator.places.Next.TheVariants.{Infix as infix_read}
 use Rattle.winnow_expression_trees.specs.Alike.{AlikeFirst, AlikeNext}
-use Rattle.winnow_expression_trees.specs.Premises.{FoldAlike, FoldsAlike, AnswersAlike}
+use Rattle.winnow_expression_trees.specs.Premises.{AnswersAlike, FoldAlike, FoldsAlike}
 use Rattle.winnow_expression_trees.specs.Tree.{Tree, leaf, before, behind, between}
 use Rattle.winnow_expression_trees.specs.Value.{Value}
 use Rattle.winnow_expression_trees.proofs.Plain.{Plain}
@@ -39,7 +39,7 @@ both_given : {V : Type 0} (a b : Answer V) (v w : V) → a ≡ Ok v → b ≡ Ok
     → AnswersAlike any_alike a b
 both_given a b v w e f =
     subst (λ z. AnswersAlike any_alike z b) (sym e)
-          (subst (λ z. AnswersAlike any_alike (Ok v) z) (sym f) tt)
+    (subst (λ z. AnswersAlike any_alike (Ok v) z) (sym f) tt)
 
 fold_any : {T V F : Type 0} (f h : F) → FoldAlike {T = T} {V = V} any_alike any_value f h
 fold_any f h = record {

@@ -20,7 +20,7 @@ use Rattle.winnow_expression.specs.declared.combinator.calls.Operator.TheVariant
 use Rattle.winnow_expression.specs.declared.combinator.calls.Operator.TheVariants.{
   Infix as infix_open,
 }
-use Rattle.winnow_expression_trees.specs.Premises.{NotMemory, AnswersAlike, FoldAlike, FoldsAlike}
+use Rattle.winnow_expression_trees.specs.Premises.{AnswersAlike, FoldAlike, FoldsAlike, NotMemory}
 use Rattle.winnow_expression_trees.specs.Value.{Value}
 
 pub clash : {O P : Type 0} {a : Answer O} {v : O} {k : Kind} → a ≡ Err k → a ≡ Ok v → P

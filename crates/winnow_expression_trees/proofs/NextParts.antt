@@ -16,7 +16,7 @@ use Rattle.winnow_expression.specs.declared.combinator.places.Next.TheVariants.{
 }
 use Rattle.winnow_expression.specs.declared.combinator.places.Next.TheVariants.{Infix as infix_read}
 use Rattle.winnow_expression_trees.specs.Alike.{AlikeInfix, AlikeNext}
-use Rattle.winnow_expression_trees.specs.Premises.{NotMemory, AnswersAlike}
+use Rattle.winnow_expression_trees.specs.Premises.{AnswersAlike, NotMemory}
 use Rattle.winnow_expression_trees.proofs.Parts.{back_is, not_back}
 use Rattle.winnow_expression_trees.specs.Premises.{IsStateless}
 use Rattle.winnow_expression_trees.specs.Premises.{AlikePostfix}

@@ -13,8 +13,8 @@ use Rattle.winnow_expression.specs.declared.combinator.places.First.TheVariants.
   Prefix as prefix_read,
 }
 use Rattle.winnow_expression_trees.specs.Alike.{AlikeFirst}
-use Rattle.winnow_expression_trees.specs.Premises.{NotMemory, AnswersAlike}
-use Rattle.winnow_expression_trees.specs.Premises.{AlikePrefix, IsStateless}
+use Rattle.winnow_expression_trees.specs.Premises.{AlikePrefix, AnswersAlike, IsStateless}
+use Rattle.winnow_expression_trees.specs.Premises.{NotMemory}
 
 pub not_back : backtrack ≡ memory → ⊥
 not_back e = cc

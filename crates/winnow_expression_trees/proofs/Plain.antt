@@ -19,7 +19,7 @@ use Rattle.winnow_expression.specs.declared.combinator.operators.Infix.{Infix}
 use Rattle.winnow_expression_trees.proofs.Alike.{Decided}
 use Rattle.winnow_expression_trees.specs.Alike.{AlikeFirst, AlikeNext}
 use Rattle.winnow_expression_trees.proofs.Over.{Moves}
-use Rattle.winnow_expression_trees.specs.Premises.{FoldAlike, FoldsAlike, NotMemory, AnswersAlike}
+use Rattle.winnow_expression_trees.specs.Premises.{AnswersAlike, FoldAlike, FoldsAlike, NotMemory}
 use Rattle.winnow_expression_trees.specs.Reading.{FirstStep, NextStep}
 
 -- Want of memory aside: parts in states s keep them and change only the place; the input decides

@@ -101,7 +101,7 @@ module _ {S W T V F G H : Type 0} (g : Grammar S W T V F G H) (alike : V → V �
 pub expression_fails : {S W T V F G H : Type 0} (g : Grammar S W T V F G H) (alike : V → V → Type 0)
     (s : S × W) (level : ℤ) (i : Input T) (k : Kind) (t : S × W) (j : Input T)
     → IsTheOneTree g alike s level i (Err k) t j → (k ≡ memory → ⊥)
-        → (RefusedBy g s level i k j → ⊥)
+    → (RefusedBy g s level i k j → ⊥)
     → (Unmoved g s i → ⊥) → EndedBy g s i k j
 expression_fails g alike s level i k t j exact other accepts moves =
     elim (exact.fails k refl other) [

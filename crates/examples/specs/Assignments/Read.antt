@@ -276,7 +276,7 @@ pub lines_told : {I X : Type 0} (inner_kind : X → Kind) (text : List ℕ)
     (result : Result (Unit {0}) (ParseFault I X Needed)) {spares : Type 0} → spares
     → ReadsAll inner_kind (LinesRead LineGrammar Fails) text result
     → FaultsBy length inner_kind spares (LinesRead LineGrammar Fails)
-          (LinesFail LineGrammar Fails) text result
+    (LinesFail LineGrammar Fails) text result
     → IsTold inner_kind text result
 lines_told inner_kind text (Ok o) spares reads faults = record {
   lines = (read_back text o [] reads.stands).0;

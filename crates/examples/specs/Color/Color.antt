@@ -3,7 +3,7 @@ use Rattle.std.specs.Prelude.{ℕ, List}
 use Rattle.std.specs.Borrow.{Bor}
 use Rattle.winnow.specs.AsChar.{IsHexDigit}
 use Rattle.winnow.specs.Counted.{counted_reading}
-use Rattle.winnow.specs.Texts.{Itself, SoManyOf, Text, BothText}
+use Rattle.winnow.specs.Texts.{BothText, Itself, SoManyOf, Text}
 
 -- a slice of the bytes
 abbrev pub Slice : Type 0

@@ -6,12 +6,12 @@ use Rattle.std.proofs.lemmas.List.Elements.{same_from_all_zip}
 use Rattle.examples.specs.Lines.Lines.{AreLines, IsLine, letter_unique, same_line, unique_line}
 use Rattle.winnow.specs.Grammar.{Either}
 use Rattle.winnow.specs.Grammar.Known.{Byte}
-use Rattle.winnow.specs.Texts.{EitherText, Anything, BeginsIn, InList, IsGrammarOf, Itself}
-use Rattle.winnow.specs.Texts.{NotFirst, EachText, Text, BothText}
+use Rattle.winnow.specs.Texts.{Anything, BeginsIn, BothText, EachText, EitherText, InList}
+use Rattle.winnow.specs.Texts.{IsGrammarOf, Itself, NotFirst, Text}
 use Rattle.winnow.specs.Back.{IsUnambiguous, among_one, in_list_one, never_both}
 use Rattle.winnow.specs.Back.{one_weaker, row_one, spelled_one, then_one}
-use Rattle.winnow.specs.Texts.Fronts.{either_front, begins_wider, front_any, front_begins}
-use Rattle.winnow.specs.Texts.Fronts.{none_begins, spelled_begins, both_front}
+use Rattle.winnow.specs.Texts.Fronts.{begins_wider, both_front, either_front, front_any}
+use Rattle.winnow.specs.Texts.Fronts.{front_begins, none_begins, spelled_begins}
 use Rattle.winnow.specs.Texts.Parts.{both_of, either_apart, same_of}
 use Rattle.winnow.specs.Texts.Rows.{listed_of}
 use Rattle.winnow.specs.Texts.Tokens.{byte_of}

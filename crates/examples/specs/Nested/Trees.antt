@@ -16,8 +16,8 @@ use Rattle.winnow.specs.Range.{from_to}
 use Rattle.winnow.specs.Exact.{Reads}
 use Rattle.winnow.specs.Numeral.Exact.{decimal_takes, decimal_unique}
 use Rattle.winnow.specs.Read.{reads_former, reads_other}
-use Rattle.winnow.specs.Grammar.{Either, Gathered, Grammar, IsUnique, Made, NoneStands}
-use Rattle.winnow.specs.Grammar.{Parted, TakesTokens, Three}
+use Rattle.winnow.specs.Grammar.{Either, Gathered, Grammar, IsUnique, Made, NoneStands, Parted}
+use Rattle.winnow.specs.Grammar.{TakesTokens, Three}
 use Rattle.winnow.specs.Grammar.Known.{Byte, byte_stands, byte_takes, byte_unique}
 use Rattle.winnow.specs.Grammar.Meaning.{Meaning, meaning_takes, meaning_unique}
 use Rattle.winnow.specs.Numeral.Grammar.{Decimal}

@@ -9,8 +9,8 @@ use Rattle.winnow.specs.Grammar.Known.{Byte}
 use Rattle.winnow.specs.Range.{from_to}
 use Rattle.winnow.specs.Reading.{Reading}
 use Rattle.winnow.specs.Texts.{Anything, BeginsIn, IsGrammarOf, Members, NotFirst}
-use Rattle.winnow.specs.Texts.Fronts.{front_any, front_begins, members_begin, none_begins}
-use Rattle.winnow.specs.Texts.Fronts.{spelled_begins, both_front}
+use Rattle.winnow.specs.Texts.Fronts.{both_front, front_any, front_begins, members_begin}
+use Rattle.winnow.specs.Texts.Fronts.{none_begins, spelled_begins}
 use Rattle.winnow.specs.Texts.Parts.{both_of, three_of}
 use Rattle.winnow.specs.Texts.Rows.{list_of, many_of}
 use Rattle.winnow.specs.Texts.Tokens.{byte_of, class_of}

@@ -3,7 +3,7 @@ use Rattle.std.specs.Prelude.{◌≡◌, ℕ, List}
 use Rattle.std.specs.Borrow.{Bor}
 use Rattle.std.specs.declared.vec.Vec.{Vec}
 use Rattle.winnow.specs.Counted.{counted_reading}
-use Rattle.winnow.specs.Texts.{InList, Itself, Members, EachText, Text, BothText}
+use Rattle.winnow.specs.Texts.{BothText, EachText, InList, Itself, Members, Text}
 
 -- any byte but "=" and a line feed
 abbrev pub InKey : ℕ → Type 0

@@ -13,11 +13,10 @@ use Rattle.winnow.specs.Numeral.Grammar.{Decimal}
 use Rattle.winnow.specs.Numeral.Grammar.Known.{NoDigitFirst, Written, same_written}
 use Rattle.winnow.specs.Range.{from_to}
 use Rattle.winnow.specs.Reading.{Reading}
-use Rattle.winnow.specs.Texts.{Anything, AtEnd, BeginsIn, InFront, IsGrammarOf, Itself}
-use Rattle.winnow.specs.Texts.{Members, NotFirst, OptionalText, BothText}
-use Rattle.winnow.specs.Texts.Fronts.{front_any, front_begins, front_may}
+use Rattle.winnow.specs.Texts.{Anything, AtEnd, BeginsIn, BothText, InFront, IsGrammarOf, Itself}
+use Rattle.winnow.specs.Texts.{Members, NotFirst, OptionalText}
+use Rattle.winnow.specs.Texts.Fronts.{both_front, front_any, front_begins, front_may}
 use Rattle.winnow.specs.Texts.Fronts.{may_begin_none, none_begins, optional_front, spelled_begins}
-use Rattle.winnow.specs.Texts.Fronts.{both_front}
 use Rattle.winnow.specs.Texts.Parts.{both_of, optional_of, same_of, three_of}
 use Rattle.winnow.specs.Texts.Rows.{list_of, parted_of}
 use Rattle.winnow.specs.Texts.Tokens.{byte_of, class_of}

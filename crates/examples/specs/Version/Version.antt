@@ -5,8 +5,8 @@ use Rattle.std.specs.Fmt.{decimal}
 use Rattle.std.specs.declared.vec.Vec.{Vec}
 use Rattle.winnow.specs.AsChar.{IsAlphanum}
 use Rattle.winnow.specs.Counted.{counted_reading}
-use Rattle.winnow.specs.Texts.{AtLeast, InList, Itself, PartedText, Members, OptionalText, Text}
-use Rattle.winnow.specs.Texts.{BothText}
+use Rattle.winnow.specs.Texts.{AtLeast, BothText, InList, Itself, Members, OptionalText, PartedText}
+use Rattle.winnow.specs.Texts.{Text}
 
 -- a slice of the bytes
 abbrev pub Slice : Type 0

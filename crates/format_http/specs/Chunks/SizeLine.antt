@@ -10,9 +10,9 @@ use Rattle.format_http.specs.declared.chunks.size_line.SizeLine.{SizeLine}
 use Rattle.format_http.specs.Heads.Bytes.{IsTokenByte, IsValueByte}
 use Rattle.winnow.specs.AsChar.{IsHexDigit, IsSpace}
 use Rattle.winnow.specs.Counted.{counted_reading}
-use Rattle.winnow.specs.Texts.{EitherText, AtLeast, GatheredText, InList, Itself, Members, MadeText}
+use Rattle.winnow.specs.Texts.{AtLeast, BothText, EachText, EitherText, GatheredText, InList}
+use Rattle.winnow.specs.Texts.{Itself, MadeText, Members, OptionalText, TakenText, Text}
 use Rattle.winnow.specs.Texts.{TokenOfText}
-use Rattle.winnow.specs.Texts.{OptionalText, EachText, TakenText, Text, BothText}
 use Rattle.winnow.specs.Digits.{value_in}
 
 -- bytes of the input

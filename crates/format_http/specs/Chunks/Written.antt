@@ -20,14 +20,13 @@ use Rattle.winnow.specs.Equal.{same_first, same_others}
 use Rattle.winnow.specs.Grammar.{Both, Grammar, InClass, NoneStands}
 use Rattle.winnow.specs.Grammar.Known.{Byte}
 use Rattle.winnow.specs.InTurn.{First}
-use Rattle.winnow.specs.Texts.{Anything, AtLeast, Begins, BeginsIn, GatheredText, InFront}
-use Rattle.winnow.specs.Texts.{IsGrammarOf, Itself, MayBegin, Members, NotFirst, MadeText}
-use Rattle.winnow.specs.Texts.{OptionalText}
-use Rattle.winnow.specs.Texts.{EachText, Spelled, Text, BothText}
-use Rattle.winnow.specs.Texts.Fronts.{either_front, begins_wider, front_any, front_begins}
-use Rattle.winnow.specs.Texts.Fronts.{front_whole, in_list_front, may_begin, members_begin}
-use Rattle.winnow.specs.Texts.Fronts.{none_begins, token_of_begins, each_front, taken_front}
-use Rattle.winnow.specs.Texts.Fronts.{spelled_begins, both_front}
+use Rattle.winnow.specs.Texts.{Anything, AtLeast, Begins, BeginsIn, BothText, EachText}
+use Rattle.winnow.specs.Texts.{GatheredText, InFront, IsGrammarOf, Itself, MadeText, MayBegin}
+use Rattle.winnow.specs.Texts.{Members, NotFirst, OptionalText, Spelled, Text}
+use Rattle.winnow.specs.Texts.Fronts.{begins_wider, both_front, each_front, either_front, front_any}
+use Rattle.winnow.specs.Texts.Fronts.{front_begins, front_whole, in_list_front, may_begin}
+use Rattle.winnow.specs.Texts.Fronts.{members_begin, none_begins, spelled_begins, taken_front}
+use Rattle.winnow.specs.Texts.Fronts.{token_of_begins}
 use Rattle.winnow.specs.Texts.Parts.{behind_less, both_of, either_apart, optional_of, taken_of}
 use Rattle.winnow.specs.Texts.Parts.{three_of}
 use Rattle.winnow.specs.Texts.Rows.{gathered_of, list_of, many_of}

@@ -7,15 +7,13 @@ use Rattle.std.proofs.lemmas.Str.{length-le-encodes}
 use Rattle.format_json_extents.proofs.Written.{Fits, Written, fit_parts, one_written, run_written}
 use Rattle.format_json_extents.proofs.Written.{then_written}
 use Rattle.format_json_extents.proofs.Written.Numbers.{Same}
-use Rattle.format_json_extents.specs.Texts.{Either, IsByte, List_of, Many, Maybe, BothText, before}
-use Rattle.format_json_extents.specs.Texts.{last}
-use Rattle.format_json_extents.specs.Texts.{nothing, one_more}
+use Rattle.format_json_extents.specs.Texts.{BothText, Either, IsByte, List_of, Many, Maybe, before}
+use Rattle.format_json_extents.specs.Texts.{last, nothing, one_more}
 use Rattle.format_json_extents.specs.Value.{IsGap, IsSpace}
 use Rattle.format_json_texts.specs.Values.{GapText, Mark}
 use Rattle.format_json_texts.specs.Words.{Between, One, pair}
 use Rattle.winnow.specs.AsChar.{IsMultispace}
-use Rattle.winnow.specs.Texts.{InList, PartedText, EachText, Text}
-use Rattle.winnow.specs.Texts.{BothText as Both}
+use Rattle.winnow.specs.Texts.{BothText as Both, EachText, InList, PartedText, Text}
 use denote.RawPtr.{null_ptr}
 
 -- ---- white space

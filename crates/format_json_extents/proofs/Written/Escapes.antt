@@ -15,8 +15,7 @@ use Rattle.format_json_extents.specs.Strings.{IsUnit}
 use Rattle.format_json_texts.specs.Strings.{ArePair, IsAlone}
 use Rattle.format_json_texts.specs.Strings.{StandsFor, UnicodeText, UnitText}
 use Rattle.format_json_texts.specs.Words.{For, One, Whichever, latter, pair}
-use Rattle.winnow.specs.Texts.{EitherText, MadeText, Spelled, Text}
-use Rattle.winnow.specs.Texts.{BothText as Both}
+use Rattle.winnow.specs.Texts.{BothText as Both, EitherText, MadeText, Spelled, Text}
 
 -- ---- escapes
 

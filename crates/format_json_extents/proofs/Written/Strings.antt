@@ -20,8 +20,7 @@ use Rattle.format_json_texts.specs.Strings.{StringText}
 use Rattle.format_json_texts.specs.Strings.{IsUnescaped as IsPlain}
 use Rattle.format_json_texts.specs.Words.{In, former, latter}
 use Rattle.winnow.specs.Accumulator.Holds.{HasCharacters}
-use Rattle.winnow.specs.Texts.{EitherText, GatheredText, EachText, Spelled}
-use Rattle.winnow.specs.Texts.{BothText as Both}
+use Rattle.winnow.specs.Texts.{BothText as Both, EachText, EitherText, GatheredText, Spelled}
 
 -- ---- pieces
 
@@ -150,7 +149,7 @@ row_value _ fits (one_more first others cs is more e) =
 
 module _ {A : Type 0} (alloc : A) where
   held_written : Written (Many IsPiece)
-        (GatheredText (HasCharacters {A = A}) (EachText CharacterText))
+      (GatheredText (HasCharacters {A = A}) (EachText CharacterText))
   unfolding GatheredText
   held_written = record {
     set = λ o cs (os, holds, x). row_set os cs x;

@@ -6,8 +6,7 @@ use Rattle.format_json_extents.specs.Strings.{BeginHigh, BeginLow, BeginOnly, Is
 use Rattle.format_json_extents.specs.Strings.{IsUnit}
 use Rattle.format_json_texts.specs.Strings.{IsHex, UnitText}
 use Rattle.format_json_texts.specs.Words.{For, Whichever, pair}
-use Rattle.winnow.specs.Texts.{MadeText}
-use Rattle.winnow.specs.Texts.{BothText as Both}
+use Rattle.winnow.specs.Texts.{BothText as Both, MadeText}
 
 -- ---- hexadecimal digits
 

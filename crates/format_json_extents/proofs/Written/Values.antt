@@ -29,7 +29,7 @@ use Rattle.format_json_texts.specs.Words.{former, latter, pair}
 use Rattle.format_json_texts.specs.declared.value.Value.{Value}
 use Rattle.format_json_texts.specs.declared.value.Value as values
 use Rattle.winnow.specs.Accumulator.Holds.{HasCharacters}
-use Rattle.winnow.specs.Texts.{TakenText, Spelled, Text}
+use Rattle.winnow.specs.Texts.{Spelled, TakenText, Text}
 
 only_written : {O : Type 0} (word : List ℕ) (o : O) → Written (Only word) (Spelled word o)
 unfolding Spelled

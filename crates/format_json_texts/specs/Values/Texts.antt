@@ -9,12 +9,11 @@ use Rattle.winnow.specs.AsChar.{IsDecDigit, IsMultispace}
 use Rattle.winnow.specs.Range.{from_to}
 use Rattle.winnow.specs.Grammar.Same.{Same}
 use Rattle.winnow.specs.Grammar.{Both, Grammar, Three}
-use Rattle.winnow.specs.Texts.{Anything, Begins, BeginsIn, InFront, InList}
-use Rattle.winnow.specs.Texts.{IsGrammarOf}
-use Rattle.winnow.specs.Texts.{PartedText, NotFirst, Spelled, Text}
-use Rattle.winnow.specs.Texts.Fronts.{either_front, begins_wider, front_any, front_begins}
-use Rattle.winnow.specs.Texts.Fronts.{may_begin, none_begins, not_first}
-use Rattle.winnow.specs.Texts.Fronts.{spelled_begins, both_front}
+use Rattle.winnow.specs.Texts.{Anything, Begins, BeginsIn, InFront, InList, IsGrammarOf, NotFirst}
+use Rattle.winnow.specs.Texts.{PartedText, Spelled, Text}
+use Rattle.winnow.specs.Texts.Fronts.{begins_wider, both_front, either_front, front_any}
+use Rattle.winnow.specs.Texts.Fronts.{front_begins, may_begin, none_begins, not_first}
+use Rattle.winnow.specs.Texts.Fronts.{spelled_begins}
 use Rattle.winnow.specs.Texts.Parts.{behind_less, both_of, either_apart, same_of}
 use Rattle.winnow.specs.Texts.Rows.{list_of, parted_of}
 use Rattle.format_json_texts.specs.Number.{GoesOn, number_begins}

@@ -3,9 +3,8 @@ use Rattle.std.specs.Prelude.{ℕ, List, [], ◌∷◌, length, Option}
 use Rattle.std.proofs.Common.{inl, inr}
 use Rattle.stream_sets.specs.Range.{Bounds, bounds_of}
 use Rattle.stream_sets.specs.declared.range.Range.{Range}
-use Rattle.grammars.specs.Grammar.{SeparatedBy, Both, Each, Either, Gathered, Grammar, Many}
-use Rattle.grammars.specs.Grammar.{Optional}
-use Rattle.grammars.specs.Grammar.{Parted, Repeated, Stops}
+use Rattle.grammars.specs.Grammar.{Both, Each, Either, Gathered, Grammar, Many, Optional, Parted}
+use Rattle.grammars.specs.Grammar.{Repeated, SeparatedBy, Stops}
 use Rattle.grammars.specs.Grammar.Same.{Same, none_as, same_sym}
 
 module _ {T O1 O2 O : Type 0} (output : O1 → O2 → O) where

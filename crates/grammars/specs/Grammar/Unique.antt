@@ -7,8 +7,8 @@ use Rattle.streams.specs.Reading.{Reading, units-nil}
 use Rattle.stream_sets.specs.Range.{Bounds, IsBelow, bounds_of}
 use Rattle.stream_sets.specs.declared.range.Range.{Range}
 use Rattle.grammars.specs.Grammar.{Ahead, Both, Each, Either, Gathered, Grammar, IsUnique}
-use Rattle.grammars.specs.Grammar.{Literally, Made, Many, Optional, NoneStands, Parted, Repeated}
-use Rattle.grammars.specs.Grammar.{Stops, Taken, TakesTokens, Token, TokenOf, Nothing}
+use Rattle.grammars.specs.Grammar.{Literally, Made, Many, NoneStands, Nothing, Optional, Parted}
+use Rattle.grammars.specs.Grammar.{Repeated, Stops, Taken, TakesTokens, Token, TokenOf}
 
 -- what is left behind what stands is no longer than the tokens
 pub no_longer_than : {T O : Type 0} {g : Grammar T O} → IsUnique g → (tokens : List T) (o : O)

@@ -4,12 +4,10 @@ use Rattle.std.specs.List.{All}
 use Rattle.std.proofs.Common.{refl, sym, ap, subst, inl, inr, ◌∙◌, arith, append_assoc}
 use Rattle.streams.specs.Reading.{Reading}
 use Rattle.grammars.specs.Grammar.{Grammar, NoneStands}
-use Rattle.grammars.specs.Texts.{EitherText, Anything, AtEnd, Begins, BeginsIn, GatheredText}
-use Rattle.grammars.specs.Texts.{InFront}
-use Rattle.grammars.specs.Texts.{InList, IsGrammarOf, MayBegin, MayBeginIn, Members, NotFirst}
-use Rattle.grammars.specs.Texts.{MadeText}
-use Rattle.grammars.specs.Texts.{TokenOfText, OptionalText, EachText, TakenText, Spelled, Text}
-use Rattle.grammars.specs.Texts.{BothText}
+use Rattle.grammars.specs.Texts.{Anything, AtEnd, Begins, BeginsIn, BothText, EachText, EitherText}
+use Rattle.grammars.specs.Texts.{GatheredText, InFront, InList, IsGrammarOf, MadeText, MayBegin}
+use Rattle.grammars.specs.Texts.{MayBeginIn, Members, NotFirst, OptionalText, Spelled, TakenText}
+use Rattle.grammars.specs.Texts.{Text, TokenOfText}
 
 -- ---- tokens
 

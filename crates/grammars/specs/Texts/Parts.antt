@@ -3,14 +3,12 @@ use Rattle.std.specs.Prelude.{◌≡◌, List, [], ◌++◌, Option, Some, None}
 use Rattle.std.proofs.Common.{refl, sym, ap, subst, inl, inr, ◌∙◌, append_assoc}
 use Rattle.std.proofs.lemmas.List.{append_cancel_right}
 use Rattle.streams.specs.Reading.{Reading}
-use Rattle.grammars.specs.Grammar.{AndTaken, Both, Either, Grammar, Made, Optional, NoneStands}
-use Rattle.grammars.specs.Grammar.{Taken}
-use Rattle.grammars.specs.Grammar.{Three}
+use Rattle.grammars.specs.Grammar.{AndTaken, Both, Either, Grammar, Made, NoneStands, Optional}
+use Rattle.grammars.specs.Grammar.{Taken, Three}
 use Rattle.grammars.specs.Grammar.Same.{Same}
-use Rattle.grammars.specs.Texts.{EitherText, AndTakenText, BeginsIn, InFront, IsGrammarOf, NotFirst}
-use Rattle.grammars.specs.Texts.{MadeText}
-use Rattle.grammars.specs.Texts.{OptionalText, TakenText, Text, BothText}
-use Rattle.grammars.specs.Texts.Fronts.{front_whole, none_begins, both_front}
+use Rattle.grammars.specs.Texts.{AndTakenText, BeginsIn, BothText, EitherText, InFront, IsGrammarOf}
+use Rattle.grammars.specs.Texts.{MadeText, NotFirst, OptionalText, TakenText, Text}
+use Rattle.grammars.specs.Texts.Fronts.{both_front, front_whole, none_begins}
 
 -- ---- the same in other words
 

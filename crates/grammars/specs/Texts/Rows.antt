@@ -5,9 +5,8 @@ use Rattle.std.proofs.Common.{refl, sym, ap, subst, inr, ◌∙◌, arith, appen
 use Rattle.stream_sets.specs.Range.{Bounds, IsBelow, from_to}
 use Rattle.grammars.specs.Grammar.{Both, Each, Gathered, Grammar, Many, NoneStands, Parted}
 use Rattle.grammars.specs.Grammar.Known.{Listed}
-use Rattle.grammars.specs.Texts.{AtLeast, GatheredText, InFront, InList, IsGrammarOf, PartedText}
-use Rattle.grammars.specs.Texts.{EachText, Text}
-use Rattle.grammars.specs.Texts.{BothText}
+use Rattle.grammars.specs.Texts.{AtLeast, BothText, EachText, GatheredText, InFront, InList}
+use Rattle.grammars.specs.Texts.{IsGrammarOf, PartedText, Text}
 use Rattle.grammars.specs.Texts.Fronts.{both_front}
 use Rattle.grammars.specs.Texts.Parts.{both_of}
 

@@ -13,10 +13,9 @@ use Rattle.stream_sets.specs.Sets.{EitherTells}
 use Rattle.grammars.specs.Grammar.{Class, Counted, InClass, Literally, Longest, NoTokens, Nothing}
 use Rattle.grammars.specs.Grammar.{TokenOf}
 use Rattle.grammars.specs.Grammar.Known.{Byte, slice_for}
-use Rattle.grammars.specs.Texts.{Anything, AtEnd, Divides, NoTokensText, IsGrammarOf, Itself}
-use Rattle.grammars.specs.Texts.{MayBegin}
-use Rattle.grammars.specs.Texts.{Members, NotFirst, TokenOfText, CountedText, SoManyOf, Spelled}
-use Rattle.grammars.specs.Texts.{LiterallyText}
+use Rattle.grammars.specs.Texts.{Anything, AtEnd, CountedText, Divides, IsGrammarOf, Itself}
+use Rattle.grammars.specs.Texts.{LiterallyText, MayBegin, Members, NoTokensText, NotFirst, SoManyOf}
+use Rattle.grammars.specs.Texts.{Spelled, TokenOfText}
 
 -- a token that stands for itself, where slices show all tokens
 pub itself_of : {T L : Type 0} (reading : Reading T L)

@@ -14,7 +14,7 @@ use Rattle.stream_errors.specs.Form.{Answer}
 use Rattle.winnow_core.specs.Decided.{AlikeAnswers, IsDecided, NotMemory}
 use Rattle.winnow_core.specs.Decided.Inputs.{both_err, both_ok, memory_backs}
 use Rattle.winnow_core.specs.Decided.Made.{Carries, made_decided}
-use Rattle.grammars.specs.Grammar.{Grammar, Optional, NoneStands}
+use Rattle.grammars.specs.Grammar.{Grammar, NoneStands, Optional}
 use Rattle.grammars.specs.Grammar.Unique.{optional_unique}
 use Rattle.stream_errors.specs.Form.Known.{at_kind, ok_is_err, same_ok, same_kind}
 use Rattle.winnow_core.specs.Exact.{FailsBy, IsExact, IsSoft}

@@ -14,8 +14,7 @@ use Rattle.winnow_core.specs.Closures.{Stays, Gives, GivesSome, Finds}
 use Rattle.winnow_core.specs.Decided.{IsDecided, NotMemory}
 use Rattle.winnow_core.specs.Decided.Inputs.{decided_as}
 use Rattle.winnow_core.specs.Decided.Made.{OutputsMadeAlike, SettlesTo, TellsAlike, Turns}
-use Rattle.winnow_core.specs.Decided.Made.{made_decided}
-use Rattle.winnow_core.specs.Decided.Made.{settles_carry, turns_carry}
+use Rattle.winnow_core.specs.Decided.Made.{made_decided, settles_carry, turns_carry}
 use Rattle.winnow_core.specs.InOrder.Decided.{AlikePairs}
 use Rattle.winnow_core.specs.Literal.Laws.{ShowSame}
 use Rattle.winnow_core.specs.MakesOutput.{MakesOutput}

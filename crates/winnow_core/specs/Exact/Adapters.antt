@@ -5,7 +5,7 @@ use Rattle.std.proofs.Common.{refl, subst, sym, inl, inr}
 use Rattle.streams.specs.Input.{Input}
 use Rattle.streams.specs.Kind.{Kind, memory}
 use Rattle.streams.specs.Reading.{Reading}
-use Rattle.grammars.specs.Grammar.{AndTaken, Grammar, Made, TakesTokens, Taken}
+use Rattle.grammars.specs.Grammar.{AndTaken, Grammar, Made, Taken, TakesTokens}
 use Rattle.grammars.specs.Grammar.Unique.{made_takes}
 use Rattle.stream_errors.specs.Form.{Answer}
 use Rattle.winnow_core.specs.Closures.{Stays, Gives}

@@ -9,7 +9,7 @@ use Rattle.winnow_core.specs.Runs.{Runs, LeaveEnds}
 use Rattle.winnow_core.specs.Stable.Grows.{Grows, final_by}
 use Rattle.streams.specs.Kind.{Kind, memory}
 use Rattle.grammars.specs.Grammar.{Grammar, NoneStands}
-use Rattle.grammars.specs.Grammar.Decided.{FlatMapped, EachMade, MadeAlike, flat_mapped_unique}
+use Rattle.grammars.specs.Grammar.Decided.{EachMade, FlatMapped, MadeAlike, flat_mapped_unique}
 use Rattle.stream_errors.specs.Form.{Answer}
 use Rattle.stream_errors.specs.Form.Known.{at_kind, ok_is_err}
 use Rattle.winnow_core.specs.Closures.{Gives, Stays}

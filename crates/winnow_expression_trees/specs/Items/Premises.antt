@@ -11,8 +11,7 @@ use Rattle.winnow_core.specs.Runs.{Keeps as KeepsState}
 use Rattle.winnow_expression_trees.specs.Items.{AreItems, Gives, GivesOne, ItemRuns}
 use Rattle.winnow_expression_trees.specs.Items.{Items}
 use Rattle.winnow_expression_trees.specs.Items.{left_at}
-use Rattle.winnow_expression_trees.specs.Premises.{FoldAlike, FoldsAlike}
-use Rattle.winnow_expression_trees.specs.Premises.{IsStateless, AnswersAlike}
+use Rattle.winnow_expression_trees.specs.Premises.{AnswersAlike, FoldAlike, FoldsAlike, IsStateless}
 
 pub ok_is_not : {O X : Type 0} {a : Answer O} {v : O} {k : Kind} → a ≡ Ok v → a ≡ Err k → X
 ok_is_not e f = absurd (cc)
@@ -24,13 +23,13 @@ both : {O : Type 0} (alike : O → O → Type 0) (a b : Answer O) (v w : O) → 
     → alike v w → AnswersAlike alike a b
 both alike a b v w e f like =
     subst (λ x. AnswersAlike alike x b) (sym e)
-          (subst (λ x. AnswersAlike alike (Ok v) x) (sym f) like)
+    (subst (λ x. AnswersAlike alike (Ok v) x) (sym f) like)
 
 neither : {O : Type 0} (alike : O → O → Type 0) (a b : Answer O) (k : Kind) → a ≡ Err k
     → b ≡ Err k → AnswersAlike alike a b
 neither alike a b k e f =
     subst (λ x. AnswersAlike alike x b) (sym e)
-          (subst (λ x. AnswersAlike alike (Err k) x) (sym f) refl)
+    (subst (λ x. AnswersAlike alike (Err k) x) (sym f) refl)
 
 -- ---- the premises
 

@@ -13,7 +13,7 @@ use Rattle.winnow_core.specs.Value.{ValueRuns}
 use Rattle.winnow_core.specs.Decided.{AlikeAnswers, IsDecided}
 use Rattle.winnow_core.specs.Decided.{NotMemory as NotWantOfMemory}
 use Rattle.winnow_expression.specs.Units.{units_left}
-use Rattle.winnow_expression_trees.specs.Premises.{IsStateless, NotMemory, AnswersAlike}
+use Rattle.winnow_expression_trees.specs.Premises.{AnswersAlike, IsStateless, NotMemory}
 
 -- an answer that is no want of memory, in the words of both crates
 no_memory : {O : Type 0} (a : Answer O) → NotMemory a → NotWantOfMemory a

@@ -6,7 +6,7 @@ use Rattle.streams.specs.Kind.{Kind, backtrack}
 use Rattle.stream_errors.specs.Form.{Answer}
 use Rattle.winnow_comb.specs.Fail.{FailRuns}
 use Rattle.winnow_core.specs.Runs.{Keeps}
-use Rattle.winnow_expression_trees.specs.Premises.{IsStateless, NotMemory, AnswersAlike}
+use Rattle.winnow_expression_trees.specs.Premises.{AnswersAlike, IsStateless, NotMemory}
 
 -- A run of a parser with no state that counts: it changes only the place, and the input decides its
 -- answer and what it leaves. Want of memory aside.
@@ -20,7 +20,7 @@ pub both_err : {O : Type 0} (alike : O → O → Type 0) (a b : Answer O) (k l :
     → b ≡ Err l → k ≡ l → AnswersAlike alike a b
 both_err alike a b k l e f same =
     subst (λ x. AnswersAlike alike x b) (sym e)
-          (subst (λ x. AnswersAlike alike (Err k) x) (sym f) same)
+    (subst (λ x. AnswersAlike alike (Err k) x) (sym f) same)
 
 -- a parser that keeps its value, as far as that decides its runs
 pub keeps_stateless : {S T O : Type 0} (alike : O → O → Type 0)

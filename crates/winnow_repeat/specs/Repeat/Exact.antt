@@ -121,7 +121,7 @@ module _ {S T O C : Type 0} {run : Runs S T O} {g : Grammar T O} {s : S} (into :
   -- they fail as the items do, or for want of memory
   pub items_allowed : {allowed : Kind → Type 0} → IsExact s run g → FailsBy allowed s run
       → TakesTokens g → (Wants into → allowed memory)
-          → (before : C) (i : Input T) (k : Kind) (t : S)
+      → (before : C) (i : Input T) (k : Kind) (t : S)
       (j : Input T) → i.status.cut ≡ false
       → ItemsRun run into asserted bounds before s i (Err k) t j → allowed k
   items_allowed {allowed} c f takes wants before i k t j is ran =

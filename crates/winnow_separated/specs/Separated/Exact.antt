@@ -9,8 +9,8 @@ use Rattle.stream_sets.specs.Accumulator.{Accumulator, Wants}
 use Rattle.stream_sets.specs.Accumulator.Holds.{Accumulates, Holds}
 use Rattle.stream_sets.specs.Range.{Bounds, IsBelow, IsWithin, bounds_of}
 use Rattle.stream_sets.specs.declared.range.Range.{Range}
-use Rattle.grammars.specs.Grammar.{SeparatedBy, Both, Each, Gathered, Grammar, IsUnique, Many}
-use Rattle.grammars.specs.Grammar.{NoneStands, Parted, Stops, TakesTokens}
+use Rattle.grammars.specs.Grammar.{Both, Each, Gathered, Grammar, IsUnique, Many, NoneStands}
+use Rattle.grammars.specs.Grammar.{Parted, SeparatedBy, Stops, TakesTokens}
 use Rattle.grammars.specs.Grammar.Unique.{both_take, gathered_takes, gathered_unique, parted_takes}
 use Rattle.grammars.specs.Grammar.Unique.{parted_unique}
 use Rattle.stream_errors.specs.Form.{Answer}

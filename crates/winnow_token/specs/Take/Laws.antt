@@ -1,7 +1,7 @@
 -- What holds of the runs of takes by count.
 use Rattle.std.specs.Prelude.{◌≡◌, ℕ, Bool, Err, ◌<◌, List, length, ◌⊎◌, false, [], ◌∷◌, ◌++◌, Ok}
 use Rattle.std.proofs.Common.{inl, inr, sym, ap, subst, ◌∙◌, arith, length-append, refl}
-use Rattle.streams.specs.Input.{Input, IsEndOf, takes_end, TakesTokens}
+use Rattle.streams.specs.Input.{Input, IsEndOf, TakesTokens, takes_end}
 use Rattle.streams.specs.Reading.{Reading}
 use Rattle.streams.specs.SameReading.{SameReading, reading_path}
 use Rattle.stream_errors.specs.Form.{Answer, ErrorForm, modal}

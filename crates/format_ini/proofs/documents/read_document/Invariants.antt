@@ -7,7 +7,7 @@ abbrev pub invariant-entries : goal.invariant-entries
 invariant-entries g l = record {
   read : (lines : List ℕ) × BehindMark l.text lines
       × ReadsLines l.fn.dialect start lines (map said_in l.entries.items) l.left.state
-            l.left.rest.now;
+      l.left.rest.now;
   same : l.left.dialect ≡ l.fn.dialect;
 }
 

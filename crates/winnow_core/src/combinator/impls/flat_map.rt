@@ -1,6 +1,6 @@
 //! Parsers that outputs decide.
 ghost use Rattle.std.specs.Prelude.{◌≡◌, ◌⊎◌};
-ghost use Rattle.grammars.specs.Grammar.Decided.{FlatMapped, EachMade, MadeAlike};
+ghost use Rattle.grammars.specs.Grammar.Decided.{EachMade, FlatMapped, MadeAlike};
 ghost use Rattle.grammars.specs.Grammar.Decided.{flat_mapped_takes};
 ghost use Rattle.stream_errors.specs.Form.{modal};
 ghost use Rattle.winnow_core.specs.Closures.{Gives, Stays};

@@ -5,7 +5,7 @@ use Rattle.format_ini.proofs.documents.Entries.next_entry.Given as goal
 abbrev pub invariant-lines : goal.invariant-lines
 invariant-lines l = record {
   read : ReadsLines l.initial.self.dialect l.initial.self.state l.initial.self.rest.now []
-        l.self.state
+      l.self.state
       l.self.rest.now;
   same : l.self.dialect ≡ l.initial.self.dialect;
 }
