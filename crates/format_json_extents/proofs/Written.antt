@@ -8,7 +8,7 @@ use Rattle.std.specs.Str.{all_scalars, encode_utf8_all}
 use Rattle.std.proofs.lemmas.List.Elements.{All-cons, All-head, All-tail, All-weaker}
 use Rattle.std.proofs.lemmas.Str.{encodes-append}
 use Rattle.format_json_extents.specs.Texts.{BothText, Either, IsByte, Maybe}
-use Rattle.format_json_texts.specs.Words.{For, In, One, Run}
+use Rattle.format_parts.specs.Words.{For, In, One, Run}
 use Rattle.winnow.specs.Text.{text_reading}
 use Rattle.winnow.specs.Texts.{BothText as Both, EitherText, MadeText, OptionalText, Spelled}
 use Rattle.winnow.specs.Texts.{TakenText, Text}

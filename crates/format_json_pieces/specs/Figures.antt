@@ -8,7 +8,7 @@ use Rattle.winnow.specs.Texts.{InFront, Text}
 use Rattle.winnow.specs.Texts.Fronts.{both_front, either_front, taken_front}
 use Rattle.format_json_texts.specs.Number.{ExponentText, FractionText, IntegerText, IsLeading}
 use Rattle.format_json_texts.specs.Number.{NumberText}
-use Rattle.format_json_texts.specs.Words.{One, Run, latter, pair, to_four}
+use Rattle.format_parts.specs.Words.{One, Run, latter, pair, to_four}
 use Rattle.format_json_pieces.specs.Inside.{figure_behind, is_final}
 use Rattle.format_json_pieces.specs.Spelled.{Leads, Spells, in_spells, left_out, one_spells}
 use Rattle.format_json_pieces.specs.Spelled.{run_spells}

@@ -8,14 +8,14 @@ use Rattle.std.proofs.lemmas.List.Elements.{All-from_recursion}
 use Rattle.winnow.specs.AsChar.{IsDecDigit, IsMultispace}
 use Rattle.format_json_texts.specs.Number.{ExponentText, FractionText, IntegerText, IsLeading}
 use Rattle.format_json_texts.specs.Number.{NumberText}
-use Rattle.format_json_texts.specs.Strings.{CharacterText, IsAlone, ArePair, IsHex, IsNumberOf}
+use Rattle.format_json_texts.specs.Strings.{ArePair, CharacterText}
+use Rattle.format_parts.specs.Hexadecimal.{IsAlone, IsHex, IsNumberOf, UnitText}
+use Rattle.format_parts.specs.Words.{For, One, Run, Whichever, for_front, former, latter, pair}
+use Rattle.format_parts.specs.Words.{to_four}
 use Rattle.format_json_texts.specs.Strings.{IsUnescaped, StandsFor, StringText, UnicodeText}
-use Rattle.format_json_texts.specs.Strings.{UnitText}
 use Rattle.format_json_texts.specs.Values.{ArrayText, GapText, HasText, IsArray, IsNumber, IsObject}
 use Rattle.format_json_texts.specs.Values.{IsString, IsWord, Mark, MemberText, ObjectText, Spaced}
 use Rattle.format_json_texts.specs.Values.{ScalarText, ValueText, WordText}
-use Rattle.format_json_texts.specs.Words.{For, One, Run, Whichever, for_front, former, latter, pair}
-use Rattle.format_json_texts.specs.Words.{to_four}
 use Rattle.format_json_texts.specs.declared.value.Value.{Value}
 use Rattle.format_json_pieces.specs.Extent.{Closes, EndsString, IsOpening, IsPlain, byte, escaped}
 use Rattle.format_json_pieces.specs.Extent.{open_behind, plain, quote, string}

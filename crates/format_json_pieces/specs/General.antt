@@ -8,7 +8,7 @@ use Rattle.std.proofs.lemmas.Bool.{cases_lt}
 use Rattle.std.proofs.lemmas.List.{append-nil}
 use Rattle.std.proofs.lemmas.List.Elements.{All-from_recursion, All-tail, All-weaker}
 use Rattle.std.proofs.lemmas.Str.{encode_ascii}
-use Rattle.format_json_texts.specs.Words.{In, One, Run}
+use Rattle.format_parts.specs.Words.{In, One, Run}
 use Rattle.winnow.specs.Equal.{same_first, same_others}
 use Rattle.winnow.specs.Texts.{InFront, NotFirst, PartedText, Spelled, Text}
 use Rattle.winnow.specs.Texts.Fronts.{both_front, each_front}

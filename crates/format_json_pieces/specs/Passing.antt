@@ -22,7 +22,7 @@ use Rattle.winnow.specs.Texts.Fronts.{both_front, either_front, in_list_front}
 use Rattle.format_json_texts.specs.Values.{ArrayText, HasText, IsArray, IsNumber, IsObject}
 use Rattle.format_json_texts.specs.Values.{IsString, IsWord, Mark, ObjectText, ScalarText}
 use Rattle.format_json_texts.specs.Values.{JsonText, ValueText}
-use Rattle.format_json_texts.specs.Words.{One, for_front, former, latter, pair}
+use Rattle.format_parts.specs.Words.{One, for_front, former, latter, pair}
 use Rattle.format_json_texts.specs.declared.value.Value.{Value}
 use Rattle.format_json_pieces.specs.Begun.{IsBegun, IsLacking, IsNextStep, MayBegin, after_step}
 use Rattle.format_json_pieces.specs.Begun.{last_open}

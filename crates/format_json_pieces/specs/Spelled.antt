@@ -7,7 +7,7 @@ use Rattle.std.proofs.Common.{refl, sym, ap, subst, ◌∙◌, arith, append_ass
 use Rattle.std.proofs.lemmas.List.Elements.{All-tail}
 use Rattle.std.proofs.lemmas.Str.{encode_ascii}
 use Rattle.format_json_pieces.specs.General.{spelled_front}
-use Rattle.format_json_texts.specs.Words.{In, One, Run}
+use Rattle.format_parts.specs.Words.{In, One, Run}
 use Rattle.winnow.specs.Texts.{InFront, OptionalText, PartedText, Text}
 use Rattle.winnow.specs.Texts.Fronts.{both_front, each_front}
 

@@ -9,9 +9,10 @@ use Rattle.std.proofs.lemmas.Bool.Decides.{nat_tests}
 use Rattle.winnow.specs.Texts.{BothText, InFront, MadeText}
 use Rattle.winnow.specs.Texts.Fronts.{both_front, each_front, either_front, gathered_front}
 use Rattle.winnow.specs.Utf8.{four_bytes, three_bytes, two_bytes}
-use Rattle.format_json_texts.specs.Strings.{ArePair, CharacterText, EscapeText, IsAlone, IsHex}
-use Rattle.format_json_texts.specs.Strings.{IsUnescaped, StandsFor, StringText, UnitText}
-use Rattle.format_json_texts.specs.Words.{For, In, One, Whichever, former, latter, pair}
+use Rattle.format_json_texts.specs.Strings.{ArePair, CharacterText, EscapeText}
+use Rattle.format_parts.specs.Hexadecimal.{IsAlone, IsHex, UnitText}
+use Rattle.format_parts.specs.Words.{For, In, One, Whichever, former, latter, pair}
+use Rattle.format_json_texts.specs.Strings.{IsUnescaped, StandsFor, StringText}
 use Rattle.format_json_pieces.specs.Inside.{part_behind}
 use Rattle.format_json_pieces.specs.Spelled.{Spells, ascii_spells, both_true, one_spells}
 use Rattle.format_json_pieces.specs.declared.inside.Inner.TheVariants as inners

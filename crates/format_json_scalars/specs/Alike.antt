@@ -14,9 +14,8 @@ use Rattle.winnow.specs.Text.{text_reading}
 use Rattle.winnow.specs.Growth.{grown}
 use Rattle.winnow.specs.AsChar.{IsDecDigit}
 use Rattle.winnow.specs.Sets.{EitherTells}
-use Rattle.format_json_texts.specs.Number.{Slice}
+use Rattle.format_parts.specs.Words.{OneIn, Slice, Word}
 use Rattle.format_json_texts.specs.Values.{HasText}
-use Rattle.format_json_texts.specs.Words.{OneIn, Word}
 use Rattle.winnow.specs.Exact.{Reads}
 use Rattle.winnow.specs.Read.{err_as, ok_as, reads_meaning, reads_wanting}
 use Rattle.winnow.specs.Grammar.Same.{Same, same_refl}

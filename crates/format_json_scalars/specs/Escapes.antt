@@ -1,41 +1,27 @@
 -- The pieces of strings: what they read, and that it is one, and takes characters.
 use Rattle.std.specs.Prelude.{ℕ, None}
 use Rattle.std.proofs.Common.{inl}
-use Rattle.format_json_scalars.specs.Unique.{char_takes, char_unique}
+use Rattle.format_parts.specs.Hexadecimal.{CodeUnit}
+use Rattle.format_parts.specs.Unique.{char_takes, char_unique}
+use Rattle.format_parts.specs.Words.{Char, latter, pair}
 use Rattle.winnow.specs.Range.{from_to}
-use Rattle.format_json_texts.specs.Strings.{ArePair, Character, CodeUnit, Digit, Escape, IsAlone}
-use Rattle.format_json_texts.specs.Strings.{IsHex}
-use Rattle.format_json_texts.specs.Strings.{IsNumberOf, IsUnescaped, Quoted, SaysOne, StandsFor}
+use Rattle.format_json_texts.specs.Strings.{ArePair, Character, Escape}
+use Rattle.format_json_texts.specs.Strings.{IsUnescaped, Quoted, StandsFor}
 use Rattle.format_json_texts.specs.Strings.{Unicode}
-use Rattle.format_json_texts.specs.Strings.{one_unit}
-use Rattle.format_json_texts.specs.Words.{Char, latter, pair}
 use Rattle.winnow.specs.Any.Laws.{token_takes}
 use Rattle.winnow.specs.Grammar.{Both, Gathered, Grammar, InClass, IsUnique, Many, TakesTokens}
 use Rattle.winnow.specs.Grammar.{Token}
 use Rattle.winnow.specs.Grammar.Meaning.{Meaning, meaning_takes, meaning_unique}
-use Rattle.winnow.specs.Grammar.Outputs.{IsAlike, both_alike, second_alike, token_alike}
-use Rattle.winnow.specs.Grammar.Sequences.{four_take, four_unique, three_take, three_unique}
+use Rattle.winnow.specs.Grammar.Outputs.{IsAlike, both_alike, second_alike}
+use Rattle.winnow.specs.Grammar.Sequences.{three_take, three_unique}
 use Rattle.winnow.specs.Grammar.Unique.{both_take, both_unique, either_takes, either_unique}
 use Rattle.winnow.specs.Grammar.Unique.{gathered_unique, many_unique, token_of_unique}
 use Rattle.winnow.specs.Grammar.Unique.{token_unique}
 use Rattle.winnow.specs.Accumulator.Holds.{HasCharacters}
+use Rattle.format_parts.specs.Hexadecimal.{alone_takes, alone_unique, unit_one, unit_takes}
+use Rattle.format_parts.specs.Hexadecimal.{unit_unique}
 
 -- ---- units
-
-pub digit_unique : IsUnique Digit
-digit_unique = meaning_unique IsHex (token_unique (λ c. c))
-
-pub digit_takes : TakesTokens Digit
-digit_takes = meaning_takes IsHex (token_takes (λ c. c))
-
-pub unit_unique : IsUnique CodeUnit
-unit_unique =
-    meaning_unique IsNumberOf (four_unique digit_unique digit_unique digit_unique digit_unique)
-
-pub unit_takes : TakesTokens CodeUnit
-unit_takes =
-    meaning_takes IsNumberOf (four_take digit_unique digit_unique digit_unique digit_unique
-    (inl digit_takes))
 
 -- two units, the second behind another backslash and u
 abbrev pub Units : Grammar ℕ (ℕ × ℕ)
@@ -51,28 +37,12 @@ units_unique = both_unique pair unit_unique second_unique
 pub units_takes : TakesTokens Units
 units_takes = both_take pair unit_unique second_unique (inl unit_takes)
 
--- an output that is one is alike
-alike_one : {g : Grammar ℕ ℕ} → SaysOne g → IsAlike (λ o. o) g
-alike_one one = record { alike = λ tokens o p rest other x y. (one tokens o p rest other x y).0 }
-
-pub token_one : IsAlike (λ c. c) (Token {T = ℕ} (λ c. c))
-token_one = token_alike (λ c. c) (λ c d e. e)
-
-pub unit_one : IsAlike (λ u. u) CodeUnit
-unit_one = alike_one one_unit
-
 pub units_one : IsAlike (λ u. u) Units
 units_one =
     both_alike pair unit_unique unit_one
     (second_alike (λ u. u) (both_unique pair (char_unique 92) (char_unique 117)) unit_one)
 
 -- ---- escapes
-
-pub alone_unique : IsUnique (Meaning IsAlone CodeUnit)
-alone_unique = meaning_unique IsAlone unit_unique
-
-pub alone_takes : TakesTokens (Meaning IsAlone CodeUnit)
-alone_takes = meaning_takes IsAlone unit_takes
 
 pub pair_unique : IsUnique (Meaning ArePair Units)
 pair_unique = meaning_unique ArePair units_unique

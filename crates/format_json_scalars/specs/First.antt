@@ -13,7 +13,7 @@ use Rattle.format_json_texts.specs.Values.{AnyValue, AnyWord, HasText, IsNumber,
 use Rattle.format_json_texts.specs.Values.{Scalar}
 use Rattle.format_json_texts.specs.Values.{ScalarText, ValueText}
 use Rattle.format_json_texts.specs.Values.Texts.{value_of}
-use Rattle.format_json_texts.specs.Words.{Word}
+use Rattle.format_parts.specs.Words.{Word}
 use Rattle.format_json_texts.specs.declared.value.Value.{Value}
 use Rattle.winnow.specs.Exact.{Reads}
 use Rattle.winnow.specs.Read.{neither_stands, reads_former, reads_other}

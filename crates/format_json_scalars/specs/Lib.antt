@@ -2,7 +2,5 @@
 pub mod Alike
 pub mod Escapes
 pub mod First
-pub mod Marks
 pub mod Numbers
 pub mod Runs
-pub mod Unique

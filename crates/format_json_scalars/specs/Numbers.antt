@@ -4,11 +4,11 @@ use Rattle.std.proofs.Common.{inl, inr, refl}
 use Rattle.winnow.specs.Text.{text_reading}
 use Rattle.winnow.specs.AsChar.{IsDecDigit}
 use Rattle.format_json_scalars.specs.Alike.{class_same, four_second, taken_same}
-use Rattle.format_json_scalars.specs.Unique.{char_takes, char_unique, run_unique}
+use Rattle.format_parts.specs.Unique.{char_takes, char_unique, run_unique}
+use Rattle.format_parts.specs.Words.{Char, RunOf, latter, pair}
 use Rattle.format_json_scalars.specs.declared.number.LeadingDigits.{LeadingDigits}
 use Rattle.format_json_texts.specs.Number as texts
 use Rattle.format_json_texts.specs.Number.{IsLeading}
-use Rattle.format_json_texts.specs.Words.{Char, RunOf, latter, pair}
 use Rattle.winnow.specs.Exact.Adapters.{taken_takes}
 use Rattle.winnow.specs.OneOf.Laws.{token_of_takes}
 use Rattle.winnow.specs.Grammar.{Both, Class, Either, Grammar, InClass, IsUnique, Optional, Taken}

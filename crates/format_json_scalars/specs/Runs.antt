@@ -20,7 +20,7 @@ use Rattle.winnow.specs.Sets.{EitherTells}
 use Rattle.format_json_scalars.specs.Alike.{RangeTells, RangesTell, range_told}
 use Rattle.format_json_scalars.specs.Escapes.{escape_takes}
 use Rattle.format_json_texts.specs.Strings.{Character, Escape, IsUnescaped}
-use Rattle.format_json_texts.specs.Words.{OneIn}
+use Rattle.format_parts.specs.Words.{OneIn}
 use Rattle.winnow.specs.Exact.{Reads}
 use Rattle.winnow.specs.Read.{neither_stands}
 use Rattle.winnow.specs.Grammar.Same.{Same}

@@ -1,9 +1,10 @@
 //! Escapes in strings of JSON (RFC 8259, section 7).
-ghost use Rattle.format_json_scalars.specs.Escapes.{Units, alone_takes, alone_unique, escape_takes};
+ghost use Rattle.format_json_scalars.specs.Escapes.{Units, escape_takes};
+ghost use Rattle.format_parts.specs.Hexadecimal.{CodeUnit, IsAlone, alone_takes, alone_unique};
 ghost use Rattle.format_json_scalars.specs.Escapes.{escape_unique, pair_takes, pair_unique};
 ghost use Rattle.format_json_scalars.specs.Escapes.{short_takes};
 ghost use Rattle.format_json_scalars.specs.Escapes.{short_unique, unicode_takes, unicode_unique};
-ghost use Rattle.format_json_texts.specs.Strings.{ArePair, CodeUnit, Escape, IsAlone, StandsFor};
+ghost use Rattle.format_json_texts.specs.Strings.{ArePair, Escape, StandsFor};
 ghost use Rattle.format_json_texts.specs.Strings.{Unicode};
 ghost use Rattle.std.specs.Prelude.{◌≡◌, ℕ, ⊤, MatchOption};
 ghost use Rattle.winnow.specs.Text.{text_input, text_reading};
@@ -12,7 +13,8 @@ ghost use Rattle.winnow.specs.Grammar.{Token};
 ghost use Rattle.winnow.specs.Grammar.Meaning.{Meaning};
 
 use crate::parts::{read_either, read_escape_of};
-use crate::units::{TwoUnits, Unit, read_unit, read_units};
+use crate::units::{TwoUnits, read_units};
+use format_parts::hexadecimal::{Unit, read_unit};
 use winnow::Parser;
 use winnow::error::{EmptyError, ErrMode, HasKind};
 use winnow::exact::Rule;

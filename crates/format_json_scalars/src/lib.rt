@@ -5,7 +5,6 @@
 #![tactic(auto)]
 
 mod escapes;
-pub mod marks;
 pub mod number;
 mod parts;
 pub mod scalar;

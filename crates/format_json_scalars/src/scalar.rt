@@ -5,7 +5,7 @@ ghost use Rattle.format_json_texts.specs.Strings.{Quoted};
 ghost use Rattle.format_json_texts.specs.Values.{AnyWord, HasText, IsNumber, IsString, IsWord};
 ghost use Rattle.format_json_texts.specs.Values.{Scalar};
 ghost use Rattle.format_json_texts.specs.Values.{ScalarText};
-ghost use Rattle.format_json_texts.specs.Words.{Word};
+ghost use Rattle.format_parts.specs.Words.{Word};
 ghost use Rattle.std.specs.Prelude.{◌≡◌, false, IsTrue};
 ghost use Rattle.std.specs.Str.{chars};
 ghost use Rattle.winnow.specs.Text.{text_input, text_reading};

@@ -10,7 +10,7 @@ ghost use Rattle.winnow.specs.Texts.{Anything};
 ghost use Rattle.winnow.specs.Told.{ReadsText};
 
 use crate::escapes::read_escape;
-use crate::marks::read_between;
+use format_parts::marks::read_between;
 use std::alloc::Allocator;
 use winnow::Parser;
 use winnow::error::{EmptyError, ErrMode, HasKind, ParserError};

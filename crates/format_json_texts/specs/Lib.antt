@@ -4,4 +4,3 @@ pub mod Kinds
 pub mod Number
 pub mod Strings
 pub mod Values
-pub mod Words

@@ -1,6 +1,5 @@
 -- Numbers of JSON (RFC 8259, section 6): what is read, and what is written.
 use Rattle.std.specs.Prelude.{◌≡◌, ◌⊎◌, ◌≤◌, ℕ, List, [], ◌++◌, Option, Some, None}
-use Rattle.std.specs.Borrow.{Bor}
 use Rattle.std.proofs.Common.{sym, subst, inl, inr, ◌∙◌, arith}
 use Rattle.winnow.specs.Text.{text_reading}
 use Rattle.winnow.specs.AsChar.{IsDecDigit}
@@ -14,13 +13,10 @@ use Rattle.winnow.specs.Texts.Fronts.{none_begins, not_first, optional_front, sp
 use Rattle.winnow.specs.Texts.Fronts.{taken_front}
 use Rattle.winnow.specs.Texts.Parts.{behind_less, both_of, either_apart, optional_of, same_of}
 use Rattle.winnow.specs.Texts.Parts.{taken_of}
-use Rattle.format_json_texts.specs.Words.{Char, FourTexts, In, One, OneIn, Run, RunOf}
-use Rattle.format_json_texts.specs.Words.{char_of, four_same, in_begins, in_of, latter, pair}
-use Rattle.format_json_texts.specs.Words.{run_begins, run_of, to_four}
-
--- a slice of a text
-abbrev pub Slice : Type 0
-Slice = Bor (List ℕ)
+use Rattle.format_parts.specs.Words.{Char, FourTexts, In, One, OneIn, Run, RunOf, char_of}
+use Rattle.format_parts.specs.Words.{four_same, in_begins, in_of, latter, pair, run_begins, run_of}
+use Rattle.format_parts.specs.Words.{to_four}
+use Rattle.format_parts.specs.Words.{Slice}
 
 -- a digit from 1 to 9
 abbrev pub IsLeading : ℕ → Type 0

@@ -2,42 +2,26 @@
 use Rattle.std.specs.Prelude.{◌≡◌, ◌⊎◌, ◌≤◌, ◌<◌, ◌+◌, ◌*◌, ◌-◌, ℕ, List, [], ◌++◌, None}
 use Rattle.std.specs.declared.string.String.{String}
 use Rattle.std.proofs.Common.{refl, sym, ap, subst, inl, inr, ◌∙◌, arith, append_assoc}
-use Rattle.winnow.specs.Equal.{same_first, same_others}
 use Rattle.winnow.specs.Range.{from_to}
 use Rattle.winnow.specs.Grammar.{Both, Either, Gathered, Grammar, Made, Many, NoneStands}
 use Rattle.winnow.specs.Grammar.{Three, Token}
 use Rattle.winnow.specs.Grammar.Meaning.{Meaning}
-use Rattle.winnow.specs.Grammar.Tuples.{Four}
 use Rattle.winnow.specs.Texts.{Anything, Begins, BeginsIn, BothText, EachText, EitherText}
 use Rattle.winnow.specs.Texts.{GatheredText, IsGrammarOf, MadeText, Text}
 use Rattle.winnow.specs.Texts.Fronts.{begins_wider, both_front, either_front, front_any}
 use Rattle.winnow.specs.Texts.Fronts.{front_begins, front_whole, may_begin, none_begins}
 use Rattle.winnow.specs.Texts.Fronts.{spelled_begins}
 use Rattle.winnow.specs.Texts.Parts.{both_of, either_apart, either_of}
-use Rattle.winnow.specs.Texts.Parts.{same_of}
 use Rattle.winnow.specs.Texts.Rows.{gathered_of, many_of}
-use Rattle.format_json_texts.specs.Words.{Between, Char, For, FourTexts, In, One, OneIn}
-use Rattle.format_json_texts.specs.Words.{Whichever, any_of, between_of, char_of, for_of, four_same}
-use Rattle.format_json_texts.specs.Words.{in_begins, in_of, latter, pair, to_four}
+use Rattle.format_parts.specs.Words.{Between, Char, For, In, One, OneIn, Whichever}
+use Rattle.format_parts.specs.Words.{any_of, between_of, char_of, for_of, in_begins}
+use Rattle.format_parts.specs.Words.{in_of, latter, pair}
+use Rattle.format_parts.specs.Hexadecimal.{CodeUnit, IsAlone, UnitText, one_unit, unit_of}
 
 -- unescaped = %x20-21 / %x23-5B / %x5D-10FFFF
 abbrev pub IsUnescaped : ℕ → Type 0
 IsUnescaped c =
     ((32 ≤ c) × (c ≤ 33)) ⊎ (((35 ≤ c) × (c ≤ 91)) ⊎ ((93 ≤ c) × (c ≤ 1114111)))
-
--- HEXDIG, and its value
-abbrev pub IsHex : ℕ → ℕ → Type 0
-IsHex c d =
-    ((48 ≤ c) × (c ≤ 57) × (c ≡ 48 + d)) ⊎ (((65 ≤ c) × (c ≤ 70) × (c ≡ 55 + d))
-    ⊎ ((97 ≤ c) × (c ≤ 102) × (c ≡ 87 + d)))
-
--- four hexadecimal digits, and the number that they are
-abbrev pub IsNumberOf : ℕ × ℕ × ℕ × ℕ → ℕ → Type 0
-IsNumberOf ds u = u ≡ ds.0 * 4096 + ds.1 * 256 + ds.2 * 16 + ds.3
-
--- a number that is a character: no surrogate
-abbrev pub IsAlone : ℕ → ℕ → Type 0
-IsAlone u c = (c ≡ u) × ((u < 55296) ⊎ ((57344 ≤ u) × (u ≤ 1114111)))
 
 -- a surrogate and one behind it, and the character that they are
 abbrev pub ArePair : ℕ × ℕ → ℕ → Type 0
@@ -54,12 +38,6 @@ StandsFor c k =
     ⊎ (((c ≡ 114) × (k ≡ 13)) ⊎ ((c ≡ 116) × (k ≡ 9))))))))
 
 -- ---- what is written
-
--- 4HEXDIG
-abbrev pub UnitText : Text ℕ ℕ
-UnitText =
-    For IsNumberOf (FourTexts (For IsHex Whichever) (For IsHex Whichever) (For IsHex Whichever)
-    (For IsHex Whichever))
 
 -- a unit alone, or two of them, the second behind another backslash and u
 abbrev pub UnicodeText : Text ℕ ℕ
@@ -84,14 +62,6 @@ StringText holds = Between (One 34) (GatheredText holds (EachText CharacterText)
 
 -- ---- what is read
 
--- a hexadecimal digit: its value
-abbrev pub Digit : Grammar ℕ ℕ
-Digit = Meaning IsHex (Token (λ c. c))
-
--- four of them: their number
-abbrev pub CodeUnit : Grammar ℕ ℕ
-CodeUnit = Meaning IsNumberOf (Four Digit Digit Digit Digit)
-
 -- a unit alone, or two of them
 abbrev pub Unicode : Grammar ℕ ℕ
 Unicode =
@@ -114,54 +84,6 @@ Quoted holds =
     Three (λ o1 o2 o3. o2) (Char 34) (Gathered holds (Many Character (from_to 0 None))) (Char 34)
 
 -- ---- the one reads the other
-
-digit_of : IsGrammarOf Digit (For IsHex Whichever) Anything
-digit_of = for_of IsHex any_of
-
-unit_of : IsGrammarOf CodeUnit UnitText Anything
-unit_of =
-    for_of IsNumberOf
-    (same_of (four_same Digit Digit Digit Digit)
-    (both_of to_four digit_of
-    (both_of pair digit_of (both_of pair digit_of digit_of front_any)
-    front_any) front_any))
-
-pub one_hex : (c d e : ℕ) → IsHex c d → IsHex c e → d ≡ e
-one_hex c d e (inl x) (inl y) = omega (arith, x, y)
-one_hex c d e (inl x) (inr (inl y)) = absurd (omega (arith, x, y))
-one_hex c d e (inl x) (inr (inr y)) = absurd (omega (arith, x, y))
-one_hex c d e (inr (inl x)) (inl y) = absurd (omega (arith, x, y))
-one_hex c d e (inr (inl x)) (inr (inl y)) = omega (arith, x, y)
-one_hex c d e (inr (inl x)) (inr (inr y)) = absurd (omega (arith, x, y))
-one_hex c d e (inr (inr x)) (inl y) = absurd (omega (arith, x, y))
-one_hex c d e (inr (inr x)) (inr (inl y)) = absurd (omega (arith, x, y))
-one_hex c d e (inr (inr x)) (inr (inr y)) = omega (arith, x, y)
-
--- a grammar by which one output stands
-abbrev pub SaysOne : Grammar ℕ ℕ → Type 0
-SaysOne grammar =
-    (tokens : List ℕ) (o p : ℕ) (rest other : List ℕ) → grammar tokens o rest
-    → grammar tokens p other → (o ≡ p) × (rest ≡ other)
-
-pub one_digit : SaysOne Digit
-unfolding Made Token
-one_digit tokens d e rest other (c, x, is) (b, y, was) =
-    let P : ℕ → Type 0 = λ z. IsHex z e in
-    (one_hex c d e is (subst P (same_first (sym y ∙ x)) was), same_others (sym x ∙ y))
-
-pub one_unit : SaysOne CodeUnit
-unfolding Made Four
-one_unit tokens u v rest other
-    (o, (a1, a2, a3, a4, m1, m2, m3, x1, x2, x3, x4, e), is)
-    (p, (b1, b2, b3, b4, n1, n2, n3, y1, y2, y3, y4, f), was) =
-    let (d1, r1) = one_digit tokens a1 b1 m1 n1 x1 y1 in
-    let P : List ℕ → ℕ → List ℕ → Type 0 = λ l d r. Digit l d r in
-    let (d2, r2) = one_digit n1 a2 b2 m2 n2 (subst (λ l. P l a2 m2) r1 x2) y2 in
-    let (d3, r3) = one_digit n2 a3 b3 m3 n3 (subst (λ l. P l a3 m3) r2 x3) y3 in
-    let (d4, r4) = one_digit n3 a4 b4 rest other (subst (λ l. P l a4 rest) r3 x4) y4 in
-    let first = is ∙ ap (λ (q : ℕ × ℕ × ℕ × ℕ). q.0 * 4096 + q.1 * 256 + q.2 * 16 + q.3) e in
-    let second = was ∙ ap (λ (q : ℕ × ℕ × ℕ × ℕ). q.0 * 4096 + q.1 * 256 + q.2 * 16 + q.3) f in
-    (omega (arith, first, second, d1, d2, d3, d4), r4)
 
 unicode_of : IsGrammarOf Unicode UnicodeText Anything
 unfolding Made MadeText BothText

@@ -8,10 +8,10 @@ use Rattle.winnow.specs.Range.{from_to}
 use Rattle.winnow.specs.Grammar.{Both, Either, Gathered, Grammar, Parted, Three}
 use Rattle.winnow.specs.Grammar.Meaning.{Meaning}
 use Rattle.winnow.specs.Texts.{BothText, EitherText, InList, PartedText, Spelled, Text}
-use Rattle.format_json_texts.specs.Number.{Number, NumberText, Slice}
+use Rattle.format_json_texts.specs.Number.{Number, NumberText}
+use Rattle.format_parts.specs.Words.{Between, Char, For, One, Run, RunOf, Slice, Word, former}
+use Rattle.format_parts.specs.Words.{latter, pair}
 use Rattle.format_json_texts.specs.Strings.{Quoted, StringText}
-use Rattle.format_json_texts.specs.Words.{Between, Char, For, One, Run, RunOf, Word, former}
-use Rattle.format_json_texts.specs.Words.{latter, pair}
 use Rattle.format_json_texts.specs.declared.value.Value.{Value}
 use Rattle.format_json_texts.specs.declared.value.Value as values
 pub mod Texts

@@ -18,7 +18,7 @@ use Rattle.format_json_texts.specs.Values.{IsObject}
 use Rattle.format_json_texts.specs.Values.{IsString, IsWord, Object, Punctuation, Scalar}
 use Rattle.format_json_texts.specs.Values.{ScalarText}
 use Rattle.format_json_texts.specs.Values.{WordText}
-use Rattle.format_json_texts.specs.Words.{Char, char_of, for_front, pair}
+use Rattle.format_parts.specs.Words.{Char, char_of, for_front, pair}
 use Rattle.format_json_texts.specs.declared.value.Value.{Value}
 use Rattle.format_json_values.specs.General.{none_both, none_three}
 use Rattle.winnow.specs.Exact.{Reads}

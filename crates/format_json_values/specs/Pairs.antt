@@ -4,8 +4,8 @@ use Rattle.std.specs.declared.vec.Vec.{Vec}
 use Rattle.winnow.specs.Input.{Input}
 use Rattle.winnow.specs.Kind.{Kind}
 use Rattle.winnow.specs.Reading.{Reading}
-use Rattle.format_json_scalars.specs.Marks.{Items}
-use Rattle.format_json_texts.specs.Words.{former, pair}
+use Rattle.format_parts.specs.Marks.{Items}
+use Rattle.format_parts.specs.Words.{former, pair}
 use Rattle.winnow.specs.Exact.{Reads}
 use Rattle.winnow.specs.Grammar.{Both, Grammar, Three}
 

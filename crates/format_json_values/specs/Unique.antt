@@ -5,12 +5,11 @@ use Rattle.winnow.specs.AsChar.{IsMultispace}
 use Rattle.winnow.specs.Range.{from_to}
 use Rattle.format_json_scalars.specs.Escapes.{quoted_takes, quoted_unique}
 use Rattle.format_json_scalars.specs.Numbers.{number_takes, number_unique}
-use Rattle.format_json_scalars.specs.Unique.{char_takes, char_unique, run_unique, word_takes}
-use Rattle.format_json_scalars.specs.Unique.{word_unique}
+use Rattle.format_parts.specs.Unique.{char_takes, char_unique, run_unique, word_takes, word_unique}
+use Rattle.format_parts.specs.Words.{former, pair}
 use Rattle.format_json_texts.specs.Values.{AnyValue, AnyWord, Array, Commas, Gap, HasText, IsArray}
 use Rattle.format_json_texts.specs.Values.{IsNumber, IsObject, IsString, IsWord, Member, Object}
 use Rattle.format_json_texts.specs.Values.{Punctuation, Scalar, SpacedOut}
-use Rattle.format_json_texts.specs.Words.{former, pair}
 use Rattle.format_json_texts.specs.declared.value.Value.{Value}
 use Rattle.winnow.specs.Grammar.{Grammar, IsUnique, TakesTokens}
 use Rattle.winnow.specs.Grammar.Meaning.{meaning_takes, meaning_unique}

@@ -1,7 +1,7 @@
 //! Rules made of parts: what is read is said by the grammars of the parts, whichever parsers they
 //! are, and over any stream.
-ghost use Rattle.format_json_scalars.specs.Marks.{Items};
-ghost use Rattle.format_json_texts.specs.Words.{former, latter};
+ghost use Rattle.format_parts.specs.Marks.{Items};
+ghost use Rattle.format_parts.specs.Words.{former, latter};
 ghost use Rattle.format_json_values.specs.Pairs.{Pair};
 ghost use Rattle.std.specs.Fn.{CalledAtMut};
 ghost use Rattle.std.specs.Prelude.{◌≡◌, false};
@@ -10,7 +10,7 @@ ghost use Rattle.winnow.specs.Exact.Whole.{ReadsAll};
 ghost use Rattle.winnow.specs.Grammar.{Both};
 ghost use Rattle.winnow.specs.Rule.{CallsRead};
 
-use format_json_scalars::marks::{Marks, read_items};
+use format_parts::marks::{Marks, read_items};
 use std::alloc::Allocator;
 use winnow::Parser;
 use winnow::combinator::{preceded, separated_pair, terminated};

@@ -15,10 +15,10 @@ ghost use Rattle.winnow.specs.Texts.{Begins, NotFirst};
 ghost use Rattle.winnow.specs.Told.{IsTextOf, ReadsText};
 
 use crate::parts::{parse_spaced, read_object_of};
-use format_json_scalars::marks::{Marks, read_array_of};
 use format_json_scalars::scalar::read_scalar;
 use format_json_scalars::string::read_string;
 use format_json_texts::value::Value;
+use format_parts::marks::{Marks, read_array_of};
 use std::alloc::Allocator;
 use winnow::ascii::impls::Multispace0;
 use winnow::error::{EmptyError, ErrMode, HasKind, ParseFault, ParserError};

@@ -3,7 +3,7 @@ use Rattle.std.specs.Prelude.{◌≡◌, ℕ, List, [], ◌∷◌, ◌++◌, enc
 use Rattle.std.proofs.Common.{refl, sym, ap, ◌∙◌, append_assoc}
 use Rattle.std.proofs.lemmas.List.{append-nil}
 use Rattle.std.proofs.lemmas.Str.{encodes-append}
-use Rattle.format_json_texts.specs.Words.{One}
+use Rattle.format_parts.specs.Words.{One}
 use Rattle.winnow.specs.Texts.{BothText, EachText, Spelled, Text}
 
 -- What stood there stands there, and more may be behind it.

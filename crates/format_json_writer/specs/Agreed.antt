@@ -4,7 +4,7 @@ use Rattle.std.specs.declared.vec.Vec.{Vec}
 use Rattle.std.proofs.Common.{sym, subst, inl, inr, ◌∙◌}
 use Rattle.std.proofs.lemmas.List.{append_cancel_right}
 use Rattle.winnow.specs.Range.{from_to}
-use Rattle.format_json_texts.specs.Words.{former, latter}
+use Rattle.format_parts.specs.Words.{former, latter}
 use Rattle.winnow.specs.Grammar.{Both, Each, Either, Gathered, Grammar, IsUnique, Made}
 use Rattle.winnow.specs.Grammar.{Many, NoneStands, Parted, Stops, Three}
 use Rattle.winnow.specs.Grammar.Meaning.{Meaning}

@@ -6,19 +6,20 @@ use Rattle.std.specs.declared.string.String.{String}
 use Rattle.std.specs.declared.vec.Vec.{Vec}
 use Rattle.std.proofs.Common.{refl, sym, ap, subst, inl, inr, ◌∙◌}
 use Rattle.winnow.specs.AsChar.{IsMultispace}
-use Rattle.format_json_scalars.specs.Escapes.{character_unique, quoted_unique, token_one, unit_one}
+use Rattle.format_json_scalars.specs.Escapes.{character_unique, quoted_unique}
+use Rattle.format_parts.specs.Hexadecimal.{IsAlone, unit_one}
+use Rattle.format_parts.specs.Unique.{char_unique, run_unique, token_one}
+use Rattle.format_parts.specs.Words.{Slice, Word, former, pair}
 use Rattle.format_json_scalars.specs.Escapes.{units_one}
 use Rattle.format_json_scalars.specs.Numbers.{number_unique}
-use Rattle.format_json_scalars.specs.Unique.{char_unique, run_unique}
-use Rattle.format_json_texts.specs.Number.{Number, Slice}
-use Rattle.format_json_texts.specs.Strings.{ArePair, Character, IsAlone, IsUnescaped, Quoted}
+use Rattle.format_json_texts.specs.Number.{Number}
+use Rattle.format_json_texts.specs.Strings.{ArePair, Character, IsUnescaped, Quoted}
 use Rattle.format_json_texts.specs.Strings.{StandsFor, Unicode}
 use Rattle.format_json_texts.specs.Values.{AnyValue, AnyWord, Array, Gap, HasText, IsArray}
 use Rattle.format_json_texts.specs.Values.{IsNumber}
 use Rattle.format_json_texts.specs.Values.{IsObject, IsString, IsWord, JsonText, Member, Object}
 use Rattle.format_json_texts.specs.Values.{Punctuation, Scalar, SpacedOut}
 use Rattle.format_json_texts.specs.Values.Texts.{json_of}
-use Rattle.format_json_texts.specs.Words.{Word, former, pair}
 use Rattle.format_json_texts.specs.declared.value.Value.{Value}
 use Rattle.format_json_texts.specs.declared.value.Value as values
 use Rattle.format_json_values.specs.Unique.{value_unique}

@@ -9,10 +9,10 @@ use Rattle.std.specs.declared.vec.Vec.{Vec}
 use Rattle.std.proofs.Common.{refl, sym, ap, subst, inl, inr, ◌∙◌, arith}
 use Rattle.std.proofs.lemmas.List.{append-nil, drop_all, drop_more, nil_from_length}
 use Rattle.std.proofs.lemmas.Str.{chars_from_encodes, encodes-chars}
-use Rattle.format_json_texts.specs.Number.{NumberText, Slice}
+use Rattle.format_json_texts.specs.Number.{NumberText}
+use Rattle.format_parts.specs.Words.{For, One, Slice, former, latter, pair}
 use Rattle.format_json_texts.specs.Values.{IsArray, IsNumber, IsObject, IsString, IsWord}
 use Rattle.format_json_texts.specs.Values.{WordText}
-use Rattle.format_json_texts.specs.Words.{For, One, former, latter, pair}
 use Rattle.format_json_texts.specs.declared.value.Value.{Value}
 use Rattle.format_json_texts.specs.declared.value.Value as values
 use Rattle.format_json_writer.specs.Added.{Adds, adds_more, adds_none, adds_then, both_behind}

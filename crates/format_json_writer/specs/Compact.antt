@@ -10,7 +10,7 @@ use Rattle.format_json_texts.specs.Values.{IsString}
 use Rattle.format_json_texts.specs.Values.{IsWord, Mark, MemberText, ObjectText, ScalarText}
 use Rattle.format_json_texts.specs.Values.{ValueText}
 use Rattle.format_json_texts.specs.Values.{WordText}
-use Rattle.format_json_texts.specs.Words.{Between, For, One, former, latter, pair}
+use Rattle.format_parts.specs.Words.{Between, For, One, former, latter, pair}
 use Rattle.format_json_texts.specs.declared.value.Value.{Value}
 use Rattle.format_json_writer.specs.Strings.{CanonicalString, string_canonical}
 use Rattle.format_json_writer.specs.Within.{IsWithin, within_among, within_first, within_for}

@@ -10,7 +10,8 @@ use Rattle.winnow.specs.Equal.{true_is_false}
 use Rattle.winnow.specs.Kind.{Kind, memory}
 use Rattle.winnow.specs.Text.{text_input, text_reading}
 use Rattle.format_json_scalars.specs.Numbers.{number_unique}
-use Rattle.format_json_texts.specs.Number.{Number, NumberText, Slice, number_of}
+use Rattle.format_json_texts.specs.Number.{Number, NumberText, number_of}
+use Rattle.format_parts.specs.Words.{Slice}
 use Rattle.winnow.specs.Exact.{Reads}
 
 -- a text of no bytes has no characters

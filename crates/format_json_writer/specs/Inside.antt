@@ -9,10 +9,10 @@ use Rattle.std.proofs.Common.{sym, ap, subst, inl, inr, ◌∙◌, arith}
 use Rattle.std.proofs.lemmas.List.Elements.{All-cons, All-nil, All-weaker}
 use Rattle.std.proofs.lemmas.Str.{chars_from_encodes}
 use Rattle.winnow.specs.Equal.{same_some}
-use Rattle.format_json_texts.specs.Number.{NumberText, Slice}
+use Rattle.format_json_texts.specs.Number.{NumberText}
+use Rattle.format_parts.specs.Words.{For, Slice}
 use Rattle.format_json_texts.specs.Values.{ArrayText, HasText, IsWord, MemberText, ObjectText}
 use Rattle.format_json_texts.specs.Values.{ScalarText, Spaced, ValueText}
-use Rattle.format_json_texts.specs.Words.{For}
 use Rattle.format_json_texts.specs.declared.value.Value.{Value, out-Value}
 use Rattle.format_json_texts.specs.declared.value.Value as values
 use Rattle.format_json_texts.specs.declared.value.Value.TheOpen.{Value-F}

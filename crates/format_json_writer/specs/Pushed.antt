@@ -9,7 +9,7 @@ use Rattle.std.proofs.lemmas.Bool.{cases_lt}
 use Rattle.std.proofs.lemmas.List.{append-nil, nil_from_length}
 use Rattle.std.proofs.lemmas.Str.{chars-nil, chars_past_char, encodes-chars}
 use Rattle.format_json_texts.specs.Strings.{IsUnescaped, StringText}
-use Rattle.format_json_texts.specs.Words.{In, Whichever, former, latter}
+use Rattle.format_parts.specs.Words.{In, Whichever, former, latter}
 use Rattle.format_json_writer.specs.Added.{Adds, adds_more, adds_none, adds_then, one_added}
 use Rattle.format_json_writer.specs.Strings.{CanonicalCharacter, CanonicalString, Escapes}
 use Rattle.format_json_writer.specs.Strings.{IsSmallHex}

@@ -8,7 +8,8 @@ use Rattle.std.specs.declared.vec.Vec.{Vec}
 use Rattle.std.proofs.Common.{refl, sym, subst, inl, inr, arith}
 use Rattle.std.proofs.lemmas.List.Elements.{All-weaker}
 use Rattle.std.proofs.lemmas.Result.{err_from_is_err_and}
-use Rattle.format_json_texts.specs.Number.{NumberText, Slice}
+use Rattle.format_json_texts.specs.Number.{NumberText}
+use Rattle.format_parts.specs.Words.{Slice}
 use Rattle.format_json_texts.specs.Values.{ValueText}
 use Rattle.format_json_texts.specs.declared.value.Value.{Value}
 use Rattle.format_json_texts.specs.declared.value.Value as values

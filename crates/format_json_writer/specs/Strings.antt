@@ -2,11 +2,12 @@
 use Rattle.std.specs.Prelude.{◌≡◌, ◌⊎◌, ◌≤◌, ◌<◌, ◌+◌, ℕ, List, encode_utf8_all}
 use Rattle.std.specs.declared.string.String.{String}
 use Rattle.std.proofs.Common.{refl, ap, inl, inr, ◌∙◌, arith}
-use Rattle.format_json_texts.specs.Strings.{CharacterText, EscapeText, IsHex, IsNumberOf}
+use Rattle.format_json_texts.specs.Strings.{CharacterText, EscapeText}
+use Rattle.format_parts.specs.Hexadecimal.{IsHex, IsNumberOf, UnitText}
+use Rattle.format_parts.specs.Words.{Between, For, FourTexts, In, One, Whichever, latter, pair}
+use Rattle.format_parts.specs.Words.{to_four}
 use Rattle.format_json_texts.specs.Strings.{IsUnescaped}
-use Rattle.format_json_texts.specs.Strings.{StandsFor, StringText, UnitText}
-use Rattle.format_json_texts.specs.Words.{Between, For, FourTexts, In, One, Whichever, latter, pair}
-use Rattle.format_json_texts.specs.Words.{to_four}
+use Rattle.format_json_texts.specs.Strings.{StandsFor, StringText}
 use Rattle.format_json_writer.specs.Within.{IsWithin, within_among, within_first, within_for}
 use Rattle.format_json_writer.specs.Within.{within_refl}
 use Rattle.format_json_writer.specs.Within.{within_row, within_second, within_then}

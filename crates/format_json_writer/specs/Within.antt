@@ -2,9 +2,8 @@
 use Rattle.std.specs.Prelude.{ℕ, List, [], ◌∷◌}
 use Rattle.std.proofs.Common.{refl, sym, inl, inr, arith}
 use Rattle.std.proofs.lemmas.List.{append-nil}
-use Rattle.format_json_texts.specs.Number.{Slice}
+use Rattle.format_parts.specs.Words.{For, One, Run, Slice, latter}
 use Rattle.format_json_texts.specs.Values.{GapText, Mark, Spaced}
-use Rattle.format_json_texts.specs.Words.{For, One, Run, latter}
 use Rattle.winnow.specs.Texts.{BothText, EachText, EitherText, InList, MadeText, PartedText, Text}
 
 -- Each text of a value by the one is one by the other.

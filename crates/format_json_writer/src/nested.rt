@@ -1,6 +1,6 @@
 //! Values of JSON, nested to a level, as text (RFC 8259, sections 2 to 7).
 ghost use Rattle.format_json_texts.specs.Values.{WordText};
-ghost use Rattle.format_json_texts.specs.Words.{One};
+ghost use Rattle.format_parts.specs.Words.{One};
 ghost use Rattle.format_json_texts.specs.declared.value.Value as values;
 ghost use Rattle.format_json_writer.specs.Added.{Adds, Keeps};
 ghost use Rattle.format_json_writer.specs.Compact.{CompactMember, CompactValue};

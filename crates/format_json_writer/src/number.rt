@@ -1,5 +1,6 @@
 //! Numbers of JSON as text (RFC 8259, section 6).
-ghost use Rattle.format_json_texts.specs.Number.{NumberText, Slice};
+ghost use Rattle.format_json_texts.specs.Number.{NumberText};
+ghost use Rattle.format_parts.specs.Words.{Slice};
 ghost use Rattle.format_json_writer.specs.Added.{Keeps};
 ghost use Rattle.format_json_writer.specs.Built.{PutsNumber};
 ghost use Rattle.format_json_writer.specs.Refused.{IsNoNumber};

@@ -1,41 +1,26 @@
 -- What characters of basic strings leave is one rest, and they take characters.
-use Rattle.std.specs.Prelude.{ℕ}
 use Rattle.std.proofs.Common.{inl}
-use Rattle.format_json_texts.specs.Strings.{CodeUnit, Digit, IsAlone, IsHex, IsNumberOf, one_unit}
-use Rattle.format_json_texts.specs.Words.{latter, pair}
+use Rattle.format_parts.specs.Unique.{char_takes, char_unique}
+use Rattle.format_parts.specs.Words.{latter, pair}
 use Rattle.format_toml.specs.Grammars.{Character, Escape, Short, WideUnits}
 use Rattle.format_toml.specs.Led.{led_unique}
 use Rattle.format_toml.specs.Toml.{IsWide, StandsFor, Tells}
-use Rattle.format_toml.specs.Words.{char_takes, char_unique}
 use Rattle.format_toml.specs.declared.characters.Characters.TheVariants.{Basic}
 use Rattle.winnow.specs.OneOf.Laws.{token_of_takes}
 use Rattle.winnow.specs.Grammar.{IsUnique, TakesTokens}
 use Rattle.winnow.specs.Grammar.Meaning.{Meaning, meaning_unique}
 use Rattle.winnow.specs.Grammar.Outputs.{IsAlike, both_alike}
-use Rattle.winnow.specs.Grammar.Sequences.{four_unique}
 use Rattle.winnow.specs.Grammar.Unique.{both_take, both_unique, either_takes, either_unique}
 use Rattle.winnow.specs.Grammar.Unique.{token_of_unique, token_unique}
+use Rattle.format_parts.specs.Hexadecimal.{alone_unique, unit_one, unit_unique}
 
 -- ---- digits and numbers of them
-
-pub digit_unique : IsUnique Digit
-digit_unique = meaning_unique IsHex (token_unique (λ c. c))
-
-pub unit_unique : IsUnique CodeUnit
-unit_unique =
-    meaning_unique IsNumberOf (four_unique digit_unique digit_unique digit_unique digit_unique)
 
 pub wide_unique : IsUnique WideUnits
 wide_unique = both_unique pair unit_unique unit_unique
 
-pub unit_one : IsAlike (λ u. u) CodeUnit
-unit_one = record { alike = λ tokens o p rest other x y. (one_unit tokens o p rest other x y).0 }
-
 pub wide_one : IsAlike (λ u. u) WideUnits
 wide_one = both_alike pair unit_unique unit_one unit_one
-
-pub alone_unique : IsUnique (Meaning IsAlone CodeUnit)
-alone_unique = meaning_unique IsAlone unit_unique
 
 pub wide_code_unique : IsUnique (Meaning IsWide WideUnits)
 wide_code_unique = meaning_unique IsWide wide_unique

@@ -4,11 +4,11 @@ use Rattle.std.specs.Prelude.{Some, None}
 use Rattle.std.specs.Borrow.{Bor}
 use Rattle.std.specs.Str.{chars}
 use Rattle.std.proofs.Common.{ap, inl, arith, length-append}
-use Rattle.format_json_texts.specs.Words.{Char, latter}
+use Rattle.format_parts.specs.Unique.{char_takes, char_unique}
+use Rattle.format_parts.specs.Words.{Char, latter}
 use Rattle.format_toml.specs.Grammars.{AnyItem, AnyKey, AnyValue, DoubleHeader, Entry, Header, Line}
 use Rattle.format_toml.specs.Grammars.{Mark, Newline, Table, Ws}
 use Rattle.format_toml.specs.Unique.{line_unique}
-use Rattle.format_toml.specs.Words.{char_takes, char_unique}
 use Rattle.format_toml.specs.declared.expected.Expected.{Expected}
 use Rattle.format_toml.specs.declared.expected.Expected.TheVariants.{ClosingBracket, EqualsSign}
 use Rattle.format_toml.specs.declared.expected.Expected.TheVariants.{Key, LineEnd, TableName}

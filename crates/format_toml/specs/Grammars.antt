@@ -5,9 +5,8 @@ use Rattle.std.specs.declared.vec.Vec.{Vec}
 use Rattle.winnow.specs.Text.{text_reading}
 use Rattle.winnow.specs.AsChar.{IsSpace}
 use Rattle.winnow.specs.Range.{from_to}
-use Rattle.format_json_texts.specs.Number.{Slice}
-use Rattle.format_json_texts.specs.Strings.{CodeUnit, IsAlone}
-use Rattle.format_json_texts.specs.Words.{Char, RunOf, Word, former, latter, pair}
+use Rattle.format_parts.specs.Hexadecimal.{CodeUnit, IsAlone}
+use Rattle.format_parts.specs.Words.{Char, RunOf, Slice, Word, former, latter, pair}
 use Rattle.format_toml.specs.Led.{Led}
 use Rattle.format_toml.specs.LongGrammars.{Long, Part}
 use Rattle.format_toml.specs.Toml.{IsArray, IsBoolean, IsEntry, IsInline, IsKey}

@@ -3,8 +3,8 @@ use Rattle.std.specs.Prelude.{◌≡◌, ◌⊎◌, ◌<◌, ℕ, List, [], None
 use Rattle.std.proofs.Common.{refl, inl, inr, arith}
 use Rattle.winnow.specs.AsChar.{IsSpace}
 use Rattle.winnow.specs.Range.{from_to}
-use Rattle.format_json_texts.specs.Words.{One, between_of, char_of, for_front, for_of, former}
-use Rattle.format_json_texts.specs.Words.{Between, For, latter, pair}
+use Rattle.format_parts.specs.Words.{Between, For, One, between_of, char_of, for_front, for_of}
+use Rattle.format_parts.specs.Words.{former, latter, pair}
 use Rattle.format_toml.specs.Grammars.{AnyCharacters, AnyKey, DoubleHeader, Header, LiteralString}
 use Rattle.format_toml.specs.Grammars.{Name, Names, Pair, Table}
 use Rattle.format_toml.specs.Led.{Led, led_of}

@@ -1,7 +1,7 @@
 -- What stands of a line, part by part, is whole.
 use Rattle.std.specs.Prelude.{◌≡◌, ℕ, List, Option, Some, None, Result, Ok, Err, IfOk}
 use Rattle.std.proofs.Common.{refl, inl, inr}
-use Rattle.format_json_texts.specs.Words.{Char, latter}
+use Rattle.format_parts.specs.Words.{Char, latter}
 use Rattle.format_toml.specs.Expected.{Begun, DoubleLacks, EntryLacks, HeaderLacks, IsLack}
 use Rattle.format_toml.specs.Expected.{ItemLacks, ItemWhole, Stands, TableLacks}
 use Rattle.format_toml.specs.Grammars.{AnyItem, AnyKey, AnyValue, DoubleHeader, Entry, Header, Mark}

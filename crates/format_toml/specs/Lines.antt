@@ -3,7 +3,7 @@ use Rattle.std.specs.Prelude.{◌≡◌, ◌⊎◌, ◌<◌, ℕ, [], None}
 use Rattle.std.proofs.Common.{refl, inl, inr, arith}
 use Rattle.winnow.specs.AsChar.{IsSpace}
 use Rattle.winnow.specs.Range.{from_to}
-use Rattle.format_json_texts.specs.Words.{between_of, char_of, for_front, for_of, latter}
+use Rattle.format_parts.specs.Words.{between_of, char_of, for_front, for_of, latter}
 use Rattle.format_toml.specs.Grammars.{AnyItem, Document, Line}
 use Rattle.format_toml.specs.Keys.{OpensKey, opens_key_is, pair_begins, table_of}
 use Rattle.format_toml.specs.Led.{led_of}

@@ -1,7 +1,7 @@
 -- Strings over lines, whichever quotation mark they have: what parsers read.
 use Rattle.std.specs.Prelude.{⊤, ℕ, None}
 use Rattle.std.specs.declared.string.String.{String}
-use Rattle.format_json_texts.specs.Words.{Char, former, latter, pair}
+use Rattle.format_parts.specs.Words.{Char, former, latter, pair}
 use Rattle.winnow.specs.Accumulator.Holds.{HasCharacters}
 use Rattle.winnow.specs.Grammar.{Ahead, Both, Either, Gathered, Grammar, Many, NotAhead, Optional}
 use Rattle.winnow.specs.Grammar.{Three}

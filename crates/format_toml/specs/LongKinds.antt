@@ -1,7 +1,7 @@
 -- The grammars of basic and literal strings, over lines or on one, are those of what is written.
 use Rattle.std.specs.Prelude.{◌≡◌, ◌⊎◌, ℕ, [], ◌++◌, length}
 use Rattle.std.proofs.Common.{refl, sym, ap, inl, inr, arith}
-use Rattle.format_json_texts.specs.Words.{latter}
+use Rattle.format_parts.specs.Words.{latter}
 use Rattle.format_toml.specs.Grammars.{AnyBasic, AnyLiteral, BasicContent, LiteralContent, NoSkips}
 use Rattle.format_toml.specs.LongStrings.{Skipping}
 use Rattle.format_toml.specs.LongSkips.{newline_free, skipping_lines}

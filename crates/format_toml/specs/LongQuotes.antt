@@ -1,7 +1,7 @@
 -- Quotation marks of strings over lines: which belong to the string, and which close it.
 use Rattle.std.specs.Prelude.{◌≡◌, ◌⊎◌, ℕ, List, [], ◌∷◌, ◌++◌, Some, None}
 use Rattle.std.proofs.Common.{refl, sym, ap, subst, inl, inr, ◌∙◌}
-use Rattle.format_json_texts.specs.Words.{Char, One, char_of, pair}
+use Rattle.format_parts.specs.Words.{Char, One, char_of, pair}
 use Rattle.format_toml.specs.LongGrammars.{Delimiter, Quote, TwoOf}
 use Rattle.format_toml.specs.LongTexts.{DelimiterText, one_and_two}
 use Rattle.winnow.specs.Equal.{same_others}

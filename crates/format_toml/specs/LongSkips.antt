@@ -3,7 +3,7 @@ use Rattle.std.specs.Prelude.{◌≡◌, ◌⊎◌, ◌<◌, ⊤, ℕ, List, [],
 use Rattle.std.specs.List.{All}
 use Rattle.std.proofs.Common.{refl, sym, ap, subst, inl, inr, ◌∙◌, arith}
 use Rattle.winnow.specs.AsChar.{IsSpace}
-use Rattle.format_json_texts.specs.Words.{One, Run, char_of, latter}
+use Rattle.format_parts.specs.Words.{One, Run, char_of, latter}
 use Rattle.format_toml.specs.Grammars.{Blank, EscapedLine, Skips}
 use Rattle.format_toml.specs.LongStrings.{Skipping}
 use Rattle.format_toml.specs.LongWhole.{Free, none_longer, none_shorter, none_stands, none_written}

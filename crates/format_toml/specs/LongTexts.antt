@@ -1,7 +1,7 @@
 -- Strings over lines, whichever quotation mark they have: what is written (TOML 1.0: String).
 use Rattle.std.specs.Prelude.{◌≡◌, ◌⊎◌, ℕ, suc, List, [], ◌∷◌, ◌++◌}
 use Rattle.std.specs.declared.string.String.{String}
-use Rattle.format_json_texts.specs.Words.{Between, One, latter, pair}
+use Rattle.format_parts.specs.Words.{Between, One, latter, pair}
 use Rattle.winnow.specs.Accumulator.Holds.{HasCharacters}
 use Rattle.winnow.specs.Texts.{BothText, GatheredText, Text}
 

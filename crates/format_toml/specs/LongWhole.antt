@@ -3,7 +3,7 @@
 use Rattle.std.specs.Prelude.{◌≡◌, ⊤, ℕ, List, [], ◌∷◌, ◌++◌, Some, None}
 use Rattle.std.specs.declared.string.String.{String}
 use Rattle.std.proofs.Common.{refl, sym, ap, subst, inl, inr, ◌∙◌, arith, append_assoc}
-use Rattle.format_json_texts.specs.Words.{Between, One, between_of, former, latter}
+use Rattle.format_parts.specs.Words.{Between, One, between_of, former, latter}
 use Rattle.format_toml.specs.LongGrammars.{Body, Long, Part}
 use Rattle.format_toml.specs.LongQuotes.{NotTwo, delimiter_of, three_is}
 use Rattle.format_toml.specs.LongStrings.{Before, Closes, Skipping, closes_begins, parts_back}

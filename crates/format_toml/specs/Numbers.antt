@@ -4,7 +4,7 @@ use Rattle.std.specs.Str.Parse.{digits_value}
 use Rattle.std.specs.Prelude.{◌≡◌, ◌⊎◌, ◌<◌, ◌^◌, ℕ, ℤ, pos, neg_ℤ, List, [], ◌∷◌, FitsSigned}
 use Rattle.std.specs.Prelude.{Option, Some, None}
 use Rattle.std.specs.Int.{w64}
-use Rattle.format_json_texts.specs.Words.{For, One, latter}
+use Rattle.format_parts.specs.Words.{For, One, latter}
 use Rattle.winnow.specs.Texts.{BothText, EachText, EitherText, Text, TokenOfText}
 
 -- DIGIT, HEXDIG, digit0-7, digit0-1: a digit of a base

@@ -10,7 +10,7 @@ use Rattle.format_toml.specs.Expected.{LinesBefore, Stands, TableLacks}
 use Rattle.format_toml.specs.Messages.{LacksAt}
 use Rattle.format_toml.specs.Unique.{header_unique, key_unique, line_unique}
 use Rattle.format_toml.specs.UniqueSpaces.{mark_unique, newline_unique, ws_unique}
-use Rattle.format_toml.specs.Words.{char_unique}
+use Rattle.format_parts.specs.Unique.{char_unique}
 use Rattle.format_toml.specs.declared.expected.Expected.{Expected}
 use Rattle.format_toml.specs.declared.expected.Expected.TheVariants.{ClosingBracket, EqualsSign}
 use Rattle.format_toml.specs.declared.expected.Expected.TheVariants.{Key, TableName}

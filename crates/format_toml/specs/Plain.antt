@@ -10,8 +10,7 @@ use Rattle.std.proofs.lemmas.Bool.Decides.{nat_tests}
 use Rattle.std.proofs.lemmas.List.Elements.{All-tail}
 use Rattle.std.proofs.lemmas.Str.{encodes-IsAscii}
 use Rattle.std.proofs.lemmas.Str.Parse.{digit_from_value}
-use Rattle.format_json_texts.specs.Number.{Slice}
-use Rattle.format_json_texts.specs.Words.{For, for_front, for_of}
+use Rattle.format_parts.specs.Words.{For, Slice, for_front, for_of}
 use Rattle.format_toml.specs.FloatFronts.{Are, IsNumeric, float_are, float_begins, more_of}
 use Rattle.format_toml.specs.FloatFronts.{more_are, no_tokens}
 use Rattle.format_toml.specs.Floats.{FloatText, IsFloat}

@@ -2,7 +2,7 @@
 use Rattle.std.specs.Prelude.{◌≡◌, ◌⊎◌, ◌<◌, ℕ, Bool, true, false, List, ◌∷◌, ◌++◌}
 use Rattle.std.proofs.Common.{refl, ap, inl, inr, arith}
 use Rattle.winnow.specs.AsChar.{IsSpace}
-use Rattle.format_json_texts.specs.Words.{For, Word, for_front, for_of}
+use Rattle.format_parts.specs.Words.{For, Word, for_front, for_of}
 use Rattle.format_toml.specs.Grammars.{AnyBasic, AnyBoolean, AnyLiteral, Plain, Scalar}
 use Rattle.format_toml.specs.Led.{Led, led_of}
 use Rattle.format_toml.specs.FloatFronts.{numeric_is}

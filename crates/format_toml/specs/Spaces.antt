@@ -5,7 +5,7 @@ use Rattle.std.proofs.Common.{refl, subst, inl, inr, arith}
 use Rattle.winnow.specs.Text.{text_reading}
 use Rattle.winnow.specs.AsChar.{IsSpace}
 use Rattle.winnow.specs.Range.{from_to}
-use Rattle.format_json_texts.specs.Words.{Run, char_of, former, latter, pair, run_of}
+use Rattle.format_parts.specs.Words.{Run, char_of, former, latter, pair, run_of}
 use Rattle.format_toml.specs.Grammars.{AnyComment, Gap, GapPart, GappedOut, Mark, Newline}
 use Rattle.format_toml.specs.Grammars.{SpacedOut, WideMark, Ws}
 use Rattle.format_toml.specs.Strings.{one_of_set, set_begins}

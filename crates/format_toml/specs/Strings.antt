@@ -2,9 +2,9 @@
 use Rattle.std.specs.Prelude.{◌≡◌, ◌⊎◌, ◌<◌, ◌≤◌, ℕ, List, [], ◌∷◌, ◌++◌, length, None}
 use Rattle.std.proofs.Common.{refl, sym, ap, subst, inl, inr, ◌∙◌, arith}
 use Rattle.winnow.specs.Range.{from_to}
-use Rattle.format_json_texts.specs.Words.{For, One, Whichever, any_of, between_of}
-use Rattle.format_json_texts.specs.Strings.{CodeUnit, Digit, IsAlone, IsHex, IsNumberOf, UnitText}
-use Rattle.format_json_texts.specs.Words.{Char, char_of, for_of, four_same, latter, pair, to_four}
+use Rattle.format_parts.specs.Hexadecimal.{CodeUnit, Digit, IsAlone, IsHex, IsNumberOf, UnitText}
+use Rattle.format_parts.specs.Words.{Char, For, One, Whichever, any_of, between_of, char_of, for_of}
+use Rattle.format_parts.specs.Words.{four_same, latter, pair, to_four}
 use Rattle.format_toml.specs.Grammars.{AnyCharacters, BasicString, Character, Escape}
 use Rattle.format_toml.specs.Grammars.{LiteralString, WideUnits}
 use Rattle.format_toml.specs.Led.{led_of}

@@ -6,9 +6,8 @@ use Rattle.std.specs.declared.string.String.{String}
 use Rattle.std.specs.declared.vec.Vec.{Vec}
 use Rattle.winnow.specs.Text.{text_reading}
 use Rattle.winnow.specs.AsChar.{IsSpace}
-use Rattle.format_json_texts.specs.Number.{Slice}
-use Rattle.format_json_texts.specs.Strings.{IsAlone, UnitText}
-use Rattle.format_json_texts.specs.Words.{Between, For, One, Run, Whichever, former, latter, pair}
+use Rattle.format_parts.specs.Hexadecimal.{IsAlone, UnitText}
+use Rattle.format_parts.specs.Words.{Between, For, One, Run, Slice, Whichever, former, latter, pair}
 use Rattle.format_toml.specs.declared.characters.Characters.{Characters}
 use Rattle.format_toml.specs.declared.characters.Characters.TheVariants.{Bare, Basic, Comment}
 use Rattle.format_toml.specs.declared.characters.Characters.TheVariants.{Literal, Unquoted}

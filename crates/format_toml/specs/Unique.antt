@@ -1,8 +1,8 @@
 -- What stands by the grammars of values and lines leaves one rest.
 use Rattle.std.specs.Prelude.{◌≡◌, ℕ, zero, suc, true, false, None}
 use Rattle.winnow.specs.Range.{from_to}
-use Rattle.format_toml.specs.Words.{char_unique, word_unique}
-use Rattle.format_json_texts.specs.Words.{former, latter}
+use Rattle.format_parts.specs.Unique.{char_unique, word_unique}
+use Rattle.format_parts.specs.Words.{former, latter}
 use Rattle.format_toml.specs.Escapes.{character_unique}
 use Rattle.format_toml.specs.Grammars.{AnyCharacters, AnyItem, AnyKey, AnyValue, Array, BasicString}
 use Rattle.format_toml.specs.Grammars.{Entry, Header, Inline, IsPlain, Line, LiteralString, Name}

@@ -1,7 +1,8 @@
 -- What strings over lines leave is one rest, and their parts take characters.
 use Rattle.std.specs.Prelude.{⊤, ℕ, None}
 use Rattle.std.proofs.Common.{inl, inr, sym, ◌∙◌}
-use Rattle.format_json_texts.specs.Words.{Char, former, latter, pair}
+use Rattle.format_parts.specs.Unique.{char_takes, char_unique}
+use Rattle.format_parts.specs.Words.{Char, former, latter, pair}
 use Rattle.format_toml.specs.Escapes.{character_takes, character_unique}
 use Rattle.format_toml.specs.Grammars.{AnyBasic, AnyLiteral, BasicContent, BasicPart, Blank}
 use Rattle.format_toml.specs.Grammars.{BasicString, EscapedLine, LiteralContent, LiteralPart}
@@ -10,7 +11,6 @@ use Rattle.format_toml.specs.Grammars.{Skips}
 use Rattle.format_toml.specs.LongGrammars.{Delimiter, Long, Part, Quote}
 use Rattle.format_toml.specs.Toml.{Tells}
 use Rattle.format_toml.specs.UniqueSpaces.{newline_unique, ws_unique}
-use Rattle.format_toml.specs.Words.{char_takes, char_unique}
 use Rattle.format_toml.specs.declared.characters.Characters.TheVariants.{Literal, White}
 use Rattle.winnow.specs.Accumulator.Holds.{HasCharacters}
 use Rattle.winnow.specs.Grammar.{Grammar, IsUnique, TakesTokens}

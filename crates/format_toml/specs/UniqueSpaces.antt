@@ -3,8 +3,8 @@ use Rattle.std.specs.Prelude.{◌≡◌, ⊤, ℕ, None}
 use Rattle.winnow.specs.Text.{text_reading}
 use Rattle.winnow.specs.AsChar.{IsSpace}
 use Rattle.winnow.specs.Range.{from_to}
-use Rattle.format_toml.specs.Words.{char_unique, run_unique}
-use Rattle.format_json_texts.specs.Words.{former, latter, pair}
+use Rattle.format_parts.specs.Unique.{char_unique, run_unique}
+use Rattle.format_parts.specs.Words.{former, latter, pair}
 use Rattle.format_toml.specs.Grammars.{AnyComment, Gap, GapPart, GappedOut, Mark, Newline}
 use Rattle.format_toml.specs.Grammars.{SpacedOut, WideMark, Ws}
 use Rattle.format_toml.specs.Toml.{IsOf, Tells}

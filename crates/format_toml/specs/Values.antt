@@ -3,8 +3,8 @@ use Rattle.std.specs.Prelude.{◌≡◌, ◌⊎◌, ◌<◌, ℕ, zero, suc, Lis
 use Rattle.std.proofs.Common.{refl, sym, ap, subst, inl, inr, ◌∙◌, arith, append_assoc}
 use Rattle.winnow.specs.AsChar.{IsSpace}
 use Rattle.winnow.specs.Range.{from_to}
-use Rattle.format_json_texts.specs.Words.{For, between_of, char_of, for_front, for_of, former}
-use Rattle.format_json_texts.specs.Words.{latter, pair}
+use Rattle.format_parts.specs.Words.{For, between_of, char_of, for_front, for_of, former, latter}
+use Rattle.format_parts.specs.Words.{pair}
 use Rattle.format_toml.specs.Grammars.{AnyValue, Array, ArrayValues, GappedOut, Inline, Pair}
 use Rattle.format_toml.specs.Grammars.{SpacedOut, WideMark}
 use Rattle.format_toml.specs.Keys.{OpensKey, opens_key_is, pair_begins, pair_of}

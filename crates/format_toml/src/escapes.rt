@@ -1,9 +1,9 @@
 //! Characters of basic strings, and their escapes (TOML 1.0: String).
 ghost use Rattle.std.specs.Prelude.{◌≡◌, ℕ, ⊤, MatchOption};
-ghost use Rattle.format_json_texts.specs.Strings.{CodeUnit, IsAlone};
-ghost use Rattle.format_json_texts.specs.Words.{Char, latter};
+ghost use Rattle.format_parts.specs.Hexadecimal.{CodeUnit, IsAlone, alone_unique};
+ghost use Rattle.format_parts.specs.Words.{Char, latter};
 ghost use Rattle.winnow.specs.Text.{text_input, text_reading};
-ghost use Rattle.format_toml.specs.Escapes.{alone_unique, character_takes, character_unique};
+ghost use Rattle.format_toml.specs.Escapes.{character_takes, character_unique};
 ghost use Rattle.format_toml.specs.Escapes.{escape_unique, wide_code_unique};
 ghost use Rattle.format_toml.specs.Grammars.{Character, Escape, Short, WideUnits};
 ghost use Rattle.format_toml.specs.Toml.{IsWide, StandsFor};
@@ -13,7 +13,8 @@ ghost use Rattle.winnow.specs.Grammar.Meaning.{Meaning};
 
 use crate::characters::Characters;
 use crate::strings::begins_with;
-use crate::units::{Unit, Wide, read_unit, read_wide};
+use crate::units::{Wide, read_wide};
+use format_parts::hexadecimal::{Unit, read_unit};
 use winnow::Parser;
 use winnow::combinator::{alt, preceded};
 use winnow::error::{EmptyError, ErrMode, HasKind};

@@ -1,7 +1,7 @@
 //! What a line lacks that is none of TOML, for messages to people.
 ghost use Rattle.std.specs.Prelude.{◌≡◌, [], false, IfOk, IsTrue};
 ghost use Rattle.std.specs.Str.{chars};
-ghost use Rattle.format_json_texts.specs.Words.{Char, latter};
+ghost use Rattle.format_parts.specs.Words.{Char, latter};
 ghost use Rattle.format_toml.specs.Expected.{Begun, DoubleLacks, EntryLacks, HeaderLacks};
 ghost use Rattle.format_toml.specs.Expected.{IsFirstLack, IsLack, IsLine, ItemLacks, ItemWhole};
 ghost use Rattle.format_toml.specs.Expected.{Lacks, Stands, TableLacks};

@@ -8,9 +8,9 @@ ghost use Rattle.format_toml.specs.declared.characters.Characters.TheVariants.{B
 ghost use Rattle.winnow.specs.Exact.{Reads};
 
 use crate::characters::Characters;
-use crate::marks::read_between;
 use crate::parts::read_joined;
 use crate::strings::{begins_with, read_basic, read_literal};
+use format_parts::marks::read_between;
 use format_toml_tree::value::Key;
 use std::alloc::Allocator;
 use winnow::Parser;

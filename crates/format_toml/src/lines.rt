@@ -2,7 +2,7 @@
 ghost use Rattle.std.specs.Prelude.{◌≡◌};
 ghost use Rattle.std.specs.Str.{chars};
 ghost use Rattle.winnow.specs.Text.{text_input, text_reading};
-ghost use Rattle.format_json_texts.specs.Words.{Char, latter};
+ghost use Rattle.format_parts.specs.Words.{Char, latter};
 ghost use Rattle.format_toml.specs.Grammars.{AnyItem, DoubleHeader, Entry, Header, Line, Table};
 ghost use Rattle.format_toml.specs.Toml.{DocumentText, IsEntry, IsTable, IsTables};
 ghost use Rattle.format_toml.specs.Unique.{item_unique, line_unique, table_unique};

@@ -1,6 +1,6 @@
 //! Strings over lines, made of parts: what is read is said by the grammars of the parts, whichever
 //! parsers they are, and over any stream.
-ghost use Rattle.format_json_texts.specs.Words.{latter};
+ghost use Rattle.format_parts.specs.Words.{latter};
 ghost use Rattle.format_toml.specs.LongGrammars.{LongOf, QuoteOf};
 ghost use Rattle.std.specs.Prelude.{◌≡◌, ⊤, None};
 ghost use Rattle.winnow.specs.Exact.{Reads};

@@ -1,7 +1,7 @@
 //! Rules made of parts: what is read is said by the grammars of the parts, whichever parsers they
 //! are, and over any stream.
 ghost use Rattle.format_toml.specs.Grammars.{Listing};
-ghost use Rattle.format_json_texts.specs.Words.{former, latter, pair};
+ghost use Rattle.format_parts.specs.Words.{former, latter, pair};
 ghost use Rattle.std.specs.Fn.{CalledAtMut};
 ghost use Rattle.std.specs.Prelude.{◌≡◌, ⊤, false, None};
 ghost use Rattle.winnow.specs.Range.{from_to};
@@ -10,7 +10,7 @@ ghost use Rattle.winnow.specs.Exact.Whole.{ReadsAll};
 ghost use Rattle.winnow.specs.Grammar.{Both, Either, Gathered, Many, Optional, Parted, Three};
 ghost use Rattle.winnow.specs.Rule.{CallsRead};
 
-use crate::marks::Marks;
+use format_parts::marks::Marks;
 use std::alloc::Allocator;
 use winnow::Parser;
 use winnow::combinator::impls::Separated;

@@ -1,7 +1,7 @@
 //! What stands behind parts of a line, where these stand, for what a line lacks.
 ghost use Rattle.std.specs.Prelude.{◌≡◌, ℕ, false, IfOk, IsTrue, List};
 ghost use Rattle.std.specs.Str.{chars};
-ghost use Rattle.format_json_texts.specs.Words.{Char};
+ghost use Rattle.format_parts.specs.Words.{Char};
 ghost use Rattle.format_toml.specs.Expected.{IsPast, Stands};
 ghost use Rattle.format_toml.specs.Grammars.{AnyKey, AnyValue, Header, Line, Mark, Newline, Ws};
 ghost use Rattle.winnow.specs.Grammar.{NoneStands};

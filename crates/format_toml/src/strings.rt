@@ -8,7 +8,7 @@ ghost use Rattle.winnow.specs.Texts.{Begins, NotFirst};
 
 use crate::characters::Characters;
 use crate::escapes::{AnyCharacter, read_character};
-use crate::marks::read_between;
+use format_parts::marks::read_between;
 use std::alloc::Allocator;
 use winnow::combinator::repeat;
 use winnow::error::{EmptyError, ErrMode, HasKind};

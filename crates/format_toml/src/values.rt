@@ -13,10 +13,10 @@ ghost use Rattle.winnow.specs.Told.{ReadsText};
 
 use crate::gaps::{AnyGap, read_gap};
 use crate::keys::{Keys, read_key};
-use crate::marks::{Marks, read_array_of};
 use crate::parts::{read_list_of, read_pair_of};
 use crate::scalars::read_scalar;
 use crate::strings::begins_with;
+use format_parts::marks::{Marks, read_array_of};
 use format_toml_tree::value::{Key, Value};
 use std::alloc::Allocator;
 use winnow::ascii::impls::Space0;

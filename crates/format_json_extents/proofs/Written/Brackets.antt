@@ -11,7 +11,7 @@ use Rattle.format_json_extents.specs.Texts.{BothText, Either, IsByte, List_of, M
 use Rattle.format_json_extents.specs.Texts.{last, nothing, one_more}
 use Rattle.format_json_extents.specs.Value.{IsGap, IsSpace}
 use Rattle.format_json_texts.specs.Values.{GapText, Mark}
-use Rattle.format_json_texts.specs.Words.{Between, One, pair}
+use Rattle.format_parts.specs.Words.{Between, One, pair}
 use Rattle.winnow.specs.AsChar.{IsMultispace}
 use Rattle.winnow.specs.Texts.{BothText as Both, EachText, InList, PartedText, Text}
 use denote.RawPtr.{null_ptr}

@@ -12,9 +12,10 @@ use Rattle.format_json_extents.proofs.Written.Units.{unit_digits}
 use Rattle.format_json_extents.specs.Strings.{BeginHigh, BeginLow, BeginOnly, IsCharacter, IsD}
 use Rattle.format_json_extents.specs.Strings.{IsEscape, IsEscaped, IsHexDigit, IsPair}
 use Rattle.format_json_extents.specs.Strings.{IsUnit}
-use Rattle.format_json_texts.specs.Strings.{ArePair, IsAlone}
-use Rattle.format_json_texts.specs.Strings.{StandsFor, UnicodeText, UnitText}
-use Rattle.format_json_texts.specs.Words.{For, One, Whichever, latter, pair}
+use Rattle.format_json_texts.specs.Strings.{ArePair}
+use Rattle.format_parts.specs.Hexadecimal.{IsAlone, UnitText}
+use Rattle.format_parts.specs.Words.{For, One, Whichever, latter, pair}
+use Rattle.format_json_texts.specs.Strings.{StandsFor, UnicodeText}
 use Rattle.winnow.specs.Texts.{BothText as Both, EitherText, MadeText, Spelled, Text}
 
 -- ---- escapes

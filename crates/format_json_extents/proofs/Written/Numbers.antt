@@ -10,7 +10,7 @@ use Rattle.format_json_extents.specs.Number.{IsDigit, IsDigits, IsE, IsExponent,
 use Rattle.format_json_extents.specs.Number.{IsNumber, IsSign}
 use Rattle.format_json_extents.specs.Texts.{Either, IsByte, Maybe, Then}
 use Rattle.format_json_texts.specs.Number.{ExponentText, NumberText}
-use Rattle.format_json_texts.specs.Words.{Run, latter, pair, to_four}
+use Rattle.format_parts.specs.Words.{Run, latter, pair, to_four}
 
 -- ---- numbers
 

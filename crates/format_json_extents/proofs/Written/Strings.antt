@@ -18,7 +18,7 @@ use Rattle.format_json_extents.specs.Texts.{Many, nothing, one_more}
 use Rattle.format_json_texts.specs.Strings.{CharacterText}
 use Rattle.format_json_texts.specs.Strings.{StringText}
 use Rattle.format_json_texts.specs.Strings.{IsUnescaped as IsPlain}
-use Rattle.format_json_texts.specs.Words.{In, former, latter}
+use Rattle.format_parts.specs.Words.{In, former, latter}
 use Rattle.winnow.specs.Accumulator.Holds.{HasCharacters}
 use Rattle.winnow.specs.Texts.{BothText as Both, EachText, EitherText, GatheredText, Spelled}
 

@@ -4,8 +4,8 @@ use Rattle.std.proofs.Common.{arith, inl, inr, length, refl}
 use Rattle.std.proofs.lemmas.Bool.{cases_lt}
 use Rattle.format_json_extents.specs.Strings.{BeginHigh, BeginLow, BeginOnly, IsD, IsHexDigit}
 use Rattle.format_json_extents.specs.Strings.{IsUnit}
-use Rattle.format_json_texts.specs.Strings.{IsHex, UnitText}
-use Rattle.format_json_texts.specs.Words.{For, Whichever, pair}
+use Rattle.format_parts.specs.Hexadecimal.{IsHex, UnitText}
+use Rattle.format_parts.specs.Words.{For, Whichever, pair}
 use Rattle.winnow.specs.Texts.{BothText as Both, MadeText}
 
 -- ---- hexadecimal digits

@@ -19,13 +19,13 @@ use Rattle.format_json_extents.specs.Strings.{IsString}
 use Rattle.format_json_extents.specs.Texts.{Either, IsByte, Then}
 use Rattle.format_json_extents.specs.Value.{IsElement, IsGap, IsMember, IsNestedTail, IsScalar}
 use Rattle.format_json_extents.specs.Value.{IsText, IsValue, IsWord, Only, opening}
-use Rattle.format_json_texts.specs.Number.{NumberText, Slice}
+use Rattle.format_json_texts.specs.Number.{NumberText}
+use Rattle.format_parts.specs.Words.{Slice, former, latter, pair}
 use Rattle.format_json_texts.specs.Values.{ArrayText, HasText, IsArray, IsObject, JsonText}
 use Rattle.format_json_texts.specs.Values.{ObjectText, ScalarText, Spaced, ValueText}
 use Rattle.format_json_texts.specs.Values.{WordText}
 use Rattle.format_json_texts.specs.Values.{IsNumber as IsNumberOf, IsString as IsStringOf}
 use Rattle.format_json_texts.specs.Values.{IsWord as IsWordOf}
-use Rattle.format_json_texts.specs.Words.{former, latter, pair}
 use Rattle.format_json_texts.specs.declared.value.Value.{Value}
 use Rattle.format_json_texts.specs.declared.value.Value as values
 use Rattle.winnow.specs.Accumulator.Holds.{HasCharacters}

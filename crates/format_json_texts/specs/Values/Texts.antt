@@ -27,9 +27,8 @@ use Rattle.format_json_texts.specs.Values.{Mark, Member, MemberText, Object, Obj
 use Rattle.format_json_texts.specs.Values.{Punctuation}
 use Rattle.format_json_texts.specs.Values.{Scalar, ScalarText, Spaced, SpacedOut, ValueText}
 use Rattle.format_json_texts.specs.Values.{WordText}
-use Rattle.format_json_texts.specs.Words.{Between, Char, One, Run, Word, between_of}
-use Rattle.format_json_texts.specs.Words.{char_of}
-use Rattle.format_json_texts.specs.Words.{for_front, for_of, former, latter, pair, run_of}
+use Rattle.format_parts.specs.Words.{Between, Char, One, Run, Word, between_of, char_of, for_front}
+use Rattle.format_parts.specs.Words.{for_of, former, latter, pair, run_of}
 use Rattle.format_json_texts.specs.declared.value.Value.{Value}
 
 -- ---- white space

@@ -1,7 +1,7 @@
 use Rattle.std.proofs.Common.{ap, rules, ◌∙◌}
 use Rattle.winnow.specs.Terminated.{terminated_parser}
 use Rattle.winnow.specs.Rule.{reads_as_rule, run_as}
-use Rattle.format_json_scalars.specs.Marks.{three_by}
+use Rattle.format_parts.specs.Marks.{three_by}
 use Rattle.format_json_values.specs.Pairs.{items_by}
 use Rattle.format_json_values.proofs.parts.read_object_of.Given as given
 use Rattle.format_json_values.proofs.parts.read_object_of.Goals as goal

@@ -1,8 +1,7 @@
 use Rattle.std.specs.Prelude.{ℕ}
 use Rattle.std.proofs.Common.{rules, subst, sym}
-use Rattle.format_json_texts.specs.Strings.{IsAlone}
+use Rattle.format_parts.specs.Hexadecimal.{IsAlone, unit_one}
 use Rattle.winnow.specs.Grammar.Meaning.{meaning_same}
-use Rattle.format_toml.specs.Escapes.{unit_one}
 use Rattle.winnow.specs.Exact.Same.{reads_as}
 use Rattle.format_toml.proofs.escapes.read_alone.Goals as goal
 

@@ -1,4 +1,4 @@
-use Rattle.format_toml.specs.Words.{three_by}
+use Rattle.format_parts.specs.Marks.{three_by}
 use Rattle.winnow.specs.Read.{reads_by}
 use Rattle.format_toml.proofs.long_parts.read_long_of.Goals as goal
 

@@ -1,4 +1,4 @@
-use Rattle.format_toml.specs.Words.{reads_all_by}
+use Rattle.format_parts.specs.Marks.{reads_all_by}
 use Rattle.format_toml.proofs.parts.parse_lines_of.Goals as goal
 
 pub returns : goal.returns

@@ -1,0 +1,25 @@
+use Rattle.std.proofs.Common.{rules}
+use Rattle.winnow.specs.Rule.{reads_as_rule, run_as}
+use Rattle.winnow.specs.Read.{reads_by}
+use Rattle.format_parts.proofs.marks.read_array_of.Given as given
+use Rattle.format_parts.proofs.marks.read_array_of.Goals as goal
+
+pub read_items-requires-clause-item : goal.read_items-requires-clause-item
+read_items-requires-clause-item g c =
+    let same = c.terminated-item.ensures.parser in
+    let reads =
+    reads_as_rule g.R.Rule.grammar same c.by.ensures.rule c.by.ensures.run c.requires.reads in (
+      (
+        (run_as (given.F-IsAlwaysCallable g) same c.by.ensures.run c.requires.callable, reads),
+        search rules,
+      ),
+      (reads, search rules),
+      search rules,
+    )
+
+pub returns : goal.returns
+returns g c = reads_by c.read_items.ensures (rw (
+  c.terminated-item.ensures.parser,
+  c.terminated-item.ensures.ignored,
+  c.by.ensures.rule,
+))

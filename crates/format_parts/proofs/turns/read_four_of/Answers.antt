@@ -1,0 +1,4 @@
+use Rattle.format_parts.proofs.turns.read_four_of.Goals as goal
+
+pub returns : goal.returns
+returns g c = c.read.ensures.reads

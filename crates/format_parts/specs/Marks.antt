@@ -1,0 +1,31 @@
+-- What stands between marks, by the grammars of its parts, and what is told by equal ones.
+use Rattle.std.specs.Prelude.{◌≡◌, List, None, Result}
+use Rattle.std.specs.declared.vec.Vec.{Vec}
+use Rattle.format_parts.specs.Words.{pair}
+use Rattle.winnow.specs.{Needed}
+use Rattle.winnow.specs.{ParseFault}
+use Rattle.winnow.specs.Exact.Whole.{ReadsAll}
+use Rattle.winnow.specs.Grammar.{Both, Gathered, Grammar, Parted, Three}
+use Rattle.winnow.specs.Kind.{Kind}
+use Rattle.winnow.specs.Range.{from_to}
+
+module _ {T M W A : Type 0} where
+  -- items with a mark between each two of them, between two others; white space is behind the first
+  -- mark, and behind those between items
+  abbrev pub Items : {O : Type 0} → Grammar T O → Grammar T M → Grammar T M → Grammar T M
+      → Grammar T W → Grammar T (Vec O A)
+  Items {O} item opening comma closing gap =
+      Three (λ _ o _. o) (Both pair opening gap)
+      (Gathered (λ (list : Vec O A) os. list.items ≡ os)
+      (Parted item (Both pair comma gap) (from_to 0 None))) closing
+
+pub three_by : {T O1 O2 O3 O : Type 0} (output : O1 → O2 → O3 → O) {f1 g1 : Grammar T O1}
+    {f2 g2 : Grammar T O2} {f3 g3 : Grammar T O3} → f1 ≡ g1 → f2 ≡ g2 → f3 ≡ g3
+    → Three output f1 f2 f3 ≡ Three output g1 g2 g3
+three_by output first second third = rw (first, second, third)
+
+-- what all tokens are by a grammar they are by one that is the same
+pub reads_all_by : {I T O X : Type 0} {inner_kind : X → Kind} {g h : Grammar T O} {tokens : List T}
+    {result : Result O (ParseFault I X Needed)} → ReadsAll inner_kind g tokens result → g ≡ h
+    → ReadsAll inner_kind h tokens result
+reads_all_by {I} {T} {O} {X} {inner_kind} {g} {h} {tokens} {result} r e = rw e at r

@@ -1,0 +1,147 @@
+//! What stands between marks, as the values of an array do: what is read is said by the grammars of
+//! the parts, whichever parsers they are, and over any stream.
+ghost use Rattle.format_parts.specs.Marks.{Items};
+ghost use Rattle.format_parts.specs.Words.{former};
+ghost use Rattle.std.specs.Fn.{CalledAtMut};
+ghost use Rattle.winnow.specs.Exact.{Reads};
+ghost use Rattle.winnow.specs.Grammar.{Both, Three};
+ghost use Rattle.winnow.specs.Rule.{CallsRead};
+
+use std::alloc::Allocator;
+use winnow::Parser;
+use winnow::combinator::impls::Separated;
+use winnow::combinator::{delimited, separated, terminated};
+use winnow::error::ParserError;
+use winnow::exact::Rule;
+use winnow::stream::{Range, Stream};
+
+/// Reads what stands between two others.
+pub fn read_between<I, O1, O2, O3, E, P, Q, R>(
+    first: P,
+    second: Q,
+    third: R,
+    input: &mut I,
+) -> Result<O2, E>
+where
+    I: Stream,
+    O1: Drop,
+    O2: Drop,
+    O3: Drop,
+    E: ParserError<I>,
+    P: Parser<I, O1, E> + Drop,
+    Q: Parser<I, O2, E> + Drop,
+    R: Parser<I, O3, E> + Drop,
+    requires first_callable { P.can_parse first }
+    requires first_premise { (P.claim (P.state first)).premise }
+    requires first_backtracks { (P.claim (P.state first)).backtracks }
+    requires second_callable { Q.can_parse second }
+    requires second_premise { (Q.claim (Q.state second)).premise }
+    requires second_backtracks { (Q.claim (Q.state second)).backtracks }
+    requires third_callable { R.can_parse third }
+    requires third_premise { (R.claim (R.state third)).premise }
+    requires third_backtracks { (R.claim (R.state third)).backtracks }
+    ensures { Reads I.reading E.kind
+        (Three (λ _ o _. o) (P.claim (P.state first)).grammar
+        (Q.claim (Q.state second)).grammar (R.claim (R.state third)).grammar)
+        (I.view input.old) result (I.view input.new) }
+{
+    delimited(first, second, third).read(input)
+}
+
+/// The marks of an array or an object, and white space.
+#[derive(Clone, Copy, Drop)]
+pub struct Marks<B, G> {
+    /// What stands before the items.
+    pub opening: B,
+    /// What stands between two items.
+    pub comma: B,
+    /// What stands behind the items.
+    pub closing: B,
+    /// What stands behind the other two, and behind each name and value.
+    pub gap: G,
+}
+
+/// Reads items between two marks, with a third between each two items, and white space behind the
+/// first mark and behind each of those between items.
+pub fn read_items<I, E, O, M, W, A, P, B, G>(
+    alloc: A,
+    item: P,
+    marks: Marks<B, G>,
+    input: &mut I,
+) -> Result<Vec<O, A>, E>
+where
+    I: Stream,
+    E: ParserError<I>,
+    O: Drop,
+    M: Drop,
+    W: Drop,
+    A: Allocator + Copy,
+    P: Parser<I, O, E> + Drop,
+    B: Parser<I, M, E> + Copy + Drop,
+    G: Parser<I, W, E> + Copy + Drop,
+    requires item { P.can_parse item × (P.claim (P.state item)).premise
+        × (P.claim (P.state item)).backtracks }
+    requires opening { B.can_parse marks.opening × (B.claim (B.state marks.opening)).premise
+        × (B.claim (B.state marks.opening)).backtracks }
+    requires comma { B.can_parse marks.comma × (B.claim (B.state marks.comma)).premise
+        × (B.claim (B.state marks.comma)).backtracks
+        × (B.claim (B.state marks.comma)).consumes }
+    requires closing { B.can_parse marks.closing × (B.claim (B.state marks.closing)).premise
+        × (B.claim (B.state marks.closing)).backtracks }
+    requires gap { G.can_parse marks.gap × (G.claim (G.state marks.gap)).premise
+        × (G.claim (G.state marks.gap)).backtracks }
+    ensures { Reads I.reading E.kind
+        (Items (P.claim (P.state item)).grammar (B.claim (B.state marks.opening)).grammar
+        (B.claim (B.state marks.comma)).grammar (B.claim (B.state marks.closing)).grammar
+        (G.claim (G.state marks.gap)).grammar) (I.view input.old) result
+        (I.view input.new) }
+{
+    let items: Separated<P, (B, G), I, O, (M, W), Vec<O, A>, E, A> = separated(
+        alloc,
+        Range::from(0..),
+        item,
+        (marks.comma, marks.gap),
+    );
+    delimited((marks.opening, marks.gap), items, marks.closing).read(input)
+}
+
+/// Reads values between marks. A function reads a value by a rule, and white space is behind it.
+pub fn read_array_of<I, E, O, M, W, A, R, F, B, G>(
+    alloc: A,
+    rule: R,
+    value: F,
+    marks: Marks<B, G>,
+    input: &mut I,
+) -> Result<Vec<O, A>, E>
+where
+    I: Stream,
+    E: ParserError<I>,
+    O: Drop,
+    M: Drop,
+    W: Drop,
+    A: Allocator + Copy,
+    R: Rule<I, O> + Drop,
+    F: FnMut(&mut I) -> Result<O, E> + Drop,
+    B: Parser<I, M, E> + Copy + Drop,
+    G: Parser<I, W, E> + Copy + Drop,
+    requires callable { F.IsAlwaysCallable value }
+    requires reads { CallsRead I.reading I.view E.kind (CalledAtMut F.FnMut) (R.grammar rule)
+        value }
+    requires opening { B.can_parse marks.opening × (B.claim (B.state marks.opening)).premise
+        × (B.claim (B.state marks.opening)).backtracks }
+    requires comma { B.can_parse marks.comma × (B.claim (B.state marks.comma)).premise
+        × (B.claim (B.state marks.comma)).backtracks
+        × (B.claim (B.state marks.comma)).consumes }
+    requires closing { B.can_parse marks.closing × (B.claim (B.state marks.closing)).premise
+        × (B.claim (B.state marks.closing)).backtracks }
+    requires gap { G.can_parse marks.gap × (G.claim (G.state marks.gap)).premise
+        × (G.claim (G.state marks.gap)).backtracks }
+    ensures { Reads I.reading E.kind
+        (Items (Both former (R.grammar rule) (G.claim (G.state marks.gap)).grammar)
+        (B.claim (B.state marks.opening)).grammar (B.claim (B.state marks.comma)).grammar
+        (B.claim (B.state marks.closing)).grammar (G.claim (G.state marks.gap)).grammar)
+        (I.view input.old) result (I.view input.new) }
+{
+    let item = terminated(rule.by(value), marks.gap);
+    read_items(alloc, item, marks, input)
+}

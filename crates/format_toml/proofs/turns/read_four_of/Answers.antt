@@ -1,4 +1,0 @@
-use Rattle.format_toml.proofs.turns.read_four_of.Goals as goal
-
-pub returns : goal.returns
-returns g c = c.read.ensures.reads
